@@ -1,5 +1,5 @@
 -- A list of expressions in a tree is the list in the vector.
-use Rattle.std.proofs.Common.{◌≡◌, ℕ, List, map, Vec, Global, refl, ap, ◌∙◌}
+use Rattle.std.proofs.Common.{◌≡◌, ℕ, List, map, Box, Vec, Global, refl, ap, ◌∙◌}
 use mathlib.Core.Former.{Count}
 use Rattle.lb_syntax.specs.declared.tree.ArrayIterator.{ArrayIterator}
 use Rattle.lb_syntax.specs.declared.tree.Operator.{Operator}
@@ -19,33 +19,33 @@ view_row-items n (more_of-Expr e rest) =
     ap (λ (es : tree.Exprs). tree.Cons (view e) es) (view_row-items _ rest)
 
 abbrev row_of : Expr → (n : Count) × Row_of-Expr n
-row_of (Array' _ row) = (_, row)
-row_of (AtMostOne' _ row) = (_, row)
-row_of (Nor' _ row) = (_, row)
+row_of (Array' _ row _) = (_, row)
+row_of (AtMostOne' _ row _) = (_, row)
+row_of (Nor' _ row _) = (_, row)
 row_of (Call' _ _ _ row) = (_, row)
-row_of (Iterate' _ _ _ _ row) = (_, row)
+row_of (Iterate' _ _ _ _ row _) = (_, row)
 row_of _ = (_, end_of-Expr)
 
-pub view_array : (es : Vec Expr Global) → view (Array es) ≡ tree.Array (exprs (map view es.items))
-view_array es =
-    let row = row_of (Array es) in
+pub view_array : (es : Vec Expr Global) (at : ℕ) → view (Array es at)
+    ≡ tree.Array (exprs (map view es.items))
+view_array es at =
+    let row = row_of (Array es at) in
     ap (λ (z : tree.Exprs). tree.Array z)
     (view_row-items row.0 row.1 ∙ ap (λ z. exprs (map view z)) (items_hidden-the_row-Expr-0 es))
 
-pub view_at_most_one : (es : Vec Expr Global) → view (AtMostOne es)
+pub view_at_most_one : (es : Vec Expr Global) (at : ℕ) → view (AtMostOne es at)
     ≡ tree.AtMostOne (exprs (map view es.items))
-view_at_most_one es =
-    let row = row_of (AtMostOne es) in
+view_at_most_one es at =
+    let row = row_of (AtMostOne es at) in
     ap (λ (z : tree.Exprs). tree.AtMostOne z)
     (view_row-items row.0 row.1 ∙ ap (λ z. exprs (map view z)) (items_hidden-the_row-Expr-0 es))
 
-pub view_nor : (es : Vec Expr Global) → view (Nor es) ≡ tree.Nor (exprs (map view es.items))
-view_nor es =
-    let row = row_of (Nor es) in
+pub view_nor : (es : Vec Expr Global) (at : ℕ) → view (Nor es at)
+    ≡ tree.Nor (exprs (map view es.items))
+view_nor es at =
+    let row = row_of (Nor es at) in
     ap (λ (z : tree.Exprs). tree.Nor z)
     (view_row-items row.0 row.1 ∙ ap (λ z. exprs (map view z)) (items_hidden-the_row-Expr-0 es))
-
-pub ruleset lists = (view_array, view_at_most_one, view_nor)
 
 pub view_call : (f : List ℕ) (args : Vec Static Global) (es : Vec Expr Global) →
     view (Call f args es) ≡ tree.Call f (view_statics args.items) (exprs (map view es.items))
@@ -54,10 +54,10 @@ view_call f args es =
     ap (λ (z : tree.Exprs). tree.Call f (view_statics args.items) z)
     (view_row-items row.0 row.1 ∙ ap (λ z. exprs (map view z)) (items_hidden-the_row-Expr-0 es))
 
-pub view_iterate : (i : ArrayIterator) (f : Operator) (n : Static) (es : Vec Expr Global) →
-    view (Iterate i f n es) ≡ tree.Iterate i (view_operator f) (view_static n)
-    (exprs (map view es.items))
-view_iterate i f n es =
-    let row = row_of (Iterate i f n es) in
-    ap (λ (z : tree.Exprs). tree.Iterate i (view_operator f) (view_static n) z)
+pub view_iterate : (i : ArrayIterator) (f : Box Operator Global) (n : Static) (es : Vec Expr Global)
+    (at : ℕ) → view (Iterate i f n es at)
+    ≡ tree.Iterate i (view_operator f.value) (view_static n) (exprs (map view es.items))
+view_iterate i f n es at =
+    let row = row_of (Iterate i f n es at) in
+    ap (λ (z : tree.Exprs). tree.Iterate i (view_operator f.value) (view_static n) z)
     (view_row-items row.0 row.1 ∙ ap (λ z. exprs (map view z)) (items_hidden-the_row-Expr-0 es))

@@ -27,8 +27,8 @@ abbrev pub view_groups : List Declarations → List Group
 view_groups = map view_group
 
 abbrev pub view_statement : Statement → tree.Statement
-view_statement (Equation left e) = tree.Equation left.items (view e)
-view_statement (Assertion e) = tree.Assertion (view e)
+view_statement (Equation left e at) = tree.Equation left.items (view e)
+view_statement (Assertion e at) = tree.Assertion (view e)
 
 abbrev pub view_node : Node → tree.Node
 view_node n = record {

@@ -7,7 +7,7 @@ ghost use Rattle.lb_syntax.specs.Reading as reading;
 ghost use Rattle.lb_syntax.specs.Readers.{Gives};
 
 use crate::reader::ReadError;
-use crate::token::Token;
+use crate::token::PlacedToken;
 
 /// What the next tokens do to a tree on their left.
 #[derive(Drop)]
@@ -15,7 +15,7 @@ pub enum Growth<'t, T> {
     /// Nothing: the tree is whole.
     Stop(T),
     /// They make a longer tree, with these tokens after it.
-    More(T, &'t [Token]),
+    More(T, &'t [PlacedToken]),
 }
 
 /// A reader of what may follow a tree.
@@ -39,7 +39,7 @@ pub trait Grower {
         &self,
         least: u8,
         left: Self::Tree,
-        tokens: &'t [Token],
+        tokens: &'t [PlacedToken],
     ) -> Result<Growth<'t, Self::Tree>, ReadError>
         requires { can_grow self.now }
         ensures { Grows view (view left) result (step_at self.now least (view left) tokens.now) };
@@ -55,8 +55,8 @@ pub fn climb<'t, G: Grower>(
     least: u8,
     turns: usize,
     first: G::Tree,
-    tokens: &'t [Token],
-) -> Result<(G::Tree, &'t [Token]), ReadError>
+    tokens: &'t [PlacedToken],
+) -> Result<(G::Tree, &'t [PlacedToken]), ReadError>
     requires { G.can_grow grower.now }
     ensures { Gives (λ x. (G.view x.0, x.1.now)) result
         (reading.climb (G.step_at grower.now least) turns (G.view first) tokens.now) }

@@ -16,7 +16,7 @@ use crate::list::{Items, any, list};
 use crate::lookahead::{at_name, skip};
 use crate::reader::{ReadError, after, closed, name_at};
 use crate::statics::{clock, static_expression};
-use crate::token::{Mark, Token};
+use crate::token::{Mark, PlacedToken};
 use crate::tree::{Declarations, Kind, Name, Sampling, Static};
 use std::alloc::Global;
 
@@ -39,18 +39,21 @@ impl Items for NameItems {
 
     ghost separator_at = { λ _. readers.expect mark.Comma };
 
-    fn item<'t>(&self, tokens: &'t [Token]) -> Result<(Name, &'t [Token]), ReadError> {
+    fn item<'t>(&self, tokens: &'t [PlacedToken]) -> Result<(Name, &'t [PlacedToken]), ReadError> {
         name_at(self.alloc, tokens)
     }
 
-    fn separator<'t>(&self, tokens: &'t [Token]) -> Option<&'t [Token]> {
+    fn separator<'t>(&self, tokens: &'t [PlacedToken]) -> Option<&'t [PlacedToken]> {
         after(Mark::Comma, tokens)
     }
 }
 
 /// Names, `a, b`.
 #[tactic(auto, using(crate::proofs::Names::same))]
-pub fn names(alloc: Global, tokens: &[Token]) -> Result<(Vec<Name>, &[Token]), ReadError>
+pub fn names(
+    alloc: Global,
+    tokens: &[PlacedToken],
+) -> Result<(Vec<Name>, &[PlacedToken]), ReadError>
     ensures { Gives (λ x. (x.0.items, x.1.now)) result (reading.names_at tokens.now) }
 {
     list(alloc, &NameItems { alloc }, tokens)
@@ -58,7 +61,7 @@ pub fn names(alloc: Global, tokens: &[Token]) -> Result<(Vec<Name>, &[Token]), R
 
 /// `int` or `bool`.
 #[tactic(auto, unfolding(crate::specs::Programs::kind_at))]
-fn kind(tokens: &[Token]) -> Result<(Kind, &[Token]), ReadError>
+fn kind(tokens: &[PlacedToken]) -> Result<(Kind, &[PlacedToken]), ReadError>
     ensures { Gives (λ x. (x.0, x.1.now)) result (reading.kind_at tokens.now) }
 {
     if let Some(rest) = after(Mark::Int, tokens) {
@@ -89,18 +92,24 @@ impl Items for SizeItems {
 
     ghost separator_at = { λ _. readers.expect mark.Caret };
 
-    fn item<'t>(&self, tokens: &'t [Token]) -> Result<(Static, &'t [Token]), ReadError> {
+    fn item<'t>(
+        &self,
+        tokens: &'t [PlacedToken],
+    ) -> Result<(Static, &'t [PlacedToken]), ReadError> {
         static_expression(self.alloc, tokens)
     }
 
-    fn separator<'t>(&self, tokens: &'t [Token]) -> Option<&'t [Token]> {
+    fn separator<'t>(&self, tokens: &'t [PlacedToken]) -> Option<&'t [PlacedToken]> {
         after(Mark::Caret, tokens)
     }
 }
 
 /// `when` and a clock, if they stand here.
 #[tactic(auto, unfolding(crate::specs::Programs::when_at))]
-fn sampling(alloc: Global, tokens: &[Token]) -> Result<(Option<Sampling>, &[Token]), ReadError>
+fn sampling(
+    alloc: Global,
+    tokens: &[PlacedToken],
+) -> Result<(Option<Sampling>, &[PlacedToken]), ReadError>
     ensures { Gives (λ x. (view_clock x.0, x.1.now)) result (reading.when_at tokens.now) }
 {
     match after(Mark::When, tokens) {
@@ -114,7 +123,7 @@ fn sampling(alloc: Global, tokens: &[Token]) -> Result<(Option<Sampling>, &[Toke
 
 /// Variables of one type and clock, `a, b: int^n when c`.
 #[tactic(auto, unfolding(crate::specs::Programs::group_at))]
-fn group(alloc: Global, tokens: &[Token]) -> Result<(Declarations, &[Token]), ReadError>
+fn group(alloc: Global, tokens: &[PlacedToken]) -> Result<(Declarations, &[PlacedToken]), ReadError>
     ensures { Gives (λ x. (view_group x.0, x.1.now)) result (reading.group_at tokens.now) }
 {
     let (names, rest) = closed(names(alloc, tokens), Mark::Colon)?;
@@ -125,8 +134,8 @@ fn group(alloc: Global, tokens: &[Token]) -> Result<(Declarations, &[Token]), Re
 fn with_type(
     alloc: Global,
     names: Vec<Name>,
-    tokens: &[Token],
-) -> Result<(Declarations, &[Token]), ReadError>
+    tokens: &[PlacedToken],
+) -> Result<(Declarations, &[PlacedToken]), ReadError>
     ensures { Gives (λ x. (view_group x.0, x.1.now)) result
         (reading.with_type names.items tokens.now) }
 {
@@ -163,19 +172,25 @@ impl Items for GroupItems {
 
     ghost separator_at = { λ _. lists.at_next_group };
 
-    fn item<'t>(&self, tokens: &'t [Token]) -> Result<(Declarations, &'t [Token]), ReadError> {
+    fn item<'t>(
+        &self,
+        tokens: &'t [PlacedToken],
+    ) -> Result<(Declarations, &'t [PlacedToken]), ReadError> {
         group(self.alloc, tokens)
     }
 
     #[tactic(auto, unfolding(crate::specs::ListReading::at_next_group))]
-    fn separator<'t>(&self, tokens: &'t [Token]) -> Option<&'t [Token]> {
+    fn separator<'t>(&self, tokens: &'t [PlacedToken]) -> Option<&'t [PlacedToken]> {
         at_name(after(Mark::Semicolon, tokens)?)
     }
 }
 
 /// Groups with `;` between, and perhaps one at the end.
 #[tactic(auto, unfolding(crate::specs::Programs::groups_at))]
-pub fn groups(alloc: Global, tokens: &[Token]) -> Result<(Vec<Declarations>, &[Token]), ReadError>
+pub fn groups(
+    alloc: Global,
+    tokens: &[PlacedToken],
+) -> Result<(Vec<Declarations>, &[PlacedToken]), ReadError>
     ensures { Gives (λ x. (view_groups x.0.items, x.1.now)) result (reading.groups_at tokens.now) }
 {
     let (groups, rest) = list(alloc, &GroupItems { alloc }, tokens)?;
@@ -184,7 +199,10 @@ pub fn groups(alloc: Global, tokens: &[Token]) -> Result<(Vec<Declarations>, &[T
 
 /// The groups of the inputs, if there are any, up to the `)` after them.
 #[tactic(auto, unfolding(crate::specs::Programs::inputs_at))]
-pub fn inputs(alloc: Global, tokens: &[Token]) -> Result<(Vec<Declarations>, &[Token]), ReadError>
+pub fn inputs(
+    alloc: Global,
+    tokens: &[PlacedToken],
+) -> Result<(Vec<Declarations>, &[PlacedToken]), ReadError>
     ensures { Gives (λ x. (view_groups x.0.items, x.1.now)) result (reading.inputs_at tokens.now) }
 {
     match after(Mark::Close, tokens) {
@@ -213,12 +231,15 @@ impl Items for LocalItems {
     ghost separator_at = { λ _. lists.at_next_local };
 
     #[tactic(auto, unfolding(crate::specs::Programs::closed_group_at))]
-    fn item<'t>(&self, tokens: &'t [Token]) -> Result<(Declarations, &'t [Token]), ReadError> {
+    fn item<'t>(
+        &self,
+        tokens: &'t [PlacedToken],
+    ) -> Result<(Declarations, &'t [PlacedToken]), ReadError> {
         closed(group(self.alloc, tokens), Mark::Semicolon)
     }
 
     #[tactic(auto, unfolding(crate::specs::ListReading::at_next_local))]
-    fn separator<'t>(&self, tokens: &'t [Token]) -> Option<&'t [Token]> {
+    fn separator<'t>(&self, tokens: &'t [PlacedToken]) -> Option<&'t [PlacedToken]> {
         match after(Mark::Var, tokens) {
             Some(rest) => Some(rest),
             None => at_name(tokens),
@@ -228,7 +249,10 @@ impl Items for LocalItems {
 
 /// The groups of the locals, if there are any.
 #[tactic(auto, unfolding(crate::specs::Programs::locals_at))]
-pub fn locals(alloc: Global, tokens: &[Token]) -> Result<(Vec<Declarations>, &[Token]), ReadError>
+pub fn locals(
+    alloc: Global,
+    tokens: &[PlacedToken],
+) -> Result<(Vec<Declarations>, &[PlacedToken]), ReadError>
     ensures { Gives (λ x. (view_groups x.0.items, x.1.now)) result (reading.locals_at tokens.now) }
 {
     match after(Mark::Var, tokens) {

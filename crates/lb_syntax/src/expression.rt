@@ -29,8 +29,10 @@ use crate::level::{
 use crate::list::{Items, list_onto, whole};
 use crate::reader::{ReadError, after, closed, expect, past};
 use crate::statics::{separator, static_expression, statics};
-use crate::token::{Mark, Token};
-use crate::tree::{ArrayIterator, BinaryOperator, Expr, Name, Operator, Static, UnaryOperator};
+use crate::token::{Mark, PlacedToken, Token};
+use crate::tree::{
+    ArrayIterator, BinaryOperator, Expr, Name, Offset, Operator, Static, UnaryOperator,
+};
 use std::alloc::{AllocError, Global};
 
 fn form_at(token: &Token) -> Option<Form>
@@ -46,18 +48,18 @@ fn level(e: &Expr) -> u8
     ensures { result ≡ levels.level (view e.now) }
 {
     match e {
-        Expr::Binary(op, _, _) => row_of(Form::Data(*op)).level,
-        Expr::Arrow(_, _) | Expr::Fby(_, _) => row_of(Form::Arrow).level,
-        Expr::Join(_, _) => row_of(Form::Join).level,
-        Expr::When(_, _, _) => row_of(Form::When).level,
-        Expr::Replicate(_, _) => row_of(Form::Replicate).level,
-        Expr::Index(_, _) | Expr::Slice(_, _, _) => row_of(Form::Element).level,
-        Expr::If(_, _, _) => CHOICE_LEVEL,
-        Expr::Unary(op, _) => unary_level(*op),
-        Expr::Pre(_) | Expr::Current(_) => MEMORY_LEVEL,
-        Expr::Literal(_) | Expr::Truth(_) | Expr::Variable(_) | Expr::Group(_) => { ATOM_LEVEL }
-        Expr::Array(_) | Expr::AtMostOne(_) | Expr::Nor(_) => ATOM_LEVEL,
-        Expr::Call(_, _, _) | Expr::Iterate(_, _, _, _) => ATOM_LEVEL,
+        Expr::Binary(op, ..) => row_of(Form::Data(*op)).level,
+        Expr::Arrow(..) | Expr::Fby(..) => row_of(Form::Arrow).level,
+        Expr::Join(..) => row_of(Form::Join).level,
+        Expr::When(..) => row_of(Form::When).level,
+        Expr::Replicate(..) => row_of(Form::Replicate).level,
+        Expr::Index(..) | Expr::Slice(..) => row_of(Form::Element).level,
+        Expr::If(..) => CHOICE_LEVEL,
+        Expr::Unary(op, ..) => unary_level(*op),
+        Expr::Pre(..) | Expr::Current(..) => MEMORY_LEVEL,
+        Expr::Literal(..) | Expr::Truth(..) | Expr::Variable(_) => ATOM_LEVEL,
+        Expr::Group(..) | Expr::Array(..) | Expr::AtMostOne(..) | Expr::Nor(..) => ATOM_LEVEL,
+        Expr::Call(..) | Expr::Iterate(..) => ATOM_LEVEL,
     }
 }
 
@@ -67,11 +69,11 @@ fn is_clear(k: u8, e: &Expr) -> bool
     ensures { result ≡ nat_le k (levels.edge (view e.now)) }
 {
     match e {
-        Expr::Binary(_, _, b) | Expr::Arrow(_, b) => is_clear(k, b),
-        Expr::Fby(_, b) | Expr::Join(_, b) => is_clear(k, b),
-        Expr::If(_, _, b) => k <= CHOICE_LEVEL && is_clear(k, b),
-        Expr::Unary(op, a) => k <= unary_level(*op) && is_clear(k, a),
-        Expr::Pre(a) | Expr::Current(a) => k <= MEMORY_LEVEL && is_clear(k, a),
+        Expr::Binary(_, _, b, _) | Expr::Arrow(_, b, _) => is_clear(k, b),
+        Expr::Fby(_, b, _) | Expr::Join(_, b, _) => is_clear(k, b),
+        Expr::If(_, _, b, _) => k <= CHOICE_LEVEL && is_clear(k, b),
+        Expr::Unary(op, a, _) => k <= unary_level(*op) && is_clear(k, a),
+        Expr::Pre(a, _) | Expr::Current(a, _) => k <= MEMORY_LEVEL && is_clear(k, a),
         _ => true,
     }
 }
@@ -120,7 +122,10 @@ fn symbol_of(mark: Mark) -> Option<BinaryOperator>
 
 /// Static arguments in `<<` and `>>`, of which there may be none.
 #[tactic(auto, unfolding(crate::specs::Reading::arguments_at))]
-fn arguments(alloc: Global, tokens: &[Token]) -> Result<(Vec<Static>, &[Token]), ReadError>
+fn arguments(
+    alloc: Global,
+    tokens: &[PlacedToken],
+) -> Result<(Vec<Static>, &[PlacedToken]), ReadError>
     ensures { Gives (λ x. (view_statics x.0.items, x.1.now)) result
         (reading.arguments_at tokens.now) }
 {
@@ -132,7 +137,10 @@ fn arguments(alloc: Global, tokens: &[Token]) -> Result<(Vec<Static>, &[Token]),
 
 /// After `f<<`, the static arguments of a call up to its operands.
 #[inline(never)]
-fn static_arguments(alloc: Global, tokens: &[Token]) -> Result<(Vec<Static>, &[Token]), ReadError>
+fn static_arguments(
+    alloc: Global,
+    tokens: &[PlacedToken],
+) -> Result<(Vec<Static>, &[PlacedToken]), ReadError>
     ensures { Gives (λ x. (view_statics x.0.items, x.1.now)) result
         (reading.static_arguments_at tokens.now) }
 {
@@ -142,13 +150,13 @@ fn static_arguments(alloc: Global, tokens: &[Token]) -> Result<(Vec<Static>, &[T
 
 /// What an iterator applies.
 #[tactic(auto, unfolding(crate::specs::Reading::operator_at))]
-fn operator(alloc: Global, tokens: &[Token]) -> Result<(Operator, &[Token]), ReadError>
+fn operator(alloc: Global, tokens: &[PlacedToken]) -> Result<(Operator, &[PlacedToken]), ReadError>
     ensures { Gives (λ x. (view_operator x.0, x.1.now)) result (reading.operator_at tokens.now) }
 {
     let [token, rest @ ..] = tokens else {
         return Err(ReadError::Syntax(tokens.len()));
     };
-    match token {
+    match token.token() {
         Token::Name(f) => {
             let name = f.copy(alloc)?;
             let (found, rest) = arguments(alloc, rest)?;
@@ -162,7 +170,7 @@ fn operator(alloc: Global, tokens: &[Token]) -> Result<(Operator, &[Token]), Rea
     }
 }
 
-fn expect_separator(tokens: &[Token]) -> Result<&[Token], ReadError>
+fn expect_separator(tokens: &[PlacedToken]) -> Result<&[PlacedToken], ReadError>
     ensures { Gives (λ rest. rest.now) result (reading.separator tokens.now) }
 {
     match separator(tokens) {
@@ -174,7 +182,10 @@ fn expect_separator(tokens: &[Token]) -> Result<&[Token], ReadError>
 /// After `<<`, what an iterator applies and how often.
 #[inline(always)]
 #[tactic(auto, unfolding(crate::specs::Reading::applied_at))]
-fn applied(alloc: Global, tokens: &[Token]) -> Result<(Operator, Static, &[Token]), ReadError>
+fn applied(
+    alloc: Global,
+    tokens: &[PlacedToken],
+) -> Result<(Operator, Static, &[PlacedToken]), ReadError>
     ensures { Gives (λ x. ((view_operator x.0, view_static x.1), x.2.now)) result
         (reading.applied_at tokens.now) }
 {
@@ -200,12 +211,14 @@ impl<F: Copy> Clone for Grammar<F> {
     }
 }
 
-impl<F: Fn(Global, usize, u8, &[Token]) -> Result<(Box<Expr>, &[Token]), ReadError>> Grammar<F> {
+impl<
+    F: Fn(Global, usize, u8, &[PlacedToken]) -> Result<(Box<Expr>, &[PlacedToken]), ReadError>,
+> Grammar<F> {
     fn inner<'t>(
         &self,
         least: u8,
-        tokens: &'t [Token],
-    ) -> Result<(Box<Expr>, &'t [Token]), ReadError>
+        tokens: &'t [PlacedToken],
+    ) -> Result<(Box<Expr>, &'t [PlacedToken]), ReadError>
         requires { Nests self.now.depth (F.pre self.now.inner) (F.post self.now.inner) }
         ensures { Gives (λ x. (view_box x.0, x.1.now)) result
             (reading.tree_at self.now.depth least tokens.now) }
@@ -217,8 +230,8 @@ impl<F: Fn(Global, usize, u8, &[Token]) -> Result<(Box<Expr>, &[Token]), ReadErr
     fn level_at<'t>(
         &self,
         least: u8,
-        tokens: &'t [Token],
-    ) -> Result<(Box<Expr>, &'t [Token]), ReadError>
+        tokens: &'t [PlacedToken],
+    ) -> Result<(Box<Expr>, &'t [PlacedToken]), ReadError>
         requires { Nests self.now.depth (F.pre self.now.inner) (F.post self.now.inner) }
         ensures { Gives (λ x. (view_box x.0, x.1.now)) result
             (reading.level_at (reading.tree_at self.now.depth) least tokens.now) }
@@ -228,7 +241,10 @@ impl<F: Fn(Global, usize, u8, &[Token]) -> Result<(Box<Expr>, &[Token]), ReadErr
     }
 
     #[tactic(auto, unfolding(crate::specs::Reading::first))]
-    fn first<'t>(&self, tokens: &'t [Token]) -> Result<(Box<Expr>, &'t [Token]), ReadError>
+    fn first<'t>(
+        &self,
+        tokens: &'t [PlacedToken],
+    ) -> Result<(Box<Expr>, &'t [PlacedToken]), ReadError>
         requires { Nests self.now.depth (F.pre self.now.inner) (F.post self.now.inner) }
         ensures { Gives (λ x. (view_box x.0, x.1.now)) result
             (reading.first (reading.tree_at self.now.depth) tokens.now) }
@@ -236,51 +252,61 @@ impl<F: Fn(Global, usize, u8, &[Token]) -> Result<(Box<Expr>, &[Token]), ReadErr
         let [token, rest @ ..] = tokens else {
             return Err(ReadError::Syntax(tokens.len()));
         };
-        match token {
-            Token::Literal(n) => literal(self.alloc, *n, rest),
+        match token.token() {
+            Token::Literal(n) => literal(self.alloc, *n, token.start(), rest),
             Token::Name(x) => self.named(x, rest),
-            Token::Mark(mark) => self.marked(*mark, tokens.len(), rest),
+            Token::Mark(mark) => self.marked(*mark, token.start(), tokens.len(), rest),
         }
     }
 
-    /// What a mark begins. From the mark on, `left` tokens are left.
+    /// What a mark begins that stands at an offset. From the mark on, `left` tokens are left.
     #[tactic(auto, unfolding(crate::specs::Reading::marked))]
     fn marked<'t>(
         &self,
         mark: Mark,
+        at: Offset,
         left: usize,
-        tokens: &'t [Token],
-    ) -> Result<(Box<Expr>, &'t [Token]), ReadError>
+        tokens: &'t [PlacedToken],
+    ) -> Result<(Box<Expr>, &'t [PlacedToken]), ReadError>
         requires { Nests self.now.depth (F.pre self.now.inner) (F.post self.now.inner) }
         ensures { Gives (λ x. (view_box x.0, x.1.now)) result
             (reading.marked (reading.tree_at self.now.depth) mark tokens.now) }
     {
         let alloc = self.alloc;
         match mark {
-            Mark::True => truth(alloc, true, tokens),
-            Mark::False => truth(alloc, false, tokens),
-            Mark::Open => self.group(tokens),
-            Mark::Not => self.unary(UnaryOperator::Not, tokens),
-            Mark::Minus => self.unary(UnaryOperator::Negate, tokens),
-            Mark::Pre => self.memory(Single::Pre, tokens),
-            Mark::Current => self.memory(Single::Current, tokens),
-            Mark::If => self.choice(tokens),
-            Mark::OpenBracket => self.array(tokens),
-            Mark::Hash => self.tuple(Listed::AtMostOne, tokens),
-            Mark::Nor => self.tuple(Listed::Nor, tokens),
+            Mark::True => truth(alloc, true, at, tokens),
+            Mark::False => truth(alloc, false, at, tokens),
+            Mark::Open => self.group(at, tokens),
+            Mark::Not => self.unary(UnaryOperator::Not, at, tokens),
+            Mark::Minus => self.unary(UnaryOperator::Negate, at, tokens),
+            Mark::Pre => self.memory(Single::Pre, at, tokens),
+            Mark::Current => self.memory(Single::Current, at, tokens),
+            Mark::If => self.choice(at, tokens),
+            Mark::OpenBracket => self.array(at, tokens),
+            Mark::Hash => self.tuple(Listed::AtMostOne, at, tokens),
+            Mark::Nor => self.tuple(Listed::Nor, at, tokens),
             _ => Err(ReadError::Syntax(left)),
         }
     }
 
     /// What `(` begins.
     #[inline(always)]
-    fn group<'t>(&self, tokens: &'t [Token]) -> Result<(Box<Expr>, &'t [Token]), ReadError>
+    fn group<'t>(
+        &self,
+        at: Offset,
+        tokens: &'t [PlacedToken],
+    ) -> Result<(Box<Expr>, &'t [PlacedToken]), ReadError>
         requires { Nests self.now.depth (F.pre self.now.inner) (F.post self.now.inner) }
         ensures { Gives {Y = tree.Expr × List AToken} (λ x. (view_box x.0, x.1.now)) result
             (readers.◌>>=◌ (reading.until (reading.tree_at self.now.depth) m.Close tokens.now)
             (λ x. Some (tree.Group x.0, x.1))) }
     {
-        with_one(self.alloc, Single::Group, self.until(Mark::Close, tokens))
+        with_one(
+            self.alloc,
+            Single::Group,
+            at,
+            self.until(Mark::Close, tokens),
+        )
     }
 
     /// What `pre` or `current` begins.
@@ -288,19 +314,24 @@ impl<F: Fn(Global, usize, u8, &[Token]) -> Result<(Box<Expr>, &[Token]), ReadErr
     fn memory<'t>(
         &self,
         form: Single,
-        tokens: &'t [Token],
-    ) -> Result<(Box<Expr>, &'t [Token]), ReadError>
+        at: Offset,
+        tokens: &'t [PlacedToken],
+    ) -> Result<(Box<Expr>, &'t [PlacedToken]), ReadError>
         requires { Nests self.now.depth (F.pre self.now.inner) (F.post self.now.inner) }
         ensures { Gives (λ x. (view_box x.0, x.1.now)) result
             (reading.prefixed (reading.tree_at self.now.depth) (reading.single form)
             levels.memory_level tokens.now) }
     {
-        with_one(self.alloc, form, self.inner(MEMORY_LEVEL, tokens))
+        with_one(self.alloc, form, at, self.inner(MEMORY_LEVEL, tokens))
     }
 
     /// What `[` begins where an operand is wanted.
     #[inline(always)]
-    fn array<'t>(&self, tokens: &'t [Token]) -> Result<(Box<Expr>, &'t [Token]), ReadError>
+    fn array<'t>(
+        &self,
+        at: Offset,
+        tokens: &'t [PlacedToken],
+    ) -> Result<(Box<Expr>, &'t [PlacedToken]), ReadError>
         requires { Nests self.now.depth (F.pre self.now.inner) (F.post self.now.inner) }
         ensures { Gives {Y = tree.Expr × List AToken} (λ x. (view_box x.0, x.1.now)) result
             (readers.◌>>=◌ (reading.list_until (reading.tree_at self.now.depth) m.CloseBracket
@@ -309,6 +340,7 @@ impl<F: Fn(Global, usize, u8, &[Token]) -> Result<(Box<Expr>, &[Token]), ReadErr
         with_list(
             self.alloc,
             Listed::Array,
+            at,
             self.list_until(Mark::CloseBracket, tokens),
         )
     }
@@ -318,22 +350,24 @@ impl<F: Fn(Global, usize, u8, &[Token]) -> Result<(Box<Expr>, &[Token]), ReadErr
     fn tuple<'t>(
         &self,
         form: Listed,
-        tokens: &'t [Token],
-    ) -> Result<(Box<Expr>, &'t [Token]), ReadError>
+        at: Offset,
+        tokens: &'t [PlacedToken],
+    ) -> Result<(Box<Expr>, &'t [PlacedToken]), ReadError>
         requires { Nests self.now.depth (F.pre self.now.inner) (F.post self.now.inner) }
         ensures { Gives {Y = tree.Expr × List AToken} (λ x. (view_box x.0, x.1.now)) result
             (readers.◌>>=◌ (reading.items (reading.tree_at self.now.depth) tokens.now)
             (λ x. Some (reading.listed form (reading.exprs x.0), x.1))) }
     {
-        with_list(self.alloc, form, self.items(tokens))
+        with_list(self.alloc, form, at, self.items(tokens))
     }
 
     #[inline(always)]
     fn unary<'t>(
         &self,
         op: UnaryOperator,
-        tokens: &'t [Token],
-    ) -> Result<(Box<Expr>, &'t [Token]), ReadError>
+        at: Offset,
+        tokens: &'t [PlacedToken],
+    ) -> Result<(Box<Expr>, &'t [PlacedToken]), ReadError>
         requires { Nests self.now.depth (F.pre self.now.inner) (F.post self.now.inner) }
         ensures { Gives (λ x. (view_box x.0, x.1.now)) result
             (reading.prefixed (reading.tree_at self.now.depth) (tree.Unary op)
@@ -342,6 +376,7 @@ impl<F: Fn(Global, usize, u8, &[Token]) -> Result<(Box<Expr>, &[Token]), ReadErr
         with_one(
             self.alloc,
             Single::Unary(op),
+            at,
             self.inner(unary_level(op), tokens),
         )
     }
@@ -352,8 +387,8 @@ impl<F: Fn(Global, usize, u8, &[Token]) -> Result<(Box<Expr>, &[Token]), ReadErr
     fn until<'t>(
         &self,
         mark: Mark,
-        tokens: &'t [Token],
-    ) -> Result<(Box<Expr>, &'t [Token]), ReadError>
+        tokens: &'t [PlacedToken],
+    ) -> Result<(Box<Expr>, &'t [PlacedToken]), ReadError>
         requires { Nests self.now.depth (F.pre self.now.inner) (F.post self.now.inner) }
         ensures { Gives (λ x. (view_box x.0, x.1.now)) result
             (reading.until (reading.tree_at self.now.depth) mark tokens.now) }
@@ -363,14 +398,18 @@ impl<F: Fn(Global, usize, u8, &[Token]) -> Result<(Box<Expr>, &[Token]), ReadErr
 
     #[inline(always)]
     #[tactic(auto, unfolding(crate::specs::Reading::choice))]
-    fn choice<'t>(&self, tokens: &'t [Token]) -> Result<(Box<Expr>, &'t [Token]), ReadError>
+    fn choice<'t>(
+        &self,
+        at: Offset,
+        tokens: &'t [PlacedToken],
+    ) -> Result<(Box<Expr>, &'t [PlacedToken]), ReadError>
         requires { Nests self.now.depth (F.pre self.now.inner) (F.post self.now.inner) }
         ensures { Gives (λ x. (view_box x.0, x.1.now)) result
             (reading.choice (reading.tree_at self.now.depth) tokens.now) }
     {
         let (c, rest) = self.until(Mark::Then, tokens)?;
         let (c, a, rest) = followed(c, self.until(Mark::Else, rest))?;
-        chosen(self.alloc, c, a, self.inner(CHOICE_LEVEL, rest))
+        chosen(self.alloc, c, a, at, self.inner(CHOICE_LEVEL, rest))
     }
 
     /// What a name begins.
@@ -378,8 +417,8 @@ impl<F: Fn(Global, usize, u8, &[Token]) -> Result<(Box<Expr>, &[Token]), ReadErr
     fn named<'t>(
         &self,
         name: &Name,
-        tokens: &'t [Token],
-    ) -> Result<(Box<Expr>, &'t [Token]), ReadError>
+        tokens: &'t [PlacedToken],
+    ) -> Result<(Box<Expr>, &'t [PlacedToken]), ReadError>
         requires { Nests self.now.depth (F.pre self.now.inner) (F.post self.now.inner) }
         ensures { Gives (λ x. (view_box x.0, x.1.now)) result
             (reading.named (reading.tree_at self.now.depth) name.now tokens.now) }
@@ -387,7 +426,7 @@ impl<F: Fn(Global, usize, u8, &[Token]) -> Result<(Box<Expr>, &[Token]), ReadErr
         match after(Mark::OpenStatic, tokens) {
             None => self.plain(name, tokens),
             Some(next) => match iterator_of(name) {
-                Some(i) => self.iterate(i, next),
+                Some(i) => self.iterate(i, name.offset(), next),
                 None => self.static_call(name, next),
             },
         }
@@ -397,8 +436,8 @@ impl<F: Fn(Global, usize, u8, &[Token]) -> Result<(Box<Expr>, &[Token]), ReadErr
     fn plain<'t>(
         &self,
         name: &Name,
-        tokens: &'t [Token],
-    ) -> Result<(Box<Expr>, &'t [Token]), ReadError>
+        tokens: &'t [PlacedToken],
+    ) -> Result<(Box<Expr>, &'t [PlacedToken]), ReadError>
         requires { Nests self.now.depth (F.pre self.now.inner) (F.post self.now.inner) }
         ensures { Gives (λ x. (view_box x.0, x.1.now)) result
             (reading.plain_by (reading.tree_at self.now.depth) name.now
@@ -415,14 +454,15 @@ impl<F: Fn(Global, usize, u8, &[Token]) -> Result<(Box<Expr>, &[Token]), ReadErr
     fn iterate<'t>(
         &self,
         i: ArrayIterator,
-        tokens: &'t [Token],
-    ) -> Result<(Box<Expr>, &'t [Token]), ReadError>
+        at: Offset,
+        tokens: &'t [PlacedToken],
+    ) -> Result<(Box<Expr>, &'t [PlacedToken]), ReadError>
         requires { Nests self.now.depth (F.pre self.now.inner) (F.post self.now.inner) }
         ensures { Gives (λ x. (view_box x.0, x.1.now)) result
             (reading.iterate (reading.tree_at self.now.depth) i tokens.now) }
     {
         let (f, n, rest) = applied(self.alloc, tokens)?;
-        iterate(self.alloc, i, f, n, self.items(rest))
+        iterate(self.alloc, i, f, n, at, self.items(rest))
     }
 
     /// After `f<<`.
@@ -431,8 +471,8 @@ impl<F: Fn(Global, usize, u8, &[Token]) -> Result<(Box<Expr>, &[Token]), ReadErr
     fn static_call<'t>(
         &self,
         name: &Name,
-        tokens: &'t [Token],
-    ) -> Result<(Box<Expr>, &'t [Token]), ReadError>
+        tokens: &'t [PlacedToken],
+    ) -> Result<(Box<Expr>, &'t [PlacedToken]), ReadError>
         requires { Nests self.now.depth (F.pre self.now.inner) (F.post self.now.inner) }
         ensures { Gives (λ x. (view_box x.0, x.1.now)) result
             (reading.static_call (reading.tree_at self.now.depth) name.now tokens.now) }
@@ -444,7 +484,10 @@ impl<F: Fn(Global, usize, u8, &[Token]) -> Result<(Box<Expr>, &[Token]), ReadErr
     /// After `f(`, operands of which there may be none.
     #[inline(always)]
     #[tactic(auto, unfolding(crate::specs::Reading::operands))]
-    fn operands<'t>(&self, tokens: &'t [Token]) -> Result<(Vec<Expr>, &'t [Token]), ReadError>
+    fn operands<'t>(
+        &self,
+        tokens: &'t [PlacedToken],
+    ) -> Result<(Vec<Expr>, &'t [PlacedToken]), ReadError>
         requires { Nests self.now.depth (F.pre self.now.inner) (F.post self.now.inner) }
         ensures { Gives (λ x. (map view x.0.items, x.1.now)) result
             (reading.operands (reading.tree_at self.now.depth) tokens.now) }
@@ -458,7 +501,10 @@ impl<F: Fn(Global, usize, u8, &[Token]) -> Result<(Box<Expr>, &[Token]), ReadErr
     /// One expression or more in parentheses.
     #[inline(always)]
     #[tactic(auto, unfolding(crate::specs::Reading::items))]
-    fn items<'t>(&self, tokens: &'t [Token]) -> Result<(Vec<Expr>, &'t [Token]), ReadError>
+    fn items<'t>(
+        &self,
+        tokens: &'t [PlacedToken],
+    ) -> Result<(Vec<Expr>, &'t [PlacedToken]), ReadError>
         requires { Nests self.now.depth (F.pre self.now.inner) (F.post self.now.inner) }
         ensures { Gives (λ x. (map view x.0.items, x.1.now)) result
             (reading.items (reading.tree_at self.now.depth) tokens.now) }
@@ -473,8 +519,8 @@ impl<F: Fn(Global, usize, u8, &[Token]) -> Result<(Box<Expr>, &[Token]), ReadErr
     fn list_until<'t>(
         &self,
         mark: Mark,
-        tokens: &'t [Token],
-    ) -> Result<(Vec<Expr>, &'t [Token]), ReadError>
+        tokens: &'t [PlacedToken],
+    ) -> Result<(Vec<Expr>, &'t [PlacedToken]), ReadError>
         requires { Nests self.now.depth (F.pre self.now.inner) (F.post self.now.inner) }
         ensures { Gives (λ x. (map view x.0.items, x.1.now)) result
             (reading.list_until (reading.tree_at self.now.depth) mark tokens.now) }
@@ -484,23 +530,25 @@ impl<F: Fn(Global, usize, u8, &[Token]) -> Result<(Box<Expr>, &[Token]), ReadErr
         whole(found, past(end, mark))
     }
 
-    /// The tree that a form makes of its left operand and what follows its mark.
+    /// The tree that a form makes of its left operand and what follows its mark, which stands at an
+    /// offset.
     fn longer<'t>(
         &self,
         left: Box<Expr>,
         form: Form,
-        tokens: &'t [Token],
-    ) -> Result<(Box<Expr>, &'t [Token]), ReadError>
+        at: Offset,
+        tokens: &'t [PlacedToken],
+    ) -> Result<(Box<Expr>, &'t [PlacedToken]), ReadError>
         requires { Nests self.now.depth (F.pre self.now.inner) (F.post self.now.inner) }
         ensures { Gives (λ x. (view_box x.0, x.1.now)) result
             (reading.longer (reading.tree_at self.now.depth) (view_box left) form tokens.now) }
     {
         let alloc = self.alloc;
         match form {
-            Form::When => sampled(alloc, left, tokens),
-            Form::Replicate => replicated(alloc, left, tokens),
-            Form::Element => element(alloc, left, tokens),
-            _ => self.infix(left, form, tokens),
+            Form::When => sampled(alloc, left, at, tokens),
+            Form::Replicate => replicated(alloc, left, at, tokens),
+            Form::Element => element(alloc, left, at, tokens),
+            _ => self.infix(left, form, at, tokens),
         }
     }
 
@@ -510,8 +558,9 @@ impl<F: Fn(Global, usize, u8, &[Token]) -> Result<(Box<Expr>, &[Token]), ReadErr
         &self,
         left: Box<Expr>,
         form: Form,
-        tokens: &'t [Token],
-    ) -> Result<(Box<Expr>, &'t [Token]), ReadError>
+        at: Offset,
+        tokens: &'t [PlacedToken],
+    ) -> Result<(Box<Expr>, &'t [PlacedToken]), ReadError>
         requires { Nests self.now.depth (F.pre self.now.inner) (F.post self.now.inner) }
         ensures { Gives (λ x. (view_box x.0, x.1.now)) result
             (reading.infix_at (reading.tree_at self.now.depth) (view_box left) form tokens.now) }
@@ -520,13 +569,15 @@ impl<F: Fn(Global, usize, u8, &[Token]) -> Result<(Box<Expr>, &[Token]), ReadErr
             self.alloc,
             form,
             left,
+            at,
             self.inner(row_of(form).right, tokens),
         )
     }
 }
 
-impl<F: Fn(Global, usize, u8, &[Token]) -> Result<(Box<Expr>, &[Token]), ReadError>> Items
-    for Grammar<F> {
+impl<
+    F: Fn(Global, usize, u8, &[PlacedToken]) -> Result<(Box<Expr>, &[PlacedToken]), ReadError>,
+> Items for Grammar<F> {
     type Item = Expr;
 
     ghost Plain = { tree.Expr };
@@ -539,7 +590,7 @@ impl<F: Fn(Global, usize, u8, &[Token]) -> Result<(Box<Expr>, &[Token]), ReadErr
 
     ghost separator_at = { λ _. readers.expect m.Comma };
 
-    fn item<'t>(&self, tokens: &'t [Token]) -> Result<(Expr, &'t [Token]), ReadError> {
+    fn item<'t>(&self, tokens: &'t [PlacedToken]) -> Result<(Expr, &'t [PlacedToken]), ReadError> {
         let (e, rest) = self.inner(ANY_LEVEL, tokens)?;
         Ok((Box::into_inner(e), rest))
     }
@@ -548,18 +599,19 @@ impl<F: Fn(Global, usize, u8, &[Token]) -> Result<(Box<Expr>, &[Token]), ReadErr
     fn push_item<'t>(
         &self,
         found: &mut Vec<Expr>,
-        tokens: &'t [Token],
-    ) -> Result<&'t [Token], ReadError> {
+        tokens: &'t [PlacedToken],
+    ) -> Result<&'t [PlacedToken], ReadError> {
         push_tree(found, self.inner(ANY_LEVEL, tokens))
     }
 
-    fn separator<'t>(&self, tokens: &'t [Token]) -> Option<&'t [Token]> {
+    fn separator<'t>(&self, tokens: &'t [PlacedToken]) -> Option<&'t [PlacedToken]> {
         after(Mark::Comma, tokens)
     }
 }
 
-impl<F: Fn(Global, usize, u8, &[Token]) -> Result<(Box<Expr>, &[Token]), ReadError>> Grower
-    for Grammar<F> {
+impl<
+    F: Fn(Global, usize, u8, &[PlacedToken]) -> Result<(Box<Expr>, &[PlacedToken]), ReadError>,
+> Grower for Grammar<F> {
     type Tree = Box<Expr>;
 
     ghost Plain = { tree.Expr };
@@ -574,18 +626,18 @@ impl<F: Fn(Global, usize, u8, &[Token]) -> Result<(Box<Expr>, &[Token]), ReadErr
         &self,
         least: u8,
         left: Box<Expr>,
-        tokens: &'t [Token],
+        tokens: &'t [PlacedToken],
     ) -> Result<Growth<'t, Box<Expr>>, ReadError> {
         let [token, next @ ..] = tokens else {
             return Ok(Growth::Stop(left));
         };
-        let Some(form) = form_at(token) else {
+        let Some(form) = form_at(token.token()) else {
             return Ok(Growth::Stop(left));
         };
         if !takes(least, row_of(form), &left) {
             return Ok(Growth::Stop(left));
         }
-        let (longer, rest) = self.longer(left, form, next)?;
+        let (longer, rest) = self.longer(left, form, token.start(), next)?;
         Ok(Growth::More(longer, rest))
     }
 }
@@ -595,8 +647,8 @@ fn tree_at(
     alloc: Global,
     depth: usize,
     least: u8,
-    tokens: &[Token],
-) -> Result<(Box<Expr>, &[Token]), ReadError>
+    tokens: &[PlacedToken],
+) -> Result<(Box<Expr>, &[PlacedToken]), ReadError>
     ensures { Gives (λ x. (view_box x.0, x.1.now)) result (reading.tree_at depth least tokens.now) }
 {
     if depth == 0 {
@@ -615,7 +667,10 @@ fn tree_at(
 ///
 /// Errors: `Syntax` where no expression stands there, and `Memory`.
 #[tactic(auto, unfolding(crate::specs::Reading::expression_at))]
-pub fn expression(alloc: Global, tokens: &[Token]) -> Result<(Expr, &[Token]), ReadError>
+pub fn expression(
+    alloc: Global,
+    tokens: &[PlacedToken],
+) -> Result<(Expr, &[PlacedToken]), ReadError>
     ensures { Gives (λ x. (view x.0, x.1.now)) result (reading.expression_at tokens.now) }
 {
     let (e, rest) = tree_at(alloc, tokens.len(), ANY_LEVEL, tokens)?;

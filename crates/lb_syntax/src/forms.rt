@@ -1,7 +1,8 @@
 //! The tree of each form, made of the parts that were read.
 //!
 //! The functions take what came of the last part, and so see to its error. Most stay out of line,
-//! so that what they hold takes no stack while an expression nests.
+//! so that what they hold takes no stack while an expression nests. An offset `at` is that of the
+//! mark with which a form begins, or which follows its left operand.
 
 ghost use Rattle.std.specs.Prelude.{◌≡◌, List, Some, map, ◌++◌, ◌∷◌, []};
 ghost use Rattle.lb_syntax.specs.Reading as reading;
@@ -14,8 +15,8 @@ ghost use Rattle.lb_syntax.specs.declared.token.Token.{Token as AToken};
 use crate::level::Form;
 use crate::reader::{ReadError, after, closed, expect};
 use crate::statics::{clock, size, static_expression};
-use crate::token::{Mark, Token};
-use crate::tree::{ArrayIterator, Expr, Name, Operator, Static, UnaryOperator};
+use crate::token::{Mark, PlacedToken};
+use crate::tree::{ArrayIterator, Expr, Name, Offset, Operator, Static, UnaryOperator};
 use std::alloc::Global;
 
 /// After `e[`, an index or a slice of it.
@@ -24,8 +25,9 @@ use std::alloc::Global;
 pub fn element(
     alloc: Global,
     e: Box<Expr>,
-    tokens: &[Token],
-) -> Result<(Box<Expr>, &[Token]), ReadError>
+    at: Offset,
+    tokens: &[PlacedToken],
+) -> Result<(Box<Expr>, &[PlacedToken]), ReadError>
     ensures { Gives (λ x. (view_box x.0, x.1.now)) result
         (reading.element_at (view_box e) tokens.now) }
 {
@@ -33,11 +35,11 @@ pub fn element(
     match after(Mark::DotDot, rest) {
         None => {
             let rest = expect(Mark::CloseBracket, rest)?;
-            boxed_before(alloc, Expr::Index(e, i), rest)
+            boxed_before(alloc, Expr::Index(e, i, at), rest)
         }
         Some(next) => {
             let (j, rest) = closed(static_expression(alloc, next), Mark::CloseBracket)?;
-            boxed_before(alloc, Expr::Slice(e, i, j), rest)
+            boxed_before(alloc, Expr::Slice(e, i, j, at), rest)
         }
     }
 }
@@ -46,8 +48,8 @@ pub fn element(
 fn boxed_before<'t>(
     alloc: Global,
     e: Expr,
-    rest: &'t [Token],
-) -> Result<(Box<Expr>, &'t [Token]), ReadError>
+    rest: &'t [PlacedToken],
+) -> Result<(Box<Expr>, &'t [PlacedToken]), ReadError>
     ensures { Gives {Y = tree.Expr × List AToken} (λ x. (view_box x.0, x.1.now)) result
         (Some (view e, rest.now)) }
 {
@@ -56,20 +58,30 @@ fn boxed_before<'t>(
 
 /// A literal, and the tokens after it.
 #[inline(never)]
-pub fn literal(alloc: Global, n: u32, rest: &[Token]) -> Result<(Box<Expr>, &[Token]), ReadError>
+pub fn literal(
+    alloc: Global,
+    n: u32,
+    at: Offset,
+    rest: &[PlacedToken],
+) -> Result<(Box<Expr>, &[PlacedToken]), ReadError>
     ensures { Gives {Y = tree.Expr × List AToken} (λ x. (view_box x.0, x.1.now)) result
         (Some (tree.Literal n, rest.now)) }
 {
-    boxed_before(alloc, Expr::Literal(n), rest)
+    boxed_before(alloc, Expr::Literal(n, at), rest)
 }
 
 /// A truth, and the tokens after it.
 #[inline(never)]
-pub fn truth(alloc: Global, b: bool, rest: &[Token]) -> Result<(Box<Expr>, &[Token]), ReadError>
+pub fn truth(
+    alloc: Global,
+    b: bool,
+    at: Offset,
+    rest: &[PlacedToken],
+) -> Result<(Box<Expr>, &[PlacedToken]), ReadError>
     ensures { Gives {Y = tree.Expr × List AToken} (λ x. (view_box x.0, x.1.now)) result
         (Some (tree.Truth b, rest.now)) }
 {
-    boxed_before(alloc, Expr::Truth(b), rest)
+    boxed_before(alloc, Expr::Truth(b, at), rest)
 }
 
 /// A variable, and the tokens after it.
@@ -77,8 +89,8 @@ pub fn truth(alloc: Global, b: bool, rest: &[Token]) -> Result<(Box<Expr>, &[Tok
 pub fn variable<'t>(
     alloc: Global,
     name: &Name,
-    rest: &'t [Token],
-) -> Result<(Box<Expr>, &'t [Token]), ReadError>
+    rest: &'t [PlacedToken],
+) -> Result<(Box<Expr>, &'t [PlacedToken]), ReadError>
     ensures { Gives {Y = tree.Expr × List AToken} (λ x. (view_box x.0, x.1.now)) result
         (Some (tree.Variable name.now, rest.now)) }
 {
@@ -90,14 +102,15 @@ pub fn variable<'t>(
 pub fn sampled(
     alloc: Global,
     e: Box<Expr>,
-    tokens: &[Token],
-) -> Result<(Box<Expr>, &[Token]), ReadError>
+    at: Offset,
+    tokens: &[PlacedToken],
+) -> Result<(Box<Expr>, &[PlacedToken]), ReadError>
     ensures { Gives {Y = tree.Expr × List AToken} (λ x. (view_box x.0, x.1.now)) result
         (readers.◌>>=◌ (reading.clock_at tokens.now)
         (λ c. Some (tree.When (view_box e) c.0.0 c.0.1, c.1))) }
 {
     let (c, rest) = clock(alloc, tokens)?;
-    boxed_before(alloc, Expr::When(e, c.variable, c.sign), rest)
+    boxed_before(alloc, Expr::When(e, c.variable, c.sign, at), rest)
 }
 
 /// After `e ^`, the size and the tokens after it.
@@ -105,14 +118,15 @@ pub fn sampled(
 pub fn replicated(
     alloc: Global,
     e: Box<Expr>,
-    tokens: &[Token],
-) -> Result<(Box<Expr>, &[Token]), ReadError>
+    at: Offset,
+    tokens: &[PlacedToken],
+) -> Result<(Box<Expr>, &[PlacedToken]), ReadError>
     ensures { Gives {Y = tree.Expr × List AToken} (λ x. (view_box x.0, x.1.now)) result
         (readers.◌>>=◌ (reading.size_at tokens.now)
         (λ n. Some (tree.Replicate (view_box e) n.0, n.1))) }
 {
     let (n, rest) = size(alloc, tokens)?;
-    boxed_before(alloc, Expr::Replicate(e, n), rest)
+    boxed_before(alloc, Expr::Replicate(e, n, at), rest)
 }
 
 /// A form that begins with a mark and has one tree inside.
@@ -144,37 +158,38 @@ pub enum Listed {
 pub fn with_one<'t>(
     alloc: Global,
     form: Single,
-    read: Result<(Box<Expr>, &'t [Token]), ReadError>,
-) -> Result<(Box<Expr>, &'t [Token]), ReadError>
+    at: Offset,
+    read: Result<(Box<Expr>, &'t [PlacedToken]), ReadError>,
+) -> Result<(Box<Expr>, &'t [PlacedToken]), ReadError>
     ensures { GoesOn {Y = tree.Expr × List AToken} (λ y. (view_box y.0, y.1.now)) read.entry
         (λ x. Some (reading.single form (view_box x.0), x.1.now)) result }
 {
     let (e, rest) = read?;
     let tree = match form {
-        Single::Group => Expr::Group(e),
-        Single::Unary(op) => Expr::Unary(op, e),
-        Single::Pre => Expr::Pre(e),
-        Single::Current => Expr::Current(e),
+        Single::Group => Expr::Group(e, at),
+        Single::Unary(op) => Expr::Unary(op, e, at),
+        Single::Pre => Expr::Pre(e, at),
+        Single::Current => Expr::Current(e, at),
     };
     boxed_before(alloc, tree, rest)
 }
 
 /// The tree of a form and of the list that was read inside, and the tokens after it.
 #[inline(never)]
-#[tactic(auto, using(crate::proofs::Views::lists))]
 pub fn with_list<'t>(
     alloc: Global,
     form: Listed,
-    read: Result<(Vec<Expr>, &'t [Token]), ReadError>,
-) -> Result<(Box<Expr>, &'t [Token]), ReadError>
+    at: Offset,
+    read: Result<(Vec<Expr>, &'t [PlacedToken]), ReadError>,
+) -> Result<(Box<Expr>, &'t [PlacedToken]), ReadError>
     ensures { GoesOn {Y = tree.Expr × List AToken} (λ y. (view_box y.0, y.1.now)) read.entry
         (λ x. Some (reading.listed form (reading.exprs (map view x.0.items)), x.1.now)) result }
 {
     let (es, rest) = read?;
     match form {
-        Listed::Array => boxed_before(alloc, Expr::Array(es), rest),
-        Listed::AtMostOne => boxed_before(alloc, Expr::AtMostOne(es), rest),
-        Listed::Nor => boxed_before(alloc, Expr::Nor(es), rest),
+        Listed::Array => boxed_before(alloc, Expr::Array(es, at), rest),
+        Listed::AtMostOne => boxed_before(alloc, Expr::AtMostOne(es, at), rest),
+        Listed::Nor => boxed_before(alloc, Expr::Nor(es, at), rest),
     }
 }
 
@@ -185,17 +200,18 @@ pub fn joined<'t>(
     alloc: Global,
     form: Form,
     a: Box<Expr>,
-    read: Result<(Box<Expr>, &'t [Token]), ReadError>,
-) -> Result<(Box<Expr>, &'t [Token]), ReadError>
+    at: Offset,
+    read: Result<(Box<Expr>, &'t [PlacedToken]), ReadError>,
+) -> Result<(Box<Expr>, &'t [PlacedToken]), ReadError>
     ensures { GoesOn {Y = tree.Expr × List AToken} (λ y. (view_box y.0, y.1.now)) read.entry
         (λ x. Some (reading.joined form (view_box a) (view_box x.0), x.1.now)) result }
 {
     let (b, rest) = read?;
     let e = match form {
-        Form::Data(op) => Expr::Binary(op, a, b),
-        Form::Arrow => Expr::Arrow(a, b),
-        Form::Fby => Expr::Fby(a, b),
-        _ => Expr::Join(a, b),
+        Form::Data(op) => Expr::Binary(op, a, b, at),
+        Form::Arrow => Expr::Arrow(a, b, at),
+        Form::Fby => Expr::Fby(a, b, at),
+        _ => Expr::Join(a, b, at),
     };
     boxed_before(alloc, e, rest)
 }
@@ -204,8 +220,8 @@ pub fn joined<'t>(
 #[inline(never)]
 pub fn followed<'t>(
     c: Box<Expr>,
-    read: Result<(Box<Expr>, &'t [Token]), ReadError>,
-) -> Result<(Box<Expr>, Box<Expr>, &'t [Token]), ReadError>
+    read: Result<(Box<Expr>, &'t [PlacedToken]), ReadError>,
+) -> Result<(Box<Expr>, Box<Expr>, &'t [PlacedToken]), ReadError>
     ensures { GoesOn {Y = (tree.Expr × tree.Expr) × List AToken}
         (λ y. ((view_box y.0, view_box y.1), y.2.now)) read.entry
         (λ x. Some ((view_box c, view_box x.0), x.1.now)) result }
@@ -221,13 +237,14 @@ pub fn chosen<'t>(
     alloc: Global,
     c: Box<Expr>,
     a: Box<Expr>,
-    read: Result<(Box<Expr>, &'t [Token]), ReadError>,
-) -> Result<(Box<Expr>, &'t [Token]), ReadError>
+    at: Offset,
+    read: Result<(Box<Expr>, &'t [PlacedToken]), ReadError>,
+) -> Result<(Box<Expr>, &'t [PlacedToken]), ReadError>
     ensures { GoesOn {Y = tree.Expr × List AToken} (λ y. (view_box y.0, y.1.now)) read.entry
         (λ x. Some (tree.If (view_box c) (view_box a) (view_box x.0), x.1.now)) result }
 {
     let (b, rest) = read?;
-    boxed_before(alloc, Expr::If(c, a, b), rest)
+    boxed_before(alloc, Expr::If(c, a, b, at), rest)
 }
 
 /// A call with the operands that were read, and the tokens after it.
@@ -236,8 +253,8 @@ pub fn call<'t>(
     alloc: Global,
     name: &Name,
     statics: Vec<Static>,
-    read: Result<(Vec<Expr>, &'t [Token]), ReadError>,
-) -> Result<(Box<Expr>, &'t [Token]), ReadError>
+    read: Result<(Vec<Expr>, &'t [PlacedToken]), ReadError>,
+) -> Result<(Box<Expr>, &'t [PlacedToken]), ReadError>
     ensures { GoesOn {Y = tree.Expr × List AToken} (λ y. (view_box y.0, y.1.now)) read.entry
         (λ x. Some (
           tree.Call name.now (view_statics statics.items)
@@ -257,8 +274,9 @@ pub fn iterate<'t>(
     iterator: ArrayIterator,
     operator: Operator,
     size: Static,
-    read: Result<(Vec<Expr>, &'t [Token]), ReadError>,
-) -> Result<(Box<Expr>, &'t [Token]), ReadError>
+    at: Offset,
+    read: Result<(Vec<Expr>, &'t [PlacedToken]), ReadError>,
+) -> Result<(Box<Expr>, &'t [PlacedToken]), ReadError>
     ensures { GoesOn {Y = tree.Expr × List AToken} (λ y. (view_box y.0, y.1.now)) read.entry
         (λ x. Some (
           tree.Iterate iterator (view_operator operator) (view_static size)
@@ -267,9 +285,10 @@ pub fn iterate<'t>(
         )) result }
 {
     let (operands, rest) = read?;
+    let operator = Box::new(alloc, operator)?;
     boxed_before(
         alloc,
-        Expr::Iterate(iterator, operator, size, operands),
+        Expr::Iterate(iterator, operator, size, operands, at),
         rest,
     )
 }
@@ -278,8 +297,8 @@ pub fn iterate<'t>(
 #[inline(never)]
 pub fn push_tree<'t>(
     found: &mut Vec<Expr>,
-    read: Result<(Box<Expr>, &'t [Token]), ReadError>,
-) -> Result<&'t [Token], ReadError>
+    read: Result<(Box<Expr>, &'t [PlacedToken]), ReadError>,
+) -> Result<&'t [PlacedToken], ReadError>
     ensures { GoesOn {Y = List tree.Expr × List AToken}
         (λ rest. (map view found.new.items, rest.now)) read.entry
         (λ x. Some (map view found.old.items ++ view_box x.0 ∷ [], x.1.now)) result }

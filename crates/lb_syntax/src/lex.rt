@@ -11,17 +11,17 @@ ghost use Rattle.std.specs.Prelude.{filter, slice_index, take_while, IfSome, IfO
 ghost use Rattle.lb_syntax.specs.Tokens as spec;
 ghost use Rattle.lb_syntax.specs.Lexed.{passes, piece_of, IsWithin, Lexes};
 
-use crate::token::{Mark, Token};
-use crate::tree::Name;
+use crate::token::{Mark, PlacedToken, Token};
+use crate::tree::{Name, Offset};
 use std::alloc::{AllocError, AllocFailed, Global};
 
 /// The tokens of a text, and where each begins.
 #[derive(Drop)]
 pub struct Tokens {
     /// In text order.
-    pub tokens: Vec<Token>,
+    pub tokens: Vec<PlacedToken>,
     /// The offset of each token's first byte, in text order.
-    pub starts: Vec<u32>,
+    pub starts: Vec<Offset>,
 }
 
 /// Why a text was not cut into tokens. Nothing else is judged here: a name or a literal of any
@@ -31,7 +31,7 @@ pub enum LexError {
     /// Memory ran out.
     Memory,
     /// The byte at this offset begins no token, or a comment without an end.
-    Character(u32),
+    Character(Offset),
 }
 
 impl From<AllocError> for LexError {
@@ -214,14 +214,14 @@ fn lookup(mut table: &[(&[u8], Mark)], text: &[u8]) -> Option<Mark>
     None
 }
 
-/// The token of a whole word.
-fn word(alloc: Global, text: &[u8]) -> Result<Token, AllocError>
+/// The token of a whole word that stands at an offset.
+fn word(alloc: Global, text: &[u8], at: Offset) -> Result<Token, AllocError>
     requires { IsUtf8 text.now }
     ensures { IfOk result (λ t. t ≡ spec.word text.now) }
 {
     match lookup(words_of(text.len()), text) {
         Some(mark) => Ok(Token::Mark(mark)),
-        None => Ok(Token::Name(Name::new(alloc, text)?)),
+        None => Ok(Token::Name(Name::new(alloc, text, at)?)),
     }
 }
 
@@ -308,9 +308,9 @@ fn comment(first: u8, second: u8, text: &[u8]) -> Front
     }
 }
 
-/// What stands at the front of a text.
+/// What stands at the front of a text that itself stands at an offset.
 #[tactic(auto, unfolding(crate::specs::Tokens::piece))]
-fn cut(alloc: Global, text: &[u8]) -> Result<Front, AllocError>
+fn cut(alloc: Global, text: &[u8], at: Offset) -> Result<Front, AllocError>
     requires { 0 < length text.now }
     ensures value { IfOk result (λ piece. piece_of piece ≡ spec.piece text.now) }
     ensures within { IfOk result (IsWithin text.now) }
@@ -330,7 +330,7 @@ fn cut(alloc: Global, text: &[u8]) -> Result<Front, AllocError>
     }
     if begins_name(first) {
         let name = run(Class::Name, text);
-        return Ok(Front::Lexeme(word(alloc, name)?, name.len()));
+        return Ok(Front::Lexeme(word(alloc, name, at)?, name.len()));
     }
     if first.is_ascii_digit() {
         let digits = run(Class::Digit, text);
@@ -348,14 +348,15 @@ pub fn lex(alloc: Global, text: &[u8]) -> Result<Tokens, LexError>
     let mut starts = Vec::new(alloc);
     let mut at = 0;
     while at < text.len() {
-        match cut(alloc, text.split_at(at).1)? {
+        let start = at as u32;
+        match cut(alloc, text.split_at(at).1, start)? {
             Front::Blank(n) => at += n,
             Front::Lexeme(token, n) => {
-                tokens.push(token)?;
-                starts.push(at as u32)?;
+                tokens.push(PlacedToken::new(token, start))?;
+                starts.push(start)?;
                 at += n;
             }
-            Front::Wrong => return Err(LexError::Character(at as u32)),
+            Front::Wrong => return Err(LexError::Character(start)),
         }
     }
     Ok(Tokens { tokens, starts })

@@ -25,7 +25,8 @@ mod tree;
 
 pub use error::SyntaxError;
 pub use parser::parse;
+pub use place::{LineColumn, line_column};
 pub use tree::{
-    ArrayIterator, BinaryOperator, Constant, Declarations, Expr, Kind, Name, Node, Operator,
-    Sampling, Source, Statement, Static, UnaryOperator,
+    ArrayIterator, BinaryOperator, Constant, Declarations, Expr, Kind, Name, Node, Offset,
+    Operator, Sampling, Source, Statement, Static, UnaryOperator,
 };

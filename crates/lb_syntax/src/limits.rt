@@ -8,7 +8,7 @@ ghost use Rattle.lb_syntax.specs.Limits as spec;
 ghost use Rattle.lb_syntax.specs.TokenCounts as token_counts;
 
 use crate::level::form_of;
-use crate::token::{Mark, Token};
+use crate::token::{Mark, PlacedToken, Token};
 
 /// The greatest number of bytes of a text.
 pub const MAX_TEXT: usize = 1_000_000;
@@ -105,18 +105,18 @@ fn counted_after(depth: usize, counted: usize, token: &Token) -> Option<usize>
 
 /// The index of the first token that breaks a limit: a name, a literal, or the 501st counted token
 /// of its statement.
-pub fn over_limit(tokens: &[Token]) -> Option<usize>
+pub fn over_limit(tokens: &[PlacedToken]) -> Option<usize>
     ensures kept { IsNone result ↔ IsTrue (spec.keeps_limits tokens.now) }
     ensures first { IfSome result (spec.IsFirstOver tokens.now) }
 {
     let mut depth = 0;
     let mut counted = 0;
     for (index, token) in tokens.iter().enumerate() {
-        match counted_after(depth, counted, token) {
+        match counted_after(depth, counted, token.token()) {
             Some(n) => counted = n,
             None => return Some(index),
         }
-        depth = depth_after(depth, token);
+        depth = depth_after(depth, token.token());
     }
     None
 }

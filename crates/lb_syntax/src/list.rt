@@ -7,7 +7,7 @@ ghost use Rattle.lb_syntax.specs.Reading as reading;
 ghost use Rattle.lb_syntax.specs.Readers.{Gives, GoesOn, Reader};
 
 use crate::reader::ReadError;
-use crate::token::Token;
+use crate::token::PlacedToken;
 use std::alloc::Global;
 
 /// A reader of the items of a list and of the separators between them.
@@ -30,7 +30,10 @@ pub trait Items {
     ghost separator_at: { Self → List AToken → Option (List AToken) };
 
     /// An item, and the tokens after it.
-    fn item<'t>(&self, tokens: &'t [Token]) -> Result<(Self::Item, &'t [Token]), ReadError>
+    fn item<'t>(
+        &self,
+        tokens: &'t [PlacedToken],
+    ) -> Result<(Self::Item, &'t [PlacedToken]), ReadError>
         requires { can_read self.now }
         ensures { Gives (λ x. (view x.0, x.1.now)) result (item_at self.now tokens.now) };
 
@@ -38,8 +41,8 @@ pub trait Items {
     fn push_item<'t>(
         &self,
         found: &mut Vec<Self::Item>,
-        tokens: &'t [Token],
-    ) -> Result<&'t [Token], ReadError>
+        tokens: &'t [PlacedToken],
+    ) -> Result<&'t [PlacedToken], ReadError>
         requires { can_read self.now }
         ensures { Gives (λ rest. (map view found.new.items, rest.now)) result
             (lists.pushed (map view found.old.items) (item_at self.now tokens.now)) }
@@ -50,7 +53,7 @@ pub trait Items {
     }
 
     /// The tokens after a separator, if one comes next.
-    fn separator<'t>(&self, tokens: &'t [Token]) -> Option<&'t [Token]>
+    fn separator<'t>(&self, tokens: &'t [PlacedToken]) -> Option<&'t [PlacedToken]>
         ensures none { IfNone result (separator_at self.now tokens.now ≡ None) }
         ensures some { IfSome result (λ rest. separator_at self.now tokens.now ≡ Some rest.now) };
 }
@@ -63,8 +66,8 @@ pub trait Items {
 pub fn list<'t, I: Items>(
     alloc: Global,
     items: &I,
-    tokens: &'t [Token],
-) -> Result<(Vec<I::Item>, &'t [Token]), ReadError>
+    tokens: &'t [PlacedToken],
+) -> Result<(Vec<I::Item>, &'t [PlacedToken]), ReadError>
     requires { I.can_read items.now }
     ensures { Gives (λ x. (map I.view x.0.items, x.1.now)) result
         (reading.list_at (I.separator_at items.now) (I.item_at items.now) tokens.now) }
@@ -79,8 +82,8 @@ pub fn list<'t, I: Items>(
 #[inline(never)]
 pub fn whole<'t, T: Drop>(
     found: Vec<T>,
-    end: Result<&'t [Token], ReadError>,
-) -> Result<(Vec<T>, &'t [Token]), ReadError>
+    end: Result<&'t [PlacedToken], ReadError>,
+) -> Result<(Vec<T>, &'t [PlacedToken]), ReadError>
     ensures { GoesOn (λ y. (y.0.items, y.1.now)) end.entry
         (λ rest. lists.beside found.items rest.now) result }
 {
@@ -96,8 +99,8 @@ pub fn whole<'t, T: Drop>(
 pub fn list_onto<'t, I: Items>(
     items: &I,
     found: &mut Vec<I::Item>,
-    tokens: &'t [Token],
-) -> Result<&'t [Token], ReadError>
+    tokens: &'t [PlacedToken],
+) -> Result<&'t [PlacedToken], ReadError>
     requires { I.can_read items.now }
     ensures { Gives (λ rest. (map I.view found.new.items, rest.now)) result
         (reading.with_front (map I.view found.old.items) (reading.list_at
@@ -112,8 +115,8 @@ pub fn list_onto<'t, I: Items>(
 fn tail<'t, I: Items>(
     items: &I,
     found: &mut Vec<I::Item>,
-    tokens: &'t [Token],
-) -> Result<&'t [Token], ReadError>
+    tokens: &'t [PlacedToken],
+) -> Result<&'t [PlacedToken], ReadError>
     requires { I.can_read items.now }
     ensures { Gives (λ rest. (map I.view found.new.items, rest.now)) result
         (reading.with_front (map I.view found.old.items) (reading.tail_at
@@ -134,8 +137,8 @@ fn tail<'t, I: Items>(
 pub fn any<'t, I: Items>(
     alloc: Global,
     items: &I,
-    tokens: &'t [Token],
-) -> Result<(Vec<I::Item>, &'t [Token]), ReadError>
+    tokens: &'t [PlacedToken],
+) -> Result<(Vec<I::Item>, &'t [PlacedToken]), ReadError>
     requires { I.can_read items.now }
     ensures { Gives (λ x. (map I.view x.0.items, x.1.now)) result
         (lists.any_at (I.separator_at items.now) (I.item_at items.now) tokens.now) }

@@ -13,13 +13,13 @@ use crate::lookahead::skip;
 use crate::reader::{ReadError, after, closed, expect, name_at};
 use crate::statement::body;
 use crate::statics::separator;
-use crate::token::{Mark, Token};
-use crate::tree::{Declarations, Name, Node};
+use crate::token::{Mark, PlacedToken};
+use crate::tree::{Declarations, Name, Node, Offset};
 use std::alloc::Global;
 
 /// A static parameter, `const n: int`.
 #[tactic(auto, unfolding(crate::specs::Programs::parameter_at))]
-fn parameter(alloc: Global, tokens: &[Token]) -> Result<(Name, &[Token]), ReadError>
+fn parameter(alloc: Global, tokens: &[PlacedToken]) -> Result<(Name, &[PlacedToken]), ReadError>
     ensures { Gives (λ x. (x.0, x.1.now)) result (reading.parameter_at tokens.now) }
 {
     let rest = expect(Mark::Const, tokens)?;
@@ -45,18 +45,21 @@ impl Items for ParameterItems {
 
     ghost separator_at = { λ _. expressions.separator };
 
-    fn item<'t>(&self, tokens: &'t [Token]) -> Result<(Name, &'t [Token]), ReadError> {
+    fn item<'t>(&self, tokens: &'t [PlacedToken]) -> Result<(Name, &'t [PlacedToken]), ReadError> {
         parameter(self.alloc, tokens)
     }
 
-    fn separator<'t>(&self, tokens: &'t [Token]) -> Option<&'t [Token]> {
+    fn separator<'t>(&self, tokens: &'t [PlacedToken]) -> Option<&'t [PlacedToken]> {
         separator(tokens)
     }
 }
 
 /// The static parameters, if there are any.
 #[tactic(auto, unfolding(crate::specs::Programs::parameters_at), using(crate::proofs::Names::same))]
-fn parameters(alloc: Global, tokens: &[Token]) -> Result<(Vec<Name>, &[Token]), ReadError>
+fn parameters(
+    alloc: Global,
+    tokens: &[PlacedToken],
+) -> Result<(Vec<Name>, &[PlacedToken]), ReadError>
     ensures { Gives (λ x. (x.0.items, x.1.now)) result (reading.parameters_at tokens.now) }
 {
     match after(Mark::OpenStatic, tokens) {
@@ -79,7 +82,7 @@ pub struct Heading {
 
 /// A heading, `f<<const n: int>>(a: int) returns (b: int)`.
 #[tactic(auto, unfolding(crate::specs::Programs::heading_at))]
-fn heading_at(alloc: Global, tokens: &[Token]) -> Result<(Heading, &[Token]), ReadError>
+fn heading_at(alloc: Global, tokens: &[PlacedToken]) -> Result<(Heading, &[PlacedToken]), ReadError>
     ensures { Gives (λ x. (view_heading x.0, x.1.now)) result (reading.heading_at tokens.now) }
 {
     let (name, rest) = name_at(alloc, tokens)?;
@@ -92,8 +95,8 @@ fn with_inputs(
     alloc: Global,
     name: Name,
     parameters: Vec<Name>,
-    tokens: &[Token],
-) -> Result<(Heading, &[Token]), ReadError>
+    tokens: &[PlacedToken],
+) -> Result<(Heading, &[PlacedToken]), ReadError>
     ensures { Gives (λ x. (view_heading x.0, x.1.now)) result
         (reading.with_inputs name parameters.items tokens.now) }
 {
@@ -108,8 +111,8 @@ fn with_outputs(
     name: Name,
     parameters: Vec<Name>,
     inputs: Vec<Declarations>,
-    tokens: &[Token],
-) -> Result<(Heading, &[Token]), ReadError>
+    tokens: &[PlacedToken],
+) -> Result<(Heading, &[PlacedToken]), ReadError>
     ensures { Gives (λ x. (view_heading x.0, x.1.now)) result
         (reading.with_outputs name parameters.items (view_groups inputs.items) tokens.now) }
 {
@@ -125,13 +128,15 @@ fn with_outputs(
     ))
 }
 
-/// A node after the word `node`, or a function after the word `function`.
+/// A node after the word `node`, or a function after the word `function`, which stands at an
+/// offset.
 #[tactic(auto, unfolding(crate::specs::Programs::node_at))]
 pub fn node_at(
     alloc: Global,
     is_function: bool,
-    tokens: &[Token],
-) -> Result<(Node, &[Token]), ReadError>
+    offset: Offset,
+    tokens: &[PlacedToken],
+) -> Result<(Node, &[PlacedToken]), ReadError>
     ensures { Gives (λ x. (view_node x.0, x.1.now)) result
         (reading.node_at is_function tokens.now) }
 {
@@ -140,6 +145,7 @@ pub fn node_at(
     let (body, rest) = body(alloc, rest)?;
     Ok((
         Node {
+            offset,
             name: heading.name,
             is_function,
             parameters: heading.parameters,

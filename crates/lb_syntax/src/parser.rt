@@ -7,15 +7,15 @@ ghost use Rattle.std.specs.Prelude.{◌≡◌, ◌<◌, ◌^◌, ◌⊎◌, Cont
 ghost use Rattle.lb_syntax.specs.Correct.{Parses};
 
 use crate::error::SyntaxError;
-use crate::place::{LineColumn, place_of};
+use crate::place::{LineColumn, line_column};
 use crate::program::program;
 use crate::read::read_tokens;
 use crate::reader::ReadError;
-use crate::tree::Source;
+use crate::tree::{Offset, Source};
 use std::alloc::Global;
 
 /// The offset of the first of the last `left` tokens, or of the end of the text where none is left.
-fn offset_of(text: &[u8], starts: &[u32], left: usize) -> u32
+fn offset_of(text: &[u8], starts: &[Offset], left: usize) -> Offset
     requires { length text.now < 2 ^ 32 }
     ensures { Contains starts.now result ⊎ (result ≡ length text.now) }
 {
@@ -42,7 +42,7 @@ pub fn parse(alloc: Global, text: &[u8]) -> Result<Source, SyntaxError>
         Err(ReadError::Memory) => Err(SyntaxError::Memory),
         Err(ReadError::Syntax(left)) => {
             let offset = offset_of(text, &found.starts, left);
-            let LineColumn { line, column } = place_of(text, offset);
+            let LineColumn { line, column } = line_column(text, offset);
             Err(SyntaxError::Syntax { line, column })
         }
     }

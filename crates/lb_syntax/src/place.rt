@@ -3,8 +3,10 @@
 ghost use Rattle.std.specs.Prelude.{◌≡◌, ◌<◌, ◌^◌, length};
 ghost use Rattle.lb_syntax.specs.Places.{IsPlace};
 
+use crate::tree::Offset;
+
 /// A place in a text.
-#[derive(Clone, Copy)]
+#[derive(Clone, Copy, PartialEq, Eq, Debug)]
 pub struct LineColumn {
     /// From 1; the newline alone ends a line.
     pub line: u32,
@@ -14,7 +16,7 @@ pub struct LineColumn {
 
 /// The line and the column of the byte at an offset. An offset past the end stands for the place
 /// after the last byte.
-pub fn place_of(text: &[u8], offset: u32) -> LineColumn
+pub fn line_column(text: &[u8], offset: Offset) -> LineColumn
     requires { length text.now < u32.MAX }
     ensures { IsPlace text.now offset result.line result.column }
 {

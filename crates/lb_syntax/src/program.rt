@@ -11,14 +11,14 @@ ghost use Rattle.lb_syntax.specs.Tree as tree;
 use crate::list::{Items, list};
 use crate::lookahead::at_name;
 use crate::node::node_at;
-use crate::reader::{ReadError, after, closed, expect, name_at};
+use crate::reader::{ReadError, after, closed, expect, name_at, start_of};
 use crate::statics::static_expression;
-use crate::token::{Mark, Token};
-use crate::tree::{Constant, Name, Node, Source};
+use crate::token::{Mark, PlacedToken};
+use crate::tree::{Constant, Name, Node, Offset, Source};
 use std::alloc::{AllocError, Global};
 
 /// The tokens after `: int`, or all of them if no `:` comes next.
-fn skip_type(tokens: &[Token]) -> Result<&[Token], ReadError>
+fn skip_type(tokens: &[PlacedToken]) -> Result<&[PlacedToken], ReadError>
     ensures { Gives (λ x. x.now) result (reading.type_at tokens.now) }
 {
     match after(Mark::Colon, tokens) {
@@ -29,7 +29,10 @@ fn skip_type(tokens: &[Token]) -> Result<&[Token], ReadError>
 
 /// A constant, `n = s;` or `n: int = s;`.
 #[tactic(auto, unfolding(crate::specs::Programs::constant_at))]
-fn constant_at(alloc: Global, tokens: &[Token]) -> Result<(Constant, &[Token]), ReadError>
+fn constant_at(
+    alloc: Global,
+    tokens: &[PlacedToken],
+) -> Result<(Constant, &[PlacedToken]), ReadError>
     ensures { Gives (λ x. (view_constant x.0, x.1.now)) result (reading.constant_at tokens.now) }
 {
     let (name, rest) = name_at(alloc, tokens)?;
@@ -41,8 +44,8 @@ fn constant_at(alloc: Global, tokens: &[Token]) -> Result<(Constant, &[Token]), 
 fn with_value(
     alloc: Global,
     name: Name,
-    tokens: &[Token],
-) -> Result<(Constant, &[Token]), ReadError>
+    tokens: &[PlacedToken],
+) -> Result<(Constant, &[PlacedToken]), ReadError>
     ensures { Gives (λ x. (view_constant x.0, x.1.now)) result
         (reading.with_value name tokens.now) }
 {
@@ -70,11 +73,14 @@ impl Items for ConstantItems {
 
     ghost separator_at = { λ _. lists.at_name };
 
-    fn item<'t>(&self, tokens: &'t [Token]) -> Result<(Constant, &'t [Token]), ReadError> {
+    fn item<'t>(
+        &self,
+        tokens: &'t [PlacedToken],
+    ) -> Result<(Constant, &'t [PlacedToken]), ReadError> {
         constant_at(self.alloc, tokens)
     }
 
-    fn separator<'t>(&self, tokens: &'t [Token]) -> Option<&'t [Token]> {
+    fn separator<'t>(&self, tokens: &'t [PlacedToken]) -> Option<&'t [PlacedToken]> {
         at_name(tokens)
     }
 }
@@ -89,39 +95,44 @@ pub enum Part {
 }
 
 /// The constants after a `const`.
-fn constants_part(alloc: Global, tokens: &[Token]) -> Result<(Part, &[Token]), ReadError>
+fn constants_part(
+    alloc: Global,
+    tokens: &[PlacedToken],
+) -> Result<(Part, &[PlacedToken]), ReadError>
     ensures { Gives (λ x. (view_part x.0, x.1.now)) result (reading.constants_part tokens.now) }
 {
     let (constants, rest) = list(alloc, &ConstantItems { alloc }, tokens)?;
     Ok((Part::Constants(constants), rest))
 }
 
-/// A node after the word `node`, or a function after the word `function`.
+/// A node after the word `node`, or a function after the word `function`, which stands at an
+/// offset.
 fn node_part(
     alloc: Global,
     is_function: bool,
-    tokens: &[Token],
-) -> Result<(Part, &[Token]), ReadError>
+    at: Offset,
+    tokens: &[PlacedToken],
+) -> Result<(Part, &[PlacedToken]), ReadError>
     ensures { Gives (λ x. (view_part x.0, x.1.now)) result
         (reading.node_part is_function tokens.now) }
 {
-    let (node, rest) = node_at(alloc, is_function, tokens)?;
+    let (node, rest) = node_at(alloc, is_function, at, tokens)?;
     Ok((Part::Single(node), rest))
 }
 
 /// The constants after a `const`, or a node or a function.
 #[tactic(auto, unfolding(crate::specs::Programs::part_at))]
-fn part_at(alloc: Global, tokens: &[Token]) -> Result<(Part, &[Token]), ReadError>
+fn part_at(alloc: Global, tokens: &[PlacedToken]) -> Result<(Part, &[PlacedToken]), ReadError>
     ensures { Gives (λ x. (view_part x.0, x.1.now)) result (reading.part_at tokens.now) }
 {
     if let Some(rest) = after(Mark::Const, tokens) {
         return constants_part(alloc, rest);
     }
     if let Some(rest) = after(Mark::Node, tokens) {
-        return node_part(alloc, false, rest);
+        return node_part(alloc, false, start_of(tokens), rest);
     }
     match after(Mark::Function, tokens) {
-        Some(rest) => node_part(alloc, true, rest),
+        Some(rest) => node_part(alloc, true, start_of(tokens), rest),
         None => Err(ReadError::Syntax(tokens.len())),
     }
 }
@@ -139,7 +150,7 @@ fn add(source: &mut Source, part: Part) -> Result<(), AllocError>
 }
 
 /// The program that the tokens spell, all of them.
-pub fn program(alloc: Global, tokens: &[Token]) -> Result<Source, ReadError>
+pub fn program(alloc: Global, tokens: &[PlacedToken]) -> Result<Source, ReadError>
     ensures { Gives view_source result (reading.source_at tokens.now) }
 {
     let mut source = Source {

@@ -5,7 +5,7 @@ ghost use Rattle.lb_syntax.specs.Texts.{Reads};
 use crate::error::SyntaxError;
 use crate::lex::{LexError, Tokens, lex};
 use crate::limits::{MAX_TEXT, over_limit};
-use crate::place::{LineColumn, place_of};
+use crate::place::{LineColumn, line_column};
 use std::alloc::Global;
 
 /// The tokens of a text.
@@ -23,13 +23,13 @@ pub fn read_tokens(alloc: Global, text: &[u8]) -> Result<Tokens, SyntaxError>
         Ok(found) => found,
         Err(LexError::Memory) => return Err(SyntaxError::Memory),
         Err(LexError::Character(offset)) => {
-            let LineColumn { line, column } = place_of(text, offset);
+            let LineColumn { line, column } = line_column(text, offset);
             return Err(SyntaxError::Character { line, column });
         }
     };
     match over_limit(&found.tokens) {
         Some(index) => {
-            let LineColumn { line, column } = place_of(text, found.starts[index]);
+            let LineColumn { line, column } = line_column(text, found.starts[index]);
             Err(SyntaxError::Size { line, column })
         }
         None => Ok(found),

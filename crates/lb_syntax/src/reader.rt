@@ -4,8 +4,8 @@ ghost use Rattle.std.specs.Prelude.{◌≡◌, Some, None, IfNone, IfSome};
 ghost use Rattle.lb_syntax.specs.Readers as reading;
 ghost use Rattle.lb_syntax.specs.Readers.{Gives, GoesOn};
 
-use crate::token::{Mark, Token};
-use crate::tree::Name;
+use crate::token::{Mark, PlacedToken, Token};
+use crate::tree::{Name, Offset};
 use std::alloc::{AllocError, AllocFailed, Global};
 
 /// Why nothing was read.
@@ -49,20 +49,28 @@ pub fn is_mark(mark: Mark, token: &Token) -> bool
     }
 }
 
+/// Where the first token begins; 0 where there is none.
+pub fn start_of(tokens: &[PlacedToken]) -> Offset {
+    match tokens {
+        [first, ..] => first.start(),
+        [] => 0,
+    }
+}
+
 /// The tokens after this mark, if it comes next.
 #[tactic(auto, unfolding(crate::specs::Readers::expect))]
-pub fn after(mark: Mark, tokens: &[Token]) -> Option<&[Token]>
+pub fn after(mark: Mark, tokens: &[PlacedToken]) -> Option<&[PlacedToken]>
     ensures none { IfNone result (reading.expect mark tokens.now ≡ None) }
     ensures some { IfSome result (λ rest. reading.expect mark tokens.now ≡ Some rest.now) }
 {
     match tokens {
-        [first, rest @ ..] if is_mark(mark, first) => Some(rest),
+        [first, rest @ ..] if is_mark(mark, first.token()) => Some(rest),
         _ => None,
     }
 }
 
 /// The tokens after this mark, which has to come next.
-pub fn expect(mark: Mark, tokens: &[Token]) -> Result<&[Token], ReadError>
+pub fn expect(mark: Mark, tokens: &[PlacedToken]) -> Result<&[PlacedToken], ReadError>
     ensures { Gives (λ rest. rest.now) result (reading.expect mark tokens.now) }
 {
     match after(mark, tokens) {
@@ -76,9 +84,9 @@ pub fn expect(mark: Mark, tokens: &[Token]) -> Result<&[Token], ReadError>
 /// Errors: the one that was met when it was read, and `Syntax` where the mark does not come next.
 #[inline(never)]
 pub fn closed<'t, T: Drop>(
-    read: Result<(T, &'t [Token]), ReadError>,
+    read: Result<(T, &'t [PlacedToken]), ReadError>,
     mark: Mark,
-) -> Result<(T, &'t [Token]), ReadError>
+) -> Result<(T, &'t [PlacedToken]), ReadError>
     ensures { GoesOn (λ y. (y.0, y.1.now)) read.entry
         (λ x. reading.before mark x.0 x.1.now) result }
 {
@@ -91,7 +99,10 @@ pub fn closed<'t, T: Drop>(
 ///
 /// Errors: as of `closed`.
 #[inline(never)]
-pub fn past<'t>(read: Result<&'t [Token], ReadError>, mark: Mark) -> Result<&'t [Token], ReadError>
+pub fn past<'t>(
+    read: Result<&'t [PlacedToken], ReadError>,
+    mark: Mark,
+) -> Result<&'t [PlacedToken], ReadError>
     ensures { GoesOn (λ rest. rest.now) read.entry (λ ts. reading.expect mark ts.now) result }
 {
     expect(mark, read?)
@@ -99,11 +110,14 @@ pub fn past<'t>(read: Result<&'t [Token], ReadError>, mark: Mark) -> Result<&'t 
 
 /// A name, and the tokens after it.
 #[tactic(auto, unfolding(crate::specs::Readers::name_at))]
-pub fn name_at(alloc: Global, tokens: &[Token]) -> Result<(Name, &[Token]), ReadError>
+pub fn name_at(alloc: Global, tokens: &[PlacedToken]) -> Result<(Name, &[PlacedToken]), ReadError>
     ensures { Gives (λ x. (x.0, x.1.now)) result (reading.name_at tokens.now) }
 {
-    match tokens {
-        [Token::Name(x), rest @ ..] => Ok((x.copy(alloc)?, rest)),
+    let [first, rest @ ..] = tokens else {
+        return Err(ReadError::Syntax(tokens.len()));
+    };
+    match first.token() {
+        Token::Name(x) => Ok((x.copy(alloc)?, rest)),
         _ => Err(ReadError::Syntax(tokens.len())),
     }
 }

@@ -11,14 +11,14 @@ use crate::declaration::names;
 use crate::expression::expression;
 use crate::list::{Items, any};
 use crate::lookahead::skip;
-use crate::reader::{ReadError, after, closed, expect};
-use crate::token::{Mark, Token};
-use crate::tree::{Name, Statement};
+use crate::reader::{ReadError, after, closed, expect, start_of};
+use crate::token::{Mark, PlacedToken};
+use crate::tree::{Name, Offset, Statement};
 use std::alloc::Global;
 
 /// The left side of an equation, `a, b` or `(a, b)`.
 #[tactic(auto, unfolding(crate::specs::Programs::left_at))]
-fn left(alloc: Global, tokens: &[Token]) -> Result<(Vec<Name>, &[Token]), ReadError>
+fn left(alloc: Global, tokens: &[PlacedToken]) -> Result<(Vec<Name>, &[PlacedToken]), ReadError>
     ensures { Gives (λ x. (x.0.items, x.1.now)) result (reading.left_at tokens.now) }
 {
     match after(Mark::Open, tokens) {
@@ -27,32 +27,40 @@ fn left(alloc: Global, tokens: &[Token]) -> Result<(Vec<Name>, &[Token]), ReadEr
     }
 }
 
-/// An assertion, after its first word.
-fn assertion(alloc: Global, tokens: &[Token]) -> Result<(Statement, &[Token]), ReadError>
+/// An assertion, after its first word, which stands at an offset.
+fn assertion(
+    alloc: Global,
+    at: Offset,
+    tokens: &[PlacedToken],
+) -> Result<(Statement, &[PlacedToken]), ReadError>
     ensures { Gives (λ x. (view_statement x.0, x.1.now)) result
         (reading.statement_by (Some tokens.now) tokens.now) }
 {
     let (e, rest) = closed(expression(alloc, tokens), Mark::Semicolon)?;
-    Ok((Statement::Assertion(e), rest))
+    Ok((Statement::Assertion(e, at), rest))
 }
 
 /// An equation.
-fn equation(alloc: Global, tokens: &[Token]) -> Result<(Statement, &[Token]), ReadError>
+fn equation(alloc: Global, tokens: &[PlacedToken]) -> Result<(Statement, &[PlacedToken]), ReadError>
     ensures { Gives (λ x. (view_statement x.0, x.1.now)) result
         (reading.statement_by None tokens.now) }
 {
+    let at = start_of(tokens);
     let (names, rest) = closed(left(alloc, tokens), Mark::Equal)?;
     let (e, rest) = closed(expression(alloc, rest), Mark::Semicolon)?;
-    Ok((Statement::Equation(names, e), rest))
+    Ok((Statement::Equation(names, e, at), rest))
 }
 
 /// An equation or an assertion.
 #[tactic(auto, unfolding(crate::specs::Programs::statement_at))]
-fn statement(alloc: Global, tokens: &[Token]) -> Result<(Statement, &[Token]), ReadError>
+fn statement(
+    alloc: Global,
+    tokens: &[PlacedToken],
+) -> Result<(Statement, &[PlacedToken]), ReadError>
     ensures { Gives (λ x. (view_statement x.0, x.1.now)) result (reading.statement_at tokens.now) }
 {
     match after(Mark::Assert, tokens) {
-        Some(claim) => assertion(alloc, claim),
+        Some(claim) => assertion(alloc, start_of(tokens), claim),
         None => equation(alloc, tokens),
     }
 }
@@ -76,12 +84,15 @@ impl Items for StatementItems {
 
     ghost separator_at = { λ _. lists.at_next_statement };
 
-    fn item<'t>(&self, tokens: &'t [Token]) -> Result<(Statement, &'t [Token]), ReadError> {
+    fn item<'t>(
+        &self,
+        tokens: &'t [PlacedToken],
+    ) -> Result<(Statement, &'t [PlacedToken]), ReadError> {
         statement(self.alloc, tokens)
     }
 
     #[tactic(auto, unfolding(crate::specs::ListReading::at_next_statement))]
-    fn separator<'t>(&self, tokens: &'t [Token]) -> Option<&'t [Token]> {
+    fn separator<'t>(&self, tokens: &'t [PlacedToken]) -> Option<&'t [PlacedToken]> {
         match after(Mark::Tel, tokens) {
             Some(_) => None,
             None => Some(tokens),
@@ -90,7 +101,7 @@ impl Items for StatementItems {
 }
 
 /// The tokens after the end of a node: nothing, `;` or `.`.
-fn end(tokens: &[Token]) -> &[Token]
+fn end(tokens: &[PlacedToken]) -> &[PlacedToken]
     ensures { result.now ≡ reading.end_at tokens.now }
 {
     match after(Mark::Semicolon, tokens) {
@@ -101,7 +112,10 @@ fn end(tokens: &[Token]) -> &[Token]
 
 /// `let`, any number of statements, and `tel` with the end of the node.
 #[tactic(auto, unfolding(crate::specs::Programs::body_at))]
-pub fn body(alloc: Global, tokens: &[Token]) -> Result<(Vec<Statement>, &[Token]), ReadError>
+pub fn body(
+    alloc: Global,
+    tokens: &[PlacedToken],
+) -> Result<(Vec<Statement>, &[PlacedToken]), ReadError>
     ensures { Gives (λ x. (map view_statement x.0.items, x.1.now)) result
         (reading.body_at tokens.now) }
 {

@@ -15,8 +15,8 @@ use crate::climb::{Grower, Growth, climb};
 use crate::level::{ANY_LEVEL, ATOM_LEVEL, Form, Row, arithmetic_of, row_of, unary_level};
 use crate::list::{Items, list};
 use crate::reader::{ReadError, after, closed, name_at};
-use crate::token::{Mark, Token};
-use crate::tree::{BinaryOperator, Name, Sampling, Static, UnaryOperator};
+use crate::token::{Mark, PlacedToken, Token};
+use crate::tree::{BinaryOperator, Name, Offset, Sampling, Static, UnaryOperator};
 use std::alloc::{AllocError, Global};
 
 fn arithmetic_at(token: &Token) -> Option<BinaryOperator>
@@ -32,8 +32,8 @@ fn level(s: &Static) -> u8
     ensures { result ≡ levels.static_level (view_static s.now) }
 {
     match s {
-        Static::Combined(op, _, _) => row_of(Form::Data(*op)).level,
-        Static::Negated(_) => unary_level(UnaryOperator::Negate),
+        Static::Combined(op, ..) => row_of(Form::Data(*op)).level,
+        Static::Negated(..) => unary_level(UnaryOperator::Negate),
         _ => ATOM_LEVEL,
     }
 }
@@ -47,23 +47,28 @@ fn takes(least: u8, row: Row, s: &Static) -> bool
 }
 
 /// A name as a static expression, and the tokens after it.
-fn named<'t>(alloc: Global, x: &Name, rest: &'t [Token]) -> Result<(Static, &'t [Token]), ReadError>
+fn named<'t>(
+    alloc: Global,
+    x: &Name,
+    rest: &'t [PlacedToken],
+) -> Result<(Static, &'t [PlacedToken]), ReadError>
     ensures { Gives {Y = tree.Static × List AToken} (λ x. (view_static x.0, x.1.now)) result
         (Some (tree.Named x.now, rest.now)) }
 {
     Ok((Static::Named(x.copy(alloc)?), rest))
 }
 
-/// A static expression that was read, before the `)` of its parentheses.
+/// A static expression that was read, before the `)` of its parentheses, which begin at an offset.
 fn grouped<'t>(
     alloc: Global,
-    read: Result<(Static, &'t [Token]), ReadError>,
-) -> Result<(Static, &'t [Token]), ReadError>
+    at: Offset,
+    read: Result<(Static, &'t [PlacedToken]), ReadError>,
+) -> Result<(Static, &'t [PlacedToken]), ReadError>
     ensures { GoesOn (λ y. (view_static y.0, y.1.now)) read.entry
         (λ x. reading.grouped (view_static x.0) x.1.now) result }
 {
     let (s, rest) = closed(read, Mark::Close)?;
-    Ok((Static::Grouped(Box::new(alloc, s)?), rest))
+    Ok((Static::Grouped(Box::new(alloc, s)?, at), rest))
 }
 
 /// The reader of what stands inside a static expression, to one depth less, is handed in, so that
@@ -82,8 +87,14 @@ impl<F: Copy> Clone for StaticGrammar<F> {
     }
 }
 
-impl<F: Fn(Global, usize, u8, &[Token]) -> Result<(Static, &[Token]), ReadError>> StaticGrammar<F> {
-    fn inner<'t>(&self, least: u8, tokens: &'t [Token]) -> Result<(Static, &'t [Token]), ReadError>
+impl<
+    F: Fn(Global, usize, u8, &[PlacedToken]) -> Result<(Static, &[PlacedToken]), ReadError>,
+> StaticGrammar<F> {
+    fn inner<'t>(
+        &self,
+        least: u8,
+        tokens: &'t [PlacedToken],
+    ) -> Result<(Static, &'t [PlacedToken]), ReadError>
         requires { NestsStatic self.now.depth (F.pre self.now.inner) (F.post self.now.inner) }
         ensures { Gives (λ x. (view_static x.0, x.1.now)) result
             (reading.static_tree self.now.depth least tokens.now) }
@@ -95,8 +106,8 @@ impl<F: Fn(Global, usize, u8, &[Token]) -> Result<(Static, &[Token]), ReadError>
     fn level_at<'t>(
         &self,
         least: u8,
-        tokens: &'t [Token],
-    ) -> Result<(Static, &'t [Token]), ReadError>
+        tokens: &'t [PlacedToken],
+    ) -> Result<(Static, &'t [PlacedToken]), ReadError>
         requires { NestsStatic self.now.depth (F.pre self.now.inner) (F.post self.now.inner) }
         ensures { Gives (λ x. (view_static x.0, x.1.now)) result
             (reading.static_level_at (reading.static_tree self.now.depth) least tokens.now) }
@@ -106,7 +117,7 @@ impl<F: Fn(Global, usize, u8, &[Token]) -> Result<(Static, &[Token]), ReadError>
     }
 
     #[tactic(auto, unfolding(crate::specs::Reading::static_first))]
-    fn first<'t>(&self, tokens: &'t [Token]) -> Result<(Static, &'t [Token]), ReadError>
+    fn first<'t>(&self, tokens: &'t [PlacedToken]) -> Result<(Static, &'t [PlacedToken]), ReadError>
         requires { NestsStatic self.now.depth (F.pre self.now.inner) (F.post self.now.inner) }
         ensures { Gives (λ x. (view_static x.0, x.1.now)) result
             (reading.static_first (reading.static_tree self.now.depth) tokens.now) }
@@ -114,38 +125,46 @@ impl<F: Fn(Global, usize, u8, &[Token]) -> Result<(Static, &[Token]), ReadError>
         let [token, rest @ ..] = tokens else {
             return Err(ReadError::Syntax(tokens.len()));
         };
-        match token {
-            Token::Literal(n) => Ok((Static::Whole(*n), rest)),
+        match token.token() {
+            Token::Literal(n) => Ok((Static::Whole(*n, token.start()), rest)),
             Token::Name(x) => named(self.alloc, x, rest),
-            Token::Mark(Mark::Open) => self.group(rest),
-            Token::Mark(Mark::Minus) => self.negation(rest),
+            Token::Mark(Mark::Open) => self.group(token.start(), rest),
+            Token::Mark(Mark::Minus) => self.negation(token.start(), rest),
             Token::Mark(_) => Err(ReadError::Syntax(tokens.len())),
         }
     }
 
-    /// What `(` begins.
-    fn group<'t>(&self, tokens: &'t [Token]) -> Result<(Static, &'t [Token]), ReadError>
+    /// What `(` begins, which stands at an offset.
+    fn group<'t>(
+        &self,
+        at: Offset,
+        tokens: &'t [PlacedToken],
+    ) -> Result<(Static, &'t [PlacedToken]), ReadError>
         requires { NestsStatic self.now.depth (F.pre self.now.inner) (F.post self.now.inner) }
         ensures { Gives (λ x. (view_static x.0, x.1.now)) result
             (reading.static_group (reading.static_tree self.now.depth) tokens.now) }
     {
-        grouped(self.alloc, self.inner(ANY_LEVEL, tokens))
+        grouped(self.alloc, at, self.inner(ANY_LEVEL, tokens))
     }
 
-    /// What `-` begins.
+    /// What `-` begins, which stands at an offset.
     #[tactic(auto, unfolding(crate::specs::Reading::static_first))]
-    fn negation<'t>(&self, tokens: &'t [Token]) -> Result<(Static, &'t [Token]), ReadError>
+    fn negation<'t>(
+        &self,
+        at: Offset,
+        tokens: &'t [PlacedToken],
+    ) -> Result<(Static, &'t [PlacedToken]), ReadError>
         requires { NestsStatic self.now.depth (F.pre self.now.inner) (F.post self.now.inner) }
         ensures { Gives (λ x. (view_static x.0, x.1.now)) result
             (reading.static_first (reading.static_tree self.now.depth)
             (token.Mark m.Minus ∷ tokens.now)) }
     {
         let (s, rest) = self.inner(unary_level(UnaryOperator::Negate), tokens)?;
-        Ok((Static::Negated(Box::new(self.alloc, s)?), rest))
+        Ok((Static::Negated(Box::new(self.alloc, s)?, at), rest))
     }
 }
 
-impl<F: Fn(Global, usize, u8, &[Token]) -> Result<(Static, &[Token]), ReadError>> Grower
+impl<F: Fn(Global, usize, u8, &[PlacedToken]) -> Result<(Static, &[PlacedToken]), ReadError>> Grower
     for StaticGrammar<F> {
     type Tree = Static;
 
@@ -161,12 +180,12 @@ impl<F: Fn(Global, usize, u8, &[Token]) -> Result<(Static, &[Token]), ReadError>
         &self,
         least: u8,
         left: Static,
-        tokens: &'t [Token],
+        tokens: &'t [PlacedToken],
     ) -> Result<Growth<'t, Static>, ReadError> {
         let [token, next @ ..] = tokens else {
             return Ok(Growth::Stop(left));
         };
-        let Some(op) = arithmetic_at(token) else {
+        let Some(op) = arithmetic_at(token.token()) else {
             return Ok(Growth::Stop(left));
         };
         let row = row_of(Form::Data(op));
@@ -176,7 +195,7 @@ impl<F: Fn(Global, usize, u8, &[Token]) -> Result<(Static, &[Token]), ReadError>
         let (right, rest) = self.inner(row.right, next)?;
         let a = Box::new(self.alloc, left)?;
         let b = Box::new(self.alloc, right)?;
-        Ok(Growth::More(Static::Combined(op, a, b), rest))
+        Ok(Growth::More(Static::Combined(op, a, b, token.start()), rest))
     }
 }
 
@@ -185,8 +204,8 @@ fn static_tree(
     alloc: Global,
     depth: usize,
     least: u8,
-    tokens: &[Token],
-) -> Result<(Static, &[Token]), ReadError>
+    tokens: &[PlacedToken],
+) -> Result<(Static, &[PlacedToken]), ReadError>
     ensures { Gives (λ x. (view_static x.0, x.1.now)) result
         (reading.static_tree depth least tokens.now) }
 {
@@ -206,7 +225,10 @@ fn static_tree(
 ///
 /// Errors: `Syntax` where no static expression stands there, and `Memory`.
 #[tactic(auto, unfolding(crate::specs::Reading::static_at))]
-pub fn static_expression(alloc: Global, tokens: &[Token]) -> Result<(Static, &[Token]), ReadError>
+pub fn static_expression(
+    alloc: Global,
+    tokens: &[PlacedToken],
+) -> Result<(Static, &[PlacedToken]), ReadError>
     ensures { Gives (λ x. (view_static x.0, x.1.now)) result (reading.static_at tokens.now) }
 {
     static_tree(alloc, tokens.len(), ANY_LEVEL, tokens)
@@ -231,19 +253,22 @@ impl Items for StaticItems {
 
     ghost separator_at = { λ _. reading.separator };
 
-    fn item<'t>(&self, tokens: &'t [Token]) -> Result<(Static, &'t [Token]), ReadError> {
+    fn item<'t>(
+        &self,
+        tokens: &'t [PlacedToken],
+    ) -> Result<(Static, &'t [PlacedToken]), ReadError> {
         static_expression(self.alloc, tokens)
     }
 
     #[tactic(auto, unfolding(crate::specs::Reading::separator))]
-    fn separator<'t>(&self, tokens: &'t [Token]) -> Option<&'t [Token]> {
+    fn separator<'t>(&self, tokens: &'t [PlacedToken]) -> Option<&'t [PlacedToken]> {
         separator(tokens)
     }
 }
 
 /// The tokens after `,` or `;`, if one comes next.
 #[tactic(auto, unfolding(crate::specs::Reading::separator))]
-pub fn separator(tokens: &[Token]) -> Option<&[Token]>
+pub fn separator(tokens: &[PlacedToken]) -> Option<&[PlacedToken]>
     ensures none { IfNone result (reading.separator tokens.now ≡ None) }
     ensures some { IfSome result (λ rest. reading.separator tokens.now ≡ Some rest.now) }
 {
@@ -257,7 +282,10 @@ pub fn separator(tokens: &[Token]) -> Option<&[Token]>
 ///
 /// Errors: as of `static_expression`.
 #[tactic(auto, unfolding(crate::specs::Reading::statics_at))]
-pub fn statics(alloc: Global, tokens: &[Token]) -> Result<(Vec<Static>, &[Token]), ReadError>
+pub fn statics(
+    alloc: Global,
+    tokens: &[PlacedToken],
+) -> Result<(Vec<Static>, &[PlacedToken]), ReadError>
     ensures { Gives (λ x. (view_statics x.0.items, x.1.now)) result
         (reading.statics_at tokens.now) }
 {
@@ -269,23 +297,23 @@ pub fn statics(alloc: Global, tokens: &[Token]) -> Result<(Vec<Static>, &[Token]
 ///
 /// Errors: as of `static_expression`.
 #[tactic(auto, unfolding(crate::specs::Reading::size_at))]
-pub fn size(alloc: Global, tokens: &[Token]) -> Result<(Static, &[Token]), ReadError>
+pub fn size(alloc: Global, tokens: &[PlacedToken]) -> Result<(Static, &[PlacedToken]), ReadError>
     ensures { Gives (λ x. (view_static x.0, x.1.now)) result (reading.size_at tokens.now) }
 {
     let [token, rest @ ..] = tokens else {
         return Err(ReadError::Syntax(tokens.len()));
     };
-    match token {
-        Token::Literal(n) => Ok((Static::Whole(*n), rest)),
+    match token.token() {
+        Token::Literal(n) => Ok((Static::Whole(*n, token.start()), rest)),
         Token::Name(x) => named(alloc, x, rest),
-        Token::Mark(Mark::Open) => grouped(alloc, static_expression(alloc, rest)),
+        Token::Mark(Mark::Open) => grouped(alloc, token.start(), static_expression(alloc, rest)),
         Token::Mark(_) => Err(ReadError::Syntax(tokens.len())),
     }
 }
 
 /// The variable of a clock, in parentheses or not.
 #[tactic(auto, unfolding(crate::specs::Reading::clock_name_at))]
-fn clock_name(alloc: Global, tokens: &[Token]) -> Result<(Name, &[Token]), ReadError>
+fn clock_name(alloc: Global, tokens: &[PlacedToken]) -> Result<(Name, &[PlacedToken]), ReadError>
     ensures { Gives (λ x. (x.0, x.1.now)) result (reading.clock_name_at tokens.now) }
 {
     match after(Mark::Open, tokens) {
@@ -298,7 +326,7 @@ fn clock_name(alloc: Global, tokens: &[Token]) -> Result<(Name, &[Token]), ReadE
 ///
 /// Errors: `Syntax` where no clock stands there, and `Memory`.
 #[tactic(auto, unfolding(crate::specs::Reading::clock_at))]
-pub fn clock(alloc: Global, tokens: &[Token]) -> Result<(Sampling, &[Token]), ReadError>
+pub fn clock(alloc: Global, tokens: &[PlacedToken]) -> Result<(Sampling, &[PlacedToken]), ReadError>
     ensures { Gives (λ x. (view_sampling x.0, x.1.now)) result (reading.clock_at tokens.now) }
 {
     let (name, sign) = match after(Mark::Not, tokens) {

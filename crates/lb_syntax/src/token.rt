@@ -1,6 +1,9 @@
 //! Tokens.
 
-use crate::tree::Name;
+ghost use Rattle.std.specs.Prelude.{◌≡◌};
+
+use crate::tree::{Name, Offset};
+use std::marker::Model;
 
 /// A reserved word or a symbol.
 #[derive(Clone, Copy, PartialEq, Eq)]
@@ -120,4 +123,40 @@ pub enum Token {
     Literal(u32),
     /// A reserved word or a symbol.
     Mark(Mark),
+}
+
+/// A token, and where it begins. In contracts it is the token alone.
+#[derive(Drop)]
+pub struct PlacedToken {
+    token: Token,
+    start: Offset,
+}
+
+impl Model for PlacedToken {
+    ghost use Rattle.lb_syntax.specs.declared.token.Token.{Token as AToken};
+
+    ghost Value = { AToken };
+
+    ghost view = { λ t. t.token };
+}
+
+impl PlacedToken {
+    /// The token whose first byte stands at the offset.
+    pub fn new(token: Token, start: Offset) -> PlacedToken
+        ensures { result ≡ token }
+    {
+        PlacedToken { token, start }
+    }
+
+    /// The token itself.
+    pub fn token(&self) -> &Token
+        ensures { result.now ≡ self.now }
+    {
+        &self.token
+    }
+
+    /// The offset of its first byte.
+    pub fn start(&self) -> Offset {
+        self.start
+    }
 }

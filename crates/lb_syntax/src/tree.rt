@@ -1,7 +1,7 @@
-//! Trees of a source text, by shape, names and literals alone.
+//! Trees of a source text, by shape, names and literals alone, and where each stands.
 //!
 //! A tree says what stands in the text and judges nothing: names may be unknown and types may not
-//! fit. Each variant's line shows how it is spelled.
+//! fit. Each variant's line shows how it is spelled. Contracts see no offset.
 
 ghost use Rattle.std.specs.Prelude.{◌≡◌, IfOk};
 ghost use Rattle.std.specs.Str.{IsUtf8};
@@ -9,10 +9,14 @@ ghost use Rattle.std.specs.Str.{IsUtf8};
 use std::alloc::{AllocError, Global};
 use std::marker::Model;
 
-/// A name of the source, by its bytes, which are text.
+/// The place of a byte in the source text: how many bytes stand before it.
+pub type Offset = u32;
+
+/// A name of the source, by its bytes, which are text, and where it stands.
 #[derive(Drop)]
 pub struct Name {
     text: String,
+    offset: Offset,
 }
 
 impl Model for Name {
@@ -24,21 +28,24 @@ impl Model for Name {
 }
 
 impl Name {
-    /// The name with these bytes.
-    pub fn new(alloc: Global, bytes: &[u8]) -> Result<Name, AllocError>
+    /// The name with these bytes, of which the first stands at the offset.
+    pub fn new(alloc: Global, bytes: &[u8], offset: Offset) -> Result<Name, AllocError>
         requires { IsUtf8 bytes.now }
         ensures { IfOk result (λ n. n ≡ bytes.now) }
     {
         let text = String::from_utf8(Vec::from_slice(alloc, bytes)?).unwrap();
-        Ok(Name { text })
+        Ok(Name { text, offset })
     }
 
-    /// The same name again.
+    /// The same name again, from the same place.
     pub fn copy(&self, alloc: Global) -> Result<Name, AllocError>
         ensures { IfOk result (λ n. n ≡ self.now) }
     {
         let text = String::from_str(alloc, self.text.as_str())?;
-        Ok(Name { text })
+        Ok(Name {
+            text,
+            offset: self.offset,
+        })
     }
 
     /// The name as text.
@@ -53,6 +60,11 @@ impl Name {
         ensures { result.now ≡ self.now }
     {
         self.text.as_bytes()
+    }
+
+    /// The offset of its first byte.
+    pub fn offset(&self) -> Offset {
+        self.offset
     }
 }
 
@@ -121,18 +133,40 @@ pub enum ArrayIterator {
 }
 
 /// A static expression, which stands for a whole number before the run.
+///
+/// The offset that a variant ends with is that of its first token, or of its sign where it begins
+/// with an operand.
 #[derive(Drop)]
 pub enum Static {
     /// `17`
-    Whole(u32),
+    Whole(u32, Offset),
     /// `n`
     Named(Name),
     /// `- s`
-    Negated(Box<Static>),
+    Negated(Box<Static>, Offset),
     /// `s + t`, and `-`, `*`, `/`, `div`, `mod`
-    Combined(BinaryOperator, Box<Static>, Box<Static>),
+    Combined(BinaryOperator, Box<Static>, Box<Static>, Offset),
     /// `(s)`
-    Grouped(Box<Static>),
+    Grouped(Box<Static>, Offset),
+}
+
+impl Static {
+    /// The offset of its first token.
+    pub fn offset(&self) -> Offset {
+        match self {
+            Static::Whole(_, at) | Static::Negated(_, at) | Static::Grouped(_, at) => *at,
+            Static::Named(name) => name.offset(),
+            Static::Combined(_, left, _, _) => left.offset(),
+        }
+    }
+
+    /// The offset of the sign between its two operands, if it has two.
+    pub fn sign_offset(&self) -> Option<Offset> {
+        match self {
+            Static::Combined(_, _, _, at) => Some(*at),
+            _ => None,
+        }
+    }
 }
 
 /// What an iterator applies.
@@ -145,50 +179,86 @@ pub enum Operator {
 }
 
 /// An expression.
+///
+/// The offset that a variant ends with is that of its first token, or of its sign where it begins
+/// with an operand.
 #[derive(Drop)]
 pub enum Expr {
     /// `17`
-    Literal(u32),
+    Literal(u32, Offset),
     /// `true`, `false`
-    Truth(bool),
+    Truth(bool, Offset),
     /// `x`
     Variable(Name),
     /// `(e)`
-    Group(Box<Expr>),
+    Group(Box<Expr>, Offset),
     /// `not e`, `- e`
-    Unary(UnaryOperator, Box<Expr>),
+    Unary(UnaryOperator, Box<Expr>, Offset),
     /// `a + b` and the other infix forms of data
-    Binary(BinaryOperator, Box<Expr>, Box<Expr>),
+    Binary(BinaryOperator, Box<Expr>, Box<Expr>, Offset),
     /// `if c then a else b`
-    If(Box<Expr>, Box<Expr>, Box<Expr>),
+    If(Box<Expr>, Box<Expr>, Box<Expr>, Offset),
     /// `a -> b`
-    Arrow(Box<Expr>, Box<Expr>),
+    Arrow(Box<Expr>, Box<Expr>, Offset),
     /// `a fby b`
-    Fby(Box<Expr>, Box<Expr>),
+    Fby(Box<Expr>, Box<Expr>, Offset),
     /// `pre e`
-    Pre(Box<Expr>),
+    Pre(Box<Expr>, Offset),
     /// `current e`
-    Current(Box<Expr>),
+    Current(Box<Expr>, Offset),
     /// `e when c` (true), `e when not c` (false)
-    When(Box<Expr>, Name, bool),
+    When(Box<Expr>, Name, bool, Offset),
     /// `e ^ n`
-    Replicate(Box<Expr>, Static),
+    Replicate(Box<Expr>, Static, Offset),
     /// `e[i]`
-    Index(Box<Expr>, Static),
+    Index(Box<Expr>, Static, Offset),
     /// `e[i..j]`
-    Slice(Box<Expr>, Static, Static),
+    Slice(Box<Expr>, Static, Static, Offset),
     /// `a | b`
-    Join(Box<Expr>, Box<Expr>),
+    Join(Box<Expr>, Box<Expr>, Offset),
     /// `[a, b, c]`
-    Array(Vec<Expr>),
+    Array(Vec<Expr>, Offset),
     /// `#(a, b, c)`
-    AtMostOne(Vec<Expr>),
+    AtMostOne(Vec<Expr>, Offset),
     /// `nor(a, b, c)`
-    Nor(Vec<Expr>),
+    Nor(Vec<Expr>, Offset),
     /// `f(a, b)`, `f<<s, t>>(a, b)`
     Call(Name, Vec<Static>, Vec<Expr>),
-    /// `map<<f, n>>(a, b)`, and `red`, `fill`
-    Iterate(ArrayIterator, Operator, Static, Vec<Expr>),
+    /// `map<<f, n>>(a, b)`, and `red`, `fill`; its operator is boxed, since that is large
+    Iterate(ArrayIterator, Box<Operator>, Static, Vec<Expr>, Offset),
+}
+
+// In a larger one the compiler that is written in Rattle takes eight times the stack for each level
+// of nesting.
+const _: () = prove!(size_of::<Expr>() <= 128);
+
+impl Expr {
+    /// The offset of its first token.
+    pub fn offset(&self) -> Offset {
+        match self {
+            Expr::Literal(_, at) | Expr::Truth(_, at) => *at,
+            Expr::Variable(name) | Expr::Call(name, _, _) => name.offset(),
+            Expr::Group(_, at) | Expr::Unary(_, _, at) | Expr::If(_, _, _, at) => *at,
+            Expr::Pre(_, at) | Expr::Current(_, at) => *at,
+            Expr::Binary(_, left, _, _) | Expr::Arrow(left, _, _) => left.offset(),
+            Expr::Fby(left, _, _) | Expr::Join(left, _, _) => left.offset(),
+            Expr::When(left, _, _, _) | Expr::Replicate(left, _, _) => left.offset(),
+            Expr::Index(left, _, _) | Expr::Slice(left, _, _, _) => left.offset(),
+            Expr::Array(_, at) | Expr::AtMostOne(_, at) | Expr::Nor(_, at) => *at,
+            Expr::Iterate(_, _, _, _, at) => *at,
+        }
+    }
+
+    /// The offset of the sign that follows its left operand, if it has one: of `a + b` that of `+`,
+    /// and of `e[i]` that of `[`.
+    pub fn sign_offset(&self) -> Option<Offset> {
+        match self {
+            Expr::Binary(_, _, _, at) | Expr::Arrow(_, _, at) | Expr::Fby(_, _, at) => Some(*at),
+            Expr::When(_, _, _, at) | Expr::Replicate(_, _, at) => Some(*at),
+            Expr::Index(_, _, at) | Expr::Slice(_, _, _, at) | Expr::Join(_, _, at) => Some(*at),
+            _ => None,
+        }
+    }
 }
 
 /// A clock as it is written.
@@ -210,18 +280,39 @@ pub struct Declarations {
     pub clock: Option<Sampling>,
 }
 
-/// A statement of a node.
+impl Declarations {
+    /// The offset of its first token, the first of its names; 0 where it has none.
+    pub fn offset(&self) -> Offset {
+        match self.names.first() {
+            Some(name) => name.offset(),
+            None => 0,
+        }
+    }
+}
+
+/// A statement of a node. Each variant ends with the offset of its first token.
 #[derive(Drop)]
 pub enum Statement {
     /// `x = e;`, `(x, y) = e;`
-    Equation(Vec<Name>, Expr),
+    Equation(Vec<Name>, Expr, Offset),
     /// `assert e;`
-    Assertion(Expr),
+    Assertion(Expr, Offset),
+}
+
+impl Statement {
+    /// The offset of its first token.
+    pub fn offset(&self) -> Offset {
+        match self {
+            Statement::Equation(_, _, at) | Statement::Assertion(_, at) => *at,
+        }
+    }
 }
 
 /// A node or a function.
 #[derive(Drop)]
 pub struct Node {
+    /// The offset of the word `node` or `function`.
+    pub offset: Offset,
     pub name: Name,
     /// `function` in place of `node`.
     pub is_function: bool,
@@ -238,6 +329,13 @@ pub struct Node {
 pub struct Constant {
     pub name: Name,
     pub value: Static,
+}
+
+impl Constant {
+    /// The offset of its first token, its name.
+    pub fn offset(&self) -> Offset {
+        self.name.offset()
+    }
 }
 
 /// The constants, and the nodes and functions, each in text order.

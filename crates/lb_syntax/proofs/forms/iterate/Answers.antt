@@ -5,5 +5,6 @@ use Rattle.lb_syntax.proofs.forms.iterate.Goals as goal
 
 pub returns : goal.returns
 returns c =
-    let e = view_iterate c.args.iterator c.args.operator c.args.size c.in_ok-operands.operands in
+    let e = view_iterate c.args.iterator c.in_ok-operator.operator c.args.size
+    c.in_ok-operands.operands c.args.at in
     first_of (search rules, grind (arith, common_steps))

@@ -17,7 +17,7 @@ pub loop-at-preserved : goal.loop-at-preserved
 loop-at-preserved c =
     let so_far = c.loop-at.invariant in
     let below = c.loop-at-test.true in
-    rw (c.in_ok-push-in-Lexeme.ensures.items, c.in_ok-push-in-Lexeme-2.ensures.items)
+    rw (c.in_ok-push-in-Lexeme.ensures.items, c.in_ok-push-in-Lexeme-2.ensures.items, c.new.ensures)
     (found_lexeme c.in-Lexeme.token c.in-Lexeme.n so_far below
     (search rules) (search rules) (search rules))
 

@@ -20,5 +20,5 @@ returns c =
     let starts = c.deref-in-Err-Syntax.ensures.value ∙ c.in_ok-found.ensures.lexed.starts_are in
     record {
       fault = syntax_fault c.args.text.now ts has (rw c.deref.ensures.value at none);
-      place = (offset, subst Of starts c.offset_of-offset.ensures, c.place_of-line.ensures);
+      place = (offset, subst Of starts c.offset_of-offset.ensures, c.line_column-line.ensures);
     }

@@ -1,7 +1,7 @@
 use Rattle.std.proofs.Common.{◌≡◌, ◌+◌, ◌≤◌, not, take, count_by}
 use Rattle.std.specs.List.{suffix_len}
 use Rattle.lb_syntax.specs.Tokens.{is_newline}
-use Rattle.lb_syntax.proofs.place.place_of.Given as goal
+use Rattle.lb_syntax.proofs.place.line_column.Given as goal
 
 abbrev pub invariant-loop-b : goal.invariant-loop-b
 invariant-loop-b l =

@@ -1,6 +1,6 @@
 use Rattle.std.proofs.Common.{arith}
 use Rattle.std.proofs.lemmas.Grind.{common_steps}
-use Rattle.lb_syntax.proofs.place.place_of.Goals as goal
+use Rattle.lb_syntax.proofs.place.line_column.Goals as goal
 
 pub loop-b-preserved : goal.loop-b-preserved
 loop-b-preserved c = grind (arith, common_steps)
