@@ -21,7 +21,7 @@ use Rattle.lb_syntax.proofs.TruthValues.{and_first, and_second}
 use Rattle.lb_syntax.proofs.ListPlaces.{all_at, all_from, get_before, get_last}
 use Rattle.lb_static.specs.CalledNodes.{AreResolved, are_called, callees}
 use Rattle.lb_static.specs.Instances.{node_sites}
-use Rattle.lb_static.specs.NameFaults.{IsNameFault, named_in}
+use Rattle.lb_static.specs.NameFaults.{IsNameFault, named_in, told_in}
 use Rattle.lb_static.specs.ResolvedNodes.{IsResolved, counts_of, node_of, statics_of}
 use Rattle.lb_static.specs.ResolvedTerms.{Counts, is_site_within, site_of}
 use Rattle.lb_static.specs.StaticValues.{named}
@@ -233,8 +233,8 @@ pub fault_there : (e : StaticError) (s : Source) (before order : List ℕ) (node
     (place : ℕ) (n : Node) (start : Node → Bool) → AreResolved s before order nodes
     → slice_get order (length nodes) ≡ Some place → slice_get s.nodes place ≡ Some n
     → length order ≤ length s.nodes → AreReachable s.nodes start calls before
-    → IsNameFault e (named_in s n)
-    → IsNameFault e (list_all (named_in s) (within s.nodes start calls (length s.nodes)))
+    → IsNameFault e (told_in e s n)
+    → IsNameFault e (list_all (told_in e s) (within s.nodes start calls (length s.nodes)))
 fault_there e s before order nodes place n start h next at few begins fault =
     let reachable : is_reachable s.nodes start calls (length order) n ≡ true =
     ap (holds (is_reachable s.nodes start calls (length order))) (sym at)
@@ -242,6 +242,6 @@ fault_there e s before order nodes place n start h next at few begins fault =
     order
     (length nodes) place (h.reachable start begins) next in
     fault_within e _ _ fault
-    (refuted _ _ (reachable_passes s.nodes start calls (named_in s) (length order) (length s.nodes)
+    (refuted _ _ (reachable_passes s.nodes start calls (told_in e s) (length order) (length s.nodes)
     place
     n at few reachable))

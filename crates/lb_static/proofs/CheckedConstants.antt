@@ -16,16 +16,18 @@ use Rattle.lb_syntax.specs.Tree.{Name, Constant, Source}
 use Rattle.lb_syntax.proofs.TruthValues.{and_first}
 use Rattle.lb_syntax.proofs.ListPlaces.{all_at, get_before, all_from}
 use Rattle.lb_static.specs.SourceNames.{constants_in, names_in_source}
-use Rattle.lb_static.specs.NameFaults.{IsNameFault, alone}
-use Rattle.lb_static.specs.NamedConstants.{AreNamed, constant_place, is_judged, keeps_constants}
-use Rattle.lb_static.specs.NamedConstants.{place_named, places_named}
+use Rattle.lb_static.specs.CountedNames.{Statics, counted}
+use Rattle.lb_static.specs.NameFaults.{IsNameFault, TellsName, alone, is_told}
+use Rattle.lb_static.specs.NamedConstants.{AreNamed, IsUnknown, constant_place, is_judged}
+use Rattle.lb_static.specs.NamedConstants.{keeps_constants}
+use Rattle.lb_static.specs.NamedConstants.{place_named, places_named, told_constants}
 use Rattle.lb_static.specs.Names.{are_distinct, constants_within, is_constant}
 use Rattle.lb_static.specs.Parts.{among, static_names}
 use Rattle.lb_static.specs.WorkLists.{AreReachable, Grows, is_reachable, is_visited}
 use Rattle.lb_static.specs.WorkLists.{visited_after_all, within}
 use Rattle.lb_static.specs.declared.error.StaticError.{StaticError}
 use Rattle.lb_static.specs.declared.globals.Globals.{Globals}
-use Rattle.lb_static.proofs.Faults.{fault_within}
+use Rattle.lb_static.proofs.Faults.{counted_fails, told_fault}
 use Rattle.lb_static.proofs.CalledNodes.{grown_at, reachable_passes, refuted, there}
 use Rattle.lb_static.proofs.ConstantPlaces.{constant_found, constant_known}
 use Rattle.lb_static.proofs.Reachability.{closed_has, reachable_by, reachable_next}
@@ -266,13 +268,29 @@ module _ (s : Source) (g : Globals) (names : g.names ≡ names_in_source s)
             and_first (is_visited after p) true
             (ap (λ o. list_all (is_visited after) (listed (λ i. i ∷ []) o)) (sym here) ∙ linked)
 
+    -- a name that is told and is that of no constant fails the test of what names it
+    unknown_fails : (e : StaticError) (xs : List Name) (x : Name) → IsUnknown g xs x
+        → is_told e Statics x ≡ true
+        → list_all (counted (is_told e Statics) (is_constant (alone s))) xs ≡ false
+    unknown_fails e xs x bad told =
+        let no : is_constant (alone s) x ≡ false =
+        refuted (is_some (constant_place g.names g.constants x)) (is_constant (alone s) x)
+        (known_from x) (ap is_some bad.1) in
+        let test = counted (is_told e Statics) (is_constant (alone s)) in
+        refuted (test x) (list_all test xs) (λ all.
+        let f = any_at (bytes_eq x) xs bad.0 in
+        subst (λ y. test y ≡ true) (sym ((bytes_eq-Decides x f.item).0 f.passes))
+        (all_at test xs f.place f.item all f.at))
+        (counted_fails (is_told e Statics) (is_constant (alone s)) x told no)
+
     -- a constant that names what is no constant
     pub fault_judged : (e : StaticError) (before order : List ℕ) (done place : ℕ) (c : Constant)
-        (xs : List Name) → AreJudged s g before order done → slice_get order done ≡ Some place
+        (xs : List Name) (x : Name) → AreJudged s g before order done
+        → slice_get order done ≡ Some place
         → slice_get s.constants place ≡ Some c → length order ≤ length s.constants
-        → is_judged g (static_names c.value) ≡ false → AreNamed s xs before → IsNameFault e false
-        → IsNameFault e (keeps_constants s xs)
-    fault_judged e before order done place c xs h next at few bad n fault =
+        → IsUnknown g (static_names c.value) x → AreNamed s xs before → TellsName x Statics e
+        → IsNameFault e (told_constants e s xs)
+    fault_judged e before order done place c xs x h next at few bad n tells =
         let reachable : is_reachable s.constants (begins xs) names_constant (length order) c
         ≡ true =
         ap (holds (is_reachable s.constants (begins xs) names_constant (length order))) (sym at)
@@ -280,12 +298,13 @@ module _ (s : Source) (g : Globals) (names : g.names ≡ names_in_source s)
         (slice_get s.constants p)) order done place
         (h.reachable (begins xs) (starts_reachable xs before n))
         next in
-        fault_within e false (keeps_constants s xs) fault
-        (λ no. refuted (is_judged g (static_names c.value)) (keeps_constants s xs)
-        (λ all. all_on (is_constant (alone s))
-        (λ x. is_some (constant_place g.names g.constants x)) (static_names c.value) known_from
-        (reachable_passes s.constants (begins xs) names_constant is_good (length order)
+        let good : Constant → Bool =
+        λ k. list_all (counted (is_told e Statics) (is_constant (alone s)))
+        (static_names k.value) in
+        told_fault e Statics x (told_constants e s xs) tells
+        (λ told. refuted (good c) (told_constants e s xs)
+        (λ all. reachable_passes s.constants (begins xs) names_constant good (length order)
         (length s.constants)
         place c at few reachable
-        (ap (list_all is_good) (sym (within_constants xs (length s.constants)))
-        ∙ all))) bad)
+        (ap (list_all good) (sym (within_constants xs (length s.constants)))
+        ∙ all)) (unknown_fails e (static_names c.value) x bad told))

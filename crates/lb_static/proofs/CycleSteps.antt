@@ -2,15 +2,16 @@
 use Rattle.std.proofs.Common.{◌≡◌, ◌≢◌, ℕ, zero, suc, ◌+◌, ◌<◌, ◌≤◌, Bool, true, false, List, []}
 use Rattle.std.proofs.Common.{◌∷◌, ◌++◌, length, map, set, get_or, reverse, Option, Some, None}
 use Rattle.std.proofs.Common.{refl, ap, sym, subst, ◌∙◌, ◌⊎◌, inl, inr, arith}
-use Rattle.std.specs.Prelude.{nat_eq, slice_get}
+use Rattle.std.specs.Prelude.{nat_eq, slice_get, if◌then◌else◌}
 use Rattle.std.proofs.lemmas.Bool.Decides.{nat_tests}
-use Rattle.std.proofs.lemmas.List.{length-set, get_or-set_same, reverse-append}
+use Rattle.std.proofs.lemmas.List.{length-set, get_or-set_same, reverse-append, reverse-reverse}
+use Rattle.std.proofs.lemmas.List.{map-append, append_assoc}
 use Rattle.std.proofs.lemmas.List.Sums.{sum_by_push}
 use Rattle.std.proofs.lemmas.Option.{slice_get-get_or, slice_get_within}
 use Rattle.lb_syntax.specs.Lists.{In}
-use Rattle.lb_static.specs.CallGraphs.{AreWithin, IsOnCycle, Leads, called}
+use Rattle.lb_static.specs.CallGraphs.{AreWithin, IsCycle, Leads, called}
 use Rattle.lb_static.specs.CycleSearch.{IsAt, IsBetween, IsVisit, IsPath, IsSearch, IsSearchFrom}
-use Rattle.lb_static.specs.CycleSearch.{Keeps, unseen, on_path}
+use Rattle.lb_static.specs.CycleSearch.{Keeps, from_first, unseen, on_path}
 use Rattle.lb_static.specs.declared.cycle.Visit.{Visit}
 use Rattle.lb_static.specs.declared.cycle.Progress.{Progress}
 use Rattle.lb_static.specs.declared.cycle.Progress.TheVariants.{Unseen, Open, Done}
@@ -120,28 +121,84 @@ path_ends : (g : List (List ℕ)) (ps : List Progress) (i : ℕ) (fs : List Visi
 path_ends g ps i [] done h = h
 path_ends g ps i (f ∷ fs) done h = (visit_ends g ps i f done h.0, h.1)
 
--- a call leads back onto the path: its callee is on a cycle
-comes_back : (g : List (List ℕ)) (ps : List Progress) (a c : ℕ) (ks : List ℕ) (fs : List Visit)
-    → IsPath g ps (Some a) fs
-    → In c (map (λ f. f.node) fs) → Leads g a ks c → IsOnCycle g c
-comes_back g ps a c ks [] path on leads = absurd on
-comes_back g ps a c ks (f ∷ fs) path (inl is) leads =
-    (a ∷ ks, subst (λ k. Leads g k (a ∷ ks) c) is (path.0.calls_next a refl, leads))
-comes_back g ps a c ks (f ∷ fs) path (inr on) leads =
-    comes_back g ps f.node c (a ∷ ks) fs path.1 on (path.0.calls_next a refl, leads)
+-- the nodes of a path, its end first, before others
+abbrev forward : List Visit → List ℕ → List ℕ
+forward [] after = after
+forward (f ∷ fs) after = forward fs (f.node ∷ after)
 
--- a call of the node at the end of the path leads onto the path
-pub closes : (g : List (List ℕ)) (ps : List Progress) (f : Visit) (fs : List Visit) (c : ℕ)
-    → IsSearch g ps (f ∷ fs)
-    → In c f.left.now → IsAt ps c Open → IsOnCycle g c
-closes g ps f fs c searched left is_open = by (searched.open_on_path c is_open)
+forward_is : (fs : List Visit) (after : List ℕ)
+    → map (λ f. f.node) (reverse fs) ++ after ≡ forward fs after
+forward_is [] after = refl
+forward_is (f ∷ fs) after =
+    ap (λ l. map (λ h. h.node) l ++ after) (reverse-append (f ∷ []) fs)
+    ∙ ap (λ l. l ++ after) (map-append (λ h. h.node) (reverse fs) (f ∷ []))
+    ∙ append_assoc (map (λ h. h.node) (reverse fs)) (f.node ∷ []) after
+    ∙ forward_is fs (f.node ∷ after)
+
+-- each of some nodes calls the next one, and the last another node
+abbrev LeadsOn : List (List ℕ) → List ℕ → ℕ → Type 0
+LeadsOn g [] c = ⊥
+LeadsOn g (i ∷ is) c = Leads g i is c
+
+leads_forward : (g : List (List ℕ)) (ps : List Progress) (a c : ℕ) (ks : List ℕ) (fs : List Visit)
+    → IsPath g ps (Some a) fs → Leads g a ks c → LeadsOn g (forward fs (a ∷ ks)) c
+leads_forward g ps a c ks [] path leads = leads
+leads_forward g ps a c ks (f ∷ fs) path leads =
+    leads_forward g ps f.node c (a ∷ ks) fs path.1 (path.0.calls_next a refl, leads)
+
+on_forward : (fs : List Visit) (after : List ℕ) (c : ℕ) → In c (map (λ f. f.node) fs) ⊎ In c after
+    → In c (forward fs after)
+on_forward [] after c (inl on) = absurd on
+on_forward [] after c (inr on) = on
+on_forward (f ∷ fs) after c (inl (inl is)) = on_forward fs (f.node ∷ after) c (inr (inl is))
+on_forward (f ∷ fs) after c (inl (inr on)) = on_forward fs (f.node ∷ after) c (inl on)
+on_forward (f ∷ fs) after c (inr on) = on_forward fs (f.node ∷ after) c (inr (inr on))
+
+-- nodes that lead to one of them: from that one on they are a cycle
+closed_from : (g : List (List ℕ)) (c i : ℕ) (is : List ℕ) → c < length g → Leads g i is c
+    → In c (i ∷ is) → IsCycle g (from_first c (i ∷ is))
+closed_from g c i [] below leads on = by (nat_eq i c) refl on
   where
-    calls : In c (called g f.node)
-    calls = searched.is_path.0.left c left
+    by : (b : Bool) → nat_eq i c ≡ b → In c (i ∷ [])
+        → IsCycle g (if b then i ∷ [] else from_first c [])
+    by true e on =
+        let same : i ≡ c = grind (arith, nat_tests) in
+        (subst (λ k. k < length g) (sym same) below, subst (λ k. Leads g i [] k) (sym same) leads)
+    by false e (inl same) = absurd (grind (arith, nat_tests))
+    by false e (inr on) = absurd on
+closed_from g c i (k ∷ is) below leads on =
+    by (nat_eq i c) refl on (closed_from g c k is below leads.1)
+  where
+    by : (b : Bool) → nat_eq i c ≡ b → In c (i ∷ (k ∷ is))
+        → (In c (k ∷ is) → IsCycle g (from_first c (k ∷ is)))
+        → IsCycle g (if b then i ∷ (k ∷ is) else from_first c (k ∷ is))
+    by true e on later =
+        let same : i ≡ c = grind (arith, nat_tests) in (
+          subst (λ m. m < length g) (sym same) below,
+          subst (λ m. Leads g i (k ∷ is) m) (sym same) leads,
+        )
+    by false e (inl same) later = absurd (grind (arith, nat_tests))
+    by false e (inr on) later = later on
 
-    by : (f.node ≡ c) ⊎ In c (map (λ h. h.node) fs) → IsOnCycle g c
-    by (inl is) = ([], subst (λ k. In c (called g k)) is calls)
-    by (inr on) = comes_back g ps f.node c [] fs searched.is_path.1 on calls
+closed_on : (g : List (List ℕ)) (c : ℕ) (is : List ℕ) → c < length g → LeadsOn g is c → In c is
+    → IsCycle g (from_first c is)
+closed_on g c [] below leads on = absurd on
+closed_on g c (i ∷ is) below leads on = closed_from g c i is below leads on
+
+-- a call of the node at the end of the path leads onto the path: from there on it is a cycle
+closes : (g : List (List ℕ)) (ps : List Progress) (f : Visit) (fs : List Visit) (c : ℕ)
+    → IsSearch g ps (f ∷ fs) → In c f.left.now → IsAt ps c Open → c < length g
+    → IsCycle g (from_first c (map (λ h. h.node) (reverse fs) ++ f.node ∷ []))
+closes g ps f fs c searched left is_open below =
+    subst (λ l. IsCycle g (from_first c l)) (sym (forward_is fs (f.node ∷ [])))
+    (closed_on g c (forward fs (f.node ∷ [])) below
+    (leads_forward g ps f.node c [] fs searched.is_path.1 (searched.is_path.0.left c left))
+    (on_forward fs (f.node ∷ []) c (by (searched.open_on_path c is_open))))
+  where
+    by : (f.node ≡ c) ⊎ In c (map (λ h. h.node) fs)
+        → In c (map (λ h. h.node) fs) ⊎ In c (f.node ∷ [])
+    by (inl is) = inr (inl is)
+    by (inr on) = inl on
 
 -- ## The steps of a search
 
@@ -460,12 +517,20 @@ pub read_at : (ps : List Progress) (i : ℕ) (p d : Progress) → i < length ps 
 read_at ps i p d below is = slice_get-get_or ps i d below ∙ ap Some is
 
 pub cycle_found : (g : List (List ℕ)) (before ps : List Progress) (start c : ℕ) (cs : List ℕ)
-    (old front : List Visit) (f : Visit)
-    → IsSearchFrom g before start ps (reverse old) → old ≡ front ++ f ∷ [] → f.left.now ≡ c ∷ cs
-    → IsAt ps c Open → IsOnCycle g c
-cycle_found g before ps start c cs old front f from popped left is_open =
+    (old front new : List Visit) (f h : Visit)
+    → IsSearchFrom g before start ps (reverse old) → old ≡ front ++ f ∷ [] → new ≡ front ++ h ∷ []
+    → h.node ≡ f.node → f.left.now ≡ c ∷ cs → IsAt ps c Open → c < length g
+    → IsCycle g (from_first c (map (λ k. k.node) new))
+cycle_found g before ps start c cs old front new f h from popped pushed same left is_open below =
     let searched = subst (IsSearch g ps) (last_first old front f popped) from.searched in
-    closes g ps f (reverse front) c searched (subst (λ l. In c l) (sym left) (inl refl)) is_open
+    let found = closes g ps f (reverse front) c searched
+    (subst (λ l. In c l) (sym left) (inl refl)) is_open below in
+    let all : map (λ k. k.node) (reverse (reverse front)) ++ f.node ∷ [] ≡ map (λ k. k.node) new =
+    ap (λ l. map (λ k. k.node) l ++ f.node ∷ []) (reverse-reverse front)
+    ∙ ap (λ i. map (λ k. k.node) front ++ i ∷ []) (sym same)
+    ∙ sym (map-append (λ k. k.node) front (h ∷ []))
+    ∙ ap (map (λ k. k.node)) (sym pushed) in
+    subst (λ l. IsCycle g (from_first c l)) all found
 
 pub ends : (g : List (List ℕ)) (before ps : List Progress) (start : ℕ) (path : List Visit)
     → IsSearchFrom g before start ps (reverse path) → path ≡ []

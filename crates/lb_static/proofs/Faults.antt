@@ -1,6 +1,15 @@
--- A fault of a part is one of the whole.
-use Rattle.std.proofs.Common.{◌≡◌, Bool, false}
-use Rattle.lb_static.specs.NameFaults.{IsNameFault}
+-- A fault of a part is one of the whole; a name that is told fails the test that it fails.
+use Rattle.std.proofs.Common.{◌≡◌, Bool, true, false, refl, ap, ◌∙◌}
+use Rattle.std.specs.Prelude.{not, ◌||◌, string_bytes}
+use Rattle.std.proofs.lemmas.Slice.Eq.{bytes_eq-Decides}
+use Rattle.lb_syntax.specs.Tree as tree
+use Rattle.std.proofs.lemmas.Bool.{and_from}
+use Rattle.lb_static.specs.CountedNames.{NameUse, counted, is_broken_by, use_of}
+use Rattle.lb_static.specs.NameFaults.{IsNameFault, TellsName, TellsRule, is_told}
+use Rattle.lb_static.specs.declared.causes.NameRule.{NameRule}
+use Rattle.lb_static.specs.declared.causes.NameRule.TheVariants as rule
+use Rattle.lb_static.specs.declared.causes.Sought.{Sought}
+use Rattle.lb_static.specs.declared.causes.Sought.TheVariants as sought
 use Rattle.lb_static.specs.declared.error.StaticError.{StaticError}
 use Rattle.lb_static.specs.declared.error.StaticError.TheVariants.{Memory, Name, Recursion, Root}
 use Rattle.lb_static.specs.declared.error.StaticError.TheVariants.{Value, Range, Instances}
@@ -10,7 +19,49 @@ pub fault_within : (e : StaticError) (b all : Bool) → IsNameFault e b → (b �
 fault_within Memory b all h f = tt
 fault_within (Name x) b all h f = f h
 fault_within (Recursion x) b all h f = h
-fault_within Root b all h f = h
+fault_within (Root x) b all h f = h
 fault_within (Value x) b all h f = h
 fault_within (Range x) b all h f = h
-fault_within Instances b all h f = h
+fault_within (Instances x) b all h f = h
+
+-- a fault, from what is known of a name that is told
+pub told_fault : (e : StaticError) (purpose : NameUse) (x : tree.Name) (all : Bool)
+    → TellsName x purpose e → (is_told e purpose x ≡ true → all ≡ false) → IsNameFault e all
+told_fault Memory purpose x all t f = tt
+told_fault (Name y) purpose x all t f =
+    f (and_from _ _ ((bytes_eq-Decides (string_bytes y.value.name) x).1 t.0) t.1)
+told_fault (Recursion y) purpose x all t f = absurd t
+told_fault (Root y) purpose x all t f = absurd t
+told_fault (Value y) purpose x all t f = absurd t
+told_fault (Range y) purpose x all t f = absurd t
+told_fault (Instances y) purpose x all t f = absurd t
+
+-- a name that breaks a rule is there for what the rule is for
+pub tells_use : (e : StaticError) (purpose : NameUse) (x : tree.Name) (broken : NameRule)
+    → TellsRule x broken e → is_broken_by purpose broken ≡ true → TellsName x purpose e
+tells_use Memory purpose x broken t b = tt
+tells_use (Name y) purpose x broken t b = (t.0, ap (is_broken_by purpose) t.1 ∙ b)
+tells_use (Recursion y) purpose x broken t b = absurd t
+tells_use (Root y) purpose x broken t b = absurd t
+tells_use (Value y) purpose x broken t b = absurd t
+tells_use (Range y) purpose x broken t b = absurd t
+tells_use (Instances y) purpose x broken t b = absurd t
+
+-- what is sought is what the name is there for
+pub sought_use : (s : Sought) → is_broken_by (use_of s) (rule.Unknown s) ≡ true
+sought_use sought.Node = refl
+sought_use sought.Variable = refl
+sought_use sought.Clock = refl
+sought_use sought.Value = refl
+sought_use sought.Constant = refl
+
+-- a name that counts fails a test where it fails the rule
+pub counted_fails : (counts test : tree.Name → Bool) (x : tree.Name) → counts x ≡ true
+    → test x ≡ false → counted counts test x ≡ false
+counted_fails counts test x c e = ap (λ b. not b || test x) c ∙ e
+
+-- the name that is told fails a test
+pub told_fails : (e : StaticError) (purpose : NameUse) (test : tree.Name → Bool) (x : tree.Name)
+    → TellsName x purpose e → test x ≡ false → IsNameFault e (counted (is_told e purpose) test x)
+told_fails e purpose test x t fails =
+    told_fault e purpose x _ t (λ told. counted_fails (is_told e purpose) test x told fails)

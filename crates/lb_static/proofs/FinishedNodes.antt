@@ -19,7 +19,8 @@ use Rattle.lb_static.specs.NameFaults.{IsNameFault}
 use Rattle.lb_static.specs.NodeNames.{node_in}
 use Rattle.lb_static.specs.NodeProgress.{Progress, texts, texts_in, counts_in, counts_kept}
 use Rattle.lb_static.specs.NodeProgress.{nameless, after_groups, after_node, declaration_fits}
-use Rattle.lb_static.specs.NodeProgress.{statement_fits, StatementsStand}
+use Rattle.lb_static.specs.NodeProgress.{StatementsStand}
+use Rattle.lb_static.specs.NodeProgress.{declaration_told, statement_told}
 use Rattle.lb_static.specs.Parts.{among, right_side, variable_names}
 use Rattle.lb_static.specs.Progressed.{progress, IsFinished}
 use Rattle.lb_static.specs.ResolvedNodes.{part_of, texts_of, counts_of, statics_of, node_of}
@@ -88,20 +89,20 @@ groups_fit s t gs hs a b e =
 
 pub groups_refused : (f : StaticError) (s t : Progress) (gs hs : List Declarations) → s ≡ t
     → gs ≡ hs
-    → IsNameFault f (list_all (declaration_fits s) (declared (view_groups gs)))
-    → IsNameFault f (list_all (declaration_fits t) (declared (view_groups hs)))
+    → IsNameFault f (list_all (declaration_told f s) (declared (view_groups gs)))
+    → IsNameFault f (list_all (declaration_told f t) (declared (view_groups hs)))
 groups_refused f s t gs hs a b h =
-    let same : list_all (declaration_fits s) (declared (view_groups gs))
-    ≡ list_all (declaration_fits t) (declared (view_groups hs)) =
-    λ j. list_all (declaration_fits (a j)) (declared (view_groups (b j))) in
+    let same : list_all (declaration_told f s) (declared (view_groups gs))
+    ≡ list_all (declaration_told f t) (declared (view_groups hs)) =
+    λ j. list_all (declaration_told f (a j)) (declared (view_groups (b j))) in
     subst (IsNameFault f) same h
 
 pub body_refused : (f : StaticError) (s t : Progress) (xs ys : List Statement) → s ≡ t → xs ≡ ys
-    → IsNameFault f (list_all (statement_fits s) xs)
-    → IsNameFault f (list_all (statement_fits t) ys)
+    → IsNameFault f (list_all (statement_told f s) xs)
+    → IsNameFault f (list_all (statement_told f t) ys)
 body_refused f s t xs ys a b h =
-    let same : list_all (statement_fits s) xs ≡ list_all (statement_fits t) ys =
-    λ j. list_all (statement_fits (a j)) (b j) in
+    let same : list_all (statement_told f s) xs ≡ list_all (statement_told f t) ys =
+    λ j. list_all (statement_told f (a j)) (b j) in
     subst (IsNameFault f) same h
 
 -- so many variables as there are inputs and outputs, where there was none before

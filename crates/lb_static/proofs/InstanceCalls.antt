@@ -26,10 +26,10 @@ pub refusal_first : (o q : Option Refusal) (e : StaticError) → IsRefusal o e
 refusal_first o q error.Memory h = tt
 refusal_first o q (error.Name x) h = h
 refusal_first o q (error.Recursion x) h = h
-refusal_first o q error.Root h = h
+refusal_first o q (error.Root x) h = h
 refusal_first o q (error.Value x) h = ap (λ p. or_else p q) h
 refusal_first o q (error.Range x) h = ap (λ p. or_else p q) h
-refusal_first o q error.Instances h = ap (λ p. or_else p q) h
+refusal_first o q (error.Instances x) h = ap (λ p. or_else p q) h
 
 pub refusal_second : (o q : Option Refusal) (e : StaticError) → o ≡ None → IsRefusal q e
     → IsRefusal (or_else o q) e

@@ -61,7 +61,7 @@ module _ (P : Program) (p : Path) (n : ResolvedNode) (values : List ℤ) where
   judged names is (Err error.Memory) e = tt
   judged names is (Err (error.Name x)) e = e
   judged names is (Err (error.Recursion x)) e = e
-  judged names is (Err error.Root) e = e
+  judged names is (Err (error.Root x)) e = e
   judged names is (Err (error.Value x)) e =
       values_had P p n (zip (node_of n).parameters values) is.statics ∙ ap is_some e
   judged names is (Err (error.Range x)) e =
@@ -70,7 +70,7 @@ module _ (P : Program) (p : Path) (n : ResolvedNode) (values : List ℤ) where
             ∙ ap is_some e.1,
         sym (in_range_had P p n pairs names is e.0 e.1) ∙ e.2,
       )
-  judged names is (Err error.Instances) e = e
+  judged names is (Err (error.Instances x)) e = e
 
   pub judgement : (r : Reached) (c : Constants) → IsInstantiable P r c → (i : ℕ)
       → slice_get r.nodes.items i ≡ Some n
@@ -121,11 +121,11 @@ module _ (P : Program) (k : ℕ) (here : Instance) where
   begun_ill n error.Memory few low j = tt
   begun_ill n (error.Name x) few low j = absurd j
   begun_ill n (error.Recursion x) few low j = absurd j
-  begun_ill n error.Root few low j = absurd j
+  begun_ill n (error.Root x) few low j = absurd j
   begun_ill n (error.Value x) few low j =
       by_tests true false (is_in_range P here) (may_be_entered few low) j refl
   begun_ill n (error.Range x) few low j = by_tests true true false (may_be_entered few low) j.0 j.1
-  begun_ill n error.Instances few low j = absurd j
+  begun_ill n (error.Instances x) few low j = absurd j
 
 -- ## A specialization that is found
 

@@ -10,8 +10,11 @@ use Rattle.lb_syntax.proofs.TruthValues.{and_first, and_second, both_ways}
 use Rattle.lb_syntax.proofs.ListPlaces.{all_at, all_from}
 use Rattle.lb_static.specs.CalledNodes.{are_named}
 use Rattle.lb_static.specs.Instances.{Program}
-use Rattle.lb_static.specs.NamedConstants.{keeps_constants}
-use Rattle.lb_static.specs.NameFaults.{IsNameFault, named_in, alone}
+use Rattle.lb_static.specs.CountedNames.{NameUse, Declares, Statics, are_once, constants_where}
+use Rattle.lb_static.specs.CountedNames.{counted, is_named_where}
+use Rattle.lb_static.specs.CountedNames.{keeps_names_where, starts_where}
+use Rattle.lb_static.specs.NamedConstants.{keeps_constants, told_constants}
+use Rattle.lb_static.specs.NameFaults.{IsNameFault, is_told, named_in, alone}
 use Rattle.lb_static.specs.Names.{are_distinct, constants_within, global_names, is_constant}
 use Rattle.lb_static.specs.Names.{is_named, keeps_names, named_constants, reached_constants}
 use Rattle.lb_static.specs.Names.{reached_nodes, starts}
@@ -100,10 +103,26 @@ module _ (P : Program) (r : Reached) (reached : IsReached P r) where
       (and_second (list_all is_some (starts P)) (list_all (is_named P) (reached_nodes P)) e)
       (sym constants_are ∙ f)))
 
-  pub fault_constants : (e : StaticError) → IsNameFault e constants_kept
-      → IsNameFault e (keeps_names P)
+  told_are : (counts : NameUse → Name → Bool)
+      → constants_where counts (alone P.source) (flat_map (named_constants (alone P.source))
+      (trees r))
+      ≡ list_all (λ c. list_all (counted (counts Statics) (is_constant P)) (static_names c.value))
+      (reached_constants P)
+  told_are counts =
+      ap (list_all (λ c. list_all (counted (counts Statics) (is_constant P))
+      (static_names c.value)))
+      (constants_of P (flat_map (named_constants P) (trees r)) (length P.source.constants)
+      ∙ constants_alike P (flat_map (named_constants P) (trees r))
+      (flat_map (named_constants P) (reached_nodes P)) named_alike (length P.source.constants))
+
+  pub fault_constants : (e : StaticError)
+      → IsNameFault e (told_constants e P.source
+      (flat_map (named_constants (alone P.source)) (trees r)))
+      → IsNameFault e (keeps_names_where (is_told e) P)
   fault_constants e h =
-      fault_within e constants_kept (keeps_names P) h (λ no.
-      and_right (are_distinct (global_names P)) _
-      (and_right (list_all is_some (starts P)) _
-      (and_right (list_all (is_named P) (reached_nodes P)) _ (sym constants_are ∙ no))))
+      let counts = is_told e in
+      fault_within e _ (keeps_names_where counts P) h (λ no.
+      and_right (are_once (counts Declares) (global_names P)) _
+      (and_right (starts_where counts P) _
+      (and_right (list_all (is_named_where counts P) (reached_nodes P)) _
+      (sym (told_are counts) ∙ no))))

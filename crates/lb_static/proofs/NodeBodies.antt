@@ -14,7 +14,8 @@ use Rattle.lb_syntax.proofs.TruthValues.{and_first, and_second}
 use Rattle.lb_static.specs.Instances.{Site, sites, statement_sites}
 use Rattle.lb_static.specs.NameFaults.{IsNameFault}
 use Rattle.lb_static.specs.NodeProgress.{Progress, texts, counts_in, grown, is_variable_of}
-use Rattle.lb_static.specs.NodeProgress.{after_statements, statement_fits, StatementsStand}
+use Rattle.lb_static.specs.NodeProgress.{after_statements, statement_fits, statement_told}
+use Rattle.lb_static.specs.NodeProgress.{StatementsStand}
 use Rattle.lb_static.specs.NodeProgress.{ResolvesStatement}
 use Rattle.lb_static.specs.Parts.{right_side}
 use Rattle.lb_static.specs.ResolvedTerms.{name_at, statement_of, is_statement_within}
@@ -137,9 +138,9 @@ next_step start before after statements xs i x statement below is d g =
 pub fault_of_statement : (start here : Progress) (f : StaticError) (xs : List Statement) (i : ℕ)
     (x : Statement) → i < length xs → x ≡ get_or xs i x
     → here ≡ after_statements start (map view_statement (take i xs))
-    → IsNameFault f (statement_fits here (view_statement x))
-    → IsNameFault f (list_all (statement_fits start) (map view_statement xs))
+    → IsNameFault f (statement_told f here (view_statement x))
+    → IsNameFault f (list_all (statement_told f start) (map view_statement xs))
 fault_of_statement start here f xs i x below is at h =
-    let g : IsNameFault f (statement_fits start (view_statement x)) =
-    subst (λ k. IsNameFault f (statement_fits k (view_statement x))) at h in
-    fault_within f _ _ g (one_fails (statement_fits start) view_statement xs i x below is)
+    let g : IsNameFault f (statement_told f start (view_statement x)) =
+    subst (λ k. IsNameFault f (statement_told f k (view_statement x))) at h in
+    fault_within f _ _ g (one_fails (statement_told f start) view_statement xs i x below is)

@@ -23,23 +23,26 @@ use Rattle.lb_syntax.proofs.TruthValues.{or_first}
 use Rattle.lb_static.specs.declared.node_scope.NodeScope.{NodeScope}
 use Rattle.lb_static.specs.declared.error.StaticError.{StaticError}
 use Rattle.lb_static.specs.SourceNames.{constants_in, names_in, names_in_source}
-use Rattle.lb_static.specs.NameFaults.{IsNameFault, alone}
-use Rattle.lb_static.specs.Names.{are_distinct, is_constant, is_static_name, is_variable}
+use Rattle.lb_static.specs.CountedNames.{Declares, are_once}
+use Rattle.lb_static.specs.NameFaults.{IsNameFault, alone, is_told}
+use Rattle.lb_static.specs.Names.{is_constant, is_static_name, is_variable}
 use Rattle.lb_static.specs.NodeNames.{node_in, program_in, takes, IsVariableAt, IsCallee}
 use Rattle.lb_static.specs.Parts.{among, declared_names, variable_names}
 use Rattle.lb_static.proofs.Faults.{fault_within}
 use Rattle.lb_static.proofs.Groups.{groups_next}
 use Rattle.lb_static.proofs.TestedItems.{found_passes}
 use Rattle.lb_static.proofs.Lists.{none_passes, some_passes, position_take}
-use Rattle.lb_static.proofs.Scopes.{among_append, bytes_eq-symmetric, position_map, doubled_before}
+use Rattle.lb_static.proofs.Scopes.{among_append, bytes_eq-symmetric, position_map, once_before}
 use Rattle.lb_static.proofs.Scopes.{name_at_place}
 
 -- ## Refused names
 
 -- a name that is doubled in a front is so in all
 pub front_fault : (e : StaticError) (front rest all : List Name) → front ++ rest ≡ all
-    → IsNameFault e (are_distinct front) → IsNameFault e (are_distinct all)
-front_fault e front rest all is h = fault_within e _ _ h (doubled_before front rest all is)
+    → IsNameFault e (are_once (is_told e Declares) front)
+    → IsNameFault e (are_once (is_told e Declares) all)
+front_fault e front rest all is h =
+    fault_within e _ _ h (once_before (is_told e Declares) front rest all is)
 
 -- ## Names of declarations
 

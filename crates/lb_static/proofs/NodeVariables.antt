@@ -14,6 +14,7 @@ use Rattle.lb_static.specs.NameFaults.{IsNameFault}
 use Rattle.lb_static.specs.NodeProgress.{Progress, texts, counts_in, grown, nameless, after_group}
 use Rattle.lb_static.specs.NodeProgress.{after_groups, with_variable, with_alike, declaration_fits}
 use Rattle.lb_static.specs.NodeProgress.{statics_fit, clock_fits, ClockStands, StaticsStand}
+use Rattle.lb_static.specs.NodeProgress.{statics_told, clock_told, declaration_told}
 use Rattle.lb_static.specs.Parts.{variable_names}
 use Rattle.lb_static.specs.ResolvedTerms.{declaration_of, is_declared_within}
 use Rattle.lb_static.specs.StaticParts.{group_parts, if_named}
@@ -85,26 +86,27 @@ pub group_fits : (s : Progress) (g : Group) → statics_fit s g.sizes ≡ true
     → clock_fits s g.clock ≡ true → list_all (declaration_fits s) (declarations g) ≡ true
 group_fits s g h k = group_fits_of s g g.names (and_from _ _ h k)
 
-group_fails : (s : Progress) (g : Group) (names : List Name) → nat_eq (length names) 0 ≡ false
-    → (statics_fit s g.sizes && clock_fits s g.clock) ≡ false
-    → list_all (declaration_fits s) (map (alike g) names) ≡ false
-group_fails s g [] e h = absurd cc
-group_fails s g (x ∷ names) e h =
-    and_left _ (list_all (declaration_fits s) (map (alike g) names)) h
+group_fails : (f : StaticError) (s : Progress) (g : Group) (names : List Name)
+    → nat_eq (length names) 0 ≡ false
+    → (statics_told f s g.sizes && clock_told f s g.clock) ≡ false
+    → list_all (declaration_told f s) (map (alike g) names) ≡ false
+group_fails f s g [] e h = absurd cc
+group_fails f s g (x ∷ names) e h =
+    and_left _ (list_all (declaration_told f s) (map (alike g) names)) h
 
 pub clock_fault : (f : StaticError) (s : Progress) (g : Group) → nat_eq (length g.names) 0 ≡ false
-    → IsNameFault f (clock_fits s g.clock)
-    → IsNameFault f (list_all (declaration_fits s) (declarations g))
+    → IsNameFault f (clock_told f s g.clock)
+    → IsNameFault f (list_all (declaration_told f s) (declarations g))
 clock_fault f s g some h =
-    fault_within f _ _ h (λ e. group_fails s g g.names some
-    (and_right (statics_fit s g.sizes) _ e))
+    fault_within f _ _ h (λ e. group_fails f s g g.names some
+    (and_right (statics_told f s g.sizes) _ e))
 
 pub sizes_fault : (f : StaticError) (s : Progress) (g : Group) → nat_eq (length g.names) 0 ≡ false
-    → IsNameFault f (statics_fit s g.sizes)
-    → IsNameFault f (list_all (declaration_fits s) (declarations g))
+    → IsNameFault f (statics_told f s g.sizes)
+    → IsNameFault f (list_all (declaration_told f s) (declarations g))
 sizes_fault f s g some h =
-    fault_within f _ _ h (λ e. group_fails s g g.names some
-    (and_left _ (clock_fits s g.clock) e))
+    fault_within f _ _ h (λ e. group_fails f s g g.names some
+    (and_left _ (clock_told f s g.clock) e))
 
 pub group_done : (s mid after : Progress) (g : Group) (first : StaticId) (count : ℕ)
     (clock : Option resolved.Sampling) → nat_eq (length g.names) 0 ≡ false
@@ -225,9 +227,10 @@ group_among p (h ∷ gs) (suc i) g below is e =
 pub group_fault : (f : StaticError) (start here : Progress) (gs : List Declarations) (i : ℕ)
     (g : Declarations) → i < length gs → g ≡ get_or gs i g
     → here ≡ after_groups start (view_groups (take i gs))
-    → IsNameFault f (list_all (declaration_fits here) (declarations (view_group g)))
-    → IsNameFault f (list_all (declaration_fits start) (declared (view_groups gs)))
+    → IsNameFault f (list_all (declaration_told f here) (declarations (view_group g)))
+    → IsNameFault f (list_all (declaration_told f start) (declared (view_groups gs)))
 group_fault f start here gs i g below is at h =
-    let k : IsNameFault f (list_all (declaration_fits start) (declarations (view_group g))) =
-    subst (λ m. IsNameFault f (list_all (declaration_fits m) (declarations (view_group g)))) at h in
-    fault_within f _ _ k (group_among (declaration_fits start) gs i g below is)
+    let k : IsNameFault f (list_all (declaration_told f start) (declarations (view_group g))) =
+    subst (λ m. IsNameFault f (list_all (declaration_told f m) (declarations (view_group g))))
+    at h in
+    fault_within f _ _ k (group_among (declaration_told f start) gs i g below is)

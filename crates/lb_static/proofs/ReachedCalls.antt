@@ -2,7 +2,7 @@
 use Rattle.std.proofs.Common.{◌≡◌, ℕ, zero, suc, ◌<◌, Bool, true, false, cond, List, [], ◌∷◌}
 use Rattle.std.proofs.Common.{length, map, Option, Some, None, refl, ap, sym, subst, ◌∙◌, ◌⊎◌, inl}
 use Rattle.std.proofs.Common.{inr, arith}
-use Rattle.std.specs.Prelude.{◌||◌, not, nat_lt, slice_get, option_map, Err}
+use Rattle.std.specs.Prelude.{◌||◌, not, nat_lt, slice_get, option_map, All}
 use Rattle.std.specs.List.{list_any}
 use Rattle.std.specs.Str.{bytes_eq}
 use Rattle.std.proofs.lemmas.Bool.Decides.{nat_tests}
@@ -12,13 +12,13 @@ use Rattle.std.proofs.lemmas.Option.{slice_get-map, slice_get_within}
 use Rattle.std.proofs.lemmas.Slice.Eq.{bytes_eq-Decides}
 use Rattle.std.proofs.lemmas.Bool.{or_right}
 use Rattle.lb_syntax.specs.Lists.{◌>>=◌, either_or, holds, In}
-use Rattle.lb_syntax.specs.Tree.{Name, Static, Node}
+use Rattle.lb_syntax.specs.Tree.{Static, Node}
 use Rattle.lb_syntax.proofs.SameNames.{same_name}
 use Rattle.lb_syntax.proofs.TruthValues.{and_first, and_second}
 use Rattle.lb_syntax.proofs.ListPlaces.{item_at, all_in}
-use Rattle.lb_static.specs.CallGraphs.{AreWithin, IsCallsAnswer, IsCycleNamed, IsOnCycle, IsOrder}
-use Rattle.lb_static.specs.CallGraphs.{IsOrdered, Leads, TellsRecursion, called, callee_of}
-use Rattle.lb_static.specs.CallGraphs.{callees_of, graph_of}
+use Rattle.lb_static.specs.CallGraphs.{AreWithin, CallsAlong, IsCallCycle, IsCycle, IsOnCycle}
+use Rattle.lb_static.specs.CallGraphs.{IsOrder, IsOrdered, Leads, called, callee_of, callees_of}
+use Rattle.lb_static.specs.CallGraphs.{graph_of, name_in, names_at}
 use Rattle.lb_static.specs.Instances.{Program, Site, node_sites}
 use Rattle.lb_static.specs.Names.{are_distinct, calls, global_names, is_recursive, is_well_founded}
 use Rattle.lb_static.specs.Names.{keeps_names, reached_nodes, reached_within, start_names}
@@ -27,8 +27,6 @@ use Rattle.lb_static.specs.ReachedNodes.{IsReached, are_linked, id_at, is_linked
 use Rattle.lb_static.specs.ReachedNodes.{trees}
 use Rattle.lb_static.specs.ResolvedNodes.{IsResolved, node_of, statics_of}
 use Rattle.lb_static.specs.ResolvedTerms.{site_of}
-use Rattle.lb_static.specs.declared.error.StaticError.{StaticError}
-use Rattle.lb_static.specs.declared.error.StaticError.TheVariants as error
 use Rattle.lb_static.specs.declared.reach.NodeId.{NodeId}
 use Rattle.lb_static.specs.declared.reach.Reached.{Reached}
 use Rattle.lb_static.specs.declared.resolved.CallSite.{CallSite}
@@ -38,6 +36,12 @@ use Rattle.lb_static.proofs.Members.{in_filter, filter_in, in_filter_map, filter
 use Rattle.lb_static.proofs.Members.{in_any, from_all}
 use Rattle.lb_static.proofs.Saturation.{enough_calls}
 use Rattle.lb_static.proofs.ReachedPlaces.{distinct_last}
+
+-- all of some numbers are below another
+all_below : (n : ℕ) (xs : List ℕ) → ((i : ℕ) → In i xs → i < n) → All (λ i. i < n) xs
+all_below n [] h k d below = absurd (omega arith)
+all_below n (x ∷ xs) h zero d below = h x (inl refl)
+all_below n (x ∷ xs) h (suc k) d below = all_below n xs (λ i on. h i (inr on)) k d (omega arith)
 
 -- ## Names that are distinct
 
@@ -358,9 +362,9 @@ module _ (P : Program) (r : Reached) (is : IsReached P r) where
           absurd (not_recursive keeps ordered.0 ordered.1 at.0 n (ordered.2 at.0 below) at.1 e)
 
   -- where a place is on a cycle, its node is reached and reaches itself
-  cycle_unfounded : (i : ℕ) (n : Node) → IsOnCycle (graph_of r) i → slice_get (trees r) i ≡ Some n
+  place_unfounded : (i : ℕ) (n : Node) → IsOnCycle (graph_of r) i → slice_get (trees r) i ≡ Some n
       → is_well_founded P ≡ false
-  cycle_unfounded i n cycle at = by (is_well_founded P) refl
+  place_unfounded i n cycle at = by (is_well_founded P) refl
     where
       by : (b : Bool) → is_well_founded P ≡ b → b ≡ false
       by false e = refl
@@ -370,30 +374,79 @@ module _ (P : Program) (r : Reached) (is : IsReached P r) where
           let both : not true ≡ true = ap not (sym (cycle_recursive i n cycle at)) ∙ founded in
           absurd cc
 
-  -- what is answered for a place on a cycle
-  pub recursion_told : (name : Name) (e : StaticError) (i : ℕ) (rn : ResolvedNode)
-      → TellsRecursion name e → slice_get r.nodes.items i ≡ Some rn
-      → name ≡ (node_of rn).name → IsOnCycle (graph_of r) i
-      → IsCallsAnswer P (Err e) × IsCycleNamed P (Err e)
-  recursion_told name e i rn told at same cycle = by e told
-    where
-      here : slice_get (trees r) i ≡ Some (node_of rn)
-      here = slice_get-map node_of r.nodes.items i ∙ ap (option_map node_of) at
+  -- ## A cycle that is told
 
-      by : (f : StaticError) → TellsRecursion name f
-          → IsCallsAnswer P (Err f) × IsCycleNamed P (Err f)
-      by error.Memory t = (tt, tt)
-      by (error.Name x) t = absurd t
-      by (error.Recursion x) t = (
-        cycle_unfounded i (node_of rn) cycle here,
-        (
-          node_of rn,
-          tree_reached i (node_of rn) here,
-          cycle_recursive i (node_of rn) cycle here,
-          t ∙ same,
-        ),
+  reached_with : (h : Node) (hs : List Node) → In h (reached_nodes P)
+      → ((l : Node) → In l hs → In l (reached_nodes P)) → (l : Node) → In l (h ∷ hs)
+      → In l (reached_nodes P)
+  reached_with h hs first rest l (inl is) = subst (λ q. In q (reached_nodes P)) is first
+  reached_with h hs first rest l (inr on) = rest l on
+
+  -- the nodes at the places on a way from one to another
+  nodes_along : (ks : List ℕ) (i j : ℕ) (n m : Node) → Leads (graph_of r) i ks j
+      → slice_get (trees r) i ≡ Some n → slice_get (trees r) j ≡ Some m
+      → (ns : List Node) × (map (λ h. h.name) ns ≡ names_at r ks)
+      × ((h : Node) → In h ns → In h (reached_nodes P)) × CallsAlong n ns m
+  nodes_along [] i j n m leads at to =
+      let next = arrow_calls i j n at leads in
+      let both : Some next.0 ≡ Some m = sym next.1 ∙ to in
+      let same : next.0 ≡ m = cc in
+      ([], refl, λ h on. absurd on, subst (λ h. calls n h ≡ true) same next.3)
+  nodes_along (k ∷ ks) i j n m leads at to =
+      let next = arrow_calls i k n at leads.0 in
+      let rest = nodes_along ks k j next.0 m leads.1 next.1 to in
+      let named : next.0.name ≡ name_in r k =
+      sym (ap (λ o. either_or (option_map (λ h. h.name) o) []) next.1) in (
+        next.0 ∷ rest.0,
+        (λ x. named x ∷ rest.1 x),
+        reached_with next.0 rest.0 (tree_reached k next.0 next.1) rest.2,
+        (next.3, rest.3),
       )
-      by error.Root t = absurd t
-      by (error.Value x) t = absurd t
-      by (error.Range x) t = absurd t
-      by error.Instances t = absurd t
+
+  -- the nodes at the places of a cycle are one of calls
+  pub cycle_told : (cycle : List ℕ) → IsCycle (graph_of r) cycle
+      → IsCallCycle P (names_at r cycle)
+  cycle_told [] c = absurd c
+  cycle_told (i ∷ ks) c =
+      let long = length-map r.nodes.items (λ n. callees_of r n.calls.items) in
+      let many = length-map r.nodes.items node_of in
+      let n = item_at (trees r) i (omega (arith, c.0, long, many)) in
+      let along = nodes_along ks i i n.0 n.0 c.1 n.1 n.1 in
+      let named : n.0.name ≡ name_in r i =
+      sym (ap (λ o. either_or (option_map (λ h. h.name) o) []) n.1) in
+      record {
+        first = n.0;
+        rest = along.0;
+        named = λ x. named x ∷ along.1 x;
+        reached = reached_with n.0 along.0 (tree_reached i n.0 n.1) along.2;
+        calls_along = along.3;
+      }
+
+  -- where there is a cycle, a node reaches itself
+  pub cycle_unfounded : (cycle : List ℕ) → IsCycle (graph_of r) cycle → is_well_founded P ≡ false
+  cycle_unfounded [] c = absurd c
+  cycle_unfounded (i ∷ ks) c =
+      let long = length-map r.nodes.items (λ n. callees_of r n.calls.items) in
+      let many = length-map r.nodes.items node_of in
+      let n = item_at (trees r) i (omega (arith, c.0, long, many)) in
+      place_unfounded i n.0 (ks, c.1) n.1
+
+-- each place of a cycle is that of a node
+pub cycle_within : (r : Reached) (cycle : List ℕ) → IsCycle (graph_of r) cycle
+    → All (λ i. i < length r.nodes.items) cycle
+cycle_within r [] c = absurd c
+cycle_within r (i ∷ ks) c = all_below (length r.nodes.items) (i ∷ ks) by
+  where
+    below : (k : ℕ) → k < length (graph_of r) → k < length r.nodes.items
+    below k less = omega (arith, less, length-map r.nodes.items (λ n. callees_of r n.calls.items))
+
+    along : (ls : List ℕ) (j k : ℕ) → Leads (graph_of r) j ls k → (m : ℕ) → In m ls
+        → m < length r.nodes.items
+    along [] j k leads m on = absurd on
+    along (l ∷ ls) j k leads m (inl same) =
+        subst (λ h. h < length r.nodes.items) same (below l (graph_within r j l leads.0))
+    along (l ∷ ls) j k leads m (inr on) = along ls l k leads.1 m on
+
+    by : (m : ℕ) → In m (i ∷ ks) → m < length r.nodes.items
+    by m (inl same) = subst (λ h. h < length r.nodes.items) same (below i c.0)
+    by m (inr on) = along ks i i c.1 m on

@@ -3,7 +3,7 @@ use Rattle.std.proofs.Common.{◌≡◌, ℕ, zero, suc, ◌+◌, ◌<◌, Bool,
 use Rattle.std.proofs.Common.{length, take, drop, get_or, map, arith, Ok, Err, Vec, Global, refl}
 use Rattle.std.proofs.Common.{ap, sym, subst, ◌∙◌, length-append}
 use Rattle.std.specs.Prelude.{◌&&◌, ◌||◌, not, nat_le, nat_lt, slice_get, flat_map, cond, Result}
-use Rattle.std.specs.Prelude.{IfOk, IfErr, option_map, Option, None, Some}
+use Rattle.std.specs.Prelude.{Box, IfOk, IfErr, option_map, Option, None, Some}
 use Rattle.std.specs.List.{list_all}
 use Rattle.std.proofs.lemmas.List.{append-nil, map-append, length-map, take_more, take_all}
 use Rattle.std.proofs.lemmas.List.{append_assoc}
@@ -31,7 +31,7 @@ use Rattle.lb_syntax.specs.declared.tree.Expr.{items_hidden-the_row-Expr-0}
 use Rattle.lb_syntax.proofs.Views.{view_row-items}
 use Rattle.lb_syntax.proofs.ListPlaces.{get_last}
 use Rattle.lb_static.specs.Instances.{Site, sites, sites_in}
-use Rattle.lb_static.specs.NameFaults.{IsNameFault}
+use Rattle.lb_static.specs.NameFaults.{IsNameFault, is_told}
 use Rattle.lb_static.specs.NodeNames.{all_pass, IsCallee}
 use Rattle.lb_static.specs.Names.{is_callable, is_constant, is_static_name}
 use Rattle.lb_static.specs.Parts.{among, variable_names}
@@ -41,6 +41,9 @@ use Rattle.lb_static.specs.NodeProgress.{program_of, after_expr, after_exprs, St
 use Rattle.lb_static.specs.NodeProgress.{StaticStands, CallStands, ResolvesTerm, ResolvesTerms}
 use Rattle.lb_static.specs.NodeProgress.{ResolvesStatic, ResolvesCall, StaticsStand, statics_fit}
 use Rattle.lb_static.specs.NodeProgress.{expr_passes, exprs_pass, static_fits, call_fits}
+use Rattle.lb_static.specs.NodeProgress.{expr_told, exprs_told, static_told, statics_told}
+use Rattle.lb_static.specs.NodeProgress.{call_told}
+use Rattle.lb_static.specs.NodeNames.{all_pass_where}
 use Rattle.lb_static.specs.ResolvedTerms.{Texts, Counts, expr_of, row_of, static_at, is_within}
 use Rattle.lb_static.specs.ResolvedTerms.{are_within, is_no_variable, is_unhidden, are_unhidden}
 use Rattle.lb_static.specs.ResolvedTerms.{named_value, iterate_expr, no_site, site_of}
@@ -233,31 +236,31 @@ sized_call_done before mid after role y x es i id ts d g =
 -- ## The expressions of a vector
 
 abbrev source_row : source.Expr → (n : Count) × Row_of-Expr n
-source_row (Array' _ row) = (_, row)
-source_row (AtMostOne' _ row) = (_, row)
-source_row (Nor' _ row) = (_, row)
+source_row (Array' _ row _) = (_, row)
+source_row (AtMostOne' _ row _) = (_, row)
+source_row (Nor' _ row _) = (_, row)
 source_row (Call' _ _ _ row) = (_, row)
-source_row (Iterate' _ _ _ _ row) = (_, row)
+source_row (Iterate' _ _ _ _ row _) = (_, row)
 source_row _ = (_, end_of-Expr)
 
-pub view_array : (es : Vec source.Expr Global)
-    → view (source.Array es) ≡ tree.Array (exprs (map view es.items))
-view_array es =
-    let row = source_row (source.Array es) in
+pub view_array : (es : Vec source.Expr Global) (at : ℕ)
+    → view (source.Array es at) ≡ tree.Array (exprs (map view es.items))
+view_array es at =
+    let row = source_row (source.Array es at) in
     ap (λ (z : Exprs). tree.Array z)
     (view_row-items row.0 row.1 ∙ ap (λ z. exprs (map view z)) (items_hidden-the_row-Expr-0 es))
 
-pub view_at_most_one : (es : Vec source.Expr Global)
-    → view (source.AtMostOne es) ≡ tree.AtMostOne (exprs (map view es.items))
-view_at_most_one es =
-    let row = source_row (source.AtMostOne es) in
+pub view_at_most_one : (es : Vec source.Expr Global) (at : ℕ)
+    → view (source.AtMostOne es at) ≡ tree.AtMostOne (exprs (map view es.items))
+view_at_most_one es at =
+    let row = source_row (source.AtMostOne es at) in
     ap (λ (z : Exprs). tree.AtMostOne z)
     (view_row-items row.0 row.1 ∙ ap (λ z. exprs (map view z)) (items_hidden-the_row-Expr-0 es))
 
-pub view_nor : (es : Vec source.Expr Global)
-    → view (source.Nor es) ≡ tree.Nor (exprs (map view es.items))
-view_nor es =
-    let row = source_row (source.Nor es) in
+pub view_nor : (es : Vec source.Expr Global) (at : ℕ)
+    → view (source.Nor es at) ≡ tree.Nor (exprs (map view es.items))
+view_nor es at =
+    let row = source_row (source.Nor es at) in
     ap (λ (z : Exprs). tree.Nor z)
     (view_row-items row.0 row.1 ∙ ap (λ z. exprs (map view z)) (items_hidden-the_row-Expr-0 es))
 
@@ -269,13 +272,16 @@ view_call f args es =
     ap (λ (z : Exprs). tree.Call f (view_statics args.items) z)
     (view_row-items row.0 row.1 ∙ ap (λ z. exprs (map view z)) (items_hidden-the_row-Expr-0 es))
 
-pub view_iterate : (it : ArrayIterator) (o : Operator) (n : Static') (es : Vec source.Expr Global)
-    → view (source.Iterate it o n es)
-    ≡ tree.Iterate it (view_operator o) (view_static n) (exprs (map view es.items))
-view_iterate it o n es =
-    let row = source_row (source.Iterate it o n es) in
-    ap (λ (z : Exprs). tree.Iterate it (view_operator o) (view_static n) z)
+-- the operator stands in a box
+pub view_iterate : (it : ArrayIterator) (o : Box Operator Global) (w : Operator) → o.value ≡ w
+    → (n : Static') (es : Vec source.Expr Global) (at : ℕ)
+    → view (source.Iterate it o n es at)
+    ≡ tree.Iterate it (view_operator w) (view_static n) (exprs (map view es.items))
+view_iterate it o w same n es at =
+    let row = source_row (source.Iterate it o n es at) in
+    ap (λ (z : Exprs). tree.Iterate it (view_operator o.value) (view_static n) z)
     (view_row-items row.0 row.1 ∙ ap (λ z. exprs (map view z)) (items_hidden-the_row-Expr-0 es))
+    ∙ ap (λ z. tree.Iterate it (view_operator z) (view_static n) (exprs (map view es.items))) same
 
 -- ## The terms of a vector
 
@@ -319,6 +325,11 @@ pub pass_exprs : (s : Progress) (es : List Expr)
 pass_exprs s [] = refl
 pass_exprs s (e ∷ es) = ap (λ b. expr_passes s e && b) (pass_exprs s es)
 
+told_exprs : (f : StaticError) (s : Progress) (es : List Expr)
+    → all_pass_where (is_told f) (program_of s) s.node (exprs es) ≡ exprs_told f s es
+told_exprs f s [] = refl
+told_exprs f s (e ∷ es) = ap (λ b. expr_told f s e && b) (told_exprs f s es)
+
 -- what holds of the rows of a term
 pub record RowStands (s : Progress) (es : List Expr) {n : Count} (row : Row_of-Term n) : Type 0
   where
@@ -343,59 +354,59 @@ grown_exprs : (before : Progress) (es : List Expr)
 grown_exprs before es = same_two (grown before) _ _ _ _ (parts_exprs (is_variable_of before) es)
     (sites_exprs es)
 
-module _ (before after : Progress) (es : Vec source.Expr Global) (ts : Vec Term Global)
+module _ (before after : Progress) (es : Vec source.Expr Global) (at : ℕ) (ts : Vec Term Global)
     (h : AllDone before after (map view es.items) ts) where
-  pub array_done : Done before after (view (source.Array es)) (term.Array ts)
+  pub array_done : Done before after (view (source.Array es at)) (term.Array ts)
   array_done =
       let row = term_row (term.Array ts) in
       let r = row_stands after (map view es.items) ts row.0 row.1 (items_hidden-the_row-Term-0 ts)
       h.1 in
-      subst (λ e. Done before after e (term.Array ts)) (sym (view_array es)) (
+      subst (λ e. Done before after e (term.Array ts)) (sym (view_array es at)) (
         h.0 ∙ sym (grown_exprs before (map view es.items)),
         (ap tree.Array r.stands, r.within, r.unhidden),
         pass_exprs before (map view es.items) ∙ h.2,
       )
 
-  pub at_most_one_done : Done before after (view (source.AtMostOne es)) (term.AtMostOne ts)
+  pub at_most_one_done : Done before after (view (source.AtMostOne es at)) (term.AtMostOne ts)
   at_most_one_done =
       let row = term_row (term.AtMostOne ts) in
       let r = row_stands after (map view es.items) ts row.0 row.1 (items_hidden-the_row-Term-0 ts)
       h.1 in
-      subst (λ e. Done before after e (term.AtMostOne ts)) (sym (view_at_most_one es)) (
+      subst (λ e. Done before after e (term.AtMostOne ts)) (sym (view_at_most_one es at)) (
         h.0 ∙ sym (grown_exprs before (map view es.items)),
         (ap tree.AtMostOne r.stands, r.within, r.unhidden),
         pass_exprs before (map view es.items)
             ∙ h.2,
       )
 
-  pub nor_done : Done before after (view (source.Nor es)) (term.Nor ts)
+  pub nor_done : Done before after (view (source.Nor es at)) (term.Nor ts)
   nor_done =
       let row = term_row (term.Nor ts) in
       let r = row_stands after (map view es.items) ts row.0 row.1 (items_hidden-the_row-Term-0 ts)
       h.1 in
-      subst (λ e. Done before after e (term.Nor ts)) (sym (view_nor es)) (
+      subst (λ e. Done before after e (term.Nor ts)) (sym (view_nor es at)) (
         h.0 ∙ sym (grown_exprs before (map view es.items)),
         (ap tree.Nor r.stands, r.within, r.unhidden),
         pass_exprs before (map view es.items) ∙ h.2,
       )
 
 -- an expression that is refused among those of a list
-module _ (s : Progress) (f : StaticError) (es : Vec source.Expr Global)
-    (h : IsNameFault f (exprs_pass s (map view es.items))) where
+module _ (s : Progress) (f : StaticError) (es : Vec source.Expr Global) (at : ℕ)
+    (h : IsNameFault f (exprs_told f s (map view es.items))) where
   abbrev Refuses : Expr → Type 0
-  Refuses e = IsNameFault f (expr_passes s e)
+  Refuses e = IsNameFault f (expr_told f s e)
 
-  pub array_fault : Refuses (view (source.Array es))
-  array_fault = subst Refuses (sym (view_array es))
-      (subst (IsNameFault f) (sym (pass_exprs s (map view es.items))) h)
+  pub array_fault : Refuses (view (source.Array es at))
+  array_fault = subst Refuses (sym (view_array es at))
+      (subst (IsNameFault f) (sym (told_exprs f s (map view es.items))) h)
 
-  pub at_most_one_fault : Refuses (view (source.AtMostOne es))
-  at_most_one_fault = subst Refuses (sym (view_at_most_one es))
-      (subst (IsNameFault f) (sym (pass_exprs s (map view es.items))) h)
+  pub at_most_one_fault : Refuses (view (source.AtMostOne es at))
+  at_most_one_fault = subst Refuses (sym (view_at_most_one es at))
+      (subst (IsNameFault f) (sym (told_exprs f s (map view es.items))) h)
 
-  pub nor_fault : Refuses (view (source.Nor es))
-  nor_fault = subst Refuses (sym (view_nor es))
-      (subst (IsNameFault f) (sym (pass_exprs s (map view es.items))) h)
+  pub nor_fault : Refuses (view (source.Nor es at))
+  nor_fault = subst Refuses (sym (view_nor es at))
+      (subst (IsNameFault f) (sym (told_exprs f s (map view es.items))) h)
 
 -- ## Calls
 
@@ -426,20 +437,21 @@ module _ (before after : Progress) (es : Vec source.Expr Global) (ts : Vec Term 
             (pass_exprs before (map view es.items)) ∙ h.3,
       )
 
-  pub iterate_node_done : (it : ArrayIterator) (f : Name) (args : Vec Static' Global) (n : Static')
+  pub iterate_node_done : (it : ArrayIterator) (o : Box Operator Global) (f : Name)
+      (args : Vec Static' Global) → o.value ≡ Node_operator f args → (n : Static') (at : ℕ)
       (id : CallId)
       → WithSizedCall before after Size (view_static n)
       (site_for f args.items (Some (view_static n))) (map view es.items) id ts.items
-      → Done before after (view (source.Iterate it (Node_operator f args) n es))
+      → Done before after (view (source.Iterate it o n es at))
       (term.IterateNode it id ts)
-  iterate_node_done it f args n id h =
+  iterate_node_done it o f args same n at id h =
       let row = term_row (term.IterateNode it id ts) in
       let r = row_stands after (map view es.items) ts row.0 row.1 (items_hidden-the_row-Term-0 ts)
       h.2 in
       let statics = view_statics args.items in
       let here = site_for f args.items (Some (view_static n)) in
       subst (λ e. Done before after e (term.IterateNode it id ts))
-      (sym (view_iterate it (Node_operator f args) n es)) (
+      (sym (view_iterate it o (Node_operator f args) same n es at)) (
         h.0 ∙ same_two (grown before) _ _ _ _
             (ap (λ l. (Size, view_static n) ∷ (arguments_of statics ++ l))
             (sym (parts_exprs (is_variable_of before) (map view es.items))))
@@ -453,16 +465,17 @@ module _ (before after : Progress) (es : Vec source.Expr Global) (ts : Vec Term 
             (pass_exprs before (map view es.items)) ∙ h.3,
       )
 
-  pub iterate_symbol_done : (it : ArrayIterator) (op : BinaryOperator) (n : Static') (id : StaticId)
+  pub iterate_symbol_done : (it : ArrayIterator) (o : Box Operator Global) (op : BinaryOperator)
+      → o.value ≡ Symbol_operator op → (n : Static') (at : ℕ) (id : StaticId)
       → WithSize before after Size (view_static n) (map view es.items) id ts.items
-      → Done before after (view (source.Iterate it (Symbol_operator op) n es))
+      → Done before after (view (source.Iterate it o n es at))
       (term.IterateSymbol it op id ts)
-  iterate_symbol_done it op n id h =
+  iterate_symbol_done it o op same n at id h =
       let row = term_row (term.IterateSymbol it op id ts) in
       let r = row_stands after (map view es.items) ts row.0 row.1 (items_hidden-the_row-Term-0 ts)
       h.2 in
       subst (λ e. Done before after e (term.IterateSymbol it op id ts))
-      (sym (view_iterate it (Symbol_operator op) n es)) (
+      (sym (view_iterate it o (Symbol_operator op) same n es at)) (
         h.0 ∙ same_two (grown before) _ _ _ _
             (ap (λ l. (Size, view_static n) ∷ l)
             (sym (parts_exprs (is_variable_of before) (map view es.items))))
@@ -481,39 +494,43 @@ module _ (before after : Progress) (es : Vec source.Expr Global) (ts : Vec Term 
 
 pub fault_after_call : (s m : Progress) (f : StaticError) (x : Name) (args : Vec Static' Global)
     (es : Vec source.Expr Global) (P : List Part) (C : List Site)
-    → m ≡ grown s P C → IsNameFault f (exprs_pass m (map view es.items))
-    → IsNameFault f (expr_passes s (view (source.Call x args es)))
+    → m ≡ grown s P C → IsNameFault f (exprs_told f m (map view es.items))
+    → IsNameFault f (expr_told f s (view (source.Call x args es)))
 fault_after_call s m f x args es P C is h =
-    let g : IsNameFault f (exprs_pass s (map view es.items)) =
-    subst (λ k. IsNameFault f (exprs_pass k (map view es.items))) is h in
-    subst (λ e. IsNameFault f (expr_passes s e)) (sym (view_call x args es))
-    (fault_within f _ _ g (λ e. and_right (call_fits s (site_for x args.items None)) _
-    (pass_exprs s (map view es.items) ∙ e)))
+    let g : IsNameFault f (exprs_told f s (map view es.items)) =
+    subst (λ k. IsNameFault f (exprs_told f k (map view es.items))) is h in
+    subst (λ e. IsNameFault f (expr_told f s e)) (sym (view_call x args es))
+    (fault_within f _ _ g (λ e. and_right (call_told f s (site_for x args.items None)) _
+    (told_exprs f s (map view es.items) ∙ e)))
 
-pub fault_after_node : (s m : Progress) (f : StaticError) (it : ArrayIterator) (x : Name)
-    (args : Vec Static' Global) (n : Static') (es : Vec source.Expr Global)
-    (P : List Part) (C : List Site) → m ≡ grown s P C
-    → IsNameFault f (exprs_pass m (map view es.items))
-    → IsNameFault f (expr_passes s (view (source.Iterate it (Node_operator x args) n es)))
-fault_after_node s m f it x args n es P C is h =
-    let g : IsNameFault f (exprs_pass s (map view es.items)) =
-    subst (λ k. IsNameFault f (exprs_pass k (map view es.items))) is h in
-    subst (λ e. IsNameFault f (expr_passes s e)) (sym (view_iterate it (Node_operator x args) n es))
-    (fault_within f _ _ g (λ e. and_right (static_fits s (view_static n)) _
-    (and_right (call_fits s (site_for x args.items (Some (view_static n)))) _
-    (pass_exprs s (map view es.items) ∙ e))))
+pub fault_after_node : (s m : Progress) (f : StaticError) (it : ArrayIterator)
+    (o : Box Operator Global) (x : Name) (args : Vec Static' Global) → o.value ≡ Node_operator x args
+    → (n : Static') (es : Vec source.Expr Global) (at : ℕ) (P : List Part) (C : List Site)
+    → m ≡ grown s P C
+    → IsNameFault f (exprs_told f m (map view es.items))
+    → IsNameFault f (expr_told f s (view (source.Iterate it o n es at)))
+fault_after_node s m f it o x args same n es at P C is h =
+    let g : IsNameFault f (exprs_told f s (map view es.items)) =
+    subst (λ k. IsNameFault f (exprs_told f k (map view es.items))) is h in
+    subst (λ e. IsNameFault f (expr_told f s e))
+    (sym (view_iterate it o (Node_operator x args) same n es at))
+    (fault_within f _ _ g (λ e. and_right (static_told f s (view_static n)) _
+    (and_right (call_told f s (site_for x args.items (Some (view_static n)))) _
+    (told_exprs f s (map view es.items) ∙ e))))
 
 pub fault_after_symbol : (s m : Progress) (f : StaticError) (it : ArrayIterator)
-    (op : BinaryOperator) (n : Static') (es : Vec source.Expr Global)
-    (P : List Part) (C : List Site) → m ≡ grown s P C
-    → IsNameFault f (exprs_pass m (map view es.items))
-    → IsNameFault f (expr_passes s (view (source.Iterate it (Symbol_operator op) n es)))
-fault_after_symbol s m f it op n es P C is h =
-    let g : IsNameFault f (exprs_pass s (map view es.items)) =
-    subst (λ k. IsNameFault f (exprs_pass k (map view es.items))) is h in
-    subst (λ e. IsNameFault f (expr_passes s e)) (sym (view_iterate it (Symbol_operator op) n es))
-    (fault_within f _ _ g (λ e. and_right (static_fits s (view_static n)) _
-    (pass_exprs s (map view es.items) ∙ e)))
+    (o : Box Operator Global) (op : BinaryOperator) → o.value ≡ Symbol_operator op
+    → (n : Static') (es : Vec source.Expr Global) (at : ℕ) (P : List Part) (C : List Site)
+    → m ≡ grown s P C
+    → IsNameFault f (exprs_told f m (map view es.items))
+    → IsNameFault f (expr_told f s (view (source.Iterate it o n es at)))
+fault_after_symbol s m f it o op same n es at P C is h =
+    let g : IsNameFault f (exprs_told f s (map view es.items)) =
+    subst (λ k. IsNameFault f (exprs_told f k (map view es.items))) is h in
+    subst (λ e. IsNameFault f (expr_told f s e))
+    (sym (view_iterate it o (Symbol_operator op) same n es at))
+    (fault_within f _ _ g (λ e. and_right (static_told f s (view_static n)) _
+    (told_exprs f s (map view es.items) ∙ e)))
 
 -- ## Loops
 
@@ -576,22 +593,22 @@ one_fails p f (y ∷ xs) (suc i) x below is e =
 
 pub fault_of_item : (start here : Progress) (f : StaticError) (es : List source.Expr) (i : ℕ)
     (e : source.Expr) → i < length es → e ≡ get_or es i e
-    → here ≡ after_exprs start (map view (take i es)) → IsNameFault f (expr_passes here (view e))
-    → IsNameFault f (exprs_pass start (map view es))
+    → here ≡ after_exprs start (map view (take i es)) → IsNameFault f (expr_told f here (view e))
+    → IsNameFault f (exprs_told f start (map view es))
 fault_of_item start here f es i e below is at h =
-    let g : IsNameFault f (expr_passes start (view e)) =
-    subst (λ k. IsNameFault f (expr_passes k (view e))) at h in
-    fault_within f _ _ g (one_fails (expr_passes start) view es i e below is)
+    let g : IsNameFault f (expr_told f start (view e)) =
+    subst (λ k. IsNameFault f (expr_told f k (view e))) at h in
+    fault_within f _ _ g (one_fails (expr_told f start) view es i e below is)
 
 pub fault_of_static : (start here : Progress) (f : StaticError) (role : Role) (xs : List Static')
     (i : ℕ) (x : Static') → i < length xs → x ≡ get_or xs i x
     → here ≡ grown start (map (λ s. (role, s)) (view_statics (take i xs))) []
-    → IsNameFault f (static_fits here (view_static x))
-    → IsNameFault f (statics_fit start (view_statics xs))
+    → IsNameFault f (static_told f here (view_static x))
+    → IsNameFault f (statics_told f start (view_statics xs))
 fault_of_static start here f role xs i x below is at h =
-    let g : IsNameFault f (static_fits start (view_static x)) =
-    subst (λ k. IsNameFault f (static_fits k (view_static x))) at h in
-    fault_within f _ _ g (one_fails (static_fits start) view_static xs i x below is)
+    let g : IsNameFault f (static_told f start (view_static x)) =
+    subst (λ k. IsNameFault f (static_told f k (view_static x))) at h in
+    fault_within f _ _ g (one_fails (static_told f start) view_static xs i x below is)
 
 -- ## Static expressions that stand one after another
 
@@ -696,7 +713,13 @@ module _ (before after : Progress) (f : Name) (args : List Static) (place : Stat
 
   abbrev made : Progress → Site
   made m = site_of (callees m) (texts m).statics
-      (record { callee = callee; first_argument = place.0; arguments = place.1; count = count })
+      (record {
+        callee = callee;
+        offset = 0;
+        first_argument = place.0;
+        arguments = place.1;
+        count = count;
+      })
 
   made_is : StaticsStand after_arguments args place → made after_arguments ≡ wanted
   made_is h =

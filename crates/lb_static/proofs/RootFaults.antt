@@ -22,26 +22,31 @@ pub seen_there : {A B E : Type 0} (f : A → B) (o : Option A) (a : A) (e : E) (
     → option_map f o ≡ seen → Ok a ≡ ok_or o e → seen ≡ Some (f a)
 seen_there f o a e seen is found = sym is ∙ ap (option_map f) (there o a e found)
 
+-- a thing that is known to be there, seen as another
+pub seen_some : {A B : Type 0} (f : A → B) (o : Option A) (a : A) (seen : Option B)
+    → option_map f o ≡ seen → o ≡ Some a → seen ≡ Some (f a)
+seen_some f o a seen is found = sym is ∙ ap (option_map f) found
+
 -- a refusal of the interface
 pub root_fault : {Reason : Type 0} (P : Program) (e : StaticError) → IsRootFault Reason e
     → (Reason → holds (is_root P) (instance_at P Root) ≡ false) → IsRootAnswer P (Err e)
 root_fault P error.Memory h f = tt
-root_fault P error.Root h f = f h
+root_fault P (error.Root x) h f = f h
 root_fault P (error.Name x) h f = h
 root_fault P (error.Recursion x) h f = h
 root_fault P (error.Value x) h f = h
 root_fault P (error.Range x) h f = h
-root_fault P error.Instances h f = h
+root_fault P (error.Instances x) h f = h
 
 -- the same fault, for a reason that follows
 pub fault_for : {A B : Type 0} (e : StaticError) → IsRootFault A e → (A → B) → IsRootFault B e
 fault_for error.Memory h f = tt
-fault_for error.Root h f = f h
+fault_for (error.Root x) h f = f h
 fault_for (error.Name x) h f = h
 fault_for (error.Recursion x) h f = h
 fault_for (error.Value x) h f = h
 fault_for (error.Range x) h f = h
-fault_for error.Instances h f = h
+fault_for (error.Instances x) h f = h
 
 -- what is answered by what is seen of the node under test
 pub root_answer : (P : Program) (passes : Bool) (s : Elements) (r : Result Elements StaticError)

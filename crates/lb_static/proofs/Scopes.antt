@@ -3,14 +3,15 @@ use Rattle.std.proofs.Common.{◌≡◌, ℕ, suc, ◌+◌, Bool, true, false, c
 use Rattle.std.proofs.Common.{length, map, Some, None, refl, ap, sym, ◌∙◌, subst, arith}
 use Rattle.std.specs.Prelude.{◌&&◌, ◌||◌, not, nat_lt, position, slice_get, if◌then◌else◌}
 use Rattle.std.proofs.lemmas.Bool.Decides.{nat_tests}
-use Rattle.std.proofs.lemmas.List.{length-map, map-append, append_assoc}
+use Rattle.std.proofs.lemmas.List.{length-map, map-append}
 use Rattle.std.specs.List.{list_any, prefix_len, position_or_len}
 use Rattle.std.specs.Str.{bytes_eq}
 use Rattle.std.proofs.lemmas.Slice.Eq.{bytes_eq-Decides}
 use Rattle.std.proofs.Math.Bool.{or_assoc, or-false}
-use Rattle.std.proofs.lemmas.Bool.{and_right}
+use Rattle.std.proofs.lemmas.Bool.{and_right, or_right}
 use Rattle.lb_syntax.specs.Tree.{Name}
 use Rattle.lb_static.specs.Parts.{among}
+use Rattle.lb_static.specs.CountedNames.{are_once, counted}
 use Rattle.lb_static.specs.Names.{are_distinct}
 use Rattle.lb_static.specs.Scopes.{declared_after}
 
@@ -93,31 +94,64 @@ pub distinct_declared : (xs : List Name) (x : Name) → are_distinct xs ≡ true
     → are_distinct (declared_after xs x) ≡ true
 distinct_declared xs x d = distinct_either xs x (among x xs) refl d
 
-distinct_false : (xs ys : List Name) → are_distinct xs ≡ false → are_distinct (xs ++ ys) ≡ false
-distinct_false [] ys e = absurd cc
-distinct_false (x ∷ xs) ys e =
-    ap (λ b. not b && are_distinct (xs ++ ys)) (among_append x xs ys)
-    ∙ by (among x xs) (among x ys) (are_distinct xs) (are_distinct (xs ++ ys)) e
-    (distinct_false xs ys)
+-- ## A name that stands twice, and counts
+
+once_longer : (counts : Name → Bool) (xs ys : List Name) → are_once counts xs ≡ false
+    → are_once counts (xs ++ ys) ≡ false
+once_longer counts [] ys e = absurd cc
+once_longer counts (x ∷ xs) ys e =
+    ap (λ b. (not (counts x) || not b) && are_once counts (xs ++ ys)) (among_append x xs ys)
+    ∙ by (counts x) (among x xs) (among x ys) (are_once counts xs) (are_once counts (xs ++ ys)) e
+    (once_longer counts xs ys)
   where
-    by : (a b c d : Bool) → (not a && c) ≡ false → (c ≡ false → d ≡ false)
-        → (not (a || b) && d) ≡ false
-    by true b c d e next = refl
-    by false true c d e next = refl
-    by false false c d e next = next e
+    by : (a b d c more : Bool) → ((not a || not b) && c) ≡ false → (c ≡ false → more ≡ false)
+        → ((not a || not (b || d)) && more) ≡ false
+    by false b d c more e next = next e
+    by true true d c more e next = refl
+    by true false true c more e next = refl
+    by true false false c more e next = next e
 
--- where some names are doubled, so are those of a longer list
-pub doubled_before : (xs ys all : List Name) → xs ++ ys ≡ all → are_distinct xs ≡ false
-    → are_distinct all ≡ false
-doubled_before xs ys all e d = subst (λ l. are_distinct l ≡ false) e (distinct_false xs ys d)
+-- where a name that counts stands twice among some, it does so in a longer list
+pub once_before : (counts : Name → Bool) (xs ys all : List Name) → xs ++ ys ≡ all
+    → are_once counts xs ≡ false → are_once counts all ≡ false
+once_before counts xs ys all e d =
+    subst (λ l. are_once counts l ≡ false) e (once_longer counts xs ys d)
 
--- a name that stands before is doubled
-pub doubled_here : (xs ys all : List Name) (x : Name) → xs ++ x ∷ ys ≡ all
-    → not (among x xs) ≡ false → are_distinct all ≡ false
-doubled_here xs ys all x e d =
-    let first : are_distinct (xs ++ x ∷ []) ≡ false = distinct_more xs x
-    ∙ ap (λ b. are_distinct xs && b) d ∙ and_right (are_distinct xs) false refl in
-    doubled_before (xs ++ x ∷ []) ys all (append_assoc xs (x ∷ []) ys ∙ e) first
+stands_twice : (counts : Name → Bool) (x : Name) (xs ys : List Name) → counts x ≡ true
+    → among x xs ≡ true → are_once counts (xs ++ x ∷ ys) ≡ false
+stands_twice counts x [] ys c a = absurd cc
+stands_twice counts x (z ∷ xs) ys c a =
+    by (bytes_eq x z) refl a (stands_twice counts x xs ys c)
+  where
+    rest : Bool
+    rest = are_once counts (xs ++ x ∷ ys)
+
+    by : (b : Bool) → bytes_eq x z ≡ b → (b || among x xs) ≡ true
+        → (among x xs ≡ true → rest ≡ false)
+        → are_once counts (z ∷ (xs ++ x ∷ ys)) ≡ false
+    by true e a later =
+        let same : x ≡ z = (bytes_eq-Decides x z).0 e in
+        let here : counts z ≡ true = subst (λ y. counts y ≡ true) same c in
+        let again : among z (xs ++ x ∷ ys) ≡ true =
+        among_append z xs (x ∷ ys)
+        ∙ ap (λ b. among z xs || (b || among z ys)) (bytes_eq-symmetric z x ∙ e)
+        ∙ or_right (among z xs) true refl in
+        ap (λ b. (not b || not (among z (xs ++ x ∷ ys))) && rest) here
+        ∙ ap (λ b. not b && rest) again
+    by false e a later =
+        and_right (counted counts (λ y. not (among y (xs ++ x ∷ ys))) z) rest (later a)
+
+-- a name that counts and that stands before stands twice
+pub once_here : (counts : Name → Bool) (xs ys all : List Name) (x : Name) → xs ++ x ∷ ys ≡ all
+    → counted counts (λ y. not (among y xs)) x ≡ false → are_once counts all ≡ false
+once_here counts xs ys all x e d =
+    let both = two_of (counts x) (among x xs) d in
+    subst (λ l. are_once counts l ≡ false) e (stands_twice counts x xs ys both.0 both.1)
+  where
+    two_of : (a b : Bool) → (not a || not b) ≡ false → (a ≡ true) × (b ≡ true)
+    two_of true true e = (refl, refl)
+    two_of true false e = absurd cc
+    two_of false b e = absurd cc
 
 -- the name at the place that is found
 pub name_at_place : (x : Name) (ns : List Name) (i : ℕ) → position (bytes_eq x) ns ≡ Some i

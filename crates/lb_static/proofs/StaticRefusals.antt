@@ -7,7 +7,10 @@ use Rattle.lb_static.specs.declared.error.StaticError.{StaticError}
 use Rattle.lb_static.specs.declared.error.StaticError.TheVariants.{Memory, Name as Name_fault}
 use Rattle.lb_static.specs.declared.error.StaticError.TheVariants.{Recursion, Root as Root_fault}
 use Rattle.lb_static.specs.declared.error.StaticError.TheVariants.{Value, Range, Instances}
-use Rattle.lb_static.specs.CallGraphs.{IsCallsAnswer}
+use Rattle.lb_static.specs.CallGraphs.{IsCallsAnswer, IsCycleTold}
+use Rattle.lb_static.specs.CountedNames.{keeps_names_where}
+use Rattle.lb_static.specs.NameFaults.{IsNameFault, is_told}
+use Rattle.lb_static.proofs.CountedNames.{rule_broken}
 use Rattle.lb_static.specs.Correct.{IsStaticFault}
 use Rattle.lb_static.specs.TableAnswers.{IsTableAnswer}
 use Rattle.lb_static.specs.InstanceTable.{HasStarts, IsTable}
@@ -27,6 +30,10 @@ use Rattle.lb_static.specs.Instantiated.{IsRefusal, IsInstantiationAnswer}
 abbrev first_of_five : (a b c d : Bool) (o : Option Refusal) → Option Refusal
 first_of_five a b c d o =
     or_else (unless a E4) (or_else (unless b E7) (or_else (unless c E8) (or_else o (unless d E8))))
+
+at_names : (a b c d : Bool) (o : Option Refusal) → a ≡ false → first_of_five a b c d o ≡ Some E4
+at_names false b c d o e = refl
+at_names true b c d o e = absurd cc
 
 at_calls : (a b c d : Bool) (o : Option Refusal) → a ≡ true → b ≡ false
     → first_of_five a b c d o ≡ Some E7
@@ -74,17 +81,34 @@ has_data_type P = holds (is_root P) (instance_at P Root)
 
 -- ## Faults of the parts
 
-pub calls_fault : (P : Program) (e : StaticError) → keeps_names P ≡ true → IsCallsAnswer P (Err e)
+pub name_fault : (P : Program) (e : StaticError) → IsNameFault e (keeps_names_where (is_told e) P)
     → IsStaticFault P e
-calls_fault P Memory names h = h
-calls_fault P (Name_fault x) names h = absurd h
-calls_fault P (Recursion x) names h =
-    at_calls (keeps_names P) (is_well_founded P) (has_no_parameters P) (has_data_type P)
-    (instantiation_refusal P 0 (instances P)) names h
-calls_fault P Root_fault names h = absurd h
-calls_fault P (Value x) names h = absurd h
-calls_fault P (Range x) names h = absurd h
-calls_fault P Instances names h = absurd h
+name_fault P Memory h = tt
+name_fault P (Name_fault x) h = (
+  at_names (keeps_names P) (is_well_founded P) (has_no_parameters P) (has_data_type P)
+      (instantiation_refusal P 0 (instances P))
+      (rule_broken (is_told (Name_fault x)) P h),
+  h,
+)
+name_fault P (Recursion x) h = absurd h
+name_fault P (Root_fault x) h = absurd h
+name_fault P (Value x) h = absurd h
+name_fault P (Range x) h = absurd h
+name_fault P (Instances x) h = absurd h
+
+pub calls_fault : (P : Program) (e : StaticError) → keeps_names P ≡ true → IsCallsAnswer P (Err e)
+    → IsCycleTold P (Err e) → IsStaticFault P e
+calls_fault P Memory names h t = h
+calls_fault P (Name_fault x) names h t = absurd h
+calls_fault P (Recursion x) names h t = (
+  at_calls (keeps_names P) (is_well_founded P) (has_no_parameters P) (has_data_type P)
+      (instantiation_refusal P 0 (instances P)) names h,
+  t,
+)
+calls_fault P (Root_fault x) names h t = absurd h
+calls_fault P (Value x) names h t = absurd h
+calls_fault P (Range x) names h t = absurd h
+calls_fault P (Instances x) names h t = absurd h
 
 pub parameters_fault : (P : Program) → keeps_names P ≡ true → is_well_founded P ≡ true
     → has_no_parameters P ≡ false → static_refusal P ≡ Some E8
@@ -109,10 +133,10 @@ instantiation_fault P e names calls parameters h = by e h
     by Memory h = tt
     by (Name_fault x) h = absurd h
     by (Recursion x) h = absurd h
-    by Root_fault h = absurd h
+    by (Root_fault x) h = absurd h
     by (Value x) h = first E5 h
     by (Range x) h = first E6 h
-    by Instances h = first E12 h
+    by (Instances x) h = first E12 h
 
 pub root_fault : (P : Program) (e : StaticError) → keeps_names P ≡ true → is_well_founded P ≡ true
     → has_no_parameters P ≡ true
@@ -120,12 +144,12 @@ pub root_fault : (P : Program) (e : StaticError) → keeps_names P ≡ true → 
 root_fault P Memory names calls parameters instantiated h = h
 root_fault P (Name_fault x) names calls parameters instantiated h = absurd h
 root_fault P (Recursion x) names calls parameters instantiated h = absurd h
-root_fault P Root_fault names calls parameters instantiated h =
+root_fault P (Root_fault x) names calls parameters instantiated h =
     at_root (keeps_names P) (is_well_founded P) (has_no_parameters P) (has_data_type P)
     (instantiation_refusal P 0 (instances P)) names calls parameters instantiated h
 root_fault P (Value x) names calls parameters instantiated h = absurd h
 root_fault P (Range x) names calls parameters instantiated h = absurd h
-root_fault P Instances names calls parameters instantiated h = absurd h
+root_fault P (Instances x) names calls parameters instantiated h = absurd h
 
 pub no_fault : (P : Program) → keeps_names P ≡ true → is_well_founded P ≡ true
     → has_no_parameters P ≡ true

@@ -2,14 +2,17 @@
 -- This file says what data of the program mean; no definition of the language stands on it.
 use Rattle.std.specs.Prelude.{◌≡◌, ◌<◌, ℕ, true, false, Option, Some, None, Result, Ok, Err, List}
 use Rattle.std.specs.Prelude.{[], ◌∷◌, map, length, slice_get, nat_lt, if◌then◌else◌, string_bytes}
+use Rattle.std.specs.Prelude.{option_map, Vec}
+use Rattle.std.specs.declared.alloc.Global.{Global}
 use Rattle.std.specs.List.{filter_map}
 use Rattle.lb_syntax.specs.Lists.{◌>>=◌, either_or, In}
 use Rattle.lb_syntax.specs.Tree.{Name, Node}
 use Rattle.lb_static.specs.Instances.{Program}
-use Rattle.lb_static.specs.Names.{is_recursive, is_well_founded, reached_nodes}
-use Rattle.lb_static.specs.ReachedNodes.{id_at}
+use Rattle.lb_static.specs.Names.{calls, is_well_founded, reached_nodes}
+use Rattle.lb_static.specs.ReachedNodes.{id_at, trees}
 use Rattle.lb_static.specs.declared.error.StaticError.{StaticError}
 use Rattle.lb_static.specs.declared.error.StaticError.TheVariants as error
+use Rattle.lb_static.specs.declared.causes.CallCycle.{CallCycle}
 use Rattle.lb_static.specs.declared.reach.Reached.{Reached}
 use Rattle.lb_static.specs.declared.resolved.CallSite.{CallSite}
 
@@ -42,10 +45,15 @@ abbrev pub IsOrdered : List (List ℕ) → Type 0
 IsOrdered graph =
     (order : List ℕ) × IsOrder graph order × ((i : ℕ) → i < length graph → In i order)
 
--- a node that reaches itself, or none if there is none
-abbrev pub IsCycleAnswer : List (List ℕ) → Option ℕ → Type 0
+-- nodes each of which calls the next one, and the last of which calls the first
+abbrev pub IsCycle : List (List ℕ) → List ℕ → Type 0
+IsCycle graph [] = ⊥
+IsCycle graph (i ∷ ks) = (i < length graph) × Leads graph i ks i
+
+-- a cycle of calls, or none if there is none
+abbrev pub IsCycleAnswer : List (List ℕ) → Option (Vec ℕ Global) → Type 0
 IsCycleAnswer graph None = IsOrdered graph
-IsCycleAnswer graph (Some i) = (i < length graph) × IsOnCycle graph i
+IsCycleAnswer graph (Some cycle) = IsCycle graph cycle.items
 
 -- ## The graph of the nodes that are reached
 
@@ -68,29 +76,44 @@ IsCallsAnswer P (Ok done) = is_well_founded P ≡ true
 IsCallsAnswer P (Err error.Memory) = Unit {0}
 IsCallsAnswer P (Err (error.Name x)) = ⊥
 IsCallsAnswer P (Err (error.Recursion x)) = is_well_founded P ≡ false
-IsCallsAnswer P (Err error.Root) = ⊥
+IsCallsAnswer P (Err (error.Root x)) = ⊥
 IsCallsAnswer P (Err (error.Value x)) = ⊥
 IsCallsAnswer P (Err (error.Range x)) = ⊥
-IsCallsAnswer P (Err error.Instances) = ⊥
+IsCallsAnswer P (Err (error.Instances x)) = ⊥
 
--- that the node of this name reaches itself, unless memory ran out
-abbrev pub TellsRecursion : Name → StaticError → Type 0
-TellsRecursion x error.Memory = Unit {0}
-TellsRecursion x (error.Name y) = ⊥
-TellsRecursion x (error.Recursion y) = string_bytes y ≡ x
-TellsRecursion x error.Root = ⊥
-TellsRecursion x (error.Value y) = ⊥
-TellsRecursion x (error.Range y) = ⊥
-TellsRecursion x error.Instances = ⊥
+-- ## The cycle that is told
 
--- a refusal for recursion tells the name of a node that is reached and that reaches itself
-abbrev pub IsCycleNamed : Program → Result (Unit {0}) StaticError → Type 0
-IsCycleNamed P (Ok done) = Unit {0}
-IsCycleNamed P (Err error.Memory) = Unit {0}
-IsCycleNamed P (Err (error.Name x)) = Unit {0}
-IsCycleNamed P (Err (error.Recursion x)) =
-    (n : Node) × In n (reached_nodes P) × (is_recursive P n ≡ true) × (string_bytes x ≡ n.name)
-IsCycleNamed P (Err error.Root) = Unit {0}
-IsCycleNamed P (Err (error.Value x)) = Unit {0}
-IsCycleNamed P (Err (error.Range x)) = Unit {0}
-IsCycleNamed P (Err error.Instances) = Unit {0}
+-- the names on a cycle of calls
+abbrev pub names_on : CallCycle → List Name
+names_on c = map (λ call. string_bytes call.node) c.calls.items
+
+-- the names of the nodes at some places
+abbrev pub name_in : Reached → ℕ → Name
+name_in r i = either_or (option_map (λ n. n.name) (slice_get (trees r) i)) []
+
+abbrev pub names_at : Reached → List ℕ → List Name
+names_at r places = map (name_in r) places
+
+-- a node calls the first of some, each of them the next, and the last another node
+abbrev pub CallsAlong : Node → List Node → Node → Type 0
+CallsAlong n [] m = calls n m ≡ true
+CallsAlong n (k ∷ ks) m = (calls n k ≡ true) × CallsAlong k ks m
+
+-- nodes of these names, which are reached: each calls the next one, and the last calls the first
+pub record IsCallCycle (P : Program) (names : List Name) : Type 0 where
+  pub first : Node
+  pub rest : List Node
+  pub named : map (λ n. n.name) (first ∷ rest) ≡ names
+  pub reached : (n : Node) → In n (first ∷ rest) → In n (reached_nodes P)
+  pub calls_along : CallsAlong first rest first
+
+-- a refusal for recursion tells a cycle of calls
+abbrev pub IsCycleTold : Program → Result (Unit {0}) StaticError → Type 0
+IsCycleTold P (Ok done) = Unit {0}
+IsCycleTold P (Err error.Memory) = Unit {0}
+IsCycleTold P (Err (error.Name x)) = Unit {0}
+IsCycleTold P (Err (error.Recursion x)) = IsCallCycle P (names_on x.value)
+IsCycleTold P (Err (error.Root x)) = Unit {0}
+IsCycleTold P (Err (error.Value x)) = Unit {0}
+IsCycleTold P (Err (error.Range x)) = Unit {0}
+IsCycleTold P (Err (error.Instances x)) = Unit {0}

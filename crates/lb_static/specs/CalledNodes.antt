@@ -8,7 +8,8 @@ use Rattle.lb_syntax.specs.Tree.{Name, Node, Source}
 use Rattle.lb_static.specs.Instances.{Program, node_named}
 use Rattle.lb_static.specs.Names.{calls, is_named, reached_nodes, start_names, starts}
 use Rattle.lb_static.specs.Parts.{among}
-use Rattle.lb_static.specs.NameFaults.{alone, named_in, IsNameFault}
+use Rattle.lb_static.specs.CountedNames.{NameUse}
+use Rattle.lb_static.specs.NameFaults.{alone, named_in, is_told, IsNameFault}
 use Rattle.lb_static.specs.ReachedNodes.{IsReached}
 use Rattle.lb_static.specs.ResolvedNodes.{IsResolved, node_of}
 use Rattle.lb_static.specs.WorkLists.{AreReachable, Grows, is_visited, visited_after}
@@ -70,11 +71,13 @@ pub record AreStarts (P : Program) (order : List ℕ) (root : NodeId)
 abbrev pub are_named : Program → Bool
 are_named P = list_all is_some (starts P) && list_all (is_named P) (reached_nodes P)
 
--- The nodes that a program reaches, with their names resolved, where its names pass a test; or the
--- name that does not.
-abbrev pub Reaches : (Program → Bool) → Program → Result Reached StaticError → Type 0
-Reaches test P (Ok r) = (test P ≡ true) × IsReached P r
-Reaches test P (Err e) = IsNameFault e (test P)
+-- The nodes that a program reaches, with their names resolved, where its names pass a test; or a
+-- name that does not, where it alone counts.
+abbrev pub Reaches :
+    (Program → Bool) → ((NameUse → Name → Bool) → Program → Bool) → Program
+    → Result Reached StaticError → Type 0
+Reaches test test_where P (Ok r) = (test P ≡ true) × IsReached P r
+Reaches test test_where P (Err e) = IsNameFault e (test_where (is_told e) P)
 
 -- for each place the number of the node that came up
 abbrev pub ids_of : List (Option ℕ) → List (Option NodeId)

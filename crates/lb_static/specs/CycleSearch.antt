@@ -1,10 +1,11 @@
 -- What the search for a cycle knows while it runs.
 -- This file says what data of the program mean; no definition of the language stands on it.
 use Rattle.std.specs.Prelude.{◌≡◌, ◌<◌, ◌⊎◌, ◌+◌, ℕ, Option, Some, None, List, [], ◌∷◌, map, length}
-use Rattle.std.specs.Prelude.{slice_get}
+use Rattle.std.specs.Prelude.{slice_get, nat_eq, if◌then◌else◌, Vec}
+use Rattle.std.specs.declared.alloc.Global.{Global}
 use Rattle.std.specs.List.{sum_by}
 use Rattle.lb_syntax.specs.Lists.{In}
-use Rattle.lb_static.specs.CallGraphs.{IsOnCycle, IsOrder, called}
+use Rattle.lb_static.specs.CallGraphs.{IsCycle, IsOrder, called}
 use Rattle.lb_static.specs.declared.cycle.Visit.{Visit}
 use Rattle.lb_static.specs.declared.cycle.Progress.{Progress}
 use Rattle.lb_static.specs.declared.cycle.Progress.TheVariants.{Unseen, Open, Done}
@@ -73,11 +74,15 @@ unseen (Done ∷ progress) (calls ∷ graph) = unseen progress graph
 abbrev pub on_path : List Visit → ℕ
 on_path path = sum_by (λ f. 1 + length f.left.now) path
 
--- what a search from a node answers: a node that reaches itself; or none, and the node is done,
--- with
--- all that were done before
+-- some places from the first that is this one on
+abbrev pub from_first : ℕ → List ℕ → List ℕ
+from_first i [] = []
+from_first i (k ∷ ks) = if nat_eq k i then k ∷ ks else from_first i ks
+
+-- what a search from a node answers: a cycle of calls; or none, and the node is done, with all that
+-- were done before
 abbrev pub IsSearchAnswer :
-    List (List ℕ) → List Progress → ℕ → List Progress → Option ℕ → Type 0
-IsSearchAnswer graph before start after (Some i) = (i < length graph) × IsOnCycle graph i
+    List (List ℕ) → List Progress → ℕ → List Progress → Option (Vec ℕ Global) → Type 0
+IsSearchAnswer graph before start after (Some cycle) = IsCycle graph cycle.items
 IsSearchAnswer graph before start after None =
     IsBetween graph after × Keeps before after × IsAt after start Done

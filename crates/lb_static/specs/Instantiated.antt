@@ -96,7 +96,7 @@ abbrev pub IsRefusal : Option Refusal → StaticError → Type 0
 IsRefusal o error.Memory = Unit {0}
 IsRefusal o (error.Value x) = o ≡ Some E5
 IsRefusal o (error.Range x) = o ≡ Some E6
-IsRefusal o error.Instances = o ≡ Some E12
+IsRefusal o (error.Instances x) = o ≡ Some E12
 IsRefusal o _ = ⊥
 
 -- the values of the static expressions of an instance, or the rule that these break

@@ -23,7 +23,7 @@ use Rattle.lb_static.specs.declared.table.Table.{Table}
 -- memory ran out, or the interface of the node under test or the observer is wrong, for this reason
 abbrev pub IsRootFault : Type 0 → StaticError → Type 0
 IsRootFault Reason error.Memory = Unit {0}
-IsRootFault Reason error.Root = Reason
+IsRootFault Reason (error.Root x) = Reason
 IsRootFault Reason _ = ⊥
 
 -- a value that stands for what there is, or a fault where there is none

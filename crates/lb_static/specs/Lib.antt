@@ -11,6 +11,7 @@ pub mod WorkedTrees
 pub mod Scopes
 pub mod SourceNames
 pub mod Correct
+pub mod CountedNames
 pub mod TableAnswers
 pub mod StaticRange
 pub mod ConstantValues

@@ -1,17 +1,20 @@
 -- The constants that come up in the walk over what reached nodes name.
 -- This file says what data of the program mean; no definition of the language stands on it.
-use Rattle.std.specs.Prelude.{◌≡◌, ℕ, Bool, true, nat_lt, Option, Some, is_some, List, [], ◌∷◌}
+use Rattle.std.specs.Prelude.{◌≡◌, ℕ, Bool, true, nat_lt, Option, Some, None, is_some, List, []}
+use Rattle.std.specs.Prelude.{◌∷◌}
 use Rattle.std.specs.Prelude.{length, map, flat_map, position, slice_get, if◌then◌else◌}
 use Rattle.std.specs.List.{list_all}
 use Rattle.std.specs.Str.{bytes_eq}
 use Rattle.lb_syntax.specs.Lists.{◌>>=◌, listed, where_true}
 use Rattle.lb_syntax.specs.Tree.{Name, Constant, Source}
-use Rattle.lb_static.specs.NameFaults.{alone}
+use Rattle.lb_static.specs.NameFaults.{alone, is_told}
+use Rattle.lb_static.specs.CountedNames.{constants_where}
 use Rattle.lb_static.specs.Names.{constants_within, is_constant, named_constants}
 use Rattle.lb_static.specs.Parts.{among, static_names}
 use Rattle.lb_static.specs.ResolvedNodes.{node_of}
 use Rattle.lb_static.specs.ResolvedTerms.{static_of}
 use Rattle.lb_static.specs.WorkLists.{is_visited}
+use Rattle.lb_static.specs.declared.error.StaticError.{StaticError}
 use Rattle.lb_static.specs.declared.globals.Globals.{Globals}
 use Rattle.lb_static.specs.declared.resolved.ResolvedNode.{ResolvedNode}
 use Rattle.lb_static.specs.declared.resolved.StaticPart.{StaticPart}
@@ -41,6 +44,10 @@ node_constants g r = flat_map (part_constants g (node_of r).parameters) r.static
 abbrev pub is_judged : Globals → List Name → Bool
 is_judged g xs = list_all (λ x. is_some (constant_place g.names g.constants x)) xs
 
+-- a name among some that is not that of a constant
+abbrev pub IsUnknown : Globals → List Name → Name → Type 0
+IsUnknown g xs x = (among x xs ≡ true) × (constant_place g.names g.constants x ≡ None)
+
 -- These places are those of the constants that have one of some names.
 pub record AreNamed (s : Source) (xs : List Name) (order : List ℕ) : Type 0 where
   pub within : list_all (λ place. nat_lt place (length s.constants)) order ≡ true
@@ -54,7 +61,15 @@ keeps_constants s xs =
     list_all (λ c. list_all (is_constant P) (static_names c.value))
     (constants_within P xs (length s.constants))
 
+-- the same, where the name that an error holds alone counts
+abbrev pub told_constants : StaticError → Source → List Name → Bool
+told_constants e s xs = constants_where (is_told e) (alone s) xs
+
 -- the same of the constants that some nodes name
 abbrev pub keeps_constants_of : Source → List ResolvedNode → Bool
 keeps_constants_of s nodes =
     keeps_constants s (flat_map (named_constants (alone s)) (map node_of nodes))
+
+abbrev pub told_constants_of : StaticError → Source → List ResolvedNode → Bool
+told_constants_of e s nodes =
+    told_constants e s (flat_map (named_constants (alone s)) (map node_of nodes))

@@ -4,8 +4,8 @@ use Rattle.std.specs.Prelude.{◌≡◌, List, Result, Ok, Err, Box, Vec}
 use Rattle.std.specs.declared.alloc.Global.{Global}
 use Rattle.lb_syntax.specs.Tree.{Expr}
 use Rattle.lb_static.specs.NameFaults.{IsNameFault}
-use Rattle.lb_static.specs.NodeProgress.{Progress, ResolvesTerm, ResolvesTerms, expr_passes}
-use Rattle.lb_static.specs.NodeProgress.{exprs_pass}
+use Rattle.lb_static.specs.NodeProgress.{Progress, ResolvesTerm, ResolvesTerms, expr_told}
+use Rattle.lb_static.specs.NodeProgress.{exprs_told}
 use Rattle.lb_static.specs.declared.error.StaticError.{StaticError}
 use Rattle.lb_static.specs.declared.resolved.Term as term
 use Rattle.lb_static.specs.declared.resolved.Term.{Term}
@@ -48,11 +48,11 @@ abbrev pub ResolvesNested :
     (before after : Progress) → Outer → Expr → Result Term StaticError → Type 0
 ResolvesNested before after outer e (Ok t) =
     (a : Box Term Global) × (t ≡ around outer a) × ResolvesTerm before after e (Ok a.value)
-ResolvesNested before after outer e (Err f) = IsNameFault f (expr_passes before e)
+ResolvesNested before after outer e (Err f) = IsNameFault f (expr_told f before e)
 
 -- the term whose operands stand for some expressions, or why there is none
 abbrev pub ResolvesRow :
     (before after : Progress) → Head → List Expr → Result Term StaticError → Type 0
 ResolvesRow before after head es (Ok t) =
     (all : Vec Term Global) × (t ≡ before_row head all) × ResolvesTerms before after es (Ok all)
-ResolvesRow before after head es (Err f) = IsNameFault f (exprs_pass before es)
+ResolvesRow before after head es (Err f) = IsNameFault f (exprs_told f before es)

@@ -10,8 +10,10 @@ use Rattle.lb_syntax.specs.Tree.{Group, Unary, Binary, If, Arrow, Fby, Pre, Curr
 use Rattle.lb_syntax.specs.Tree.{Replicate, Index, Slice, Join, Array, AtMostOne, Nor, Call}
 use Rattle.lb_syntax.specs.Tree.{Iterate, Exprs, Nil, Cons, Node, Statement, Equation, Assertion}
 use Rattle.lb_static.specs.Instances.{Program, Site, node_named}
+use Rattle.lb_static.specs.CountedNames.{NameUse, Statics, Values, Variables, counted, every}
+use Rattle.lb_static.specs.CountedNames.{is_callable_where}
 use Rattle.lb_static.specs.NameFaults.{alone}
-use Rattle.lb_static.specs.Names.{is_callable, is_known, is_static_name, is_variable}
+use Rattle.lb_static.specs.Names.{is_known, is_static_name, is_variable}
 use Rattle.lb_static.specs.Parts.{static_names, variable_names}
 use Rattle.lb_static.specs.ReachedNodes.{source_names}
 use Rattle.lb_static.specs.ResolvedTerms.{name_at}
@@ -44,54 +46,77 @@ IsCallee P f count place =
     × (nat_lt place.0 (length (source_names P)) ≡ true)
     × (takes P f count ≡ true)
 
--- ## Whether each name has a meaning
+-- ## Whether each name that counts has a meaning
 
-module _ (P : Program) (n : Node) where
-  abbrev pub static_passes : Static → Bool
-  static_passes s = list_all (is_static_name P n) (static_names s)
+module _ (counts : NameUse → Name → Bool) (P : Program) (n : Node) where
+  abbrev pub static_passes_where : Static → Bool
+  static_passes_where s = list_all (counted (counts Statics) (is_static_name P n)) (static_names s)
 
-  abbrev pub statics_pass : List Static → Bool
-  statics_pass = list_all static_passes
+  abbrev pub statics_pass_where : List Static → Bool
+  statics_pass_where = list_all static_passes_where
 
   -- a call, with the name of what it calls and its static arguments
-  abbrev pub call_passes : Site → Bool
-  call_passes s = is_callable P s && statics_pass s.arguments
+  abbrev pub call_passes_where : Site → Bool
+  call_passes_where s = is_callable_where counts P s && statics_pass_where s.arguments
 
   abbrev mutual
     -- each name of an expression
-    pub passes : Expr → Bool
-    passes (Literal m) = true
-    passes (Truth b) = true
-    passes (Variable x) = is_known P n x
-    passes (Group a) = passes a
-    passes (Unary op a) = passes a
-    passes (Binary op a b) = passes a && passes b
-    passes (If c a b) = passes c && (passes a && passes b)
-    passes (Arrow a b) = passes a && passes b
-    passes (Fby a b) = passes a && passes b
-    passes (Pre a) = passes a
-    passes (Current a) = passes a
-    passes (When a x sign) = is_variable P n x && passes a
-    passes (Replicate a s) = static_passes s && passes a
-    passes (Index a s) = static_passes s && passes a
-    passes (Slice a s t) = static_passes s && (static_passes t && passes a)
-    passes (Join a b) = passes a && passes b
-    passes (Array es) = all_pass es
-    passes (AtMostOne es) = all_pass es
-    passes (Nor es) = all_pass es
-    passes (Call f statics es) =
-        call_passes (record { callee = f; arguments = statics; count = None }) && all_pass es
-    passes (Iterate it (Node_named f statics) s es) =
-        static_passes s
-        && (call_passes (record { callee = f; arguments = statics; count = Some s })
-        && all_pass es)
-    passes (Iterate it (Symbol op) s es) = static_passes s && all_pass es
+    pub passes_where : Expr → Bool
+    passes_where (Literal m) = true
+    passes_where (Truth b) = true
+    passes_where (Variable x) = counted (counts Values) (is_known P n) x
+    passes_where (Group a) = passes_where a
+    passes_where (Unary op a) = passes_where a
+    passes_where (Binary op a b) = passes_where a && passes_where b
+    passes_where (If c a b) = passes_where c && (passes_where a && passes_where b)
+    passes_where (Arrow a b) = passes_where a && passes_where b
+    passes_where (Fby a b) = passes_where a && passes_where b
+    passes_where (Pre a) = passes_where a
+    passes_where (Current a) = passes_where a
+    passes_where (When a x sign) = counted (counts Variables) (is_variable P n) x && passes_where a
+    passes_where (Replicate a s) = static_passes_where s && passes_where a
+    passes_where (Index a s) = static_passes_where s && passes_where a
+    passes_where (Slice a s t) =
+        static_passes_where s && (static_passes_where t && passes_where a)
+    passes_where (Join a b) = passes_where a && passes_where b
+    passes_where (Array es) = all_pass_where es
+    passes_where (AtMostOne es) = all_pass_where es
+    passes_where (Nor es) = all_pass_where es
+    passes_where (Call f statics es) =
+        call_passes_where (record { callee = f; arguments = statics; count = None })
+        && all_pass_where es
+    passes_where (Iterate it (Node_named f statics) s es) =
+        static_passes_where s
+        && (call_passes_where (record { callee = f; arguments = statics; count = Some s })
+        && all_pass_where es)
+    passes_where (Iterate it (Symbol op) s es) = static_passes_where s && all_pass_where es
 
-    pub all_pass : Exprs → Bool
-    all_pass Nil = true
-    all_pass (Cons e es) = passes e && all_pass es
+    pub all_pass_where : Exprs → Bool
+    all_pass_where Nil = true
+    all_pass_where (Cons e es) = passes_where e && all_pass_where es
 
   -- each name of a statement; its left names are variables
-  abbrev pub statement_passes : Statement → Bool
-  statement_passes (Equation lefts e) = list_all (is_variable P n) lefts && passes e
-  statement_passes (Assertion e) = passes e
+  abbrev pub statement_passes_where : Statement → Bool
+  statement_passes_where (Equation lefts e) =
+      list_all (counted (counts Variables) (is_variable P n)) lefts && passes_where e
+  statement_passes_where (Assertion e) = passes_where e
+
+-- ## Whether each name has a meaning
+
+abbrev pub static_passes : Program → Node → Static → Bool
+static_passes = static_passes_where every
+
+abbrev pub statics_pass : Program → Node → List Static → Bool
+statics_pass = statics_pass_where every
+
+abbrev pub call_passes : Program → Node → Site → Bool
+call_passes = call_passes_where every
+
+abbrev pub passes : Program → Node → Expr → Bool
+passes = passes_where every
+
+abbrev pub all_pass : Program → Node → Exprs → Bool
+all_pass = all_pass_where every
+
+abbrev pub statement_passes : Program → Node → Statement → Bool
+statement_passes = statement_passes_where every

@@ -10,8 +10,11 @@ use Rattle.lb_syntax.specs.Grammar.{Group, declarations, declared}
 use Rattle.lb_syntax.specs.declared.tree.Node as written
 use Rattle.lb_static.specs.Names.{is_variable}
 use Rattle.lb_static.specs.Instances.{Program, Site, sites, statement_sites}
-use Rattle.lb_static.specs.NameFaults.{IsNameFault, alone}
-use Rattle.lb_static.specs.NodeNames.{node_in, passes, statement_passes, call_passes, static_passes}
+use Rattle.lb_static.specs.CountedNames.{NameUse, Variables, counted, every}
+use Rattle.lb_static.specs.NameFaults.{IsNameFault, alone, is_told}
+use Rattle.lb_static.specs.NodeNames.{node_in, passes, call_passes, static_passes}
+use Rattle.lb_static.specs.NodeNames.{passes_where, statement_passes_where, call_passes_where}
+use Rattle.lb_static.specs.NodeNames.{static_passes_where, statics_pass_where}
 use Rattle.lb_static.specs.NodeNames.{statics_pass}
 use Rattle.lb_static.specs.Parts.{among, right_side, variable_names}
 use Rattle.lb_static.specs.ResolvedNodes.{part_of}
@@ -134,16 +137,22 @@ StaticStands s x id =
 abbrev pub static_fits : Progress → Static → Bool
 static_fits s x = static_passes (program_of s) s.node x
 
+abbrev pub static_told : StaticError → Progress → Static → Bool
+static_told f s x = static_passes_where (is_told f) (program_of s) s.node x
+
 -- the number that stands for a static expression, or why there is none
 abbrev pub ResolvesStatic :
     (before after : Progress) → Role → Static → Result StaticId StaticError → Type 0
 ResolvesStatic before after role x (Ok id) =
     (after ≡ grown before ((role, x) ∷ []) []) × StaticStands after x id
     × (static_fits before x ≡ true)
-ResolvesStatic before after role x (Err f) = IsNameFault f (static_fits before x)
+ResolvesStatic before after role x (Err f) = IsNameFault f (static_told f before x)
 
 abbrev pub statics_fit : Progress → List Static → Bool
 statics_fit s xs = statics_pass (program_of s) s.node xs
+
+abbrev pub statics_told : StaticError → Progress → List Static → Bool
+statics_told f s xs = statics_pass_where (is_told f) (program_of s) s.node xs
 
 -- static expressions that stand one after another: the first of them, and how many there are
 abbrev pub StaticsStand : Progress → List Static → StaticId × ℕ → Type 0
@@ -156,7 +165,7 @@ abbrev pub ResolvesStatics :
 ResolvesStatics before after role xs (Ok place) =
     (after ≡ grown before (map (λ x. (role, x)) xs) []) × StaticsStand after xs place
     × (statics_fit before xs ≡ true)
-ResolvesStatics before after role xs (Err f) = IsNameFault f (statics_fit before xs)
+ResolvesStatics before after role xs (Err f) = IsNameFault f (statics_told f before xs)
 
 -- a number stands for a call
 abbrev pub CallStands : Progress → Site → CallId → Type 0
@@ -165,13 +174,16 @@ CallStands s site id = (site_at s.calls id ≡ site) × (is_call (counts_in (tex
 abbrev pub call_fits : Progress → Site → Bool
 call_fits s site = call_passes (program_of s) s.node site
 
+abbrev pub call_told : StaticError → Progress → Site → Bool
+call_told f s site = call_passes_where (is_told f) (program_of s) s.node site
+
 -- the number of a call, or why there is none
 abbrev pub ResolvesCall :
     (before after : Progress) → Site → Result CallId StaticError → Type 0
 ResolvesCall before after site (Ok id) =
     (after ≡ grown before (arguments_of site.arguments) (site ∷ [])) × CallStands after site id
     × (call_fits before site ≡ true)
-ResolvesCall before after site (Err f) = IsNameFault f (call_fits before site)
+ResolvesCall before after site (Err f) = IsNameFault f (call_told f before site)
 
 -- ## Expressions
 
@@ -188,12 +200,15 @@ Stands s e t =
 abbrev pub expr_passes : Progress → Expr → Bool
 expr_passes s e = passes (program_of s) s.node e
 
+abbrev pub expr_told : StaticError → Progress → Expr → Bool
+expr_told f s e = passes_where (is_told f) (program_of s) s.node e
+
 -- the term that stands for an expression, or why there is none
 abbrev pub ResolvesTerm :
     (before after : Progress) → Expr → Result Term StaticError → Type 0
 ResolvesTerm before after e (Ok t) =
     (after ≡ after_expr before e) × Stands after e t × (expr_passes before e ≡ true)
-ResolvesTerm before after e (Err f) = IsNameFault f (expr_passes before e)
+ResolvesTerm before after e (Err f) = IsNameFault f (expr_told f before e)
 
 -- the same in a box
 abbrev pub ResolvesBox :
@@ -211,6 +226,9 @@ StandAll s es ts =
 abbrev pub exprs_pass : Progress → List Expr → Bool
 exprs_pass s es = list_all (expr_passes s) es
 
+abbrev pub exprs_told : StaticError → Progress → List Expr → Bool
+exprs_told f s es = list_all (expr_told f s) es
+
 -- with what is found in some expressions
 abbrev pub after_exprs : Progress → List Expr → Progress
 after_exprs s es = grown s (flat_map (parts_of (is_variable_of s)) es) (flat_map sites es)
@@ -219,7 +237,7 @@ abbrev pub ResolvesTerms :
     (before after : Progress) → List Expr → Result (Vec Term Global) StaticError → Type 0
 ResolvesTerms before after es (Ok ts) =
     (after ≡ after_exprs before es) × StandAll after es ts.items × (exprs_pass before es ≡ true)
-ResolvesTerms before after es (Err f) = IsNameFault f (exprs_pass before es)
+ResolvesTerms before after es (Err f) = IsNameFault f (exprs_told f before es)
 
 -- ## Statements
 
@@ -229,8 +247,14 @@ StatementStands s x statement =
     × (is_statement_within (counts_in (texts s)) statement ≡ true)
     × (is_statement_unhidden (texts s) statement ≡ true)
 
+abbrev pub statement_fits_where : (NameUse → Name → Bool) → Progress → Statement → Bool
+statement_fits_where counts s x = statement_passes_where counts (program_of s) s.node x
+
 abbrev pub statement_fits : Progress → Statement → Bool
-statement_fits s x = statement_passes (program_of s) s.node x
+statement_fits = statement_fits_where every
+
+abbrev pub statement_told : StaticError → Progress → Statement → Bool
+statement_told f = statement_fits_where (is_told f)
 
 abbrev pub after_statements : Progress → List Statement → Progress
 after_statements s xs =
@@ -243,7 +267,7 @@ abbrev pub ResolvesStatement :
 ResolvesStatement before after x (Ok statement) =
     (after ≡ after_expr before (right_side x)) × StatementStands after x statement
     × (statement_fits before x ≡ true)
-ResolvesStatement before after x (Err f) = IsNameFault f (statement_fits before x)
+ResolvesStatement before after x (Err f) = IsNameFault f (statement_told f before x)
 
 -- statements that stand for some of a body
 abbrev pub StatementsStand : Progress → List Statement → List ResolvedStatement → Type 0
@@ -258,7 +282,7 @@ abbrev pub ResolvesStatements :
 ResolvesStatements before after xs (Ok statements) =
     (after ≡ after_statements before xs) × StatementsStand after xs statements.items
     × (list_all (statement_fits before) xs ≡ true)
-ResolvesStatements before after xs (Err f) = IsNameFault f (list_all (statement_fits before) xs)
+ResolvesStatements before after xs (Err f) = IsNameFault f (list_all (statement_told f before) xs)
 
 -- ## Declarations
 
@@ -266,13 +290,27 @@ ResolvesStatements before after xs (Err f) = IsNameFault f (list_all (statement_
 abbrev pub nameless : Declaration → Declaration
 nameless d = record { name = []; kind = d.kind; sizes = d.sizes; clock = d.clock }
 
-abbrev pub clock_fits : Progress → Option Sampling → Bool
-clock_fits s None = true
-clock_fits s (Some c) = is_variable (program_of s) s.node c.variable
+abbrev pub clock_fits_where : (NameUse → Name → Bool) → Progress → Option Sampling → Bool
+clock_fits_where counts s None = true
+clock_fits_where counts s (Some c) =
+    counted (counts Variables) (is_variable (program_of s) s.node) c.variable
 
--- each name in the sizes and the clock of a declaration has a meaning
+abbrev pub clock_fits : Progress → Option Sampling → Bool
+clock_fits = clock_fits_where every
+
+abbrev pub clock_told : StaticError → Progress → Option Sampling → Bool
+clock_told f = clock_fits_where (is_told f)
+
+-- each name that counts in the sizes and the clock of a declaration has a meaning
+abbrev pub declaration_fits_where : (NameUse → Name → Bool) → Progress → Declaration → Bool
+declaration_fits_where counts s d =
+    statics_pass_where counts (program_of s) s.node d.sizes && clock_fits_where counts s d.clock
+
 abbrev pub declaration_fits : Progress → Declaration → Bool
-declaration_fits s d = statics_fit s d.sizes && clock_fits s d.clock
+declaration_fits = declaration_fits_where every
+
+abbrev pub declaration_told : StaticError → Progress → Declaration → Bool
+declaration_told f = declaration_fits_where (is_told f)
 
 -- with these declarations, whose sizes are these static expressions
 abbrev pub declared_more : Progress → List Declaration → List Part → Progress
@@ -318,7 +356,14 @@ after_node s n =
     let locals = after_groups outputs (view_groups n.locals.items) in
     after_statements locals (map view_statement n.body.items)
 
--- each name in the declarations and in the statements of a node has a meaning
+-- each name that counts in the declarations and in the statements of a node has a meaning
+abbrev pub node_fits_where : (NameUse → Name → Bool) → Progress → Node → Bool
+node_fits_where counts s n =
+    list_all (declaration_fits_where counts s) (variables n)
+    && list_all (statement_fits_where counts s) n.body
+
 abbrev pub node_fits : Progress → Node → Bool
-node_fits s n =
-    list_all (declaration_fits s) (variables n) && list_all (statement_fits s) n.body
+node_fits = node_fits_where every
+
+abbrev pub node_told : StaticError → Progress → Node → Bool
+node_told f = node_fits_where (is_told f)

@@ -39,5 +39,5 @@ signature_in r t f =
 abbrev pub IsRootAnswer : Program → Result Elements StaticError → Type 0
 IsRootAnswer P (Ok s) = (holds (is_root P) (instance_at P Root) ≡ true) × (s ≡ signature P)
 IsRootAnswer P (Err error.Memory) = Unit {0}
-IsRootAnswer P (Err error.Root) = holds (is_root P) (instance_at P Root) ≡ false
+IsRootAnswer P (Err (error.Root x)) = holds (is_root P) (instance_at P Root) ≡ false
 IsRootAnswer P (Err _) = ⊥

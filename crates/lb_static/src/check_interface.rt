@@ -1,18 +1,21 @@
 //! The interface of the node under test and of the observer.
 
-ghost use Rattle.std.specs.Prelude.{◌≡◌, true, None};
+ghost use Rattle.std.specs.Prelude.{◌≡◌, true, false, None, OnOk, IfErr};
 ghost use Rattle.std.specs.List.{list_all};
 ghost use Rattle.lb_static.specs.Instances.{Program, instances};
 ghost use Rattle.lb_static.specs.InstanceTable.{HasStarts};
-ghost use Rattle.lb_static.specs.Interfaces.{Answers, view_interface, property_in};
+ghost use Rattle.lb_static.specs.Interfaces.{Answers, IsRootFault, view_interface, property_in};
+ghost use Rattle.lb_syntax.specs.Lists.{either_or};
 ghost use Rattle.lb_static.specs.Names.{keeps_names};
 ghost use Rattle.lb_static.specs.ReachedNodes.{IsReached};
 ghost use Rattle.lb_static.specs.RootAnswers.{IsRootAnswer, has_no_parameters_at, signature_in};
 ghost use Rattle.lb_static.specs.Instantiation.{has_no_parameters, instantiation_refusal};
 
+use crate::causes::Start;
 use crate::error::StaticError;
 use crate::interface::Interface;
 use crate::reach::{NodeId, Reached};
+use crate::root_faults::{input_fault, observer_fault, output_fault, start_fault};
 use crate::signature::Signature;
 use crate::table::Table;
 use crate::valued_node::valued_node;
@@ -39,24 +42,34 @@ pub fn have_no_parameters(reached: &Reached) -> bool
         }
 }
 
-/// Whether the property is one output: that of the observer, which has to fit the node under test,
-/// or else that of the node under test.
-fn has_property(
+/// Judges that the property is one output: that of the observer, which has to fit the node under
+/// test, or else that of the node under test.
+fn check_property(
     alloc: Global,
     reached: &Reached,
     table: &Table,
     root: &Interface,
-) -> Result<bool, StaticError>
-    ensures { Answers (λ b. b)
-        (property_in reached.now table.now (view_interface root.now)) result }
+) -> Result<(), StaticError>
+    ensures ok { OnOk result
+        (property_in reached.now table.now (view_interface root.now) ≡ Some true) }
+    ensures err { IfErr result (IsRootFault
+        (either_or (property_in reached.now table.now (view_interface root.now)) false ≡ false)) }
 {
     let observer = match table.observer {
         Some(id) => valued_node(reached, table, id),
         None => None,
     };
     match observer {
-        Some(found) => Ok(Interface::new(alloc, found.node, found.statics)?.observes(root)),
-        None => Ok(root.has_property()),
+        Some(found) => {
+            let observer = Interface::new(alloc, Start::Observer, found.node, found.statics)?;
+            if observer.observes(root) {
+                Ok(())
+            } else {
+                Err(StaticError::Root(observer_fault(alloc, &observer, root)?))
+            }
+        }
+        None if root.has_property() => Ok(()),
+        None => Err(StaticError::Root(output_fault(alloc, root)?)),
     }
 }
 
@@ -72,11 +85,9 @@ fn interface_signature(
         (signature_in reached.now table.now (view_interface root.now)) result }
 {
     if !root.is_plain || root.scalar_inputs() > Signature::MOST {
-        return Err(StaticError::Root);
+        return Err(StaticError::Root(input_fault(alloc, root)?));
     }
-    if !has_property(alloc, reached, table, root)? {
-        return Err(StaticError::Root);
-    }
+    check_property(alloc, reached, table, root)?;
     Ok(root.signature(alloc)?)
 }
 
@@ -96,7 +107,9 @@ pub fn check_interface(
         → HasStarts P reached.now table.now → instantiation_refusal P 0 (instances P) ≡ None
         → IsRootAnswer P result }
 {
-    let found = valued_node(reached, table, table.root).ok_or(StaticError::Root)?;
-    let root = Interface::new(alloc, found.node, found.statics)?;
+    let Some(found) = valued_node(reached, table, table.root) else {
+        return Err(StaticError::Root(start_fault(alloc, reached)?));
+    };
+    let root = Interface::new(alloc, Start::UnderTest, found.node, found.statics)?;
     interface_signature(alloc, reached, table, &root)
 }

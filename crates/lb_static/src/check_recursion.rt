@@ -1,16 +1,17 @@
 //! Recursion: no node that is reached may reach itself by its calls.
 
-ghost use Rattle.std.specs.Prelude.{◌≡◌, true, map, IfOk};
-ghost use Rattle.lb_static.specs.CallGraphs.{IsCallsAnswer, IsCycleNamed, TellsRecursion};
+ghost use Rattle.std.specs.Prelude.{◌≡◌, ◌<◌, true, map, length, string_bytes, All, IfOk};
+ghost use Rattle.lb_static.specs.CallGraphs.{IsCallsAnswer, IsCycleTold, names_at, names_on};
 ghost use Rattle.lb_static.specs.CallGraphs.{callee_of, callees_of, graph_of};
 ghost use Rattle.lb_static.specs.Instances.{Program};
 ghost use Rattle.lb_static.specs.Names.{keeps_names};
 ghost use Rattle.lb_static.specs.ReachedNodes.{IsReached};
 
+use crate::causes::{CallCycle, CycleCall};
 use crate::cycle::find_cycle;
 use crate::error::StaticError;
 use crate::reach::Reached;
-use crate::resolved::CallSite;
+use crate::resolved::{CallSite, ResolvedNode};
 use std::alloc::{AllocError, Global};
 
 /// The place of what a call calls among the nodes that are reached.
@@ -49,26 +50,67 @@ fn call_graph(alloc: Global, reached: &Reached) -> Result<Vec<Vec<usize>>, Alloc
     Ok(graph)
 }
 
-/// That a node reaches itself.
-fn recursion(alloc: Global, name: &str) -> StaticError
-    ensures { TellsRecursion name.now result }
-{
-    match String::from_str(alloc, name) {
-        Ok(text) => StaticError::Recursion(text),
-        Err(_) => StaticError::Memory,
+/// Where a node first calls another one.
+fn call_offset(reached: &Reached, node: &ResolvedNode, called: usize) -> u32 {
+    for call in &node.calls {
+        if callee(reached, call) == Some(called) {
+            return call.offset;
+        }
     }
+    node.tree.name.offset()
+}
+
+/// The calls on a cycle of nodes that are reached: each node calls the next one, and the last one
+/// the first.
+fn cycle_calls(
+    alloc: Global,
+    reached: &Reached,
+    cycle: &[usize],
+) -> Result<Vec<CycleCall>, AllocError>
+    requires { All (λ i. i < length reached.now.nodes.items) cycle.now }
+    ensures { IfOk result (λ calls. map (λ c. string_bytes c.node) calls.items
+        ≡ names_at reached.now cycle.now) }
+{
+    let mut calls = Vec::new(alloc);
+    for (turn, place) in cycle.iter().enumerate() {
+        let node = &reached.nodes[*place];
+        let next = if turn + 1 < cycle.len() {
+            cycle[turn + 1]
+        } else {
+            cycle[0]
+        };
+        calls.push(CycleCall {
+            node: String::from_str(alloc, node.tree.name.as_str())?,
+            offset: call_offset(reached, node, next),
+        })?;
+    }
+    Ok(calls)
+}
+
+/// A cycle of calls through nodes that are reached.
+fn call_cycle(
+    alloc: Global,
+    reached: &Reached,
+    cycle: &[usize],
+) -> Result<Box<CallCycle>, AllocError>
+    requires { All (λ i. i < length reached.now.nodes.items) cycle.now }
+    ensures { IfOk result (λ c.
+        names_on c.value ≡ names_at reached.now cycle.now) }
+{
+    let calls = cycle_calls(alloc, reached, cycle)?;
+    Ok(Box::new(alloc, CallCycle { calls })?)
 }
 
 /// Judges that no node that is reached reaches itself by its calls.
 pub fn check_recursion(alloc: Global, reached: &Reached) -> Result<(), StaticError>
     ensures answer { (P : Program) → keeps_names P ≡ true → IsReached P reached.now →
         IsCallsAnswer P result }
-    ensures named { (P : Program) → keeps_names P ≡ true → IsReached P reached.now →
-        IsCycleNamed P result }
+    ensures told { (P : Program) → keeps_names P ≡ true → IsReached P reached.now →
+        IsCycleTold P result }
 {
     let graph = call_graph(alloc, reached)?;
     match find_cycle(alloc, &graph)? {
         None => Ok(()),
-        Some(place) => Err(recursion(alloc, reached.nodes[place].tree.name.as_str())),
+        Some(cycle) => Err(StaticError::Recursion(call_cycle(alloc, reached, &cycle)?)),
     }
 }

@@ -8,8 +8,9 @@ ghost use Rattle.lb_syntax.specs.SourceView.{view_source};
 ghost use Rattle.lb_syntax.specs.Tree.{Name as TreeName};
 ghost use Rattle.lb_syntax.specs.View.{view_static};
 ghost use Rattle.lb_static.specs.SourceNames.{names_in_source};
-ghost use Rattle.lb_static.specs.NamedConstants.{AreNamed, is_judged, keeps_constants};
+ghost use Rattle.lb_static.specs.NamedConstants.{AreNamed, IsUnknown, is_judged, keeps_constants};
 ghost use Rattle.lb_static.specs.NamedConstants.{keeps_constants_of, node_constants};
+ghost use Rattle.lb_static.specs.NamedConstants.{told_constants, told_constants_of};
 ghost use Rattle.lb_static.specs.NamedConstants.{part_constants, place_named, places_named};
 ghost use Rattle.lb_static.specs.NameFaults.{named_in, IsNameFault};
 ghost use Rattle.lb_static.specs.Names.{are_distinct};
@@ -17,8 +18,10 @@ ghost use Rattle.lb_static.specs.Parts.{among, static_names};
 ghost use Rattle.lb_static.specs.ResolvedNodes.{IsResolved, node_of};
 ghost use Rattle.lb_static.specs.WorkLists.{visited_after_all};
 
+use crate::causes::Sought;
 use crate::error::StaticError;
-use crate::globals::{Globals, refused_name};
+use crate::globals::Globals;
+use crate::name_faults::unknown_name;
 use crate::resolved::{ResolvedNode, StaticPart, StaticText};
 use crate::scope::Scope;
 use crate::work_list::WorkList;
@@ -59,12 +62,12 @@ fn visit_names(
     ensures count { OnOk result (work_list.new.count ≡ work_list.old.count) }
 {
     match expression {
-        Static::Whole(_) => Ok(()),
+        Static::Whole(_, _) => Ok(()),
         Static::Named(x) => visit_name(x, globals, hidden, work_list),
-        Static::Grouped(inner) | Static::Negated(inner) => {
+        Static::Grouped(inner, _) | Static::Negated(inner, _) => {
             visit_names(inner, globals, hidden, work_list)
         }
-        Static::Combined(_, left, right) => {
+        Static::Combined(_, left, right, _) => {
             visit_names(left, globals, hidden, work_list)?;
             visit_names(right, globals, hidden, work_list)
         }
@@ -72,21 +75,21 @@ fn visit_names(
 }
 
 /// The first name in a static expression that is not that of a constant.
-fn unknown_name<'s>(expression: &'s Static, globals: &Globals) -> Option<&'s Name>
+fn first_unknown<'s>(expression: &'s Static, globals: &Globals) -> Option<&'s Name>
     ensures { MatchOption result
         (is_judged globals.now (static_names (view_static expression.now)) ≡ true)
-        (λ _. is_judged globals.now (static_names (view_static expression.now)) ≡ false) }
+        (λ x. IsUnknown globals.now (static_names (view_static expression.now)) x.now) }
 {
     match expression {
-        Static::Whole(_) => None,
+        Static::Whole(_, _) => None,
         Static::Named(x) => match globals.constant_place(x.as_str()) {
             Some(_) => None,
             None => Some(x),
         },
-        Static::Grouped(inner) | Static::Negated(inner) => unknown_name(inner, globals),
-        Static::Combined(_, left, right) => match unknown_name(left, globals) {
+        Static::Grouped(inner, _) | Static::Negated(inner, _) => first_unknown(inner, globals),
+        Static::Combined(_, left, right, _) => match first_unknown(left, globals) {
             Some(x) => Some(x),
-            None => unknown_name(right, globals),
+            None => first_unknown(right, globals),
         },
     }
 }
@@ -175,13 +178,13 @@ fn check_visited(
         → keeps_constants (view_source source.now) xs ≡ true) }
     ensures err { IfErr result (λ e. (xs : List TreeName)
         → AreNamed (view_source source.now) xs work_list.old.order
-        → IsNameFault e (keeps_constants (view_source source.now) xs)) }
+        → IsNameFault e (told_constants e (view_source source.now) xs)) }
 {
     let mut done = 0;
     while let Some(place) = work_list.place(done) {
         let value = &source.constants[place].value;
-        if let Some(name) = unknown_name(value, globals) {
-            return Err(refused_name(alloc, name.as_str()));
+        if let Some(name) = first_unknown(value, globals) {
+            return Err(unknown_name(alloc, name, Sought::Constant, None));
         }
         visit_names(value, globals, nothing, work_list)?;
         done += 1;
@@ -209,7 +212,7 @@ fn check_named(
     requires count { work_list.old.count ≡ globals.now.constants }
     ensures ok { OnOk result (keeps_constants_of (view_source source.now) nodes.now ≡ true) }
     ensures err { IfErr result (λ e.
-        IsNameFault e (keeps_constants_of (view_source source.now) nodes.now)) }
+        IsNameFault e (told_constants_of e (view_source source.now) nodes.now)) }
 {
     visit_nodes(alloc, nodes, globals, work_list)?;
     let nothing = Scope::new(alloc);
@@ -233,7 +236,7 @@ pub fn check_constants(
         ≡ true }
     ensures ok { OnOk result (keeps_constants_of (view_source source.now) nodes.now ≡ true) }
     ensures err { IfErr result (λ e.
-        IsNameFault e (keeps_constants_of (view_source source.now) nodes.now)) }
+        IsNameFault e (told_constants_of e (view_source source.now) nodes.now)) }
 {
     let mut work_list = WorkList::new(alloc, source.constants.len())?;
     check_named(alloc, globals, source, nodes, &mut work_list)

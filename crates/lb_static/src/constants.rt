@@ -29,12 +29,13 @@ use std::alloc::{AllocError, Global};
 ///
 /// In contracts `value_of` is the value that a name has, if it has one.
 #[derive(Drop)]
-pub struct Constants {
+pub struct Constants<'s> {
+    trees: &'s [Constant],
     names: Scope,
     values: Vec<Option<StaticInt>>,
 }
 
-impl Values for Constants {
+impl Values for Constants<'_> {
     ghost use Rattle.lb_static.specs.HeldValues.{value_of};
 
     ghost given = { value_of };
@@ -131,15 +132,15 @@ fn visit_names(expression: &Static, names: &Scope, tasks: &mut Vec<Task>) -> Res
         ≤ length tasks.old.items + length (static_names (view_static expression.now))) }
 {
     match expression {
-        Static::Whole(_) => Ok(()),
+        Static::Whole(_, _) => Ok(()),
         Static::Named(x) => {
             if let Some(place) = names.place(x.as_str()) {
                 tasks.push(Task::Visit(place))?;
             }
             Ok(())
         }
-        Static::Grouped(inner) | Static::Negated(inner) => visit_names(inner, names, tasks),
-        Static::Combined(_, left, right) => {
+        Static::Grouped(inner, _) | Static::Negated(inner, _) => visit_names(inner, names, tasks),
+        Static::Combined(_, left, right, _) => {
             visit_names(left, names, tasks)?;
             visit_names(right, names, tasks)
         }
@@ -250,16 +251,25 @@ fn known_values(
     values_of(alloc, &firsts, names)
 }
 
-impl Constants {
+impl<'s> Constants<'s> {
     ghost use Rattle.lb_static.specs.HeldValues.{value_of};
 
     /// The values of the constants of a source; of two with one name the first counts.
-    pub fn new(alloc: Global, constants: &[Constant]) -> Result<Constants, AllocError>
+    pub fn new(alloc: Global, constants: &'s [Constant]) -> Result<Constants<'s>, AllocError>
         ensures { IfOk result (λ c.
             value_of c ≡ constant_value (map view_constant constants.now) (length constants.now)) }
     {
         let mut names = Scope::new(alloc);
         let values = known_values(alloc, constants, &mut names)?;
-        Ok(Constants { names, values })
+        Ok(Constants {
+            trees: constants,
+            names,
+            values,
+        })
+    }
+
+    /// The constants of the source.
+    pub fn trees(&self) -> &'s [Constant] {
+        self.trees
     }
 }

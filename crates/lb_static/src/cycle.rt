@@ -5,7 +5,7 @@
 
 ghost use Rattle.std.specs.Prelude.{◌≡◌, [], map, None, IfOk};
 ghost use Rattle.lb_static.specs.CallGraphs.{AreWithin, IsCycleAnswer};
-ghost use Rattle.lb_static.specs.CycleSearch.{IsAt, IsBetween, IsSearchAnswer};
+ghost use Rattle.lb_static.specs.CycleSearch.{IsAt, IsBetween, IsSearchAnswer, from_first};
 ghost use Rattle.lb_static.specs.declared.cycle.Progress.TheVariants.{Unseen};
 
 use std::alloc::{AllocError, Global};
@@ -44,15 +44,27 @@ impl<'g> Visit<'g> {
     }
 }
 
-/// Follows the calls of a node that was not begun; there is nothing on the path. Answers a node
-/// that reaches itself, if it meets one; if not, the node is done, with all that it reaches, and
-/// there is nothing on the path again.
+/// The nodes on a path from the first one of these on, where it is on the path.
+fn path_from(alloc: Global, path: &[Visit], first: usize) -> Result<Vec<usize>, AllocError>
+    ensures { IfOk result (λ v. v.items ≡ from_first first (map (λ f. f.node) path.now)) }
+{
+    let mut start = 0;
+    while start < path.len() && path[start].node != first {
+        start += 1;
+    }
+    path[start..].iter().map(|visit| visit.node).collect(alloc)
+}
+
+/// Follows the calls of a node that was not begun; there is nothing on the path. Answers a cycle of
+/// calls, if it meets one; if not, the node is done, with all that it reaches, and there is nothing
+/// on the path again.
 fn search_from<'g>(
+    alloc: Global,
     graph: &'g [Vec<usize>],
     progress: &mut [Progress],
     path: &mut Vec<Visit<'g>>,
     start: usize,
-) -> Result<Option<usize>, AllocError>
+) -> Result<Option<Vec<usize>>, AllocError>
     requires within { AreWithin (map (λ v. v.items) graph.now) }
     requires between { IsBetween (map (λ v. v.items) graph.now) progress.old }
     requires unseen { IsAt progress.old start Unseen }
@@ -74,7 +86,7 @@ fn search_from<'g>(
                         progress[callee] = Progress::Open;
                         path.push(Visit::new(callee, graph))?;
                     }
-                    Progress::Open => return Ok(Some(callee)),
+                    Progress::Open => return Ok(Some(path_from(alloc, path, callee)?)),
                     Progress::Done => {}
                 }
             }
@@ -86,10 +98,11 @@ fn search_from<'g>(
 /// Searches from each node that is not begun by then. Nothing is begun yet, and there is nothing on
 /// the path.
 fn search_from_each<'g>(
+    alloc: Global,
     graph: &'g [Vec<usize>],
     progress: &mut [Progress],
     path: &mut Vec<Visit<'g>>,
-) -> Result<Option<usize>, AllocError>
+) -> Result<Option<Vec<usize>>, AllocError>
     requires within { AreWithin (map (λ v. v.items) graph.now) }
     requires between { IsBetween (map (λ v. v.items) graph.now) progress.old }
     requires none { path.old.items ≡ [] }
@@ -97,21 +110,21 @@ fn search_from_each<'g>(
 {
     for start in 0..graph.len() {
         if matches!(progress[start], Progress::Unseen) {
-            if let Some(node) = search_from(graph, progress, path, start)? {
-                return Ok(Some(node));
+            if let Some(cycle) = search_from(alloc, graph, progress, path, start)? {
+                return Ok(Some(cycle));
             }
         }
     }
     Ok(None)
 }
 
-/// A node that reaches itself by its calls, or none if there is none. The graph has, for each node,
-/// the nodes that it calls.
-pub fn find_cycle(alloc: Global, graph: &[Vec<usize>]) -> Result<Option<usize>, AllocError>
+/// A cycle of calls, or none if there is none: nodes each of which calls the next one, and the last
+/// of which calls the first. The graph has, for each node, the nodes that it calls.
+pub fn find_cycle(alloc: Global, graph: &[Vec<usize>]) -> Result<Option<Vec<usize>>, AllocError>
     requires { AreWithin (map (λ v. v.items) graph.now) }
     ensures { IfOk result (IsCycleAnswer (map (λ v. v.items) graph.now)) }
 {
     let mut progress = vec![in alloc; Progress::Unseen; graph.len()]?;
     let mut path = Vec::new(alloc);
-    search_from_each(graph, &mut progress, &mut path)
+    search_from_each(alloc, graph, &mut progress, &mut path)
 }

@@ -18,6 +18,7 @@ use crate::error::StaticError;
 use crate::instantiate::instantiate;
 use crate::reach::Reached;
 use crate::resolve_names::resolve_names;
+use crate::root_faults::parameters_fault;
 use crate::table::Table;
 use lb_syntax::Source;
 use std::alloc::Global;
@@ -34,7 +35,7 @@ fn instances_of_program(
 {
     check_recursion(alloc, reached)?;
     if !have_no_parameters(reached) {
-        return Err(StaticError::Root);
+        return Err(StaticError::Root(parameters_fault(alloc, reached)?));
     }
     let constants = Constants::new(alloc, &source.constants)?;
     instantiate(alloc, reached, &constants)

@@ -1,9 +1,10 @@
 //! Why a program is refused here.
 
+use crate::causes::{CallCycle, LimitFault, NameFault, RangeFault, RootFault, ValueFault};
 use std::alloc::{AllocError, AllocFailed};
 use std::fmt;
 
-/// Which rule of names, static values and instances a program breaks first.
+/// Which rule of names, static values and instances a program breaks first, and what breaks it.
 ///
 /// The text was judged before, by `lb_syntax`. Types, clocks and definitions are judged later, by
 /// `lb_check`.
@@ -13,25 +14,24 @@ pub enum StaticError {
     #[error("memory ran out")]
     Memory,
     /// A name is unknown or doubled, or a call has another number of static arguments than its node
-    /// has parameters (E4). It holds the name.
-    #[error("the name {0} is unknown or doubled")]
-    Name(String),
-    /// A node reaches itself by its calls (E7). It holds the name of the node.
-    #[error("the node {0} reaches itself by its calls")]
-    Recursion(String),
+    /// has parameters (E4).
+    #[error("the name {} is unknown or doubled", .0.name)]
+    Name(Box<NameFault>),
+    /// A node reaches itself by its calls (E7).
+    #[error("the node {} reaches itself by its calls", .0.first())]
+    Recursion(Box<CallCycle>),
     /// The node under test or the observer has an interface that it may not have (E8).
     #[error("the node that is run, or its observer, has an interface that it may not have")]
-    Root,
-    /// A static expression has no value (E5). It holds the name of the node in which it stands.
-    #[error("a static expression of the node {0} has no value")]
-    Value(String),
-    /// A size, an index or a slice is out of its range (E6). It holds the name of the node in which
-    /// it stands.
-    #[error("a size, an index or a slice of the node {0} is out of its range")]
-    Range(String),
+    Root(Box<RootFault>),
+    /// A static expression has no value (E5).
+    #[error("a static expression of the node {} has no value", .0.node)]
+    Value(Box<ValueFault>),
+    /// A size, an index or a slice is out of its range (E6).
+    #[error("a size, an index or a slice of the node {} is out of its range", .0.node)]
+    Range(Box<RangeFault>),
     /// There are more than 4,096 instances or 64 levels of them (E12).
     #[error("there are more than 4096 instances or 64 levels of them")]
-    Instances,
+    Instances(Box<LimitFault>),
 }
 
 impl fmt::Debug for StaticError {

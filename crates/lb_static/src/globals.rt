@@ -6,11 +6,13 @@ ghost use Rattle.std.specs.Str.{bytes_eq};
 ghost use Rattle.lb_syntax.specs.SourceView.{view_source};
 ghost use Rattle.lb_static.specs.Parts.{among};
 ghost use Rattle.lb_static.specs.Names.{are_distinct};
-ghost use Rattle.lb_static.specs.NameFaults.{IsNameFault};
+ghost use Rattle.lb_static.specs.CountedNames.{Declares, are_once, counted};
+ghost use Rattle.lb_static.specs.NameFaults.{IsNameFault, is_told};
 ghost use Rattle.lb_static.specs.SourceNames.{names_in_source};
 ghost use Rattle.lb_static.specs.NamedConstants.{constant_place};
 
 use crate::error::StaticError;
+use crate::name_faults::{Declaring, doubled_name};
 use crate::scope::Scope;
 use lb_syntax::{Name, Source};
 use std::alloc::Global;
@@ -22,25 +24,21 @@ pub struct Globals {
     constants: usize,
 }
 
-/// That a name is unknown or doubled.
-pub fn refused_name(alloc: Global, name: &str) -> StaticError
-    ensures { IsNameFault result false }
-{
-    match String::from_str(alloc, name) {
-        Ok(text) => StaticError::Name(text),
-        Err(_) => StaticError::Memory,
-    }
-}
-
 /// Declares a name, which is to be new.
-pub fn declare_new(alloc: Global, names: &mut Scope, name: &Name) -> Result<(), StaticError>
+pub fn declare_new(
+    alloc: Global,
+    names: &mut Scope,
+    name: &Name,
+    declaring: Declaring,
+) -> Result<(), StaticError>
     ensures ok { OnOk result (names.new ≡ names.old ++ name.now ∷ []) }
-    ensures err { IfErr result (λ e. IsNameFault e (not (among name.now names.old))) }
+    ensures err { IfErr result (λ e. IsNameFault e
+        (counted (is_told e Declares) (λ x. not (among x names.old)) name.now)) }
 {
     if names.declare(alloc, name.as_str())? {
         Ok(())
     } else {
-        Err(refused_name(alloc, name.as_str()))
+        Err(doubled_name(alloc, name, declaring))
     }
 }
 
@@ -49,13 +47,14 @@ fn declare_globals(alloc: Global, names: &mut Scope, source: &Source) -> Result<
     requires { names.old ≡ [] }
     ensures ok { OnOk result (names.new ≡ names_in_source (view_source source.now)) }
     ensures err { IfErr result (λ e.
-        IsNameFault e (are_distinct (names_in_source (view_source source.now)))) }
+        IsNameFault e (are_once (is_told e Declares) (names_in_source (view_source source.now)))) }
 {
+    let declaring = Declaring::Globals(source);
     for constant in &source.constants {
-        declare_new(alloc, names, &constant.name)?;
+        declare_new(alloc, names, &constant.name, declaring)?;
     }
     for node in &source.nodes {
-        declare_new(alloc, names, &node.name)?;
+        declare_new(alloc, names, &node.name, declaring)?;
     }
     Ok(())
 }
@@ -68,7 +67,8 @@ impl Globals {
         ensures once { IfOk result (λ _.
             are_distinct (names_in_source (view_source source.now)) ≡ true) }
         ensures err { IfErr result (λ e.
-            IsNameFault e (are_distinct (names_in_source (view_source source.now)))) }
+            IsNameFault e (are_once (is_told e Declares)
+            (names_in_source (view_source source.now)))) }
     {
         let mut names = Scope::new(alloc);
         declare_globals(alloc, &mut names, source)?;

@@ -15,7 +15,7 @@ pub struct InstanceValues<'a> {
     pub parameters: &'a [Name],
     /// Their values.
     pub values: &'a [StaticInt],
-    pub constants: &'a Constants,
+    pub constants: &'a Constants<'a>,
 }
 
 /// The value of the first static parameter of a name.

@@ -29,8 +29,10 @@ ghost use Rattle.lb_static.specs.InstanceRows.{HasUsed, HasRows, IsSpecializedRo
 ghost use Rattle.lb_static.specs.InstanceRows.{AreInstances};
 ghost use Rattle.lb_static.specs.declared.resolved.ResolvedNode.{ResolvedNode};
 
+use crate::causes::{Limit, LimitFault};
 use crate::constants::Constants;
 use crate::error::StaticError;
+use crate::instance_paths::InstancePlace;
 use crate::instance_values::InstanceValues;
 use crate::reach::{NodeId, Reached};
 use crate::resolved::{CallId, CallSite};
@@ -38,7 +40,7 @@ use crate::specializations::Specializations;
 use crate::specialize::{size_of, specialize};
 use crate::static_value::StaticInt;
 use crate::table::{Instance, InstanceId, Origin, Specialization, SpecializationId, Table};
-use std::alloc::Global;
+use std::alloc::{AllocError, Global};
 
 /// The most instances that a program may have.
 const MOST_INSTANCES: usize = 4096;
@@ -107,27 +109,27 @@ struct Begun {
 /// specialization was found, the values of its static expressions are taken from there.
 fn begun_from(
     alloc: Global,
-    reached: &Reached,
+    place: &InstancePlace,
     constants: &Constants,
     found: Option<(SpecializationId, &Specialization)>,
     node: NodeId,
     values: &[StaticInt],
 ) -> Result<Begun, StaticError>
-    requires sound { AreSound reached.now }
-    requires within { node.0 < length reached.now.nodes.items }
+    requires sound { AreSound place.now.reached.now }
+    requires within { node.0 < length place.now.reached.now.nodes.items }
     ensures known { IfOk result (λ b. IfSome b.known (λ id.
         option_map (λ f. f.0) found.entry ≡ Some id)) }
     ensures sized { IfOk result (λ b. (n : ResolvedNode)
-        → slice_get reached.now.nodes.items node.0 ≡ Some n
+        → slice_get place.now.reached.now.nodes.items node.0 ≡ Some n
         → length b.statics.items ≡ length n.statics.items) }
     ensures judged { (P : Program) (p : Path) (n : ResolvedNode) (before : ℕ)
-        → IsInstantiable P reached.now constants.now
-        → slice_get reached.now.nodes.items node.0 ≡ Some n
-        → IsKnownWith P reached.now found.entry node values.now
+        → IsInstantiable P place.now.reached.now constants.now
+        → slice_get place.now.reached.now.nodes.items node.0 ≡ Some n
+        → IsKnownWith P place.now.reached.now found.entry node values.now
         → before < 4096 → level P p ≤ 64
         → IsBegun P before n (instance_of p (node_of n) values.now) result }
 {
-    let resolved = &reached.nodes[node.0];
+    let resolved = &place.reached.nodes[node.0];
     if let Some((id, specialization)) = found {
         if specialization.statics.len() == resolved.statics.len() {
             let held = Vec::from_slice(alloc, &specialization.statics)?;
@@ -142,11 +144,21 @@ fn begun_from(
         values,
         constants,
     };
-    let statics = specialize(alloc, resolved, &values)?;
+    let statics = specialize(alloc, resolved, &values, place)?;
     Ok(Begun {
         known: None,
         statics,
     })
+}
+
+/// An instance that is past a limit, in a box.
+fn limit_fault(
+    alloc: Global,
+    limit: Limit,
+    place: &InstancePlace,
+) -> Result<Box<LimitFault>, AllocError> {
+    let path = place.path(alloc)?;
+    Ok(Box::new(alloc, LimitFault { limit, path })?)
 }
 
 /// Enters an instance, and leaves its calls and its specialization to be entered.
@@ -181,14 +193,29 @@ fn begin(
         result }
 {
     if entered.instances.len() >= MOST_INSTANCES || entry.level > MOST_LEVELS {
-        return Err(StaticError::Instances);
+        let place = InstancePlace {
+            reached,
+            instances: &entered.instances,
+            origin: entry.origin,
+        };
+        let limit = if entered.instances.len() >= MOST_INSTANCES {
+            Limit::Instances
+        } else {
+            Limit::Levels
+        };
+        return Err(StaticError::Instances(limit_fault(alloc, limit, &place)?));
     }
     entered.instances.push(Instance {
         specialization: SpecializationId(0),
         origin: entry.origin,
     })?;
     let found = entered.specializations.find(alloc, entry.node, values)?;
-    begun_from(alloc, reached, constants, found, entry.node, values)
+    let place = InstancePlace {
+        reached,
+        instances: &entered.instances,
+        origin: entry.origin,
+    };
+    begun_from(alloc, &place, constants, found, entry.node, values)
 }
 
 /// Gives an instance that was begun its specialization, which is added if it was not there.

@@ -4,10 +4,12 @@ ghost use Rattle.std.specs.Prelude.{◌≡◌, ◌≤◌, map, min, not, length,
 ghost use Rattle.std.specs.List.{list_all};
 ghost use Rattle.lb_syntax.specs.SourceView.{view_node};
 
+use crate::causes::Start;
 use crate::data_type::{DataType, are_same, data_types, element_count, is_one_truth};
 use crate::element_names::elements;
 use crate::error::StaticError;
 use crate::resolved::{ResolvedNode, Variable};
+use crate::root_faults::type_fault;
 use crate::signature::Signature;
 use crate::static_value::StaticInt;
 use crate::valued_node::interface_variables;
@@ -49,18 +51,23 @@ impl<'s> Interface<'s> {
     ghost use Rattle.lb_static.specs.DataTypes.{total};
     ghost use Rattle.lb_static.specs.StoredTypes.{view_type};
 
-    /// The inputs and outputs of a node. Where a size is no number there are no types: `Root`.
+    /// The inputs and outputs of the node under test or the observer. Where a size is no number
+    /// there are no types: `Root`.
     pub fn new(
         alloc: Global,
+        start: Start,
         node: &ResolvedNode<'s>,
         statics: &[StaticInt],
     ) -> Result<Interface<'s>, StaticError>
         ensures { Answers view_interface (interface_under node.now statics.now) result }
     {
-        let variables = interface_variables(node).ok_or(StaticError::Root)?;
-        let found = data_types(alloc, variables, statics)?;
-        let data_types = found.ok_or(StaticError::Root)?;
         let tree = node.tree;
+        let Some(variables) = interface_variables(node) else {
+            return Err(StaticError::Root(type_fault(alloc, start, tree)?));
+        };
+        let Some(data_types) = data_types(alloc, variables, statics)? else {
+            return Err(StaticError::Root(type_fault(alloc, start, tree)?));
+        };
         Ok(Interface {
             tree,
             inputs: node.inputs,
@@ -76,11 +83,18 @@ impl<'s> Interface<'s> {
         &self.data_types[..self.inputs]
     }
 
+    /// The types of the outputs.
+    pub fn outputs(&self) -> &[DataType]
+        ensures { map view_type result.now ≡ outputs_of (view_interface self.now) }
+    {
+        &self.data_types[self.inputs..]
+    }
+
     /// Whether the one output is a scalar `bool`.
     pub fn has_property(&self) -> bool
         ensures { result ≡ is_one_truth_in (outputs_of (view_interface self.now)) }
     {
-        is_one_truth(&self.data_types[self.inputs..])
+        is_one_truth(self.outputs())
     }
 
     /// Whether it may observe another node: its inputs have the types of that node's inputs and

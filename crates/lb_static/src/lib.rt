@@ -1,6 +1,7 @@
 //! Names, static values and instances: what a source stands for before any type is looked at.
 #![tactic(auto)]
 
+mod causes;
 mod check_interface;
 mod check_recursion;
 mod constant_names;
@@ -12,12 +13,15 @@ mod elaboration;
 mod element_names;
 mod error;
 mod globals;
+mod instance_paths;
 mod instance_values;
 mod instantiate;
 mod int_arithmetic;
 mod interface;
+mod name_faults;
 mod node_builder;
 mod node_scope;
+mod range_faults;
 mod reach;
 mod reaching;
 mod resolve_names;
@@ -27,6 +31,7 @@ mod resolving_parts;
 mod resolving_statements;
 mod resolving_terms;
 mod resolving_variables;
+mod root_faults;
 mod scope;
 mod signature;
 mod slices;
@@ -34,13 +39,19 @@ mod specializations;
 mod specialize;
 mod static_value;
 mod table;
+mod value_faults;
 mod valued_node;
 mod work_list;
 
+pub use causes::{
+    CallCycle, CallPath, CallStep, CycleCall, Limit, LimitFault, NameFault, NameRule, RangeFault,
+    RangeRole, RootFault, RootRule, Sought, Start, ValueFault, ValueRule,
+};
 pub use data_type::{DataType, are_same, data_types, element_count, is_one_truth, size_product};
 pub use elab::Elab;
 pub use elaboration::elaborate;
 pub use error::StaticError;
+pub use instance_paths::call_path;
 pub use int_arithmetic::{arithmetic, negated};
 pub use reach::{NodeId, Reached};
 pub use resolved::{

@@ -5,12 +5,15 @@ ghost use Rattle.lb_syntax.specs.Grammar.{declared as declarations_in};
 ghost use Rattle.lb_syntax.specs.SourceView.{view_groups, view_node, view_source};
 ghost use Rattle.lb_syntax.specs.View.{view_static};
 ghost use Rattle.lb_static.specs.SourceNames.{names_in, names_in_source};
-ghost use Rattle.lb_static.specs.NameFaults.{IsNameFault};
+ghost use Rattle.lb_static.specs.NameFaults.{IsNameFault, is_told};
+ghost use Rattle.lb_static.specs.CountedNames.{Declares, are_once};
 ghost use Rattle.lb_static.specs.Names.{are_distinct};
 ghost use Rattle.lb_static.specs.Parts.{declared_names, variable_names};
 
+use crate::causes::Sought;
 use crate::error::StaticError;
-use crate::globals::{Globals, declare_new, refused_name};
+use crate::globals::{Globals, declare_new};
+use crate::name_faults::{Declaring, other_arguments, unknown_name};
 use crate::resolved::{NodePlace, VariableId};
 use crate::scope::Scope;
 use lb_syntax::{Declarations, Name, Node, Source, Static};
@@ -35,12 +38,18 @@ pub struct NodeScope<'a, 's> {
 }
 
 /// Declares names after those that are declared; a doubled one is refused.
-fn declare_names(alloc: Global, declared: &mut Scope, names: &[Name]) -> Result<(), StaticError>
+fn declare_names(
+    alloc: Global,
+    declared: &mut Scope,
+    names: &[Name],
+    tree: &Node,
+) -> Result<(), StaticError>
     ensures ok { OnOk result (declared.new ≡ declared.old ++ names.now) }
-    ensures err { IfErr result (λ e. IsNameFault e (are_distinct (declared.old ++ names.now))) }
+    ensures err { IfErr result (λ e. IsNameFault e
+        (are_once (is_told e Declares) (declared.old ++ names.now))) }
 {
     for name in names {
-        declare_new(alloc, declared, name)?;
+        declare_new(alloc, declared, name, Declaring::Node(tree))?;
     }
     Ok(())
 }
@@ -50,14 +59,15 @@ fn declare_groups(
     alloc: Global,
     declared: &mut Scope,
     groups: &[Declarations],
+    tree: &Node,
 ) -> Result<(), StaticError>
     ensures ok { OnOk result (
         declared.new ≡ declared.old ++ names_in (declarations_in (view_groups groups.now))) }
-    ensures err { IfErr result (λ e. IsNameFault e (are_distinct
+    ensures err { IfErr result (λ e. IsNameFault e (are_once (is_told e Declares)
         (declared.old ++ names_in (declarations_in (view_groups groups.now))))) }
 {
     for group in groups {
-        declare_names(alloc, declared, &group.names)?;
+        declare_names(alloc, declared, &group.names, tree)?;
     }
     Ok(())
 }
@@ -69,13 +79,13 @@ fn declare_all(alloc: Global, declared: &mut Scope, tree: &Node) -> Result<usize
     ensures ok { OnOk result (declared.new ≡ declared_names (view_node tree.now)) }
     ensures variables { IfOk result (λ n. n ≡ length (variable_names (view_node tree.now))) }
     ensures err { IfErr result (λ e.
-        IsNameFault e (are_distinct (declared_names (view_node tree.now)))) }
+        IsNameFault e (are_once (is_told e Declares) (declared_names (view_node tree.now)))) }
 {
-    declare_groups(alloc, declared, &tree.inputs)?;
-    declare_groups(alloc, declared, &tree.outputs)?;
-    declare_groups(alloc, declared, &tree.locals)?;
+    declare_groups(alloc, declared, &tree.inputs, tree)?;
+    declare_groups(alloc, declared, &tree.outputs, tree)?;
+    declare_groups(alloc, declared, &tree.locals, tree)?;
     let variables = declared.len();
-    declare_names(alloc, declared, &tree.parameters)?;
+    declare_names(alloc, declared, &tree.parameters, tree)?;
     Ok(variables)
 }
 
@@ -83,6 +93,8 @@ impl<'a, 's> NodeScope<'a, 's> {
     ghost use Rattle.std.specs.Prelude.{true, is_some, IfSome};
     ghost use Rattle.lb_static.specs.Names.{is_static_name, is_variable};
     ghost use Rattle.lb_static.specs.NodeNames.{node_in, program_in, static_passes, takes};
+    ghost use Rattle.lb_static.specs.NodeNames.{static_passes_where};
+    ghost use Rattle.lb_static.specs.CountedNames.{Calls, counted};
     ghost use Rattle.lb_static.specs.NodeNames.{IsVariableAt, IsCallee};
 
     /// The names of a node. A variable or a static parameter that is declared twice is refused.
@@ -99,7 +111,7 @@ impl<'a, 's> NodeScope<'a, 's> {
         ensures distinct { IfOk result (λ _.
             are_distinct (declared_names (view_node tree.now)) ≡ true) }
         ensures err { IfErr result (λ e.
-            IsNameFault e (are_distinct (declared_names (view_node tree.now)))) }
+            IsNameFault e (are_once (is_told e Declares) (declared_names (view_node tree.now)))) }
     {
         let mut declared = Scope::new(alloc);
         let variables = declare_all(alloc, &mut declared, tree)?;
@@ -139,14 +151,19 @@ impl<'a, 's> NodeScope<'a, 's> {
         ensures ok { OnOk result
             (static_passes (program_in self.now) (node_in self.now) (view_static text.now) ≡ true) }
         ensures err { IfErr result (λ e. IsNameFault e
-            (static_passes (program_in self.now) (node_in self.now) (view_static text.now))) }
+            (static_passes_where (is_told e) (program_in self.now) (node_in self.now)
+            (view_static text.now))) }
     {
         match text {
-            Static::Whole(_) => Ok(()),
+            Static::Whole(_, _) => Ok(()),
             Static::Named(name) if self.is_static(name) => Ok(()),
-            Static::Named(name) => Err(refused_name(alloc, name.as_str())),
-            Static::Negated(inner) | Static::Grouped(inner) => self.check_static(alloc, inner),
-            Static::Combined(_, first, second) => {
+            Static::Named(name) => {
+                Err(unknown_name(alloc, name, Sought::Constant, Some(self.tree)))
+            }
+            Static::Negated(inner, _) | Static::Grouped(inner, _) => self.check_static(
+                alloc, inner,
+            ),
+            Static::Combined(_, first, second, _) => {
                 self.check_static(alloc, first)?;
                 self.check_static(alloc, second)
             }
@@ -162,14 +179,15 @@ impl<'a, 's> NodeScope<'a, 's> {
     ) -> Result<NodePlace, StaticError>
         ensures ok { IfOk result (IsCallee (program_in self.now) name.now arguments) }
         ensures err { IfErr result (λ e.
-            IsNameFault e (takes (program_in self.now) name.now arguments)) }
+            IsNameFault e (counted (is_told e Calls)
+            (λ x. takes (program_in self.now) x arguments) name.now)) }
     {
-        let text = name.as_str();
-        let Some(place) = self.globals.node_place(text) else {
-            return Err(refused_name(alloc, text));
+        let Some(place) = self.globals.node_place(name.as_str()) else {
+            return Err(unknown_name(alloc, name, Sought::Node, Some(self.tree)));
         };
-        if self.source.nodes[place].parameters.len() != arguments {
-            return Err(refused_name(alloc, text));
+        let wanted = self.source.nodes[place].parameters.len();
+        if wanted != arguments {
+            return Err(other_arguments(alloc, name, wanted, arguments, self.tree));
         }
         Ok(NodePlace(place))
     }

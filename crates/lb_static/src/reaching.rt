@@ -7,14 +7,16 @@ ghost use Rattle.lb_syntax.specs.SourceView.{view_source};
 ghost use Rattle.lb_syntax.specs.Tree.{Node as TreeNode};
 ghost use Rattle.lb_static.specs.Elaborated.{program_of};
 ghost use Rattle.lb_static.specs.SourceNames.{names_in_source, node_in_source};
-ghost use Rattle.lb_static.specs.NameFaults.{named_in, IsNameFault};
+ghost use Rattle.lb_static.specs.CountedNames.{Calls, are_named_where, counted, starts_where};
+ghost use Rattle.lb_static.specs.NameFaults.{is_told, told_in, IsNameFault};
 ghost use Rattle.lb_static.specs.Names.{are_distinct, starts, calls};
 ghost use Rattle.lb_static.specs.CalledNodes.{AreResolved, AreStarts, IsStart, Reaches, are_named};
 ghost use Rattle.lb_static.specs.CalledNodes.{callees, ids_of};
 ghost use Rattle.lb_static.specs.WorkLists.{AreReachable, visited_after_all, within};
 
 use crate::error::StaticError;
-use crate::globals::{Globals, refused_name};
+use crate::globals::Globals;
+use crate::name_faults::unknown_start;
 use crate::reach::{NodeId, Reached};
 use crate::resolved::{CallSite, ResolvedNode};
 use crate::resolving_nodes::resolve_node;
@@ -70,7 +72,7 @@ fn resolve_visited<'s>(
     ensures few { OnOk result (length work_list.new.order ≤ work_list.new.count) }
     ensures err { IfErr result (λ e. (start : TreeNode → Bool)
         → AreReachable (view_source source.now).nodes start calls work_list.old.order
-        → IsNameFault e (list_all (named_in (view_source source.now))
+        → IsNameFault e (list_all (told_in e (view_source source.now))
         (within (view_source source.now).nodes start calls
         (length (view_source source.now).nodes)))) }
 {
@@ -94,11 +96,12 @@ fn visit_named(
         IsStart (view_source source.now) name.now work_list.old.order work_list.new.order id) }
     ensures count { OnOk result (work_list.new.count ≡ work_list.old.count) }
     ensures err { IfErr result (λ e.
-        IsNameFault e (is_some (node_in_source source.now name.now))) }
+        IsNameFault e (counted (is_told e Calls)
+        (λ x. is_some (node_in_source source.now x)) name.now)) }
 {
     match place_named(source, name) {
         Some(place) => Ok(NodeId(work_list.visit(place)?)),
-        None => Err(refused_name(alloc, name)),
+        None => Err(unknown_start(alloc, name)),
     }
 }
 
@@ -117,8 +120,8 @@ fn visit_starts(
         AreStarts (program_of source.now node.now (option_map (λ o. o.now) observer.entry))
         work_list.new.order found.0 found.1) }
     ensures count { OnOk result (work_list.new.count ≡ work_list.old.count) }
-    ensures err { IfErr result (λ e. IsNameFault e (list_all is_some (starts
-        (program_of source.now node.now (option_map (λ o. o.now) observer.entry))))) }
+    ensures err { IfErr result (λ e. IsNameFault e (starts_where (is_told e)
+        (program_of source.now node.now (option_map (λ o. o.now) observer.entry)))) }
 {
     let root = visit_named(alloc, source, node, work_list)?;
     match observer {
@@ -152,7 +155,7 @@ fn reach_all<'s>(
     requires once { are_distinct (names_in_source (view_source source.now)) ≡ true }
     requires none { work_list.old.order ≡ [] }
     requires count { work_list.old.count ≡ length source.now.nodes.items }
-    ensures { Reaches are_named (program_of source.now node.now
+    ensures { Reaches are_named are_named_where (program_of source.now node.now
         (option_map (λ o. o.now) observer.entry)) result }
 {
     let (root, observer) = visit_starts(alloc, source, node, observer, work_list)?;
@@ -179,7 +182,7 @@ pub fn reach<'s>(
     requires names { globals.now.names ≡ names_in_source (view_source source.now) }
     requires constants { globals.now.constants ≡ length source.now.constants.items }
     requires once { are_distinct (names_in_source (view_source source.now)) ≡ true }
-    ensures { Reaches are_named (program_of source.now node.now
+    ensures { Reaches are_named are_named_where (program_of source.now node.now
         (option_map (λ o. o.now) observer.entry)) result }
 {
     let mut work_list = WorkList::new(alloc, source.nodes.len())?;

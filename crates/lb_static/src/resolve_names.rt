@@ -4,6 +4,7 @@
 ghost use Rattle.std.specs.Prelude.{◌≡◌, true, length, option_map};
 ghost use Rattle.lb_syntax.specs.SourceView.{view_source};
 ghost use Rattle.lb_static.specs.CalledNodes.{Reaches};
+ghost use Rattle.lb_static.specs.CountedNames.{keeps_names_where};
 ghost use Rattle.lb_static.specs.Elaborated.{program_of};
 ghost use Rattle.lb_static.specs.Names.{are_distinct, keeps_names};
 ghost use Rattle.lb_static.specs.SourceNames.{names_in_source};
@@ -28,7 +29,7 @@ fn resolve_reached<'s>(
     requires names { globals.now.names ≡ names_in_source (view_source source.now) }
     requires constants { globals.now.constants ≡ length source.now.constants.items }
     requires once { are_distinct (names_in_source (view_source source.now)) ≡ true }
-    ensures { Reaches keeps_names (program_of source.now node.now
+    ensures { Reaches keeps_names keeps_names_where (program_of source.now node.now
         (option_map (λ o. o.now) observer.entry)) result }
 {
     let reached = reach(alloc, globals, source, node, observer)?;
@@ -47,7 +48,7 @@ pub fn resolve_names<'s>(
     node: &str,
     observer: Option<&str>,
 ) -> Result<Reached<'s>, StaticError>
-    ensures { Reaches keeps_names (program_of source.now node.now
+    ensures { Reaches keeps_names keeps_names_where (program_of source.now node.now
         (option_map (λ o. o.now) observer.entry)) result }
 {
     let globals = Globals::new(alloc, source)?;

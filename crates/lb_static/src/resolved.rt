@@ -106,6 +106,8 @@ pub struct Variable {
 #[derive(Clone, Copy)]
 pub struct CallSite {
     pub callee: NodePlace,
+    /// The byte offset of the called name in the text of the source.
+    pub offset: u32,
     /// The first of its static arguments, which stand one after another.
     pub first_argument: StaticId,
     /// How many static arguments it has.

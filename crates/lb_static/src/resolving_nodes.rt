@@ -3,8 +3,8 @@
 ghost use Rattle.std.specs.Prelude.{◌≡◌, [], true, map, length, OnOk, IfOk, IfErr};
 ghost use Rattle.lb_syntax.specs.SourceView.{view_node, view_source};
 ghost use Rattle.lb_static.specs.SourceNames.{names_in_source};
-ghost use Rattle.lb_static.specs.NameFaults.{IsNameFault, named_in};
-ghost use Rattle.lb_static.specs.NodeProgress.{StatementsStand, after_node, node_fits};
+ghost use Rattle.lb_static.specs.NameFaults.{IsNameFault, named_in, told_in};
+ghost use Rattle.lb_static.specs.NodeProgress.{StatementsStand, after_node, node_fits, node_told};
 ghost use Rattle.lb_static.specs.Progressed.{progress};
 ghost use Rattle.lb_static.specs.ResolvedNodes.{IsResolved};
 
@@ -44,7 +44,7 @@ fn resolve_parts<'s>(
     ensures inputs { IfOk result (λ parts. parts.inputs ≡ length (view_node node.now).inputs) }
     ensures outputs { IfOk result (λ parts. parts.outputs ≡ length (view_node node.now).outputs) }
     ensures err { IfErr result (λ e.
-        IsNameFault e (node_fits (progress here.old) (view_node node.now))) }
+        IsNameFault e (node_told e (progress here.old) (view_node node.now))) }
 {
     resolve_groups(alloc, here, &node.inputs)?;
     let inputs = here.variable_count();
@@ -74,7 +74,7 @@ pub fn resolve_node<'s>(
     ensures named { IfOk result (λ _.
         named_in (view_source source.now) (view_node node.now) ≡ true) }
     ensures err { IfErr result (λ e.
-        IsNameFault e (named_in (view_source source.now) (view_node node.now))) }
+        IsNameFault e (told_in e (view_source source.now) (view_node node.now))) }
 {
     let node_scope = NodeScope::new(alloc, globals, source, node)?;
     let mut here = NodeBuilder::new(alloc, node_scope);

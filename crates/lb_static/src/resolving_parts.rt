@@ -3,7 +3,8 @@
 ghost use Rattle.std.specs.Prelude.{◌≡◌, true, map, option_map, IfOk, IfErr};
 ghost use Rattle.lb_syntax.specs.Tree as tree;
 ghost use Rattle.lb_syntax.specs.View.{view_static, view_statics};
-ghost use Rattle.lb_static.specs.NameFaults.{IsNameFault};
+ghost use Rattle.lb_static.specs.CountedNames.{counted, use_of};
+ghost use Rattle.lb_static.specs.NameFaults.{IsNameFault, TellsName, is_told};
 ghost use Rattle.lb_static.specs.Names.{is_variable};
 ghost use Rattle.lb_static.specs.NodeNames.{IsVariableAt};
 ghost use Rattle.lb_static.specs.NodeProgress.{ResolvesTerm, ResolvesStatic, ResolvesStatics};
@@ -11,24 +12,37 @@ ghost use Rattle.lb_static.specs.NodeProgress.{ResolvesCall, texts, counts_in, p
 ghost use Rattle.lb_static.specs.Progressed.{progress};
 ghost use Rattle.lb_static.specs.ResolvedTerms.{static_at, is_count_within};
 
+use crate::causes::Sought;
 use crate::error::StaticError;
-use crate::globals::refused_name;
+use crate::name_faults::unknown_name;
 use crate::node_builder::NodeBuilder;
 use crate::resolved::{CallId, CallSite, Role, StaticId, StaticPart, StaticText, Term, VariableId};
 use lb_syntax::{Name, Static};
 use std::alloc::Global;
 
-/// The place of the variable of a name.
-pub fn variable(alloc: Global, here: &NodeBuilder, name: &Name) -> Result<VariableId, StaticError>
+/// That nothing of this sort has a name of the node.
+fn unknown_here(alloc: Global, here: &NodeBuilder, name: &Name, sought: Sought) -> StaticError
+    ensures { TellsName name.now (use_of sought) result }
+{
+    unknown_name(alloc, name, sought, Some(here.node_scope().tree))
+}
+
+/// The place of the variable of a name, which stands where a variable of this sort is sought.
+pub fn variable(
+    alloc: Global,
+    here: &NodeBuilder,
+    name: &Name,
+    sought: Sought,
+) -> Result<VariableId, StaticError>
     ensures found { IfOk result (IsVariableAt (progress here.now).node name.now) }
     ensures is_declared { IfOk result (λ _.
         is_variable (program_of (progress here.now)) (progress here.now).node name.now ≡ true) }
-    ensures err { IfErr result (λ e. IsNameFault e
-        (is_variable (program_of (progress here.now)) (progress here.now).node name.now)) }
+    ensures err { IfErr result (λ e. IsNameFault e (counted (is_told e (use_of sought))
+        (is_variable (program_of (progress here.now)) (progress here.now).node) name.now)) }
 {
     match here.node_scope().place(name) {
         Some(place) => Ok(place),
-        None => Err(refused_name(alloc, name.as_str())),
+        None => Err(unknown_here(alloc, here, name, sought)),
     }
 }
 
@@ -45,7 +59,7 @@ pub fn named<'s>(
         return Ok(Term::Variable(place));
     }
     if !here.node_scope().is_static(name) {
-        return Err(refused_name(alloc, name.as_str()));
+        return Err(unknown_here(alloc, here, name, Sought::Value));
     }
     let part = StaticPart {
         role: Role::Value,
@@ -109,6 +123,7 @@ pub fn call<'s>(
     let (first_argument, arguments) = all_statics(alloc, here, Role::Argument, arguments)?;
     here.push_call(CallSite {
         callee,
+        offset: name.offset(),
         first_argument,
         arguments,
         count,

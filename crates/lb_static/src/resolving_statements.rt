@@ -3,7 +3,8 @@
 ghost use Rattle.std.specs.Prelude.{◌≡◌, true, map, IfErr, IfOk};
 ghost use Rattle.std.specs.List.{list_all};
 ghost use Rattle.lb_syntax.specs.SourceView.{view_statement};
-ghost use Rattle.lb_static.specs.NameFaults.{IsNameFault};
+ghost use Rattle.lb_static.specs.CountedNames.{Variables, counted};
+ghost use Rattle.lb_static.specs.NameFaults.{IsNameFault, is_told};
 ghost use Rattle.lb_static.specs.Names.{is_variable};
 ghost use Rattle.lb_static.specs.NodeProgress.{ResolvesStatement, ResolvesStatements, texts};
 ghost use Rattle.lb_static.specs.NodeProgress.{counts_in, program_of};
@@ -11,6 +12,7 @@ ghost use Rattle.lb_static.specs.Parts.{variable_names};
 ghost use Rattle.lb_static.specs.Progressed.{progress};
 ghost use Rattle.lb_static.specs.ResolvedTerms.{name_at, is_variable as is_place};
 
+use crate::causes::Sought;
 use crate::error::StaticError;
 use crate::node_builder::NodeBuilder;
 use crate::resolved::{ResolvedStatement, VariableId};
@@ -27,12 +29,12 @@ fn places(alloc: Global, here: &NodeBuilder, lefts: &[Name]) -> Result<Vec<Varia
         list_all (is_place (counts_in (texts (progress here.now)))) places.items ≡ true) }
     ensures fit { IfOk result (λ _. list_all
         (is_variable (program_of (progress here.now)) (progress here.now).node) lefts.now ≡ true) }
-    ensures err { IfErr result (λ e. IsNameFault e (list_all
-        (is_variable (program_of (progress here.now)) (progress here.now).node) lefts.now)) }
+    ensures err { IfErr result (λ e. IsNameFault e (list_all (counted (is_told e Variables)
+        (is_variable (program_of (progress here.now)) (progress here.now).node)) lefts.now)) }
 {
     let mut places = Vec::new(alloc);
     for left in lefts {
-        places.push(variable(alloc, here, left)?)?;
+        places.push(variable(alloc, here, left, Sought::Variable)?)?;
     }
     Ok(places)
 }
@@ -48,11 +50,11 @@ fn resolve_statement<'s>(
         result }
 {
     match statement {
-        Statement::Equation(lefts, e) => {
+        Statement::Equation(lefts, e, _) => {
             let places = places(alloc, here, lefts)?;
             Ok(ResolvedStatement::Equation(places, term(alloc, here, e)?))
         }
-        Statement::Assertion(e) => Ok(ResolvedStatement::Assertion(term(alloc, here, e)?)),
+        Statement::Assertion(e, _) => Ok(ResolvedStatement::Assertion(term(alloc, here, e)?)),
     }
 }
 

@@ -8,6 +8,7 @@ ghost use Rattle.lb_static.specs.NodeProgress.{ResolvesTerm, ResolvesTerms, Reso
 ghost use Rattle.lb_static.specs.Nested.{ResolvesNested, ResolvesRow};
 ghost use Rattle.lb_static.specs.Progressed.{progress};
 
+use crate::causes::Sought;
 use crate::error::StaticError;
 use crate::node_builder::NodeBuilder;
 use crate::resolved::{CallId, Role, StaticId, Term, VariableId};
@@ -137,61 +138,61 @@ pub fn term<'s>(
     ensures { ResolvesTerm (progress here.old) (progress here.new) (view e.now) result }
 {
     match e {
-        Expr::Literal(n) => Ok(Term::Literal(*n)),
-        Expr::Truth(b) => Ok(Term::Truth(*b)),
+        Expr::Literal(n, _) => Ok(Term::Literal(*n)),
+        Expr::Truth(b, _) => Ok(Term::Truth(*b)),
         Expr::Variable(x) => named(alloc, here, x),
-        Expr::Group(a) => nested(alloc, here, Outer::Group, a),
-        Expr::Unary(op, a) => nested(alloc, here, Outer::Unary(*op), a),
-        Expr::Binary(op, a, b) => {
+        Expr::Group(a, _) => nested(alloc, here, Outer::Group, a),
+        Expr::Unary(op, a, _) => nested(alloc, here, Outer::Unary(*op), a),
+        Expr::Binary(op, a, b, _) => {
             let first = boxed(alloc, here, a)?;
             nested(alloc, here, Outer::Binary(*op, first), b)
         }
-        Expr::If(c, a, b) => {
+        Expr::If(c, a, b, _) => {
             let condition = boxed(alloc, here, c)?;
             let first = boxed(alloc, here, a)?;
             nested(alloc, here, Outer::If(condition, first), b)
         }
-        Expr::Arrow(a, b) => {
+        Expr::Arrow(a, b, _) => {
             let first = boxed(alloc, here, a)?;
             nested(alloc, here, Outer::Arrow(first), b)
         }
-        Expr::Fby(a, b) => {
+        Expr::Fby(a, b, _) => {
             let first = boxed(alloc, here, a)?;
             nested(alloc, here, Outer::Fby(first), b)
         }
-        Expr::Pre(a) => nested(alloc, here, Outer::Pre, a),
-        Expr::Current(a) => nested(alloc, here, Outer::Current, a),
-        Expr::When(a, x, sign) => {
-            let clock = variable(alloc, here, x)?;
+        Expr::Pre(a, _) => nested(alloc, here, Outer::Pre, a),
+        Expr::Current(a, _) => nested(alloc, here, Outer::Current, a),
+        Expr::When(a, x, sign, _) => {
+            let clock = variable(alloc, here, x, Sought::Clock)?;
             nested(alloc, here, Outer::When(clock, *sign), a)
         }
-        Expr::Replicate(a, n) => {
+        Expr::Replicate(a, n, _) => {
             let size = one_static(alloc, here, Role::Size, n)?;
             nested(alloc, here, Outer::Replicate(size), a)
         }
-        Expr::Index(a, i) => {
+        Expr::Index(a, i, _) => {
             let index = one_static(alloc, here, Role::Index, i)?;
             nested(alloc, here, Outer::Index(index), a)
         }
-        Expr::Slice(a, i, j) => {
+        Expr::Slice(a, i, j, _) => {
             let start = one_static(alloc, here, Role::SliceStart, i)?;
             let end = one_static(alloc, here, Role::SliceEnd, j)?;
             nested(alloc, here, Outer::Slice(start, end), a)
         }
-        Expr::Join(a, b) => {
+        Expr::Join(a, b, _) => {
             let first = boxed(alloc, here, a)?;
             nested(alloc, here, Outer::Join(first), b)
         }
-        Expr::Array(items) => row(alloc, here, Head::Array, items),
-        Expr::AtMostOne(choices) => row(alloc, here, Head::AtMostOne, choices),
-        Expr::Nor(operands) => row(alloc, here, Head::Nor, operands),
+        Expr::Array(items, _) => row(alloc, here, Head::Array, items),
+        Expr::AtMostOne(choices, _) => row(alloc, here, Head::AtMostOne, choices),
+        Expr::Nor(operands, _) => row(alloc, here, Head::Nor, operands),
         Expr::Call(callee, statics, arguments) => {
             let site = call(alloc, here, callee, statics, None)?;
             row(alloc, here, Head::Call(site), arguments)
         }
-        Expr::Iterate(iterator, operator, n, arguments) => {
+        Expr::Iterate(iterator, operator, n, arguments, _) => {
             let size = one_static(alloc, here, Role::Size, n)?;
-            match operator {
+            match operator.as_ref() {
                 Operator::Node(callee, statics) => {
                     let site = call(alloc, here, callee, statics, Some(size))?;
                     row(alloc, here, Head::IterateNode(*iterator, site), arguments)

@@ -7,10 +7,11 @@ ghost use Rattle.lb_syntax.specs.SourceView.{view_clock, view_group, view_groups
 ghost use Rattle.lb_static.specs.NameFaults.{IsNameFault};
 ghost use Rattle.lb_static.specs.NodeProgress.{ClockStands, texts, counts_in, with_alike};
 ghost use Rattle.lb_static.specs.NodeProgress.{after_group, after_groups, clock_fits};
-ghost use Rattle.lb_static.specs.NodeProgress.{declaration_fits};
+ghost use Rattle.lb_static.specs.NodeProgress.{clock_told, declaration_fits, declaration_told};
 ghost use Rattle.lb_static.specs.Progressed.{progress};
 ghost use Rattle.lb_static.specs.ResolvedTerms.{is_declared_within};
 
+use crate::causes::Sought;
 use crate::error::StaticError;
 use crate::node_builder::NodeBuilder;
 use crate::resolved::{Role, Sampling, Variable};
@@ -27,12 +28,12 @@ fn sampling(
     ensures stands { IfOk result (ClockStands (progress here.now) (view_clock clock.now)) }
     ensures fit { IfOk result (λ _. clock_fits (progress here.now) (view_clock clock.now) ≡ true) }
     ensures err { IfErr result (λ e.
-        IsNameFault e (clock_fits (progress here.now) (view_clock clock.now))) }
+        IsNameFault e (clock_told e (progress here.now) (view_clock clock.now))) }
 {
     match clock {
         None => Ok(None),
         Some(clock) => Ok(Some(Sampling {
-            variable: variable(alloc, here, &clock.variable)?,
+            variable: variable(alloc, here, &clock.variable, Sought::Clock)?,
             sign: clock.sign,
         })),
     }
@@ -65,7 +66,8 @@ fn resolve_group<'s>(
         (progress here.new ≡ after_group (progress here.old) (view_group group.now)) }
     ensures fit { OnOk result (list_all (declaration_fits (progress here.old))
         (declarations (view_group group.now)) ≡ true) }
-    ensures err { IfErr result (λ e. IsNameFault e (list_all (declaration_fits (progress here.old))
+    ensures err { IfErr result (λ e.
+        IsNameFault e (list_all (declaration_told e (progress here.old))
         (declarations (view_group group.now)))) }
 {
     if group.names.is_empty() {
@@ -92,7 +94,8 @@ pub fn resolve_groups<'s>(
         (progress here.new ≡ after_groups (progress here.old) (view_groups groups.now)) }
     ensures fit { OnOk result (list_all (declaration_fits (progress here.old))
         (declared (view_groups groups.now)) ≡ true) }
-    ensures err { IfErr result (λ e. IsNameFault e (list_all (declaration_fits (progress here.old))
+    ensures err { IfErr result (λ e.
+        IsNameFault e (list_all (declaration_told e (progress here.old))
         (declared (view_groups groups.now)))) }
 {
     for group in groups {

@@ -14,16 +14,19 @@ ghost use Rattle.lb_static.specs.Specialized.{runs_forward, part_passes, in_rang
 ghost use Rattle.lb_static.specs.Specialized.{times_sizes, is_narrow, node_in_range, IsEvaluated};
 
 use crate::error::StaticError;
+use crate::instance_paths::InstancePlace;
 use crate::instance_values::InstanceValues;
+use crate::range_faults::range_fault;
 use crate::resolved::{ResolvedNode, Role, StaticPart, StaticText, Variable};
 use crate::static_value::{StaticInt, Values, static_value};
+use crate::value_faults::value_fault;
 use std::alloc::{AllocError, Global};
 
 /// The most elements of an array.
-const LONGEST: u32 = 4096;
+pub const LONGEST: u32 = 4096;
 
 /// The most scalar elements of a declared type.
-const WIDEST: u64 = 65536;
+pub const WIDEST: u64 = 65536;
 
 /// The value of a static expression, or of a name that stands in an expression.
 fn part_value(part: &StaticPart, values: &InstanceValues) -> Option<StaticInt>
@@ -131,27 +134,25 @@ fn are_narrow(variables: &[Variable], values: &[StaticInt]) -> bool
     true
 }
 
-/// The name of a node again.
-fn name_of(alloc: Global, node: &ResolvedNode) -> Result<String, AllocError> {
-    String::from_str(alloc, node.tree.name.as_str())
-}
-
 /// The values of the static expressions of a node under values of names, in the order of the node;
-/// each has one, and each is within its range.
+/// each has one, and each is within its range. The instance of the node stands at a place.
 pub fn specialize(
     alloc: Global,
     node: &ResolvedNode,
     values: &InstanceValues,
+    place: &InstancePlace,
 ) -> Result<Vec<StaticInt>, StaticError>
     requires { list_all (is_declared_within (counts_of node.now)) node.now.variables.items ≡ true }
     ensures { IsEvaluated (given_by values.now) node.now result }
 {
     let Some(statics) = part_values(alloc, &node.statics, values)? else {
-        return Err(StaticError::Value(name_of(alloc, node)?));
+        let fault = value_fault(alloc, node, values, place)?;
+        return Err(StaticError::Value(fault));
     };
     if are_in_range(&node.statics, &statics) && are_narrow(&node.variables, &statics) {
         Ok(statics)
     } else {
-        Err(StaticError::Range(name_of(alloc, node)?))
+        let fault = range_fault(alloc, node, &statics, place)?;
+        Err(StaticError::Range(fault))
     }
 }

@@ -3,13 +3,13 @@
 //! A number token of a tree has 32 bits and no sign, so a value may be past the range of `int`: it
 //! is held in 64 bits. What an operator of arithmetic gives is an `int`, or a part of its operand.
 
-ghost use Rattle.std.specs.Prelude.{◌≡◌, pos};
+ghost use Rattle.std.specs.Prelude.{◌≡◌, pos, IfOk, OnErr};
 ghost use Rattle.lb_syntax.specs.View.{view_static};
 ghost use Rattle.lb_static.specs.Arithmetic.{arithmetic, is_divisible, lawful};
 ghost use Rattle.lb_static.specs.StaticRange.{IsWithinWord};
 ghost use Rattle.lb_static.specs.StaticValues.{value_under, natural};
 
-use lb_syntax::{BinaryOperator, Static};
+use lb_syntax::{BinaryOperator, Name, Static};
 use std::marker::Model;
 
 /// A whole number that a static expression stands for.
@@ -114,19 +114,75 @@ fn combined(op: BinaryOperator, a: StaticInt, b: StaticInt) -> Option<StaticInt>
     }
 }
 
+/// What leaves a static expression without a value.
+#[derive(Clone, Copy)]
+pub enum NoValue<'s> {
+    /// A name that has none.
+    Name(&'s Name),
+    /// A `-` at this offset, whose result is no `int`.
+    Negation {
+        operand: i64,
+        offset: u32,
+    },
+    /// An operator at this offset, which has no result.
+    Operator {
+        operator: BinaryOperator,
+        left: i64,
+        right: i64,
+        offset: u32,
+    },
+}
+
+/// The value of a static expression under the values of names, or the first part in it that has
+/// none, operands before their operator.
+pub fn value_or_fault<'s, V: Values>(
+    expression: &'s Static,
+    values: &V,
+) -> Result<StaticInt, NoValue<'s>>
+    ensures ok { IfOk result (λ v.
+        value_under (V.given values.now) (view_static expression.now) ≡ Some v) }
+    ensures err { OnErr result
+        (value_under (V.given values.now) (view_static expression.now) ≡ None) }
+{
+    match expression {
+        Static::Whole(n, _) => Ok(StaticInt {
+            value: i64::from(*n),
+        }),
+        Static::Named(x) => values.get(x.as_str()).ok_or(NoValue::Name(x)),
+        Static::Grouped(inner, _) => value_or_fault(inner, values),
+        Static::Negated(inner, offset) => {
+            let operand = value_or_fault(inner, values)?.get();
+            lawful(-operand).ok_or(NoValue::Negation {
+                operand,
+                offset: *offset,
+            })
+        }
+        Static::Combined(op, left, right, offset) => {
+            let a = value_or_fault(left, values)?;
+            let b = value_or_fault(right, values)?;
+            combined(*op, a, b).ok_or(NoValue::Operator {
+                operator: *op,
+                left: a.get(),
+                right: b.get(),
+                offset: *offset,
+            })
+        }
+    }
+}
+
 /// The value of a static expression under the values of names; none where a name has none, or an
 /// operator faults.
 pub fn static_value<V: Values>(expression: &Static, values: &V) -> Option<StaticInt>
     ensures { result ≡ value_under (V.given values.now) (view_static expression.now) }
 {
     match expression {
-        Static::Whole(n) => Some(StaticInt {
+        Static::Whole(n, _) => Some(StaticInt {
             value: i64::from(*n),
         }),
         Static::Named(x) => values.get(x.as_str()),
-        Static::Grouped(inner) => static_value(inner, values),
-        Static::Negated(inner) => lawful(-static_value(inner, values)?.get()),
-        Static::Combined(op, left, right) => {
+        Static::Grouped(inner, _) => static_value(inner, values),
+        Static::Negated(inner, _) => lawful(-static_value(inner, values)?.get()),
+        Static::Combined(op, left, right, _) => {
             let a = static_value(left, values)?;
             let b = static_value(right, values)?;
             combined(*op, a, b)

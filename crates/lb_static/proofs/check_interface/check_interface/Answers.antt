@@ -2,7 +2,7 @@ use Rattle.std.proofs.Common.{map}
 use Rattle.std.proofs.lemmas.Result.{err_from_is_err_and}
 use Rattle.lb_static.specs.Interfaces.{view_interface, inputs_of, elements_named}
 use Rattle.lb_static.specs.RootAnswers.{is_root_in}
-use Rattle.lb_static.proofs.RootFaults.{seen_there, root_fault, root_answer}
+use Rattle.lb_static.proofs.RootFaults.{seen_some, root_fault, root_answer}
 use Rattle.lb_static.proofs.InterfaceRules.{root_has_face, root_is}
 use Rattle.lb_static.proofs.check_interface.check_interface.Goals as goal
 
@@ -10,21 +10,19 @@ pub returns-in_err-root : goal.returns-in_err-root
 returns-in_err-root c P names reached table instantiated =
     let p = err_from_is_err_and c.from_residual-in_err-root.result
     c.from_residual-in_err-root.ensures.1 in
-    let found = seen_there (λ s. (s.node.now, s.statics.now)) c.valued_node.result
-    c.in_ok-found.found
-    _ _ c.valued_node.ensures c.in_ok-found.ensures.value in
+    let found = seen_some (λ s. (s.node.now, s.statics.now)) c.valued_node.result
+    c.in-Some.found _ c.valued_node.ensures c.in-Some.is in
     rw (p.1, p.2) (root_fault P c.in_err-root.field-0.0 c.in_err-root.ensures
-    (λ e. absurd (root_has_face P c.args.reached.now c.args.table.now c.in_ok-found.found.node.now
-    c.in_ok-found.found.statics.now reached table instantiated found e)))
+    (λ e. absurd (root_has_face P c.args.reached.now c.args.table.now c.in-Some.found.node.now
+    c.in-Some.found.statics.now reached table instantiated found e)))
 
 pub returns : goal.returns
 returns c P names reached table instantiated =
-    let found = seen_there (λ s. (s.node.now, s.statics.now)) c.valued_node.result
-    c.in_ok-found.found
-    _ _ c.valued_node.ensures c.in_ok-found.ensures.value in
+    let found = seen_some (λ s. (s.node.now, s.statics.now)) c.valued_node.result
+    c.in-Some.found _ c.valued_node.ensures c.in-Some.is in
     let root = view_interface c.in_ok-root.root in
-    let is = root_is P c.args.reached.now c.args.table.now c.in_ok-found.found.node.now
-    c.in_ok-found.found.statics.now root reached table found c.in_ok-root.ensures in
+    let is = root_is P c.args.reached.now c.args.table.now c.in-Some.found.node.now
+    c.in-Some.found.statics.now root reached table found c.in_ok-root.ensures in
     root_answer P (is_root_in c.args.reached.now c.args.table.now root)
     (elements_named (map (λ d. d.name) root.node.inputs) (inputs_of root)) _ is.0 is.1
     c.interface_signature.ensures

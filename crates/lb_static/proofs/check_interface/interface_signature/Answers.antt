@@ -40,24 +40,16 @@ returns-then-not-root c =
           ∙ few root.is_plain so)
     ]
 
-pub returns-in_err-has_property : goal.returns-in_err-has_property
-returns-in_err-has_property c =
-    let p = err_from_is_err_and c.from_residual.result c.from_residual.ensures.1 in
+pub returns-in_err-check_property : goal.returns-in_err-check_property
+returns-in_err-check_property c =
+    let p = err_from_is_err_and c.from_residual-in_err-check_property.result
+    c.from_residual-in_err-check_property.ensures.1 in
     let root = view_interface c.args.root.now in
     let within = nat_le (total (inputs_of root)) 1023 in
     let elements = elements_named (map (λ d. d.name) root.node.inputs) (inputs_of root) in
-    rw (p.1, p.2) (fault_for c.in_err-has_property.field-0.0 c.in_err-has_property.ensures
+    rw (p.1, p.2) (fault_for c.in_err-check_property.field-0.0 c.in_err-check_property.ensures.err
     (λ e. ap (λ b. where_true b elements)
-    (ap (λ o. root.is_plain && (within && either_or o false)) e ∙ none root.is_plain within)))
-
-pub returns-then-not-branch : goal.returns-then-not-branch
-returns-then-not-branch c =
-    let root = view_interface c.args.root.now in
-    let within = nat_le (total (inputs_of root)) 1023 in
-    let elements = elements_named (map (λ d. d.name) root.node.inputs) (inputs_of root) in
-    ap (λ b. where_true b elements)
-    (ap (λ o. root.is_plain && (within && either_or o false)) c.in_ok-has_property.ensures
-    ∙ ap (λ b. root.is_plain && (within && b)) c.if-not-branch.true ∙ none root.is_plain within)
+    (ap (λ b. root.is_plain && (within && b)) e ∙ none root.is_plain within)))
 
 pub returns : goal.returns
 returns c =
@@ -67,8 +59,7 @@ returns c =
     c.scalar_inputs.ensures c.if-scalar_inputs-gt-MOST.false in
     let passes =
     ap (λ o. root.is_plain && (nat_le (total (inputs_of root)) 1023 && either_or o false))
-    c.in_ok-has_property.ensures
-    ∙ ap (λ b. b && (nat_le (total (inputs_of root)) 1023
-    && c.in_ok-has_property.field-0)) c.if-not-root.false
-    ∙ ap (λ b. b && c.in_ok-has_property.field-0) within.1 ∙ c.if-not-branch.false in
+    c.in_ok-check_property.ensures.ok
+    ∙ ap (λ b. b && (nat_le (total (inputs_of root)) 1023 && true)) c.if-not-root.false
+    ∙ ap (λ b. b && true) within.1 in
     ap (λ b. where_true b elements) passes ∙ ap (λ s. Some s) (sym c.in_ok-signature.ensures)

@@ -4,7 +4,7 @@ use Rattle.std.specs.Prelude.{flat_map, map}
 use Rattle.std.proofs.lemmas.List.{length-map}
 use Rattle.lb_syntax.specs.SourceView.{view_constant, view_source}
 use Rattle.lb_syntax.specs.Tree.{Name}
-use Rattle.lb_static.specs.NamedConstants.{AreNamed, keeps_constants, node_constants}
+use Rattle.lb_static.specs.NamedConstants.{AreNamed, told_constants, node_constants}
 use Rattle.lb_static.specs.NameFaults.{IsNameFault, alone}
 use Rattle.lb_static.specs.Names.{named_constants}
 use Rattle.lb_static.specs.ResolvedNodes.{node_of}
@@ -42,6 +42,6 @@ returns-clause-err c =
     ∙ ap (λ o. visited_after_all o (flat_map (node_constants g) nodes)) c.requires.none in
     let fault : IfErr c.check_visited.result
     (λ e. (ys : List Name) → AreNamed s ys c.visit_nodes.new.work_list.order
-    → IsNameFault e (keeps_constants s ys)) = c.check_visited.ensures.err in
+    → IsNameFault e (told_constants e s ys)) = c.check_visited.ensures.err in
     err_more c.check_visited.result _ _ fault
     (λ e h. h xs (subst (AreNamed s xs) (sym order) places))

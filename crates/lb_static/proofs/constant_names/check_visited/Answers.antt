@@ -32,7 +32,7 @@ loop-place-preserved c =
     (slice_get_read items (length items) place c.index.result.now refl below c.index.ensures) in
     let more = more_judged s g c.requires.names count c.requires.once before order done place k
     c.loop-place.invariant.judged (sym c.in-Some.ensures.value) at
-    c.in_default-unknown_name.ensures in
+    c.in_default-first_unknown.ensures in
     let after = c.in_ok-visit_names.ensures.order
     ∙ ap (λ l. visited_after_all order (places_named g l (static_names k.value)))
     c.requires.nothing in
@@ -43,8 +43,8 @@ loop-place-preserved c =
           (subst (λ o. AreJudged s g before o (suc done)) (sym after) more);
     }
 
-pub returns-in-Some-unknown_name-clause-err : goal.returns-in-Some-unknown_name-clause-err
-returns-in-Some-unknown_name-clause-err c xs n =
+pub returns-in-Some-first_unknown-clause-err : goal.returns-in-Some-first_unknown-clause-err
+returns-in-Some-first_unknown-clause-err c xs n =
     let items = c.args.source.now.constants.items in
     let s = view_source c.args.source.now in
     let g = c.args.globals.now in
@@ -60,10 +60,11 @@ returns-in-Some-unknown_name-clause-err c xs n =
     (slice_get_read items (length items) place c.index.result.now refl below c.index.ensures) in
     let few : length c.loop-place.work_list.order ≤ length s.constants =
     omega (arith, c.in-Some.ensures.few, c.loop-place.invariant.count, count) in
-    fault_judged s g c.requires.names count c.requires.once c.refused_name.result
+    fault_judged s g c.requires.names count c.requires.once c.unknown_name.result
     c.args.work_list.now.order c.loop-place.work_list.order c.loop-place.done place k xs
-    c.loop-place.invariant.judged (sym c.in-Some.ensures.value) at few
-    c.in-Some-unknown_name.ensures n c.refused_name.ensures
+    c.in-Some-first_unknown.name.now c.loop-place.invariant.judged (sym c.in-Some.ensures.value) at
+    few
+    c.in-Some-first_unknown.ensures n c.unknown_name.ensures
 
 pub returns-clause-ok : goal.returns-clause-ok
 returns-clause-ok c xs n =

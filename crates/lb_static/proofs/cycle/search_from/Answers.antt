@@ -1,7 +1,9 @@
 -- Each step of the search keeps what it knows, and leaves less to do.
-use Rattle.std.proofs.Common.{refl, rules, arith, ap, ◌∙◌, ◌++◌, ◌∷◌, []}
+use Rattle.std.proofs.Common.{refl, rules, arith, ap, sym, subst, ◌∙◌, ◌++◌, ◌∷◌, [], map}
 use Rattle.std.proofs.lemmas.List.{length-map, nil_from_length}
 use Rattle.std.proofs.lemmas.Option.{slice_get_within}
+use Rattle.lb_static.specs.CallGraphs.{IsCycle}
+use Rattle.lb_static.specs.CycleSearch.{from_first}
 use Rattle.lb_static.specs.declared.cycle.Progress.TheVariants.{Unseen, Open, Done}
 use Rattle.lb_static.proofs.CycleSteps.{begins, last_within, finishes, passes, enters, calls_node}
 use Rattle.lb_static.proofs.CycleSteps.{cycle_found, ends, less_passed, less_finished, less_entered}
@@ -70,8 +72,8 @@ new-requires-in-Unseen c =
     c.in-Some.ensures.items c.in-Some-split_first.ensures.cases.0 in
     omega (arith, within.0, length-map c.args.graph.now (λ v. v.items))
 
-pub loop-visit-smaller-in-Continue-branch-3 : goal.loop-visit-smaller-in-Continue-branch-3
-loop-visit-smaller-in-Continue-branch-3 c =
+pub loop-visit-smaller-in_ok-push-in-Unseen : goal.loop-visit-smaller-in_ok-push-in-Unseen
+loop-visit-smaller-in_ok-push-in-Unseen c =
     let callee = c.in-Some-split_first.field-0-0.now in
     let within =
     calls_node _ c.args.progress.now c.loop-visit.progress c.args.start callee
@@ -86,8 +88,8 @@ loop-visit-smaller-in-Continue-branch-3 c =
     c.new-in-Unseen.ensures.left
     (read_at c.loop-visit.progress callee Unseen Unseen within.1 c.in-Unseen.is)
 
-pub loop-visit-preserved-in-Continue-branch-3 : goal.loop-visit-preserved-in-Continue-branch-3
-loop-visit-preserved-in-Continue-branch-3 c =
+pub loop-visit-preserved-in_ok-push-in-Unseen : goal.loop-visit-preserved-in_ok-push-in-Unseen
+loop-visit-preserved-in_ok-push-in-Unseen c =
     let callee = c.in-Some-split_first.field-0-0.now in
     let within =
     calls_node _ c.args.progress.now c.loop-visit.progress c.args.start callee
@@ -111,17 +113,16 @@ returns-in-Open-clause-answer c =
     calls_node _ c.args.progress.now c.loop-visit.progress c.args.start callee
     c.in-Some-split_first.left.now c.loop-visit.path.items
     c.pop.new.self.items c.in-Some.visit c.requires.within c.loop-visit.invariant
-    c.in-Some.ensures.items c.in-Some-split_first.ensures.cases.0 in (
-      within.0,
-      cycle_found _ c.args.progress.now c.loop-visit.progress c.args.start callee
-          c.in-Some-split_first.left.now c.loop-visit.path.items
-          c.pop.new.self.items c.in-Some.visit c.loop-visit.invariant c.in-Some.ensures.items
-          c.in-Some-split_first.ensures.cases.0
-          (read_at c.loop-visit.progress callee Open Unseen within.1 c.in-Open.is),
-    )
-
-pub returns-in-Open-clause-none : goal.returns-in-Open-clause-none
-returns-in-Open-clause-none c = λ none. absurd cc
+    c.in-Some.ensures.items c.in-Some-split_first.ensures.cases.0 in
+    let path = c.push-in-Some-split_first.new.self.items in
+    let found =
+    cycle_found _ c.args.progress.now c.loop-visit.progress c.args.start callee
+    c.in-Some-split_first.left.now c.loop-visit.path.items
+    c.pop.new.self.items path c.in-Some.visit _ c.loop-visit.invariant c.in-Some.ensures.items
+    c.in_ok-push-in-Some-split_first.ensures.items refl c.in-Some-split_first.ensures.cases.0
+    (read_at c.loop-visit.progress callee Open Unseen within.1 c.in-Open.is) within.0 in
+    subst (IsCycle _) (sym (c.in_ok-path_from-in-Open.ensures
+    ∙ ap (λ l. from_first callee (map (λ f. f.node) l)) c.deref.ensures.value)) found
 
 pub loop-visit-smaller : goal.loop-visit-smaller
 loop-visit-smaller c =

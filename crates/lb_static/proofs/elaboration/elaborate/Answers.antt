@@ -3,8 +3,15 @@ use Rattle.std.proofs.Common.{refl, sym, ap}
 use Rattle.std.specs.Prelude.{option_map}
 use Rattle.std.proofs.lemmas.Result.{err_from_is_err_and}
 use Rattle.lb_static.specs.Elaborated.{elaborated_program, program_of}
-use Rattle.lb_static.proofs.StaticRefusals.{no_fault, root_fault}
+use Rattle.lb_static.proofs.StaticRefusals.{name_fault, no_fault, root_fault}
 use Rattle.lb_static.proofs.elaboration.elaborate.Goals as goal
+
+pub returns-in_err-reached : goal.returns-in_err-reached
+returns-in_err-reached c =
+    let P = program_of c.args.source.now c.args.node.now
+    (option_map (λ o. o.now) c.args.observer) in
+    let p = err_from_is_err_and c.from_residual.result c.from_residual.ensures.1 in
+    rw (p.1, p.2) (name_fault P c.in_err-reached.field-0.0 c.in_err-reached.ensures)
 
 pub returns-in_err-table : goal.returns-in_err-table
 returns-in_err-table c =

@@ -14,7 +14,8 @@ pub returns-in_err-check_recursion : goal.returns-in_err-check_recursion
 returns-in_err-check_recursion c P names reached source =
     let p = err_from_is_err_and c.from_residual.result c.from_residual.ensures.1 in
     rw (p.1, p.2) (calls_fault P c.in_err-check_recursion.field-0.0 names
-    (c.in_err-check_recursion.ensures.answer P names reached))
+    (c.in_err-check_recursion.ensures.answer P names reached)
+    (c.in_err-check_recursion.ensures.told P names reached))
 
 pub returns-then-not-have_no_parameters : goal.returns-then-not-have_no_parameters
 returns-then-not-have_no_parameters c P names reached source =

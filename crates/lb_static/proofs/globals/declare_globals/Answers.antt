@@ -4,7 +4,9 @@ use Rattle.std.proofs.lemmas.Result.{err_from_is_err_and}
 use Rattle.lb_syntax.specs.SourceView.{view_source, view_constant, view_node}
 use Rattle.lb_static.specs.SourceNames.{constants_in}
 use Rattle.lb_static.proofs.Lists.{at_place, map_map}
-use Rattle.lb_static.proofs.Scopes.{doubled_here, doubled_before}
+use Rattle.lb_static.proofs.Scopes.{once_here, once_before}
+use Rattle.lb_static.specs.CountedNames.{Declares}
+use Rattle.lb_static.specs.NameFaults.{is_told}
 use Rattle.lb_static.proofs.Faults.{fault_within}
 use Rattle.lb_static.proofs.globals.declare_globals.Goals as goal
 
@@ -19,9 +21,10 @@ returns-in_err-declare_new-clause-err c =
     ∙ c.loop-constant.invariant in
     let all = at_place (λ k. (view_constant k).name) names items i x _ c.loop-constant-test.true
     c.constant-item.is before in
+    let counts = is_told c.in_err-declare_new.field-0.0 Declares in
     rw (p.1, p.2) (fault_within _ _ _ c.in_err-declare_new.ensures.err
-    (λ e. doubled_before (constants_in (view_source c.args.source.now)) _ _ refl
-    (doubled_here names _ _ x.name all e)))
+    (λ e. once_before counts (constants_in (view_source c.args.source.now)) _ _ refl
+    (once_here counts names _ _ x.name all e)))
 
 pub returns-in_err-declare_new-2-clause-err : goal.returns-in_err-declare_new-2-clause-err
 returns-in_err-declare_new-2-clause-err c =
@@ -36,4 +39,4 @@ returns-in_err-declare_new-2-clause-err c =
     let all = at_place (λ n. (view_node n).name) names items i x _ c.loop-node-test.true
     c.node-item.is before in
     rw (p.1, p.2) (fault_within _ _ _ c.in_err-declare_new-2.ensures.err
-    (λ e. doubled_here names _ _ x.name all e))
+    (λ e. once_here (is_told c.in_err-declare_new-2.field-0.0 Declares) names _ _ x.name all e))

@@ -44,6 +44,7 @@ abbrev no_call : CallSite
 no_call = record {
   callee =
       record { 0 = 0 };
+  offset = 0;
   first_argument = record { 0 = 0 };
   arguments = 0;
   count = None;

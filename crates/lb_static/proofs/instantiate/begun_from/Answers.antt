@@ -16,7 +16,8 @@ pub returns-then-len-clause-judged : goal.returns-then-len-clause-judged
 returns-then-len-clause-judged c = λ P p n before w at k few low.
     let held = c.in_ok-held.held.items in
     let f : SpecializationId × Bor Specialization = (c.in-Some.id, c.in-Some.specialization) in
-    let judged = known_judged P c.args.reached.now c.args.found f c.args.node c.args.values.now held
+    let judged = known_judged P c.args.place.now.reached.now c.args.found f c.args.node
+    c.args.values.now held
     k c.in-Some.is (c.in_ok-held.ensures.items ∙ c.deref.ensures.value) p n at in (
       judged,
       begun_well P before (instance_of p (node_of n) c.args.values.now) n held few low
@@ -33,18 +34,19 @@ returns-in_err-statics-clause-judged c =
     let resolved = c.index-resolved.result.now in
     let e = c.in_err-statics.field-0.0 in
     let same = c.index-resolved.ensures
-    ∙ get_or_from_slice_get c.args.reached.now.nodes.items c.args.node.0 n
+    ∙ get_or_from_slice_get c.args.place.now.reached.now.nodes.items c.args.node.0 n
     c.index-resolved.result.now at in
     let here = subst (λ ps. IsEvaluated (value_given (value_of constants) ps values) resolved
     (Err e)) c.deref-2.ensures.value c.in_err-statics.ensures in
-    let judged = judgement P p n values c.args.reached.now constants w c.args.node.0 at (Err e)
+    let judged = judgement P p n values c.args.place.now.reached.now constants w c.args.node.0 at
+    (Err e)
     (subst (λ m. IsEvaluated (value_given (value_of constants) (node_of m).parameters values) m
     (Err e)) same here) in
     begun_ill P before (instance_of p (node_of n) values) n e few low judged)
 
 pub returns-clause-sized : goal.returns-clause-sized
 returns-clause-sized c =
-    sized_at c.args.reached.now.nodes.items c.args.node.0 c.index-resolved.result.now _
+    sized_at c.args.place.now.reached.now.nodes.items c.args.node.0 c.index-resolved.result.now _
     (Ok c.in_ok-statics.statics) c.index-resolved.ensures c.in_ok-statics.ensures
 
 pub returns-clause-judged : goal.returns-clause-judged
@@ -54,11 +56,12 @@ returns-clause-judged c = λ P p n before w at k few low.
     let resolved = c.index-resolved.result.now in
     let statics = c.in_ok-statics.statics in
     let same = c.index-resolved.ensures
-    ∙ get_or_from_slice_get c.args.reached.now.nodes.items c.args.node.0 n
+    ∙ get_or_from_slice_get c.args.place.now.reached.now.nodes.items c.args.node.0 n
     c.index-resolved.result.now at in
     let here = subst (λ ps. IsEvaluated (value_given (value_of constants) ps values) resolved
     (Ok statics)) c.deref-2.ensures.value c.in_ok-statics.ensures in
-    let judged = judgement P p n values c.args.reached.now constants w c.args.node.0 at (Ok statics)
+    let judged = judgement P p n values c.args.place.now.reached.now constants w c.args.node.0 at
+    (Ok statics)
     (subst (λ m. IsEvaluated (value_given (value_of constants) (node_of m).parameters values) m
     (Ok statics)) same here) in
     (judged, begun_well P before (instance_of p (node_of n) values) n statics.items few low judged)

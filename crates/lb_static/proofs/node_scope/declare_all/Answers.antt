@@ -4,8 +4,8 @@ use Rattle.std.proofs.lemmas.Result.{err_from_is_err_and}
 use Rattle.lb_syntax.specs.Grammar.{declared as declarations_in}
 use Rattle.lb_syntax.specs.SourceView.{view_groups, view_node}
 use Rattle.lb_static.specs.SourceNames.{names_in}
-use Rattle.lb_static.specs.NameFaults.{IsNameFault}
-use Rattle.lb_static.specs.Names.{are_distinct}
+use Rattle.lb_static.specs.CountedNames.{Declares, are_once}
+use Rattle.lb_static.specs.NameFaults.{IsNameFault, is_told}
 use Rattle.lb_static.specs.Parts.{declared_names}
 use Rattle.lb_static.proofs.NodeScopes.{front_fault, inputs_in, outputs_in, locals_in}
 use Rattle.lb_static.proofs.node_scope.declare_all.Goals as goal
@@ -76,5 +76,6 @@ returns-in_err-declare_names-clause-err c =
     ++ names_in (declarations_in (view_groups l))) c.deref-3.ensures.value in
     let same = ap (λ l. c.declare_groups-3.new.declared ++ l) c.deref-4.ensures.value
     ∙ locals_in n _ all in
-    rw (p.1, p.2) (subst (λ l. IsNameFault c.in_err-declare_names.field-0.0 (are_distinct l)) same
+    rw (p.1, p.2) (subst (λ l. IsNameFault c.in_err-declare_names.field-0.0
+    (are_once (is_told c.in_err-declare_names.field-0.0 Declares) l)) same
     c.in_err-declare_names.ensures.err)

@@ -3,7 +3,9 @@ use Rattle.std.proofs.Common.{◌+◌, ◌∙◌, ◌++◌, ◌∷◌, ap, sym, 
 use Rattle.std.proofs.lemmas.List.{drop_more}
 use Rattle.std.proofs.lemmas.Result.{err_from_is_err_and}
 use Rattle.lb_static.proofs.Faults.{fault_within}
-use Rattle.lb_static.proofs.Scopes.{doubled_here}
+use Rattle.lb_static.proofs.Scopes.{once_here}
+use Rattle.lb_static.specs.CountedNames.{Declares}
+use Rattle.lb_static.specs.NameFaults.{is_told}
 use Rattle.lb_static.proofs.node_scope.declare_names.Goals as goal
 
 pub returns-in_err-declare_new-clause-err : goal.returns-in_err-declare_new-clause-err
@@ -17,4 +19,4 @@ returns-in_err-declare_new-clause-err c =
     ∙ ap (λ l. before ++ l) (sym (drop_more names i x c.loop-name-test.true))
     ∙ c.loop-name.invariant in
     rw (p.1, p.2) (fault_within c.in_err-declare_new.field-0.0 _ _ c.in_err-declare_new.ensures.err
-    (λ e. doubled_here before _ _ x all e))
+    (λ e. once_here (is_told c.in_err-declare_new.field-0.0 Declares) before _ _ x all e))

@@ -1,11 +1,14 @@
 -- The parts of the rules of names are judged one after the other.
-use Rattle.std.proofs.Common.{◌≡◌, All, true, map, sym, subst}
+use Rattle.std.proofs.Common.{◌≡◌, All, Err, true, map, ap, sym, subst, ◌∙◌}
 use Rattle.std.specs.Prelude.{option_map}
 use Rattle.std.specs.List.{list_all}
 use Rattle.std.proofs.lemmas.Result.{err_from_is_err_and}
 use Rattle.lb_syntax.specs.SourceView.{view_source}
+use Rattle.lb_static.specs.CalledNodes.{Reaches}
+use Rattle.lb_static.specs.CountedNames.{keeps_names_where}
+use Rattle.lb_static.specs.Names.{keeps_names}
 use Rattle.lb_static.specs.Elaborated.{program_of}
-use Rattle.lb_static.specs.NamedConstants.{keeps_constants_of}
+use Rattle.lb_static.specs.NamedConstants.{keeps_constants_of, told_constants_of}
 use Rattle.lb_static.specs.NameFaults.{IsNameFault, named_in}
 use Rattle.lb_static.specs.ResolvedNodes.{IsResolved, node_of}
 use Rattle.lb_static.proofs.KeptNames.{fault_constants, names_kept, nodes_named}
@@ -34,10 +37,10 @@ returns-in_err-check_constants c =
     let P = program_of c.args.source.now c.args.node.now
     (option_map (λ o. o.now) c.args.observer) in
     let e = c.in_err-check_constants.field-0.0 in
-    let fault = subst (λ l. IsNameFault e (keeps_constants_of s l)) c.deref.ensures.value
+    let fault = subst (λ l. IsNameFault e (told_constants_of e s l)) c.deref.ensures.value
     c.in_err-check_constants.ensures.err in
-    rw (p.1, p.2) (fault_constants P c.in_ok-reached.reached c.in_ok-reached.ensures.1 e
-    fault)
+    subst (Reaches keeps_names keeps_names_where P) (sym (p.1 ∙ ap Err p.2))
+    (fault_constants P c.in_ok-reached.reached c.in_ok-reached.ensures.1 e fault)
 
 pub returns : goal.returns
 returns c =

@@ -3,7 +3,7 @@ use Rattle.std.proofs.Common.{◌≡◌, true, ap, subst, ◌∙◌}
 use Rattle.std.proofs.lemmas.Result.{err_from_is_err_and}
 use Rattle.lb_syntax.specs.SourceView.{view_node, view_source}
 use Rattle.lb_static.specs.NameFaults.{IsNameFault}
-use Rattle.lb_static.specs.NodeProgress.{after_node, node_fits}
+use Rattle.lb_static.specs.NodeProgress.{after_node, node_fits, node_told}
 use Rattle.lb_static.specs.Progressed.{progress}
 use Rattle.lb_static.proofs.FinishedNodes.{at_start, started, all_found, resolved}
 use Rattle.lb_static.proofs.NamedNodes.{all_named, node_fault}
@@ -20,7 +20,7 @@ returns-in_err-parts-clause-err c =
     let a = started c.in_ok-node_scope.node_scope (progress c.new-here.result) c.args.source.now n
     c.new-here.ensures c.in_ok-node_scope.ensures.source c.in_ok-node_scope.ensures.tree in
     let f = c.in_err-parts.field-0.0 in
-    let fault = subst (λ t. IsNameFault f (node_fits t (view_node n))) a
+    let fault = subst (λ t. IsNameFault f (node_told f t (view_node n))) a
     c.in_err-parts.ensures.err in
     rw (p.1, p.2) (node_fault (at_start (view_source c.args.source.now) n) f fault)
 

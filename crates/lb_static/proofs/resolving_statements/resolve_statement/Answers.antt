@@ -7,10 +7,11 @@ use Rattle.std.proofs.lemmas.Bool.{and_right as false_second}
 use Rattle.lb_syntax.specs.Tree as tree
 use Rattle.lb_syntax.specs.Tree.{Name}
 use Rattle.lb_syntax.specs.View.{view}
-use Rattle.lb_static.specs.NameFaults.{IsNameFault}
+use Rattle.lb_static.specs.CountedNames.{Variables, counted}
+use Rattle.lb_static.specs.NameFaults.{IsNameFault, is_told}
 use Rattle.lb_static.specs.Names.{is_variable}
 use Rattle.lb_static.specs.NodeProgress.{Progress, ResolvesTerm, ResolvesStatement, texts}
-use Rattle.lb_static.specs.NodeProgress.{counts_in, program_of, expr_passes}
+use Rattle.lb_static.specs.NodeProgress.{counts_in, program_of, expr_told}
 use Rattle.lb_static.specs.Parts.{variable_names}
 use Rattle.lb_static.specs.Progressed.{progress}
 use Rattle.lb_static.specs.ResolvedTerms.{name_at, is_variable as is_place}
@@ -61,10 +62,11 @@ returns-in_err-places-in-Equation c =
     let before = progress c.args.here.now in
     let f = c.in_err-places-in-Equation.field-0.0 in
     let refused = subst (λ l. IsNameFault f
-    (list_all (is_variable (program_of before) before.node) l)) c.deref.ensures.value
+    (list_all (counted (is_told f Variables) (is_variable (program_of before) before.node)) l))
+    c.deref.ensures.value
     c.in_err-places-in-Equation.ensures.err in
     rw (p.1, p.2) (rw c.in-Equation.is
-    (fault_within f _ _ refused (λ e. false_first _ (expr_passes before (view c.in-Equation.e)) e)))
+    (fault_within f _ _ refused (λ e. false_first _ (expr_told f before (view c.in-Equation.e)) e)))
 
 pub returns-in_err-term-in-Equation : goal.returns-in_err-term-in-Equation
 returns-in_err-term-in-Equation c =
@@ -72,7 +74,9 @@ returns-in_err-term-in-Equation c =
     c.from_residual-in_err-term-in-Equation.ensures.1 in
     let before = progress c.args.here.now in
     let f = c.in_err-term-in-Equation.field-0.0 in
-    let lefts = list_all (is_variable (program_of before) before.node) c.in-Equation.lefts.items in
+    let lefts =
+    list_all (counted (is_told f Variables) (is_variable (program_of before) before.node))
+    c.in-Equation.lefts.items in
     rw (p.1, p.2) (rw c.in-Equation.is
     (fault_within f _ _ c.in_err-term-in-Equation.ensures (λ e. false_second lefts _ e)))
 

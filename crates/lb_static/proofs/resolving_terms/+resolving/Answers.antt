@@ -1,6 +1,6 @@
 -- What stands for an expression whose parts are resolved, and which faults of parts are its own.
-use Rattle.std.proofs.Common.{◌≡◌, ◌+◌, Bool, Ok, refl, Vec, Global, Option, None, Some, List, map}
-use Rattle.std.proofs.Common.{take, ap, sym, subst, ◌∙◌}
+use Rattle.std.proofs.Common.{◌≡◌, ℕ, ◌+◌, Bool, Ok, refl, Vec, Global, Option, None, Some, List}
+use Rattle.std.proofs.Common.{map, take, ap, sym, subst, ◌∙◌}
 use Rattle.std.proofs.lemmas.Result.{err_from_is_err_and}
 use Rattle.std.specs.Prelude.{◌&&◌, Box, Err, IsErrAnd, Result, length, nat_lt}
 use Rattle.std.proofs.lemmas.Bool.{and_from as both, and_left as false_first}
@@ -13,14 +13,16 @@ use Rattle.lb_syntax.specs.declared.tree.Expr.{Expr}
 use Rattle.lb_syntax.specs.declared.tree.ArrayIterator.{ArrayIterator}
 use Rattle.lb_syntax.specs.declared.tree.Operator.{Operator}
 use Rattle.lb_syntax.specs.declared.tree.Static.{Static}
-use Rattle.lb_static.specs.NodeProgress.{Progress, texts, grown, expr_passes, exprs_pass}
-use Rattle.lb_static.specs.NodeProgress.{static_fits, program_of, ResolvesCall, ResolvesTerm}
+use Rattle.lb_static.specs.NodeProgress.{Progress, texts, grown}
+use Rattle.lb_static.specs.NodeProgress.{expr_told, exprs_told, static_told}
+use Rattle.lb_static.specs.NodeProgress.{program_of, ResolvesCall, ResolvesTerm}
 use Rattle.lb_static.specs.ResolvedTerms.{expr_of, name_at, static_at}
 use Rattle.lb_static.specs.StaticParts.{Part}
 use Rattle.lb_static.specs.declared.resolved.CallId.{CallId}
 use Rattle.lb_static.specs.declared.resolved.Role.TheVariants.{Size, SliceStart, SliceEnd}
 use Rattle.lb_static.specs.Instances.{Site}
-use Rattle.lb_static.specs.NameFaults.{IsNameFault}
+use Rattle.lb_static.specs.CountedNames.{Variables, counted}
+use Rattle.lb_static.specs.NameFaults.{IsNameFault, is_told}
 use Rattle.lb_static.specs.Names.{is_variable}
 use Rattle.lb_static.specs.declared.error.StaticError.{StaticError}
 use Rattle.lb_static.specs.Nested.{around, before_row, ResolvesNested, ResolvesRow}
@@ -62,41 +64,41 @@ second_refused f p q h = fault_within f q (p && q) h (false_second p q)
 
 -- a fault in a box
 box_refused : (s : Progress) (f : StaticError) (e g : Expr) → e ≡ g
-    → IsNameFault f (expr_passes s (view e)) → IsNameFault f (expr_passes s (view g))
-box_refused s f e g same h = subst (λ x. IsNameFault f (expr_passes s (view x))) same h
+    → IsNameFault f (expr_told f s (view e)) → IsNameFault f (expr_told f s (view g))
+box_refused s f e g same h = subst (λ x. IsNameFault f (expr_told f s (view x))) same h
 
 -- a fault that is found after more is resolved
 before_more : (before mid : Progress) (P : List Part) (C : List Site) (f : StaticError)
     (e : tree.Expr)
-    → mid ≡ grown before P C → IsNameFault f (expr_passes mid e)
-    → IsNameFault f (expr_passes before e)
-before_more before mid P C f e is h = subst (λ s. IsNameFault f (expr_passes s e)) is h
+    → mid ≡ grown before P C → IsNameFault f (expr_told f mid e)
+    → IsNameFault f (expr_told f before e)
+before_more before mid P C f e is h = subst (λ s. IsNameFault f (expr_told f s e)) is h
 
 static_before : (before mid : Progress) (P : List Part) (C : List Site) (f : StaticError)
     (x : tree.Static)
-    → mid ≡ grown before P C → IsNameFault f (static_fits mid x)
-    → IsNameFault f (static_fits before x)
-static_before before mid P C f x is h = subst (λ s. IsNameFault f (static_fits s x)) is h
+    → mid ≡ grown before P C → IsNameFault f (static_told f mid x)
+    → IsNameFault f (static_told f before x)
+static_before before mid P C f x is h = subst (λ s. IsNameFault f (static_told f s x)) is h
 
 -- a fault in the size of an iteration
 sized_refused : (s : Progress) (f : StaticError) (it : ArrayIterator) (o : tree.Operator)
     (n : tree.Static) (es : tree.Exprs)
-    → IsNameFault f (static_fits s n) → IsNameFault f (expr_passes s (tree.Iterate it o n es))
+    → IsNameFault f (static_told f s n) → IsNameFault f (expr_told f s (tree.Iterate it o n es))
 sized_refused s f it (tree.Node_named x args) n es h = first_refused f _ _ h
 sized_refused s f it (tree.Symbol op) n es h = first_refused f _ _ h
 
-size_refused : (s : Progress) (f : StaticError) (it : ArrayIterator) (o : Operator) (n : Static)
-    (es : Vec Expr Global)
-    → IsNameFault f (static_fits s (view_static n))
-    → IsNameFault f (expr_passes s (view (source.Iterate it o n es)))
-size_refused s f it o n es h =
-    subst (λ e. IsNameFault f (expr_passes s e)) (sym (view_iterate it o n es))
-    (sized_refused s f it (view_operator o) (view_static n) _ h)
+size_refused : (s : Progress) (f : StaticError) (it : ArrayIterator) (o : Box Operator Global)
+    (n : Static) (es : Vec Expr Global) (at : ℕ)
+    → IsNameFault f (static_told f s (view_static n))
+    → IsNameFault f (expr_told f s (view (source.Iterate it o n es at)))
+size_refused s f it o n es at h =
+    subst (λ e. IsNameFault f (expr_told f s e)) (sym (view_iterate it o o.value refl n es at))
+    (sized_refused s f it (view_operator o.value) (view_static n) _ h)
 
 -- an exit with a fault, where the expression is known to be another
 exit_refused : (before after : Progress) (e g : Expr) (r : Result Term StaticError)
     (f : StaticError) → e ≡ g → IsErrAnd r (λ y. y ≡ f)
-    → IsNameFault f (expr_passes before (view g)) → ResolvesTerm before after (view e) r
+    → IsNameFault f (expr_told f before (view g)) → ResolvesTerm before after (view e) r
 exit_refused before after e g r f same gives h =
     let p = err_from_is_err_and r gives in
     rw (p.1, p.2, same) h
@@ -108,8 +110,8 @@ nested_as : (before mid after : Progress) (F : Outer) (x a : Expr) (whole : tree
     (r : Result Term StaticError) → x ≡ a
     → ((b : Box Term Global) → Done mid after (view a) b.value
     → Done before after whole (around F b))
-    → ((f : StaticError) → IsNameFault f (expr_passes mid (view a))
-    → IsNameFault f (expr_passes before whole))
+    → ((f : StaticError) → IsNameFault f (expr_told f mid (view a))
+    → IsNameFault f (expr_told f before whole))
     → ResolvesNested mid after F (view x) r → ResolvesTerm before after whole r
 nested_as before mid after F x a whole (Ok t) same done fault h =
     subst (λ z. Done before after whole z) (sym h.1)
@@ -122,14 +124,14 @@ row_as : (before mid after : Progress) (H : Head) (xs es : List Expr) (whole : t
     (r : Result Term StaticError) → xs ≡ es
     → ((ts : Vec Term Global) → AllDone mid after (map view es) ts
     → Done before after whole (before_row H ts))
-    → ((f : StaticError) → IsNameFault f (exprs_pass mid (map view es))
-    → IsNameFault f (expr_passes before whole))
+    → ((f : StaticError) → IsNameFault f (exprs_told f mid (map view es))
+    → IsNameFault f (expr_told f before whole))
     → ResolvesRow mid after H (map view xs) r → ResolvesTerm before after whole r
 row_as before mid after H xs es whole (Ok t) same done fault h =
     subst (λ z. Done before after whole z) (sym h.1)
     (done h.0 (in_list mid after xs es h.0 same h.2))
 row_as before mid after H xs es whole (Err f) same done fault h =
-    fault f (subst (λ l. IsNameFault f (exprs_pass mid (map view l))) same h)
+    fault f (subst (λ l. IsNameFault f (exprs_told f mid (map view l))) same h)
 
 pub term-returns-in_err-first-in-Binary : goal.term-returns-in_err-first-in-Binary
 term-returns-in_err-first-in-Binary t c =
@@ -139,7 +141,7 @@ term-returns-in_err-first-in-Binary t c =
     c.in_err-first-in-Binary.ensures in
     exit_refused before _ c.args.e.now _ c.from_residual.result f c.in-Binary.is
     c.from_residual.ensures.1
-    (first_refused f _ (expr_passes before (view c.in-Binary.b.value)) refused)
+    (first_refused f _ (expr_told f before (view c.in-Binary.b.value)) refused)
 
 pub term-returns-in_err-condition-in-If : goal.term-returns-in_err-condition-in-If
 term-returns-in_err-condition-in-If t c =
@@ -149,7 +151,7 @@ term-returns-in_err-condition-in-If t c =
     c.in_err-condition-in-If.ensures in
     exit_refused before _ c.args.e.now _ c.from_residual-in_err-condition-in-If.result f c.in-If.is
     c.from_residual-in_err-condition-in-If.ensures.1
-    (first_refused f _ (expr_passes before (view c.in-If.a.value) && expr_passes before
+    (first_refused f _ (expr_told f before (view c.in-If.a.value) && expr_told f before
     (view c.in-If.b.value)) refused)
 
 pub term-returns-in_err-first-in-If : goal.term-returns-in_err-first-in-If
@@ -163,8 +165,8 @@ term-returns-in_err-first-in-If t c =
     (view c.in-If.a.value) c.in_ok-condition-in-If.ensures.0 refused in
     exit_refused before _ c.args.e.now _ c.from_residual-in_err-first-in-If.result f c.in-If.is
     c.from_residual-in_err-first-in-If.ensures.1
-    (second_refused f (expr_passes before (view c.in-If.c.value)) _
-    (first_refused f _ (expr_passes before (view c.in-If.b.value)) earlier))
+    (second_refused f (expr_told f before (view c.in-If.c.value)) _
+    (first_refused f _ (expr_told f before (view c.in-If.b.value)) earlier))
 
 pub term-returns-in_err-first-in-Arrow : goal.term-returns-in_err-first-in-Arrow
 term-returns-in_err-first-in-Arrow t c =
@@ -174,7 +176,7 @@ term-returns-in_err-first-in-Arrow t c =
     c.in_err-first-in-Arrow.ensures in
     exit_refused before _ c.args.e.now _ c.from_residual-in_err-first-in-Arrow.result f
     c.in-Arrow.is c.from_residual-in_err-first-in-Arrow.ensures.1
-    (first_refused f _ (expr_passes before (view c.in-Arrow.b.value)) refused)
+    (first_refused f _ (expr_told f before (view c.in-Arrow.b.value)) refused)
 
 pub term-returns-in_err-first-in-Fby : goal.term-returns-in_err-first-in-Fby
 term-returns-in_err-first-in-Fby t c =
@@ -184,7 +186,7 @@ term-returns-in_err-first-in-Fby t c =
     c.in_err-first-in-Fby.ensures in
     exit_refused before _ c.args.e.now _ c.from_residual-in_err-first-in-Fby.result f c.in-Fby.is
     c.from_residual-in_err-first-in-Fby.ensures.1
-    (first_refused f _ (expr_passes before (view c.in-Fby.b.value)) refused)
+    (first_refused f _ (expr_told f before (view c.in-Fby.b.value)) refused)
 
 pub term-returns-in_err-clock-in-When : goal.term-returns-in_err-clock-in-When
 term-returns-in_err-clock-in-When t c =
@@ -192,7 +194,7 @@ term-returns-in_err-clock-in-When t c =
     let f = c.in_err-clock-in-When.field-0.0 in
     exit_refused before _ c.args.e.now _ c.from_residual-in_err-clock-in-When.result f c.in-When.is
     c.from_residual-in_err-clock-in-When.ensures.1
-    (first_refused f _ (expr_passes before (view c.in-When.a.value))
+    (first_refused f _ (expr_told f before (view c.in-When.a.value))
     c.in_err-clock-in-When.ensures.err)
 
 pub term-returns-in_err-size-in-Replicate : goal.term-returns-in_err-size-in-Replicate
@@ -201,7 +203,7 @@ term-returns-in_err-size-in-Replicate t c =
     let f = c.in_err-size-in-Replicate.field-0.0 in
     exit_refused before _ c.args.e.now _ c.from_residual-in_err-size-in-Replicate.result f
     c.in-Replicate.is c.from_residual-in_err-size-in-Replicate.ensures.1
-    (first_refused f _ (expr_passes before (view c.in-Replicate.a.value))
+    (first_refused f _ (expr_told f before (view c.in-Replicate.a.value))
     c.in_err-size-in-Replicate.ensures)
 
 pub term-returns-in_err-index-in-Index : goal.term-returns-in_err-index-in-Index
@@ -210,7 +212,7 @@ term-returns-in_err-index-in-Index t c =
     let f = c.in_err-index-in-Index.field-0.0 in
     exit_refused before _ c.args.e.now _ c.from_residual-in_err-index-in-Index.result f
     c.in-Index.is c.from_residual-in_err-index-in-Index.ensures.1
-    (first_refused f _ (expr_passes before (view c.in-Index.a.value))
+    (first_refused f _ (expr_told f before (view c.in-Index.a.value))
     c.in_err-index-in-Index.ensures)
 
 pub term-returns-in_err-start-in-Slice : goal.term-returns-in_err-start-in-Slice
@@ -219,7 +221,7 @@ term-returns-in_err-start-in-Slice t c =
     let f = c.in_err-start-in-Slice.field-0.0 in
     exit_refused before _ c.args.e.now _ c.from_residual-in_err-start-in-Slice.result f
     c.in-Slice.is c.from_residual-in_err-start-in-Slice.ensures.1
-    (first_refused f _ (static_fits before (view_static c.in-Slice.j) && expr_passes before
+    (first_refused f _ (static_told f before (view_static c.in-Slice.j) && expr_told f before
     (view c.in-Slice.a.value)) c.in_err-start-in-Slice.ensures)
 
 pub term-returns-in_err-end-in-Slice : goal.term-returns-in_err-end-in-Slice
@@ -231,8 +233,8 @@ term-returns-in_err-end-in-Slice t c =
     (view_static c.in-Slice.j) c.in_ok-start-in-Slice.ensures.0 c.in_err-end-in-Slice.ensures in
     exit_refused before _ c.args.e.now _ c.from_residual-in_err-end-in-Slice.result f c.in-Slice.is
     c.from_residual-in_err-end-in-Slice.ensures.1
-    (second_refused f (static_fits before (view_static c.in-Slice.i)) _
-    (first_refused f _ (expr_passes before (view c.in-Slice.a.value)) earlier))
+    (second_refused f (static_told f before (view_static c.in-Slice.i)) _
+    (first_refused f _ (expr_told f before (view c.in-Slice.a.value)) earlier))
 
 pub term-returns-in_err-first-in-Join : goal.term-returns-in_err-first-in-Join
 term-returns-in_err-first-in-Join t c =
@@ -242,7 +244,7 @@ term-returns-in_err-first-in-Join t c =
     c.in_err-first-in-Join.ensures in
     exit_refused before _ c.args.e.now _ c.from_residual-in_err-first-in-Join.result f c.in-Join.is
     c.from_residual-in_err-first-in-Join.ensures.1
-    (first_refused f _ (expr_passes before (view c.in-Join.b.value)) refused)
+    (first_refused f _ (expr_told f before (view c.in-Join.b.value)) refused)
 
 pub term-returns-in_err-size-in-Iterate : goal.term-returns-in_err-size-in-Iterate
 term-returns-in_err-size-in-Iterate t c =
@@ -251,7 +253,7 @@ term-returns-in_err-size-in-Iterate t c =
     exit_refused before _ c.args.e.now _ c.from_residual-in_err-size-in-Iterate.result f
     c.in-Iterate.is c.from_residual-in_err-size-in-Iterate.ensures.1
     (size_refused before f c.in-Iterate.iterator c.in-Iterate.operator c.in-Iterate.n
-    c.in-Iterate.arguments c.in_err-size-in-Iterate.ensures)
+    c.in-Iterate.arguments c.in-Iterate.field-4 c.in_err-size-in-Iterate.ensures)
 
 pub term-returns-in-Group : goal.term-returns-in-Group
 term-returns-in-Group t c =
@@ -313,7 +315,7 @@ term-returns-in_ok-first-in-Binary t c =
       ),
       r.3,
     ))
-    (λ f h. second_refused f (expr_passes before (view a)) _
+    (λ f h. second_refused f (expr_told f before (view a)) _
     (before_more before mid _ _ f (view b) d.0 h)) c.nested-in-Binary.ensures)
 
 pub term-returns-in_ok-first-in-Arrow : goal.term-returns-in_ok-first-in-Arrow
@@ -333,7 +335,7 @@ term-returns-in_ok-first-in-Arrow t c =
       (same_two tree.Arrow _ _ _ _ r.1.0 r.2.0, both _ _ r.1.1 r.2.1, both _ _ r.1.2 r.2.2),
       r.3,
     ))
-    (λ f h. second_refused f (expr_passes before (view a)) _
+    (λ f h. second_refused f (expr_told f before (view a)) _
     (before_more before mid _ _ f (view b) d.0 h)) c.nested-in-Arrow.ensures)
 
 pub term-returns-in_ok-first-in-Fby : goal.term-returns-in_ok-first-in-Fby
@@ -352,7 +354,7 @@ term-returns-in_ok-first-in-Fby t c =
       (same_two tree.Fby _ _ _ _ r.1.0 r.2.0, both _ _ r.1.1 r.2.1, both _ _ r.1.2 r.2.2),
       r.3,
     ))
-    (λ f h. second_refused f (expr_passes before (view a)) _
+    (λ f h. second_refused f (expr_told f before (view a)) _
     (before_more before mid _ _ f (view b) d.0 h)) c.nested-in-Fby.ensures)
 
 pub term-returns-in_ok-first-in-Join : goal.term-returns-in_ok-first-in-Join
@@ -372,7 +374,7 @@ term-returns-in_ok-first-in-Join t c =
       (same_two tree.Join _ _ _ _ r.1.0 r.2.0, both _ _ r.1.1 r.2.1, both _ _ r.1.2 r.2.2),
       r.3,
     ))
-    (λ f h. second_refused f (expr_passes before (view a)) _
+    (λ f h. second_refused f (expr_told f before (view a)) _
     (before_more before mid _ _ f (view b) d.0 h)) c.nested-in-Join.ensures)
 
 pub term-returns-in_ok-first-in-If : goal.term-returns-in_ok-first-in-If
@@ -404,8 +406,8 @@ term-returns-in_ok-first-in-If t c =
       ),
       r.4,
     ))
-    (λ f h. second_refused f (expr_passes before (view test)) _
-    (second_refused f (expr_passes before (view a)) _
+    (λ f h. second_refused f (expr_told f before (view test)) _
+    (second_refused f (expr_told f before (view a)) _
     (before_more before mid _ _ f (view b) d.0 (before_more mid next _ _ f (view b) g.0 h))))
     c.nested-in-If.ensures)
 
@@ -432,7 +434,8 @@ term-returns-in_ok-clock-in-When t c =
       ),
       both _ _ is d.2,
     ))
-    (λ f h. second_refused f (is_variable (program_of before) before.node x) _ h)
+    (λ f h. second_refused f
+    (counted (is_told f Variables) (is_variable (program_of before) before.node) x) _ h)
     c.nested-in-When.ensures)
 
 pub term-returns-in_ok-size-in-Replicate : goal.term-returns-in_ok-size-in-Replicate
@@ -448,7 +451,7 @@ term-returns-in_ok-size-in-Replicate t c =
     (tree.Replicate (view a) n) c.nested-in-Replicate.result c.deref-in-Replicate.ensures
     (λ b d. let r = static_done before mid after _ n (view a) id b.value s d in
     (r.0, (same_two tree.Replicate _ _ _ _ r.2.0 r.1.0, both _ _ r.1.1 r.2.1, r.2.2), r.3))
-    (λ f h. second_refused f (static_fits before n) _
+    (λ f h. second_refused f (static_told f before n) _
     (before_more before mid _ _ f (view a) s.0 h))
     c.nested-in-Replicate.ensures)
 
@@ -465,7 +468,7 @@ term-returns-in_ok-index-in-Index t c =
     (tree.Index (view a) n) c.nested-in-Index.result c.deref-in-Index.ensures
     (λ b d. let r = static_done before mid after _ n (view a) id b.value s d in
     (r.0, (same_two tree.Index _ _ _ _ r.2.0 r.1.0, both _ _ r.1.1 r.2.1, r.2.2), r.3))
-    (λ f h. second_refused f (static_fits before n) _
+    (λ f h. second_refused f (static_told f before n) _
     (before_more before mid _ _ f (view a) s.0 h))
     c.nested-in-Index.ensures)
 
@@ -498,7 +501,7 @@ term-returns-in_ok-end-in-Slice t c =
       ),
       r.4,
     ))
-    (λ f h. second_refused f (static_fits before i) _ (second_refused f (static_fits before j) _
+    (λ f h. second_refused f (static_told f before i) _ (second_refused f (static_told f before j) _
     (before_more before mid _ _ f (view a) s.0 (before_more mid next _ _ f (view a) p.0 h))))
     c.nested-in-Slice.ensures)
 
@@ -507,28 +510,33 @@ term-returns-in-Array t c =
     let before = progress c.args.here.now in
     let after = progress c.row.new.here in
     let es = c.in-Array.items in
+    let at = c.in-Array.field-1 in
     rw c.in-Array.is (row_as before before after heads.Array _ es.items
-    (view (source.Array es)) c.row.result c.deref-in-Array.ensures.value
-    (λ ts d. array_done before after es ts d) (λ f h. array_fault before f es h) c.row.ensures)
+    (view (source.Array es at)) c.row.result c.deref-in-Array.ensures.value
+    (λ ts d. array_done before after es at ts d)
+    (λ f h. array_fault before f es at h) c.row.ensures)
 
 pub term-returns-in-AtMostOne : goal.term-returns-in-AtMostOne
 term-returns-in-AtMostOne t c =
     let before = progress c.args.here.now in
     let after = progress c.row-in-AtMostOne.new.here in
     let es = c.in-AtMostOne.choices in
+    let at = c.in-AtMostOne.field-1 in
     rw c.in-AtMostOne.is (row_as before before after heads.AtMostOne _ es.items
-    (view (source.AtMostOne es)) c.row-in-AtMostOne.result c.deref-in-AtMostOne.ensures.value
-    (λ ts d. at_most_one_done before after es ts d)
-    (λ f h. at_most_one_fault before f es h) c.row-in-AtMostOne.ensures)
+    (view (source.AtMostOne es at)) c.row-in-AtMostOne.result c.deref-in-AtMostOne.ensures.value
+    (λ ts d. at_most_one_done before after es at ts d)
+    (λ f h. at_most_one_fault before f es at h) c.row-in-AtMostOne.ensures)
 
 pub term-returns-in-Nor : goal.term-returns-in-Nor
 term-returns-in-Nor t c =
     let before = progress c.args.here.now in
     let after = progress c.row-in-Nor.new.here in
     let es = c.in-Nor.operands in
+    let at = c.in-Nor.field-1 in
     rw c.in-Nor.is (row_as before before after heads.Nor _ es.items
-    (view (source.Nor es)) c.row-in-Nor.result c.deref-in-Nor.ensures.value
-    (λ ts d. nor_done before after es ts d) (λ f h. nor_fault before f es h) c.row-in-Nor.ensures)
+    (view (source.Nor es at)) c.row-in-Nor.result c.deref-in-Nor.ensures.value
+    (λ ts d. nor_done before after es at ts d)
+    (λ f h. nor_fault before f es at h) c.row-in-Nor.ensures)
 
 -- a call of a name with these static arguments, as it stands in the text
 resolved_call : (before mid : Progress) (f : Name) (ss args : List Static)
@@ -563,25 +571,28 @@ term-returns-in_ok-site-in-Node t c =
     let next = progress c.call-in-Node.new.here in
     let after = progress c.row-in-Node.new.here in
     let it = c.in-Iterate.iterator in
+    let o = c.in-Iterate.operator in
     let f = c.in-Node.callee in
     let args = c.in-Node.statics in
     let n = c.in-Iterate.n in
     let es = c.in-Iterate.arguments in
+    let at = c.in-Iterate.field-4 in
     let id = c.in_ok-site-in-Node.site in
     let size = c.in_ok-size-in-Iterate.ensures in
     let x = site_for f args.items (Some (view_static n)) in
     let d = resolved_call mid next f _ args.items _
     (Some (view_static n)) id c.deref-in-Node.ensures.value
     (ap Some size.1.0) c.in_ok-site-in-Node.ensures in
-    rw (c.in-Iterate.is, c.in-Node.is) (row_as before next after
+    let same = sym c.as_ref.ensures ∙ c.in-Node.is in
+    rw c.in-Iterate.is (row_as before next after
     (heads.IterateNode it id) _ es.items _ c.row-in-Node.result c.deref-in-Node-2.ensures.value
     (λ ts g.
     let q = call_done mid next after x (map view es.items) id ts d g in
-    iterate_node_done before after es ts it f args n id
+    iterate_node_done before after es ts it o f args same n at id
     (sized_call_done before mid after Size (view_static n) x
     (map view es.items) c.in_ok-size-in-Iterate.size id ts.items size q))
-    (λ e h. fault_after_node before mid e it f args n es _ _ size.0
-    (subst (λ k. IsNameFault e (exprs_pass k (map view es.items))) d.0 h)) c.row-in-Node.ensures)
+    (λ e h. fault_after_node before mid e it o f args same n es at _ _ size.0
+    (subst (λ k. IsNameFault e (exprs_told e k (map view es.items))) d.0 h)) c.row-in-Node.ensures)
 
 pub term-returns-in-Symbol : goal.term-returns-in-Symbol
 term-returns-in-Symbol t c =
@@ -589,17 +600,20 @@ term-returns-in-Symbol t c =
     let mid = progress c.one_static-in-Iterate.new.here in
     let after = progress c.row-in-Symbol.new.here in
     let it = c.in-Iterate.iterator in
+    let o = c.in-Iterate.operator in
     let op = c.in-Symbol.op in
     let n = c.in-Iterate.n in
     let es = c.in-Iterate.arguments in
+    let at = c.in-Iterate.field-4 in
     let id = c.in_ok-size-in-Iterate.size in
     let size = c.in_ok-size-in-Iterate.ensures in
-    rw (c.in-Iterate.is, c.in-Symbol.is)
+    let same = sym c.as_ref.ensures ∙ c.in-Symbol.is in
+    rw c.in-Iterate.is
     (row_as before mid after (heads.IterateSymbol it op id) _ es.items _ c.row-in-Symbol.result
     c.deref-in-Symbol.ensures.value
-    (λ ts g. iterate_symbol_done before after es ts it op n id
+    (λ ts g. iterate_symbol_done before after es ts it o op same n at id
     (size_done before mid after Size (view_static n) (map view es.items) id ts size g))
-    (λ e h. fault_after_symbol before mid e it op n es _ _ size.0 h) c.row-in-Symbol.ensures)
+    (λ e h. fault_after_symbol before mid e it o op same n es at _ _ size.0 h) c.row-in-Symbol.ensures)
 
 pub nested-returns-in-Group : goal.nested-returns-in-Group
 nested-returns-in-Group t c =

@@ -6,7 +6,7 @@ use Rattle.std.proofs.lemmas.Result.{err_from_is_err_and, on_ok_weaker}
 use Rattle.lb_syntax.specs.SourceView.{view_group}
 use Rattle.lb_syntax.specs.View.{view_statics}
 use Rattle.lb_static.specs.NameFaults.{IsNameFault}
-use Rattle.lb_static.specs.NodeProgress.{ResolvesStatics, statics_fit, with_alike}
+use Rattle.lb_static.specs.NodeProgress.{ResolvesStatics, statics_fit, statics_told, with_alike}
 use Rattle.lb_static.specs.Progressed.{progress}
 use Rattle.lb_static.specs.declared.resolved.Role.TheVariants.{Size}
 use Rattle.lb_static.proofs.NodeVariables.{clock_fault, sizes_fault, group_done, group_fits}
@@ -32,8 +32,8 @@ returns-in_err-first_size-clause-err c =
     let long = c.args.group.now.names.ok.0 in
     let some : nat_eq (length g.names) 0 ≡ false =
     grind (arith, nat_tests, long, c.is_empty.ensures, c.if-is_empty.false) in
-    let refused = subst (λ l. IsNameFault f (statics_fit s (view_statics l))) c.deref.ensures.value
-    c.in_err-first_size.ensures in
+    let refused = subst (λ l. IsNameFault f (statics_told f s (view_statics l)))
+    c.deref.ensures.value c.in_err-first_size.ensures in
     rw (p.1, p.2) (sizes_fault f s g some refused)
 
 pub returns-clause-ok : goal.returns-clause-ok

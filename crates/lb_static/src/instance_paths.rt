@@ -1,0 +1,124 @@
+//! The way to an instance: the calls by which it is reached.
+
+use crate::causes::{CallPath, CallStep, Start};
+use crate::reach::{NodeId, Reached};
+use crate::resolved::{CallId, CallSite};
+use crate::table::{Instance, Origin};
+use std::alloc::{AllocError, Global};
+
+/// Where an instance stands, whose callers stand among some instances.
+#[derive(Clone, Copy)]
+pub struct InstancePlace<'a, 's> {
+    pub reached: &'a Reached<'s>,
+    pub instances: &'a [Instance],
+    pub origin: Origin,
+}
+
+impl InstancePlace<'_, '_> {
+    /// The way to it.
+    pub fn path(&self, alloc: Global) -> Result<CallPath, AllocError> {
+        call_path(alloc, self.reached, self.instances, self.origin)
+    }
+}
+
+/// A call that leads to an instance, at an index of its iterator.
+#[derive(Clone, Copy)]
+struct Call {
+    id: CallId,
+    index: u32,
+}
+
+/// Puts the calls that lead to an instance behind one another, the innermost first; answers where
+/// the outermost of its callers stands.
+fn climb(
+    instances: &[Instance],
+    origin: Origin,
+    calls: &mut Vec<Call>,
+) -> Result<Origin, AllocError> {
+    let mut above = origin;
+    for _ in 0..instances.len() {
+        let Origin::Called {
+            caller,
+            call,
+            index,
+        } = above
+        else {
+            return Ok(above);
+        };
+        calls.push(Call { id: call, index })?;
+        match instances.get(caller.0 as usize) {
+            Some(instance) => above = instance.origin,
+            None => return Ok(above),
+        }
+    }
+    Ok(above)
+}
+
+/// What a call of a node calls.
+fn called_site(reached: &Reached, node: NodeId, call: CallId) -> Option<CallSite> {
+    let node = reached.nodes.get(node.0)?;
+    Some(*node.calls.get(call.0)?)
+}
+
+/// The name of a node that is reached.
+fn name_of(alloc: Global, reached: &Reached, node: NodeId) -> Result<String, AllocError> {
+    match reached.nodes.get(node.0) {
+        Some(node) => String::from_str(alloc, node.tree.name.as_str()),
+        None => Ok(String::new(alloc)),
+    }
+}
+
+/// Follows calls from a node, the last one first.
+fn follow(
+    alloc: Global,
+    reached: &Reached,
+    start: NodeId,
+    calls: &[Call],
+) -> Result<Vec<CallStep>, AllocError> {
+    let mut steps = Vec::new(alloc);
+    let mut node = start;
+    for call in calls.iter().rev() {
+        let Some(site) = called_site(reached, node, call.id) else {
+            return Ok(steps);
+        };
+        node = reached.called(&site).unwrap_or(node);
+        steps.push(CallStep {
+            node: name_of(alloc, reached, node)?,
+            offset: site.offset,
+            index: if site.count.is_some() {
+                Some(call.index)
+            } else {
+                None
+            },
+        })?;
+    }
+    Ok(steps)
+}
+
+/// The node under test, or the observer.
+fn start_id(reached: &Reached, start: Start) -> NodeId {
+    match (start, reached.observer) {
+        (Start::Observer, Some(id)) => id,
+        _ => reached.root,
+    }
+}
+
+/// The way to an instance that stands at a place, where its callers stand among these instances.
+pub fn call_path(
+    alloc: Global,
+    reached: &Reached,
+    instances: &[Instance],
+    origin: Origin,
+) -> Result<CallPath, AllocError> {
+    let mut calls = Vec::new(alloc);
+    let start = match climb(instances, origin, &mut calls)? {
+        Origin::Observer => Start::Observer,
+        _ => Start::UnderTest,
+    };
+    let node = start_id(reached, start);
+    Ok(CallPath {
+        start,
+        node: name_of(alloc, reached, node)?,
+        steps: follow(alloc, reached, node, &calls)?,
+    })
+}

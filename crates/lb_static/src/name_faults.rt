@@ -1,0 +1,170 @@
+//! What breaks a rule of names.
+//!
+//! Nothing here runs before the refusal is certain. Where memory is refused, that is the refusal.
+
+ghost use Rattle.std.specs.Prelude.{◌≡◌, string_bytes, IfOk};
+ghost use Rattle.lb_static.specs.CountedNames.{Calls, Declares, use_of};
+ghost use Rattle.lb_static.specs.NameFaults.{TellsName, TellsRule};
+
+use crate::causes::{NameFault, NameRule, Sought};
+use crate::error::StaticError;
+use lb_syntax::{Declarations, Name, Node, Source};
+use std::alloc::{AllocError, Global};
+
+/// Where names are declared, each of which is to be new.
+#[derive(Clone, Copy)]
+pub enum Declaring<'a> {
+    /// The constants, nodes and functions of a source.
+    Globals(&'a Source),
+    /// The variables and static parameters of a node.
+    Node(&'a Node),
+}
+
+/// Where a name stands: in a node, among the globals, or nowhere in the source.
+#[derive(Clone, Copy)]
+struct Standing<'a> {
+    offset: Option<u32>,
+    node: Option<&'a Node>,
+}
+
+/// The name of a node again.
+fn name_of(alloc: Global, node: Option<&Node>) -> Result<Option<String>, AllocError> {
+    match node {
+        Some(node) => Ok(Some(String::from_str(alloc, node.name.as_str())?)),
+        None => Ok(None),
+    }
+}
+
+/// A name that breaks a rule, in a box.
+fn boxed_fault(
+    alloc: Global,
+    name: &str,
+    rule: NameRule,
+    standing: Standing,
+) -> Result<Box<NameFault>, AllocError>
+    ensures name { IfOk result (λ fault. string_bytes fault.value.name ≡ name.now) }
+    ensures broken { IfOk result (λ fault. fault.value.rule ≡ rule) }
+{
+    let node = name_of(alloc, standing.node)?;
+    let name = String::from_str(alloc, name)?;
+    Ok(Box::new(
+        alloc,
+        NameFault {
+            name,
+            rule,
+            offset: standing.offset,
+            node,
+        },
+    )?)
+}
+
+/// That a name breaks a rule.
+fn name_fault(alloc: Global, name: &str, rule: NameRule, standing: Standing) -> StaticError
+    ensures { TellsRule name.now rule result }
+{
+    match boxed_fault(alloc, name, rule, standing) {
+        Ok(fault) => StaticError::Name(fault),
+        Err(_) => StaticError::Memory,
+    }
+}
+
+/// That there is no node under test, or no observer, of this name.
+pub fn unknown_start(alloc: Global, name: &str) -> StaticError
+    ensures { TellsName name.now Calls result }
+{
+    let standing = Standing {
+        offset: None,
+        node: None,
+    };
+    name_fault(alloc, name, NameRule::Unknown(Sought::Node), standing)
+}
+
+/// That nothing of this sort has a name, which stands in a node or in the value of a constant.
+pub fn unknown_name(alloc: Global, name: &Name, sought: Sought, node: Option<&Node>) -> StaticError
+    ensures { TellsName name.now (use_of sought) result }
+{
+    let standing = Standing {
+        offset: Some(name.offset()),
+        node,
+    };
+    name_fault(alloc, name.as_str(), NameRule::Unknown(sought), standing)
+}
+
+/// That a node which is called in another has so many static parameters, and is given others.
+pub fn other_arguments(
+    alloc: Global,
+    name: &Name,
+    wanted: usize,
+    given: usize,
+    node: &Node,
+) -> StaticError
+    ensures { TellsName name.now Calls result }
+{
+    let standing = Standing {
+        offset: Some(name.offset()),
+        node: Some(node),
+    };
+    let rule = NameRule::Arguments { wanted, given };
+    name_fault(alloc, name.as_str(), rule, standing)
+}
+
+/// The first of some names that is this one.
+fn first_named<'a>(names: &'a [Name], name: &Name) -> Option<&'a Name> {
+    names.iter().find(|other| other.as_str() == name.as_str())
+}
+
+/// The first of some variables that has a name.
+fn first_declared<'a>(groups: &'a [Declarations], name: &Name) -> Option<&'a Name> {
+    for group in groups {
+        if let Some(first) = first_named(&group.names, name) {
+            return Some(first);
+        }
+    }
+    None
+}
+
+/// The first variable of a node that has a name, or its static parameter.
+fn first_in_node<'a>(node: &'a Node, name: &Name) -> Option<&'a Name> {
+    first_declared(&node.inputs, name)
+        .or_else(|| first_declared(&node.outputs, name))
+        .or_else(|| first_declared(&node.locals, name))
+        .or_else(|| first_named(&node.parameters, name))
+}
+
+/// The first constant of a source that has a name, or its first node.
+fn first_in_source<'a>(source: &'a Source, name: &Name) -> Option<&'a Name> {
+    for constant in &source.constants {
+        if constant.name.as_str() == name.as_str() {
+            return Some(&constant.name);
+        }
+    }
+    for node in &source.nodes {
+        if node.name.as_str() == name.as_str() {
+            return Some(&node.name);
+        }
+    }
+    None
+}
+
+/// That a name is declared again. Of its two places the fault is at the later one.
+pub fn doubled_name(alloc: Global, name: &Name, declaring: Declaring) -> StaticError
+    ensures { TellsName name.now Declares result }
+{
+    let (first, node) = match declaring {
+        Declaring::Globals(source) => (first_in_source(source, name), None),
+        Declaring::Node(node) => (first_in_node(node, name), Some(node)),
+    };
+    let here = name.offset();
+    let other = match first {
+        Some(first) => first.offset(),
+        None => here,
+    };
+    let standing = Standing {
+        offset: Some(here.max(other)),
+        node,
+    };
+    let doubled = NameRule::Doubled {
+        first: here.min(other),
+    };
+    name_fault(alloc, name.as_str(), doubled, standing)
+}

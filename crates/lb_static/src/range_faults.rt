@@ -1,0 +1,173 @@
+//! Which value of an instance is out of its range.
+//!
+//! Nothing here runs before the refusal is certain.
+
+use crate::causes::{RangeFault, RangeRole};
+use crate::instance_paths::InstancePlace;
+use crate::resolved::{ResolvedNode, Role, StaticPart, StaticText, Variable};
+use crate::slices::part_of;
+use crate::specialize::{LONGEST, WIDEST, size_of};
+use crate::static_value::StaticInt;
+use lb_syntax::{Declarations, Name, Node};
+use std::alloc::{AllocError, Global};
+
+/// A value, and the range in which it is to be.
+#[derive(Clone, Copy)]
+struct Ranged {
+    role: RangeRole,
+    offset: u32,
+    value: i64,
+    least: i64,
+    most: i64,
+}
+
+impl Ranged {
+    /// Whether the value is in the range.
+    fn is_within(&self) -> bool {
+        self.least <= self.value && self.value <= self.most
+    }
+}
+
+/// Where a static expression stands.
+fn part_offset(part: &StaticPart) -> u32 {
+    match part.text {
+        StaticText::Written(expression) => expression.offset(),
+        StaticText::Named(name) => name.offset(),
+    }
+}
+
+/// The value of a static expression with its range, after the value before it; none where any value
+/// will do.
+fn range_of(before: StaticInt, part: &StaticPart, value: StaticInt) -> Option<Ranged> {
+    let longest = i64::from(LONGEST);
+    let (role, least, most) = match part.role {
+        Role::Size => (RangeRole::Size, 1, longest),
+        Role::Index => (RangeRole::Index, 0, longest - 1),
+        Role::SliceStart => (RangeRole::SliceStart, 0, longest - 1),
+        Role::SliceEnd => (RangeRole::SliceEnd, before.get().max(0), longest - 1),
+        Role::Argument | Role::Value => return None,
+    };
+    Some(Ranged {
+        role,
+        offset: part_offset(part),
+        value: value.get(),
+        least,
+        most,
+    })
+}
+
+/// The first static expression of a node whose value is out of its range.
+fn part_fault(node: &ResolvedNode, statics: &[StaticInt]) -> Option<Ranged> {
+    let mut before = StaticInt::zero();
+    for (part, value) in node.statics.iter().zip(statics) {
+        if let Some(found) = range_of(before, part, *value) {
+            if !found.is_within() {
+                return Some(found);
+            }
+        }
+        before = *value;
+    }
+    None
+}
+
+/// How many elements an array of these sizes has, as far as 64 bits count.
+fn all_elements(sizes: &[StaticInt]) -> i64 {
+    let mut elements: u64 = 1;
+    for size in sizes {
+        elements = elements.saturating_mul(size_of(*size));
+    }
+    i64::try_from(elements).unwrap_or(i64::MAX)
+}
+
+/// The names that some variables have, behind others.
+fn push_names<'t>(names: &mut Vec<&'t Name>, groups: &'t [Declarations]) -> Result<(), AllocError> {
+    for group in groups {
+        for name in &group.names {
+            names.push(name)?;
+        }
+    }
+    Ok(())
+}
+
+/// The names of the variables of a node, in their order.
+fn variable_names(alloc: Global, tree: &Node) -> Result<Vec<&Name>, AllocError> {
+    let mut names = Vec::new(alloc);
+    push_names(&mut names, &tree.inputs)?;
+    push_names(&mut names, &tree.outputs)?;
+    push_names(&mut names, &tree.locals)?;
+    Ok(names)
+}
+
+/// How many elements a variable has, and how many it may have.
+fn width(name: &Name, variable: &Variable, statics: &[StaticInt]) -> Ranged {
+    let sizes = part_of(statics, variable.first_size.0, variable.sizes);
+    Ranged {
+        role: RangeRole::Elements,
+        offset: name.offset(),
+        value: all_elements(sizes),
+        least: 0,
+        most: WIDEST as i64,
+    }
+}
+
+/// The first variable of a node with too many elements.
+fn width_fault(
+    alloc: Global,
+    node: &ResolvedNode,
+    statics: &[StaticInt],
+) -> Result<Option<Ranged>, AllocError> {
+    let names = variable_names(alloc, node.tree)?;
+    for (name, variable) in names.iter().zip(&node.variables) {
+        let found = width(*name, variable, statics);
+        if !found.is_within() {
+            return Ok(Some(found));
+        }
+    }
+    Ok(None)
+}
+
+/// What is out of its range in a node whose static expressions have these values.
+fn node_fault(
+    alloc: Global,
+    node: &ResolvedNode,
+    statics: &[StaticInt],
+) -> Result<Ranged, AllocError> {
+    if let Some(found) = part_fault(node, statics) {
+        return Ok(found);
+    }
+    if let Some(found) = width_fault(alloc, node, statics)? {
+        return Ok(found);
+    }
+    Ok(Ranged {
+        role: RangeRole::Elements,
+        offset: node.tree.name.offset(),
+        value: 0,
+        least: 0,
+        most: WIDEST as i64,
+    })
+}
+
+/// The first value of a node that is out of its range, where an instance of the node stands at a
+/// place.
+pub fn range_fault(
+    alloc: Global,
+    node: &ResolvedNode,
+    statics: &[StaticInt],
+    place: &InstancePlace,
+) -> Result<Box<RangeFault>, AllocError> {
+    let found = node_fault(alloc, node, statics)?;
+    let path = place.path(alloc)?;
+    let node = String::from_str(alloc, node.tree.name.as_str())?;
+    Ok(Box::new(
+        alloc,
+        RangeFault {
+            role: found.role,
+            offset: found.offset,
+            value: found.value,
+            least: found.least,
+            most: found.most,
+            node,
+            path,
+        },
+    )?)
+}
