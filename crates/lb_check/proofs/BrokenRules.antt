@@ -6,21 +6,25 @@ use Rattle.std.specs.Prelude.{slice_get}
 use Rattle.std.specs.List.{list_all}
 use Rattle.std.proofs.lemmas.Option.{slice_get-map}
 use Rattle.std.proofs.lemmas.Bool.{not-false, not-true}
-use Rattle.lb_syntax.specs.Lists.{holds, listed}
+use Rattle.lb_syntax.specs.Lists.{holds, In, listed}
 use Rattle.lb_syntax.specs.Tree.{Name, Node}
 use Rattle.lb_static.specs.InstanceTable.{instance_of, specialized_at}
-use Rattle.lb_static.specs.Instances.{Program, Instance, Path}
+use Rattle.lb_static.specs.Instances.{Program, Instance, Path, instances}
 use Rattle.lb_static.specs.ReachedNodes.{tree_at}
 use Rattle.lb_static.specs.declared.reach.NodeId.{NodeId}
 use Rattle.lb_static.specs.declared.reach.Reached.{Reached}
 use Rattle.lb_static.specs.declared.table.Specialization.{Specialization}
 use Rattle.lb_static.specs.declared.table.Table.{Table}
+use Rattle.lb_check.specs.declared.part.IllFormed.{IllFormed}
+use Rattle.lb_check.specs.declared.part.Part.{Part}
+use Rattle.lb_check.specs.declared.type_rules.IllTyped.{IllTyped}
+use Rattle.lb_check.specs.BrokenParts.{is_part_typed}
 use Rattle.lb_check.specs.BrokenRules.{IsBroken, IsBrokenIn}
+use Rattle.lb_check.specs.FoundParts.{IsIllTypedAt}
 use Rattle.lb_check.specs.JudgedPrograms.{IsJudged}
-use Rattle.lb_check.specs.TermTypes.{is_specialization_typed}
 use Rattle.lb_check.specs.TypeRules.{is_typed}
 use Rattle.lb_check.proofs.TableRows.{has_instance}
-use Rattle.lb_check.proofs.TypedSpecializations.{specialization_typed}
+use Rattle.lb_check.proofs.TypedSpecializations.{specialization_part, specialization_typed}
 
 -- ## What is found in a list
 
@@ -77,9 +81,14 @@ all_or_some g f (x ∷ xs) = by (f x) (all_or_some g f xs)
     by true later = later
     by false later = refl
 
-pub not_all : {A B : Type 0} (g : A → B) (f : A → Bool) (xs : List A) (found : Option B)
-    → found ≡ option_map g (find (λ x. not (f x)) xs) → is_some found ≡ not (list_all f xs)
-not_all g f xs found e = ap is_some e ∙ all_or_some g f xs
+is_some_mapped : {A B : Type 0} (g : A → B) (o : Option A) → is_some o ≡ is_some (option_map g o)
+is_some_mapped g None = refl
+is_some_mapped g (Some a) = refl
+
+pub not_all : {A B C : Type 0} (g : A → B) (f : A → Bool) (xs : List A) (h : C → B)
+    (found : Option C) → option_map h found ≡ option_map g (find (λ x. not (f x)) xs)
+    → is_some found ≡ not (list_all f xs)
+not_all g f xs h found e = is_some_mapped h found ∙ ap is_some e ∙ all_or_some g f xs
 
 -- ## A node that is answered
 
@@ -88,12 +97,12 @@ pub if_found : {A E : Type 0} (r : Result A E) (C D : A → Type 0) → IfOk r C
 if_found (Ok a) C D h f = f a h
 if_found (Err e) C D h f = h
 
-named : (o : Option NodeId) (Q : NodeId → Type 0) → ((id : NodeId) → o ≡ Some id → Q id) →
-    IfSome o Q
-named None Q h = tt
-named (Some id) Q h = h id refl
+pub both_found : {A E : Type 0} (r : Result A E) (B C D : A → Type 0) → IfOk r B → IfOk r C →
+    ((a : A) → B a → C a → D a) → IfOk r D
+both_found (Ok a) B C D g h f = f a g h
+both_found (Err e) B C D g h f = h
 
-pub told : (o : Option NodeId) (id : NodeId) (Q : NodeId → Type 0) → IfSome o Q → o ≡ Some id → Q id
+pub told : {A : Type 0} (o : Option A) (x : A) (Q : A → Type 0) → IfSome o Q → o ≡ Some x → Q x
 told None id Q q e = absurd cc
 told (Some k) id Q q e = let same : k ≡ id = cc in subst Q same q
 
@@ -110,35 +119,38 @@ module _ (P : Program) (r : Reached) where
           ap (λ (i : Instance). Some i.node) same
 
   -- the name of a node that an instance breaks a rule in
-  pub broken_in : (rule : Instance → Bool) (id : NodeId) (x : Name) → IsBroken rule P r id →
-      x ≡ listed (λ n. n.name) (tree_at r id)
-      → IsBrokenIn rule P x
-  broken_in rule id x b e = (b.0, b.1, sym (e ∙ ap (listed (λ n. n.name)) b.2), b.3)
+  pub broken_in : (rule : Instance → Bool) (part_rule : Instance → Part → Bool) (id : NodeId)
+      (p q : Part) (x : Name) → IsBroken rule part_rule P r id p
+      → x ≡ listed (λ n. n.name) (tree_at r id) → q ≡ p → IsBrokenIn rule part_rule P x q
+  broken_in rule part_rule id p q x b e same = (
+    b.0,
+    b.1,
+    sym (e ∙ ap (listed (λ n. n.name)) b.2),
+    b.3,
+    ap (part_rule b.0) same ∙ b.4,
+  )
 
   module _ (t : Table) (j : IsJudged P r t) where
     abbrev ss : List Specialization
     ss = t.specializations.items
 
-    -- types: the node of a specialization that breaks the rules
-    types_broken : (id : NodeId) →
-        option_map (λ s. s.node) (find (λ s. not (is_specialization_typed r t s)) ss) ≡ Some id
-        → IsBroken (is_typed P) P r id
-    types_broken id e =
-        let s = mapped (λ s. s.node) (find (λ s. not (is_specialization_typed r t s)) ss) id e in
-        let f = found_at (λ s. not (is_specialization_typed r t s)) ss s.0 s.1 in
-        let h = has_instance P r t j.table f.0 s.0 f.1 in (
+    -- types: the specialization that breaks the rules, and the part that does
+    types_broken : (place : ℕ) (id : NodeId) (p : Part) → IsIllTypedAt r t place id p →
+        IsBroken (is_typed P) (is_part_typed P) P r id p
+    types_broken place id p (s, at, same, broken) =
+        let h = has_instance P r t j.table place s at in (
           h.1,
           h.2,
-          ap (tree_at r) (sym s.2) ∙ tree_is h.0 s.0 h.1 h.3,
-          specialization_typed P r t j f.0 s.0 f.1 h.0 h.1 h.3
-              ∙ not-true (is_specialization_typed r t s.0) f.2,
+          ap (tree_at r) (sym same) ∙ tree_is h.0 s h.1 h.3,
+          specialization_typed P r t j place s at h.0 h.1 h.3 ∙ broken.0,
+          specialization_part P r t j place s at h.0 h.1 h.3 p broken,
         )
 
-    pub types_named : (found : Option NodeId) →
-        found ≡ option_map (λ s. s.node) (find (λ s. not (is_specialization_typed r t s)) ss)
-        → IfSome found (IsBroken (is_typed P) P r)
-    types_named found e = named found (IsBroken (is_typed P) P r)
-        (λ id is. types_broken id (sym e ∙ is))
+    pub types_named : (found : Option IllTyped) →
+        IfSome found (λ f. IsIllTypedAt r t f.place f.node f.part)
+        → IfSome found (λ f. IsBroken (is_typed P) (is_part_typed P) P r f.node f.part)
+    types_named None told = tt
+    types_named (Some f) told = types_broken f.place f.node f.part told
 
     -- clocks and definitions: the node of a specialization that breaks them
     abbrev in_tree : (Node → Bool) → Specialization → Bool
@@ -146,30 +158,53 @@ module _ (P : Program) (r : Reached) where
 
     node_broken : (rule : Node → Bool) (i : ℕ) (s : Specialization) → slice_get ss i ≡ Some s →
         in_tree rule s ≡ false
-        → IsBroken (λ here. rule here.node) P r s.node
+        → (here : Instance) × In here (instances P) × (tree_at r s.node ≡ Some here.node)
+        × (rule here.node ≡ false)
     node_broken rule i s at broken =
         let h = has_instance P r t j.table i s at in
         let tree = tree_is h.0 s h.1 h.3 in
         (h.1, h.2, tree, sym (ap (holds rule) tree) ∙ broken)
 
-    -- the first of them by the code is one by the definitions
-    pub node_named : (rule : Node → Bool) (code : NodeId → Bool)
-        → ((i : ℕ) (s : Specialization) → slice_get ss i ≡ Some s → code s.node ≡ false
-        → ((k : ℕ) (m : Specialization) → k < i → slice_get ss k ≡ Some m → code m.node ≡ true) →
-        in_tree rule s ≡ false)
-        → (found : Option NodeId) → found ≡ find (λ id. not (code id)) (map (λ s. s.node) ss)
-        → IfSome found (IsBroken (λ here. rule here.node) P r)
-    node_named rule code first found e = named found (IsBroken (λ here. rule here.node) P r) one
-      where
-        one : (id : NodeId) → found ≡ Some id → IsBroken (λ here. rule here.node) P r id
-        one id is =
-            let f = found_at (λ id. not (code id)) (map (λ s. s.node) ss) id (sym e ∙ is) in
-            let s = mapped (λ s. s.node) (slice_get ss f.0) id
-            (sym (slice_get-map (λ s. s.node) ss f.0) ∙ f.1) in
-            let broken = subst (λ k. code k ≡ false) (sym s.2) (not-true (code id) f.2) in
-            let earlier = λ (k : ℕ) (m : Specialization) (lt : k < f.0)
-            (at : slice_get ss k ≡ Some m).
-            not-false (code m.node) (f.3 k m.node lt
-            (slice_get-map (λ s. s.node) ss k ∙ ap (option_map (λ s. s.node)) at)) in
-            subst (IsBroken (λ here. rule here.node) P r) s.2
-            (node_broken rule f.0 s.0 s.1 (first f.0 s.0 s.1 broken earlier))
+    -- the first of them by the code is one by the definitions, and so is its part
+    module _ (rule : Node → Bool) (part_rule : Node → Part → Bool) (code : NodeId → Bool)
+        (Fact : NodeId → Part → Type 0)
+        (first : (i : ℕ) (s : Specialization) → slice_get t.specializations.items i ≡ Some s →
+        code s.node ≡ false
+        → ((k : ℕ) (m : Specialization) → k < i → slice_get t.specializations.items k ≡ Some m →
+        code m.node ≡ true) → holds rule (tree_at r s.node) ≡ false)
+        (first_part : (i : ℕ) (s : Specialization) → slice_get t.specializations.items i ≡ Some s →
+        code s.node ≡ false
+        → ((k : ℕ) (m : Specialization) → k < i → slice_get t.specializations.items k ≡ Some m →
+        code m.node ≡ true) → (p : Part) → Fact s.node p → (n : Node) → tree_at r s.node ≡ Some n →
+        part_rule n p ≡ false) where
+      node_named : (id : NodeId) (p : Part) → Fact id p →
+          Some id ≡ find (λ id. not (code id)) (map (λ s. s.node) t.specializations.items)
+          → IsBroken (λ here. rule here.node) (λ here. part_rule here.node) P r id p
+      node_named id p fact e =
+          let f = found_at (λ id. not (code id)) (map (λ s. s.node) ss) id (sym e) in
+          let s = mapped (λ s. s.node) (slice_get ss f.0) id
+          (sym (slice_get-map (λ s. s.node) ss f.0) ∙ f.1) in
+          let broken = subst (λ k. code k ≡ false) (sym s.2) (not-true (code id) f.2) in
+          let earlier = λ (k : ℕ) (m : Specialization) (lt : k < f.0)
+          (at : slice_get ss k ≡ Some m).
+          not-false (code m.node) (f.3 k m.node lt
+          (slice_get-map (λ s. s.node) ss k ∙ ap (option_map (λ s. s.node)) at)) in
+          let b = node_broken rule f.0 s.0 s.1 (first f.0 s.0 s.1 broken earlier) in
+          subst (λ (k : NodeId). IsBroken (λ here. rule here.node) (λ here. part_rule here.node) P
+          r k p) s.2 (
+            b.0,
+            b.1,
+            b.2,
+            b.3,
+            first_part f.0 s.0 s.1 broken earlier p
+                (subst (λ (k : NodeId). Fact k p) (sym s.2) fact) b.0.node b.2,
+          )
+
+      pub part_named : (found : Option IllFormed) →
+          option_map (λ f. f.node) found
+          ≡ find (λ id. not (code id)) (map (λ s. s.node) t.specializations.items)
+          → IfSome found (λ f. Fact f.node f.part)
+          → IfSome found (λ f. IsBroken (λ here. rule here.node) (λ here. part_rule here.node) P r
+          f.node f.part)
+      part_named None e told = tt
+      part_named (Some f) e told = node_named f.node f.part told e

@@ -1,7 +1,7 @@
 -- The declared clocks of a node are as deep as the numbers of its variables say.
 use Rattle.std.proofs.Common.{◌≡◌, ℕ, zero, suc, ◌+◌, ◌-◌, min, ◌<◌, Bool, true, false, List, []}
-use Rattle.std.proofs.Common.{◌∷◌, ◌++◌, take, drop, get_or, map, length, Option, Some, None, Vec}
-use Rattle.std.proofs.Common.{Global, refl, ap, sym, ◌∙◌, subst, arith}
+use Rattle.std.proofs.Common.{◌∷◌, ◌++◌, take, drop, get_or, map, length, Option, Some, None}
+use Rattle.std.proofs.Common.{refl, ap, sym, ◌∙◌, subst, arith}
 use Rattle.std.specs.Prelude.{◌&&◌, not, is_some, option_map, slice_get, nat_lt}
 use Rattle.std.specs.List.{list_all}
 use Rattle.std.specs.Str.{bytes_eq}
@@ -27,10 +27,11 @@ use Rattle.lb_static.specs.declared.resolved.ResolvedNode.{ResolvedNode}
 use Rattle.lb_static.specs.declared.resolved.Sampling.{Sampling}
 use Rattle.lb_static.specs.declared.resolved.Variable.{Variable}
 use Rattle.lb_check.specs.Clocks.{Clock, On, clock_within, sampled, depth, variable_clock}
-use Rattle.lb_check.specs.ClockDepths.{awaited, AreAwaited, AreFound, depth_within, waits_below}
+use Rattle.lb_check.specs.ClockDepths.{awaited, AreAwaited, depth_within, IsCircle, waits_below}
 use Rattle.lb_check.specs.ClockRules.{is_clocked_by, are_declared_clocks}
 use Rattle.lb_check.proofs.ClockDepths.{its_depth}
 use Rattle.lb_check.proofs.DistinctNames.{not_among, unequal}
+use Rattle.lb_check.proofs.FirstBroken.{one_fails}
 
 -- ## A place and its name
 
@@ -56,7 +57,7 @@ found_at (c ∷ ds) (suc i) d u e =
 
 -- ## The declarations of variables
 
-zip_at : {A B C : Type 0} (f : A → B → C) (xs : List A) (ys : List B) (i : ℕ) (x : A) (y : B) →
+pub zip_at : {A B C : Type 0} (f : A → B → C) (xs : List A) (ys : List B) (i : ℕ) (x : A) (y : B) →
     slice_get xs i ≡ Some x → slice_get ys i ≡ Some y
     → slice_get (zip2 f xs ys) i ≡ Some (f x y)
 zip_at f [] ys i x y e h = absurd cc
@@ -165,7 +166,7 @@ module _ (names : List Name) (statics : List Static) (vs : List Variable) (ds : 
       (at_name i decl (at_place i x v.0 e v.1))
       ∙ depth_at (suc (length ds)) i x v.0 e v.1
 
-  clocked_one : (k : ℕ) (allowed : List Declaration) (x : Name) (v : Variable)
+  pub clocked_one : (k : ℕ) (allowed : List Declaration) (x : Name) (v : Variable)
       (o : Option Sampling) → v.clock ≡ o → map (λ d. d.name) allowed ≡ take k names
       → waits_below (length names) v ≡ true →
       is_clocked_by allowed (declaration_of names statics x v) ≡ waits_below k v
@@ -202,12 +203,6 @@ pub waits_next : (k : ℕ) (vs : List Variable) (i : ℕ) (d : Variable) → i <
 waits_next k vs i d lt = ap (list_all (waits_below k)) (drop_more vs i d lt)
 
 -- ## Nodes
-
-one_false : {A : Type 0} (f : A → Bool) (xs : List A) (i : ℕ) (x : A) → slice_get xs i ≡ Some x →
-    f x ≡ false → list_all f xs ≡ false
-one_false f [] i x e not_so = absurd cc
-one_false f (y ∷ xs) zero x e not_so = let same : y ≡ x = cc in rw same (rw not_so refl)
-one_false f (y ∷ xs) (suc i) x e not_so = rw (one_false f xs i x e not_so) (and-false (f y))
 
 pub first_names : (xs ys : List Declaration) →
     take (length xs) (map (λ d. d.name) (xs ++ ys)) ≡ map (λ d. d.name) xs
@@ -312,7 +307,8 @@ module _ (nodes : List Name) (r : ResolvedNode) (e : IsResolved nodes r)
       ∙ ap (λ m. depth_within m vs_here i) fuel
 
   -- a variable has a declared clock where its depth has an end
-  place_some : (i : ℕ) (x : Name) → i < length r.variables.items → slice_get names_here i ≡ Some x
+  pub place_some : (i : ℕ) (x : Name) → i < length r.variables.items
+      → slice_get names_here i ≡ Some x
       → is_some (variable_clock (node_of r) x) ≡ is_some
       (depth_within (length r.variables.items + 1) r.variables.items i)
   place_some i x lt h = is_some_map depth (variable_clock (node_of r) x)
@@ -380,80 +376,45 @@ module _ (nodes : List Name) (r : ResolvedNode) (e : IsResolved nodes r)
       ∙ ap (λ a. list_all (waits_below r.inputs) (take r.inputs r.variables.items) && (a && b))
       outputs_clocked
 
-  each_ends : (depths : List (Option ℕ)) → AreFound r.variables.items (Some depths) →
+  pub each_ends : IsCircle r.variables.items None →
       list_all (λ x. is_some (variable_clock (node_of r) x)) names_here ≡ true
-  each_ends depths found = all_from _ names_here (λ i x h.
+  each_ends found = all_from _ names_here (λ i x h.
       let less = slice_get_within names_here i x h in
       let lt : i < length r.variables.items = omega (arith, as_many_names) in
-      let known = found.1 i lt in
-      let small = found.0.small i known.0 known.1 in
+      let known = found.2 i lt in
+      let small = found.1.small i known.0 known.1 in
       place_some i x lt h ∙ ap is_some
       (its_depth r.variables.items (length r.variables.items + 1) i known.0
-      (found.0.right i known.0 known.1) (omega arith)))
+      (found.1.right i known.0 known.1) (omega arith)))
 
-  one_runs : AreFound r.variables.items None →
-      list_all (λ x. is_some (variable_clock (node_of r) x)) names_here ≡ false
-  one_runs found =
-      let lt = found.1 in
-      let less : found.0 < length names_here = omega (arith, as_many_names) in
-      let x = item_at names_here found.0 less in
-      one_false _ names_here found.0 x.0 x.1
-      (place_some found.0 x.0 found.1 x.1 ∙ ap is_some found.2)
+  -- a node of which some inputs or outputs wait for others than they may, or declared clocks run
+  -- in a circle
+  pub inputs_refused :
+      list_all (waits_below r.inputs) (take r.inputs r.variables.items) ≡ false
+      → are_declared_clocks (node_of r) ≡ false
+  inputs_refused found = clocks_kept ∙ rw found refl
 
-  -- what is found of the inputs and of the outputs
-  inputs_found : (a : Bool) (ls : List Variable) →
-      a ≡ list_all (waits_below r.inputs) (take r.inputs ls) → ls ≡ vs_here
-      → list_all (waits_below r.inputs) (take r.inputs r.variables.items) ≡ a
-  inputs_found a ls found same =
-      ap (λ l. list_all (waits_below r.inputs) (take r.inputs l)) (sym same) ∙ sym found
+  pub outputs_refused :
+      list_all (waits_below (r.inputs + r.outputs))
+      (take r.outputs (drop r.inputs r.variables.items)) ≡ false
+      → are_declared_clocks (node_of r) ≡ false
+  outputs_refused found =
+      clocks_kept ∙ rw found (and-false (list_all (waits_below r.inputs)
+      (take r.inputs r.variables.items)))
 
-  outputs_found : (b : Bool) (ls : List Variable) →
-      b ≡ list_all (waits_below (r.inputs + r.outputs))
-      (take (r.inputs + r.outputs - r.inputs) (drop r.inputs ls)) → ls ≡ vs_here
+  pub circle_refused : (i : ℕ) (x : Name) → slice_get names_here i ≡ Some x →
+      is_some (variable_clock (node_of r) x) ≡ false
+      → are_declared_clocks (node_of r) ≡ false
+  circle_refused i x at none =
+      clocks_kept ∙ rw (one_fails (λ x. is_some (variable_clock (node_of r) x)) names_here i x at
+      none) (ap (λ b. list_all (waits_below r.inputs) (take r.inputs r.variables.items) && b)
+      (and-false _) ∙ and-false _)
+
+  -- one whose inputs and outputs wait for such as they may
+  pub clocks_accepted :
+      list_all (waits_below r.inputs) (take r.inputs r.variables.items) ≡ true
       → list_all (waits_below (r.inputs + r.outputs))
-      (take r.outputs (drop r.inputs r.variables.items)) ≡ b
-  outputs_found b ls found same =
-      let count : r.outputs ≡ r.inputs + r.outputs - r.inputs = omega arith in
-      ap (λ l. list_all (waits_below (r.inputs + r.outputs)) (take r.outputs (drop r.inputs l)))
-      (sym same)
-      ∙ ap (λ m. list_all (waits_below (r.inputs + r.outputs)) (take m (drop r.inputs ls))) count
-      ∙ sym found
-
-  -- the answer for a node whose inputs or outputs wait for others than they may
-  pub inputs_refused : (ls : List Variable) →
-      false ≡ list_all (waits_below r.inputs) (take r.inputs ls) → ls ≡ r.variables.items
-      → false ≡ are_declared_clocks (node_of r)
-  inputs_refused ls found same = sym (clocks_kept ∙ rw (inputs_found false ls found same) refl)
-
-  pub outputs_refused : (ls : List Variable) →
-      false ≡ list_all (waits_below (r.inputs + r.outputs))
-      (take (r.inputs + r.outputs - r.inputs) (drop r.inputs ls))
-      → ls ≡ r.variables.items → false ≡ are_declared_clocks (node_of r)
-  outputs_refused ls found same =
-      sym (clocks_kept ∙ rw (outputs_found false ls found same)
-      (and-false (list_all (waits_below r.inputs) (take r.inputs r.variables.items))))
-
-  -- the answer for one whose inputs and outputs wait for such as they may
-  clocks_answer : (o : Option (List (Option ℕ))) (ls ms : List Variable) →
-      true ≡ list_all (waits_below r.inputs) (take r.inputs ls) → ls ≡ r.variables.items
-      → true ≡ list_all (waits_below (r.inputs + r.outputs))
-      (take (r.inputs + r.outputs - r.inputs) (drop r.inputs ms)) → ms ≡ r.variables.items
-      → AreFound r.variables.items o → is_some o ≡ are_declared_clocks (node_of r)
-  clocks_answer None ls ms a as_a b as_b found =
-      sym (clocks_kept ∙ ap kept_by (one_runs found)
-      ∙ rw (inputs_found true ls a as_a, outputs_found true ms b as_b) refl)
-  clocks_answer (Some depths) ls ms a as_a b as_b found =
-      sym (clocks_kept ∙ ap kept_by (each_ends depths found)
-      ∙ rw (inputs_found true ls a as_a, outputs_found true ms b as_b) refl)
-
-  pub depths_answer : (o : Option (Vec (Option ℕ) Global)) (ls ms ns : List Variable)
-      → true ≡ list_all (waits_below r.inputs) (take r.inputs ls) → ls ≡ r.variables.items
-      → true ≡ list_all (waits_below (r.inputs + r.outputs))
-      (take (r.inputs + r.outputs - r.inputs) (drop r.inputs ms)) → ms ≡ r.variables.items
-      → AreFound ns (option_map (λ depths. depths.items) o) → ns ≡ r.variables.items
-      → is_some o ≡ are_declared_clocks (node_of r)
-  depths_answer None ls ms ns a as_a b as_b found same =
-      clocks_answer None ls ms a as_a b as_b (subst (λ l. AreFound l None) same found)
-  depths_answer (Some depths) ls ms ns a as_a b as_b found same =
-      clocks_answer (Some depths.items) ls ms a as_a b as_b
-      (subst (λ l. AreFound l (Some depths.items)) same found)
+      (take r.outputs (drop r.inputs r.variables.items)) ≡ true
+      → IsCircle r.variables.items None → are_declared_clocks (node_of r) ≡ true
+  clocks_accepted inputs outputs found =
+      clocks_kept ∙ rw (inputs, outputs) (each_ends found)

@@ -1,11 +1,15 @@
--- The statements, terms and calls of a node from a place on.
+-- The left sides and terms of a node from a place on.
 use Rattle.std.proofs.Common.{◌≡◌, ◌⊎◌, inl, inr, ℕ, ◌+◌, ◌<◌, Bool, Box, List, length, drop}
 use Rattle.std.proofs.Common.{get_or, Vec, Global, refl, ap, ◌∙◌}
-use Rattle.std.specs.Prelude.{◌&&◌, ◌||◌, if◌then◌else◌, ◌==◌}
+use Rattle.std.specs.Prelude.{◌&&◌, if◌then◌else◌, ◌==◌}
+use Rattle.std.specs.List.{list_all}
 use Rattle.std.proofs.lemmas.List.{drop_more}
+use Rattle.lb_syntax.specs.declared.tree.ArrayIterator.{ArrayIterator}
+use Rattle.lb_syntax.specs.declared.tree.BinaryOperator.{BinaryOperator}
 use Rattle.lb_syntax.specs.declared.tree.UnaryOperator.{UnaryOperator}
 use Rattle.lb_static.specs.declared.reach.Reached.{Reached}
-use Rattle.lb_static.specs.declared.resolved.CallSite.{CallSite}
+use Rattle.lb_static.specs.declared.resolved.CallId.{CallId}
+use Rattle.lb_static.specs.declared.resolved.ResolvedNode.{ResolvedNode}
 use Rattle.lb_static.specs.declared.resolved.StaticId.{StaticId}
 use Rattle.lb_static.specs.declared.resolved.VariableId.{VariableId}
 use Rattle.lb_static.specs.declared.resolved.ResolvedStatement.{ResolvedStatement}
@@ -15,10 +19,8 @@ use Rattle.lb_static.specs.declared.resolved.Term.{IterateSymbol}
 use Rattle.lb_static.specs.declared.resolved.Term.{Row_of-Term}
 use Rattle.lb_static.specs.declared.resolved.Term.{end_of-Term, more_of-Term, items-the_row-Term}
 use Rattle.lb_static.specs.declared.resolved.Term.{items_hidden-the_row-Term-0}
-use Rattle.lb_static.specs.TermForms.{IsRow}
 use Rattle.lb_check.specs.NodeDefinitions.{count_left, count_statement, count_statements}
-use Rattle.lb_check.specs.NodeDefinitions.{has_memory, row_memory, any_memory, statement_memory}
-use Rattle.lb_check.specs.NodeDefinitions.{statements_memory, calls_function, call_functions}
+use Rattle.lb_check.specs.NodeDefinitions.{calls_function, is_memoryless, is_row_memoryless}
 use Rattle.lb_check.proofs.TypeRows.{row_in}
 
 pub count_next : (k : ℕ) (xs : List VariableId) (i : ℕ) (d : VariableId) → i < length xs
@@ -32,63 +34,73 @@ pub counts_next : (k : ℕ) (ss : List ResolvedStatement) (i : ℕ) (d : Resolve
     + count_statements k (drop (i + 1) ss)
 counts_next k ss i d lt = ap (count_statements k) (drop_more ss i d lt)
 
-pub steps_next : (ss : List ResolvedStatement) (i : ℕ) (d : ResolvedStatement) → i < length ss
-    → statements_memory (drop i ss) ≡ statement_memory (get_or ss i d)
-    || statements_memory (drop (i + 1) ss)
-steps_next ss i d lt = ap statements_memory (drop_more ss i d lt)
+module _ (r : Reached) (n : ResolvedNode) where
+  abbrev free : Term → Bool
+  free e = is_memoryless r n e
 
-pub calls_next : (r : Reached) (ss : List CallSite) (i : ℕ) (d : CallSite) → i < length ss
-    → call_functions r (drop i ss) ≡ calls_function r (get_or ss i d)
-    && call_functions r (drop (i + 1) ss)
-calls_next r ss i d lt = ap (call_functions r) (drop_more ss i d lt)
+  pub memoryless_next : (es : List Term) (i : ℕ) (d : Term) → i < length es
+      → list_all (is_memoryless r n) (drop i es) ≡ is_memoryless r n (get_or es i d)
+      && list_all (is_memoryless r n) (drop (i + 1) es)
+  memoryless_next es i d lt = ap (list_all (is_memoryless r n)) (drop_more es i d lt)
 
--- ## The row of terms in a term is the list in its vector
+  -- ## The row of terms in a term is the list in its vector
 
-memory_items : (n : _) (row : Row_of-Term n) →
-    row_memory row ≡ any_memory (items-the_row-Term n row)
-unfolding has_memory
-memory_items n end_of-Term = refl
-memory_items n (more_of-Term e rest) = ap (λ b. has_memory e || b) (memory_items _ rest)
+  row_items : (m : _) (row : Row_of-Term m) →
+      is_row_memoryless r n row ≡ list_all free (items-the_row-Term m row)
+  unfolding is_memoryless
+  row_items m end_of-Term = refl
+  row_items m (more_of-Term e rest) = ap (λ b. free e && b) (row_items _ rest)
 
-memory_hidden : (t : Term) (es : Vec Term Global) → items-the_row-Term _ (row_in t).1 ≡ es.items →
-    row_memory (row_in t).1 ≡ any_memory es.items
-memory_hidden t es e = memory_items _ (row_in t).1 ∙ ap any_memory e
+  row_hidden : (t : Term) (es : Vec Term Global) → items-the_row-Term _ (row_in t).1 ≡ es.items →
+      is_row_memoryless r n (row_in t).1 ≡ list_all free es.items
+  row_hidden t es e = row_items _ (row_in t).1 ∙ ap (list_all free) e
 
--- a term that has memory where this one operand has
-abbrev pub IsAround : Term → Box Term Global → Type 0
-IsAround t e =
-    (t ≡ Group e) ⊎ (((op : UnaryOperator) × (t ≡ Unary op e))
-    ⊎ (((x : VariableId) × (sign : Bool) × (t ≡ When e x sign))
-    ⊎ (((n : StaticId) × (t ≡ Replicate e n)) ⊎ (((i : StaticId) × (t ≡ Index e i))
-    ⊎ ((i : StaticId) × (j : StaticId) × (t ≡ Slice e i j))))))
+  -- a term that has no memory where this one operand has none
+  abbrev pub IsAround : Term → Box Term Global → Type 0
+  IsAround t e =
+      (t ≡ Group e) ⊎ (((op : UnaryOperator) × (t ≡ Unary op e))
+      ⊎ (((x : VariableId) × (sign : Bool) × (t ≡ When e x sign))
+      ⊎ (((n : StaticId) × (t ≡ Replicate e n)) ⊎ (((i : StaticId) × (t ≡ Index e i))
+      ⊎ ((i : StaticId) × (j : StaticId) × (t ≡ Slice e i j))))))
 
-pub memory_part : (t : Term) (e : Box Term Global) → IsAround t e →
-    has_memory t ≡ has_memory e.value
-unfolding has_memory
-memory_part t e (inl is) = rw is refl
-memory_part t e (inr (inl (op, is))) = rw is refl
-memory_part t e (inr (inr (inl (x, sign, is)))) = rw is refl
-memory_part t e (inr (inr (inr (inl (n, is))))) = rw is refl
-memory_part t e (inr (inr (inr (inr (inl (i, is)))))) = rw is refl
-memory_part t e (inr (inr (inr (inr (inr (i, j, is)))))) = rw is refl
+  pub memoryless_part : (t : Term) (e : Box Term Global) → IsAround t e → free t ≡ free e.value
+  unfolding is_memoryless
+  memoryless_part t e (inl is) = rw is refl
+  memoryless_part t e (inr (inl (op, is))) = rw is refl
+  memoryless_part t e (inr (inr (inl (x, sign, is)))) = rw is refl
+  memoryless_part t e (inr (inr (inr (inl (m, is))))) = rw is refl
+  memoryless_part t e (inr (inr (inr (inr (inl (i, is)))))) = rw is refl
+  memoryless_part t e (inr (inr (inr (inr (inr (i, j, is)))))) = rw is refl
 
-pub memory_row : (t : Term) (es : Vec Term Global) → IsRow t es →
-    has_memory t ≡ any_memory es.items
-unfolding has_memory
-memory_row t es (inl e) = ap has_memory e
-    ∙ memory_hidden (Array es) es (items_hidden-the_row-Term-0 es)
-memory_row t es (inr (inl e)) =
-    ap has_memory e ∙ memory_hidden (AtMostOne es) es (items_hidden-the_row-Term-0 es)
-memory_row t es (inr (inr (inl e))) =
-    ap has_memory e ∙ memory_hidden (Nor es) es (items_hidden-the_row-Term-0 es)
-memory_row t es (inr (inr (inr (inl e)))) =
-    ap has_memory e.1 ∙ memory_hidden (Call e.0 es) es (items_hidden-the_row-Term-0 es)
-memory_row t es (inr (inr (inr (inr (inl e))))) =
-    ap has_memory e.2 ∙ memory_hidden (IterateNode e.0 e.1 es) es (items_hidden-the_row-Term-0 es)
-memory_row t es (inr (inr (inr (inr (inr e))))) =
-    ap has_memory e.3 ∙ memory_hidden (IterateSymbol e.0 e.1 e.2 es) es
-    (items_hidden-the_row-Term-0 es)
+  -- a term whose operands stand in this row, and which calls nothing
+  abbrev pub IsPlainRow : Term → Vec Term Global → Type 0
+  IsPlainRow t es =
+      (t ≡ Array es) ⊎ ((t ≡ AtMostOne es) ⊎ ((t ≡ Nor es)
+      ⊎ ((it : ArrayIterator) × (op : BinaryOperator) × (m : StaticId)
+      × (t ≡ IterateSymbol it op m es))))
 
-pub memory : (es : List Term) (i : ℕ) (d : Term) → i < length es
-    → any_memory (drop i es) ≡ has_memory (get_or es i d) || any_memory (drop (i + 1) es)
-memory es i d lt = ap any_memory (drop_more es i d lt)
+  pub memoryless_row : (t : Term) (es : Vec Term Global) → IsPlainRow t es →
+      free t ≡ list_all free es.items
+  unfolding is_memoryless
+  memoryless_row t es (inl e) = ap free e
+      ∙ row_hidden (Array es) es (items_hidden-the_row-Term-0 es)
+  memoryless_row t es (inr (inl e)) = ap free e
+      ∙ row_hidden (AtMostOne es) es (items_hidden-the_row-Term-0 es)
+  memoryless_row t es (inr (inr (inl e))) = ap free e
+      ∙ row_hidden (Nor es) es (items_hidden-the_row-Term-0 es)
+  memoryless_row t es (inr (inr (inr (it, op, m, e)))) =
+      ap free e ∙ row_hidden (IterateSymbol it op m es) es (items_hidden-the_row-Term-0 es)
+
+  -- a call or an iterated node with this number and these operands
+  abbrev pub IsCalling : Term → CallId → Vec Term Global → Type 0
+  IsCalling t c es = (t ≡ Call c es) ⊎ ((it : ArrayIterator) × (t ≡ IterateNode it c es))
+
+  pub memoryless_call : (t : Term) (c : CallId) (es : Vec Term Global) → IsCalling t c es →
+      free t ≡ calls_function r n c && list_all free es.items
+  unfolding is_memoryless
+  memoryless_call t c es (inl e) =
+      ap free e ∙ ap (λ b. calls_function r n c && b)
+      (row_hidden (Call c es) es (items_hidden-the_row-Term-0 es))
+  memoryless_call t c es (inr (it, e)) =
+      ap free e ∙ ap (λ b. calls_function r n c && b)
+      (row_hidden (IterateNode it c es) es (items_hidden-the_row-Term-0 es))

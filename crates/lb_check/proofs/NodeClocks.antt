@@ -1,6 +1,7 @@
 -- A node that is reached keeps the rules of clocks where its declared clocks and its statements do.
-use Rattle.std.proofs.Common.{◌≡◌, ℕ, Bool, true, false, Some, ap, sym, ◌∙◌, subst}
-use Rattle.std.specs.Prelude.{◌&&◌, option_map, slice_get, IfOk, Result, Ok, Err}
+use Rattle.std.proofs.Common.{◌≡◌, ℕ, Bool, true, Some, None, ap, sym, ◌∙◌, subst}
+use Rattle.std.specs.Prelude.{◌&&◌, option_map, slice_get}
+use Rattle.std.proofs.Math.Bool.{and-false}
 use Rattle.std.proofs.lemmas.Option.{slice_get-map, slice_get_within, get_or_from_slice_get}
 use Rattle.lb_syntax.specs.Lists.{holds}
 use Rattle.lb_static.specs.Instances.{Program}
@@ -11,10 +12,16 @@ use Rattle.lb_static.specs.ResolvedNodes.{IsResolved, node_of}
 use Rattle.lb_static.specs.declared.reach.NodeId.{NodeId}
 use Rattle.lb_static.specs.declared.reach.Reached.{Reached}
 use Rattle.lb_static.specs.declared.resolved.ResolvedNode.{ResolvedNode}
+use Rattle.lb_static.specs.declared.resolved.ResolvedStatement.{ResolvedStatement}
+use Rattle.lb_check.specs.declared.part.Part.{Part}
+use Rattle.lb_check.specs.declared.part.Part.TheVariants as part
+use Rattle.lb_check.specs.BrokenParts.{first_broken}
 use Rattle.lb_check.specs.ClockRules.{are_declared_clocks}
+use Rattle.lb_check.specs.FoundParts.{IsDeclaredClock, IsIllClocked, IsPartIllClocked}
 use Rattle.lb_check.specs.NodeClocks.{is_node_clocked, is_clocked_at}
 use Rattle.lb_check.specs.OwnClocks.{HasClocks}
-use Rattle.lb_check.specs.TermClocks.{is_body_clocked}
+use Rattle.lb_check.specs.TermClocks.{context_of, is_body_clocked, is_resolved_statement_clocked}
+use Rattle.lb_check.proofs.FirstBroken.{all_pass, fails_there, not_all_pass}
 use Rattle.lb_check.proofs.NodePlaces.{distinct_variables}
 
 -- ## A node that is reached
@@ -47,12 +54,38 @@ module _ (P : Program) (r : Reached) (names : keeps_names P ≡ true) (reached :
 -- what the code answers
 module _ (r : Reached) (id : NodeId) (n : ResolvedNode)
     (at : slice_get r.nodes.items id.0 ≡ Some n) where
-  pub clocks_broken : are_declared_clocks (node_of n) ≡ false → false ≡ is_clocked_at r id
-  clocks_broken e = sym (ap (holds (is_node_clocked r)) at ∙ ap (λ b. b && is_body_clocked r n) e)
+  abbrev kept : ResolvedStatement → Bool
+  kept = is_resolved_statement_clocked (context_of r n)
 
-  pub clocks_kept : {E : Type 0} → are_declared_clocks (node_of n) ≡ true →
-      (result : Result Bool E) → IfOk result (λ b. b ≡ is_body_clocked r n)
-      → IfOk result (λ b. b ≡ is_clocked_at r id)
-  clocks_kept e (Err x) body = body
-  clocks_kept e (Ok b) body = body
-      ∙ sym (ap (holds (is_node_clocked r)) at ∙ ap (λ b. b && is_body_clocked r n) e)
+  both : is_clocked_at r id ≡ (are_declared_clocks (node_of n) && is_body_clocked r n)
+  both = ap (holds (is_node_clocked r)) at
+
+  here : (p : Part) → IsPartIllClocked r n p → (m : ResolvedNode) →
+      slice_get r.nodes.items id.0 ≡ Some m → IsPartIllClocked r m p
+  here p e m is =
+      let one : Some n ≡ Some m = sym at ∙ is in
+      let same : n ≡ m = cc in
+      subst (λ (m : ResolvedNode). IsPartIllClocked r m p) same e
+
+  pub declared_found : (i : ℕ) → IsDeclaredClock (node_of n) (Some i) →
+      IsIllClocked r id (part.Variable (record { 0 = i }))
+  declared_found i e = (
+    both ∙ ap (λ b. b && is_body_clocked r n) e.0,
+    here (part.Variable (record { 0 = i })) e.1,
+  )
+
+  pub statement_found : (j : ℕ) → are_declared_clocks (node_of n) ≡ true →
+      first_broken (is_resolved_statement_clocked (context_of r n)) n.body.items ≡ Some j
+      → IsIllClocked r id (part.Statement j)
+  statement_found j declared e = (
+    both ∙ ap (λ b. are_declared_clocks (node_of n) && b)
+        (not_all_pass kept n.body.items j e)
+        ∙ and-false (are_declared_clocks (node_of n)),
+    here (part.Statement j) (declared, fails_there kept n.body.items j e),
+  )
+
+  pub all_clocked : are_declared_clocks (node_of n) ≡ true →
+      first_broken (is_resolved_statement_clocked (context_of r n)) n.body.items ≡ None
+      → is_clocked_at r id ≡ true
+  all_clocked declared e = both ∙ ap (λ b. b && is_body_clocked r n) declared
+      ∙ all_pass kept n.body.items e

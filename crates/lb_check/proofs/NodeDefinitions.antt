@@ -3,7 +3,7 @@ use Rattle.std.proofs.Common.{length-append, ◌≡◌, ℕ, zero, ◌+◌, ◌-
 use Rattle.std.proofs.Common.{cond, List, [], ◌∷◌, ◌++◌, length, map, Option, Some, None, refl, ap}
 use Rattle.std.proofs.Common.{sym, ◌∙◌, subst, arith}
 use Rattle.std.specs.Prelude.{◌&&◌, ◌||◌, not, nat_lt, nat_eq, option_map, slice_get, flat_map}
-use Rattle.std.specs.Prelude.{◌==◌, ◌↔◌, IfOk, IsTrue, Result, Ok, Err}
+use Rattle.std.specs.Prelude.{◌==◌, ◌≢◌, if◌then◌else◌}
 use Rattle.std.specs.List.{list_all}
 use Rattle.std.specs.Str.{bytes_eq}
 use Rattle.std.proofs.lemmas.Bool.Decides.{nat_tests}
@@ -11,16 +11,16 @@ use Rattle.std.proofs.lemmas.List.{length-map}
 use Rattle.std.proofs.lemmas.List.Folds.{list_all-append}
 use Rattle.std.proofs.lemmas.List.Recursion.{is_count_by}
 use Rattle.std.proofs.lemmas.Option.{slice_get-map, slice_get_within, get_or_from_slice_get}
-use Rattle.std.proofs.lemmas.Bool.{ltb-true, eq-eqb, eqb-true, lt-ltb, le-ltb}
+use Rattle.std.proofs.lemmas.Bool.{ltb-true, eq-eqb, eqb-true, lt-ltb, le-ltb, ne_eqb}
 use Rattle.std.proofs.Math.Bool.{and-true, and-false}
-use Rattle.lb_syntax.specs.Lists.{◌>>=◌, either_or, holds, listed}
-use Rattle.lb_syntax.specs.Tree.{Name, Node, Declaration, Expr, Static}
+use Rattle.lb_syntax.specs.Lists.{either_or, holds, listed}
+use Rattle.lb_syntax.specs.Tree.{Name, Node, Declaration, Expr, Statement, Static}
 use Rattle.lb_syntax.specs.Tree as tree
 use Rattle.lb_syntax.proofs.ListPlaces.{get_first, get_later, item_at, all_at, all_from}
 use Rattle.lb_syntax.proofs.TruthValues.{and_first, and_second}
 use Rattle.lb_static.specs.declared.reach.NodeId.{NodeId}
 use Rattle.lb_static.specs.declared.reach.Reached.{Reached}
-use Rattle.lb_static.specs.declared.resolved.CallSite.{CallSite}
+use Rattle.lb_static.specs.declared.resolved.CallId.{CallId}
 use Rattle.lb_static.specs.declared.resolved.ResolvedNode.{ResolvedNode}
 use Rattle.lb_static.specs.declared.resolved.VariableId.{VariableId}
 use Rattle.lb_static.specs.declared.resolved.ResolvedStatement.{ResolvedStatement}
@@ -31,136 +31,31 @@ use Rattle.lb_static.specs.declared.resolved.Term.{Current', When', Replicate', 
 use Rattle.lb_static.specs.declared.resolved.Term.{Join', Array', AtMostOne', Nor', Call'}
 use Rattle.lb_static.specs.declared.resolved.Term.{IterateNode', IterateSymbol', Row_of-Term}
 use Rattle.lb_static.specs.declared.resolved.Term.{end_of-Term, more_of-Term}
-use Rattle.lb_static.specs.Instances.{Program, Site, node_named, statement_sites, sites, sites_in}
+use Rattle.lb_static.specs.Instances.{Program, node_sites}
 use Rattle.lb_static.specs.Names.{are_distinct, keeps_names}
 use Rattle.lb_static.specs.Parts.{left_names, node_parts, parts, parts_in, right_side}
 use Rattle.lb_static.specs.Parts.{variable_names}
-use Rattle.lb_static.specs.ReachedNodes.{IsReached, are_linked, id_at, is_linked, source_names}
-use Rattle.lb_static.specs.ReachedNodes.{tree_at, trees}
-use Rattle.lb_static.specs.ResolvedNodes.{IsResolved, node_of, texts_of, counts_of, statics_of}
-use Rattle.lb_static.specs.ResolvedTerms.{Texts, Counts, is_variable, is_statement_within, name_at}
-use Rattle.lb_static.specs.ResolvedTerms.{static_at, named_value, expr_of, row_of, statement_of}
-use Rattle.lb_static.specs.ResolvedTerms.{site_of}
+use Rattle.lb_static.specs.ReachedNodes.{IsReached, source_names, tree_at, trees}
+use Rattle.lb_static.specs.ResolvedNodes.{IsResolved, node_of, texts_of, counts_of}
+use Rattle.lb_static.specs.ResolvedTerms.{Texts, Counts, is_variable, is_call, is_static, is_within}
+use Rattle.lb_static.specs.ResolvedTerms.{are_within, is_statement_within, name_at, static_at}
+use Rattle.lb_static.specs.ResolvedTerms.{named_value, expr_of, row_of, statement_of, site_at}
 use Rattle.lb_static.specs.DataTypes.{variables}
+use Rattle.lb_check.specs.declared.part.Part.{Part}
+use Rattle.lb_check.specs.declared.part.Part.TheVariants as part
+use Rattle.lb_check.specs.BrokenParts.{at_place, first_broken, is_defined_right, is_part_defined}
 use Rattle.lb_check.specs.ClockRules.{if_node}
 use Rattle.lb_check.specs.DefinitionRules.{definition_count, defines_once, is_memoryless}
 use Rattle.lb_check.specs.DefinitionRules.{is_defined}
+use Rattle.lb_check.specs.FoundParts.{IsDefinedPlace, IsIllDefined}
+use Rattle.lb_check.specs.NodeDefinitions as mirror
 use Rattle.lb_check.specs.NodeDefinitions.{count_left, count_statement, count_statements}
-use Rattle.lb_check.specs.NodeDefinitions.{DefinesEach, has_memory, row_memory, statement_memory}
-use Rattle.lb_check.specs.NodeDefinitions.{statements_memory, calls_function, call_functions}
-use Rattle.lb_check.specs.NodeDefinitions.{keeps_function_rules, is_defined_at}
-use Rattle.lb_check.proofs.NodePlaces.{named_at, distinct_variables}
+use Rattle.lb_check.specs.NodeDefinitions.{calls_function, is_statement_memoryless, is_defined_at}
+use Rattle.lb_check.specs.NodeDefinitions.{memory_in_function, wanted_count}
 use Rattle.lb_check.proofs.DistinctNames.{distinct_at}
-
--- ## Memory
-
-swapped : (f m c : Bool) (x : Bool) → x ≡ (not m && c) → (f && x) ≡ (not m && (f && c))
-swapped true m c x e = e
-swapped false true c x e = refl
-swapped false false c x e = refl
-
-module _ (P : Program) (t : Texts) where
-  abbrev memoryless : List Expr → Bool
-  memoryless es = list_all (is_memoryless P) es
-
-  abbrev functions : List Site → Bool
-  functions ss = list_all (λ s. if_node P (λ n. n.is_function) s.callee) ss
-
-  two_parts : (es fs : List Expr) (ss ts : List Site) (a b : Bool) →
-      memoryless es ≡ (not a && functions ss) → memoryless fs ≡ (not b && functions ts)
-      → memoryless (es ++ fs) ≡ (not (a || b) && functions (ss ++ ts))
-  two_parts es fs ss ts a b p q =
-      list_all-append (is_memoryless P) es fs
-      ∙ rw p (rw q (mixed a b (functions ss) (functions ts)))
-      ∙ ap (λ o. not (a || b) && o)
-      (sym (list_all-append (λ s. if_node P (λ n. n.is_function) s.callee) ss ts))
-    where
-      mixed : (a b c d : Bool) → ((not a && c) && (not b && d)) ≡ (not (a || b) && (c && d))
-      mixed true b c d = refl
-      mixed false true true d = refl
-      mixed false true false d = refl
-      mixed false false true d = refl
-      mixed false false false d = refl
-
-  value_memoryless : (s : Static) →
-      memoryless (parts (named_value s)) ≡ functions (sites (named_value s))
-  value_memoryless (tree.Whole n) = refl
-  value_memoryless (tree.Named x) = refl
-  value_memoryless (tree.Negated s) = refl
-  value_memoryless (tree.Combined op s u) = refl
-  value_memoryless (tree.Grouped s) = refl
-
-  abbrev parts_of : Term → List Expr
-  parts_of e = parts (expr_of t e)
-
-  abbrev sites_of : Term → List Site
-  sites_of e = sites (expr_of t e)
-
-  mutual
-    unfolding has_memory
-
-    term_memoryless : (e : Term) →
-        memoryless (parts_of e) ≡ (not (has_memory e) && functions (sites_of e))
-    term_memoryless (Literal n) = refl
-    term_memoryless (Truth b) = refl
-    term_memoryless (Variable x) = refl
-    term_memoryless (Value i) = value_memoryless (static_at t.statics i)
-    term_memoryless (Group' p e) = term_memoryless e
-    term_memoryless (Unary' op p a) = term_memoryless a
-    term_memoryless (Binary' op p a q b) =
-        two_parts (parts_of a) (parts_of b) (sites_of a) (sites_of b) (has_memory a) (has_memory b)
-        (term_memoryless a) (term_memoryless b)
-    term_memoryless (If' p c q a r b) =
-        two_parts (parts_of c) (parts_of a ++ parts_of b) (sites_of c) (sites_of a ++ sites_of b)
-        (has_memory c) (has_memory a || has_memory b)
-        (term_memoryless c)
-        (two_parts (parts_of a) (parts_of b) (sites_of a) (sites_of b) (has_memory a) (has_memory b)
-        (term_memoryless a) (term_memoryless b))
-    term_memoryless (Arrow' p a q b) = refl
-    term_memoryless (Fby' p a q b) = refl
-    term_memoryless (Pre' p e) = refl
-    term_memoryless (Current' p e) = refl
-    term_memoryless (When' p e x sign) = term_memoryless e
-    term_memoryless (Replicate' p e n) = term_memoryless e
-    term_memoryless (Index' p e i) = term_memoryless e
-    term_memoryless (Slice' p e i j) = term_memoryless e
-    term_memoryless (Join' p a q b) =
-        two_parts (parts_of a) (parts_of b) (sites_of a) (sites_of b) (has_memory a) (has_memory b)
-        (term_memoryless a) (term_memoryless b)
-    term_memoryless (Array' arity all) = row_memoryless all
-    term_memoryless (AtMostOne' arity all) = row_memoryless all
-    term_memoryless (Nor' arity all) = row_memoryless all
-    term_memoryless (Call' c arity all) = swapped _ (row_memory all) _ _ (row_memoryless all)
-    term_memoryless (IterateNode' it c arity all) =
-        swapped _ (row_memory all) _ _ (row_memoryless all)
-    term_memoryless (IterateSymbol' it op n arity all) = row_memoryless all
-
-    row_memoryless : {m : _} (row : Row_of-Term m) →
-        memoryless (parts_in (row_of t row)) ≡
-        (not (row_memory row) && functions (sites_in (row_of t row)))
-    row_memoryless end_of-Term = refl
-    row_memoryless (more_of-Term e rest) =
-        two_parts (parts_of e) (parts_in (row_of t rest)) (sites_of e) (sites_in (row_of t rest))
-        (has_memory e) (row_memory rest)
-        (term_memoryless e) (row_memoryless rest)
-
-  statement_memoryless : (s : ResolvedStatement) →
-      memoryless (parts (right_side (statement_of t s))) ≡
-      (not (statement_memory s) && functions (statement_sites (statement_of t s)))
-  statement_memoryless (statement.Equation lefts e) = term_memoryless e
-  statement_memoryless (statement.Assertion e) = term_memoryless e
-
-  statements_memoryless : (ss : List ResolvedStatement) →
-      memoryless (flat_map (λ s. parts (right_side s)) (map (statement_of t) ss))
-      ≡ (not (statements_memory ss)
-      && functions (flat_map statement_sites (map (statement_of t) ss)))
-  statements_memoryless [] = refl
-  statements_memoryless (s ∷ ss) =
-      two_parts (parts (right_side (statement_of t s)))
-      (flat_map (λ s. parts (right_side s)) (map (statement_of t) ss))
-      (statement_sites (statement_of t s)) (flat_map statement_sites (map (statement_of t) ss))
-      (statement_memory s) (statements_memory ss)
-      (statement_memoryless s) (statements_memoryless ss)
+use Rattle.lb_check.proofs.FirstBroken.{all_pass, fails_at, found_item, not_all_pass}
+use Rattle.lb_check.proofs.NodePlaces.{distinct_variables}
+use Rattle.lb_check.proofs.SiteCallees.{callee_found}
 
 -- ## How often a name stands on the left
 
@@ -268,125 +163,283 @@ module _ {A : Type 0} (xs ys : List A) (c : A → ℕ) (k : ℕ → ℕ) (count 
           let at = ap (slice_get (xs ++ ys)) (sym sum) ∙ get_later xs ys (i - length xs) ∙ h.1 in
           sym (same i h.0 at) ∙ eqb-true _ 1 one ∙ sym (ap (λ b. cond b 0 1) is)
 
+-- what is told of the variables and statements of a node as the code reads them
+pub places_told : (n : ResolvedNode) (count : ℕ) (ss : List ResolvedStatement) (o p : Option ℕ) →
+    count ≡ length n.variables.items → ss ≡ n.body.items →
+    IsDefinedPlace n.inputs count ss o → o ≡ p
+    → IsDefinedPlace n.inputs (length n.variables.items) n.body.items p
+places_told n count ss o p many body found is =
+    subst (IsDefinedPlace n.inputs (length n.variables.items) n.body.items) is
+    (subst (λ b. IsDefinedPlace n.inputs (length n.variables.items) b o) body
+    (subst (λ k. IsDefinedPlace n.inputs k ss o) many found))
+
 -- ## A node that is reached
 
-module _ (P : Program) (r : Reached) (names : keeps_names P ≡ true) (reached : IsReached P r) where
+module _ (P : Program) (r : Reached) (names : keeps_names P ≡ true) (reached : IsReached P r)
+    (id : NodeId) (n : ResolvedNode)
+    (at : slice_get r.nodes.items id.0 ≡ Some n) where
+  abbrev here : Node
+  here = node_of n
+
+  abbrev t : Texts
+  t = texts_of n
+
+  resolved : IsResolved (source_names P) n
+  resolved =
+      let lt = slice_get_within r.nodes.items id.0 n at in
+      let is = get_or_from_slice_get r.nodes.items id.0 n n at in
+      subst (IsResolved (source_names P)) is (reached.resolved id.0 n lt)
+
+  tree_is : tree_at r id ≡ Some (node_of n)
+  tree_is = slice_get-map node_of r.nodes.items id.0 ∙ ap (option_map node_of) at
+
+  distinct : are_distinct (variable_names (node_of n)) ≡ true
+  distinct =
+      let lt = slice_get_within (trees r) id.0 here tree_is in
+      let is = get_or_from_slice_get (trees r) id.0 here here tree_is in
+      distinct_variables P names here ((reached.same here).0 (id.0, lt, is))
+
+  -- ## Memory
+
+  abbrev memoryless : List Expr → Bool
+  memoryless es = list_all (is_memoryless P) es
+
+  two_parts : (es fs : List Expr) (a b : Bool) → memoryless es ≡ a → memoryless fs ≡ b →
+      memoryless (es ++ fs) ≡ (a && b)
+  two_parts es fs a b p q = list_all-append (is_memoryless P) es fs ∙ rw (p, q) refl
+
+  value_memoryless : (s : Static) → memoryless (parts (named_value s)) ≡ true
+  value_memoryless (tree.Whole m) = refl
+  value_memoryless (tree.Named x) = refl
+  value_memoryless (tree.Negated s) = refl
+  value_memoryless (tree.Combined op s u) = refl
+  value_memoryless (tree.Grouped s) = refl
+
   -- what a call calls is found by its name
-  calls_are : (statics : List Static) (cs : List CallSite) → list_all (is_linked r) cs ≡ true
-      → list_all (λ s. if_node P (λ n. n.is_function) s.callee)
-      (map (site_of (source_names P) statics) cs) ≡ call_functions r cs
-  calls_are statics [] l = refl
-  calls_are statics (c ∷ cs) l =
-      let one = call_is c (id_at r c.callee) refl (and_first _ (list_all (is_linked r) cs) l) in
-      let rest = calls_are statics cs (and_second (is_linked r c) _ l) in
-      rw one (rw rest refl)
+  call_memoryless : (c : CallId) → is_call (counts_of n) c ≡ true →
+      if_node P (λ m. m.is_function) (site_at (node_sites (node_of n)) c).callee
+      ≡ calls_function r n c
+  call_memoryless c w =
+      let found = callee_found P r names reached id.0 n at c w in
+      ap (λ o. list_all (λ m. m.is_function) (listed (λ m. m ∷ []) o)) found.2
+      ∙ and-true (node_of found.0).is_function
+      ∙ sym (ap (holds (λ m. m.tree.now.is_function)) found.1)
+
+  with_call : (c : CallId) → is_call (counts_of n) c ≡ true → (a b : Bool) → a ≡ b →
+      (if_node P (λ m. m.is_function) (site_at (node_sites (node_of n)) c).callee && a)
+      ≡ (calls_function r n c && b)
+  with_call c w a b e =
+      ap (λ k. k && a) (call_memoryless c w) ∙ ap (λ k. calls_function r n c && k) e
+
+  abbrev parts_of : Term → List Expr
+  parts_of e = parts (expr_of (texts_of n) e)
+
+  abbrev row_parts : {m : _} → Row_of-Term m → List Expr
+  row_parts row = parts_in (row_of (texts_of n) row)
+
+  mutual
+    unfolding mirror.is_memoryless
+
+    term_memoryless : (e : Term) → is_within (counts_of n) e ≡ true →
+        memoryless (parts_of e) ≡ mirror.is_memoryless r n e
+    term_memoryless (Literal m) w = refl
+    term_memoryless (Truth b) w = refl
+    term_memoryless (Variable x) w = refl
+    term_memoryless (Value i) w = value_memoryless (static_at t.statics i)
+    term_memoryless (Group' p e) w = term_memoryless e w
+    term_memoryless (Unary' op p a) w = term_memoryless a w
+    term_memoryless (Binary' op p a q b) w =
+        two_parts (parts_of a) (parts_of b) _ _
+        (term_memoryless a (and_first _ (is_within (counts_of n) b) w))
+        (term_memoryless b (and_second (is_within (counts_of n) a) _ w))
+    term_memoryless (If' p c q a o b) w =
+        two_parts (parts_of c) (parts_of a ++ parts_of b) _ _
+        (term_memoryless c
+        (and_first _ (is_within (counts_of n) a && is_within (counts_of n) b) w))
+        (two_parts (parts_of a) (parts_of b) _ _
+        (term_memoryless a
+        (and_first _ (is_within (counts_of n) b) (and_second (is_within (counts_of n) c) _ w)))
+        (term_memoryless b
+        (and_second (is_within (counts_of n) a) _ (and_second (is_within (counts_of n) c) _ w))))
+    term_memoryless (Arrow' p a q b) w = refl
+    term_memoryless (Fby' p a q b) w = refl
+    term_memoryless (Pre' p e) w = refl
+    term_memoryless (Current' p e) w = refl
+    term_memoryless (When' p e x sign) w =
+        term_memoryless e (and_second (is_variable (counts_of n) x) _ w)
+    term_memoryless (Replicate' p e i) w =
+        term_memoryless e (and_second (is_static (counts_of n) i) _ w)
+    term_memoryless (Index' p e i) w =
+        term_memoryless e (and_second (is_static (counts_of n) i) _ w)
+    term_memoryless (Slice' p e i j) w =
+        term_memoryless e
+        (and_second (is_static (counts_of n) j) _ (and_second (is_static (counts_of n) i) _ w))
+    term_memoryless (Join' p a q b) w =
+        two_parts (parts_of a) (parts_of b) _ _
+        (term_memoryless a (and_first _ (is_within (counts_of n) b) w))
+        (term_memoryless b (and_second (is_within (counts_of n) a) _ w))
+    term_memoryless (Array' arity all) w = row_memoryless all w
+    term_memoryless (AtMostOne' arity all) w = row_memoryless all w
+    term_memoryless (Nor' arity all) w = row_memoryless all w
+    term_memoryless (Call' c arity all) w =
+        with_call c (and_first _ (are_within (counts_of n) all) w) _ _
+        (row_memoryless all (and_second (is_call (counts_of n) c) _ w))
+    term_memoryless (IterateNode' it c arity all) w =
+        with_call c (and_first _ (are_within (counts_of n) all) w) _ _
+        (row_memoryless all (and_second (is_call (counts_of n) c) _ w))
+    term_memoryless (IterateSymbol' it op i arity all) w =
+        row_memoryless all (and_second (is_static (counts_of n) i) _ w)
+
+    row_memoryless : {m : _} (row : Row_of-Term m) → are_within (counts_of n) row ≡ true →
+        memoryless (row_parts row) ≡ mirror.is_row_memoryless r n row
+    row_memoryless end_of-Term w = refl
+    row_memoryless (more_of-Term e rest) w =
+        two_parts (parts_of e) (row_parts rest) _ _
+        (term_memoryless e (and_first _ (are_within (counts_of n) rest) w))
+        (row_memoryless rest (and_second (is_within (counts_of n) e) _ w))
+
+  abbrev is_free : Statement → Bool
+  is_free s = memoryless (parts (right_side s))
+
+  statement_memoryless : (s : ResolvedStatement) → is_statement_within (counts_of n) s ≡ true →
+      is_free (statement_of (texts_of n) s) ≡ is_statement_memoryless r n s
+  statement_memoryless (statement.Equation lefts e) w =
+      term_memoryless e (and_second (list_all (is_variable (counts_of n)) lefts.items) _ w)
+  statement_memoryless (statement.Assertion e) w = term_memoryless e w
+
+  body_memoryless : (ss : List ResolvedStatement) →
+      list_all (is_statement_within (counts_of n)) ss ≡ true →
+      memoryless (flat_map (λ s. parts (right_side s)) (map (statement_of (texts_of n)) ss))
+      ≡ list_all (is_statement_memoryless r n) ss
+  body_memoryless [] w = refl
+  body_memoryless (s ∷ ss) w =
+      two_parts (parts (right_side (statement_of t s)))
+      (flat_map (λ s. parts (right_side s)) (map (statement_of t) ss)) _ _
+      (statement_memoryless s
+      (and_first _ (list_all (is_statement_within (counts_of n)) ss) w))
+      (body_memoryless ss (and_second (is_statement_within (counts_of n) s) _ w))
+
+  memoryless_is : list_all (is_memoryless P) (node_parts (node_of n))
+      ≡ list_all (is_statement_memoryless r n) n.body.items
+  memoryless_is =
+      ap (λ b. list_all (is_memoryless P) (flat_map (λ s. parts (right_side s)) b))
+      (sym resolved.body)
+      ∙ body_memoryless n.body.items resolved.body_within
+
+  defined_is : is_defined_at P r id ≡ (defines_once (node_of n)
+      && (not (node_of n).is_function
+      || list_all (is_statement_memoryless r n) n.body.items))
+  defined_is = ap (holds (is_defined P)) tree_is
+      ∙ ap (λ b. defines_once here && (not here.is_function || b)) memoryless_is
+
+  in_tree : (p : Part) → is_part_defined P (node_of n) p ≡ false → (k : Node) →
+      tree_at r id ≡ Some k → is_part_defined P k p ≡ false
+  in_tree p e k is =
+      let one : Some (node_of n) ≡ Some k = sym tree_is ∙ is in
+      let same : node_of n ≡ k = cc in
+      subst (λ (k : Node). is_part_defined P k p ≡ false) same e
+
+  -- a statement with memory of a function
+  statement_found : (j : ℕ) → (node_of n).is_function ≡ true →
+      first_broken (is_statement_memoryless r n) n.body.items ≡ Some j
+      → IsIllDefined P r id (part.Statement j)
+  statement_found j function found =
+      let st = found_item (is_statement_memoryless r n) n.body.items j found in
+      let text = ap (λ ss. slice_get ss j) (sym resolved.body)
+      ∙ slice_get-map (statement_of t) n.body.items j
+      ∙ ap (option_map (statement_of t)) st.1 in
+      let fails = fails_at is_free here.body j (statement_of t st.0) text
+      (statement_memoryless st.0
+      (all_at (is_statement_within (counts_of n)) n.body.items j st.0 resolved.body_within st.1)
+      ∙ st.2) in (
+        defined_is
+            ∙ ap (λ b. defines_once here && (not b
+            || list_all (is_statement_memoryless r n) n.body.items)) function
+            ∙ ap (λ b. defines_once here && b)
+            (not_all_pass (is_statement_memoryless r n) n.body.items j found)
+            ∙ and-false (defines_once here),
+        in_tree (part.Statement j)
+            (ap (λ b. not b || at_place is_free here.body j) function ∙ fails),
+      )
+
+  pub memory_found : (o : Option ℕ) (j : ℕ) → o ≡ memory_in_function r n → o ≡ Some j →
+      IsIllDefined P r id (part.Statement j)
+  memory_found o j known is = by (node_of n).is_function refl (sym known ∙ is)
     where
-      found_function : (n : Node) → node_named P n.name ≡ Some n →
-          if_node P (λ n. n.is_function) n.name ≡ n.is_function
-      found_function n e = ap (λ o. list_all (λ n. n.is_function) (listed (λ n. n ∷ []) o)) e
-          ∙ and-true n.is_function
+      by : (b : Bool) → (node_of n).is_function ≡ b →
+          cond b (first_broken (is_statement_memoryless r n) n.body.items) None ≡ Some j
+          → IsIllDefined P r id (part.Statement j)
+      by true function found = statement_found j function found
+      by false function found = absurd cc
 
-      call_is : (c : CallSite) (o : Option NodeId) → id_at r c.callee ≡ o →
-          holds (λ id. nat_lt id.0 (length r.nodes.items)) (id_at r c.callee) ≡ true
-          → if_node P (λ n. n.is_function)
-          (either_or (slice_get (source_names P) c.callee.0) []) ≡ calls_function r c
-      call_is c None is l = absurd
-          (let e = sym (ap (holds (λ id. nat_lt id.0 (length r.nodes.items))) is) ∙ l in cc)
-      call_is c (Some id) is l =
-          let lt = ltb-true id.0 (length r.nodes.items)
-          (sym (ap (holds (λ id. nat_lt id.0 (length r.nodes.items))) is) ∙ l) in
-          let h = item_at r.nodes.items id.0 lt in
-          let n = node_of h.0 in
-          let tree_is : tree_at r id ≡ Some n = slice_get-map node_of r.nodes.items id.0
-          ∙ ap (option_map node_of) h.1 in
-          let place : slice_get P.source.nodes c.callee.0 ≡ Some n =
-          sym (reached.found c.callee id is) ∙ tree_is in
-          let name : slice_get (source_names P) c.callee.0 ≡ Some n.name =
-          slice_get-map (λ m. m.name) P.source.nodes c.callee.0
-          ∙ ap (option_map (λ m. m.name)) place in
-          ap (λ o. if_node P (λ n. n.is_function) (either_or o [])) name
-          ∙ found_function n (named_at P names c.callee.0 n place)
-          ∙ sym (ap (λ o. holds (λ n. n.is_function) (o >>= tree_at r)) is
-          ∙ ap (holds (λ n. n.is_function)) tree_is)
+  -- no statement of a function with memory
+  rules_kept : memory_in_function r n ≡ None → (not (node_of n).is_function
+      || list_all (is_statement_memoryless r n) n.body.items) ≡ true
+  rules_kept known = by (node_of n).is_function known
+    where
+      by : (b : Bool) →
+          cond b (first_broken (is_statement_memoryless r n) n.body.items) None ≡ None
+          → (not b || list_all (is_statement_memoryless r n) n.body.items) ≡ true
+      by true known = all_pass (is_statement_memoryless r n) n.body.items known
+      by false known = refl
 
-  module _ (id : NodeId) (n : ResolvedNode) (at : slice_get r.nodes.items id.0 ≡ Some n) where
-    abbrev here : Node
-    here = node_of n
+  -- ## Definitions
 
-    resolved : IsResolved (source_names P) n
-    resolved =
-        let lt = slice_get_within r.nodes.items id.0 n at in
-        let is = get_or_from_slice_get r.nodes.items id.0 n n at in
-        subst (IsResolved (source_names P)) is (reached.resolved id.0 n lt)
+  names_many : length n.variables.items ≡ length (variable_names (node_of n))
+  names_many = resolved.as_many ∙ sym (length-map (variables here) (λ d. d.name))
 
-    tree_is : tree_at r id ≡ Some here
-    tree_is = slice_get-map node_of r.nodes.items id.0 ∙ ap (option_map node_of) at
+  count_is : (i : ℕ) (d : Declaration) → slice_get (variables (node_of n)) i ≡ Some d →
+      definition_count (node_of n) d.name ≡ count_statements i n.body.items
+  count_is i d e =
+      counted (texts_of n) (counts_of n) names_many distinct i d.name
+      (slice_get-map (λ d. d.name) (variables here) i ∙ ap (option_map (λ d. d.name)) e)
+      here n.body.items resolved.body resolved.body_within
 
-    distinct : are_distinct (variable_names here) ≡ true
-    distinct =
-        let lt = slice_get_within (trees r) id.0 here tree_is in
-        let is = get_or_from_slice_get (trees r) id.0 here here tree_is in
-        distinct_variables P names here ((reached.same here).0 (id.0, lt, is))
+  abbrev AllOnce : Type 0
+  AllOnce = IsDefinedPlace n.inputs (length n.variables.items) n.body.items None
 
-    memoryless_is : list_all (is_memoryless P)
-        (node_parts here) ≡ (not (statements_memory n.body.items) && call_functions r n.calls.items)
-    memoryless_is =
-        ap (λ b. list_all (is_memoryless P) (flat_map (λ s. parts (right_side s)) b))
-        (sym resolved.body)
-        ∙ statements_memoryless P (texts_of n) n.body.items
-        ∙ ap (λ b. not (statements_memory n.body.items)
-        && list_all (λ s. if_node P (λ m. m.is_function) s.callee) (flat_map statement_sites b))
-        resolved.body
-        ∙ ap (λ ss. not (statements_memory n.body.items)
-        && list_all (λ s. if_node P (λ m. m.is_function) s.callee) ss) (sym resolved.calls)
-        ∙ ap (λ b. not (statements_memory n.body.items) && b)
-        (calls_are (statics_of n) n.calls.items
-        (all_at (are_linked r) r.nodes.items id.0 n reached.linked at))
+  wanted_is : (i : ℕ) → wanted_count n.inputs i
+      ≡ (if nat_lt i (length (node_of n).inputs) then 0 else 1)
+  wanted_is i = ap (λ k. wanted_count k i) resolved.inputs
 
-    defined_is : is_defined_at P r id ≡ (defines_once here && keeps_function_rules r n)
-    defined_is = ap (holds (is_defined P)) tree_is
-        ∙ ap (λ b. defines_once here && (not n.tree.now.is_function || b)) memoryless_is
+  once_from : AllOnce → defines_once (node_of n) ≡ true
+  once_from each =
+      from_each here.inputs (here.outputs ++ here.locals) (λ d. definition_count here d.name)
+      (λ i. count_statements i n.body.items)
+      (length n.variables.items) resolved.as_many count_is
+      (λ i lt. each i lt ∙ wanted_is i)
 
-    names_many : length n.variables.items ≡ length (variable_names here)
-    names_many = resolved.as_many ∙ sym (length-map (variables here) (λ d. d.name))
+  from_once : defines_once (node_of n) ≡ true → AllOnce
+  from_once all i lt =
+      to_each here.inputs (here.outputs ++ here.locals) (λ d. definition_count here d.name)
+      (λ i. count_statements i n.body.items)
+      (length n.variables.items) resolved.as_many count_is all i lt ∙ sym (wanted_is i)
 
-    count_is : (i : ℕ) (d : Declaration) → slice_get (variables here) i ≡ Some d →
-        definition_count here d.name ≡ count_statements i n.body.items
-    count_is i d e =
-        counted (texts_of n) (counts_of n) names_many distinct i d.name
-        (slice_get-map (λ d. d.name) (variables here) i ∙ ap (option_map (λ d. d.name)) e)
-        here n.body.items resolved.body resolved.body_within
+  not_once : (i : ℕ) → i < length n.variables.items →
+      count_statements i n.body.items ≢ wanted_count n.inputs i → (b : Bool) →
+      defines_once (node_of n) ≡ b → b ≡ false
+  not_once i lt other true e = absurd (other (from_once e i lt))
+  not_once i lt other false e = refl
 
-    abbrev Defined : Type 0
-    Defined = DefinesEach n.inputs (length n.variables.items) n.body.items
+  -- a variable that has not the definitions that it should have
+  pub variable_found : (i : ℕ) →
+      IsDefinedPlace n.inputs (length n.variables.items) n.body.items (Some i)
+      → IsIllDefined P r id (part.Variable (record { 0 = i }))
+  variable_found i found =
+      let lt = found.0 in
+      let d = item_at (variables here) i (omega (arith, lt, resolved.as_many)) in
+      let other = ne_eqb (definition_count here d.0.name)
+      (if nat_lt i (length here.inputs) then 0 else 1)
+      (λ same. found.1 (sym (count_is i d.0 d.1) ∙ same ∙ sym (wanted_is i))) in (
+        defined_is ∙ ap (λ b. b && (not here.is_function
+            || list_all (is_statement_memoryless r n) n.body.items))
+            (not_once i lt found.1 (defines_once here) refl),
+        in_tree (part.Variable (record { 0 = i }))
+            (fails_at (is_defined_right here i) (variables here) i d.0 d.1 other),
+      )
 
-    once_from : Defined → defines_once here ≡ true
-    once_from each =
-        from_each here.inputs (here.outputs ++ here.locals) (λ d. definition_count here d.name)
-        (λ i. count_statements i n.body.items)
-        (length n.variables.items) resolved.as_many count_is
-        (subst (λ k. DefinesEach k (length n.variables.items) n.body.items) resolved.inputs each)
-
-    from_once : defines_once here ≡ true → Defined
-    from_once all =
-        subst (λ k. DefinesEach k (length n.variables.items) n.body.items) (sym resolved.inputs)
-        (to_each here.inputs (here.outputs ++ here.locals) (λ d. definition_count here d.name)
-        (λ i. count_statements i n.body.items)
-        (length n.variables.items) resolved.as_many count_is all)
-
-    -- what the code answers
-    pub rules_broken : keeps_function_rules r n ≡ false → false ≡ is_defined_at P r id
-    rules_broken e = sym (defined_is ∙ ap (λ b. defines_once here && b) e
-        ∙ and-false (defines_once here))
-
-    pub rules_kept : {E : Type 0} → keeps_function_rules r n ≡ true → (result : Result Bool E) →
-        IfOk result (λ b. IsTrue b ↔ Defined)
-        → IfOk result (λ b. b ≡ is_defined_at P r id)
-    rules_kept e (Err x) all = all
-    rules_kept e (Ok b) all = by b (defines_once here) all refl
-        ∙ sym (defined_is ∙ ap (λ k. defines_once here && k) e ∙ and-true (defines_once here))
-      where
-        by : (b d : Bool) → (IsTrue b ↔ Defined) → defines_once here ≡ d → b ≡ defines_once here
-        by true d all is = sym (once_from (all.0 refl))
-        by false true all is = absurd (let e = all.1 (from_once is) in cc)
-        by false false all is = sym is
+  -- a node with no part that breaks the rules
+  pub all_defined : (o : Option ℕ) → o ≡ memory_in_function r n → o ≡ None → AllOnce →
+      is_defined_at P r id ≡ true
+  all_defined o known none each =
+      defined_is ∙ rw (once_from each, rules_kept (sym known ∙ none)) refl

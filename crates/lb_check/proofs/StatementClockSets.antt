@@ -1,5 +1,6 @@
 -- The statements of a node keep the rules of clocks where the code finds that they do.
-use Rattle.std.proofs.Common.{◌≡◌, ℕ, ◌<◌, Bool, true, false, ◌+◌, List, [], ◌∷◌, length, map}
+use Rattle.std.proofs.Common.{◌≡◌, ℕ, zero, suc, ◌<◌, Bool, true, false, ◌+◌, List, [], ◌∷◌, length}
+use Rattle.std.proofs.Common.{map}
 use Rattle.std.proofs.Common.{Option, Some, None, refl, ap, sym, ◌∙◌, subst, arith}
 use Rattle.std.specs.Prelude.{◌&&◌, ◌==◌, slice_get, flat_map, nat_eq}
 use Rattle.std.specs.List.{list_all, zip}
@@ -39,7 +40,10 @@ use Rattle.lb_check.specs.Clocks as clocks
 use Rattle.lb_check.specs.Clocks.{clock_of, clock_or, declared_clock, ungrouped}
 use Rattle.lb_check.specs.ClockRules.{is_clock, is_clocked, is_occurrence_clocked}
 use Rattle.lb_check.specs.ClockRules.{is_statement_clocked, are_on_results, left_clocks}
+use Rattle.lb_check.specs.declared.part.Part.TheVariants as part
+use Rattle.lb_check.specs.BrokenParts.{at_place, is_part_clocked, is_side_clocked}
 use Rattle.lb_check.specs.Occurrences.{Occurrence, at, occurrences, right_sides, statement_clock}
+use Rattle.lb_check.specs.Occurrences.{statements}
 use Rattle.lb_check.specs.OwnClocks.{HasClocks, clock_in, is_clock_within, name_in}
 use Rattle.lb_check.specs.ClockSets.{is_clocked_on, IsClockSet, AreClockSets, SeesClocks, is_single}
 use Rattle.lb_check.specs.ClockSets.{are_single, is_single_within, is_statement_single}
@@ -55,6 +59,7 @@ use Rattle.lb_check.specs.declared.clock_set.Operand.{Operand}
 use Rattle.lb_check.specs.declared.clock_set.ClockSet.{ClockSet}
 use Rattle.lb_check.specs.declared.clock_set.ClockSet.TheVariants.{NoClock, AnyClock, OneClock}
 use Rattle.lb_check.proofs.DistinctNames.{held_at}
+use Rattle.lb_check.proofs.FirstBroken.{fails_at, item_there}
 use Rattle.lb_check.proofs.SiteCallees.{callee_found}
 use Rattle.lb_check.proofs.OwnClocks.{clock_of_free, clock_of_waiting, same_clock, clock_itself}
 use Rattle.lb_check.proofs.OuterClocks.{same_turned}
@@ -445,3 +450,45 @@ module _ (P : Program) (r : Reached) (here : ResolvedNode) (sees : SeesClocks P 
         && list_all (λ s. is_statement_clocked P node s.0 s.1) (zip b (right_sides P node 0 b)))
         (sym resolved.body)
         ∙ statements_clocked 0 here.body.items resolved.body_within u s
+
+    -- the statement at a place, with its right side
+    side_at : (n : ℕ) (ss : List ResolvedStatement) (j : ℕ) (st : ResolvedStatement) →
+        slice_get ss j ≡ Some st
+        → (m : ℕ) × (slice_get (zip (map (statement_of t) ss)
+        (right_sides P node n (map (statement_of t) ss))) j
+        ≡ Some (
+          statement_of t st,
+          at (statement_clock P node (statement_of t st)) m (right_side (statement_of t st)),
+        ))
+    side_at n [] j st e = absurd cc
+    side_at n (s ∷ ss) zero st e =
+        let same : s ≡ st = cc in (
+          n,
+          ap (λ (s : ResolvedStatement). Some (
+            statement_of t s,
+            at (statement_clock P node (statement_of t s)) n (right_side (statement_of t s)),
+          )) same,
+        )
+    side_at n (s ∷ ss) (suc j) st e =
+        side_at (n + length (statement_sites (statement_of t s))) ss j st e
+
+    -- a statement that the code finds to break the rules of clocks breaks them
+    pub statement_broken : list_all (is_statement_unhidden (texts_of here)) here.body.items ≡ true
+        → list_all (is_statement_single r here) here.body.items ≡ true → (j : ℕ) →
+        at_place (is_resolved_statement_clocked (context_of r here)) here.body.items j ≡ false
+        → is_part_clocked P (node_of here) (part.Statement j) ≡ false
+    statement_broken u s j e =
+        let st = item_there (is_resolved_statement_clocked ctx) here.body.items j e in
+        let side = side_at 0 here.body.items j st.0 st.1 in
+        let whole = ap (λ b. slice_get (zip b (right_sides P node 0 b)) j) (sym resolved.body)
+        ∙ side.1 in
+        fails_at (is_side_clocked P node) (statements P node) j (
+          statement_of t st.0,
+          at (statement_clock P node (statement_of t st.0)) side.0
+              (right_side (statement_of t st.0)),
+        ) whole
+        (statement_clocked side.0 st.0
+        (all_at (is_statement_within (counts_of here)) here.body.items j st.0 resolved.body_within
+        st.1)
+        (all_at (is_statement_unhidden t) here.body.items j st.0 u st.1)
+        (all_at (is_statement_single r here) here.body.items j st.0 s st.1) ∙ st.2)

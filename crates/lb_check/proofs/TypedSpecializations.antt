@@ -1,5 +1,5 @@
 -- The rules of types of a specialization are those of each of its instances.
-use Rattle.std.proofs.Common.{◌≡◌, ℕ, zero, suc, ◌<◌, Bool, true, List, [], ◌∷◌, length, map}
+use Rattle.std.proofs.Common.{◌≡◌, ℕ, zero, suc, ◌<◌, Bool, true, false, List, [], ◌∷◌, length, map}
 use Rattle.std.proofs.Common.{Option, Some, None, refl, ap, sym, ◌∙◌, subst, arith}
 use Rattle.std.specs.Prelude.{◌&&◌, option_map, slice_get, slice_index_or}
 use Rattle.std.specs.List.{list_all}
@@ -8,6 +8,7 @@ use Rattle.std.proofs.lemmas.List.{length-map}
 use Rattle.std.proofs.Math.Bool.{and-true}
 use Rattle.lb_syntax.specs.Lists.{all_some, holds, listed, zip2}
 use Rattle.lb_syntax.specs.Tree.{Name, Node}
+use Rattle.lb_syntax.proofs.ListPlaces.{all_at, item_at}
 use Rattle.lb_syntax.proofs.TruthValues.{and_first, and_second}
 use Rattle.lb_static.specs.declared.reach.Reached.{Reached}
 use Rattle.lb_static.specs.declared.resolved.ResolvedNode.{ResolvedNode}
@@ -30,6 +31,10 @@ use Rattle.lb_static.specs.ResolvedTerms.{is_statement_unhidden, are_statics, is
 use Rattle.lb_static.specs.ResolvedTerms.{is_declared_within}
 use Rattle.lb_static.specs.DataTypes.{DataType, truth, is_type, variables}
 use Rattle.lb_static.specs.Instantiation.{are_same}
+use Rattle.lb_check.specs.declared.part.Part.{Part}
+use Rattle.lb_check.specs.declared.part.Part.TheVariants as part
+use Rattle.lb_check.specs.BrokenParts.{is_part_typed}
+use Rattle.lb_check.specs.FoundParts.{is_part_typed_in, IsIllTyped}
 use Rattle.lb_check.specs.JudgedPrograms.{IsJudged}
 use Rattle.lb_check.specs.TypeRules.{type_of_name, is_statement_typed, is_clock_typed, is_typed}
 use Rattle.lb_check.specs.TermTypes as mirror
@@ -38,7 +43,9 @@ use Rattle.lb_check.proofs.FittedCalls.{node_at, specialized_instance, values_at
 use Rattle.lb_check.proofs.FittedEnvs.{variable_is, left_is, value_is, static_is}
 use Rattle.lb_check.proofs.FittedEnvs.{repeats_is, call_at}
 use Rattle.lb_check.proofs.MirroredTypes.{Fits, term_results}
+use Rattle.lb_check.proofs.ClockedNodes.{zip_at}
 use Rattle.lb_check.proofs.DistinctNames.{distinct_first}
+use Rattle.lb_check.proofs.FirstBroken.{fails_at, item_there}
 use Rattle.lb_check.proofs.TableRows.{each_judged}
 
 -- ## Distinct names
@@ -185,6 +192,50 @@ module _ (P : Program) (r : Reached) (t : Table) (j : IsJudged P r t) (i : ℕ) 
       ∙ resolved_statements_are n.body.items resolved.body_within resolved.unhidden in
       ap (λ b. b && list_all (is_statement_typed P here) node.body) clocks
       ∙ ap (λ b. list_all (mirror.is_variable_typed ctx) n.variables.items && b) statements
+
+  -- a part that the code finds to break the rules breaks them
+  pub part_untyped : (p : Part) → is_part_typed_in ctx n p ≡ false → is_part_typed P here p ≡ false
+  part_untyped (part.Variable x) e =
+      let v = item_there (mirror.is_variable_typed ctx) n.variables.items x.0 e in
+      let lt = slice_get_within n.variables.items x.0 v.0 v.1 in
+      let name = item_at names x.0 (omega (
+        arith,
+        lt,
+        resolved.as_many,
+        length-map (variables (node_of n)) (λ d. d.name),
+      )) in
+      let declared = ap (λ ds. slice_get ds x.0) (sym resolved.declared)
+      ∙ zip_at (declaration_of names (statics_of n)) names n.variables.items x.0 name.0 v.0 name.1
+      v.1 in
+      let within = all_at (is_declared_within (counts_of n)) n.variables.items x.0 v.0
+      resolved.declared_within v.1 in
+      fails_at (is_clock_typed P here) (variables (node_of n)) x.0
+      (declaration_of names (statics_of n) name.0 v.0) declared
+      (clock_is v.0.clock
+      (and_second (are_statics (counts_of n) v.0.first_size v.0.sizes) _ within) ∙ v.2)
+  part_untyped (part.Statement j) e =
+      let st = item_there (mirror.is_resolved_statement_typed ctx) n.body.items j e in
+      let text = ap (λ ss. slice_get ss j) (sym resolved.body)
+      ∙ slice_get-map (statement_of (texts_of n)) n.body.items j
+      ∙ ap (option_map (statement_of (texts_of n))) st.1 in
+      fails_at (is_statement_typed P here) (node_of n).body j (statement_of (texts_of n) st.0) text
+      (resolved_statement_is st.0
+      (all_at (is_statement_within (counts_of n)) n.body.items j st.0 resolved.body_within st.1)
+      (all_at (is_statement_unhidden (texts_of n)) n.body.items j st.0 resolved.unhidden st.1)
+      ∙ st.2)
+
+-- a part of a specialization that breaks the rules of types breaks them in its instance at a path
+pub specialization_part : (P : Program) (r : Reached) (t : Table) → IsJudged P r t →
+    (i : ℕ) (s : Specialization) → slice_get t.specializations.items i ≡ Some s → (p : Path)
+    (here : Instance) → specialized_at r p s ≡ Some here
+    → (q : Part) → IsIllTyped r t s q → is_part_typed P here q ≡ false
+specialization_part P r t j i s is p here e q broken =
+    let n = node_at P r t j.reached j.table s (j.table.specialized i s is).0 in
+    let same : Some (instance_of p (node_of n.0) s.values.items) ≡ Some here =
+    sym (specialized_instance P r t j.reached j.table s n.0 p n.1) ∙ e in
+    let one : instance_of p (node_of n.0) s.values.items ≡ here = cc in
+    subst (λ h. is_part_typed P h q ≡ false) one
+    (part_untyped P r t j i s is n.0 n.1 n.2 p q (broken.1 n.0 n.1))
 
 -- a specialization is typed where its instance at a path is
 pub specialization_typed : (P : Program) (r : Reached) (t : Table) → IsJudged P r t →

@@ -28,7 +28,11 @@ use Rattle.lb_check.specs.NodeClocks.{is_node_clocked, is_clocked_at, are_clocke
 use Rattle.lb_check.specs.OwnClocks.{HasClocks}
 use Rattle.lb_check.specs.ClockSets.{SeesClocks, is_statement_single}
 use Rattle.lb_static.specs.ReachedNodes.{callee_in}
-use Rattle.lb_check.specs.TermClocks.{is_body_clocked}
+use Rattle.lb_check.specs.declared.part.Part.{Part}
+use Rattle.lb_check.specs.declared.part.Part.TheVariants as part
+use Rattle.lb_check.specs.BrokenParts.{at_place, is_part_clocked}
+use Rattle.lb_check.specs.FoundParts.{IsIllClocked}
+use Rattle.lb_check.specs.TermClocks.{context_of, is_body_clocked, is_resolved_statement_clocked}
 use Rattle.lb_check.specs.TermTypes.{are_typed}
 use Rattle.lb_check.specs.TypeRules.{is_typed}
 use Rattle.lb_check.proofs.FittedCalls.{node_at, specialized_instance}
@@ -285,3 +289,31 @@ module _ (P : Program) (r : Reached) (t : Table) (j : IsJudged P r t) where
             ∙ and_left (are_declared_clocks (node_of n.0)) _ e
         by true e = sym (one_is i (λ k m lt at. is_declared m (earlier k m lt at)) s is
             (declared e)) ∙ broken
+
+    -- and so does the part of it that the code finds
+    pub first_part : ((n : ResolvedNode) → SeesClocks P r n →
+        list_all (is_statement_unhidden (texts_of n)) n.body.items ≡ true
+        → list_all (is_statement_single r n) n.body.items ≡ true → (j : ℕ) →
+        at_place (is_resolved_statement_clocked (context_of r n)) n.body.items j ≡ false
+        → is_part_clocked P (node_of n) (part.Statement j) ≡ false)
+        → (i : ℕ) (s : Specialization) → slice_get t.specializations.items i ≡ Some s →
+        is_clocked_at r s.node ≡ false
+        → ((k : ℕ) (m : Specialization) → k < i → slice_get t.specializations.items k ≡ Some m →
+        is_clocked_at r m.node ≡ true)
+        → (p : Part) → IsIllClocked r s.node p → (here : Node) → tree_at r s.node ≡ Some here →
+        is_part_clocked P here p ≡ false
+    first_part statement i s is broken earlier (part.Variable x) found here tree =
+        let n = node_at P r t j.reached j.table s (j.table.specialized i s is).0 in
+        let one : Some (node_of n.0) ≡ Some here = sym (tree_of s n.0 n.1) ∙ tree in
+        let same : node_of n.0 ≡ here = cc in
+        subst (λ (k : Node). is_part_clocked P k (part.Variable x) ≡ false) same
+        (found.1 n.0 n.1)
+    first_part statement i s is broken earlier (part.Statement q) found here tree =
+        let n = node_at P r t j.reached j.table s (j.table.specialized i s is).0 in
+        let one : Some (node_of n.0) ≡ Some here = sym (tree_of s n.0 n.1) ∙ tree in
+        let same : node_of n.0 ≡ here = cc in
+        let own = found.1 n.0 n.1 in
+        let single = single_statements (instances_typed P r t j ∙ typed) i s n.0 is n.1 in
+        let all = sees i (λ k m lt at. is_declared m (earlier k m lt at)) s is n.0 n.1 own.0 in
+        subst (λ (k : Node). is_part_clocked P k (part.Statement q) ≡ false) same
+        (statement n.0 all n.2.unhidden single q own.1)

@@ -44,10 +44,12 @@ pub record AreDepths (vs : List Variable) (depths : List (Option ℕ)) : Type 0 
 abbrev pub IsKnown : List (Option ℕ) → ℕ → Type 0
 IsKnown depths x = (d : ℕ) × (slice_get depths x ≡ Some (Some d))
 
--- the depth of each variable, or none where that of some variable has no end
-abbrev pub AreFound : List Variable → Option (List (Option ℕ)) → Type 0
-AreFound vs (Some depths) = AreDepths vs depths × ((x : ℕ) → x < length vs → IsKnown depths x)
-AreFound vs None = (x : ℕ) × (x < length vs) × (depth_within (length vs + 1) vs x ≡ None)
+-- a variable whose depth has no end, or none where that of each has one
+abbrev pub IsCircle : List Variable → Option ℕ → Type 0
+IsCircle vs None =
+    (depths : List (Option ℕ)) × AreDepths vs depths
+    × ((x : ℕ) → x < length vs → IsKnown depths x)
+IsCircle vs (Some x) = (x < length vs) × (depth_within (length vs + 1) vs x ≡ None)
 
 -- a variable is on no clock of its own, or waits for one of so many first variables
 abbrev pub waits_below : ℕ → Variable → Bool

@@ -7,24 +7,29 @@ use Rattle.lb_check.specs.declared.checked.Checked.{Checked}
 use Rattle.lb_check.specs.declared.error.CheckError.{CheckError}
 use Rattle.lb_check.specs.declared.error.CheckError.TheVariants as error
 use Rattle.lb_check.specs.Acceptance.{check_refusal}
+use Rattle.lb_check.specs.BrokenParts.{is_part_typed, is_part_clocked, is_part_defined}
 use Rattle.lb_check.specs.BrokenRules.{IsBrokenIn}
 use Rattle.lb_check.specs.ClockRules.{is_clocked}
 use Rattle.lb_check.specs.DefinitionRules.{is_defined}
 use Rattle.lb_check.specs.TypeRules.{is_typed}
 
 -- the answer to an elaborated program is the first of the rules of types, clocks and definitions
--- that it breaks, with the name of a node of which an instance breaks it, unless memory ran out
+-- that it breaks, with the name of a node of which an instance breaks it, and the statement or the
+-- variable of that node which does, unless memory ran out
 abbrev pub IsAnswer : Program → Result Checked CheckError → Type 0
 IsAnswer P (Ok c) = check_refusal P ≡ None
 IsAnswer P (Err error.Memory) = Unit {0}
-IsAnswer P (Err (error.Type node)) =
-    (check_refusal P ≡ Some E9) × IsBrokenIn (is_typed P) P (string_bytes node)
-IsAnswer P (Err (error.Clock node)) =
+IsAnswer P (Err (error.Type e)) =
+    (check_refusal P ≡ Some E9)
+    × IsBrokenIn (is_typed P) (is_part_typed P) P (string_bytes e.value.node) e.value.part
+IsAnswer P (Err (error.Clock e)) =
     (check_refusal P ≡ Some E10)
-    × IsBrokenIn (λ here. is_clocked P here.node) P (string_bytes node)
-IsAnswer P (Err (error.Definition node)) =
+    × IsBrokenIn (λ here. is_clocked P here.node) (λ here. is_part_clocked P here.node) P
+    (string_bytes e.value.node) e.value.part
+IsAnswer P (Err (error.Definition e)) =
     (check_refusal P ≡ Some E11)
-    × IsBrokenIn (λ here. is_defined P here.node) P (string_bytes node)
+    × IsBrokenIn (λ here. is_defined P here.node) (λ here. is_part_defined P here.node) P
+    (string_bytes e.value.node) e.value.part
 
 -- what is found is the first of these rules that the program breaks, and none where it keeps them
 abbrev pub IsRefusal : Program → Option CheckError → Type 0

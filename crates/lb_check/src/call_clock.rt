@@ -154,6 +154,13 @@ pub fn inputs_of<'t>(node: &'t ResolvedNode) -> &'t [Variable]
     variables_from(node, 0, node.inputs)
 }
 
+/// The outputs of a node.
+pub fn outputs_of<'t>(node: &'t ResolvedNode) -> &'t [Variable]
+    ensures { result.now ≡ take node.now.outputs (drop node.now.inputs node.now.variables.items) }
+{
+    variables_from(node, node.inputs, node.outputs)
+}
+
 /// The base clock of a callee, if its operands determine it.
 pub fn base_clock(callee: &ResolvedNode, operands: &[Operand]) -> Option<Clock>
     ensures { result ≡ mirror.base_of (mirror.input_clocks callee.now)

@@ -1,36 +1,26 @@
 //! Types, clocks and definitions of a program (E9, E10, E11).
 
-ghost use Rattle.std.specs.Prelude.{◌≡◌, IfOk, string_bytes};
-ghost use Rattle.lb_syntax.specs.Lists.{listed};
+ghost use Rattle.std.specs.Prelude.{◌≡◌, IfOk};
 ghost use Rattle.lb_static.specs.Elaborated.{elaborated_program, IsLawful};
 ghost use Rattle.lb_static.specs.Instances.{Program};
-ghost use Rattle.lb_static.specs.ReachedNodes.{tree_at};
 ghost use Rattle.lb_check.specs.Correct.{IsAnswer, IsRefusal};
 ghost use Rattle.lb_check.specs.JudgedPrograms.{IsJudged};
 
 use crate::checked::{Checked, Checking};
-use crate::clock_rules::ill_clocked_node;
-use crate::definition_rules::ill_defined_node;
+use crate::clock_cause::clock_fault;
+use crate::clock_rules::ill_clocked;
+use crate::definition_cause::definition_fault;
+use crate::definition_rules::ill_defined;
 use crate::error::CheckError;
 use crate::placed_clock::placed_clocks;
 use crate::placed_types::placed_types;
-use crate::type_rules::ill_typed_node;
-use lb_static::{Elab, NodeId, Reached, Table};
+use crate::type_cause::type_fault;
+use crate::type_rules::ill_typed;
+use lb_static::{Elab, Reached, Table};
 use std::alloc::{AllocError, Global};
 
-/// The name of a node again, or an empty one where there is no such node.
-fn name_of(alloc: Global, reached: &Reached, id: NodeId) -> Result<String, AllocError>
-    ensures { IfOk result (λ name.
-        string_bytes name ≡ listed (λ n. n.name) (tree_at reached.now id)) }
-{
-    match reached.nodes.get(id.0) {
-        Some(node) => String::from_str(alloc, node.tree.name.as_str()),
-        None => Ok(String::new(alloc)),
-    }
-}
-
 /// The first of the rules of types (E9), clocks (E10) and definitions (E11) that a program breaks,
-/// each over all instances, with the name of a node that breaks it, if there is one.
+/// each over all instances, with what breaks it, if there is one.
 fn broken_rule(
     alloc: Global,
     reached: &Reached,
@@ -38,21 +28,24 @@ fn broken_rule(
 ) -> Result<Option<CheckError>, AllocError>
     ensures { (P : Program) → IsJudged P reached.now table.now → IfOk result (IsRefusal P) }
 {
-    if let Some(id) = ill_typed_node(alloc, reached, table)? {
-        return Ok(Some(CheckError::Type(name_of(alloc, reached, id)?)));
+    if let Some(found) = ill_typed(alloc, reached, table)? {
+        let fault = type_fault(alloc, reached, table, found)?;
+        return Ok(Some(CheckError::Type(Box::new(alloc, fault)?)));
     }
-    if let Some(id) = ill_clocked_node(alloc, reached, table)? {
-        return Ok(Some(CheckError::Clock(name_of(alloc, reached, id)?)));
+    if let Some(found) = ill_clocked(alloc, reached, table)? {
+        let fault = clock_fault(alloc, reached, table, found)?;
+        return Ok(Some(CheckError::Clock(Box::new(alloc, fault)?)));
     }
-    if let Some(id) = ill_defined_node(alloc, reached, table)? {
-        return Ok(Some(CheckError::Definition(name_of(alloc, reached, id)?)));
+    if let Some(found) = ill_defined(alloc, reached, table)? {
+        let fault = definition_fault(alloc, reached, table, found)?;
+        return Ok(Some(CheckError::Definition(Box::new(alloc, fault)?)));
     }
     Ok(None)
 }
 
 /// Checks an elaborated program: the first of the rules of types (E9), clocks (E10) and definitions
-/// (E11) that it breaks, each over all instances, with the name of a node that breaks it, or the
-/// program again.
+/// (E11) that it breaks, each over all instances, with the node and the part of it that breaks it,
+/// and why; or the program again.
 pub fn check<'s>(alloc: Global, elab: Elab<'s>) -> Result<Checked<'s>, CheckError>
     ensures answer { IsAnswer (elaborated_program elab.entry) result }
     ensures same { IfOk result (λ c. c.elab ≡ elab.entry) }

@@ -1,15 +1,15 @@
 //! Declared clocks: which variables wait for others, and how deep their clocks stand (E10).
 
 ghost use Rattle.std.specs.Prelude.{◌≡◌, ◌+◌, ◌<◌, ◌≤◌, ℕ, true, Some, None, List, length};
-ghost use Rattle.std.specs.Prelude.{option_map, is_some, IfOk};
-ghost use Rattle.std.specs.List.{list_all};
+ghost use Rattle.std.specs.Prelude.{IfOk, IfSome};
 ghost use Rattle.lb_syntax.specs.Tree.{Name};
 ghost use Rattle.lb_static.specs.Names.{are_distinct};
 ghost use Rattle.lb_static.specs.Parts.{variable_names};
 ghost use Rattle.lb_static.specs.ResolvedNodes.{IsResolved, node_of};
-ghost use Rattle.lb_check.specs.ClockRules.{are_declared_clocks};
-ghost use Rattle.lb_check.specs.ClockDepths.{AreAwaited, AreDepths, AreFound, IsKnown};
+ghost use Rattle.lb_check.specs.BrokenParts.{first_broken};
+ghost use Rattle.lb_check.specs.ClockDepths.{AreAwaited, AreDepths, IsCircle, IsKnown};
 ghost use Rattle.lb_check.specs.ClockDepths.{HasDepth, depth_within, waits_below};
+ghost use Rattle.lb_check.specs.FoundParts.{IsDeclaredClock};
 
 use lb_static::{ResolvedNode, Variable};
 use std::alloc::{AllocError, Global};
@@ -66,39 +66,36 @@ fn note_depths(depths: &mut [Option<usize>], variables: &[Variable], first: usiz
     }
 }
 
-/// How deep the declared clock of each variable stands, or none where declared clocks run in a
-/// circle.
-fn clock_depths(
-    alloc: Global,
-    variables: &[Variable],
-) -> Result<Option<Vec<Option<usize>>>, AllocError>
+/// The place of the first variable whose declared clock leads in a circle.
+fn first_in_circle(alloc: Global, variables: &[Variable]) -> Result<Option<usize>, AllocError>
     requires awaited { AreAwaited variables.now }
-    ensures { IfOk result (λ found.
-        AreFound variables.now (option_map (λ depths. depths.items) found)) }
+    ensures { IfOk result (IsCircle variables.now) }
 {
     let mut depths = vec![in alloc; None; variables.len()]?;
     for variable in 0..variables.len() {
         let Some(depth) = depth_of(&depths, variables, variable) else {
-            return Ok(None);
+            return Ok(Some(variable));
         };
         note_depths(&mut depths, variables, variable, depth);
     }
-    Ok(Some(depths))
+    Ok(None)
 }
 
-/// Whether each of some variables that is on a clock waits for one of so many first variables.
+/// The place of the first of some variables that is on a clock and waits for none of so many first
+/// variables.
 #[tactic(auto, using(crate::proofs::ClockedNodes::waits_next))]
-fn wait_below(variables: &[Variable], count: usize) -> bool
-    ensures { result ≡ list_all (waits_below count) variables.now }
+fn first_waiting_past(variables: &[Variable], count: usize) -> Option<usize>
+    ensures first { result ≡ first_broken (waits_below count) variables.now }
+    ensures within { IfSome result (λ i. i < length variables.now) }
 {
-    for variable in variables {
+    for (i, variable) in variables.iter().enumerate() {
         if let Some(clock) = variable.clock {
             if clock.variable.0 >= count {
-                return false;
+                return Some(i);
             }
         }
     }
-    true
+    None
 }
 
 /// Whether a node has as many variables as inputs and outputs, and each that is waited for.
@@ -111,25 +108,26 @@ fn is_whole(node: &ResolvedNode) -> bool
     let count = node.variables.len();
     node.inputs <= count
         && node.outputs <= count - node.inputs
-        && wait_below(&node.variables, count)
+        && first_waiting_past(&node.variables, count).is_none()
 }
 
-/// Whether a node keeps the rules of declared clocks: an input waits for an input, an output for an
-/// input or an output, and declared clocks do not run in a circle.
-pub fn keeps_declared_clocks(alloc: Global, node: &ResolvedNode) -> Result<bool, AllocError>
+/// The place of the first variable whose declared clock breaks the rules of declared clocks: an
+/// input waits for an input, an output for an input or an output, and declared clocks do not run in
+/// a circle.
+pub fn ill_declared_clock(alloc: Global, node: &ResolvedNode) -> Result<Option<usize>, AllocError>
     ensures { (nodes : List Name) → IsResolved nodes node.now →
         are_distinct (variable_names (node_of node.now)) ≡ true →
-        IfOk result (λ kept. kept ≡ are_declared_clocks (node_of node.now)) }
+        IfOk result (IsDeclaredClock (node_of node.now)) }
 {
     if !is_whole(node) {
-        return Ok(false);
+        return Ok(Some(0));
     }
     let interface = node.inputs + node.outputs;
-    if !wait_below(&node.variables[..node.inputs], node.inputs) {
-        return Ok(false);
+    if let Some(i) = first_waiting_past(&node.variables[..node.inputs], node.inputs) {
+        return Ok(Some(i));
     }
-    if !wait_below(&node.variables[node.inputs..interface], interface) {
-        return Ok(false);
+    if let Some(i) = first_waiting_past(&node.variables[node.inputs..interface], interface) {
+        return Ok(Some(node.inputs + i));
     }
-    Ok(clock_depths(alloc, &node.variables)?.is_some())
+    first_in_circle(alloc, &node.variables)
 }

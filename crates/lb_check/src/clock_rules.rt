@@ -1,7 +1,9 @@
 //! The rules of clocks of a program (E10).
 
+ghost use Rattle.lb_check.specs.BrokenParts.{first_broken, is_part_clocked};
 ghost use Rattle.lb_check.specs.BrokenRules.{IsBroken};
 ghost use Rattle.lb_check.specs.ClockRules.{is_clocked};
+ghost use Rattle.lb_check.specs.FoundParts.{IsClockedPart, IsIllClocked};
 ghost use Rattle.lb_check.specs.JudgedPrograms.{IsJudged};
 ghost use Rattle.lb_check.specs.NodeClocks.{is_clocked_at};
 ghost use Rattle.lb_check.specs.StoredClocks.{context_in};
@@ -11,12 +13,13 @@ ghost use Rattle.lb_static.specs.Instances.{Program, instances};
 ghost use Rattle.lb_static.specs.Names.{keeps_names};
 ghost use Rattle.lb_static.specs.ReachedNodes.{IsReached};
 ghost use Rattle.std.specs.List.{list_all};
-ghost use Rattle.std.specs.Prelude.{◌≡◌, find, IfOk, IfSome, is_some, not, true};
+ghost use Rattle.std.specs.Prelude.{◌≡◌, find, IfOk, IfSome, is_some, not, option_map, true};
 
 use crate::call_clock::is_call_clocked;
-use crate::clock::keeps_declared_clocks;
+use crate::clock::ill_declared_clock;
 use crate::clock_set::ClockSet;
 use crate::own_clock::{Clock, is_same};
+use crate::part::{IllFormed, Part};
 use crate::term_clock::{ClockEnv, infer_clock, operands_of};
 use crate::used_nodes::used_nodes;
 use lb_static::{CallId, NodeId, Reached, ResolvedStatement, Table, Term, VariableId};
@@ -109,64 +112,77 @@ fn is_resolved_statement_clocked(
     }
 }
 
-/// Whether each statement of a node keeps the rules of clocks.
-fn is_body_clocked(alloc: Global, env: &ClockEnv) -> Result<bool, AllocError>
-    ensures { IfOk result (λ kept.
-        kept ≡ mirror.is_body_clocked env.now.reached.now env.now.node.now) }
+/// The place of the first statement of a node that breaks the rules of clocks.
+fn first_ill_clocked_statement(alloc: Global, env: &ClockEnv) -> Result<Option<usize>, AllocError>
+    ensures { IfOk result (λ found. found
+        ≡ first_broken (mirror.is_resolved_statement_clocked (context_in env.now))
+        env.now.node.now.body.items) }
 {
-    for statement in &env.node.body {
+    for (j, statement) in env.node.body.iter().enumerate() {
         if !is_resolved_statement_clocked(alloc, env, statement)? {
-            return Ok(false);
+            return Ok(Some(j));
         }
     }
-    Ok(true)
+    Ok(None)
 }
 
-/// Whether a node that is reached keeps the rules of clocks.
-fn is_node_clocked(alloc: Global, reached: &Reached, id: NodeId) -> Result<bool, AllocError>
+/// The first part of a node that is reached that breaks the rules of clocks: a declared clock, or
+/// else a statement.
+fn ill_clocked_part(
+    alloc: Global,
+    reached: &Reached,
+    id: NodeId,
+) -> Result<Option<Part>, AllocError>
     ensures { (P : Program) → keeps_names P ≡ true → IsReached P reached.now
-        → IfOk result (λ kept. kept ≡ is_clocked_at reached.now id) }
+        → IfOk result (IsClockedPart reached.now id) }
 {
     let Some(node) = reached.nodes.get(id.0) else {
-        return Ok(false);
+        return Ok(Some(Part::Statement(0)));
     };
-    if !keeps_declared_clocks(alloc, node)? {
-        return Ok(false);
+    if let Some(i) = ill_declared_clock(alloc, node)? {
+        return Ok(Some(Part::Variable(VariableId(i))));
     }
-    is_body_clocked(alloc, &ClockEnv { reached, node })
+    match first_ill_clocked_statement(alloc, &ClockEnv { reached, node })? {
+        Some(j) => Ok(Some(Part::Statement(j))),
+        None => Ok(None),
+    }
 }
 
-/// The first of some nodes that breaks the rules of clocks.
+/// The first of some nodes that breaks the rules of clocks, and its first part that does.
 fn first_ill_clocked(
     alloc: Global,
     reached: &Reached,
     ids: &[NodeId],
-) -> Result<Option<NodeId>, AllocError>
-    ensures { (P : Program) → keeps_names P ≡ true → IsReached P reached.now
-        → IfOk result (λ found. found ≡ find (λ id. not (is_clocked_at reached.now id)) ids.now) }
+) -> Result<Option<IllFormed>, AllocError>
+    ensures first { (P : Program) → keeps_names P ≡ true → IsReached P reached.now
+        → IfOk result (λ found. option_map (λ f. f.node) found
+        ≡ find (λ id. not (is_clocked_at reached.now id)) ids.now) }
+    ensures part { (P : Program) → keeps_names P ≡ true → IsReached P reached.now
+        → IfOk result (λ found. IfSome found (λ f. IsIllClocked reached.now f.node f.part)) }
 {
     for id in ids {
-        if !is_node_clocked(alloc, reached, *id)? {
-            return Ok(Some(*id));
+        if let Some(part) = ill_clocked_part(alloc, reached, *id)? {
+            return Ok(Some(IllFormed { node: *id, part }));
         }
     }
     Ok(None)
 }
 
 /// The first node of an instance that breaks the rules of clocks (E10), where each instance keeps
-/// those of types: the declared clocks of a node do not run in a circle, and what each statement of
-/// it combines is on one clock.
-pub fn ill_clocked_node(
+/// those of types, and its first part that does: the declared clocks of a node do not run in a
+/// circle, and what each statement of it combines is on one clock.
+pub fn ill_clocked(
     alloc: Global,
     reached: &Reached,
     table: &Table,
-) -> Result<Option<NodeId>, AllocError>
+) -> Result<Option<IllFormed>, AllocError>
     ensures judged { (P : Program) → IsJudged P reached.now table.now
         → list_all (is_typed P) (instances P) ≡ true → IfOk result (λ found.
         is_some found ≡ not (list_all (λ here. is_clocked P here.node) (instances P))) }
     ensures named { (P : Program) → IsJudged P reached.now table.now
         → list_all (is_typed P) (instances P) ≡ true → IfOk result (λ found.
-        IfSome found (IsBroken (λ here. is_clocked P here.node) P reached.now)) }
+        IfSome found (λ f. IsBroken (λ here. is_clocked P here.node)
+        (λ here. is_part_clocked P here.node) P reached.now f.node f.part)) }
 {
     let ids = used_nodes(alloc, reached.nodes.len(), &table.specializations)?;
     first_ill_clocked(alloc, reached, &ids)

@@ -1,19 +1,23 @@
 //! Definitions, and functions without memory, in all forms of expressions (E11).
 
-ghost use Rattle.std.specs.Prelude.{◌≡◌, ◌+◌, ◌↔◌, true, length, slice_index, find, is_some, not};
-ghost use Rattle.std.specs.Prelude.{IsTrue, IfOk, IfSome, min};
+ghost use Rattle.std.specs.Prelude.{◌≡◌, ◌+◌, true, length, slice_index, find, is_some, not};
+ghost use Rattle.std.specs.Prelude.{IfOk, IfSome, min, option_map};
 ghost use Rattle.std.specs.List.{list_all};
+ghost use Rattle.lb_check.specs.BrokenParts.{first_broken, is_part_defined};
 ghost use Rattle.lb_check.specs.BrokenRules.{IsBroken};
 ghost use Rattle.lb_check.specs.DefinitionRules.{is_defined};
+ghost use Rattle.lb_check.specs.FoundParts.{IsDefinedPart, IsDefinedPlace};
+ghost use Rattle.lb_check.specs.FoundParts.{IsIllDefined};
 ghost use Rattle.lb_check.specs.JudgedPrograms.{IsJudged};
 ghost use Rattle.lb_check.specs.NodeDefinitions as mirror;
 ghost use Rattle.lb_static.specs.Instances.{Program, instances};
 ghost use Rattle.lb_static.specs.Names.{keeps_names};
 ghost use Rattle.lb_static.specs.ReachedNodes.{IsReached};
 
+use crate::part::{IllFormed, Part};
 use crate::used_nodes::used_nodes;
 use lb_static::{
-    CallSite, NodeId, Reached, ResolvedNode, ResolvedStatement, Table, Term, VariableId,
+    CallId, NodeId, Reached, ResolvedNode, ResolvedStatement, Table, Term, VariableId,
 };
 use std::alloc::{AllocError, Global};
 
@@ -58,158 +62,163 @@ fn left_counts(
     Ok(counts)
 }
 
-/// Whether each output and local stands on the left once, and each input never; the inputs come
-/// first among the variables.
-fn defines_each(
+/// The place of the first variable that does not stand on the left as often as it should: an output
+/// or local once, an input never; the inputs come first among the variables.
+fn first_ill_defined_variable(
     alloc: Global,
     inputs: usize,
     variables: usize,
     body: &[ResolvedStatement],
-) -> Result<bool, AllocError>
-    ensures { IfOk result (λ holds. IsTrue holds ↔ mirror.DefinesEach inputs variables body.now) }
+) -> Result<Option<usize>, AllocError>
+    ensures { IfOk result (IsDefinedPlace inputs variables body.now) }
 {
     let counts = left_counts(alloc, variables, body)?;
     for (i, seen) in counts.iter().enumerate() {
         let wanted = if i < inputs { 0 } else { 1 };
         if *seen != wanted {
-            return Ok(false);
+            return Ok(Some(i));
         }
     }
-    Ok(true)
-}
-
-/// Whether some of these terms hold `->`, `fby`, `pre` or `current`.
-#[cycle(memory)]
-#[tactic(auto, using(crate::proofs::Defining::memory))]
-fn any_memory(terms: &[Term]) -> bool
-    ensures { result ≡ mirror.any_memory terms.now }
-{
-    for term in terms {
-        if has_memory(term) {
-            return true;
-        }
-    }
-    false
-}
-
-/// Whether a term holds `->`, `fby`, `pre` or `current`.
-#[cycle(memory)]
-#[tactic(auto, unfolding(crate::specs::NodeDefinitions::has_memory))]
-fn has_memory(term: &Term) -> bool
-    ensures { result ≡ mirror.has_memory term.now }
-{
-    match term {
-        Term::Literal(_) | Term::Truth(_) | Term::Variable(_) | Term::Value(_) => false,
-        Term::Group(e)
-        | Term::Unary(_, e)
-        | Term::When(e, _, _)
-        | Term::Replicate(e, _)
-        | Term::Index(e, _)
-        | Term::Slice(e, _, _) => has_memory(e),
-        Term::Binary(_, a, b) | Term::Join(a, b) => has_memory(a) || has_memory(b),
-        Term::If(c, a, b) => has_memory(c) || has_memory(a) || has_memory(b),
-        Term::Arrow(_, _) | Term::Fby(_, _) | Term::Pre(_) | Term::Current(_) => true,
-        Term::Array(terms)
-        | Term::AtMostOne(terms)
-        | Term::Nor(terms)
-        | Term::Call(_, terms)
-        | Term::IterateNode(_, _, terms)
-        | Term::IterateSymbol(_, _, _, terms) => any_memory(terms),
-    }
-}
-
-/// Whether some statement holds `->`, `fby`, `pre` or `current`.
-#[tactic(auto, using(crate::proofs::Defining::steps_next))]
-fn have_memory(body: &[ResolvedStatement]) -> bool
-    ensures { result ≡ mirror.statements_memory body.now }
-{
-    for statement in body {
-        let (ResolvedStatement::Equation(_, e) | ResolvedStatement::Assertion(e)) = statement;
-        if has_memory(e) {
-            return true;
-        }
-    }
-    false
+    Ok(None)
 }
 
 /// Whether what a call calls is a function.
-fn calls_function(reached: &Reached, call: &CallSite) -> bool
-    ensures { result ≡ mirror.calls_function reached.now call.now }
+fn calls_function(reached: &Reached, node: &ResolvedNode, call: CallId) -> bool
+    ensures { result ≡ mirror.calls_function reached.now node.now call }
 {
-    let Some(id) = reached.called(call) else {
-        return false;
-    };
-    match reached.nodes.get(id.0) {
-        Some(node) => node.tree.is_function,
+    match reached.callee(node, call) {
+        Some(callee) => callee.tree.is_function,
         None => false,
     }
 }
 
-/// Whether all calls are those of functions.
-#[tactic(auto, using(crate::proofs::Defining::calls_next))]
-fn call_functions(reached: &Reached, calls: &[CallSite]) -> bool
-    ensures { result ≡ mirror.call_functions reached.now calls.now }
+/// Whether none of these terms holds `->`, `fby`, `pre`, `current` or a call of a node.
+#[cycle(memory)]
+#[tactic(auto, using(crate::proofs::Defining::memoryless_next))]
+fn all_memoryless(reached: &Reached, node: &ResolvedNode, terms: &[Term]) -> bool
+    ensures { result ≡ list_all (mirror.is_memoryless reached.now node.now) terms.now }
 {
-    for call in calls {
-        if !calls_function(reached, call) {
+    for term in terms {
+        if !is_memoryless(reached, node, term) {
             return false;
         }
     }
     true
 }
 
-/// Whether a node, if it is a function, has no memory and calls functions alone.
-fn keeps_function_rules(reached: &Reached, node: &ResolvedNode) -> bool
-    ensures { result ≡ mirror.keeps_function_rules reached.now node.now }
+/// Whether a term holds no `->`, `fby`, `pre` and `current`, and calls functions alone.
+#[cycle(memory)]
+#[tactic(auto, unfolding(crate::specs::NodeDefinitions::is_memoryless))]
+fn is_memoryless(reached: &Reached, node: &ResolvedNode, term: &Term) -> bool
+    ensures { result ≡ mirror.is_memoryless reached.now node.now term.now }
 {
-    !node.tree.is_function || (!have_memory(&node.body) && call_functions(reached, &node.calls))
+    match term {
+        Term::Literal(_) | Term::Truth(_) | Term::Variable(_) | Term::Value(_) => true,
+        Term::Group(e)
+        | Term::Unary(_, e)
+        | Term::When(e, _, _)
+        | Term::Replicate(e, _)
+        | Term::Index(e, _)
+        | Term::Slice(e, _, _) => is_memoryless(reached, node, e),
+        Term::Binary(_, a, b) | Term::Join(a, b) => {
+            is_memoryless(reached, node, a) && is_memoryless(reached, node, b)
+        }
+        Term::If(c, a, b) => {
+            is_memoryless(reached, node, c)
+                && (is_memoryless(reached, node, a) && is_memoryless(reached, node, b))
+        }
+        Term::Arrow(_, _) | Term::Fby(_, _) | Term::Pre(_) | Term::Current(_) => false,
+        Term::Array(terms)
+        | Term::AtMostOne(terms)
+        | Term::Nor(terms)
+        | Term::IterateSymbol(_, _, _, terms) => all_memoryless(reached, node, terms),
+        Term::Call(call, terms) | Term::IterateNode(_, call, terms) => {
+            calls_function(reached, node, *call) && all_memoryless(reached, node, terms)
+        }
+    }
 }
 
-/// Whether a node that is reached keeps the rules of definitions.
-fn is_node_defined(alloc: Global, reached: &Reached, id: NodeId) -> Result<bool, AllocError>
+/// The place of the first statement of a function with memory.
+fn first_with_memory(reached: &Reached, node: &ResolvedNode) -> Option<usize>
+    ensures { result ≡ first_broken (mirror.is_statement_memoryless reached.now node.now)
+        node.now.body.items }
+{
+    for (j, statement) in node.body.iter().enumerate() {
+        let (ResolvedStatement::Equation(_, e) | ResolvedStatement::Assertion(e)) = statement;
+        if !is_memoryless(reached, node, e) {
+            return Some(j);
+        }
+    }
+    None
+}
+
+/// The place of the first statement with memory of a node, if it is a function.
+fn memory_in_function(reached: &Reached, node: &ResolvedNode) -> Option<usize>
+    ensures { result ≡ mirror.memory_in_function reached.now node.now }
+{
+    if node.tree.is_function {
+        first_with_memory(reached, node)
+    } else {
+        None
+    }
+}
+
+/// The first part of a node that is reached that breaks the rules of definitions: a statement of a
+/// function with memory, or else a variable.
+fn ill_defined_part(
+    alloc: Global,
+    reached: &Reached,
+    id: NodeId,
+) -> Result<Option<Part>, AllocError>
     ensures { (P : Program) → keeps_names P ≡ true → IsReached P reached.now
-        → IfOk result (λ kept. kept ≡ mirror.is_defined_at P reached.now id) }
+        → IfOk result (IsDefinedPart P reached.now id) }
 {
     let Some(node) = reached.nodes.get(id.0) else {
-        return Ok(false);
+        return Ok(Some(Part::Statement(0)));
     };
-    if !keeps_function_rules(reached, node) {
-        return Ok(false);
+    if let Some(j) = memory_in_function(reached, node) {
+        return Ok(Some(Part::Statement(j)));
     }
-    defines_each(alloc, node.inputs, node.variables.len(), &node.body)
+    match first_ill_defined_variable(alloc, node.inputs, node.variables.len(), &node.body)? {
+        Some(i) => Ok(Some(Part::Variable(VariableId(i)))),
+        None => Ok(None),
+    }
 }
 
-/// The first of some nodes that breaks the rules of definitions.
+/// The first of some nodes that breaks the rules of definitions, and its first part that does.
 fn first_ill_defined(
     alloc: Global,
     reached: &Reached,
     ids: &[NodeId],
-) -> Result<Option<NodeId>, AllocError>
-    ensures { (P : Program) → keeps_names P ≡ true → IsReached P reached.now
-        → IfOk result (λ found.
-        found ≡ find (λ id. not (mirror.is_defined_at P reached.now id)) ids.now) }
+) -> Result<Option<IllFormed>, AllocError>
+    ensures first { (P : Program) → keeps_names P ≡ true → IsReached P reached.now
+        → IfOk result (λ found. option_map (λ f. f.node) found
+        ≡ find (λ id. not (mirror.is_defined_at P reached.now id)) ids.now) }
+    ensures part { (P : Program) → keeps_names P ≡ true → IsReached P reached.now
+        → IfOk result (λ found. IfSome found (λ f. IsIllDefined P reached.now f.node f.part)) }
 {
     for id in ids {
-        if !is_node_defined(alloc, reached, *id)? {
-            return Ok(Some(*id));
+        if let Some(part) = ill_defined_part(alloc, reached, *id)? {
+            return Ok(Some(IllFormed { node: *id, part }));
         }
     }
     Ok(None)
 }
 
-/// The first node of an instance that breaks the rules of definitions and of functions (E11): over
-/// all left sides of a node together each output and local stands exactly once, and an input never;
-/// a function holds no `pre`, `->`, `fby` and `current`, and calls or iterates only functions and
-/// symbols.
-pub fn ill_defined_node(
+/// The first node of an instance that breaks the rules of definitions and of functions (E11), and
+/// its first part that does: over all left sides of a node together each output and local stands
+/// exactly once, and an input never; a function holds no `pre`, `->`, `fby` and `current`, and
+/// calls or iterates only functions and symbols.
+pub fn ill_defined(
     alloc: Global,
     reached: &Reached,
     table: &Table,
-) -> Result<Option<NodeId>, AllocError>
+) -> Result<Option<IllFormed>, AllocError>
     ensures judged { (P : Program) → IsJudged P reached.now table.now → IfOk result (λ found.
         is_some found ≡ not (list_all (λ here. is_defined P here.node) (instances P))) }
     ensures named { (P : Program) → IsJudged P reached.now table.now → IfOk result (λ found.
-        IfSome found (IsBroken (λ here. is_defined P here.node) P reached.now)) }
+        IfSome found (λ f. IsBroken (λ here. is_defined P here.node)
+        (λ here. is_part_defined P here.node) P reached.now f.node f.part)) }
 {
     let ids = used_nodes(alloc, reached.nodes.len(), &table.specializations)?;
     first_ill_defined(alloc, reached, &ids)

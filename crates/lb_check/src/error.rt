@@ -1,5 +1,8 @@
 //! Why a program is refused here.
 
+use crate::clock_fault::ClockFault;
+use crate::definition_fault::DefinitionFault;
+use crate::type_fault::TypeFault;
 use std::alloc::AllocError;
 use std::fmt;
 
@@ -12,16 +15,15 @@ pub enum CheckError {
     /// Memory ran out (E0).
     #[error("memory ran out")]
     Memory,
-    /// A rule of types is broken (E9). It holds the name of the node in which it is.
-    #[error("an expression, a left side or an assertion has the wrong type in the node {0}")]
-    Type(String),
-    /// A rule of clocks is broken (E10). It holds the name of the node in which it is.
-    #[error("an expression, a call or a declared clock breaks a rule of clocks in the node {0}")]
-    Clock(String),
-    /// A variable has not exactly one definition, or a function has memory (E11). It holds the name
-    /// of the node or function.
-    #[error("a variable has not exactly one definition, or a function has memory, in {0}")]
-    Definition(String),
+    /// A rule of types is broken (E9).
+    #[error("{0}")]
+    Type(Box<TypeFault>),
+    /// A rule of clocks is broken (E10).
+    #[error("{0}")]
+    Clock(Box<ClockFault>),
+    /// A variable has not exactly one definition, or a function has memory (E11).
+    #[error("{0}")]
+    Definition(Box<DefinitionFault>),
 }
 
 impl fmt::Debug for CheckError {

@@ -1,11 +1,13 @@
 //! The rules of types of a program (E9).
 
-ghost use Rattle.std.specs.Prelude.{◌≡◌, ◌∷◌, [], find, is_some, map, not, option_map};
+ghost use Rattle.std.specs.Prelude.{◌≡◌, ◌∷◌, [], is_some, map, not, option_map};
 ghost use Rattle.std.specs.Prelude.{IfOk, IfSome, slice_get};
 ghost use Rattle.lb_syntax.specs.Lists.{holds};
 ghost use Rattle.std.specs.List.{list_all};
 ghost use Rattle.lb_static.specs.Instances.{Program, instances};
+ghost use Rattle.lb_check.specs.BrokenParts.{first_broken, is_part_typed};
 ghost use Rattle.lb_check.specs.BrokenRules.{IsBroken};
+ghost use Rattle.lb_check.specs.FoundParts.{IsIllTypedAt, IsTypedPart};
 ghost use Rattle.lb_check.specs.JudgedPrograms.{IsJudged};
 ghost use Rattle.lb_check.specs.TypeRules.{is_typed};
 ghost use Rattle.lb_static.specs.StoredTypes.{view_types};
@@ -13,6 +15,7 @@ ghost use Rattle.lb_check.specs.SharedTypes.{AreJudgedParts, AreSettled};
 ghost use Rattle.lb_check.specs.StoredTypes.{context_in};
 ghost use Rattle.lb_check.specs.TermTypes as mirror;
 
+use crate::part::Part;
 use crate::shared::{SharedPart, settled_statements, shared_parts};
 use crate::type_env::TypeEnv;
 use crate::types::{results, type_of};
@@ -122,21 +125,21 @@ fn is_variable_typed(alloc: Global, env: &TypeEnv, variable: &Variable) -> Resul
     }
 }
 
-/// Whether each declared clock keeps the rules of types.
-fn are_variables_typed(
+/// The place of the first variable whose declared clock breaks the rules of types.
+fn first_ill_typed_variable(
     alloc: Global,
     env: &TypeEnv,
     variables: &[Variable],
-) -> Result<bool, AllocError>
-    ensures { IfOk result (λ kept.
-        kept ≡ list_all (mirror.is_variable_typed (context_in env.now)) variables.now) }
+) -> Result<Option<usize>, AllocError>
+    ensures { IfOk result (λ found.
+        found ≡ first_broken (mirror.is_variable_typed (context_in env.now)) variables.now) }
 {
-    for variable in variables {
+    for (i, variable) in variables.iter().enumerate() {
         if !is_variable_typed(alloc, env, variable)? {
-            return Ok(false);
+            return Ok(Some(i));
         }
     }
-    Ok(true)
+    Ok(None)
 }
 
 /// Whether a statement is settled.
@@ -146,42 +149,43 @@ fn is_settled(settled: &[bool], k: usize) -> bool
     matches!(settled.get(k), Some(true))
 }
 
-/// Whether each statement keeps the rules of types: those that are settled are not looked at.
-fn are_statements_typed(
+/// The place of the first statement that breaks the rules of types: those that are settled are not
+/// looked at.
+fn first_ill_typed_statement(
     alloc: Global,
     env: &TypeEnv,
     body: &[ResolvedStatement],
     settled: &[bool],
-) -> Result<bool, AllocError>
+) -> Result<Option<usize>, AllocError>
     requires { AreSettled (context_in env.now) settled.now body.now }
-    ensures { IfOk result (λ kept.
-        kept ≡ list_all (mirror.is_resolved_statement_typed (context_in env.now)) body.now) }
+    ensures { IfOk result (λ found.
+        found ≡ first_broken (mirror.is_resolved_statement_typed (context_in env.now)) body.now) }
 {
-    for (k, statement) in body.iter().enumerate() {
-        if is_settled(settled, k) {
+    for (j, statement) in body.iter().enumerate() {
+        if is_settled(settled, j) {
             continue;
         }
         if !is_resolved_statement_typed(alloc, env, statement)? {
-            return Ok(false);
+            return Ok(Some(j));
         }
     }
-    Ok(true)
+    Ok(None)
 }
 
-/// Whether a specialization keeps the rules of types.
-fn is_specialization_typed(
+/// The first part of a specialization that breaks the rules of types: a declared clock, or else a
+/// statement.
+fn ill_typed_part(
     alloc: Global,
     reached: &Reached,
     table: &Table,
-    parts: &[SharedPart],
+    shared: &[SharedPart],
     specialization: &Specialization,
-) -> Result<bool, AllocError>
-    requires { AreJudgedParts reached.now table.now parts.now }
-    ensures { IfOk result (λ kept.
-        kept ≡ mirror.is_specialization_typed reached.now table.now specialization.now) }
+) -> Result<Option<Part>, AllocError>
+    requires { AreJudgedParts reached.now table.now shared.now }
+    ensures { IfOk result (IsTypedPart reached.now table.now specialization.now) }
 {
     let Some(node) = reached.nodes.get(specialization.node.0) else {
-        return Ok(false);
+        return Ok(Some(Part::Statement(0)));
     };
     let env = TypeEnv {
         reached,
@@ -189,43 +193,59 @@ fn is_specialization_typed(
         node,
         specialization,
     };
-    if !are_variables_typed(alloc, &env, &node.variables)? {
-        return Ok(false);
+    if let Some(i) = first_ill_typed_variable(alloc, &env, &node.variables)? {
+        return Ok(Some(Part::Variable(VariableId(i))));
     }
-    let settled = settled_statements(parts, table, specialization);
-    are_statements_typed(alloc, &env, &node.body, settled)
+    let settled = settled_statements(shared, table, specialization);
+    match first_ill_typed_statement(alloc, &env, &node.body, settled)? {
+        Some(j) => Ok(Some(Part::Statement(j))),
+        None => Ok(None),
+    }
 }
 
-/// The node of the first specialization that breaks the rules of types.
+/// A part that breaks the rules of types.
+#[derive(Clone, Copy)]
+pub struct IllTyped {
+    /// The place of its specialization among those of the table.
+    pub place: usize,
+    pub node: NodeId,
+    pub part: Part,
+}
+
+/// The first specialization that breaks the rules of types, and its first part that does.
 fn first_ill_typed(
     alloc: Global,
     reached: &Reached,
     table: &Table,
-) -> Result<Option<NodeId>, AllocError>
-    ensures { IfOk result (λ found. found ≡ option_map (λ s. s.node)
-        (find (λ s. not (mirror.is_specialization_typed reached.now table.now s))
-        table.now.specializations.items)) }
+) -> Result<Option<IllTyped>, AllocError>
+    ensures first { IfOk result (λ found. option_map (λ f. f.place) found
+        ≡ first_broken (mirror.is_specialization_typed reached.now table.now)
+        table.now.specializations.items) }
+    ensures part { IfOk result (λ found.
+        IfSome found (λ f. IsIllTypedAt reached.now table.now f.place f.node f.part)) }
 {
-    let parts = shared_parts(alloc, reached, table)?;
-    for specialization in &table.specializations {
-        if !is_specialization_typed(alloc, reached, table, &parts, specialization)? {
-            return Ok(Some(specialization.node));
+    let shared = shared_parts(alloc, reached, table)?;
+    for (place, specialization) in table.specializations.iter().enumerate() {
+        if let Some(part) = ill_typed_part(alloc, reached, table, &shared, specialization)? {
+            let node = specialization.node;
+            return Ok(Some(IllTyped { place, node, part }));
         }
     }
     Ok(None)
 }
 
-/// The first node of an instance that breaks the rules of types (E9): each specialization is judged
-/// once.
-pub fn ill_typed_node(
+/// The first specialization of which an instance breaks the rules of types (E9), and its first part
+/// that does: each specialization is judged once.
+pub fn ill_typed(
     alloc: Global,
     reached: &Reached,
     table: &Table,
-) -> Result<Option<NodeId>, AllocError>
+) -> Result<Option<IllTyped>, AllocError>
     ensures judged { (P : Program) → IsJudged P reached.now table.now → IfOk result (λ found.
         is_some found ≡ not (list_all (is_typed P) (instances P))) }
     ensures named { (P : Program) → IsJudged P reached.now table.now → IfOk result (λ found.
-        IfSome found (IsBroken (is_typed P) P reached.now)) }
+        IfSome found (λ f.
+        IsBroken (is_typed P) (is_part_typed P) P reached.now f.node f.part)) }
 {
     first_ill_typed(alloc, reached, table)
 }

@@ -1,7 +1,9 @@
 use Rattle.std.proofs.Common.{◌≡◌, drop}
+use Rattle.std.specs.List.{list_all}
 use Rattle.lb_check.specs.NodeDefinitions as mirror
 use Rattle.lb_check.proofs.definition_rules.+memory.Given as goal
 
-abbrev pub invariant-any_memory-loop-term : goal.invariant-any_memory-loop-term
-invariant-any_memory-loop-term l =
-    mirror.any_memory l.terms ≡ mirror.any_memory (drop l.term-index l.terms)
+abbrev pub invariant-all_memoryless-loop-term : goal.invariant-all_memoryless-loop-term
+invariant-all_memoryless-loop-term l =
+    let kept = mirror.is_memoryless l.reached l.node in
+    list_all kept l.terms ≡ list_all kept (drop l.term-index l.terms)

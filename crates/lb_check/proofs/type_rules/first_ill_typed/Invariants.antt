@@ -1,11 +1,11 @@
 use Rattle.std.proofs.Common.{◌≡◌, drop}
-use Rattle.std.specs.Prelude.{find, not}
-use Rattle.lb_static.specs.declared.table.Specialization.{Specialization}
+use Rattle.lb_check.specs.BrokenParts.{first_broken}
 use Rattle.lb_check.specs.TermTypes.{is_specialization_typed}
+use Rattle.lb_check.proofs.FirstBroken.{broken_from}
 use Rattle.lb_check.proofs.type_rules.first_ill_typed.Given as goal
 
-abbrev pub invariant-loop-specialization : goal.invariant-loop-specialization
-invariant-loop-specialization l =
-    let broken = λ (s : Specialization). not (is_specialization_typed l.reached l.table s) in
-    find broken l.specialization-items ≡ find broken
-    (drop l.specialization-index l.specialization-items)
+abbrev pub invariant-loop-place : goal.invariant-loop-place
+invariant-loop-place l =
+    let kept = is_specialization_typed l.reached l.table in
+    first_broken kept l.specialization-items
+    ≡ broken_from kept l.place (drop l.place l.specialization-items)

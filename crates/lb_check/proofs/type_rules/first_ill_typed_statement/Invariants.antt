@@ -1,0 +1,11 @@
+use Rattle.std.proofs.Common.{◌≡◌, drop}
+use Rattle.lb_check.specs.BrokenParts.{first_broken}
+use Rattle.lb_check.specs.StoredTypes.{context_in}
+use Rattle.lb_check.specs.TermTypes.{is_resolved_statement_typed}
+use Rattle.lb_check.proofs.FirstBroken.{broken_from}
+use Rattle.lb_check.proofs.type_rules.first_ill_typed_statement.Given as goal
+
+abbrev pub invariant-loop-j : goal.invariant-loop-j
+invariant-loop-j l =
+    let kept = is_resolved_statement_typed (context_in l.env) in
+    first_broken kept l.body ≡ broken_from kept l.j (drop l.j l.body)

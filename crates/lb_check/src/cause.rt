@@ -1,0 +1,137 @@
+//! What all causes hold: the name of a node, the way to an instance, and where the parts of a node
+//! stand.
+
+ghost use Rattle.std.specs.Prelude.{◌≡◌, IfOk, string_bytes};
+ghost use Rattle.lb_syntax.specs.Lists.{listed};
+ghost use Rattle.lb_static.specs.ReachedNodes.{tree_at};
+
+use crate::part::Part;
+use lb_static::{CallPath, NodeId, Origin, Reached, Table, VariableId, call_path};
+use lb_syntax::{Declarations, Name, Node, Sampling};
+use std::alloc::{AllocError, Global};
+
+/// The name of a node again, or an empty one where there is no such node.
+pub fn name_of(alloc: Global, reached: &Reached, id: NodeId) -> Result<String, AllocError>
+    ensures { IfOk result (λ name.
+        string_bytes name ≡ listed (λ n. n.name) (tree_at reached.now id)) }
+{
+    match reached.nodes.get(id.0) {
+        Some(node) => String::from_str(alloc, node.tree.name.as_str()),
+        None => Ok(String::new(alloc)),
+    }
+}
+
+/// The way to the first instance of a specialization.
+pub fn path_to_specialization(
+    alloc: Global,
+    reached: &Reached,
+    table: &Table,
+    place: usize,
+) -> Result<CallPath, AllocError> {
+    for instance in &table.instances {
+        if instance.specialization.0 as usize == place {
+            return call_path(alloc, reached, &table.instances, instance.origin);
+        }
+    }
+    call_path(alloc, reached, &table.instances, Origin::UnderTest)
+}
+
+/// The way to the first instance of a node.
+pub fn path_to_node(
+    alloc: Global,
+    reached: &Reached,
+    table: &Table,
+    id: NodeId,
+) -> Result<CallPath, AllocError> {
+    for instance in &table.instances {
+        match table
+            .specializations
+            .get(instance.specialization.0 as usize)
+        {
+            Some(specialization) if specialization.node.0 == id.0 => {
+                return call_path(alloc, reached, &table.instances, instance.origin);
+            }
+            _ => {}
+        }
+    }
+    call_path(alloc, reached, &table.instances, Origin::UnderTest)
+}
+
+/// A variable as it is declared in the text.
+#[derive(Clone, Copy)]
+pub struct DeclaredVariable<'t> {
+    pub name: &'t Name,
+    pub clock: Option<&'t Sampling>,
+}
+
+/// The variable at a place among those of some declarations; the place then counts from the end of
+/// them.
+fn declared_among<'t>(
+    declarations: &'t [Declarations],
+    place: &mut usize,
+) -> Option<DeclaredVariable<'t>> {
+    for group in declarations {
+        if let Some(name) = group.names.get(*place) {
+            return Some(DeclaredVariable {
+                name,
+                clock: group.clock.as_ref(),
+            });
+        }
+        *place = place.saturating_sub(group.names.len());
+    }
+    None
+}
+
+/// A variable of a node as it is declared.
+pub fn declared_variable<'t>(node: &'t Node, variable: VariableId) -> Option<DeclaredVariable<'t>> {
+    let mut place = variable.0;
+    if let Some(declared) = declared_among(&node.inputs, &mut place) {
+        return Some(declared);
+    }
+    if let Some(declared) = declared_among(&node.outputs, &mut place) {
+        return Some(declared);
+    }
+    declared_among(&node.locals, &mut place)
+}
+
+/// Where the name of a variable of a node is declared.
+pub fn variable_offset(node: &Node, variable: VariableId) -> u32 {
+    match declared_variable(node, variable) {
+        Some(declared) => declared.name.offset(),
+        None => 0,
+    }
+}
+
+/// The name of a variable of a node.
+pub fn variable_name(
+    alloc: Global,
+    node: &Node,
+    variable: VariableId,
+) -> Result<String, AllocError> {
+    match declared_variable(node, variable) {
+        Some(declared) => String::from_str(alloc, declared.name.as_str()),
+        None => Ok(String::new(alloc)),
+    }
+}
+
+/// Where the variable of a declared clock stands.
+pub fn clock_offset(node: &Node, variable: VariableId) -> u32 {
+    let Some(declared) = declared_variable(node, variable) else {
+        return 0;
+    };
+    match declared.clock {
+        Some(clock) => clock.variable.offset(),
+        None => declared.name.offset(),
+    }
+}
+
+/// Where a part of a node begins.
+pub fn part_offset(node: &Node, part: Part) -> u32 {
+    match part {
+        Part::Variable(variable) => variable_offset(node, variable),
+        Part::Statement(place) => match node.body.get(place) {
+            Some(statement) => statement.offset(),
+            None => 0,
+        },
+    }
+}

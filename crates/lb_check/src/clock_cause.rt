@@ -1,0 +1,328 @@
+//! Why a part of a node breaks the rules of clocks (E10).
+//!
+//! What is told of a term is its innermost part that stands on no clock, of which each operand
+//! stands on one.
+
+ghost use Rattle.std.specs.Prelude.{◌≡◌, IfOk, string_bytes};
+ghost use Rattle.lb_syntax.specs.Lists.{listed};
+ghost use Rattle.lb_static.specs.ReachedNodes.{tree_at};
+
+use crate::call_clock::{Given, expected, outputs_of, result_clock};
+use crate::cause::{clock_offset, name_of, part_offset, path_to_node};
+use crate::clock_fault::{ClockFault, ClockRule};
+use crate::clock_reason::{
+    ClockReason, arguments_reason, clock_reason, clocks_differ, of_rule, only_clock,
+};
+use crate::clock_rules::left_clock;
+use crate::clock_set::{ClockSet, Operand};
+use crate::own_clock::{Clock, is_same};
+use crate::part::{IllFormed, Part};
+use crate::sites::{Site, left_offset, operand_at, right_side, ungrouped};
+use crate::term_clock::{ClockEnv, infer_clock, operands_of};
+use lb_static::{CallId, Reached, ResolvedNode, ResolvedStatement, Table, Term, VariableId};
+use lb_syntax::{Expr, Statement};
+use std::alloc::{AllocError, Global};
+
+/// Whether a term stands on no clock.
+fn is_unclocked(alloc: Global, env: &ClockEnv, term: &Term) -> Result<bool, AllocError> {
+    match infer_clock(alloc, env, term)? {
+        ClockSet::NoClock => Ok(true),
+        ClockSet::AnyClock | ClockSet::OneClock(_) => Ok(false),
+    }
+}
+
+/// The innermost part on no clock of some terms, which stand in a row in an expression.
+#[cycle(unclocked)]
+fn unclocked_among<'t>(
+    alloc: Global,
+    env: &ClockEnv,
+    terms: &'t [Term],
+    expr: &'t Expr,
+) -> Result<Option<Site<'t>>, AllocError> {
+    for (place, term) in terms.iter().enumerate() {
+        let found = unclocked(alloc, env, term, operand_at(expr, place))?;
+        if found.is_some() {
+            return Ok(found);
+        }
+    }
+    Ok(None)
+}
+
+/// The innermost part on no clock of a term: none where it stands on one.
+#[cycle(unclocked)]
+fn unclocked<'t>(
+    alloc: Global,
+    env: &ClockEnv,
+    term: &'t Term,
+    expr: &'t Expr,
+) -> Result<Option<Site<'t>>, AllocError> {
+    if !is_unclocked(alloc, env, term)? {
+        return Ok(None);
+    }
+    let inner = match term {
+        Term::Literal(_) | Term::Truth(_) | Term::Value(_) | Term::Variable(_) => None,
+        Term::Group(e)
+        | Term::Unary(_, e)
+        | Term::Pre(e)
+        | Term::Current(e)
+        | Term::When(e, _, _)
+        | Term::Replicate(e, _)
+        | Term::Index(e, _)
+        | Term::Slice(e, _, _) => unclocked(alloc, env, e, operand_at(expr, 0))?,
+        Term::Binary(_, a, b) | Term::Arrow(a, b) | Term::Fby(a, b) | Term::Join(a, b) => {
+            match unclocked(alloc, env, a, operand_at(expr, 0))? {
+                Some(site) => Some(site),
+                None => unclocked(alloc, env, b, operand_at(expr, 1))?,
+            }
+        }
+        Term::If(c, a, b) => match unclocked(alloc, env, c, operand_at(expr, 0))? {
+            Some(site) => Some(site),
+            None => match unclocked(alloc, env, a, operand_at(expr, 1))? {
+                Some(site) => Some(site),
+                None => unclocked(alloc, env, b, operand_at(expr, 2))?,
+            },
+        },
+        Term::Array(terms)
+        | Term::AtMostOne(terms)
+        | Term::Nor(terms)
+        | Term::Call(_, terms)
+        | Term::IterateNode(_, _, terms)
+        | Term::IterateSymbol(_, _, _, terms) => unclocked_among(alloc, env, terms, expr)?,
+    };
+    Ok(Some(inner.unwrap_or(Site { term, expr })))
+}
+
+/// The first left variable, counted from 0, that stands on another clock than this one.
+fn first_elsewhere(env: &ClockEnv, clock: Clock, lefts: &[VariableId]) -> Option<usize> {
+    for (place, left) in lefts.iter().enumerate() {
+        if !is_same(clock, env.variable(*left)) {
+            return Some(place);
+        }
+    }
+    None
+}
+
+/// A left variable, counted from 0, on another clock than what stands on the right.
+fn left_reason(
+    alloc: Global,
+    env: &ClockEnv,
+    lefts: &[VariableId],
+    place: usize,
+    found: Option<Clock>,
+    statement: &Statement,
+) -> Result<ClockReason, AllocError> {
+    let wanted = match lefts.get(place) {
+        Some(left) => Some(env.variable(*left)),
+        None => None,
+    };
+    let rule = ClockRule::Left(place.saturating_add(1));
+    clocks_differ(
+        alloc,
+        env,
+        rule,
+        left_offset(statement, place),
+        found,
+        wanted,
+    )
+}
+
+/// Why an equation whose right side is no call breaks the rules of clocks, where its right side
+/// stands on a clock.
+fn lefts_reason(
+    alloc: Global,
+    env: &ClockEnv,
+    lefts: &[VariableId],
+    right: ClockSet,
+    statement: &Statement,
+) -> Result<ClockReason, AllocError> {
+    let clock = left_clock(env, lefts);
+    if !right.accepts_clock(Some(clock)) {
+        return left_reason(alloc, env, lefts, 0, only_clock(right), statement);
+    }
+    let place = first_elsewhere(env, clock, lefts).unwrap_or(0);
+    left_reason(alloc, env, lefts, place, Some(clock), statement)
+}
+
+/// The results of a call, of which one is on another clock than its left variable.
+fn results_reason(
+    alloc: Global,
+    env: &ClockEnv,
+    callee: &ResolvedNode,
+    base: Option<Clock>,
+    given: &Given,
+    lefts: &[VariableId],
+    statement: &Statement,
+) -> Result<ClockReason, AllocError> {
+    for (place, output) in outputs_of(callee).iter().enumerate() {
+        let Some(left) = lefts.get(place) else {
+            return Ok(of_rule(ClockRule::Left(1), statement.offset()));
+        };
+        let found = expected(base, given, output.clock);
+        let is_right = match found {
+            Some(clock) => is_same(clock, env.variable(*left)),
+            None => false,
+        };
+        if !is_right {
+            return left_reason(alloc, env, lefts, place, found, statement);
+        }
+    }
+    Ok(of_rule(ClockRule::Left(1), statement.offset()))
+}
+
+/// Why an equation whose right side is a call breaks the rules of clocks, where the arguments stand
+/// on clocks.
+fn called_reason(
+    alloc: Global,
+    env: &ClockEnv,
+    site: Site,
+    callee: &ResolvedNode,
+    operands: &[Operand],
+    lefts: &[VariableId],
+    statement: &Statement,
+) -> Result<ClockReason, AllocError> {
+    let base = result_clock(alloc, env, callee, operands, lefts)?;
+    let given = &Given::Whole(callee.inputs, operands, lefts);
+    match arguments_reason(alloc, env, site, callee, base, given, operands)? {
+        Some(reason) => Ok(reason),
+        None => results_reason(alloc, env, callee, base, given, lefts, statement),
+    }
+}
+
+/// Why a term stands on no clock.
+fn term_reason(alloc: Global, env: &ClockEnv, whole: Site) -> Result<ClockReason, AllocError> {
+    match unclocked(alloc, env, whole.term, whole.expr)? {
+        Some(site) => clock_reason(alloc, env, site),
+        None => clock_reason(alloc, env, whole),
+    }
+}
+
+/// Why an equation whose right side is a call with these arguments breaks the rules of clocks.
+fn call_equation_reason(
+    alloc: Global,
+    env: &ClockEnv,
+    lefts: &[VariableId],
+    site: Site,
+    call: CallId,
+    terms: &[Term],
+    statement: &Statement,
+) -> Result<ClockReason, AllocError> {
+    if let Some(inner) = unclocked_among(alloc, env, terms, site.expr)? {
+        return clock_reason(alloc, env, inner);
+    }
+    let operands = operands_of(alloc, env, terms)?;
+    match env.callee(call) {
+        Some(callee) => called_reason(alloc, env, site, callee, &operands, lefts, statement),
+        None => Ok(of_rule(ClockRule::Argument(1), site.offset())),
+    }
+}
+
+/// Why an equation breaks the rules of clocks.
+fn equation_reason(
+    alloc: Global,
+    env: &ClockEnv,
+    lefts: &[VariableId],
+    site: Site,
+    statement: &Statement,
+) -> Result<ClockReason, AllocError> {
+    if let Term::Call(call, terms) = site.term {
+        return call_equation_reason(alloc, env, lefts, site, *call, terms, statement);
+    }
+    match infer_clock(alloc, env, site.term)? {
+        ClockSet::NoClock => term_reason(alloc, env, site),
+        right => lefts_reason(alloc, env, lefts, right, statement),
+    }
+}
+
+/// Why a statement breaks the rules of clocks.
+fn statement_reason(
+    alloc: Global,
+    env: &ClockEnv,
+    resolved: &ResolvedStatement,
+    statement: &Statement,
+) -> Result<ClockReason, AllocError> {
+    let expr = right_side(statement);
+    match resolved {
+        ResolvedStatement::Equation(lefts, right) => {
+            equation_reason(alloc, env, lefts, ungrouped(right, expr), statement)
+        }
+        ResolvedStatement::Assertion(term) => { term_reason(alloc, env, ungrouped(term, expr)) }
+    }
+}
+
+/// Which rule of declared clocks the clock of a variable breaks.
+fn declared_rule(node: &ResolvedNode, variable: VariableId) -> ClockRule {
+    let clock = match node.variables.get(variable.0) {
+        Some(declared) => declared.clock,
+        None => None,
+    };
+    let place = variable.0;
+    match clock {
+        Some(clock) if place < node.inputs && clock.variable.0 >= node.inputs => {
+            ClockRule::Interface
+        }
+        Some(clock)
+            if place.saturating_sub(node.inputs) < node.outputs
+                && clock.variable.0.saturating_sub(node.inputs) >= node.outputs => {
+            ClockRule::Interface
+        }
+        _ => ClockRule::Circle,
+    }
+}
+
+/// Why a part of a node breaks the rules of clocks.
+fn part_reason(alloc: Global, env: &ClockEnv, part: Part) -> Result<ClockReason, AllocError> {
+    match part {
+        Part::Variable(variable) => Ok(of_rule(
+            declared_rule(env.node, variable),
+            clock_offset(env.node.tree, variable),
+        )),
+        Part::Statement(place) => {
+            match (env.node.body.get(place), env.node.tree.body.get(place)) {
+                (Some(resolved), Some(statement)) => {
+                    statement_reason(alloc, env, resolved, statement)
+                }
+                _ => Ok(of_rule(ClockRule::Circle, 0)),
+            }
+        }
+    }
+}
+
+/// Why a part breaks the rules of clocks, and where it begins.
+fn found_reason(
+    alloc: Global,
+    reached: &Reached,
+    found: IllFormed,
+) -> Result<(ClockReason, u32), AllocError> {
+    let Some(node) = reached.nodes.get(found.node.0) else {
+        return Ok((of_rule(ClockRule::Circle, 0), 0));
+    };
+    let reason = part_reason(alloc, &ClockEnv { reached, node }, found.part)?;
+    Ok((reason, part_offset(node.tree, found.part)))
+}
+
+/// What breaks the rules of clocks in this part, and where.
+pub fn clock_fault(
+    alloc: Global,
+    reached: &Reached,
+    table: &Table,
+    found: IllFormed,
+) -> Result<ClockFault, AllocError>
+    ensures node { IfOk result (λ f.
+        string_bytes f.node ≡ listed (λ n. n.name) (tree_at reached.now found.node)) }
+    ensures part { IfOk result (λ f. f.part ≡ found.part) }
+{
+    let (reason, part_offset) = found_reason(alloc, reached, found)?;
+    let path = path_to_node(alloc, reached, table, found.node)?;
+    let node = name_of(alloc, reached, found.node)?;
+    Ok(ClockFault {
+        node,
+        part: found.part,
+        part_offset,
+        rule: reason.rule,
+        offset: reason.offset,
+        sign_offset: reason.sign_offset,
+        found: reason.found,
+        wanted: reason.wanted,
+        path,
+    })
+}

@@ -1,0 +1,96 @@
+//! Terms beside the expressions that they were made of.
+
+use lb_static::Term;
+use lb_syntax::{Expr, Statement};
+
+/// A term, and the expression that it was made of.
+#[derive(Clone, Copy)]
+pub struct Site<'t> {
+    pub term: &'t Term,
+    pub expr: &'t Expr,
+}
+
+/// The item at a place, or what stands in for one that is not there.
+fn item_or<'t>(exprs: &'t [Expr], place: usize, other: &'t Expr) -> &'t Expr {
+    match exprs.get(place) {
+        Some(expr) => expr,
+        None => other,
+    }
+}
+
+/// The operand of an expression at a place: itself where there is none.
+pub fn operand_at<'t>(expr: &'t Expr, place: usize) -> &'t Expr {
+    match expr {
+        Expr::Group(a, _) | Expr::Unary(_, a, _) | Expr::Pre(a, _) | Expr::Current(a, _) => a,
+        Expr::When(a, _, _, _) | Expr::Replicate(a, _, _) => a,
+        Expr::Index(a, _, _) | Expr::Slice(a, _, _, _) => a,
+        Expr::Binary(_, a, b, _) => two(a, b, place),
+        Expr::Arrow(a, b, _) | Expr::Fby(a, b, _) | Expr::Join(a, b, _) => two(a, b, place),
+        Expr::If(c, a, b, _) => { if place == 0 { c } else { two(a, b, place - 1) } }
+        Expr::Array(all, _) | Expr::AtMostOne(all, _) | Expr::Nor(all, _) => {
+            item_or(all, place, expr)
+        }
+        Expr::Call(_, _, all) | Expr::Iterate(_, _, _, all, _) => item_or(all, place, expr),
+        Expr::Literal(_, _) | Expr::Truth(_, _) | Expr::Variable(_) => expr,
+    }
+}
+
+/// The first or the second of two.
+fn two<'t>(first: &'t Expr, second: &'t Expr, place: usize) -> &'t Expr {
+    if place == 0 { first } else { second }
+}
+
+impl<'t> Site<'t> {
+    /// Where the expression begins.
+    pub fn offset(self) -> u32 {
+        self.expr.offset()
+    }
+
+    /// Where the sign of its operator stands: between its operands, or before them.
+    pub fn sign_offset(self) -> u32 {
+        match self.expr.sign_offset() {
+            Some(at) => at,
+            None => self.expr.offset(),
+        }
+    }
+
+    /// Where its operand at a place begins.
+    pub fn operand_offset(self, place: usize) -> u32 {
+        operand_at(self.expr, place).offset()
+    }
+
+    /// Where the variable of `when` stands, the index, or the first end of a slice.
+    pub fn inner_offset(self) -> u32 {
+        match self.expr {
+            Expr::When(_, name, _, _) => name.offset(),
+            Expr::Index(_, index, _) | Expr::Slice(_, index, _, _) => index.offset(),
+            _ => self.expr.offset(),
+        }
+    }
+}
+
+/// The right side of a statement, or what is asserted.
+pub fn right_side<'t>(statement: &'t Statement) -> &'t Expr {
+    match statement {
+        Statement::Equation(_, right, _) | Statement::Assertion(right, _) => right,
+    }
+}
+
+/// Where the left variable at a place stands; where the statement begins if there is none.
+pub fn left_offset(statement: &Statement, place: usize) -> u32 {
+    match statement {
+        Statement::Equation(lefts, _, at) => match lefts.get(place) {
+            Some(left) => left.offset(),
+            None => *at,
+        },
+        Statement::Assertion(_, at) => *at,
+    }
+}
+
+/// A term without the parentheses around it.
+pub fn ungrouped<'t>(term: &'t Term, expr: &'t Expr) -> Site<'t> {
+    match term {
+        Term::Group(inner) => ungrouped(inner, operand_at(expr, 0)),
+        _ => Site { term, expr },
+    }
+}

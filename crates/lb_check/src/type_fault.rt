@@ -1,0 +1,92 @@
+//! What breaks a rule of types, and where (E9).
+
+use crate::part::Part;
+use lb_static::CallPath;
+use lb_syntax::Kind;
+use std::fmt;
+
+/// A type as it is written, such as `int^3^2`.
+#[derive(PartialEq, Debug, Drop)]
+pub struct SourceType {
+    pub kind: Kind,
+    /// The sizes of an array, the outermost last; a scalar has none.
+    pub sizes: Vec<u64>,
+}
+
+impl fmt::Display for SourceType {
+    fn fmt<W: fmt::Write>(&self, f: &mut fmt::Formatter<W>) -> fmt::Result {
+        match self.kind {
+            Kind::Int => write!(f, "int")?,
+            Kind::Bool => write!(f, "bool")?,
+        }
+        for size in &self.sizes {
+            write!(f, "^{size}")?;
+        }
+        Ok(())
+    }
+}
+
+/// What has the wrong type. Operands, arguments and left variables count from 1.
+#[derive(Clone, Copy, PartialEq, Eq, Debug)]
+pub enum TypeRule {
+    /// A number, a constant or a static parameter outside the range of `int`.
+    Number,
+    /// An operand of an operator: of `if` the condition counts first, then the two branches.
+    Operand(usize),
+    /// An argument of a call or of an iterator.
+    Argument(usize),
+    /// A call or an iterator that takes another number of arguments.
+    ArgumentCount { found: usize, wanted: usize },
+    /// A call with no result or with several, where one is wanted.
+    ResultCount,
+    /// An iterator over a node that it does not go over: the accumulator is no input, or is not of
+    /// the type of the first output, or there are too few or too many outputs.
+    IteratedNode,
+    /// An array with no element, or with more than 4,096.
+    Length,
+    /// An index or the ends of a slice, outside the array.
+    Index,
+    /// A left variable of an equation.
+    Left(usize),
+    /// An equation that has another number of left variables than its right side has results.
+    LeftCount { found: usize, wanted: usize },
+    /// What is asserted.
+    Assertion,
+    /// The variable of a declared clock or of `when`.
+    ClockVariable,
+}
+
+/// A rule of types that is broken (E9), and where. Places are offsets in the source text, in bytes.
+#[derive(Debug, Drop)]
+pub struct TypeFault {
+    /// The name of the node in which it is.
+    pub node: String,
+    /// The statement that breaks it, or the variable whose declared clock does.
+    pub part: Part,
+    /// Where that begins.
+    pub part_offset: u32,
+    /// What is at fault.
+    pub rule: TypeRule,
+    /// Where what is at fault begins.
+    pub offset: u32,
+    /// Where the sign of the operator stands whose operand is at fault, if it has one between its
+    /// operands.
+    pub sign_offset: Option<u32>,
+    /// The type of what is at fault: none where it has none, several of a call with several
+    /// results. Of a left variable it is that of the result for it.
+    pub found: Vec<SourceType>,
+    /// The type that would be right, where it is one alone.
+    pub wanted: Option<SourceType>,
+    /// The calls by which an instance of the node is reached that breaks the rule.
+    pub path: CallPath,
+}
+
+impl fmt::Display for TypeFault {
+    fn fmt<W: fmt::Write>(&self, f: &mut fmt::Formatter<W>) -> fmt::Result {
+        let node = self.node.as_str();
+        write!(
+            f,
+            "an expression, a left side or an assertion has the wrong type in the node {node}"
+        )
+    }
+}
