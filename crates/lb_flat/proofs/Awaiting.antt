@@ -1,7 +1,8 @@
 -- What the first element that is not done says, and what the climb up a clock finds.
 use Rattle.std.proofs.Common.{◌≡◌, ◌<◌, ◌≤◌, ℕ, zero, suc, ◌+◌, ◌-◌, Bool, true, false, not, ◌&&◌}
-use Rattle.std.proofs.Common.{cond, Option, Some, None, List, [], ◌∷◌, length, get_or, refl}
-use Rattle.std.proofs.Common.{sym, ap, ◌∙◌, inl, inr, arith}
+use Rattle.std.proofs.Common.{cond, Option, Some, None, List, [], ◌∷◌, ◌++◌, length, get_or, set}
+use Rattle.std.proofs.Common.{refl, sym, ap, ◌∙◌, inl, inr, arith}
+use Rattle.std.specs.Prelude.{slice_get}
 use Rattle.std.specs.List.{list_all}
 use Rattle.std.specs.Option.{option_map, is_some}
 use Rattle.std.proofs.lemmas.Option.{slice_get-get_or, same_Some}
@@ -10,10 +11,12 @@ use Rattle.lb_flat.specs.declared.equation.ClockId.{ClockId}
 use Rattle.lb_flat.specs.declared.equation.Clock.{Clock}
 use Rattle.lb_flat.specs.declared.equation.ElementId.{ElementId}
 use Rattle.lb_flat.specs.InOrder.{is_done}
-use Rattle.lb_flat.specs.Ordering.{first_left}
-use Rattle.lb_flat.specs.Run.{clock_reads}
-use Rattle.lb_flat.specs.Values.{clock_within, clock_from}
+use Rattle.lb_flat.specs.declared.equation.Equation.{Equation}
+use Rattle.lb_flat.specs.Ordering.{first_left, AreSettled, IsOn}
+use Rattle.lb_flat.specs.Run.{clock_reads, reads}
+use Rattle.lb_flat.specs.Values.{clock_of, clock_within, clock_from, operation_of}
 use Rattle.lb_flat.specs.Within.{IsClock, AreClocks}
+use Rattle.lb_flat.proofs.InOrder.{done_stays}
 
 -- ## The first that is not done
 
@@ -46,6 +49,37 @@ module _ (done : List Bool) where
       by true e h again = let r = again h in (inr r.0, r.1)
       by false e h again =
           let same : i ≡ a = same_Some i a h in (inl same, ap (is_done done) (sym same) ∙ e)
+
+-- where there is none among some and more, there is none among the latter
+pub none_behind :
+    (done : List Bool) (is js : List ℕ) → first_left done (is ++ js) ≡ None →
+    first_left done js ≡ None
+none_behind done [] js h = h
+none_behind done (i ∷ is) js h = by (is_done done i) h (none_behind done is js)
+  where
+    by :
+        (b : Bool) → cond (not b) (Some i) (first_left done (is ++ js)) ≡ None →
+        (first_left done (is ++ js) ≡ None → first_left done js ≡ None) →
+        first_left done js ≡ None
+    by true h again = again h
+    by false h again = absurd (cc)
+
+-- where there is none, there is none when one element more is done
+pub none_still :
+    (done : List Bool) (e : ℕ) → e < length done → (is : List ℕ) → first_left done is ≡ None →
+    first_left (set done e true) is ≡ None
+none_still done e lt [] h = refl
+none_still done e lt (i ∷ is) h =
+    by (is_done done i) refl h (none_still done e lt is)
+  where
+    by :
+        (b : Bool) → is_done done i ≡ b → cond (not b) (Some i) (first_left done is) ≡ None →
+        (first_left done is ≡ None → first_left (set done e true) is ≡ None) →
+        first_left (set done e true) (i ∷ is) ≡ None
+    by true e' h again =
+        ap (λ b. cond (not b) (Some i) (first_left (set done e true) is))
+        (done_stays done e i lt e') ∙ again h
+    by false e' h again = absurd (cc)
 
 -- what is found has the number that is found
 pub found_none :
@@ -81,6 +115,33 @@ module _ (done : List Bool) (clocks : List Clock) (clock rest : Option ClockId) 
       let n = length clocks - depth in
       sym (base_awaited done clocks n) ∙ ap (clock_awaited done clocks n) (sym e)
       ∙ same n (omega arith)
+
+  -- where a clock reads nothing that is not done, no part of it does
+  none_within :
+      (n m : ℕ) (k : Option ClockId) → n ≤ m → clock_awaited done clocks m k ≡ None →
+      clock_awaited done clocks n k ≡ None
+  none_within n m None le h = base_awaited done clocks n
+  none_within zero m (Some id) le h = refl
+  none_within (suc n) zero (Some id) le h = absurd (omega (arith, le))
+  none_within (suc n) (suc m) (Some id) le h =
+      at (slice_get clocks id.0) h (λ t. none_within n m t.parent (omega (arith, le)))
+    where
+      by :
+          (b : Bool) (i : ℕ) (o p : Option ℕ) → cond (not b) (Some i) o ≡ None →
+          (o ≡ None → p ≡ None) → cond (not b) (Some i) p ≡ None
+      by true i o p h less = less h
+      by false i o p h less = absurd (cc)
+
+      at :
+          (o : Option Clock) →
+          first_left done (clock_reads (clock_from (clock_within m clocks) o)) ≡ None →
+          ((t : Clock) → clock_awaited done clocks m t.parent ≡ None →
+          clock_awaited done clocks n t.parent ≡ None) →
+          first_left done (clock_reads (clock_from (clock_within n clocks) o)) ≡ None
+      at None h less = refl
+      at (Some t) h less =
+          by (is_done done t.element.0) t.element.0 (clock_awaited done clocks m t.parent)
+          (clock_awaited done clocks n t.parent) h (less t)
 
   pub ends_past : length clocks ≤ depth → depth ≤ length clocks →
       None ≡ clock_awaited done clocks (length clocks) clock
@@ -124,3 +185,19 @@ module _ (done : List Bool) (clocks : List Clock) (clock rest : Option ClockId) 
         clock_awaited done clocks n (get_or clocks id.0 d).parent
         ≡ clock_awaited done clocks (length clocks) clock
     goes_on is n count = sym (ap (next n) is) ∙ above n count
+
+    -- the element of this clock is done, and so is all that its own clock reads
+    pub ends_settled :
+        (table : List (Option Equation)) → AreSettled clocks table done →
+        is_done done (get_or clocks id.0 d).element.0 ≡ true →
+        IsOn table (get_or clocks id.0 d).element.0 (get_or clocks id.0 d).parent →
+        None ≡ clock_awaited done clocks (length clocks) clock
+    ends_settled table settled is on =
+        let n = length clocks - (depth + 1) in
+        let q = on.equation in
+        let all : first_left done (clock_reads (clock_of clocks q.clock)) ≡ None =
+        none_behind done (reads (operation_of q.operation))
+        (clock_reads (clock_of clocks q.clock)) (settled _ q is on.stands) in
+        sym (none_within n (length clocks) (get_or clocks id.0 d).parent (omega arith)
+        (ap (clock_awaited done clocks (length clocks)) (sym on.clock_is) ∙ all))
+        ∙ goes_on is n (omega arith)

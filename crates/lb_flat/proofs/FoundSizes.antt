@@ -33,7 +33,7 @@ past a b lt = grind (arith, nat_tests)
 module _ (P : Program) (r : Reached) (t : Table) (reached : IsReached P r) (table : IsTable P r t)
   where
     -- what is found of each specialization has the size of the expressions of its instances
-    sizes_found :
+    pub sizes_found :
         (found : Vec NodeTypes Global) → HasFoundTypes P r t (Some found) →
         HasTermSizes P r t (lent_size (Some found))
     sizes_found found has i s at p here e =
@@ -44,7 +44,7 @@ module _ (P : Program) (r : Reached) (t : Table) (reached : IsReached P r) (tabl
         ∙ size_found P here l.0 l.2
 
     -- where there are no rows, there are no specializations
-    no_sizes : t.instances.items ≡ [] → (size : ℕ → ℕ) → HasTermSizes P r t size
+    pub no_sizes : t.instances.items ≡ [] → (size : ℕ → ℕ) → HasTermSizes P r t size
     no_sizes empty size i s at p here e =
         let used = contains_in (map (λ (k : row.Instance). k.specialization.0) t.instances.items) i
         (table.used i (slice_get_within t.specializations.items i s at)) in
@@ -52,7 +52,7 @@ module _ (P : Program) (r : Reached) (t : Table) (reached : IsReached P r) (tabl
         In i (map (λ (k : row.Instance). k.specialization.0) rows)) empty used)
 
     -- the sizes that are lent of the rows tell whether the program is small
-    lent_small :
+    pub lent_small :
         (types : Option (Vec NodeTypes Global)) → HasFoundTypes P r t types →
         nat_le (element_total r t + term_total t (lent_size types)) 65536 ≡ is_small P
     lent_small (Some found) has =

@@ -88,6 +88,7 @@ pub mod StoredLayouts
 pub mod StoredCalls
 pub mod TableSizes
 pub mod FoundSizes
+pub mod CountedSizes
 pub mod RowContexts
 pub mod RowKinds
 pub mod FilledFits
@@ -102,6 +103,7 @@ pub mod FlatEquivalence
 pub mod FlatStanding
 pub mod AcceptedScalars
 pub mod StandingRuns
+pub mod RightVerdicts
 pub mod CopiedElements
 pub mod ElementBound
 pub mod FitWords
@@ -150,7 +152,6 @@ pub mod AcceptedExpansion
 pub mod KnownClocks
 pub mod NeedsOfCopies
 pub mod NumberedReads
-pub mod LayoutAnswers
 pub mod EmittingRows
 pub mod EmittedStarts
 pub mod EmittedWhole

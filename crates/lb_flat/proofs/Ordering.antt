@@ -5,6 +5,7 @@ use Rattle.std.proofs.Common.{All, refl, sym, ap, subst, ◌∙◌, arith, inl, 
 use Rattle.std.proofs.Common.{below_more, length-set, append_assoc}
 use Rattle.std.proofs.lemmas.Bool.{cases_eq, cases_Bool}
 use Rattle.std.proofs.lemmas.List.{get_or-set_other, map-append, append-nil}
+use Rattle.std.proofs.lemmas.Option.{same_Some}
 use Rattle.lb_syntax.specs.Lists.{Every, In}
 use Rattle.lb_check.proofs.ApartLists.{in_first}
 use Rattle.lb_flat.specs.declared.equation.Clock.{Clock}
@@ -17,7 +18,7 @@ use Rattle.lb_flat.specs.Ordering.{awaited, left}
 use Rattle.lb_flat.specs.Programs.{flat_equations}
 use Rattle.lb_flat.specs.Run.{equation_reads, keeps}
 use Rattle.lb_flat.specs.Values.{equation_of}
-use Rattle.lb_flat.proofs.Awaiting.{none_left}
+use Rattle.lb_flat.proofs.Awaiting.{none_left, none_still}
 use Rattle.lb_flat.proofs.InOrder.{Every-of_All, passes, ends_order, goes_before}
 
 -- ## Lists
@@ -129,6 +130,16 @@ module _ (clocks : List Clock) (table : List (Option Equation)) (done : List Boo
         in_first p out (q ∷ [])
         (h.holds i p (sym (get_or-set_other done e i true false other) ∙ is) stands))
         (cases_eq i e);
+    settled = λ i p is stands.
+        none_still done e (omega (arith, h.marks)) (equation_reads (equation_of clocks p))
+        (⊎_elim
+        (λ (same : i ≡ e).
+        let both : Some q ≡ Some p =
+        sym at ∙ ap (λ j. get_or table j None) (sym same) ∙ stands in
+        subst (λ x. awaited clocks done x ≡ None) (same_Some q p both) ready)
+        (λ (other : i ≡ e → ⊥).
+        h.settled i p (sym (get_or-set_other done e i true false other) ∙ is) stands)
+        (cases_eq i e));
   }
 
 -- ## A pass

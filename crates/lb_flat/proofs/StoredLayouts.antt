@@ -97,7 +97,7 @@ sum_mapped f (x ∷ xs) =
     sum_cons (f x) (map f xs)
     ∙ (ap (λ n. f x + n) (sum_mapped f xs) ∙ sym (sum_by-cons f x xs))
 
-sum_pieces :
+pub sum_pieces :
     {A : Type 0} (f : A → List ℕ) (xs : List A) →
     sum_of (flat_map f xs) ≡ sum_by (λ x. sum_of (f x)) xs
 sum_pieces f [] = refl

@@ -45,6 +45,23 @@ capped_sums f g (i ∷ rows) (c ∷ is) long same a =
         v ≡ m + s → w ≡ n + u → min (a + v) 65537 ≡ min (a + w) 65537
     by m n s u v w one rest p q = omega (arith, one, rest, p, q)
 
+-- what is counted as far as 65,537 is no more
+lesser_sums :
+    (f : row.Instance → ℕ) (g : Instance → ℕ) (rows : List row.Instance) (is : List Instance) →
+    length rows ≡ length is →
+    ((j : ℕ) (i : row.Instance) (here : Instance) → slice_get rows j ≡ Some i →
+    slice_get is j ≡ Some here → f i ≡ min (g here) 65537) → sum_by f rows ≤ sum_by g is
+lesser_sums f g [] [] long same = omega arith
+lesser_sums f g [] (c ∷ is) long same = absurd (omega (arith, long))
+lesser_sums f g (i ∷ rows) [] long same = absurd (omega (arith, long))
+lesser_sums f g (i ∷ rows) (c ∷ is) long same =
+    let rest = lesser_sums f g rows is (omega (arith, long))
+    (λ j l here p q. same (suc j) l here p q) in
+    let one = same 0 i c refl refl in
+    let all = sum_by-cons f i rows in
+    let other = sum_by-cons g c is in
+    omega (arith, rest, one, all, other)
+
 small_below : (m n : ℕ) → min m 65537 ≡ min n 65537 → nat_le m 65536 ≡ nat_le n 65536
 small_below m n e = by (nat_le m 65536) refl
   where
@@ -147,6 +164,20 @@ module _ (P : Program) where
         by : (n : ℕ) → 65536 < n → nat_le n 65536 ≡ false
         by n lt = grind (arith, nat_tests)
 
+    -- a row of the table has the size of its instance, as far as 65,537
+    row_size :
+        (sizes : ℕ → ℕ) → HasTermSizes P r t sizes → (j : ℕ) (i : row.Instance)
+        (here : Instance) → slice_get t.instances.items j ≡ Some i →
+        slice_get (instances P) j ≡ Some here →
+        sizes i.specialization.0 ≡ min (parts_size here) 65537
+    row_size sizes has j i here e f =
+        let shown = row_shown P r t table j i e in
+        let same = same_Some shown.0 here (sym shown.1.instance_is ∙ f) in
+        let is = subst (IsRow P r t table j i) same shown.1 in
+        has i.specialization.0 is.specialization is.specialized here.path here
+        (specialized_instance P r t reached table is.specialization is.node here.path
+        is.resolved ∙ ap (λ c. Some c) (sym is.same))
+
     -- the size that is counted tells whether the program is small
     pub counted_small :
         (sizes : ℕ → ℕ) → HasTermSizes P r t sizes →
@@ -154,17 +185,25 @@ module _ (P : Program) where
     counted_small sizes has =
         small_below (element_total r t + term_total t sizes) (size P)
         (capped_sums (λ (i : row.Instance). sizes i.specialization.0) parts_size
-        t.instances.items (instances P) (rows_many P r t table) one (element_total r t)
+        t.instances.items (instances P) (rows_many P r t table) (row_size sizes has)
+        (element_total r t)
         ∙ ap (λ n. min n 65537) (ap (λ n. n + sum_by parts_size (instances P)) total_is
         ∙ sym size_parts))
-      where
-        one : (j : ℕ) (i : row.Instance) (here : Instance) →
-            slice_get t.instances.items j ≡ Some i → slice_get (instances P) j ≡ Some here →
-            sizes i.specialization.0 ≡ min (parts_size here) 65537
-        one j i here e f =
-            let shown = row_shown P r t table j i e in
-            let same = same_Some shown.0 here (sym shown.1.instance_is ∙ f) in
-            let is = subst (IsRow P r t table j i) same shown.1 in
-            has i.specialization.0 is.specialization is.specialized here.path here
-            (specialized_instance P r t reached table is.specialization is.node here.path
-            is.resolved ∙ ap (λ c. Some c) (sym is.same))
+
+    -- the variables have no more elements than the program
+    pub variables_within : element_total r t ≤ size P
+    variables_within =
+        let total = total_is in
+        let both = size_parts in
+        omega (arith, total, both)
+
+    -- and the size that is counted is no greater than that of the program
+    pub counted_within :
+        (sizes : ℕ → ℕ) → HasTermSizes P r t sizes →
+        element_total r t + term_total t sizes ≤ size P
+    counted_within sizes has =
+        let total = total_is in
+        let both = size_parts in
+        let terms = lesser_sums (λ (i : row.Instance). sizes i.specialization.0) parts_size
+        t.instances.items (instances P) (rows_many P r t table) (row_size sizes has) in
+        omega (arith, total, both, terms)

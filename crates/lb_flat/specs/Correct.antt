@@ -1,6 +1,7 @@
 -- What `expand`, `order` and `eval_trace` promise.
 -- This file says what data of the program mean; no definition of the language stands on it.
-use Rattle.std.specs.Prelude.{◌≡◌, ℕ, ◌<◌, true, false, Some, slice_get, List, [], Result, Ok, Err}
+use Rattle.std.specs.Prelude.{◌≡◌, ℕ, ◌<◌, true, false, Some, slice_get, List, [], length}
+use Rattle.std.specs.Prelude.{Result, Ok, Err}
 use Rattle.lb_syntax.specs.Lists.{In}
 use Rattle.lb_static.specs.Instances.{Program}
 use Rattle.lb_static.specs.DataTypes.{signature}
@@ -22,7 +23,10 @@ use Rattle.lb_flat.specs.Inputs.{inputs_of}
 use Rattle.lb_flat.specs.Judging.{FlatProgram}
 use Rattle.lb_flat.specs.Programs.{numbers_of, program_of}
 use Rattle.lb_flat.specs.Reading.{Leads, Chain, NeedsAt, IsReadCycle, IsCertificate}
+use Rattle.lb_flat.specs.RightVerdicts.{right_verdict}
 use Rattle.lb_flat.specs.Run.{Ready}
+use Rattle.lb_flat.specs.SizeFaults.{IsSizeFault}
+use Rattle.lb_flat.specs.Standing.{HasKindsOf, StandsForProgram}
 use Rattle.lb_flat.specs.Traces.{Recording}
 
 -- ## Expansion
@@ -49,7 +53,7 @@ pub record IsExpansionOf (P : Program) (f : FlatProgram) : Type 0 where
 abbrev pub IsExpansionAnswer : Program → Result Flat FlatError → Type 0
 IsExpansionAnswer P (Ok f) = (is_small P ≡ true) × IsExpansionOf P (program_of f.program)
 IsExpansionAnswer P (Err error.Memory) = Unit {0}
-IsExpansionAnswer P (Err error.Large) = is_small P ≡ false
+IsExpansionAnswer P (Err (error.Large fault)) = (is_small P ≡ false) × IsSizeFault P fault
 
 -- ## Order
 
@@ -68,17 +72,27 @@ pub record IsOrderOf (f g : FlatProgram) : Type 0 where
 -- program that the equations are of, each of these elements needs the next; unless memory ran out
 abbrev pub IsCycleFound : FlatProgram → OrderError → Type 0
 IsCycleFound f order_error.Memory = Unit {0}
-IsCycleFound f (order_error.Cycle is) =
-    IsReadCycle f (numbers_of is.items)
-    × ((P : Program) → IsExpansionOf P f → IsCertificate P (numbers_of is.items))
+IsCycleFound f (order_error.Cycle c) =
+    let is = numbers_of c.value.elements.items in
+    IsReadCycle f is × ((P : Program) → IsExpansionOf P f → IsCertificate P is)
+
+-- the same cycle, with a place for each of its elements, unless memory ran out
+abbrev pub IsPlaced : OrderError → OrderError → Type 0
+IsPlaced e order_error.Memory = Unit {0}
+IsPlaced order_error.Memory (order_error.Cycle d) = ⊥
+IsPlaced (order_error.Cycle c) (order_error.Cycle d) =
+    (d.value.elements.items ≡ c.value.elements.items)
+    × (length d.value.places.items ≡ length d.value.elements.items)
 
 -- ## Verdicts
 
 -- v is the verdict of trace k: that of each program that the flat one stands for, where the traces
--- have its signature, by the one history that solves it
+-- have its signature, by the one history that solves it; and there is no other, where the flat
+-- program stands for one and the traces have the kinds of its inputs
 pub record IsVerdictOf (f : FlatProgram) (r : Recording) (k : ℕ) (v : Verdict) : Type 0 where
   pub only_verdict :
       (P : Program) → IsFlatOf P f → signature P ≡ r.signature →
       IsOnlyVerdict P (inputs_of r k) v
   pub has_one_history :
       (P : Program) → IsFlatOf P f → signature P ≡ r.signature → HasOneHistory P (inputs_of r k)
+  pub is_right : StandsForProgram f → HasKindsOf f r → v ≡ right_verdict f r k

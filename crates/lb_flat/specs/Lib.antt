@@ -30,11 +30,14 @@ pub mod Frames
 pub mod Emissions
 pub mod Rows
 pub mod TableSizes
+pub mod SizeFaults
 pub mod RowContexts
 pub mod RowKinds
 pub mod FlatSolutions
 pub mod Fitting
 pub mod FlatPrograms
+pub mod Standing
+pub mod RightVerdicts
 pub mod MemoryPlaces
 pub mod FurtherKinds
 pub mod ClockTables

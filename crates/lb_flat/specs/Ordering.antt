@@ -59,6 +59,18 @@ first_left done is = find (λ i. not (is_done done i)) is
 abbrev pub awaited : List Clock → List Bool → Equation → Option ℕ
 awaited clocks done q = first_left done (equation_reads (equation_of clocks q))
 
+-- what the equations of elements that are done read is done
+abbrev pub AreSettled : List Clock → List (Option Equation) → List Bool → Type 0
+AreSettled clocks table done =
+    (e : ℕ) (q : Equation) → is_done done e ≡ true → get_or table e None ≡ Some q →
+    awaited clocks done q ≡ None
+
+-- the equation of an element is on a clock
+pub record IsOn (table : List (Option Equation)) (e : ℕ) (clock : Option ClockId) : Type 0 where
+  pub equation : Equation
+  pub stands : get_or table e None ≡ Some equation
+  pub clock_is : equation.clock ≡ clock
+
 -- how many are not done
 abbrev pub left : List Bool → ℕ
 left [] = 0
@@ -75,6 +87,7 @@ pub record IsScheduled (clocks : List Clock) (table : List (Option Equation)) (d
   pub entries : (q : Equation) → In q out → get_or table q.element.0 None ≡ Some q
   pub holds :
       (e : ℕ) (q : Equation) → is_done done e ≡ true → get_or table e None ≡ Some q → In q out
+  pub settled : AreSettled clocks table done
 
 -- the equations of a table, in an order in which they can be computed
 pub record AreScheduled (clocks : List Clock) (table : List (Option Equation))
@@ -107,3 +120,4 @@ pub record IsStuckAt (p : FlatProgram) (rows : List (Option Equation)) (done : L
   pub table : IsTableOf p.size p.equations.items rows
   pub marks : length done ≡ length rows
   pub stuck : (e : ℕ) → e < length rows → IsNotNext p.clocks.items rows done e
+  pub settled : AreSettled p.clocks.items rows done

@@ -17,7 +17,7 @@ use lb_syntax::{BinaryOperator, UnaryOperator};
 pub struct ElementId(pub u32);
 
 /// A clock of a flat program, by its place in the table of its clocks.
-#[derive(Clone, Copy)]
+#[derive(Clone, Copy, PartialEq, Eq)]
 pub struct ClockId(pub u32);
 
 /// An input of the node under test, by its place in the signature.

@@ -1,7 +1,24 @@
-//! Why a program is refused here.
+//! Why a program is refused here, and where.
+//!
+//! Each place is a byte offset in the text of the source.
+
+ghost use Rattle.std.specs.Prelude.{◌≡◌};
 
 use crate::equation::ElementId;
-use std::alloc::{AllocError, AllocFailed};
+use lb_static::CallPath;
+use std::alloc::{AllocError, AllocFailed, Global};
+
+/// The size of a program that is too large (E12).
+#[derive(Clone, Copy, PartialEq, Eq, Debug)]
+pub struct SizeFault {
+    /// How many scalar elements its variables and expressions have together, in all instances.
+    pub size: u64,
+    /// Whether there may be more: expressions whose elements alone are over the limit are not
+    /// counted.
+    pub is_least: bool,
+    /// How many there may be at most.
+    pub limit: u32,
+}
 
 /// Why a program is not expanded.
 #[derive(Debug, Drop, thiserror::Error)]
@@ -11,7 +28,43 @@ pub enum FlatError {
     Memory,
     /// The size of the expanded program is over 65,536 (E12).
     #[error("the expanded program is too large")]
-    Large,
+    Large(SizeFault),
+}
+
+/// An element of a cycle, and where it is defined.
+#[derive(Debug, Drop)]
+pub struct CyclePlace {
+    /// Its name, as users write it: `x`, or `a[2]` where the variable is an array.
+    pub name: String,
+    /// The offset of the equation that defines its variable; of an input of a called node that of
+    /// the name of the node in the call.
+    pub offset: u32,
+    /// The number of the instance in which it stands, among those of the cycle.
+    pub instance: usize,
+}
+
+/// Elements of variables, each of which needs the next one at the same instant, and the last of
+/// which needs the first (E13).
+#[derive(Debug, Drop)]
+pub struct Cycle {
+    pub elements: Vec<ElementId>,
+    /// The place of each element, in their order; none before `with_places` has found them.
+    pub places: Vec<CyclePlace>,
+    /// The ways to the instances in which they stand, each of them once.
+    pub instances: Vec<CallPath>,
+}
+
+impl Cycle {
+    /// A cycle of some elements, of which no place is found yet.
+    pub(crate) fn new(alloc: Global, elements: Vec<ElementId>) -> Cycle
+        ensures { result.elements ≡ elements }
+    {
+        Cycle {
+            elements,
+            places: Vec::new(alloc),
+            instances: Vec::new(alloc),
+        }
+    }
 }
 
 /// Why the equations of a program are not put in order.
@@ -20,14 +73,12 @@ pub enum OrderError {
     /// Memory ran out (E0).
     #[error("memory ran out")]
     Memory,
-    /// An element needs itself at the same instant (E13). These are elements of variables, each of
-    /// which needs the next one, and the last of which needs the first.
+    /// An element needs itself at the same instant (E13).
     #[error("an element needs itself at the same instant")]
-    Cycle(Vec<ElementId>),
+    Cycle(Box<Cycle>),
 }
 
 impl From<AllocError> for FlatError {
-    ghost use Rattle.std.specs.Prelude.{◌≡◌};
     ghost use Rattle.lb_flat.specs.declared.error.FlatError.TheVariants.{Memory};
 
     ghost from_gives = { λ _ e. e ≡ Memory };
@@ -38,7 +89,6 @@ impl From<AllocError> for FlatError {
 }
 
 impl<T: Drop> From<AllocFailed<T>> for FlatError {
-    ghost use Rattle.std.specs.Prelude.{◌≡◌};
     ghost use Rattle.lb_flat.specs.declared.error.FlatError.TheVariants.{Memory};
 
     ghost from_gives = { λ _ e. e ≡ Memory };
@@ -49,7 +99,6 @@ impl<T: Drop> From<AllocFailed<T>> for FlatError {
 }
 
 impl From<AllocError> for OrderError {
-    ghost use Rattle.std.specs.Prelude.{◌≡◌};
     ghost use Rattle.lb_flat.specs.declared.error.OrderError.TheVariants.{Memory};
 
     ghost from_gives = { λ _ e. e ≡ Memory };
@@ -60,7 +109,6 @@ impl From<AllocError> for OrderError {
 }
 
 impl<T: Drop> From<AllocFailed<T>> for OrderError {
-    ghost use Rattle.std.specs.Prelude.{◌≡◌};
     ghost use Rattle.lb_flat.specs.declared.error.OrderError.TheVariants.{Memory};
 
     ghost from_gives = { λ _ e. e ≡ Memory };

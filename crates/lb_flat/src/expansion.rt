@@ -27,11 +27,11 @@ use crate::clocks::Clocks;
 use crate::error::FlatError;
 use crate::expansion::whole_emission::emit_program;
 use crate::flat::Flat;
-use crate::layout::Layout;
+use crate::layout::{Layout, LayoutError};
 use crate::program::FlatProgram;
 use crate::recorded::kinds_of;
 use crate::row_frame::RowFrame;
-use crate::table_size::is_small;
+use crate::table_size::{is_small, size_fault};
 use crate::variable_kinds::variable_kinds;
 use lb_check::Checked;
 use lb_static::InstanceId;
@@ -78,9 +78,13 @@ pub fn expand(alloc: Global, checked: &Checked) -> Result<Flat, FlatError>
     ensures { IsExpansionAnswer (elaborated_program checked.now.elab) result }
 {
     let elab = checked.elab();
-    let layout = Layout::new(alloc, elab.reached(), elab.table())?;
+    let layout = match Layout::new(alloc, elab.reached(), elab.table()) {
+        Ok(layout) => layout,
+        Err(LayoutError::Memory) => return Err(FlatError::Memory),
+        Err(LayoutError::Large) => return Err(FlatError::Large(size_fault(checked))),
+    };
     if !is_small(checked, layout.count) {
-        return Err(FlatError::Large);
+        return Err(FlatError::Large(size_fault(checked)));
     }
     let program = flat_program(alloc, checked, &layout)?;
     Ok(Flat { program })

@@ -10,15 +10,52 @@
 ghost use Rattle.std.specs.Prelude.{◌≡◌, ◌≤◌, ◌<◌, ◌+◌, min, map, take, drop, IfOk};
 ghost use Rattle.lb_flat.specs.Rows.{sum_of, declared_width, widths_in, AreAdded};
 
-use crate::error::FlatError;
+use crate::equation::ElementId;
 use lb_static::{
     Instance, InstanceId, Reached, StaticInt, Table, Variable, VariableId, elements_of, part_of,
 };
-use std::alloc::Global;
+use std::alloc::{AllocError, AllocFailed, Global};
 use std::ops::Range;
 
 /// The most elements of variables.
 const MOST: u32 = 65536;
+
+/// Why there is no layout.
+#[derive(Drop)]
+pub(crate) enum LayoutError {
+    /// Memory ran out.
+    Memory,
+    /// There are more than 65,536 elements.
+    Large,
+}
+
+impl From<AllocError> for LayoutError {
+    ghost use Rattle.lb_flat.specs.declared.layout.LayoutError.TheVariants.{Memory};
+
+    ghost from_gives = { λ _ e. e ≡ Memory };
+
+    fn from(_e: AllocError) -> LayoutError {
+        LayoutError::Memory
+    }
+}
+
+impl<T: Drop> From<AllocFailed<T>> for LayoutError {
+    ghost use Rattle.lb_flat.specs.declared.layout.LayoutError.TheVariants.{Memory};
+
+    ghost from_gives = { λ _ e. e ≡ Memory };
+
+    fn from(_e: AllocFailed<T>) -> LayoutError {
+        LayoutError::Memory
+    }
+}
+
+/// Where an element stands: its row, its variable among those of the row, and its place in it.
+#[derive(Clone, Copy)]
+pub(crate) struct ElementPlace {
+    pub(crate) row: usize,
+    pub(crate) variable: usize,
+    pub(crate) index: u32,
+}
 
 /// Where the elements of the rows of a table stand.
 #[derive(Drop)]
@@ -45,18 +82,18 @@ fn add_variables(
     last: u32,
     statics: &[StaticInt],
     variables: &[Variable],
-) -> Result<u32, FlatError>
+) -> Result<u32, LayoutError>
     requires { last ≤ 65536 }
     ensures added { IfOk result (AreAdded (map (declared_width statics.now) variables.now) last
         starts.old.items starts.new.items) }
-    ensures large { result ≡ Err FlatError.Large →
+    ensures large { result ≡ Err LayoutError.Large →
         65536 < last + sum_of (map (declared_width statics.now) variables.now) }
 {
     let mut next = last;
     for variable in variables {
         let width = width(statics, variable);
         if width > MOST - next {
-            return Err(FlatError::Large);
+            return Err(LayoutError::Large);
         }
         next += width;
         starts.push(next)?;
@@ -71,11 +108,11 @@ fn add_row(
     reached: &Reached,
     table: &Table,
     row: &Instance,
-) -> Result<u32, FlatError>
+) -> Result<u32, LayoutError>
     requires { last ≤ 65536 }
     ensures added { IfOk result (AreAdded (widths_in reached.now table.now row.now) last
         starts.old.items starts.new.items) }
-    ensures large { result ≡ Err FlatError.Large →
+    ensures large { result ≡ Err LayoutError.Large →
         65536 < last + sum_of (widths_in reached.now table.now row.now) }
 {
     let Some(specialization) = table.specializations.get(row.specialization.0 as usize) else {
@@ -95,7 +132,11 @@ impl Layout {
     /// Where the elements of the rows of a table stand.
     ///
     /// Fails with `Large` where there are more than 65,536.
-    pub(crate) fn new(alloc: Global, reached: &Reached, table: &Table) -> Result<Layout, FlatError>
+    pub(crate) fn new(
+        alloc: Global,
+        reached: &Reached,
+        table: &Table,
+    ) -> Result<Layout, LayoutError>
         ensures numbers { IfOk result (λ l. (row x : ℕ) →
             numbers_at l.variables.items l.starts.items row x
             ≡ row_numbers reached.now table.now row (record { 0 = x })) }
@@ -104,7 +145,7 @@ impl Layout {
             get_or l.variables.items row 0 ≡ variables_before reached.now table.now row) }
         ensures count { IfOk result (λ l. l.count ≡ element_total reached.now table.now) }
         ensures few { IfOk result (λ l. l.count ≤ 65536) }
-        ensures large { result ≡ Err FlatError.Large →
+        ensures large { result ≡ Err LayoutError.Large →
             65536 < element_total reached.now table.now }
     {
         let mut variables = Vec::new(alloc);
@@ -155,5 +196,19 @@ impl Layout {
         let start = self.starts.get(variable).copied().unwrap_or(0);
         let end = self.starts.get(variable + 1).copied().unwrap_or(0);
         start..end
+    }
+    /// Where an element stands.
+    pub(crate) fn place_of(&self, element: ElementId) -> ElementPlace {
+        let starts = self.starts.partition_point(|start| *start <= element.0);
+        let variable = starts.saturating_sub(1);
+        let rows = self.variables.partition_point(|first| *first <= variable);
+        let row = rows.saturating_sub(1);
+        let first = self.variables.get(row).copied().unwrap_or(0);
+        let start = self.starts.get(variable).copied().unwrap_or(0);
+        ElementPlace {
+            row,
+            variable: variable.saturating_sub(first),
+            index: element.0.saturating_sub(start),
+        }
     }
 }

@@ -5,6 +5,7 @@
 mod cell;
 mod children;
 mod clocks;
+mod cycle_places;
 mod equation;
 mod error;
 mod evaluate;
@@ -30,8 +31,9 @@ mod trace_run;
 mod traces;
 mod variable_kinds;
 
+pub use cycle_places::with_places;
 pub use equation::{Clock, ClockId, ElementId, Equation, InputId, Operation};
-pub use error::{FlatError, OrderError};
+pub use error::{Cycle, CyclePlace, FlatError, OrderError, SizeFault};
 pub use expansion::expand;
 pub use flat::{Flat, Ordered};
 pub use laws::histories_are_those_of_streams;

@@ -46,6 +46,9 @@ fn ordered_equations(alloc: Global, program: &FlatProgram) -> Result<Vec<Equatio
 /// which each one needs the next at the same instant, and the last needs the first.
 pub fn order(alloc: Global, flat: Flat) -> Result<Ordered, OrderError>
     ensures order { IfOk result (λ o. IsOrderOf (program_of flat.program) (program_of o.program)) }
+    ensures stands { IfOk result (λ o.
+        (P : Program) → IsExpansionOf P (program_of flat.program)
+        → IsFlatOf P (program_of o.program)) }
     ensures determined { IfOk result (λ o.
         (P : Program) → IsFlatOf P (program_of o.program) → IsDetermined P) }
     ensures causal { IfOk result (λ o.

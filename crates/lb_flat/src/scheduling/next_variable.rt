@@ -25,7 +25,7 @@ fn next_left(
     let Some(q) = table[from.0 as usize] else {
         unreachable!()
     };
-    let Some(a) = awaited(done, program.clocks.as_slice(), q) else {
+    let Some(a) = awaited(done, program.clocks.as_slice(), table, q) else {
         unreachable!()
     };
     a

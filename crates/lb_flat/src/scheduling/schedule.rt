@@ -11,7 +11,7 @@ use super::cycle::read_cycle;
 use super::topological_sort::schedule_in_depth;
 use super::waiting::awaited;
 use crate::equation::{Clock, ElementId, Equation};
-use crate::error::OrderError;
+use crate::error::{Cycle, OrderError};
 use crate::program::FlatProgram;
 use std::alloc::{AllocError, Global};
 
@@ -34,7 +34,7 @@ pub(super) fn schedule(
     let Some(q) = table[e] else {
         return Ok(false);
     };
-    if done[e] || awaited(done, clocks, q).is_some() {
+    if done[e] || awaited(done, clocks, table, q).is_some() {
         return Ok(false);
     }
     out.push(q)?;
@@ -107,8 +107,8 @@ fn schedule_table(
     schedule_all(clocks, table, done, out)?;
     for e in 0..program.size {
         if !done[e as usize] {
-            let cycle = read_cycle(alloc, program, table, done, ElementId(e))?;
-            return Err(OrderError::Cycle(cycle));
+            let elements = read_cycle(alloc, program, table, done, ElementId(e))?;
+            return Err(OrderError::Cycle(Box::new(alloc, Cycle::new(alloc, elements))?));
         }
     }
     Ok(())

@@ -1,7 +1,7 @@
 //! What an equation waits for: the first of the elements that it reads which is not done.
 
-ghost use Rattle.std.specs.Prelude.{◌≡◌, ◌<◌, ℕ, All, IfSome, length, option_map};
-ghost use Rattle.lb_flat.specs.Ordering.{awaited, first_left};
+ghost use Rattle.std.specs.Prelude.{◌≡◌, ◌<◌, ℕ, All, IfSome, true, length, option_map};
+ghost use Rattle.lb_flat.specs.Ordering.{awaited, first_left, AreSettled, IsOn};
 ghost use Rattle.lb_flat.specs.Programs.{numbers_of};
 ghost use Rattle.lb_flat.specs.Run.{reads, clock_reads};
 ghost use Rattle.lb_flat.specs.Values.{clock_of, operation_of};
@@ -40,10 +40,29 @@ fn awaited_operand(done: &[bool], operation: Operation) -> Option<ElementId>
     }
 }
 
+// Whether the equation of an element is on a clock.
+fn is_on(table: &[Option<Equation>], element: ElementId, clock: Option<ClockId>) -> bool
+    ensures { result ≡ true → IsOn table.now element.0 clock }
+{
+    match table.get(element.0 as usize) {
+        Some(Some(q)) => q.clock == clock,
+        _ => false,
+    }
+}
+
 // The first element that a clock reads and that is not done.
-fn awaited_by_clock(done: &[bool], clocks: &[Clock], clock: Option<ClockId>) -> Option<ElementId>
+//
+// What a clock reads is the element of its last row, and what the clock of that element reads. So
+// where that element is done, all of it is.
+fn awaited_by_clock(
+    done: &[bool],
+    clocks: &[Clock],
+    table: &[Option<Equation>],
+    clock: Option<ClockId>,
+) -> Option<ElementId>
     requires table { AreClocks (length done.now) clocks.now }
     requires clock { IsClock clocks.now clock }
+    requires settled { AreSettled clocks.now table.now done.now }
     ensures { option_map (λ a. a.0) result
         ≡ first_left done.now (clock_reads (clock_of clocks.now clock)) }
 {
@@ -56,19 +75,28 @@ fn awaited_by_clock(done: &[bool], clocks: &[Clock], clock: Option<ClockId>) -> 
         if !done[tick.element.0 as usize] {
             return Some(tick.element);
         }
+        if is_on(table, tick.element, tick.parent) {
+            return None;
+        }
         rest = tick.parent;
     }
     None
 }
 
 /// The first element that an equation reads and that is not done.
-pub(super) fn awaited(done: &[bool], clocks: &[Clock], q: Equation) -> Option<ElementId>
+pub(super) fn awaited(
+    done: &[bool],
+    clocks: &[Clock],
+    table: &[Option<Equation>],
+    q: Equation,
+) -> Option<ElementId>
     requires table { AreClocks (length done.now) clocks.now }
     requires within { IsWithin (length done.now) clocks.now q }
+    requires settled { AreSettled clocks.now table.now done.now }
     ensures { option_map (λ a. a.0) result ≡ awaited clocks.now done.now q }
 {
     match awaited_operand(done, q.operation) {
         Some(a) => Some(a),
-        None => awaited_by_clock(done, clocks, q.clock),
+        None => awaited_by_clock(done, clocks, table, q.clock),
     }
 }

@@ -1,10 +1,39 @@
-use Rattle.std.proofs.Common.{refl}
+-- Equations that are scheduled are those of the program in order.
+use Rattle.std.proofs.Common.{List, refl}
 use Rattle.std.proofs.lemmas.Result.{err_from_is_err_and}
+use Rattle.lb_flat.specs.Correct.{IsOrderOf}
+use Rattle.lb_flat.specs.Ordering.{AreOrdered}
 use Rattle.lb_flat.specs.Programs.{flat_equations, program_of}
+use Rattle.lb_flat.specs.declared.equation.Equation.{Equation}
+use Rattle.lb_flat.specs.declared.program.FlatProgram.{FlatProgram}
 use Rattle.lb_flat.proofs.ExpansionReads.{expansion_causal}
 use Rattle.lb_flat.proofs.InOrder.{ready_of}
-use Rattle.lb_flat.proofs.StandingRuns.{standing_determined}
+use Rattle.lb_flat.proofs.RightVerdicts.{stands_in_order}
+use Rattle.lb_flat.proofs.StandingRuns.{flat_in_order, standing_determined}
 use Rattle.lb_flat.proofs.scheduling.order.Goals as goal
+
+is_order :
+    (p : FlatProgram) (qs : List Equation) → AreOrdered p qs →
+    IsOrderOf (program_of p)
+    (record (program_of p) { equations = flat_equations p.clocks.items qs })
+is_order p qs ordered = record {
+  same = refl;
+  ordering = ordered.ordering;
+  ready = ready_of p.size (flat_equations p.clocks.items qs) ordered.in_order;
+}
+
+pub invariant_of-result-clause-stands : goal.invariant_of-result-clause-stands
+invariant_of-result-clause-stands c =
+    let p = c.args.flat.program in
+    stands_in_order (program_of p) _
+    (is_order p c.in_ok-equations.equations.items c.in_ok-equations.ensures.order)
+    c.args.flat.stands
+
+pub returns-clause-stands : goal.returns-clause-stands
+returns-clause-stands c P expansion =
+    let p = c.args.flat.program in
+    flat_in_order P (program_of p) expansion.flat _
+    (is_order p c.in_ok-equations.equations.items c.in_ok-equations.ensures.order)
 
 pub returns-clause-determined : goal.returns-clause-determined
 returns-clause-determined c P flat =
@@ -22,15 +51,8 @@ returns-clause-causal c P expansion =
 
 pub returns-clause-order : goal.returns-clause-order
 returns-clause-order c =
-    let p = c.args.flat.program in
-    let ordered = c.in_ok-equations.ensures.order in
-    record {
-      same = refl;
-      ordering = ordered.ordering;
-      ready =
-          ready_of p.size (flat_equations p.clocks.items c.in_ok-equations.equations.items)
-          ordered.in_order;
-    }
+    is_order c.args.flat.program c.in_ok-equations.equations.items
+    c.in_ok-equations.ensures.order
 
 pub returns-in_err-equations-clause-cycle : goal.returns-in_err-equations-clause-cycle
 returns-in_err-equations-clause-cycle c =

@@ -25,4 +25,5 @@ returns-clause-verdict c =
           determined.one (inputs_of c.args.recorded.now.set.now c.args.k)
           (trace_given P c.args.recorded.now.set.now c.args.k same c.signature.ensures.lawful
           c.requires.trace);
+      is_right = λ stands kinds. c.evaluate.ensures.verdict;
     }

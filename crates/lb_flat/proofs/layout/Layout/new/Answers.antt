@@ -6,7 +6,7 @@ use Rattle.std.specs.List.{range_with_len}
 use Rattle.std.proofs.lemmas.Result.{err_from_is_err_and}
 use Rattle.lb_syntax.specs.Lists.{listed}
 use Rattle.lb_flat.specs.Rows.{sum_of, widths_in}
-use Rattle.lb_flat.specs.declared.error.FlatError.TheVariants.{Large}
+use Rattle.lb_flat.specs.declared.layout.LayoutError.TheVariants.{Large}
 use Rattle.lb_flat.proofs.StoredLayouts.{row_stored, rows_past, all_stored, starts, read_numbers}
 use Rattle.lb_flat.proofs.layout.Layout.new.Goals as goal
 

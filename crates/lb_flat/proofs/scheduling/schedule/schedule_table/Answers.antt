@@ -1,5 +1,10 @@
-use Rattle.std.proofs.Common.{arith}
+use Rattle.std.proofs.Common.{◌≡◌, ◌∙◌, Global, Vec, ap, arith, subst, sym}
+use Rattle.lb_static.specs.Instances.{Program}
+use Rattle.lb_flat.specs.Correct.{IsExpansionOf}
 use Rattle.lb_flat.specs.Programs.{numbers_of, program_of}
+use Rattle.lb_flat.specs.Reading.{IsCertificate, IsReadCycle}
+use Rattle.lb_flat.specs.declared.equation.ElementId.{ElementId}
+use Rattle.lb_flat.specs.declared.error.Cycle.{Cycle}
 use Rattle.lb_flat.proofs.ExpansionReads.{expansion_certified}
 use Rattle.lb_flat.proofs.Ordering.{all_settled}
 use Rattle.lb_flat.proofs.Tables.{is_table}
@@ -25,6 +30,8 @@ read_cycle-requires-clause-stuck c = record {
   table = c.requires.table;
   marks = c.in_ok-schedule_all.ensures.state.marks;
   stuck = rw c.as_slice-clocks.ensures.value at c.in_ok-schedule_all.ensures.stuck;
+  settled =
+      rw c.as_slice-clocks.ensures.value at c.in_ok-schedule_all.ensures.state.settled;
 }
 
 pub read_cycle-requires-clause-from : goal.read_cycle-requires-clause-from
@@ -40,5 +47,12 @@ returns-clause-scheduled c =
 pub returns-then-not-done-e-clause-cycle : goal.returns-then-not-done-e-clause-cycle
 returns-then-not-done-e-clause-cycle c =
     let f = program_of c.args.program.now in
-    let is = numbers_of c.in_ok-cycle.cycle.items in
-    (c.in_ok-cycle.ensures, λ P e. expansion_certified P f e is c.in_ok-cycle.ensures)
+    let found = c.in_ok-elements.ensures in
+    let is = numbers_of c.in_ok-elements.elements.items in
+    let same : c.in_ok-new.field-0.value.elements ≡ c.in_ok-elements.elements =
+    ap (λ (k : Cycle). k.elements) c.in_ok-new.ensures.ok ∙ c.new.ensures in
+    subst
+    (λ (v : Vec ElementId Global).
+    IsReadCycle f (numbers_of v.items)
+    × ((P : Program) → IsExpansionOf P f → IsCertificate P (numbers_of v.items)))
+    (sym same) (found, λ P e. expansion_certified P f e is found)

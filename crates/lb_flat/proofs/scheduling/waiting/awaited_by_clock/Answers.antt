@@ -1,4 +1,5 @@
-use Rattle.lb_flat.proofs.Awaiting.{ends_base, ends_waiting, goes_on, parent_in_table, ends_past}
+use Rattle.lb_flat.proofs.Awaiting.{ends_base, ends_waiting, ends_settled, ends_past, goes_on}
+use Rattle.lb_flat.proofs.Awaiting.{parent_in_table}
 use Rattle.lb_flat.proofs.scheduling.waiting.awaited_by_clock.Goals as goal
 
 pub returns-in_default : goal.returns-in_default
@@ -9,6 +10,12 @@ pub returns-then-not-done-tick : goal.returns-then-not-done-tick
 returns-then-not-done-tick c =
     ends_waiting _ _ _ _ _ c.loop-depth.invariant.same _ _ c.in-Some.is
     c.loop-depth.invariant.in_table c.loop-depth-test.true c.if-not-done-tick.true
+
+pub returns-then-is_on : goal.returns-then-is_on
+returns-then-is_on c =
+    ends_settled _ _ _ _ _ c.loop-depth.invariant.same _ _ c.in-Some.is
+    c.loop-depth.invariant.in_table c.loop-depth-test.true c.args.table.now c.requires.settled
+    c.if-not-done-tick.false (c.is_on.ensures c.if-is_on.true)
 
 pub loop-depth-preserved : goal.loop-depth-preserved
 loop-depth-preserved c = record {

@@ -1,0 +1,118 @@
+-- The size that is counted of a program that is too large is over the limit, and no more than its
+-- size.
+use Rattle.std.proofs.Common.{◌≡◌, ℕ, ◌+◌, ◌<◌, ◌≤◌, false, min, Option, None, Some, Vec, Global}
+use Rattle.std.proofs.Common.{List, [], ◌∷◌, ◌-◌, ◌^◌, max, length, take, get_or, refl, sym, ◌∙◌}
+use Rattle.std.proofs.Common.{subst, arith}
+use Rattle.std.specs.Prelude.{nat_le, sum_by}
+use Rattle.std.proofs.lemmas.Bool.Decides.{nat_tests}
+use Rattle.std.proofs.lemmas.List.{take_all}
+use Rattle.std.proofs.lemmas.List.Sums.{sum_by_more}
+use Rattle.lb_static.specs.Elaborated.{elaborated_program}
+use Rattle.lb_static.specs.Instances.{Program}
+use Rattle.lb_static.specs.InstanceTable.{IsTable}
+use Rattle.lb_static.specs.ReachedNodes.{IsReached}
+use Rattle.lb_static.specs.declared.reach.Reached.{Reached}
+use Rattle.lb_static.specs.declared.table.Instance as row
+use Rattle.lb_static.specs.declared.table.Table.{Table}
+use Rattle.lb_check.specs.FoundTerms.{HasFoundTypes}
+use Rattle.lb_check.specs.LawfulPrograms.{IsChecked}
+use Rattle.lb_check.specs.TypeRules.{is_small, size}
+use Rattle.lb_check.specs.declared.checked.Checking.{Checking}
+use Rattle.lb_check.specs.declared.found_types.NodeTypes.{NodeTypes}
+use Rattle.lb_flat.specs.Rows.{element_total}
+use Rattle.lb_flat.specs.SizeFaults.{Counts}
+use Rattle.lb_flat.specs.TableSizes.{HasTermSizes, lent_size, term_total}
+use Rattle.lb_flat.proofs.FoundSizes.{lent_small, no_sizes, sizes_found}
+use Rattle.lb_flat.proofs.TableSizes.{counted_within, variables_within}
+
+-- ## Counts
+
+pub nothing_counted : Counts 0 0
+nothing_counted = record { no_more = omega arith; as_many = omega arith }
+
+-- what is counted as far as 65,537
+pub counted_so_far : (n total : ℕ) → n ≡ min total 65537 → Counts n total
+counted_so_far n total e =
+    record { no_more = omega (arith, e); as_many = omega (arith, e) }
+
+-- one count more, as far as numbers go
+pub both_counted :
+    (m n next a b : ℕ) → Counts m a → Counts n b → next ≡ min (m + n) (2 ^ 64 - 1) →
+    Counts next (a + b)
+both_counted m n next a b p q e = record {
+  no_more = omega (arith, e, p.no_more, q.no_more);
+  as_many = omega (arith, e, p.no_more, p.as_many, q.no_more, q.as_many);
+}
+
+module _ {A : Type 0} (f : A → ℕ) where
+  pub one_counted :
+      (xs : List A) (i : ℕ) (d : A) (m n next : ℕ) → i < length xs →
+      Counts m (sum_by f (take i xs)) → Counts n (f (get_or xs i d)) →
+      next ≡ min (m + n) (2 ^ 64 - 1) → Counts next (sum_by f (take (i + 1) xs))
+  one_counted xs i d m n next lt p q e =
+      subst (Counts next) (sym (sum_by_more f xs i d lt)) (both_counted m n next _ _ p q e)
+
+  pub all_counted :
+      (xs : List A) (i m : ℕ) → length xs ≤ i → Counts m (sum_by f (take i xs)) →
+      Counts m (sum_by f xs)
+  all_counted xs i m le p = subst (λ l. Counts m (sum_by f l)) (take_all i xs le) p
+
+-- ## The size of a program
+
+over_limit : (n : ℕ) → nat_le n 65536 ≡ false → 65536 < n
+over_limit n e = grind (arith, nat_tests)
+
+module _ (c : Checking) (checked : IsChecked c)
+    (large : is_small (elaborated_program c.elab) ≡ false) where
+  abbrev P : Program
+  P = elaborated_program c.elab
+
+  abbrev r : Reached
+  r = c.elab.reached
+
+  abbrev t : Table
+  t = c.elab.table
+
+  reached : IsReached P r
+  reached = checked.elaborated.reached
+
+  table : IsTable P r t
+  table = checked.elaborated.table
+
+  size_over : 65536 < size P
+  size_over = over_limit (size P) large
+
+  -- the sizes that are lent of specializations are those of their expressions, where there are any
+  sizes_lent :
+      (types : Option (Vec NodeTypes Global)) → HasFoundTypes P r t types →
+      (types ≡ None → length t.instances.items ≡ 0) → HasTermSizes P r t (lent_size types)
+  sizes_lent (Some found) has none = sizes_found P r t reached table found has
+  sizes_lent None has none =
+      no_sizes P r t reached table (nothing t.instances.items (none refl)) (lent_size None)
+    where
+      nothing : (rows : List row.Instance) → length rows ≡ 0 → rows ≡ []
+      nothing [] e = refl
+      nothing (i ∷ rows) e = absurd (omega (arith, e))
+
+  -- variables and expressions that were counted
+  pub both_over :
+      (m n next : ℕ) → Counts m (element_total r t) → Counts n (term_total t (lent_size c.types)) →
+      (c.types ≡ None → length t.instances.items ≡ 0) → next ≡ min (m + n) (2 ^ 64 - 1) →
+      (65536 < next) × (next ≤ size P)
+  both_over m n next p q none e =
+      let both = both_counted m n next _ _ p q e in
+      let within = counted_within P r t reached table (lent_size c.types)
+      (sizes_lent c.types checked.types none) in
+      let over = over_limit _ (lent_small P r t reached table c.types checked.types ∙ large) in (
+        omega (arith, over, both.as_many),
+        omega (arith, within, both.no_more),
+      )
+
+  -- variables alone
+  pub variables_over :
+      (m next : ℕ) → Counts m (element_total r t) → next ≡ max m 65537 →
+      (65536 < next) × (next ≤ size P)
+  variables_over m next p e =
+      let within = variables_within P r t reached table in
+      let over = size_over in
+      (omega (arith, e), omega (arith, e, within, over, p.no_more))
