@@ -9,6 +9,7 @@ use Rattle.lb_flat.specs.Judging.{FlatProgram, flat_verdict}
 use Rattle.lb_flat.specs.Run.{Ready}
 use Rattle.lb_flat.specs.Traces.{Recording, IsRecording}
 use Rattle.lb_flat.proofs.RecordedInputs.{trace_given}
+use Rattle.lb_flat.proofs.RightVerdicts.{right_where_fitting}
 use Rattle.lb_flat.proofs.StandingRuns.{standing_determined, standing_recorded}
 use Rattle.lb_flat.specs.Correct.{IsVerdictOf}
 
@@ -25,4 +26,5 @@ verdict_of f r k v ready lawful below is = record {
   has_one_history = λ P flat same.
       let determined = standing_determined P f flat ready in
       determined.one (inputs_of r k) (trace_given P r k same lawful below);
+  is_right = λ stands kinds. right_where_fitting f r k v is stands;
 }

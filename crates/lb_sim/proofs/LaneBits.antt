@@ -2,15 +2,17 @@
 use Rattle.std.proofs.Common.{◌≡◌, ◌≢◌, ℕ, zero, suc, ◌+◌, ◌-◌, ◌*◌, ◌/◌, ◌%◌, ◌<◌, ◌≤◌, ◌==◌}
 use Rattle.std.proofs.Common.{◌&&◌, ◌||◌, Bool, true, false, List, get_or, set, length, refl}
 use Rattle.std.proofs.Common.{sym, ap, ap₂, ◌∙◌, subst, arith, below_more, ◌⊎◌, inl, inr}
-use Rattle.std.proofs.Common.{length-set}
-use Rattle.std.proofs.lemmas.Bool.{cases_lt}
+use Rattle.std.proofs.Common.{length-set, ◌^◌, w64}
+use Rattle.std.proofs.lemmas.Bool.{cases_lt, true≢false}
 use Rattle.std.proofs.lemmas.List.{get_or-set_same, get_or-set_other}
 use Rattle.std.specs.Prelude.{bit_or}
-use Rattle.std.specs.Int.{bit_at}
+use Rattle.std.specs.Int.{bit_at, trailing_zeros}
+use Rattle.std.proofs.lemmas.Nat.Bits.{bit_at-trailing_zeros}
 use Rattle.std.proofs.Math.Bool.{or_comm}
 use Rattle.lb_flat.specs.Packed.{bit_in}
 use Rattle.lb_lanes.specs.Planes.{on}
 use Rattle.lb_lanes.proofs.OnPlanes.{on-or, on-above, on-zero, shl, on-shl_high, on-shl_low}
+use Rattle.lb_lanes.proofs.OnPlanes.{on-shr}
 
 -- ## One lane
 
@@ -145,3 +147,55 @@ column_more rows from c plane plane' n bit h lt e is = record {
     other : (j : ℕ) → j < 64 → j ≢ n → on plane' j ≡ on plane j
     other j m ne =
         is j m ∙ ap (λ x. (bit && x) || on plane j) (no_number j n ne) ∙ neither bit (on plane j)
+
+-- ## The first lane of a plane from one on
+
+on_from : (plane from i : ℕ) → from ≤ i → on plane i ≡ on (plane / 2 ^ from) (i - from)
+on_from plane from i le =
+    ap (on plane) (arith_from from i le) ∙ sym (on-shr plane from (i - from))
+  where
+    arith_from : (from i : ℕ) → from ≤ i → i ≡ from + (i - from)
+    arith_from from i le = omega (arith, le)
+
+-- no lane is left where the plane ends
+pub none_from : (plane from i : ℕ) → plane / 2 ^ from ≡ 0 → from ≤ i → on plane i ≡ false
+none_from plane from i none le =
+    on_from plane from i le ∙ ap (λ n. on n (i - from)) none ∙ on-zero (i - from)
+
+-- or the lowest bit that is set tells it
+pub record IsNext (plane from next : ℕ) : Type 0 where
+  pub within : next < 64
+  pub none : (i : ℕ) → from ≤ i → i < next → on plane i ≡ false
+  pub there : on plane next ≡ true
+
+pub lowest_from :
+    (plane from : ℕ) → plane < 2 ^ 64 → plane / 2 ^ from < 2 ^ 64 → 0 < plane / 2 ^ from →
+    IsNext plane from (from + trailing_zeros w64 (plane / 2 ^ from))
+unfolding on
+lowest_from plane from fits fits' some = record {
+  within = below (cases_lt (from + trailing_zeros w64 (plane / 2 ^ from)) 64);
+  none = λ i le l.
+      on_from plane from i le
+      ∙ ap (λ n. n == 1) (zeros.2 (i - from) (omega (arith, l, le)));
+  there = there;
+}
+  where
+    zeros : (trailing_zeros w64 (plane / 2 ^ from) < 64)
+        × (bit_at (plane / 2 ^ from) (trailing_zeros w64 (plane / 2 ^ from)) ≡ 1)
+        × ((i : ℕ) → i < trailing_zeros w64 (plane / 2 ^ from) → bit_at (plane / 2 ^ from) i ≡ 0)
+    zeros = bit_at-trailing_zeros w64 (plane / 2 ^ from) some fits'
+
+    there : on plane (from + trailing_zeros w64 (plane / 2 ^ from)) ≡ true
+    there =
+        sym (on-shr plane from (trailing_zeros w64 (plane / 2 ^ from)))
+        ∙ ap (λ n. n == 1) zeros.1
+
+    below :
+        (from + trailing_zeros w64 (plane / 2 ^ from) < 64)
+        ⊎ (64 ≤ from + trailing_zeros w64 (plane / 2 ^ from)) →
+        from + trailing_zeros w64 (plane / 2 ^ from) < 64
+    below (inl lt) = lt
+    below (inr le) =
+        absurd
+        (true≢false
+        (sym there ∙ on-above plane 64 (from + trailing_zeros w64 (plane / 2 ^ from)) fits le))

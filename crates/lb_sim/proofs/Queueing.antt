@@ -1,48 +1,42 @@
--- Lanes that take members which wait, one after the other.
-use Rattle.std.proofs.Common.{◌≡◌, ◌≢◌, ℕ, ◌+◌, ◌<◌, ◌≤◌, ◌==◌, ◌&&◌, ◌||◌, Bool, true, false}
+-- Lanes whose verdicts are kept, and lanes that take members which wait, one after the other.
+use Rattle.std.proofs.Common.{◌≡◌, ◌≢◌, ℕ, ◌+◌, ◌<◌, ◌≤◌, ◌==◌, ◌||◌, Bool, true, false}
 use Rattle.std.proofs.Common.{List, length, get_or, set, length-set, refl, sym, ap, ◌∙◌}
 use Rattle.std.proofs.Common.{subst, arith, ◌⊎◌, inl, inr}
 use Rattle.std.proofs.lemmas.Bool.{true≢false, cases_eq, cases_lt}
 use Rattle.std.proofs.lemmas.List.{get_or-set_same, get_or-set_other}
-use Rattle.std.specs.Prelude.{if◌then◌else◌, nat_lt}
-use Rattle.std.specs.List.{All}
+use Rattle.std.specs.Prelude.{if◌then◌else◌}
 use Rattle.lb_check.specs.declared.verdict.Verdict.{Verdict}
-use Rattle.lb_check.specs.declared.verdict.Verdict.TheVariants.{Passed}
-use Rattle.lb_flat.specs.Traces.{Recording, trace_at}
+use Rattle.lb_flat.specs.Correct.{IsVerdictOf}
+use Rattle.lb_flat.specs.Judging.{FlatProgram}
+use Rattle.lb_flat.specs.Traces.{Recording}
 use Rattle.lb_lanes.specs.Planes.{on}
 use Rattle.lb_lanes.specs.declared.planes.Plane.{Plane}
 use Rattle.lb_lanes.proofs.OnPlanes.{on-zero}
 use Rattle.lb_sim.proofs.LaneBits.{no_number, same_number}
-use Rattle.lb_sim.specs.BatchRuns.{steps_in, verdict_at}
-use Rattle.lb_sim.specs.Correct.{IsRestart}
+use Rattle.lb_sim.specs.Correct.{HasVerdict, IsRestart}
 use Rattle.lb_sim.specs.InputRows.{begin_of}
-use Rattle.lb_sim.specs.Queues.{goes_on, IsInLane, IsTakenBy, HasTaken, AreTaken, AreKept}
+use Rattle.lb_sim.specs.Queues.{IsInLane, IsTakenBy, HasTaken, AreTaken}
 use Rattle.lb_sim.specs.declared.batch_run.BatchRun.{BatchRun}
 
 -- a lane takes a place
 pub taken_by :
-    (members : List ℕ) (run : BatchRun) (places traces : List ℕ) (verdicts : List Verdict)
-    (lane place : ℕ) (verdict : Verdict) → lane < length places → lane < length traces →
-    get_or places lane 0 < length verdicts → verdict ≡ verdict_at run lane →
-    IsTakenBy members run places (set places lane place) traces
-    (set traces lane (get_or members place 0)) verdicts
-    (set verdicts (get_or places lane 0) verdict) lane place
-taken_by members run places traces verdicts lane place verdict p t v is = record {
+    (members places traces : List ℕ) (lane place : ℕ) → lane < length places →
+    lane < length traces →
+    IsTakenBy members places (set places lane place) traces
+    (set traces lane (get_or members place 0)) lane place
+taken_by members places traces lane place p t = record {
   places_room = length-set places lane place;
   traces_room = length-set traces lane (get_or members place 0);
   place_is = get_or-set_same places lane place 0 p;
   trace_is = get_or-set_same traces lane (get_or members place 0) 0 t;
-  kept = get_or-set_same verdicts (get_or places lane 0) verdict Passed v ∙ is;
   other_places = λ i ne. get_or-set_other places lane i place 0 ne;
   other_traces = λ i ne. get_or-set_other traces lane i (get_or members place 0) 0 ne;
-  other_verdicts = λ k ne. get_or-set_other verdicts (get_or places lane 0) k verdict Passed ne;
 }
 
-module _ (r : Recording) (members : List ℕ) (n : ℕ) (run : BatchRun) (places traces : List ℕ)
-    (verdicts : List Verdict) (rest : ℕ) where
+module _ (members : List ℕ) (n settled : ℕ) (most : n ≤ 64) (places traces : List ℕ)
+    (rest : ℕ) where
   -- the lanes below one have had their turns
-  pub record TakenSoFar (places' traces' : List ℕ) (verdicts' : List Verdict)
-      (taken rest' lane : ℕ) : Type 0 where
+  pub record TakenSoFar (places' traces' : List ℕ) (taken rest' lane : ℕ) : Type 0 where
     pub places_room : length places' ≡ length places
     pub traces_room : length traces' ≡ length traces
     pub not_below : n ≤ rest'
@@ -52,26 +46,14 @@ module _ (r : Recording) (members : List ℕ) (n : ℕ) (run : BatchRun) (places
     pub own_trace :
         (i : ℕ) → i < 64 → on taken i ≡ false → get_or traces' i 0 ≡ get_or traces i 0
     pub left :
-        (i : ℕ) → i < lane → i < 64 → on taken i ≡ false →
-        (goes_on run r traces i ≡ true) ⊎ (rest' ≡ n)
+        (i : ℕ) → i < lane → i < 64 → on settled i ≡ true → on taken i ≡ false → rest' ≡ n
     pub ahead : (i : ℕ) → lane ≤ i → i < 64 → on taken i ≡ false
     pub takes :
         (i : ℕ) → i < 64 → on taken i ≡ true →
-        HasTaken r members n run places' traces traces' rest rest' i
-    pub each : (k : ℕ) → rest' ≤ k → k < rest → IsInLane places' lane k
-    pub stays :
-        (right : ℕ → Verdict) →
-        ((i : ℕ) → i < n → goes_on run r traces i ≡ false →
-        verdict_at run i ≡ right (get_or places i 0)) →
-        (k : ℕ) → get_or verdicts k Passed ≡ right k → get_or verdicts' k Passed ≡ right k
-    pub keeps :
-        (right : ℕ → Verdict) →
-        ((i : ℕ) → i < n → goes_on run r traces i ≡ false →
-        verdict_at run i ≡ right (get_or places i 0)) →
-        (i : ℕ) → i < 64 → on taken i ≡ true →
-        get_or verdicts' (get_or places i 0) Passed ≡ right (get_or places i 0)
+        HasTaken members n settled places' traces' rest rest' i
+    pub each : (k : ℕ) → rest' ≤ k → k < rest → IsInLane places' taken n k
 
-  pub none_taken : n ≤ rest → TakenSoFar places traces verdicts 0 rest 0
+  pub none_taken : n ≤ rest → TakenSoFar places traces 0 rest 0
   none_taken le = record {
     places_room = refl;
     traces_room = refl;
@@ -83,53 +65,42 @@ module _ (r : Recording) (members : List ℕ) (n : ℕ) (run : BatchRun) (places
     ahead = λ i l m. on-zero i;
     takes = λ i l e. absurd (true≢false (sym e ∙ on-zero i));
     each = λ k l m. absurd (omega (arith, l, m));
-    stays = λ right is k e. e;
-    keeps = λ right is i l e. absurd (true≢false (sym e ∙ on-zero i));
   }
 
-  module _ (p t : List ℕ) (v : List Verdict) (taken left lane : ℕ) (few : lane < 64)
-      (h : TakenSoFar p t v taken left lane) where
-    -- a lane keeps what it has
-    pub taken_not :
-        (goes_on run r traces lane ≡ true) ⊎ (left ≡ n) →
-        TakenSoFar p t v taken left (lane + 1)
-    taken_not because = record {
+  module _ (p t : List ℕ) (taken left lane : ℕ) (h : TakenSoFar p t taken left lane) where
+    -- lanes that are not settled are passed over
+    pub taken_on :
+        (next : ℕ) → lane ≤ next →
+        ((i : ℕ) → lane ≤ i → i < next → on settled i ≡ false) → TakenSoFar p t taken left next
+    taken_on next le off = record {
       places_room = h.places_room;
       traces_room = h.traces_room;
       not_below = h.not_below;
       not_above = h.not_above;
       own_place = h.own_place;
       own_trace = h.own_trace;
-      left = λ i l b e. by i l b e (cases_eq i lane);
-      ahead = λ i l. h.ahead i (omega (arith, l));
+      left = λ i l b s e. by i l b s e (cases_lt i lane);
+      ahead = λ i l. h.ahead i (omega (arith, l, le));
       takes = h.takes;
-      each = λ k l m.
-          let there = h.each k l m in
-          let below = there.below in
-          record { lane = there.lane; below = omega (arith, below); place = there.place };
-      stays = h.stays;
-      keeps = h.keeps;
+      each = h.each;
     }
       where
-        by : (i : ℕ) → i < lane + 1 → i < 64 → on taken i ≡ false → (i ≡ lane) ⊎ (i ≢ lane) →
-            (goes_on run r traces i ≡ true) ⊎ (left ≡ n)
-        by i l b e (inl same) =
-            subst (λ j. (goes_on run r traces j ≡ true) ⊎ (left ≡ n)) (sym same) because
-        by i l b e (inr ne) = h.left i (omega (arith, l, ne)) b e
+        by : (i : ℕ) → i < next → i < 64 → on settled i ≡ true → on taken i ≡ false →
+            (i < lane) ⊎ (lane ≤ i) → left ≡ n
+        by i l b s e (inl below) = h.left i below b s e
+        by i l b s e (inr above) = absurd (true≢false (sym s ∙ off i above l))
 
-    -- or takes the last member that waits
-    module _ (p' t' : List ℕ) (v' : List Verdict) (taken' left' : ℕ) (inside : lane < n)
-        (some : n < left) (less : left' + 1 ≡ left) (idle : goes_on run r traces lane ≡ false)
+    -- a settled lane takes the last member that waits
+    module _ (p' t' : List ℕ) (taken' left' : ℕ) (few : lane < 64) (inside : lane < n)
+        (some : n < left)
+        (less : left' + 1 ≡ left) (idle : on settled lane ≡ true)
         (taken_is : (i : ℕ) → i < 64 → on taken' i ≡ ((i == lane) || on taken i))
-        (step : IsTakenBy members run p p' t t' v v' lane left') where
+        (step : IsTakenBy members p p' t t' lane left') where
       here : on taken' lane ≡ true
       here = taken_is lane few ∙ ap (λ b. b || on taken lane) (same_number lane)
 
       other : (i : ℕ) → i < 64 → i ≢ lane → on taken' i ≡ on taken i
       other i l ne = taken_is i l ∙ ap (λ b. b || on taken i) (no_number i lane ne)
-
-      was_off : on taken lane ≡ false
-      was_off = h.ahead lane (omega arith) few
 
       -- a lane that has not taken is another one
       off_other : (i : ℕ) → on taken' i ≡ false → i ≢ lane
@@ -139,14 +110,11 @@ module _ (r : Recording) (members : List ℕ) (n : ℕ) (run : BatchRun) (places
       off_before : (i : ℕ) → i < 64 → on taken' i ≡ false → on taken i ≡ false
       off_before i l e = sym (other i l (off_other i e)) ∙ e
 
-      own_now : get_or p lane 0 ≡ get_or places lane 0
-      own_now = h.own_place lane few was_off
-
       takes_now :
           (i : ℕ) → i < 64 → on taken' i ≡ true → (i ≡ lane) ⊎ (i ≢ lane) →
-          HasTaken r members n run p' traces t' rest left' i
+          HasTaken members n settled p' t' rest left' i
       takes_now i l e (inl same) =
-          subst (HasTaken r members n run p' traces t' rest left') (sym same)
+          subst (HasTaken members n settled p' t' rest left') (sym same)
           (let is = step.place_is in
           let above = h.not_above in
           record {
@@ -172,47 +140,28 @@ module _ (r : Recording) (members : List ℕ) (n : ℕ) (run : BatchRun) (places
           }
 
       each_now : (k : ℕ) → left' ≤ k → k < rest → (k ≡ left') ⊎ (k ≢ left') →
-          IsInLane p' (lane + 1) k
-      each_now k l m (inl same) =
-          record { lane = lane; below = omega arith; place = step.place_is ∙ sym same }
+          IsInLane p' taken' n k
+      each_now k l m (inl same) = record {
+        lane = lane;
+        below = inside;
+        pends = here;
+        place = step.place_is ∙ sym same;
+      }
       each_now k l m (inr ne) =
           let there = h.each k (omega (arith, l, ne, less)) m in
           let below = there.below in
+          let apart : there.lane ≢ lane =
+          λ same.
+          true≢false
+          (sym there.pends ∙ ap (on taken) same ∙ h.ahead lane (omega arith) few) in
           record {
             lane = there.lane;
-            below = omega (arith, below);
-            place =
-                step.other_places there.lane (λ e. absurd (omega (arith, below, e)))
-                ∙ there.place;
+            below = below;
+            pends = other there.lane (omega (arith, below, most)) apart ∙ there.pends;
+            place = step.other_places there.lane apart ∙ there.place;
           }
 
-      module _ (right : ℕ → Verdict)
-          (is :
-          (i : ℕ) → i < n → goes_on run r traces i ≡ false →
-          verdict_at run i ≡ right (get_or places i 0)) where
-        -- the verdict that is kept is right
-        kept_now : get_or v' (get_or p lane 0) Passed ≡ right (get_or p lane 0)
-        kept_now = step.kept ∙ is lane inside idle ∙ ap right (sym own_now)
-
-        right_still : (k : ℕ) → get_or v k Passed ≡ right k → (k ≡ get_or p lane 0)
-            ⊎ (k ≢ get_or p lane 0) → get_or v' k Passed ≡ right k
-        right_still k e (inl same) =
-            subst (λ j. get_or v' j Passed ≡ right j) (sym same) kept_now
-        right_still k e (inr ne) = step.other_verdicts k ne ∙ e
-
-        keeps_now :
-            (i : ℕ) → i < 64 → on taken' i ≡ true → (i ≡ lane) ⊎ (i ≢ lane) →
-            get_or v' (get_or places i 0) Passed ≡ right (get_or places i 0)
-        keeps_now i l e (inl same) =
-            subst
-            (λ j. get_or v' (get_or places j 0) Passed ≡ right (get_or places j 0)) (sym same)
-            (subst (λ k. get_or v' k Passed ≡ right k) own_now kept_now)
-        keeps_now i l e (inr ne) =
-            right_still (get_or places i 0)
-            (h.keeps right is i l (sym (other i l ne) ∙ e))
-            (cases_eq (get_or places i 0) (get_or p lane 0))
-
-      pub taken_more : TakenSoFar p' t' v' taken' left' (lane + 1)
+      pub taken_more : TakenSoFar p' t' taken' left' (lane + 1)
       taken_more = record {
         places_room = step.places_room ∙ h.places_room;
         traces_room = step.traces_room ∙ h.traces_room;
@@ -222,103 +171,63 @@ module _ (r : Recording) (members : List ℕ) (n : ℕ) (run : BatchRun) (places
             step.other_places i (off_other i e) ∙ h.own_place i l (off_before i l e);
         own_trace = λ i l e.
             step.other_traces i (off_other i e) ∙ h.own_trace i l (off_before i l e);
-        left = λ i l b e. by i l b e (cases_eq i lane);
+        left = λ i l b s e.
+            let ne = off_other i e in
+            absurd
+            (let none = h.left i (omega (arith, l, ne)) b s (off_before i b e) in
+            omega (arith, none, some));
         ahead = λ i l b.
             other i b (λ same. absurd (omega (arith, l, same))) ∙ h.ahead i (omega (arith, l)) b;
         takes = λ i l e. takes_now i l e (cases_eq i lane);
         each = λ k l m. each_now k l m (cases_eq k left');
-        stays = λ right is k e.
-            right_still right is k (h.stays right is k e) (cases_eq k (get_or p lane 0));
-        keeps = λ right is i l e. keeps_now right is i l e (cases_eq i lane);
       }
-        where
-          by : (i : ℕ) → i < lane + 1 → i < 64 → on taken' i ≡ false →
-              (i ≡ lane) ⊎ (i ≢ lane) → (goes_on run r traces i ≡ true) ⊎ (left' ≡ n)
-          by i l b e (inl same) = absurd (off_other i e same)
-          by i l b e (inr ne) = or_end (h.left i (omega (arith, l, ne)) b (off_before i b e))
-            where
-              or_end : (goes_on run r traces i ≡ true) ⊎ (left ≡ n) →
-                  (goes_on run r traces i ≡ true) ⊎ (left' ≡ n)
-              or_end (inl goes) = inl goes
-              or_end (inr none) = absurd (omega (arith, none, some))
 
   -- the same of other names for the lists
   pub taken_as :
-      (p t p0 t0 : List ℕ) (v v0 : List Verdict) (taken left k0 l0 lane : ℕ) → p0 ≡ p → t0 ≡ t →
-      v0 ≡ v → k0 ≡ taken → l0 ≡ left → TakenSoFar p t v taken left lane →
-      TakenSoFar p0 t0 v0 k0 l0 lane
-  taken_as p t p0 t0 v v0 taken left k0 l0 lane a b c d e h =
-      let h1 = subst (λ x. TakenSoFar x t v taken left lane) (sym a) h in
-      let h2 = subst (λ x. TakenSoFar p0 x v taken left lane) (sym b) h1 in
-      let h3 = subst (λ x. TakenSoFar p0 t0 x taken left lane) (sym c) h2 in
-      let h4 = subst (λ x. TakenSoFar p0 t0 v0 x left lane) (sym d) h3 in
-      subst (λ x. TakenSoFar p0 t0 v0 k0 x lane) (sym e) h4
+      (p t p0 t0 : List ℕ) (taken left k0 l0 lane : ℕ) → p0 ≡ p → t0 ≡ t → k0 ≡ taken →
+      l0 ≡ left → TakenSoFar p t taken left lane → TakenSoFar p0 t0 k0 l0 lane
+  taken_as p t p0 t0 taken left k0 l0 lane a b d e h =
+      let h1 = subst (λ x. TakenSoFar x t taken left lane) (sym a) h in
+      let h2 = subst (λ x. TakenSoFar p0 x taken left lane) (sym b) h1 in
+      let h3 = subst (λ x. TakenSoFar p0 t0 x left lane) (sym d) h2 in
+      subst (λ x. TakenSoFar p0 t0 k0 x lane) (sym e) h3
 
-  -- a lane that has not had its turn has its own trace and place
-  pub goes_same :
-      (p t : List ℕ) (v : List Verdict) (taken left lane : ℕ) → lane < 64 →
-      TakenSoFar p t v taken left lane → goes_on run r t lane ≡ goes_on run r traces lane
-  goes_same p t v taken left lane few h =
-      ap
-      (λ k.
-      on run.active.0 lane && nat_lt (steps_in run lane) (length (trace_at r.traces k).1))
-      (h.own_trace lane few (h.ahead lane (omega arith) few))
-
-  pub own_trace_within :
-      (p t : List ℕ) (v : List Verdict) (taken left lane : ℕ) → lane < 64 →
-      length traces ≡ 64 → TakenSoFar p t v taken left lane →
-      All (λ k. k < length r.traces) traces → get_or t lane 0 < length r.traces
-  own_trace_within p t v taken left lane few room h within =
-      subst (λ k. k < length r.traces)
-      (sym (h.own_trace lane few (h.ahead lane (omega arith) few)))
-      (within lane 0 (omega (arith, few, room)))
-
-  pub own_place_within :
-      (p t : List ℕ) (v : List Verdict) (taken left lane count : ℕ) → lane < 64 →
-      TakenSoFar p t v taken left lane → get_or places lane 0 < count → get_or p lane 0 < count
-  own_place_within p t v taken left lane count few h within =
-      let same = h.own_place lane few (h.ahead lane (omega arith) few) in
-      omega (arith, same, within)
-
-  -- all lanes
+  -- all lanes, or as many as there were members
   pub all_taken :
-      (p t : List ℕ) (v : List Verdict) (taken left lane : ℕ) → n ≤ lane → n ≤ 64 →
-      lane ≤ n → TakenSoFar p t v taken left lane →
-      AreTaken r members n run places p traces t verdicts v rest taken left
-  all_taken p t v taken left lane all few le h = record {
+      (p t : List ℕ) (taken left lane : ℕ) → (n ≤ lane) ⊎ (left ≤ n) →
+      TakenSoFar p t taken left lane →
+      AreTaken members n settled places p traces t rest taken left
+  all_taken p t taken left lane end h = record {
     places_room = h.places_room;
     traces_room = h.traces_room;
     not_below = h.not_below;
     not_above = h.not_above;
     own_place = h.own_place;
     own_trace = h.own_trace;
-    left = λ i l e. h.left i (omega (arith, l, all)) (omega (arith, l, few)) e;
+    left = λ i l s e. by i l s e end;
     takes = h.takes;
-    each = λ k l m.
-        let there = h.each k l m in
-        let below = there.below in
-        record { lane = there.lane; below = omega (arith, below, le); place = there.place };
-    stays = h.stays;
-    keeps = h.keeps;
+    each = h.each;
   }
+    where
+      by : (i : ℕ) → i < n → on settled i ≡ true → on taken i ≡ false →
+          (n ≤ lane) ⊎ (left ≤ n) → left ≡ n
+      by i l s e (inl all) = h.left i (omega (arith, l, all)) (omega (arith, l, most)) s e
+      by i l s e (inr none) = let least = h.not_below in omega (arith, none, least)
 
 -- where none waits, none is taken
 pub nothing_taken :
-    (r : Recording) (members : List ℕ) (n : ℕ) (run : BatchRun) (places traces : List ℕ)
-    (verdicts : List Verdict) (rest : ℕ) → rest ≡ n →
-    AreTaken r members n run places places traces traces verdicts verdicts rest 0 rest
-nothing_taken r members n run places traces verdicts rest none = record {
+    (members : List ℕ) (n settled : ℕ) (places traces : List ℕ) (rest : ℕ) → rest ≡ n →
+    AreTaken members n settled places places traces traces rest 0 rest
+nothing_taken members n settled places traces rest none = record {
   places_room = refl;
   traces_room = refl;
   not_below = omega (arith, none);
   not_above = omega arith;
   own_place = λ i l e. refl;
   own_trace = λ i l e. refl;
-  left = λ i l e. inr none;
+  left = λ i l s e. none;
   takes = λ i l e. absurd (true≢false (sym e ∙ on-zero i));
   each = λ k l m. absurd (omega (arith, l, m));
-  stays = λ right is k e. e;
-  keeps = λ right is i l e. absurd (true≢false (sym e ∙ on-zero i));
 }
 
 -- and no lane begins again
@@ -340,90 +249,22 @@ no_restart run lanes none = record {
     or_false true = refl
     or_false false = refl
 
--- ## The verdicts of the last traces
+-- ## Verdicts that are kept
 
-module _ (run : BatchRun) (places : List ℕ) (n : ℕ) (verdicts : List Verdict) where
-  -- what is right stays so, and the lanes below one have put theirs
-  pub record KeptSoFar (verdicts' : List Verdict) (lane : ℕ) : Type 0 where
-    pub stays :
-        (right : ℕ → Verdict) →
-        ((i : ℕ) → i < n → verdict_at run i ≡ right (get_or places i 0)) → (k : ℕ) →
-        get_or verdicts k Passed ≡ right k → get_or verdicts' k Passed ≡ right k
-    pub put :
-        (right : ℕ → Verdict) →
-        ((i : ℕ) → i < n → verdict_at run i ≡ right (get_or places i 0)) → (i : ℕ) → i < lane →
-        get_or verdicts' (get_or places i 0) Passed ≡ right (get_or places i 0)
-
-  pub none_put : KeptSoFar verdicts 0
-  none_put = record {
-    stays = λ right is k e. e;
-    put = λ right is i l. absurd (omega (arith, l));
-  }
-
-  pub put_more :
-      (v : List Verdict) (lane : ℕ) (verdict : Verdict) → KeptSoFar v lane → lane < n →
-      get_or places lane 0 < length v → verdict ≡ verdict_at run lane →
-      KeptSoFar (set v (get_or places lane 0) verdict) (lane + 1)
-  put_more v lane verdict h below inside verdict_is = record {
-    stays = λ right is k e.
-        still right is k (h.stays right is k e) (cases_eq k (get_or places lane 0));
-    put = λ right is i l. by right is i l (cases_eq i lane);
-  }
-    where
-      place : ℕ
-      place = get_or places lane 0
-
-      here : (right : ℕ → Verdict) →
-          ((i : ℕ) → i < n → verdict_at run i ≡ right (get_or places i 0)) →
-          get_or (set v (get_or places lane 0) verdict) (get_or places lane 0) Passed
-          ≡ right (get_or places lane 0)
-      here right is =
-          get_or-set_same v (get_or places lane 0) verdict Passed inside
-          ∙ verdict_is
-          ∙ is lane below
-
-      still : (right : ℕ → Verdict) →
-          ((i : ℕ) → i < n → verdict_at run i ≡ right (get_or places i 0)) → (k : ℕ) →
-          get_or v k Passed ≡ right k →
-          (k ≡ get_or places lane 0) ⊎ (k ≢ get_or places lane 0) →
-          get_or (set v (get_or places lane 0) verdict) k Passed ≡ right k
-      still right is k e (inl same) =
-          subst
-          (λ j. get_or (set v (get_or places lane 0) verdict) j Passed ≡ right j) (sym same)
-          (here right is)
-      still right is k e (inr ne) =
-          get_or-set_other v (get_or places lane 0) k verdict Passed ne ∙ e
-
-      by : (right : ℕ → Verdict) →
-          ((i : ℕ) → i < n → verdict_at run i ≡ right (get_or places i 0)) → (i : ℕ) →
-          i < lane + 1 → (i ≡ lane) ⊎ (i ≢ lane) →
-          get_or (set v (get_or places lane 0) verdict) (get_or places i 0) Passed
-          ≡ right (get_or places i 0)
-      by right is i l (inl same) =
-          subst
-          (λ j.
-          get_or (set v (get_or places lane 0) verdict) (get_or places j 0) Passed
-          ≡ right (get_or places j 0)) (sym same) (here right is)
-      by right is i l (inr ne) =
-          still right is (get_or places i 0) (h.put right is i (omega (arith, l, ne)))
-          (cases_eq (get_or places i 0) (get_or places lane 0))
-
-  pub all_put :
-      (v : List Verdict) (lane count : ℕ) → n ≤ lane → KeptSoFar v lane →
-      (right : ℕ → Verdict) →
-      ((i : ℕ) → i < n → verdict_at run i ≡ right (get_or places i 0)) →
-      AreKept right places verdicts n n count → (k : ℕ) → k < count →
-      get_or v k Passed ≡ right k
-  all_put v lane count all h right is kept k l = by (cases_lt k n)
-    where
-      from : (get_or verdicts k Passed ≡ right k) ⊎ IsInLane places n k →
-          get_or v k Passed ≡ right k
-      from (inl e) = h.stays right is k e
-      from (inr there) =
-          let below = there.below in
-          subst (λ j. get_or v j Passed ≡ right j) there.place
-          (h.put right is there.lane (omega (arith, below, all)))
-
-      by : (k < n) ⊎ (n ≤ k) → get_or v k Passed ≡ right k
-      by (inl m) = from (kept k l (inl m))
-      by (inr m) = from (kept k l (inr m))
+-- one verdict more is kept, which is right
+pub kept_more :
+    (f : FlatProgram) (r : Recording) (members : List ℕ) (has has' : ℕ → Verdict → Type 0)
+    (place : ℕ) (v : Verdict) → IsVerdictOf f r (get_or members place 0) v → has' place v →
+    ((k : ℕ) (w : Verdict) → k ≢ place → has k w → has' k w) → (k : ℕ) →
+    HasVerdict f r members has k → HasVerdict f r members has' k
+kept_more f r members has has' place v right now others k h = by (cases_eq k place)
+  where
+    by : (k ≡ place) ⊎ (k ≢ place) → HasVerdict f r members has' k
+    by (inl same) =
+        subst (HasVerdict f r members has') (sym same)
+        (record { verdict = v; held = now; right = right })
+    by (inr ne) = record {
+      verdict = h.verdict;
+      held = others k h.verdict ne h.held;
+      right = h.right;
+    }

@@ -1,61 +1,62 @@
 -- Lanes that run the members of a queue: which member each lane has, and how far it has come.
-use Rattle.std.proofs.Common.{◌≡◌, ◌≢◌, ℕ, zero, suc, ◌+◌, ◌-◌, ◌<◌, ◌≤◌, ◌&&◌, ◌||◌, Bool, true}
-use Rattle.std.proofs.Common.{false, List, length, get_or, take, refl, sym, ap, ap₂, ◌∙◌}
-use Rattle.std.proofs.Common.{subst, arith, ◌⊎◌, inl, inr}
+use Rattle.std.proofs.Common.{◌≡◌, ℕ, zero, suc, ◌+◌, ◌-◌, ◌<◌, ◌≤◌, ◌&&◌, ◌||◌, Bool, true}
+use Rattle.std.proofs.Common.{false, not, List, length, get_or, refl, sym, ap, ap₂, ◌∙◌}
+use Rattle.std.proofs.Common.{subst, arith, ◌⊎◌, inl, inr, ◌^◌}
 use Rattle.std.proofs.lemmas.Bool.{true≢false, and_parts, cases_lt, lt-ltb, ltb-true}
 use Rattle.std.proofs.lemmas.List.{get_or_default, take_all}
 use Rattle.std.proofs.lemmas.List.Sums.{sum_by_more}
 use Rattle.std.specs.List.{All, sum_by}
 use Rattle.std.specs.Prelude.{nat_lt, if◌then◌else◌}
 use Rattle.lb_check.specs.declared.verdict.Verdict.{Verdict}
-use Rattle.lb_check.specs.declared.verdict.Verdict.TheVariants.{Passed}
+use Rattle.lb_flat.specs.Correct.{IsVerdictOf}
 use Rattle.lb_flat.specs.Flat.{FlatClock}
 use Rattle.lb_flat.specs.Inputs.{inputs_of}
 use Rattle.lb_flat.specs.Judging.{flat_verdict}
 use Rattle.lb_flat.specs.Programs.{program_of}
-use Rattle.lb_flat.specs.Traces.{Recording}
-use Rattle.lb_lanes.specs.Planes.{on}
+use Rattle.lb_flat.specs.Traces.{Recording, IsRecording}
+use Rattle.lb_flat.proofs.InOrder.{ready_of}
+use Rattle.lb_lanes.specs.Planes.{IsPlaneOf, on}
 use Rattle.lb_lanes.specs.declared.planes.Plane.{Plane}
+use Rattle.lb_lanes.proofs.OnPlanes.{on-zero, SetBit}
 use Rattle.lb_sim.specs.BatchLanes.{length_in, end_in, AreRunning, IsAt}
 use Rattle.lb_sim.specs.BatchRuns.{steps_in, verdict_at}
-use Rattle.lb_sim.specs.Correct.{IsFresh, IsRestart}
+use Rattle.lb_sim.specs.Correct.{HasVerdict, IsFresh, IsRestart}
 use Rattle.lb_sim.specs.InputRows.{begin_of}
-use Rattle.lb_sim.specs.Progress.{Fits, HaveRun, IsRunTo, right_verdict}
-use Rattle.lb_sim.specs.Queues.{goes_on, length_of, IsInLane, AreTaken, HasBegun, AreKept}
+use Rattle.lb_sim.specs.Progress.{AreRunTo, Fits, GoOn, IsRunTo, right_verdict}
+use Rattle.lb_sim.specs.Queues.{goes_on, instants_to, length_of, IsInLane, AreTaken, HasBegun}
+use Rattle.lb_sim.specs.Queues.{AreKept}
 use Rattle.lb_sim.specs.declared.batch_run.BatchRun.{BatchRun}
 use Rattle.lb_sim.specs.declared.program.LaneProgram.{LaneProgram}
+use Rattle.lb_sim.proofs.BatchVerdicts.{verdict_of}
 use Rattle.lb_sim.proofs.Batches.{verdict_at_rest}
 use Rattle.lb_sim.proofs.RunningBatches.{as_long, lane_begins, running_is, verdict_so_far}
 
 -- ## The instants of the first members
 
 module _ (r : Recording) (members : List ℕ) where
-  -- how many instants the members below a place have together
-  abbrev pub instants_to : ℕ → ℕ
-  instants_to k = sum_by (length_of r) (take k members)
-
   pub next_instants :
       (k : ℕ) → k < length members →
-      instants_to (k + 1) ≡ instants_to k + length_of r (get_or members k 0)
+      instants_to r members (k + 1) ≡ instants_to r members k + length_of r (get_or members k 0)
   next_instants k l = sum_by_more (length_of r) members k 0 l
 
   pub more_instants :
-      (j k : ℕ) → j ≤ k → k ≤ length members → instants_to j ≤ instants_to k
+      (j k : ℕ) → j ≤ k → k ≤ length members → instants_to r members j ≤ instants_to r members k
   more_instants j zero le l =
       let e : j ≡ 0 = omega (arith, le) in
-      subst (λ n. instants_to j ≤ instants_to n) e (omega arith)
+      subst (λ n. instants_to r members j ≤ instants_to r members n) e (omega arith)
   more_instants j (suc k) le l = by (more_instants j k) (cases_lt j (suc k))
     where
-      by : (j ≤ k → k ≤ length members → instants_to j ≤ instants_to k) →
-          (j < suc k) ⊎ (suc k ≤ j) → instants_to j ≤ instants_to (suc k)
+      by : (j ≤ k → k ≤ length members → instants_to r members j ≤ instants_to r members k) →
+          (j < suc k) ⊎ (suc k ≤ j) → instants_to r members j ≤ instants_to r members (suc k)
       by further (inr ge) =
           let e : j ≡ suc k = omega (arith, le, ge) in
-          subst (λ n. instants_to j ≤ instants_to n) e (omega arith)
+          subst (λ n. instants_to r members j ≤ instants_to r members n) e (omega arith)
       by further (inl lt) =
           let before = further (omega (arith, lt)) (omega (arith, l)) in
           let next = next_instants k (omega (arith, l)) in
           let same : k + 1 ≡ suc k = omega arith in
-          subst (λ n. instants_to j ≤ instants_to n) same (omega (arith, before, next))
+          subst (λ n. instants_to r members j ≤ instants_to r members n) same
+          (omega (arith, before, next))
 
 both_true : (a b : Bool) → a ≡ true → b ≡ true → (a && b) ≡ true
 both_true true true e f = refl
@@ -70,6 +71,33 @@ or_true : (b : Bool) → (b || true) ≡ true
 or_true true = refl
 or_true false = refl
 
+-- a pending lane that is not settled goes on
+settled_not : (pending goes : Bool) → (pending && not goes) ≡ false → pending ≡ true → goes ≡ true
+settled_not true true e f = refl
+settled_not true false e f = absurd (true≢false e)
+settled_not false goes e f = absurd (true≢false (sym f))
+
+pub settled_both : (pending goes : Bool) → (pending && not goes) ≡ true →
+    (pending ≡ true) × (goes ≡ false)
+settled_both true true e = absurd (true≢false (sym e))
+settled_both true false e = (refl, refl)
+settled_both false goes e = absurd (true≢false (sym e))
+
+-- a lane that is pending still was so before, or has taken a member
+still_pending : (before settled taken : Bool) → ((before && not settled) || taken) ≡ true →
+    taken ≡ false → (before ≡ true) × (settled ≡ false)
+still_pending true true true e f = absurd (true≢false f)
+still_pending true true false e f = absurd (true≢false (sym e))
+still_pending true false taken e f = (refl, refl)
+still_pending false settled true e f = absurd (true≢false f)
+still_pending false settled false e f = absurd (true≢false (sym e))
+
+none_pending : (before settled taken : Bool) → ((before && not settled) || taken) ≡ false →
+    taken ≡ false
+none_pending true true taken e = e
+none_pending true false taken e = absurd (true≢false e)
+none_pending false settled taken e = e
+
 module _ (p : LaneProgram) (r : Recording) (members : List ℕ) (n : ℕ) (few : n ≤ 64)
     (enough : n ≤ length members) (inside : All (λ k. k < length r.traces) members) where
   abbrev total : ℕ
@@ -78,39 +106,15 @@ module _ (p : LaneProgram) (r : Recording) (members : List ℕ) (n : ℕ) (few :
   abbrev to : ℕ → ℕ
   to = instants_to r members
 
-  -- each lane has a member of the queue and has been run to an instant of its trace; of each member
-  -- that has begun, and is in no lane any more, the right verdict is kept; no more steps were
-  -- taken, nor does a trace end later, than the members that have begun have instants
-  pub record AreRunTo (run : BatchRun) (traces places : List ℕ) (verdicts : List Verdict)
-      (rest : ℕ) : Type 0 where
-    pub program_is : run.program.now ≡ p
-    pub places_room : length places ≡ 64
-    pub traces_room : length traces ≡ 64
-    pub rest_least : n ≤ rest
-    pub rest_most : rest ≤ length members
-    pub traces_within : All (λ k. k < length r.traces) traces
-    pub places_within : (i : ℕ) → i < n → get_or places i 0 < length members
-    pub traces_are : (i : ℕ) → i < n → get_or traces i 0 ≡ get_or members (get_or places i 0) 0
-    pub each :
-        (K : ℕ → FlatClock) → Fits p K → (i : ℕ) → i < n →
-        IsRunTo p run (inputs_of r (get_or traces i 0)) i (steps_in run i)
-    pub kept :
-        (K : ℕ → FlatClock) → Fits p K →
-        AreKept (right_verdict p r members) places verdicts n rest (length members)
-    pub active_first : (i : ℕ) → i < 64 → on run.active.0 i ≡ true → i < n
-    pub steps_within : run.steps + to rest ≤ total + to n
-    pub ends_within :
-        (i : ℕ) → i < n → end_in r traces run.begins.items i + to rest ≤ total + to n
-
   -- ## Before the first instant
 
   pub all_begin :
-      (run : BatchRun) (traces places : List ℕ) (verdicts : List Verdict) →
-      run.program.now ≡ p → IsFresh run n → length places ≡ 64 → length traces ≡ 64 →
+      (run : BatchRun) (traces places : List ℕ) (has : ℕ → Verdict → Type 0) →
+      run.active.0 < 2 ^ 64 → 0 < n → run.program.now ≡ p → IsFresh run n → length places ≡ 64 → length traces ≡ 64 →
       ((i : ℕ) → i < 64 → get_or places i 0 ≡ i) → All (λ k. k < length r.traces) traces →
       ((i : ℕ) → i < n → get_or traces i 0 ≡ get_or members i 0) →
-      AreRunTo run traces places verdicts (length members)
-  all_begin run traces places verdicts program_is fresh places_room traces_room places_are
+      AreRunTo p r members n run traces places run.active.0 (length members) has
+  all_begin run traces places has fits some program_is fresh places_room traces_room places_are
       traces_within traces_are = record {
         program_is = program_is;
         places_room = places_room;
@@ -125,10 +129,15 @@ module _ (p : LaneProgram) (r : Recording) (members : List ℕ) (n : ℕ) (few :
             ∙ ap (λ k. get_or members k 0) (sym (places_are i (omega (arith, l, few))));
         each = λ K fits i l.
             lane_begins p run (inputs_of r (get_or traces i 0)) i (steps_in run i)
-            (omega (arith, fresh.none)) (fresh.empty i l)
-            (fresh.all i (omega (arith, l, few)) ∙ lt-ltb i n l);
-        kept = λ K fits k l begun. inr (first_lane k l begun);
+            (omega (arith, fresh.none)) (fresh.empty i l) (active i l);
+        kept = λ k l begun. inr (first_lane k l begun);
+        fits = fits;
+        ended = λ none.
+            absurd
+            (true≢false
+            (sym (active 0 some) ∙ ap (λ m. on m 0) none ∙ on-zero 0));
         active_first = λ i l e. ltb-true i n (sym (fresh.all i l) ∙ e);
+        pending_first = λ i l e. ltb-true i n (sym (fresh.all i l) ∙ e);
         steps_within = omega (arith, fresh.none, whole);
         ends_within = λ i l.
             let begun = run.begun i (omega (arith, l, few)) in
@@ -137,6 +146,9 @@ module _ (p : LaneProgram) (r : Recording) (members : List ℕ) (n : ℕ) (few :
             omega (arith, begun, fresh.none, long, within, whole);
       }
     where
+      active : (i : ℕ) → i < n → on run.active.0 i ≡ true
+      active i l = fresh.all i (omega (arith, l, few)) ∙ lt-ltb i n l
+
       whole : to (length members) ≡ total
       whole = ap (sum_by (length_of r)) (take_all (length members) members (omega arith))
 
@@ -147,9 +159,13 @@ module _ (p : LaneProgram) (r : Recording) (members : List ℕ) (n : ℕ) (few :
           omega (arith, next, more)
 
       first_lane : (k : ℕ) → k < length members → HasBegun n (length members) k →
-          IsInLane places n k
-      first_lane k l (inl m) =
-          record { lane = k; below = m; place = places_are k (omega (arith, m, few)) }
+          IsInLane places run.active.0 n k
+      first_lane k l (inl m) = record {
+        lane = k;
+        below = m;
+        pends = active k m;
+        place = places_are k (omega (arith, m, few));
+      }
       first_lane k l (inr m) = absurd (omega (arith, l, m))
 
   -- ## What a lane has when its trace does not go on
@@ -167,14 +183,65 @@ module _ (p : LaneProgram) (r : Recording) (members : List ℕ) (n : ℕ) (few :
       (ap (λ m. on run.active.0 i && nat_lt (steps_in run i) m) (as_long r traces i) ∙ off)
       ∙ ap (λ k. flat_verdict (program_of p.program.now) (inputs_of r k)) trace_is
 
+  -- which is the right one
+  pub settled_right :
+      (run : BatchRun) (traces places : List ℕ) (pending rest : ℕ)
+      (has : ℕ → Verdict → Type 0) → AreRunTo p r members n run traces places pending rest has →
+      IsRecording r → (i : ℕ) → i < n → goes_on run r traces i ≡ false →
+      IsVerdictOf (program_of p.program.now) r (get_or members (get_or places i 0) 0)
+      (verdict_at run i)
+  settled_right run traces places pending rest has h lawful i l off =
+      verdict_of (program_of p.program.now) r (get_or members (get_or places i 0) 0)
+      (verdict_at run i) (ready_of p.program.now.size (program_of p.program.now).equations
+      p.in_order) lawful (inside (get_or places i 0) 0 (h.places_within i l))
+      (λ K fits.
+      right_at_rest run traces places i h.program_is (h.traces_are i l) (h.each K fits i l) off)
+
+  -- the lanes that are settled, as they are found
+  pub lanes_settled :
+      (run : BatchRun) (traces places : List ℕ) (pending rest : ℕ)
+      (has : ℕ → Verdict → Type 0) → AreRunTo p r members n run traces places pending rest has →
+      (plane until settled : ℕ) →
+      AreRunning r traces run.begins.items run.steps plane until →
+      IsPlaneOf (λ i. on pending i && not (on run.active.0 i && on plane i)) settled →
+      (i : ℕ) → i < 64 → on settled i ≡ (on pending i && not (goes_on run r traces i))
+  lanes_settled run traces places pending rest has h plane until settled runs is i l =
+      is i l
+      ∙ ap (λ b. on pending i && not (on run.active.0 i && b))
+      (running_is r traces run.begins.items run.steps plane until (omega (arith, h.traces_room))
+      run.begun runs i (omega (arith, l, h.traces_room)))
+
+  -- where none is, each lane that is pending goes on
+  pub none_settled :
+      (run : BatchRun) (traces : List ℕ) (pending settled before rest : ℕ) →
+      ((i : ℕ) → i < 64 → on settled i ≡ (on pending i && not (goes_on run r traces i))) →
+      settled ≡ 0 → GoOn r run traces pending n before rest
+  none_settled run traces pending settled before rest is none i l e =
+      let l64 : i < 64 = omega (arith, l, few) in
+      inr
+      (settled_not (on pending i) (goes_on run r traces i)
+      (sym (is i l64) ∙ ap (λ m. on m i) none ∙ on-zero i) e)
+
   -- ## Lanes take members that wait
 
   module _ (old new : BatchRun) (traces traces' places places' : List ℕ)
-      (verdicts verdicts' : List Verdict) (rest rest' : ℕ) (lanes : Plane)
-      (h : AreRunTo old traces places verdicts rest)
+      (pending pending' settled rest rest' : ℕ) (has has' : ℕ → Verdict → Type 0)
+      (lanes : Plane) (h : AreRunTo p r members n old traces places pending rest has)
       (taken :
-      AreTaken r members n old places places' traces traces' verdicts verdicts' rest lanes.0 rest')
-      (again : IsRestart old new lanes) where
+      AreTaken members n settled places places' traces traces' rest lanes.0 rest')
+      (again : IsRestart old new lanes)
+      (settled_is :
+      (i : ℕ) → i < 64 → on settled i ≡ (on pending i && not (goes_on old r traces i)))
+      (some_settled : SetBit settled 64)
+      (pending_is :
+      (i : ℕ) → i < 64 → on pending' i ≡ ((on pending i && not (on settled i)) || on lanes.0 i))
+      (fits : pending' < 2 ^ 64)
+      (stays :
+      (k : ℕ) → HasVerdict (program_of p.program.now) r members has k →
+      HasVerdict (program_of p.program.now) r members has' k)
+      (keeps :
+      (i : ℕ) → i < n → on settled i ≡ true →
+      HasVerdict (program_of p.program.now) r members has' (get_or places i 0)) where
     lane : (i : ℕ) → i < n → i < 64
     lane i l = omega (arith, l, few)
 
@@ -295,52 +362,108 @@ module _ (p : LaneProgram) (r : Recording) (members : List ℕ) (n : ℕ) (few :
         let further = more_instants r members (k + 1) rest (omega (arith, below)) most in
         omega (arith, begin, long, steps, next, least, further)
 
-    module _ (K : ℕ → FlatClock) (fits : Fits p K) where
-      abbrev right : ℕ → Verdict
-      right = right_verdict p r members
+    -- a lane that takes no member is not among those that begin
+    idle_none : (i : ℕ) → i < 64 → on settled i ≡ false → on lanes.0 i ≡ false
+    idle_none i l off = by (on lanes.0 i) refl
+      where
+        by : (b : Bool) → on lanes.0 i ≡ b → on lanes.0 i ≡ false
+        by false e = e
+        by true e = absurd (true≢false (sym (taken.takes i l e).idle ∙ off))
 
-      right_now :
-          (i : ℕ) → i < n → goes_on old r traces i ≡ false →
-          verdict_at old i ≡ right (get_or places i 0)
-      right_now i l off =
-          right_at_rest old traces places i h.program_is (h.traces_are i l) (h.each K fits i l)
-          off
+    -- the verdict of a lane was kept, or it is pending still
+    in_lane :
+        (k : ℕ) (there : IsInLane places pending n k) (b : Bool) → on settled there.lane ≡ b →
+        HasVerdict (program_of p.program.now) r members has' k ⊎ IsInLane places' pending' n k
+    in_lane k there true e =
+        inl
+        (subst (HasVerdict (program_of p.program.now) r members has') there.place
+        (keeps there.lane there.below e))
+    in_lane k there false e =
+        let l64 = lane there.lane there.below in
+        let none = idle_none there.lane l64 e in
+        inr
+        (record {
+          lane = there.lane;
+          below = there.below;
+          pends =
+              pending_is there.lane l64
+              ∙ ap₂ (λ a b. (a && not b) || on lanes.0 there.lane) there.pends e
+              ∙ refl;
+          place = taken.own_place there.lane l64 none ∙ there.place;
+        })
 
-      in_lane :
-          (k : ℕ) → (there : IsInLane places n k) → (b : Bool) → on lanes.0 there.lane ≡ b →
-          (get_or verdicts' k Passed ≡ right k) ⊎ IsInLane places' n k
-      in_lane k there true e =
-          inl
-          (subst (λ j. get_or verdicts' j Passed ≡ right j) there.place
-          (taken.keeps right right_now there.lane (lane there.lane there.below) e))
-      in_lane k there false e =
-          inr
-          (record {
-            lane = there.lane;
-            below = there.below;
-            place = taken.own_place there.lane (lane there.lane there.below) e ∙ there.place;
-          })
+    kept_from :
+        (k : ℕ) →
+        HasVerdict (program_of p.program.now) r members has k ⊎ IsInLane places pending n k →
+        HasVerdict (program_of p.program.now) r members has' k ⊎ IsInLane places' pending' n k
+    kept_from k (inl had) = inl (stays k had)
+    kept_from k (inr there) = in_lane k there (on settled there.lane) refl
 
-      kept_from :
-          (k : ℕ) → (get_or verdicts k Passed ≡ right k) ⊎ IsInLane places n k →
-          (get_or verdicts' k Passed ≡ right k) ⊎ IsInLane places' n k
-      kept_from k (inl is) = inl (taken.stays right right_now k is)
-      kept_from k (inr there) = in_lane k there (on lanes.0 there.lane) refl
+    now_in_lane : (k : ℕ) → IsInLane places' lanes.0 n k → IsInLane places' pending' n k
+    now_in_lane k there = record {
+      lane = there.lane;
+      below = there.below;
+      pends =
+          pending_is there.lane (lane there.lane there.below)
+          ∙ ap (λ b. (on pending there.lane && not (on settled there.lane)) || b) there.pends
+          ∙ or_true (on pending there.lane && not (on settled there.lane));
+      place = there.place;
+    }
 
-      kept_after : AreKept right places' verdicts' n rest' (length members)
-      kept_after k l (inl m) = kept_from k (h.kept K fits k l (inl m))
-      kept_after k l (inr m) = by (cases_lt k rest)
-        where
-          by : (k < rest) ⊎ (rest ≤ k) →
-              (get_or verdicts' k Passed ≡ right k) ⊎ IsInLane places' n k
-          by (inl below) = inr (taken.each k m below)
-          by (inr above) = kept_from k (h.kept K fits k l (inr above))
+    kept_after : AreKept (program_of p.program.now) r members has' places' pending' n rest'
+    kept_after k l (inl m) = kept_from k (h.kept k l (inl m))
+    kept_after k l (inr m) = by (cases_lt k rest)
+      where
+        by : (k < rest) ⊎ (rest ≤ k) →
+            HasVerdict (program_of p.program.now) r members has' k
+            ⊎ IsInLane places' pending' n k
+        by (inl below) = inr (now_in_lane k (taken.each k m below))
+        by (inr above) = kept_from k (h.kept k l (inr above))
 
     first_of : (i : ℕ) → i < 64 → on new.active.0 i ≡ true → (b : Bool) → on lanes.0 i ≡ b → i < n
     first_of i l e true is = (taken.takes i l is).inside
     first_of i l e false is = h.active_first i l (sym (active_kept i l is) ∙ e)
 
-    pub all_taken_on : AreRunTo new traces' places' verdicts' rest'
+    pending_of :
+        (i : ℕ) → i < 64 → on pending' i ≡ true → (b : Bool) → on lanes.0 i ≡ b → i < n
+    pending_of i l e true is = (taken.takes i l is).inside
+    pending_of i l e false is =
+        h.pending_first i l
+        (still_pending (on pending i) (on settled i) (on lanes.0 i) (sym (pending_is i l) ∙ e)
+        is).0
+
+    -- where no lane is pending any more, one has taken none
+    ended_after : pending' ≡ 0 → rest' ≡ n
+    ended_after none =
+        let i = some_settled.place in
+        let l64 = some_settled.within in
+        let was =
+        settled_both (on pending i) (goes_on old r traces i)
+        (sym (settled_is i l64) ∙ some_settled.is_set) in
+        taken.left i (h.pending_first i l64 was.0) some_settled.is_set
+        (none_pending (on pending i) (on settled i) (on lanes.0 i)
+        (sym (pending_is i l64) ∙ ap (λ m. on m i) none ∙ on-zero i))
+
+    pub all_go_on : GoOn r new traces' pending' n rest rest'
+    all_go_on i l e = by (on lanes.0 i) refl
+      where
+        by : (b : Bool) → on lanes.0 i ≡ b →
+            (rest' < rest) ⊎ (goes_on new r traces' i ≡ true)
+        by true is =
+            let has_taken = taken.takes i (lane i l) is in
+            let after = has_taken.after in
+            let before = has_taken.before in
+            inl (omega (arith, after, before))
+        by false is =
+            let was =
+            still_pending (on pending i) (on settled i) (on lanes.0 i)
+            (sym (pending_is i (lane i l)) ∙ e) is in
+            inr
+            (goes_kept i l is
+            ∙ settled_not (on pending i) (goes_on old r traces i)
+            (sym (settled_is i (lane i l)) ∙ was.1) was.0)
+
+    pub all_taken_on : AreRunTo p r members n new traces' places' pending' rest' has'
     all_taken_on = record {
       program_is = again.program ∙ h.program_is;
       places_room = taken.places_room ∙ h.places_room;
@@ -358,7 +481,10 @@ module _ (p : LaneProgram) (r : Recording) (members : List ℕ) (n : ℕ) (few :
       traces_are = λ i l. trace_is i l (on lanes.0 i) refl;
       each = λ K fits i l. each_after K fits i l (on lanes.0 i) refl;
       kept = kept_after;
+      fits = fits;
+      ended = ended_after;
       active_first = λ i l e. first_of i l e (on lanes.0 i) refl;
+      pending_first = λ i l e. pending_of i l e (on lanes.0 i) refl;
       steps_within =
           let before = h.steps_within in omega (arith, before, fewer, again.steps);
       ends_within = λ i l. end_within i l (on lanes.0 i) refl;
@@ -366,8 +492,9 @@ module _ (p : LaneProgram) (r : Recording) (members : List ℕ) (n : ℕ) (few :
 
   -- ## The same lanes go on for a stretch
 
-  module _ (old new : BatchRun) (traces places : List ℕ) (verdicts : List Verdict)
-      (rest plane until : ℕ) (h : AreRunTo old traces places verdicts rest)
+  module _ (old new : BatchRun) (traces places : List ℕ) (pending rest : ℕ)
+      (has : ℕ → Verdict → Type 0) (plane until : ℕ)
+      (h : AreRunTo p r members n old traces places pending rest has)
       (runs : AreRunning r traces old.begins.items old.steps plane until)
       (program_is : new.program.now ≡ old.program.now)
       (begins_are : new.begins.items ≡ old.begins.items)
@@ -408,7 +535,7 @@ module _ (p : LaneProgram) (r : Recording) (members : List ℕ) (n : ℕ) (few :
         omega (arith, end)) in
         omega (arith, le, steps)
 
-    pub all_stretched : AreRunTo new traces places verdicts rest
+    pub all_stretched : AreRunTo p r members n new traces places pending rest has
     all_stretched = record {
       program_is = program_is ∙ h.program_is;
       places_room = h.places_room;
@@ -420,7 +547,10 @@ module _ (p : LaneProgram) (r : Recording) (members : List ℕ) (n : ℕ) (few :
       traces_are = h.traces_are;
       each = come_for;
       kept = h.kept;
+      fits = h.fits;
+      ended = h.ended;
       active_first = λ i l e. h.active_first i l (fewer i l e);
+      pending_first = h.pending_first;
       steps_within = steps_after;
       ends_within = λ i l.
           let same = begin_same i in
@@ -438,22 +568,6 @@ module _ (p : LaneProgram) (r : Recording) (members : List ℕ) (n : ℕ) (few :
           running_is r traces old.begins.items old.steps plane until
           (omega (arith, h.traces_room)) old.begun runs i (in_traces i l)
 
-      steps_same : (i : ℕ) → steps_in new i ≡ steps_in old i
-      steps_same i =
-          ap (λ m. m - begin_of new.begins.items i) none
-          ∙ ap (λ b. old.steps - b) (begin_same i)
-
-      -- each lane has its verdict
-      pub rest_verdicts :
-          (K : ℕ → FlatClock) → Fits p K → (i : ℕ) → i < n →
-          verdict_at new i ≡ right_verdict p r members (get_or places i 0)
-      rest_verdicts K fits i l =
-          right_at_rest new traces places i (program_is ∙ h.program_is) (h.traces_are i l)
-          (come_for K fits i l)
-          (ap (λ m. on new.active.0 i && nat_lt m (length_in r traces i)) (steps_same i)
-          ∙ sym (ap (λ b. on new.active.0 i && b) (runs_own i l))
-          ∙ rests i (omega (arith, l, few)))
-
       -- no lane goes on
       pub none_goes : (i : ℕ) → i < n → goes_on old r traces i ≡ true → ⊥
       none_goes i l goes =
@@ -467,56 +581,51 @@ module _ (p : LaneProgram) (r : Recording) (members : List ℕ) (n : ℕ) (few :
 
   -- ## The end
 
-  -- all members have begun, and each lane has its verdict
-  pub all_run :
-      (run : BatchRun) (traces places : List ℕ) (verdicts : List Verdict) (rest : ℕ) →
-      AreRunTo run traces places verdicts rest → rest ≡ n →
-      ((K : ℕ → FlatClock) → Fits p K → (i : ℕ) → i < n →
-      verdict_at run i ≡ right_verdict p r members (get_or places i 0)) →
-      HaveRun p r members n run places verdicts
-  all_run run traces places verdicts rest h none verdicts_are = record {
-    lanes = verdicts_are;
-    kept = λ K fits.
-        subst (λ m. AreKept (right_verdict p r members) places verdicts n m (length members)) none
-        (h.kept K fits);
-  }
+  -- where no lane is pending, the right verdict of each member is kept
+  pub all_judged :
+      (run : BatchRun) (traces places : List ℕ) (pending rest : ℕ)
+      (has : ℕ → Verdict → Type 0) → AreRunTo p r members n run traces places pending rest has →
+      pending ≡ 0 → (k : ℕ) → k < length members →
+      HasVerdict (program_of p.program.now) r members has k
+  all_judged run traces places pending rest has h none k l = by (cases_lt k n)
+    where
+      from :
+          HasVerdict (program_of p.program.now) r members has k ⊎ IsInLane places pending n k →
+          HasVerdict (program_of p.program.now) r members has k
+      from (inl had) = had
+      from (inr there) =
+          absurd
+          (true≢false
+          (sym there.pends ∙ ap (λ m. on m there.lane) none ∙ on-zero there.lane))
+
+      by : (k < n) ⊎ (n ≤ k) → HasVerdict (program_of p.program.now) r members has k
+      by (inl below) = from (h.kept k l (inl below))
+      by (inr above) = let all = h.ended none in from (h.kept k l (inr (omega (arith, all, above))))
 
   -- no more steps are taken than all members have instants
   pub never_past :
-      (run : BatchRun) (traces places : List ℕ) (verdicts : List Verdict) (rest : ℕ) →
-      AreRunTo run traces places verdicts rest → total + 1 ≤ run.steps → ⊥
-  never_past run traces places verdicts rest h past =
+      (run : BatchRun) (traces places : List ℕ) (pending rest : ℕ)
+      (has : ℕ → Verdict → Type 0) → AreRunTo p r members n run traces places pending rest has →
+      total + 1 ≤ run.steps → ⊥
+  never_past run traces places pending rest has h past =
       let steps = h.steps_within in
       let least = more_instants r members n rest h.rest_least h.rest_most in
       absurd (omega (arith, steps, least, past))
 
-  -- where no step was taken and members wait still, a lane has taken one
-  pub some_taken :
-      (old mid new : BatchRun) (traces traces' places places' : List ℕ)
-      (verdicts verdicts' : List Verdict) (rest rest' plane until : ℕ) (lanes : Plane) →
-      0 < n → (h : AreRunTo old traces places verdicts rest) →
-      (taken :
-      AreTaken r members n old places places' traces traces' verdicts verdicts' rest lanes.0
-      rest') →
-      (again : IsRestart old mid lanes) →
-      (mid_is : AreRunTo mid traces' places' verdicts' rest') →
-      ((i : ℕ) → i < n → goes_on mid r traces' i ≡ true → ⊥) → rest' ≢ n → rest' < rest
-  some_taken old mid new traces traces' places places' verdicts verdicts' rest rest' plane until
-      lanes some h taken again mid_is none more = by (on lanes.0 0) refl
+  -- where a lane is pending and goes on, a step is taken
+  pub steps_or_takes :
+      (old new : BatchRun) (traces places : List ℕ) (pending before rest : ℕ)
+      (has : ℕ → Verdict → Type 0) →
+      AreRunTo p r members n old traces places pending rest has →
+      GoOn r old traces pending n before rest → SetBit pending 64 →
+      (new.steps ≡ old.steps → (i : ℕ) → i < n → goes_on old r traces i ≡ true → ⊥) →
+      new.steps ≡ old.steps → rest < before
+  steps_or_takes old new traces places pending before rest has h go_on some none same =
+      by (go_on some.place first some.is_set)
     where
-      by : (b : Bool) → on lanes.0 0 ≡ b → rest' < rest
-      by true e =
-          let has = taken.takes 0 (omega arith) e in
-          let after = has.after in
-          let before = has.before in
-          omega (arith, after, before)
-      by false e = stays (taken.left 0 some e)
-        where
-          stays : (goes_on old r traces 0 ≡ true) ⊎ (rest' ≡ n) → rest' < rest
-          stays (inr all) = absurd (more all)
-          stays (inl goes) =
-              absurd
-              (none 0 some
-              (goes_kept old mid traces traces' places places' verdicts verdicts' rest rest'
-              lanes h taken again 0 some e
-              ∙ goes))
+      first : some.place < n
+      first = h.pending_first some.place some.within some.is_set
+
+      by : (rest < before) ⊎ (goes_on old r traces some.place ≡ true) → rest < before
+      by (inl less) = less
+      by (inr goes) = absurd (none same some.place first goes)

@@ -92,3 +92,19 @@ abbrev pub HaveVerdicts : FlatProgram → Recording → List ℕ → List Verdic
 HaveVerdicts f r members verdicts =
     (i : ℕ) → i < length members →
     IsVerdictOf f r (get_or members i 0) (get_or verdicts i Passed)
+
+-- ## A queue
+
+-- a receiver takes the right verdict of each member, whatever that is
+abbrev pub TakesVerdicts :
+    FlatProgram → Recording → List ℕ → (takes : ℕ → Verdict → Type 0) → Type 0
+TakesVerdicts f r members takes =
+    (k : ℕ) (v : Verdict) → k < length members → IsVerdictOf f r (get_or members k 0) v →
+    takes k v
+
+-- a receiver has a verdict of the member at a place, which is the right one
+pub record HasVerdict (f : FlatProgram) (r : Recording) (members : List ℕ)
+    (has : ℕ → Verdict → Type 0) (k : ℕ) : Type 0 where
+  pub verdict : Verdict
+  pub held : has k verdict
+  pub right : IsVerdictOf f r (get_or members k 0) verdict

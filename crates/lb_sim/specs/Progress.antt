@@ -1,6 +1,8 @@
 -- How far a lane of a run has come in a trace.
 -- Source: this project's rule. No lane occurs beside another.
-use Rattle.std.specs.Prelude.{◌≡◌, ℕ, ◌<◌, List, length, take, get_or}
+use Rattle.std.specs.Prelude.{◌≡◌, ℕ, ◌+◌, ◌^◌, ◌<◌, ◌≤◌, ◌⊎◌, true, List, length, take}
+use Rattle.std.specs.Prelude.{get_or}
+use Rattle.std.specs.List.{All, sum_by}
 use Rattle.lb_check.specs.Scalars.{Scalar}
 use Rattle.lb_check.specs.Solutions.{Inputs}
 use Rattle.lb_check.specs.declared.verdict.Verdict.{Verdict}
@@ -12,11 +14,11 @@ use Rattle.lb_flat.specs.Judging.{flat_verdict}
 use Rattle.lb_flat.specs.Programs.{program_of}
 use Rattle.lb_flat.specs.Traces.{Recording}
 use Rattle.lb_lanes.specs.Planes.{on}
-use Rattle.lb_sim.specs.BatchLanes.{IsAt}
-use Rattle.lb_sim.specs.BatchRuns.{verdict_at}
+use Rattle.lb_sim.specs.BatchLanes.{end_in, IsAt}
+use Rattle.lb_sim.specs.BatchRuns.{steps_in, verdict_at}
 use Rattle.lb_sim.specs.Correct.{Stands}
 use Rattle.lb_sim.specs.InputRows.{places_of}
-use Rattle.lb_sim.specs.Queues.{AreKept}
+use Rattle.lb_sim.specs.Queues.{goes_on, instants_to, length_of, AreKept}
 use Rattle.lb_sim.specs.ReadInputs.{AreAlike, AreAllAlike}
 use Rattle.lb_sim.specs.declared.batch_run.BatchRun.{BatchRun}
 use Rattle.lb_sim.specs.declared.program.LaneProgram.{LaneProgram}
@@ -51,13 +53,37 @@ pub record IsRunTo (p : LaneProgram) (run : BatchRun) (X : Inputs) (i t : ℕ) :
   pub stands : Stands run i trace
   pub here : IsAt (verdict_at run i) (on run.active.0 i) (length X) n t
 
--- the lanes have run some members: each lane has the verdict of the member at its place, and of
--- each other one the verdict is kept
-pub record HaveRun (p : LaneProgram) (r : Recording) (members : List ℕ) (n : ℕ) (run : BatchRun)
-    (places : List ℕ) (verdicts : List Verdict) : Type 0 where
-  pub lanes :
+-- each lane has a member of a queue and has been run to an instant of its trace; of each member
+-- that has begun the right verdict is kept, or its lane is pending, and none waits when no lane is;
+-- no more steps were taken, nor does a trace end later, than the members that have begun have
+-- instants
+pub record AreRunTo (p : LaneProgram) (r : Recording) (members : List ℕ) (n : ℕ) (run : BatchRun)
+    (traces places : List ℕ) (pending rest : ℕ) (has : ℕ → Verdict → Type 0) : Type 0 where
+  pub program_is : run.program.now ≡ p
+  pub places_room : length places ≡ 64
+  pub traces_room : length traces ≡ 64
+  pub rest_least : n ≤ rest
+  pub rest_most : rest ≤ length members
+  pub traces_within : All (λ k. k < length r.traces) traces
+  pub places_within : (i : ℕ) → i < n → get_or places i 0 < length members
+  pub traces_are : (i : ℕ) → i < n → get_or traces i 0 ≡ get_or members (get_or places i 0) 0
+  pub each :
       (K : ℕ → FlatClock) → Fits p K → (i : ℕ) → i < n →
-      verdict_at run i ≡ right_verdict p r members (get_or places i 0)
-  pub kept :
-      (K : ℕ → FlatClock) → Fits p K →
-      AreKept (right_verdict p r members) places verdicts n n (length members)
+      IsRunTo p run (inputs_of r (get_or traces i 0)) i (steps_in run i)
+  pub kept : AreKept (program_of p.program.now) r members has places pending n rest
+  pub fits : pending < 2 ^ 64
+  pub ended : pending ≡ 0 → rest ≡ n
+  pub active_first : (i : ℕ) → i < 64 → on run.active.0 i ≡ true → i < n
+  pub pending_first : (i : ℕ) → i < 64 → on pending i ≡ true → i < n
+  pub steps_within :
+      run.steps + instants_to r members rest ≤ sum_by (length_of r) members + instants_to r members n
+  pub ends_within :
+      (i : ℕ) → i < n →
+      end_in r traces run.begins.items i + instants_to r members rest
+      ≤ sum_by (length_of r) members + instants_to r members n
+
+-- a lane that is pending goes on, or members have been taken since
+abbrev pub GoOn :
+    Recording → BatchRun → (traces : List ℕ) → (pending n before rest : ℕ) → Type 0
+GoOn r run traces pending n before rest =
+    (i : ℕ) → i < n → on pending i ≡ true → (rest < before) ⊎ (goes_on run r traces i ≡ true)

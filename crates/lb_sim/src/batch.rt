@@ -7,22 +7,23 @@ ghost use Rattle.lb_static.specs.Signature.{kinds_of};
 ghost use Rattle.lb_flat.specs.Flat.{FlatClock};
 ghost use Rattle.lb_flat.specs.Inputs.{inputs_of};
 ghost use Rattle.lb_flat.specs.Programs.{program_of};
+ghost use Rattle.lb_flat.specs.Traces.{IsRecording};
 ghost use Rattle.lb_lanes.specs.Planes.{on};
 ghost use Rattle.lb_sim.specs.BatchLanes.{end_in, AreRunning};
 ghost use Rattle.lb_sim.specs.BatchRooms.{IsRoomFor};
-ghost use Rattle.lb_sim.specs.BatchRuns.{steps_in, verdict_at};
-ghost use Rattle.lb_sim.specs.Correct.{HaveVerdicts, IsFresh};
-ghost use Rattle.lb_sim.specs.Progress.{Fits, HaveRun, IsRunTo};
-ghost use Rattle.lb_sim.specs.Queues.{AreKept};
+ghost use Rattle.lb_sim.specs.BatchRuns.{steps_in};
+ghost use Rattle.lb_sim.specs.Correct.{HasVerdict, HaveVerdicts, IsFresh, TakesVerdicts};
+ghost use Rattle.lb_sim.specs.Progress.{AreRunTo, Fits, GoOn, IsRunTo};
 
 use crate::ahead::{Stretch, nothing};
 use crate::batch_run::BatchRun;
 use crate::inputs::Inputs;
 use crate::loads::Instant;
 use crate::program::LaneProgram;
-use crate::queue::{Queue, first_places, first_traces, hand_on, instants_of};
+use crate::queue::{Queue, first_places, first_traces, hand_on, instants_of, settled_lanes};
 use crate::room::{BatchRoom, is_kind};
 use crate::running::{Running, running_at};
+use crate::verdicts::{InOrder, Verdicts};
 use lb_check::Verdict;
 use lb_flat::TraceSet;
 use lb_lanes::Plane;
@@ -125,96 +126,174 @@ fn run_stretch(
     }
 }
 
+// The lanes whose verdicts are not kept yet, and the place before which members may wait still.
+#[derive(Clone, Copy)]
+struct Left {
+    pending: Plane,
+    rest: u32,
+}
+
+// Keeps what is settled, lets these lanes go on with members that wait, and tells which lanes have
+// an instant.
+fn settle<V: Verdicts>(
+    run: &mut BatchRun<'_>,
+    queue: &Queue<'_>,
+    places: &mut [u32; 64],
+    traces: &mut [u32; 64],
+    left: &mut Left,
+    verdicts: &mut V,
+) -> Running
+    requires lawful { IsRecording queue.now.set.now }
+    requires steps { run.old.steps ≤ 4096000000 }
+    requires so_far { AreRunTo run.old.program.now queue.now.set.now queue.now.members.now
+        queue.now.lanes run.old traces.old places.old left.old.pending.0 left.old.rest
+        (V.has verdicts.old) }
+    requires takes { TakesVerdicts (program_of run.old.program.now.program.now)
+        queue.now.set.now queue.now.members.now (V.takes verdicts.old) }
+    ensures program { run.new.program.now ≡ run.old.program.now }
+    ensures steps { run.new.steps ≡ run.old.steps }
+    ensures becomes { V.becomes verdicts.old verdicts.new }
+    ensures so_far { AreRunTo run.old.program.now queue.now.set.now queue.now.members.now
+        queue.now.lanes run.new traces.new places.new left.new.pending.0 left.new.rest
+        (V.has verdicts.new) }
+    ensures fewer { left.new.rest ≤ left.old.rest }
+    ensures go_on { GoOn queue.now.set.now run.new traces.new left.new.pending.0
+        queue.now.lanes left.old.rest left.new.rest }
+    ensures running { AreRunning queue.now.set.now traces.new run.new.begins.items
+        run.new.steps result.lanes result.until }
+{
+    let next = running_at(queue.set, traces, run.begins.as_slice(), run.steps);
+    let settled = settled_lanes(run, left.pending, next.lanes);
+    if settled.0 == 0 {
+        return next;
+    }
+    let taken = hand_on(run, queue, places, traces, settled, left.rest, verdicts);
+    left.rest = taken.rest;
+    left.pending = left.pending.and(settled.not()).or(taken.lanes);
+    running_at(queue.set, traces, run.begins.as_slice(), run.steps)
+}
+
 // Runs the traces of a queue to their ends or their verdicts, from lanes that stand for no instant
-// yet: afterwards each lane has the verdict of the trace that it has, and the others are kept. It
-// takes no memory, and stops when no trace waits and no lane is left that goes on.
-fn run_lanes(
+// yet, and keeps the verdict of each. It takes no memory, and stops when no trace waits and no lane
+// is left that goes on.
+fn run_lanes<V: Verdicts>(
     run: &mut BatchRun<'_>,
     inputs: &mut Inputs,
     queue: &Queue<'_>,
-    places: &mut [u32; 64],
-    verdicts: &mut [Verdict],
+    verdicts: &mut V,
 )
-    requires places { (i : ℕ) → i < 64 → get_or places.old i 0 ≡ i }
-    requires verdicts { length verdicts.old ≡ length queue.now.members.now }
+    requires lawful { IsRecording queue.now.set.now }
     requires kinds { kinds_of queue.now.set.now.signature ≡ inputs.old.columns.kinds.items }
     requires inputs { inputs.old.columns.kinds.items
         ≡ (program_of run.old.program.now.program.now).inputs }
     requires fresh { IsFresh run.old queue.now.lanes }
+    requires takes { TakesVerdicts (program_of run.old.program.now.program.now)
+        queue.now.set.now queue.now.members.now (V.takes verdicts.old) }
     ensures program { run.new.program.now ≡ run.old.program.now }
     ensures columns { inputs.new.columns ≡ inputs.old.columns }
-    ensures verdicts { length verdicts.new ≡ length verdicts.old }
-    ensures there { (i : ℕ) → i < queue.now.lanes
-        → get_or places.new i 0 < length queue.now.members.now }
-    ensures run { HaveRun run.old.program.now queue.now.set.now queue.now.members.now
-        queue.now.lanes run.new places.new verdicts.new }
+    ensures becomes { V.becomes verdicts.old verdicts.new }
+    ensures judged { (k : ℕ) → k < length queue.now.members.now
+        → HasVerdict (program_of run.old.program.now.program.now) queue.now.set.now
+        queue.now.members.now (V.has verdicts.new) k }
 {
     let most = instants_of(queue) + 1;
+    let mut places = first_places();
     let mut traces = first_traces(queue);
-    let mut rest = queue.members.len() as u32;
+    let mut left = Left {
+        pending: run.active(),
+        rest: queue.members.len() as u32,
+    };
     while run.steps < most {
-        let taken = hand_on(run, queue, places, &mut traces, verdicts, rest);
-        rest = taken.rest;
-        let t = run.steps;
-        let next = running_at(queue.set, &traces, run.begins.as_slice(), t);
-        run_stretch(run, inputs, queue.set, &traces, next);
-        if run.steps == t && rest == queue.lanes {
+        let next = settle(run, queue, &mut places, &mut traces, &mut left, verdicts);
+        if left.pending.0 == 0 {
             return;
         }
+        run_stretch(run, inputs, queue.set, &traces, next);
     }
 }
 
-// The verdicts of the traces that lanes have, at their places.
-fn keep_verdicts(
-    run: &BatchRun<'_>,
-    queue: &Queue<'_>,
-    places: &[u32; 64],
-    verdicts: &mut [Verdict],
-)
-    requires there { (i : ℕ) → i < queue.now.lanes
-        → get_or places.now i 0 < length queue.now.members.now }
-    requires verdicts { length verdicts.old ≡ length queue.now.members.now }
-    ensures verdicts { length verdicts.new ≡ length verdicts.old }
-    ensures kept { (right : ℕ → Verdict) → ((i : ℕ) → i < queue.now.lanes
-        → verdict_at run.now i ≡ right (get_or places.now i 0))
-        → AreKept right places.now verdicts.old queue.now.lanes queue.now.lanes
-        (length queue.now.members.now)
-        → (k : ℕ) → k < length queue.now.members.now → get_or verdicts.new k Passed ≡ right k }
+// Keeps one verdict for all members.
+fn keep_passed<V: Verdicts>(queue: &Queue<'_>, verdicts: &mut V)
+    requires { (k : ℕ) → k < length queue.now.members.now → V.takes verdicts.old k Passed }
+    ensures kept { (k : ℕ) → k < length queue.now.members.now → V.has verdicts.new k Passed }
+    ensures becomes { V.becomes verdicts.old verdicts.new }
 {
-    for lane in 0..queue.lanes {
-        verdicts[places[lane as usize] as usize] = run.verdict(lane);
+    for place in 0..queue.members.len() {
+        verdicts.keep(place as u32, Verdict::Passed);
     }
 }
 
 // Runs the traces of a queue where their signature has the kinds of the program. No program has
-// both this signature and that flat program where it does not.
-fn run_queue(
+// both this signature and that flat program where it does not: then any verdict will do.
+fn run_queue<V: Verdicts>(
     run: &mut BatchRun<'_>,
     inputs: &mut Inputs,
     queue: &Queue<'_>,
-    verdicts: &mut [Verdict],
+    verdicts: &mut V,
 )
     requires inputs { inputs.old.columns.kinds.items
         ≡ run.old.program.now.program.now.inputs.items }
     requires fresh { IsFresh run.old queue.now.lanes }
-    requires verdicts { length verdicts.old ≡ length queue.now.members.now }
+    requires takes { TakesVerdicts (program_of run.old.program.now.program.now)
+        queue.now.set.now queue.now.members.now (V.takes verdicts.old) }
     ensures program { run.new.program.now ≡ run.old.program.now }
     ensures columns { inputs.new.columns ≡ inputs.old.columns }
-    ensures verdicts { length verdicts.new ≡ length verdicts.old }
-    ensures judged { HaveVerdicts (program_of run.old.program.now.program.now) queue.now.set.now
-        queue.now.members.now verdicts.new }
+    ensures becomes { V.becomes verdicts.old verdicts.new }
+    ensures judged { (k : ℕ) → k < length queue.now.members.now
+        → HasVerdict (program_of run.old.program.now.program.now) queue.now.set.now
+        queue.now.members.now (V.has verdicts.new) k }
 {
     if !has_kinds(queue.set.signature(), inputs.columns.kinds.as_slice()) {
+        keep_passed(queue, verdicts);
         return;
     }
-    let mut places = first_places();
-    run_lanes(run, inputs, queue, &mut places, verdicts);
-    keep_verdicts(run, queue, &places, verdicts);
+    run_lanes(run, inputs, queue, verdicts);
 }
 
 /// Runs up to 4096 traces in 1 to 64 lanes, in the room of a worker: so many side by side, each
 /// until its verdict or its end, and then in its lane the next of those that wait, the last member
-/// first. Puts the verdict of each member at its place. It takes no memory.
+/// first. Each verdict is kept once, at the place of its member, as soon as its lane is looked at:
+/// when the traces of some lanes have ended, at the latest after 4096 instants. It takes no memory.
+///
+/// ```text
+/// let room = run_queue_to(room, &program, &set, &[0, 1, 2], 2, &mut posts);
+/// ```
+pub fn run_queue_to<V: Verdicts>(
+    room: BatchRoom,
+    program: &LaneProgram<'_>,
+    set: &TraceSet,
+    members: &[u32],
+    lanes: u32,
+    verdicts: &mut V,
+) -> BatchRoom
+    requires room { IsRoomFor program.now room }
+    requires lanes { (0 < lanes) × (lanes ≤ 64) }
+    requires most { length members.now ≤ 4096 }
+    requires members { All (λ k. k < length set.now.traces) members.now }
+    requires takes { TakesVerdicts (program_of program.now.program.now) set.now members.now
+        (V.takes verdicts.old) }
+    ensures room { IsRoomFor program.now result }
+    ensures becomes { V.becomes verdicts.old verdicts.new }
+    ensures judged { (k : ℕ) → k < length members.now
+        → HasVerdict (program_of program.now.program.now) set.now members.now
+        (V.has verdicts.new) k }
+{
+    if members.is_empty() {
+        return room;
+    }
+    let lanes = lanes.min(members.len() as u32);
+    let (mut run, mut inputs) = room.begin(program, lanes);
+    let queue = Queue {
+        set,
+        members,
+        lanes,
+    };
+    run_queue(&mut run, &mut inputs, &queue, verdicts);
+    BatchRoom::of_run(run, inputs)
+}
+
+/// Runs up to 4096 traces as `run_queue_to` does, and puts the verdict of each member at its place
+/// in a slice. It takes no memory.
 pub fn run_queue_in(
     room: BatchRoom,
     program: &LaneProgram<'_>,
@@ -233,18 +312,8 @@ pub fn run_queue_in(
     ensures judged { HaveVerdicts (program_of program.now.program.now) set.now members.now
         verdicts.new }
 {
-    if members.is_empty() {
-        return room;
-    }
-    let lanes = lanes.min(members.len() as u32);
-    let (mut run, mut inputs) = room.begin(program, lanes);
-    let queue = Queue {
-        set,
-        members,
-        lanes,
-    };
-    run_queue(&mut run, &mut inputs, &queue, verdicts);
-    BatchRoom::of_run(run, inputs)
+    let mut in_order = InOrder { verdicts };
+    run_queue_to(room, program, set, members, lanes, &mut in_order)
 }
 
 /// Runs up to 64 traces side by side, each until its verdict or its end. It fails only where memory

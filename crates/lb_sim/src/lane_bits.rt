@@ -1,7 +1,7 @@
 //! Planes and words, lane by lane.
 
 ghost use Rattle.std.specs.Prelude.{◌≡◌, ◌≢◌, ℕ, ◌<◌, ◌≤◌, ◌+◌, ◌*◌, ◌==◌, ◌&&◌, ◌||◌};
-ghost use Rattle.std.specs.Prelude.{length, All};
+ghost use Rattle.std.specs.Prelude.{true, false, length, All};
 ghost use Rattle.std.specs.Prelude.{slice_index, slice_index_or, get_or, [], pos, IfOk};
 ghost use Rattle.lb_flat.specs.Packed.{words_of_row};
 ghost use Rattle.lb_lanes.specs.Kernels.{lane_of};
@@ -17,6 +17,24 @@ pub(crate) fn with_lane(plane: u64, lane: u32) -> u64
     ensures { (i : ℕ) → i < 64 → on result i ≡ ((i == lane) || on plane i) }
 {
     plane | (1u64 << lane)
+}
+
+/// The first lane of a plane from one on, or 64 where there is none.
+pub(crate) fn next_lane(plane: u64, from: u32) -> u32
+    requires { from ≤ 64 }
+    ensures within { (from ≤ result) × (result ≤ 64) }
+    ensures none { (i : ℕ) → from ≤ i → i < result → on plane i ≡ false }
+    ensures there { result < 64 → on plane result ≡ true }
+{
+    if from == 64 {
+        return 64;
+    }
+    let rest = plane >> from;
+    if rest == 0 {
+        64
+    } else {
+        from + rest.trailing_zeros()
+    }
 }
 
 /// How many words the bits of so many columns take.

@@ -36,10 +36,11 @@ mod signed;
 mod sources;
 mod steady;
 mod truths;
+mod verdicts;
 mod watch;
 mod watched;
 
-pub use batch::{Done, has_kinds, run_batch, run_queue_in};
+pub use batch::{Done, has_kinds, run_batch, run_queue_in, run_queue_to};
 pub use batch_run::BatchRun;
 pub use compiler::compile;
 pub use inputs::Inputs;
@@ -49,3 +50,4 @@ pub use laws::{
 pub use place::Watched;
 pub use program::{LaneCode, LaneProgram};
 pub use room::BatchRoom;
+pub use verdicts::Verdicts;

@@ -12,14 +12,19 @@
 //! lane 2      2 ... | 4 ....... | 3 ..
 //! ```
 
-ghost use Rattle.std.specs.Prelude.{◌≡◌, ℕ, ◌<◌, ◌≤◌, ◌*◌, length, All, get_or};
+ghost use Rattle.std.specs.Prelude.{◌≡◌, ℕ, ◌<◌, ◌≤◌, ◌*◌, ◌&&◌, true, not, length, All};
+ghost use Rattle.std.specs.Prelude.{get_or};
 ghost use Rattle.std.specs.List.{sum_by};
-ghost use Rattle.lb_sim.specs.Correct.{IsRestart};
-ghost use Rattle.lb_sim.specs.Queues.{goes_on, length_of, AreTaken, IsTakenBy};
+ghost use Rattle.lb_flat.specs.Correct.{IsVerdictOf};
+ghost use Rattle.lb_flat.specs.Programs.{program_of};
+ghost use Rattle.lb_lanes.specs.Planes.{IsPlaneOf, on};
+ghost use Rattle.lb_sim.specs.BatchRuns.{verdict_at};
+ghost use Rattle.lb_sim.specs.Correct.{HasVerdict, IsRestart, TakesVerdicts};
+ghost use Rattle.lb_sim.specs.Queues.{length_of, AreTaken, IsTakenBy};
 
 use crate::batch_run::BatchRun;
-use crate::lane_bits::with_lane;
-use lb_check::Verdict;
+use crate::lane_bits::{next_lane, with_lane};
+use crate::verdicts::Verdicts;
 use lb_flat::TraceSet;
 use lb_lanes::Plane;
 
@@ -82,68 +87,84 @@ pub(crate) fn first_traces(queue: &Queue<'_>) -> [u32; 64]
     traces
 }
 
-// Whether a lane is active and its trace goes on.
-fn is_going(run: &BatchRun<'_>, set: &TraceSet, traces: &[u32; 64], lane: u32) -> bool
-    requires lane { lane < 64 }
-    requires trace { get_or traces.now lane 0 < length set.now.traces }
-    ensures { result ≡ goes_on run.now set.now traces.now lane }
+/// The pending lanes whose verdicts are settled: they are no longer active, or their traces have
+/// ended, where these lanes have an instant more.
+pub(crate) fn settled_lanes(run: &BatchRun<'_>, pending: Plane, running: u64) -> Plane
+    ensures { IsPlaneOf (λ i. on pending.0 i && not (on run.now.active.0 i && on running i))
+        result.0 }
 {
-    let own = run.steps - run.begins[lane as usize];
-    run.active().get(lane) && own < set.length(traces[lane as usize])
+    let going = run.active().and(Plane(running));
+    pending.and(going.not())
 }
 
-// The verdict of a lane is kept at the place of its trace, and the lane takes the member at another
-// place.
-fn take_place(
+// Keeps the verdicts of settled lanes, each at the place of its member.
+fn keep_settled<V: Verdicts>(
     run: &BatchRun<'_>,
+    queue: &Queue<'_>,
+    places: &[u32; 64],
+    settled: Plane,
+    verdicts: &mut V,
+)
+    requires there { (i : ℕ) → i < queue.now.lanes
+        → get_or places.now i 0 < length queue.now.members.now }
+    requires right { (i : ℕ) → i < queue.now.lanes → on settled.0 i ≡ true
+        → IsVerdictOf (program_of run.now.program.now.program.now) queue.now.set.now
+        (get_or queue.now.members.now (get_or places.now i 0) 0) (verdict_at run.now i) }
+    requires takes { TakesVerdicts (program_of run.now.program.now.program.now)
+        queue.now.set.now queue.now.members.now (V.takes verdicts.old) }
+    ensures becomes { V.becomes verdicts.old verdicts.new }
+    ensures stays { (k : ℕ) → HasVerdict (program_of run.now.program.now.program.now)
+        queue.now.set.now queue.now.members.now (V.has verdicts.old) k
+        → HasVerdict (program_of run.now.program.now.program.now)
+        queue.now.set.now queue.now.members.now (V.has verdicts.new) k }
+    ensures kept { (i : ℕ) → i < queue.now.lanes → on settled.0 i ≡ true
+        → HasVerdict (program_of run.now.program.now.program.now)
+        queue.now.set.now queue.now.members.now (V.has verdicts.new) (get_or places.now i 0) }
+{
+    let mut lane = next_lane(settled.0, 0);
+    while lane < queue.lanes {
+        verdicts.keep(places[lane as usize], run.verdict(lane));
+        lane = next_lane(settled.0, lane + 1);
+    }
+}
+
+// A lane takes the member at a place.
+fn take_place(
     queue: &Queue<'_>,
     places: &mut [u32; 64],
     traces: &mut [u32; 64],
-    verdicts: &mut [Verdict],
     lane: u32,
     place: u32,
 )
     requires lane { lane < queue.now.lanes }
     requires place { place < length queue.now.members.now }
-    requires there { get_or places.old lane 0 < length queue.now.members.now }
-    requires verdicts { length verdicts.old ≡ length queue.now.members.now }
-    ensures verdicts { length verdicts.new ≡ length verdicts.old }
-    ensures taken { IsTakenBy queue.now.members.now run.now places.old places.new traces.old
-        traces.new verdicts.old verdicts.new lane place }
+    ensures { IsTakenBy queue.now.members.now places.old places.new traces.old traces.new lane
+        place }
 {
-    verdicts[places[lane as usize] as usize] = run.verdict(lane);
     places[lane as usize] = place;
     traces[lane as usize] = queue.members[place as usize];
 }
 
-// The lanes whose traces do not go on take members that wait, the last first, while there are any;
-// the verdicts of their traces are kept.
+// The settled lanes take members that wait, the last first, while there are any.
 fn take_places(
-    run: &BatchRun<'_>,
     queue: &Queue<'_>,
     places: &mut [u32; 64],
     traces: &mut [u32; 64],
-    verdicts: &mut [Verdict],
+    settled: Plane,
     rest: u32,
 ) -> Taken
     requires rest { (queue.now.lanes ≤ rest) × (rest ≤ length queue.now.members.now) }
-    requires within { All (λ k. k < length queue.now.set.now.traces) traces.old }
-    requires there { (i : ℕ) → i < queue.now.lanes
-        → get_or places.old i 0 < length queue.now.members.now }
-    requires verdicts { length verdicts.old ≡ length queue.now.members.now }
-    ensures verdicts { length verdicts.new ≡ length verdicts.old }
-    ensures taken { AreTaken queue.now.set.now queue.now.members.now queue.now.lanes run.now
-        places.old places.new traces.old traces.new verdicts.old verdicts.new rest
-        result.lanes.0 result.rest }
+    ensures { AreTaken queue.now.members.now queue.now.lanes settled.0 places.old places.new
+        traces.old traces.new rest result.lanes.0 result.rest }
 {
     let mut lanes = 0u64;
     let mut left = rest;
-    for lane in 0..queue.lanes {
-        if left > queue.lanes && !is_going(run, queue.set, traces, lane) {
-            left -= 1;
-            take_place(run, queue, places, traces, verdicts, lane, left);
-            lanes = with_lane(lanes, lane);
-        }
+    let mut lane = next_lane(settled.0, 0);
+    while left > queue.lanes && lane < queue.lanes {
+        left -= 1;
+        take_place(queue, places, traces, lane, left);
+        lanes = with_lane(lanes, lane);
+        lane = next_lane(settled.0, lane + 1);
     }
     Taken {
         lanes: Plane(lanes),
@@ -151,36 +172,45 @@ fn take_places(
     }
 }
 
-/// The lanes whose traces do not go on begin with members that wait, while there are any; the
-/// verdicts of their traces are kept at the places of these. It takes no memory.
-pub(crate) fn hand_on(
+/// Keeps the verdicts of settled lanes, and lets these lanes begin with members that wait, while
+/// there are any. It takes no memory.
+pub(crate) fn hand_on<V: Verdicts>(
     run: &mut BatchRun<'_>,
     queue: &Queue<'_>,
     places: &mut [u32; 64],
     traces: &mut [u32; 64],
-    verdicts: &mut [Verdict],
+    settled: Plane,
     rest: u32,
+    verdicts: &mut V,
 ) -> Taken
     requires rest { (queue.now.lanes ≤ rest) × (rest ≤ length queue.now.members.now) }
-    requires within { All (λ k. k < length queue.now.set.now.traces) traces.old }
     requires there { (i : ℕ) → i < queue.now.lanes
         → get_or places.old i 0 < length queue.now.members.now }
-    requires verdicts { length verdicts.old ≡ length queue.now.members.now }
-    ensures verdicts { length verdicts.new ≡ length verdicts.old }
-    ensures taken { AreTaken queue.now.set.now queue.now.members.now queue.now.lanes run.old
-        places.old places.new traces.old traces.new verdicts.old verdicts.new rest
-        result.lanes.0 result.rest }
+    requires right { (i : ℕ) → i < queue.now.lanes → on settled.0 i ≡ true
+        → IsVerdictOf (program_of run.old.program.now.program.now) queue.now.set.now
+        (get_or queue.now.members.now (get_or places.old i 0) 0) (verdict_at run.old i) }
+    requires takes { TakesVerdicts (program_of run.old.program.now.program.now)
+        queue.now.set.now queue.now.members.now (V.takes verdicts.old) }
+    ensures taken { AreTaken queue.now.members.now queue.now.lanes settled.0 places.old
+        places.new traces.old traces.new rest result.lanes.0 result.rest }
     ensures again { IsRestart run.old run.new result.lanes }
+    ensures becomes { V.becomes verdicts.old verdicts.new }
+    ensures stays { (k : ℕ) → HasVerdict (program_of run.old.program.now.program.now)
+        queue.now.set.now queue.now.members.now (V.has verdicts.old) k
+        → HasVerdict (program_of run.old.program.now.program.now)
+        queue.now.set.now queue.now.members.now (V.has verdicts.new) k }
+    ensures kept { (i : ℕ) → i < queue.now.lanes → on settled.0 i ≡ true
+        → HasVerdict (program_of run.old.program.now.program.now)
+        queue.now.set.now queue.now.members.now (V.has verdicts.new) (get_or places.old i 0) }
 {
+    keep_settled(run, queue, places, settled, verdicts);
     if rest == queue.lanes {
         return Taken {
             lanes: Plane(0),
             rest,
         };
     }
-    let taken = take_places(run, queue, places, traces, verdicts, rest);
-    if taken.lanes.0 != 0 {
-        run.restart(taken.lanes);
-    }
+    let taken = take_places(queue, places, traces, settled, rest);
+    run.restart(taken.lanes);
     taken
 }

@@ -16,6 +16,9 @@ pub(crate) struct Running {
     pub(crate) until: u32,
 }
 
+// The lanes are looked at again after so many instants, since some may have their verdicts by then.
+const MOST_AT_ONCE: u32 = 4096;
+
 // Lanes, and one more where its trace has instant `t`.
 fn with_running(lanes: u64, lane: u32, end: u32, t: u32) -> u64
     requires { lane < 64 }
@@ -47,7 +50,7 @@ pub(crate) fn running_at(set: &TraceSet, members: &[u32], begins: &[u32], t: u32
     ensures { AreRunning set.now members.now begins.now t result.lanes result.until }
 {
     let mut lanes = 0u64;
-    let mut until = u32::MAX;
+    let mut until = t + MOST_AT_ONCE;
     for i in 0..members.len() {
         let end = begins[i] + set.length(members[i]);
         lanes = with_running(lanes, i as u32, end, t);

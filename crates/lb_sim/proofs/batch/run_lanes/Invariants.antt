@@ -1,15 +1,15 @@
-use Rattle.std.proofs.Common.{◌≡◌, ◌+◌, ◌-◌, length}
-use Rattle.lb_sim.proofs.RunningQueues.{AreRunTo}
+use Rattle.std.proofs.Common.{◌≡◌, ◌+◌, ◌-◌}
+use Rattle.lb_sim.specs.Progress.{AreRunTo}
 use Rattle.lb_sim.proofs.batch.run_lanes.Given as goal
 
 abbrev pub invariant-loop-run : goal.invariant-loop-run
-invariant-loop-run l = record {
+invariant-loop-run g l = record {
   done :
-      AreRunTo l.fn.run.program.now l.queue.set.now l.queue.members.now l.queue.lanes
-      l.queue.few l.queue.enough l.queue.within l.run l.traces l.places l.verdicts l.rest;
+      AreRunTo l.fn.run.program.now l.queue.set.now l.queue.members.now l.queue.lanes l.run
+      l.traces l.places l.left.pending.0 l.left.rest (g.V.Verdicts.has l.verdicts);
   columns : l.inputs.columns ≡ l.fn.inputs.columns;
-  verdicts_room : length l.verdicts ≡ length l.fn.verdicts;
+  becomes : g.V.Verdicts.becomes l.fn.verdicts l.verdicts;
 }
 
 abbrev pub decreases-loop-run : goal.decreases-loop-run
-decreases-loop-run l = (l.most - l.run.steps) + l.rest
+decreases-loop-run g l = (l.most - l.run.steps) + l.left.rest

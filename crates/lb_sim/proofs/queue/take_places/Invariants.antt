@@ -1,11 +1,16 @@
-use Rattle.std.proofs.Common.{◌≡◌, length}
+use Rattle.std.proofs.Common.{◌≡◌, ◌<◌, ◌≤◌, ◌-◌, true}
+use Rattle.lb_lanes.specs.Planes.{on}
 use Rattle.lb_sim.proofs.Queueing.{TakenSoFar}
 use Rattle.lb_sim.proofs.queue.take_places.Given as goal
 
-abbrev pub invariant-loop-lane : goal.invariant-loop-lane
-invariant-loop-lane l = record {
+abbrev pub invariant-loop-left : goal.invariant-loop-left
+invariant-loop-left l = record {
   done :
-      TakenSoFar l.queue.set.now l.queue.members.now l.queue.lanes l.run l.fn.places l.fn.traces
-      l.fn.verdicts l.fn.rest l.places l.traces l.verdicts l.lanes l.left l.lane;
-  verdicts_room : length l.verdicts ≡ length l.fn.verdicts;
+      TakenSoFar l.queue.members.now l.queue.lanes l.settled.0 l.queue.few l.fn.places l.fn.traces
+      l.fn.rest l.places l.traces l.lanes l.left l.lane;
+  within : l.lane ≤ 64;
+  there : l.lane < 64 → on l.settled.0 l.lane ≡ true;
 }
+
+abbrev pub decreases-loop-left : goal.decreases-loop-left
+decreases-loop-left l = 64 - l.lane
