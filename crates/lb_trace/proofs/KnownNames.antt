@@ -1,25 +1,30 @@
 -- The names of the traces stay known while traces are added.
 use Rattle.std.proofs.Common.{ℕ, ◌≡◌, ◌+◌, ◌*◌, ◌<◌, ◌-◌, Bool, true, false, ◌&&◌, ◌||◌, List, []}
-use Rattle.std.proofs.Common.{◌∷◌, ◌++◌, if◌then◌else◌, length, take, Option, Some, None, Result}
-use Rattle.std.proofs.Common.{Ok, Err, refl, sym, ap, ◌∙◌, subst, nat_le, nat_lt, arith}
+use Rattle.std.proofs.Common.{◌∷◌, ◌++◌, if◌then◌else◌, length, Option, Some, None, Result}
+use Rattle.std.proofs.Common.{Ok, Err, refl, sym, ap, ◌∙◌, subst, nat_le, nat_lt, arith, get_or}
+use Rattle.std.proofs.Common.{length-append}
 use Rattle.std.proofs.lemmas.Cmp.{nat_cmp_total, nat_list_cmp_total, on_total, then_total}
 use Rattle.std.proofs.lemmas.Cmp.{tied_itself}
-use Rattle.std.proofs.lemmas.List.{take_more}
+use Rattle.std.proofs.lemmas.List.{get_or-map, get_or_at, length-map}
 use Rattle.std.specs.Cmp.{IsTotalOrder}
 use Rattle.std.specs.Cmp.Lexicographic.{slice_cmp}
-use Rattle.std.specs.HashSet.{contains_text}
+use Rattle.std.specs.BTreeSet.{contains_text}
 use Rattle.std.specs.List.{list_any}
 use Rattle.std.proofs.Common.{Equal, Greater, Less, Ordering}
 use Rattle.std.specs.Ordering.{is_lt, nat_cmp, on, then_cmp}
 use Rattle.std.specs.Str.{bytes_eq}
 use Rattle.lb_static.specs.Signature.{Elements}
 use Rattle.lb_flat.specs.Traces.{Recording, Row, Trace, Traces, cells_of_instant, instants_of}
-use Rattle.lb_flat.specs.Traces.{last_rows, trace_at, with_row, with_rows, with_trace}
+use Rattle.lb_flat.specs.Traces.{last_rows, trace_at, trace_names, with_row, with_rows}
+use Rattle.lb_flat.specs.Traces.{with_trace}
 use Rattle.lb_flat.proofs.Recordings.{Front, front_of}
 use Rattle.lb_trace.specs.declared.known.Known.{Known}
-use Rattle.lb_trace.specs.Mirrors.{go_on_by, is_below, knows, rises_to, start_cells}
-use Rattle.lb_trace.proofs.Additions.{named-more, named-push, named-row}
+use Rattle.lb_trace.specs.declared.name_table.NameTable.{NameTable}
+use Rattle.lb_trace.specs.Mirrors.{go_on_by, is_below, knows, rises_to, start_cells, IsTableOf}
+use Rattle.lb_trace.specs.NamePlaces.{HavePlaces}
+use Rattle.lb_trace.proofs.Additions.{named-more, named-row}
 use Rattle.lb_trace.proofs.Lasts.{last_at}
+use Rattle.lb_trace.proofs.NamePlacing.{have_more}
 use Rattle.lb_trace.proofs.Names.{bytes_eq-flip, bytes_eq-other}
 
 order : IsTotalOrder (then_cmp (on (length {A = ℕ}) nat_cmp) (slice_cmp nat_cmp))
@@ -129,22 +134,71 @@ risen-knows names traces name row known both = by names.rising refl
         ap (λ b. b && rises_to traces name) is in
         cc (both, no)
 
--- a set of all names that takes one more
-pub gathered-knows : (names : Known) (traces : Traces) (name : List ℕ) (row : Row)
-    → names.rising ≡ false
-    → ((q : List ℕ) → contains_text names.set q
-    ≡ (bytes_eq name q || list_any (λ t. bytes_eq q t.0) traces))
-    → knows names (with_trace traces name row)
-gathered-knows names traces name row risen has = (
+-- a test of names is a test of traces
+pub names-any : (test : List ℕ → Bool) (traces : Traces)
+    → list_any test (trace_names traces) ≡ list_any (λ (t : Trace). test t.0) traces
+names-any test [] = refl
+names-any test (t ∷ more) = ap (λ b. test t.0 || b) (names-any test more)
+
+pub names_long : (traces : Traces) → length (trace_names traces) ≡ length traces
+names_long traces = length-map traces (λ (t : Trace). t.0)
+
+pub name_at : (traces : Traces) (k : ℕ) → k < length traces
+    → get_or (trace_names traces) k [] ≡ (trace_at traces k).0
+name_at traces k below = get_or-map (λ (t : Trace). t.0) traces k ([], []) [] below
+
+names-more : (traces : Traces) (name : List ℕ) (row : Row)
+    → trace_names (with_trace traces name row) ≡ trace_names traces ++ name ∷ []
+names-more [] name row = refl
+names-more (t ∷ more) name row = ap (λ l. t.0 ∷ l) (names-more more name row)
+
+-- a table of all names takes one more
+pub table-more : (old new : NameTable) (traces : Traces) (name : List ℕ) (row : Row) (n : ℕ)
+    → n ≡ length traces → IsTableOf old (trace_names traces)
+    → length new.places.items ≡ length old.places.items
+    → ((names : List (List ℕ)) → get_or names n [] ≡ name → n < length names
+    → HavePlaces old.places.items (contains_text old.others) names n
+    → HavePlaces new.places.items (contains_text new.others) names (n + 1))
+    → IsTableOf new (trace_names (with_trace traces name row))
+table-more old new traces name row n is table room put =
+    subst (IsTableOf new) (sym (names-more traces name row))
+    (let long : length (trace_names traces ++ name ∷ []) ≡ n + 1 =
+    length-append (trace_names traces) (name ∷ []) ∙ ap (λ m. m + 1) (names_long traces ∙ sym is) in
+    record {
+      some = let some = table.some in omega (arith, some, room);
+      few = let few = table.few in omega (arith, few, room);
+      have =
+          subst
+          (HavePlaces new.places.items (contains_text new.others)
+          (trace_names traces ++ name ∷ [])) (sym long)
+          (put (trace_names traces ++ name ∷ [])
+          (get_or_at (trace_names traces) name [] [] n (names_long traces ∙ sym is))
+          (omega (arith, long))
+          (subst
+          (HavePlaces old.places.items (contains_text old.others)
+          (trace_names traces ++ name ∷ [])) (names_long traces ∙ sym is)
+          (have_more old.places.items (contains_text old.others) (trace_names traces) name
+          table.have)));
+    })
+
+pub gathered-knows : (names : Known) (traces : Traces) → names.rising ≡ false
+    → IsTableOf names.table (trace_names traces) → knows names traces
+gathered-knows names traces risen table = (
   λ (is : names.rising ≡ true). cc (risen, is),
-  λ is q. has q ∙ sym (named-more traces name row q),
+  λ is. table,
 )
+
+names-row : (traces : Traces) (row : Row)
+    → trace_names (with_row traces row) ≡ trace_names traces
+names-row [] row = refl
+names-row (t ∷ []) row = refl
+names-row (t ∷ u ∷ more) row = ap (λ l. t.0 ∷ l) (names-row (u ∷ more) row)
 
 knows-row : (names : Known) (traces : Traces) (row : Row) → knows names traces
     → knows names (with_row traces row)
 knows-row names traces row known = (
   λ is q rises. named-row traces row q ∙ known.0 is q (sym (rises-row traces row q) ∙ rises),
-  λ is q. known.1 is q ∙ sym (named-row traces row q),
+  λ is. subst (IsTableOf names.table) (sym (names-row traces row)) (known.1 is),
 )
 
 rises-rows : (traces : Traces) (rows : List Row) (q : List ℕ)
@@ -161,6 +215,12 @@ named-rows [] rows q = refl
 named-rows (t ∷ []) rows q = refl
 named-rows (t ∷ u ∷ more) rows q = ap (λ b. bytes_eq q t.0 || b) (named-rows (u ∷ more) rows q)
 
+names-rows : (traces : Traces) (rows : List Row)
+    → trace_names (with_rows traces rows) ≡ trace_names traces
+names-rows [] rows = refl
+names-rows (t ∷ []) rows = refl
+names-rows (t ∷ u ∷ more) rows = ap (λ l. t.0 ∷ l) (names-rows (u ∷ more) rows)
+
 -- the names after more rows of the last trace
 pub knows-rows : (names : Known) (before after : Recording) (rows : List Row)
     → after ≡ record before { traces = with_rows before.traces rows }
@@ -169,7 +229,8 @@ knows-rows names before after rows is known =
     subst (λ (r : Recording). knows names r.traces) (sym is) (
       λ rising q rises. named-rows before.traces rows q
           ∙ known.0 rising q (sym (rises-rows before.traces rows q) ∙ rises),
-      λ risen q. known.1 risen q ∙ sym (named-rows before.traces rows q),
+      λ risen.
+          subst (IsTableOf names.table) (sym (names-rows before.traces rows)) (known.1 risen),
     )
 
 ok_is : (b : Bool) (x next : Traces) (n : ℕ)
@@ -201,17 +262,3 @@ start_cells-knows names elements name traces next (Some row) is known =
     && nat_le ((instants_of traces + 1) * cells_of_instant elements) 67108864)
     (with_trace traces name row) next 18 is)
     (known row)
-
--- one more name of a list is in a set
-pub names-more : (traces : Traces) (before after : List ℕ → Bool) (k : ℕ) (q : List ℕ)
-    (name : List ℕ)
-    → k < length traces → name ≡ (trace_at traces k).0
-    → after q ≡ (bytes_eq name q || before q)
-    → before q ≡ list_any (λ t. bytes_eq q t.0) (take k traces)
-    → after q ≡ list_any (λ t. bytes_eq q t.0) (take (k + 1) traces)
-names-more traces before after k q name below same put so_far =
-    let named : Trace → Bool = λ t. bytes_eq q t.0 in
-    put ∙ ap (λ b. bytes_eq name q || b) so_far
-    ∙ ap (λ n. bytes_eq n q || list_any named (take k traces)) same
-    ∙ sym (named-push (take k traces) (trace_at traces k) q)
-    ∙ ap (list_any named) (sym (take_more traces k ([], []) below))

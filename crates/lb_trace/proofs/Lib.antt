@@ -26,6 +26,7 @@ pub mod ChunkTexts
 pub mod Fronts
 pub mod TruthCells
 pub mod KnownNames
+pub mod NamePlacing
 pub mod JoinedDigits
 pub mod TruthBits
 pub mod TruthRows

@@ -17,3 +17,4 @@ pub mod TruthCells
 pub mod TruthBits
 pub mod Nexts
 pub mod Loads
+pub mod NamePlaces

@@ -1,20 +1,22 @@
 -- These definitions mirror code: the table of columns, and the row that is read by it.
-use Rattle.std.specs.Prelude.{ℕ, ◌+◌, ◌*◌, ◌&&◌, nat_lt, nat_le, ◌≡◌, ◌==◌, ◌||◌, not}
+use Rattle.std.specs.Prelude.{ℕ, ◌+◌, ◌*◌, ◌<◌, ◌&&◌, nat_lt, nat_le, ◌≡◌, ◌==◌, ◌||◌, not}
 use Rattle.std.specs.Prelude.{if◌then◌else◌, List, [], ◌∷◌, length, get_or, Option, Some, None}
 use Rattle.std.specs.Prelude.{Result, Ok, Err}
 use Rattle.std.specs.Prelude.{Bool as Truth, true, false}
 use Rattle.std.specs.Cmp.Lexicographic.{slice_cmp}
-use Rattle.std.specs.HashSet.{contains_text}
+use Rattle.std.specs.BTreeSet.{contains_text}
 use Rattle.std.specs.Ordering.{is_lt, nat_cmp, on, then_cmp}
 use Rattle.std.specs.List.{list_any, position_or_len}
 use Rattle.std.specs.Option.{option_and_then, option_map}
 use Rattle.std.specs.Str.{bytes_eq}
 use Rattle.lb_static.specs.Signature.{Element, Elements}
 use Rattle.lb_flat.specs.Traces.{IsRow, Row, Traces, cells_of_instant, instants_of, last_rows}
-use Rattle.lb_flat.specs.Traces.{with_row, with_trace}
+use Rattle.lb_flat.specs.Traces.{trace_names, with_row, with_trace}
 use Rattle.lb_trace.specs.declared.header.Column.{Column}
 use Rattle.lb_trace.specs.declared.known.Known.{Known}
+use Rattle.lb_trace.specs.declared.name_table.NameTable.{NameTable}
 use Rattle.lb_trace.specs.Cells.{cell_value}
+use Rattle.lb_trace.specs.NamePlaces.{HavePlaces}
 use Rattle.lb_trace.specs.Refusals.{comes_back, is_last, is_trace_name, with_cells}
 use Rattle.lb_trace.specs.Spelling.{Record}
 
@@ -39,14 +41,19 @@ rises_to [] name = true
 rises_to (t ∷ []) name = is_below t.0 name
 rises_to (t ∷ u ∷ more) name = rises_to (u ∷ more) name
 
+-- a table has room, and all of these names
+pub record IsTableOf (table : NameTable) (names : List (List ℕ)) : Type 0 where
+  pub some : 0 < length table.places.items
+  pub few : length table.places.items < 4294967296
+  pub have : HavePlaces table.places.items (contains_text table.others) names (length names)
+
 -- the names of the traces are known: while they rise no trace has a name above the last one, and
--- otherwise the set has them
+-- otherwise the table has them
 abbrev pub knows : Known → Traces → Type 0
 knows names traces =
     (names.rising ≡ true → (q : List ℕ) → rises_to traces q ≡ true
     → list_any (λ t. bytes_eq q t.0) traces ≡ false)
-    × (names.rising ≡ false → (q : List ℕ)
-    → contains_text names.set q ≡ list_any (λ t. bytes_eq q t.0) traces)
+    × (names.rising ≡ false → IsTableOf names.table (trace_names traces))
 
 -- the traces with one more record, by a table of columns
 abbrev pub record_by : Elements → List Column → ℕ → Traces → Record → Result Traces ℕ

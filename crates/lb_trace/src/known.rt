@@ -8,30 +8,29 @@
 //! ```
 //!
 //! While they rise so, a name that rises above the last one is new. Only at the first that does not
-//! are all of them put into a set.
+//! are all of them put into a table.
 
-ghost use Rattle.std.specs.Prelude.{◌≡◌, ◌&&◌, ◌||◌, not, ℕ, List, [], IfOk, IfErr, OnOk};
-ghost use Rattle.std.specs.Prelude.{MatchOption, false, true};
-ghost use Rattle.std.specs.HashSet.{contains_text};
+ghost use Rattle.std.specs.Prelude.{◌≡◌, ◌&&◌, not, ℕ, List, [], IfOk, IfErr, OnOk, MatchOption};
+ghost use Rattle.std.specs.Prelude.{false, true};
 ghost use Rattle.std.specs.List.{list_any};
 ghost use Rattle.std.specs.Str.{bytes_eq};
-ghost use Rattle.lb_flat.specs.Traces.{IsTraceName, Row, with_trace};
+ghost use Rattle.lb_flat.specs.Traces.{IsTraceName, Row, trace_names, with_trace};
 ghost use Rattle.lb_trace.specs.Errors.{error_number};
-ghost use Rattle.lb_trace.specs.Mirrors.{is_below, knows, rises_to};
+ghost use Rattle.lb_trace.specs.Mirrors.{is_below, knows, rises_to, IsTableOf};
 ghost use Rattle.lb_trace.specs.Refusals.{is_trace_name as lawful_name};
 
 use crate::error::TraceError;
+use crate::name_table::NameTable;
 use lb_flat::{TraceSet, is_trace_name};
 use std::alloc::{AllocError, Global};
-use std::collections::HashSet;
 
 /// What tells whether a name is new.
 #[derive(Drop)]
 pub(crate) struct Known {
-    /// Whether each name rises above the one before; the set is of no use then.
+    /// Whether each name rises above the one before; the table is of no use then.
     pub(crate) rising: bool,
     /// All names.
-    pub(crate) set: HashSet<String>,
+    pub(crate) table: NameTable,
 }
 
 // Whether a name is shorter than another, or as long and smaller.
@@ -52,33 +51,6 @@ fn rises_to(traces: &TraceSet, name: &str) -> bool
     is_below(traces.name(count - 1), name)
 }
 
-// Puts a name into a set, and tells whether it is new there.
-fn put(alloc: Global, set: &mut HashSet<String>, name: &str) -> Result<bool, AllocError>
-    ensures new { IfOk result (λ is_new. is_new ≡ not (contains_text set.old name.now)) }
-    ensures names { IfOk result (λ is_new. (q : List ℕ)
-        → contains_text set.new q ≡ (bytes_eq name.now q || contains_text set.old q)) }
-{
-    let Ok(key) = String::from_str(alloc, name) else {
-        return Err(AllocError);
-    };
-    let Ok(is_new) = set.insert(key) else {
-        return Err(AllocError);
-    };
-    Ok(is_new)
-}
-
-// The names of some traces as a set.
-fn names_of(alloc: Global, traces: &TraceSet) -> Result<HashSet<String>, AllocError>
-    ensures { IfOk result (λ set. (q : List ℕ)
-        → contains_text set q ≡ list_any (λ t. bytes_eq q t.0) traces.now.traces) }
-{
-    let mut set = HashSet::new(alloc);
-    for k in 0..traces.len() {
-        let _ = put(alloc, &mut set, traces.name(k))?;
-    }
-    Ok(set)
-}
-
 impl Known {
     /// No name yet.
     pub(crate) fn new(alloc: Global) -> Known
@@ -86,7 +58,7 @@ impl Known {
     {
         Known {
             rising: true,
-            set: HashSet::new(alloc),
+            table: NameTable::new(alloc),
         }
     }
 
@@ -118,12 +90,12 @@ impl Known {
         let Ok(()) = self.gather(alloc, traces) else {
             return Err(TraceError::Memory(AllocError));
         };
-        let Ok(is_new) = put(alloc, &mut self.set, text) else {
-            return Err(TraceError::Memory(AllocError));
-        };
-        if !is_new {
+        if self.table.has(traces, text) {
             return Ok(None);
         }
+        let Ok(()) = self.table.put(alloc, text, traces.len()) else {
+            return Err(TraceError::Memory(AllocError));
+        };
         Ok(Some(text))
     }
 
@@ -137,17 +109,17 @@ impl Known {
         rises_to(traces, name)
     }
 
-    // Puts all names into the set, if they are not there yet.
+    // Puts all names into the table, if they are not there yet, and has room for more.
     fn gather(&mut self, alloc: Global, traces: &TraceSet) -> Result<(), AllocError>
         requires { knows self.old traces.now.traces }
         ensures risen { OnOk result (self.new.rising ≡ false) }
-        ensures names { OnOk result ((q : List ℕ)
-            → contains_text self.new.set q ≡ list_any (λ t. bytes_eq q t.0) traces.now.traces) }
+        ensures table { OnOk result (IsTableOf self.new.table (trace_names traces.now.traces)) }
     {
         if !self.rising {
-            return Ok(());
+            return self.table.grow(alloc, traces);
         }
-        self.set = names_of(alloc, traces)?;
+        self.table = NameTable::new(alloc);
+        self.table.fill(alloc, traces)?;
         self.rising = false;
         Ok(())
     }

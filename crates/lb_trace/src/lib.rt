@@ -11,6 +11,7 @@ mod header;
 mod joined;
 mod known;
 mod loaded;
+mod name_table;
 mod named;
 mod numbers;
 mod parts;

@@ -4,4 +4,4 @@ use Rattle.lb_trace.proofs.KnownNames.{knows-none}
 use Rattle.lb_trace.proofs.known.Known.new.Goals as goal
 
 pub returns : goal.returns
-returns c = knows-none record { rising = true; set = c.new.result } refl
+returns c = knows-none record { rising = true; table = c.new.result } refl

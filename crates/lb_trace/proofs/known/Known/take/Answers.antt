@@ -1,21 +1,16 @@
 -- A lawful name is text, and it is new if it rises above the last one or the set has it not.
-use Rattle.std.proofs.Common.{◌≡◌, ◌||◌, ◌&&◌, not, true, false, Bool, List, ℕ, sym, ap, ◌∙◌, refl}
-use Rattle.std.specs.HashSet.{contains_text}
+use Rattle.std.proofs.Common.{◌≡◌, ◌&&◌, not, true, false, Bool, sym, ap, ◌∙◌, refl}
 use Rattle.std.specs.List.{list_any}
 use Rattle.std.specs.Str.{bytes_eq}
 use Rattle.std.proofs.lemmas.Bool.{false_from_ne_true}
 use Rattle.std.proofs.lemmas.Str.{IsUtf8-from_ascii}
-use Rattle.lb_flat.specs.Traces.{Trace}
+use Rattle.lb_flat.specs.Traces.{Trace, with_trace}
 use Rattle.lb_flat.proofs.NameTexts.{IsAscii-name}
 use Rattle.lb_trace.specs.Mirrors.{rises_to}
 use Rattle.lb_trace.specs.Refusals.{is_trace_name}
-use Rattle.lb_trace.proofs.KnownNames.{gathered-knows, risen-knows, risen-new}
+use Rattle.lb_trace.proofs.KnownNames.{gathered-knows, risen-knows, risen-new, table-more}
 use Rattle.lb_trace.proofs.Names.{IsTraceName-from}
 use Rattle.lb_trace.proofs.known.Known.take.Goals as goal
-
-not_true : (b : Bool) → not b ≡ true → b ≡ false
-not_true true h = cc h
-not_true false h = refl
 
 there : (a b : Bool) → not b ≡ false → (a && not b) ≡ false
 there true b h = h
@@ -51,33 +46,35 @@ returns-then-is_above-clause-found c =
           both,
     )
 
-pub returns-then-not-is_new-clause-found : goal.returns-then-not-is_new-clause-found
-returns-then-not-is_new-clause-found c =
-    let was : c.in-Ok-put.is_new
-    ≡ not (list_any (λ (t : Trace). bytes_eq c.args.name.now t.0) c.args.traces.now.traces) =
-    c.in-Ok-put.ensures.new
-    ∙ ap (λ (n : List ℕ). not (contains_text c.gather.new.self.set n)) c.in-Ok.ensures.cases.0
-    ∙ ap not (c.in-Ok-gather.ensures.names c.args.name.now) in
+pub put-requires-clause-room : goal.put-requires-clause-room
+put-requires-clause-room c = (c.in-Ok-gather.ensures.table.some, c.in-Ok-gather.ensures.table.few)
+
+pub returns-then-has-clause-found : goal.returns-then-has-clause-found
+returns-then-has-clause-found c =
+    let was : list_any (λ (t : Trace). bytes_eq c.args.name.now t.0) c.args.traces.now.traces
+    ≡ true =
+    ap (λ n. list_any (λ (t : Trace). bytes_eq n t.0) c.args.traces.now.traces)
+    (sym c.in-Ok.ensures.cases.0)
+    ∙ sym c.has.ensures ∙ c.if-has.true in
     there (is_trace_name c.args.name.now)
     (list_any (λ (t : Trace). bytes_eq c.args.name.now t.0) c.args.traces.now.traces)
-    (sym was ∙ c.if-not-is_new.true)
+    (ap not was)
 
 pub returns-clause-found : goal.returns-clause-found
 returns-clause-found c =
     let text_is : c.in-Ok.text.now ≡ c.args.name.now = c.in-Ok.ensures.cases.0 in
-    let was : c.in-Ok-put.is_new
-    ≡ not (list_any (λ (t : Trace). bytes_eq c.args.name.now t.0) c.args.traces.now.traces) =
-    c.in-Ok-put.ensures.new
-    ∙ ap (λ (n : List ℕ). not (contains_text c.gather.new.self.set n)) text_is
-    ∙ ap not (c.in-Ok-gather.ensures.names c.args.name.now) in (
+    let new : list_any (λ (t : Trace). bytes_eq c.args.name.now t.0) c.args.traces.now.traces
+    ≡ false =
+    ap (λ n. list_any (λ (t : Trace). bytes_eq n t.0) c.args.traces.now.traces) (sym text_is)
+    ∙ sym c.has.ensures ∙ c.if-has.false in (
       text_is,
       c.is_trace_name.ensures.0 c.if-not-is_trace_name.false,
-      not_true (list_any (λ (t : Trace). bytes_eq c.args.name.now t.0) c.args.traces.now.traces)
-          (sym was ∙ c.if-not-is_new.false),
-      λ row. gathered-knows record { rising = c.gather.new.self.rising; set = c.put.new.set }
-          c.args.traces.now.traces c.args.name.now row
-          c.in-Ok-gather.ensures.risen
-          (λ q. c.in-Ok-put.ensures.names q
-          ∙ ap (λ (n : List ℕ). bytes_eq n q || contains_text c.gather.new.self.set q) text_is
-          ∙ ap (λ b. bytes_eq c.args.name.now q || b) (c.in-Ok-gather.ensures.names q)),
+      new,
+      λ row. gathered-knows
+          record { rising = c.gather.new.self.rising; table = c.put.new.self }
+          (with_trace c.args.traces.now.traces c.args.name.now row) c.in-Ok-gather.ensures.risen
+          (table-more c.gather.new.self.table c.put.new.self c.args.traces.now.traces
+          c.args.name.now row c.len.result c.len.ensures.count c.in-Ok-gather.ensures.table
+          c.in-Ok-put.ensures.room
+          (λ names is. c.in-Ok-put.ensures.put names (is ∙ sym text_is))),
     )
