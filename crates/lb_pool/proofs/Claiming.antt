@@ -101,7 +101,7 @@ set_word (w ∷ []) x e = (refl, refl)
 set_word (w ∷ v ∷ vs) x e = absurd (omega (arith, e))
 
 -- the word passes the limit by 64 at most, so it does not wrap
-grown :
+pub grown :
     (n w : ℕ) (views : List View) → n < 2 ^ 32 → AreLawfulViews n w views →
     (w + 1) % 2 ^ 64 ≡ w + 1
 grown n w views small k =
@@ -114,7 +114,7 @@ grown n w views small k =
 module _ (n id w : ℕ) (v : View) (views : List View) (has : 0 < v.shares)
     (not_told : v.told ≡ false) (here : get_elem? views id ≡ some v)
     (k : AreLawfulViews n w views) where
-  limit_is : v.limit ≡ n
+  pub limit_is : v.limit ≡ n
   limit_is = (k.each id v here).limit has
 
   others :
@@ -195,7 +195,7 @@ module _ (n id w : ℕ) (v : View) (views : List View) (has : 0 < v.shares)
         });
       }
 
-by_found :
+pub by_found :
     (n id w : ℕ) (v : View) (views : List View) → 0 < v.shares → v.told ≡ false →
     get_elem? views id ≡ some v → AreLawfulViews n w views →
     (b : Bool) → nat_lt w v.limit ≡ b → AreLawfulViews n (w + 1) (set views id (claimed b v w))
@@ -206,14 +206,14 @@ by_found n id w v views has free here k false e =
     let l = limit_is n id w v views has free here k in
     tells n id w v views has free here k (grind (arith, e, l))
 
-put_here :
+pub put_here :
     (views : List View) (i : ℕ) (v u : View) → get_elem? views i ≡ some v →
     get_elem? (set views i u) i ≡ some u
 put_here [] i v u e = absurd (some-ne-none v (sym e))
 put_here (x ∷ xs) zero v u e = refl
 put_here (x ∷ xs) (suc i) v u e = put_here xs i v u e
 
-within :
+pub within :
     (n w id : ℕ) (u : View) (views : List View) {m : ℕ} → m ≡ n → AreLawfulViews n w views →
     get_elem? views id ≡ some u → length u.drawn ≤ m
 within n w id u views e k here =
@@ -254,7 +254,7 @@ told_halves false a b c e = refl
 
 module _ (n id w : ℕ) (v : View) (views : List View) (two : 2 ≤ v.shares)
     (here : get_elem? views id ≡ some v) (k : AreLawfulViews n w views) where
-  halves : AreLawfulViews n w (set views id (larger_half v) ++ smaller_half v ∷ [])
+  pub halves : AreLawfulViews n w (set views id (larger_half v) ++ smaller_half v ∷ [])
   halves =
       let l = larger_half v in
       let r = smaller_half v in
@@ -359,7 +359,7 @@ module _ (n id w other : ℕ) (v u : View) (views : List View) (has : 0 < v.shar
   same_shares : min 64 (v.shares + u.shares) ≡ v.shares + u.shares
   same_shares = let h = few in omega (arith, h)
 
-  joined : AreLawfulViews n w (set (set views id (both v u)) other spent)
+  pub joined : AreLawfulViews n w (set (set views id (both v u)) other spent)
   joined =
       let b = both v u in
       let one = set views id b in

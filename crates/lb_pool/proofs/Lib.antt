@@ -6,3 +6,14 @@ pub mod Drawing
 pub mod Placed
 pub mod Gathering
 pub mod Spreading
+pub mod Settling
+pub mod Following
+pub mod Posting
+pub mod Answering
+pub mod FollowKeys
+pub mod RightTraces
+pub mod ReportLines
+pub mod SinkBytes
+pub mod GoingOut
+pub mod RightPosts
+pub mod WorkerPosts

@@ -71,7 +71,7 @@ of_collected {E = E} R xs rs all h ys worked same =
     subst (AllZip R xs) (sym same)
     (oks E R xs ys (subst (AllZip (λ x y. IfOk y (R x)) xs) worked h))
 
--- what is known of results does not need the states that were handed on
+-- what is known of results does not need the states between them
 pub of_states :
     {A B : Type 0} (S : Type 0) (R : A → B → Type 0) (xs : List A) (ys : List B) →
     AllZip (λ x y. (before after : S) × R x y) xs ys → AllZip R xs ys

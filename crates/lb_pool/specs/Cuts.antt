@@ -3,7 +3,8 @@ use Rattle.std.specs.Prelude.{ℕ, ◌+◌, ◌-◌, ◌*◌, ◌/◌, ◌^◌, 
 use Rattle.std.specs.List.{range_with_len}
 use Rattle.std.specs.List.Sorted.{IsPermutation}
 
--- how many batches of a width so many numbers fill, the last perhaps in part
+-- how many batches of a width n numbers fill, the last perhaps in part: 10 numbers fill 3 batches
+-- of width 4
 abbrev pub count_of : ℕ → ℕ → ℕ
 count_of width n = (n + (width - 1)) / width
 

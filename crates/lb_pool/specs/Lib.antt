@@ -7,3 +7,13 @@ pub mod Seats
 pub mod Correct
 pub mod Runs
 pub mod Workers
+pub mod Settlements
+pub mod FollowViews
+pub mod FollowLaw
+pub mod FollowKeys
+pub mod FollowSeats
+pub mod Reports
+pub mod Follows
+pub mod FollowWorkers
+pub mod Postings
+pub mod PostingLaws

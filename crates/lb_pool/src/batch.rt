@@ -69,7 +69,23 @@ fn push_judged(
     Ok(())
 }
 
-/// Runs some traces in so many lanes, in the room of a worker, which it gives back, and puts their
+/// The room that a worker has, or new room where it has none for this program.
+pub(crate) fn room_for(
+    alloc: Global,
+    program: &LaneProgram<'_>,
+    kept: Option<BatchRoom>,
+) -> Result<BatchRoom, AllocError>
+    ensures { IfOk result (IsRoomFor program.now) }
+{
+    if let Some(room) = kept {
+        if room.fits(program) {
+            return Ok(room);
+        }
+    }
+    BatchRoom::new(alloc, program)
+}
+
+/// Runs some traces in up to 64 lanes, in the room of a worker, which it gives back, and puts their
 /// verdicts behind those that were found before. `verdicts` is a buffer of the worker.
 pub(crate) fn run_members(
     work: &Work<'_, '_>,

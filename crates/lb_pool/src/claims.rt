@@ -11,7 +11,7 @@ ghost use Rattle.lb_pool.specs.Runs.{AreDrawnAfter};
 ghost use Rattle.lb_pool.specs.Seats.{limit_of, IsSeatOf, shares_of, drawn_of};
 ghost use Rattle.lb_pool.specs.Workers.{HasDrained, IsBoth};
 
-use crate::batch::{Judged, Work, run_members, verdicts_of};
+use crate::batch::{Judged, Work, room_for, run_members, verdicts_of};
 use crate::board::{ClaimBoard, ClaimSeat};
 use crate::gate::Gate;
 use crate::plan::Plan;
@@ -113,8 +113,8 @@ fn draw<G: Gate>(
     Ok(())
 }
 
-// One worker of so many. It claims until it is told that no batch is left. It passes the gate for
-// each batch before it claims another.
+// One of the workers of a run. It claims until it is told that no batch is left. It passes the gate
+// for each batch before it claims another, and takes its room with the first.
 fn drain<G: Gate>(
     alloc: Global,
     board: &ClaimBoard,
@@ -131,16 +131,17 @@ fn drain<G: Gate>(
         work.now.set.now work.now.plan.now) }
 {
     let lanes = work.plan.width();
-    let mut room = BatchRoom::new(alloc, work.program)?;
+    let mut kept: Option<BatchRoom> = None;
     let mut members = Vec::new(alloc);
     let mut verdicts = Vec::new(alloc);
     let mut judged = Vec::new(alloc);
     while let Some(i) = board.claim(&mut seat) {
         gate.enter(i);
         draw(board, gate, work, workers, &mut seat, i, &mut members)?;
+        let room = room_for(alloc, work.program, kept)?;
         let run = members.as_slice();
         let again = run_members(work, run, lanes, room, &mut verdicts, &mut judged)?;
-        room = again;
+        kept = Some(again);
     }
     Ok(Drained { seat, judged })
 }
@@ -256,7 +257,8 @@ fn divide<R: Threads + Sync, W: Worker + Sync>(
     both_drained(board, one?, other?)
 }
 
-// The verdicts of all traces, by workers that share a lane program.
+// The verdicts of all traces, by workers that share a lane program; no more of them than there are
+// batches.
 fn run_workers<'a, 'p, R: Threads + Sync, G: Gate + Sync>(
     rt: &R,
     alloc: Global,
@@ -272,6 +274,7 @@ fn run_workers<'a, 'p, R: Threads + Sync, G: Gate + Sync>(
         set.now verdicts.items) }
 {
     let (board, seat) = ClaimBoard::new(alloc, plan.batches())?;
+    let workers = workers.min(plan.batches()).max(1);
     let work = Work { program, set, plan };
     let worker = GatedWorker {
         work,

@@ -5,13 +5,27 @@
 mod batch;
 mod board;
 mod claims;
+mod follow;
+mod follow_board;
+mod follow_error;
+mod follow_views;
+mod follow_worker;
+mod follow_writer;
 mod gate;
+mod outgoing;
 mod plan;
+mod sink;
 mod spread;
+mod text;
 mod views;
 
 pub use board::{ClaimBoard, ClaimSeat};
 pub use claims::run_claims;
+pub use follow::run_follow;
+pub use follow_board::{FollowBoard, FollowSeat, Look};
+pub use follow_error::FollowError;
 pub use gate::{Gate, NoGate};
 pub use plan::Plan;
+pub use sink::{Sent, Sink, SinkFailed, Writer, send};
 pub use spread::run_spread;
+pub use text::{Report, report_text, status};

@@ -5,9 +5,8 @@ ghost use Rattle.std.specs.List.{AllZip, range_with_len};
 ghost use Rattle.lb_pool.specs.Plans.{numbers_in};
 ghost use Rattle.lb_pool.specs.Correct.{AreVerdicts};
 ghost use Rattle.lb_pool.specs.Runs.{IsBatchOf};
-ghost use Rattle.lb_sim.specs.BatchRooms.{IsRoomFor};
 
-use crate::batch::{Judged, Work, run_members, verdicts_of};
+use crate::batch::{Judged, Work, room_for, run_members, verdicts_of};
 use crate::plan::Plan;
 use lb_check::Verdict;
 use lb_flat::{Ordered, TraceSet};
@@ -15,22 +14,6 @@ use lb_sim::{BatchRoom, LaneProgram, compile};
 use rayon::prelude::*;
 use std::alloc::{AllocError, Global};
 use std::thread::Threads;
-
-// The room that a worker has, or new room where it has none for this program.
-fn room_for(
-    alloc: Global,
-    program: &LaneProgram<'_>,
-    kept: Option<BatchRoom>,
-) -> Result<BatchRoom, AllocError>
-    ensures { IfOk result (IsRoomFor program.now) }
-{
-    if let Some(room) = kept {
-        if room.fits(program) {
-            return Ok(room);
-        }
-    }
-    BatchRoom::new(alloc, program)
-}
 
 // The verdicts of a batch, in the room that the worker had for the batch before.
 fn judged_batch(

@@ -22,7 +22,6 @@ loop-i-preserved g c = (
       (c.in_ok-again.ensures.numbers
       ∙ ap (λ (l : List ℕ). numbers_of c.loop-i.judged.items ++ l) c.as_slice-run.ensures.value),
   c.in_ok-again.ensures.judged,
-  c.in_ok-again.ensures.room,
 )
 
 pub returns : goal.returns

@@ -1,0 +1,90 @@
+//! What a seat of a board of settled traces knows, and the steps that change it. It exists in
+//! proofs alone.
+
+use crate::views::View;
+use atomic_table::{Join, Play, Split, TableRule};
+use lb_check::Verdict;
+use lb_flat::{Ordered, TraceSet};
+use std::collections::LinkedList;
+use std::snapshot::Snapshot;
+
+/// The key of a board, which never changes: how many batches there are, and the program and the
+/// traces, which say what verdicts are right.
+#[derive(Drop)]
+pub struct FollowKey {
+    pub batches: u32,
+    pub ordered: Snapshot<Ordered>,
+    pub set: Snapshot<TraceSet>,
+}
+
+/// What a seat knows. No value of it is made.
+pub struct FollowView {
+    /// What a seat of a claim board knows.
+    pub draws: View,
+    /// The verdicts of the traces.
+    pub right: LinkedList<Verdict>,
+    /// The traces that were posted with the seat, each with its verdict, or with `None` as failed.
+    pub posts: LinkedList<(u32, Option<Verdict>)>,
+    /// The traces that the seat knows to be settled, each with what it is settled with.
+    pub known: LinkedList<(u32, Option<Verdict>)>,
+}
+
+/// The law of the board of settled traces.
+pub struct FollowRule;
+
+impl TableRule<u64, FollowView, FollowKey> for FollowRule {
+    ghost use Rattle.lb_pool.specs.FollowKeys.{law_of, view_of};
+
+    ghost holds = { law_of };
+
+    ghost first = { view_of };
+}
+
+/// A batch is claimed.
+pub struct ClaimBatch;
+
+impl Play<u64, FollowView> for ClaimBatch {
+    ghost use Rattle.lb_pool.specs.FollowLaw.{ClaimsBatch};
+
+    ghost then = { ClaimsBatch };
+}
+
+/// A trace is posted.
+pub struct PostTrace;
+
+impl Play<u64, FollowView> for PostTrace {
+    ghost use Rattle.lb_pool.specs.FollowLaw.{Posts};
+
+    ghost then = { Posts };
+}
+
+/// A trace is looked at.
+pub struct LookAtTrace;
+
+impl Play<u64, FollowView> for LookAtTrace {
+    ghost use Rattle.lb_pool.specs.FollowLaw.{Looks};
+
+    ghost then = { Looks };
+}
+
+/// A seat is cut in two.
+pub struct HalveSeat;
+
+impl Split<FollowView> for HalveSeat {
+    ghost use Rattle.lb_pool.specs.FollowViews.{larger_half, smaller_half};
+
+    ghost left = { larger_half };
+
+    ghost right = { smaller_half };
+}
+
+/// Two seats are put together.
+pub struct GatherSeats;
+
+impl Join<FollowView> for GatherSeats {
+    ghost use Rattle.lb_pool.specs.FollowViews.{both, spent};
+
+    ghost both = { both };
+
+    ghost spent = { spent };
+}

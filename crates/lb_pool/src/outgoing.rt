@@ -1,0 +1,173 @@
+//! The text of a live report on its way to a sink.
+//!
+//! Lines that are known at once go out together, and are kept back until then.
+
+ghost use Rattle.std.specs.Prelude.{◌≡◌, ◌<◌, ◌≤◌, ◌+◌, ◌^◌, ◌++◌, [], List, ℕ, length, vec_len};
+ghost use Rattle.std.specs.Prelude.{IfErr, OnOk};
+ghost use Rattle.lb_pool.specs.Follows.{Goes, HasCause, sent_of};
+ghost use Rattle.lb_pool.specs.Reports as spec;
+
+use crate::follow_error::FollowError;
+use crate::sink::{Sink, send};
+use crate::text::{push_line, push_total};
+use lb_check::Verdict;
+use std::alloc::Global;
+
+/// How many bytes are kept back at most, with one line more, while the next lines are known.
+const CHUNK: usize = 1 << 15;
+
+/// The text that is kept back, and how much went out before it.
+#[derive(Drop)]
+pub(crate) struct Outgoing {
+    pub(crate) text: Vec<u8>,
+    /// How many bytes went out.
+    pub(crate) count: usize,
+    /// Whether some of them went out since the sink was last flushed.
+    unflushed: bool,
+}
+
+impl Outgoing {
+    /// No text, of which nothing went out.
+    pub(crate) fn new(alloc: Global) -> Outgoing
+        ensures text { result.text.items ≡ [] }
+        ensures count { result.count ≡ 0 }
+    {
+        Outgoing {
+            text: Vec::new(alloc),
+            count: 0,
+            unflushed: false,
+        }
+    }
+
+    /// That memory was refused.
+    pub(crate) fn refused(&self) -> FollowError
+        ensures count { sent_of result ≡ self.now.count }
+        ensures cause { (n : ℕ) → HasCause result n n }
+    {
+        FollowError::Memory { count: self.count }
+    }
+
+    /// Adds the line of a trace.
+    pub(crate) fn add_line(&mut self, name: &str, verdict: Verdict) -> Result<(), FollowError>
+        ensures text { OnOk result (self.new.text.items
+            ≡ self.old.text.items ++ spec.line name.now verdict) }
+        ensures short { OnOk result (length self.new.text.items
+            ≤ length self.old.text.items + length name.now + 52) }
+        ensures count { OnOk result (self.new.count ≡ self.old.count) }
+        ensures refused { IfErr result (λ e. (sent_of e ≡ self.old.count)
+            × ((n : ℕ) → HasCause e n n)) }
+    {
+        match push_line(&mut self.text, name, verdict) {
+            Ok(()) => Ok(()),
+            Err(_) => Err(self.refused()),
+        }
+    }
+
+    /// Adds the last line.
+    pub(crate) fn add_total(&mut self, verdicts: &[Verdict]) -> Result<(), FollowError>
+        ensures text { OnOk result (self.new.text.items
+            ≡ self.old.text.items ++ spec.total verdicts.now) }
+        ensures count { OnOk result (self.new.count ≡ self.old.count) }
+        ensures refused { IfErr result (λ e. (sent_of e ≡ self.old.count)
+            × ((n : ℕ) → HasCause e n n)) }
+    {
+        match push_total(&mut self.text, verdicts) {
+            Ok(()) => Ok(()),
+            Err(_) => Err(self.refused()),
+        }
+    }
+}
+
+/// Writes all text.
+fn send_text<S: Sink>(sink: &mut S, out: &mut Outgoing) -> Result<(), FollowError>
+    requires failures { S.failures sink.old < u64.MAX }
+    requires room { out.old.count + vec_len out.old.text < 2 ^ 64 }
+
+    // What `Ok` holds.
+    ensures gone { OnOk result (Goes (S.taken sink.old) (S.taken sink.new)
+        out.old.text.items out.new.text.items out.old.count out.new.count) }
+    ensures all { OnOk result (out.new.text.items ≡ []) }
+    ensures ok { OnOk result (S.failures sink.new ≡ S.failures sink.old) }
+
+    // Else the sink failed after the first bytes.
+    ensures first { IfErr result (λ e. (rest : List ℕ) × Goes (S.taken sink.old) (S.taken sink.new)
+        out.old.text.items rest out.old.count (sent_of e)) }
+    ensures cause { IfErr result (λ e. HasCause e (S.failures sink.old) (S.failures sink.new)) }
+{
+    if out.text.is_empty() {
+        return Ok(());
+    }
+    match send(sink, out.text.as_slice()) {
+        Ok(()) => {
+            out.count += out.text.len();
+            out.text.clear();
+            out.unflushed = true;
+            Ok(())
+        }
+        Err(sent) => Err(FollowError::Write {
+            count: out.count + sent.count,
+        }),
+    }
+}
+
+/// Writes all text where it is a chunk.
+pub(crate) fn send_chunk<S: Sink>(sink: &mut S, out: &mut Outgoing) -> Result<(), FollowError>
+    requires failures { S.failures sink.old < u64.MAX }
+    requires room { out.old.count + vec_len out.old.text < 2 ^ 64 }
+
+    // What `Ok` holds.
+    ensures gone { OnOk result (Goes (S.taken sink.old) (S.taken sink.new)
+        out.old.text.items out.new.text.items out.old.count out.new.count) }
+    ensures ok { OnOk result (S.failures sink.new ≡ S.failures sink.old) }
+
+    // Else the sink failed after the first bytes.
+    ensures first { IfErr result (λ e. (rest : List ℕ) × Goes (S.taken sink.old) (S.taken sink.new)
+        out.old.text.items rest out.old.count (sent_of e)) }
+    ensures cause { IfErr result (λ e. HasCause e (S.failures sink.old) (S.failures sink.new)) }
+{
+    if out.text.len() < CHUNK {
+        return Ok(());
+    }
+    send_text(sink, out)
+}
+
+/// Lets the sink hand on what it keeps back.
+fn flush<S: Sink>(sink: &mut S, out: &mut Outgoing) -> Result<(), FollowError>
+    requires failures { S.failures sink.old < u64.MAX }
+    ensures gone { Goes (S.taken sink.old) (S.taken sink.new) [] [] out.old.count out.old.count }
+    ensures text { (out.new.text.items ≡ out.old.text.items) × (out.new.count ≡ out.old.count) }
+    ensures ok { OnOk result (S.failures sink.new ≡ S.failures sink.old) }
+    ensures count { IfErr result (λ e. sent_of e ≡ out.old.count) }
+    ensures cause { IfErr result (λ e. HasCause e (S.failures sink.old) (S.failures sink.new)) }
+{
+    if !out.unflushed {
+        return Ok(());
+    }
+    match sink.flush() {
+        Ok(()) => {
+            out.unflushed = false;
+            Ok(())
+        }
+        Err(_) => Err(FollowError::Write { count: out.count }),
+    }
+}
+
+/// Writes all text, and lets the sink hand on what it keeps back.
+pub(crate) fn hand_on<S: Sink>(sink: &mut S, out: &mut Outgoing) -> Result<(), FollowError>
+    requires failures { S.failures sink.old < u64.MAX }
+    requires room { out.old.count + vec_len out.old.text < 2 ^ 64 }
+
+    // What `Ok` holds.
+    ensures gone { OnOk result (Goes (S.taken sink.old) (S.taken sink.new)
+        out.old.text.items out.new.text.items out.old.count out.new.count) }
+    ensures all { OnOk result (out.new.text.items ≡ []) }
+    ensures ok { OnOk result (S.failures sink.new ≡ S.failures sink.old) }
+
+    // Else the sink failed after the first bytes.
+    ensures first { IfErr result (λ e. (rest : List ℕ) × Goes (S.taken sink.old) (S.taken sink.new)
+        out.old.text.items rest out.old.count (sent_of e)) }
+    ensures cause { IfErr result (λ e. HasCause e (S.failures sink.old) (S.failures sink.new)) }
+{
+    send_text(sink, out)?;
+    flush(sink, out)
+}

@@ -1,0 +1,143 @@
+//! Where outputs go, and writing a text to its end.
+
+ghost use Rattle.std.specs.Prelude.{◌≡◌, ℕ, List, [], Option, None, ◌+◌, ◌<◌, ◌≤◌, length, take};
+ghost use Rattle.std.specs.Prelude.{IfOk, IfErr, OnOk, OnErr};
+ghost use Rattle.std.specs.Io.KnownBytes.{Appends, Keeps};
+
+use std::io::Write;
+use thiserror::Error;
+
+/// A write failed. None of its bytes went out.
+#[derive(Clone, Copy, Debug, Error)]
+#[error("the output could not be written")]
+pub struct SinkFailed;
+
+/// Where an output goes.
+pub trait Sink {
+    /// The bytes that it has taken, where the sink tells them.
+    ghost taken: { Self → Option (List ℕ) } = { λ _. None };
+
+    /// How often it has failed.
+    ghost failures: { Self → ℕ };
+
+    /// Writes the first of these bytes, and answers how many they are. 0 of a text that is not
+    /// empty is a failure too.
+    fn write(&mut self, bytes: &[u8]) -> Result<usize, SinkFailed>
+        requires { failures self.old < u64.MAX }
+
+        // What `Ok` holds.
+        ensures within { IfOk result (λ n. n ≤ length bytes.now) }
+        ensures next { IfOk result (λ n.
+            Appends (taken self.old) (taken self.new) (take n bytes.now)) }
+        ensures some { IfOk result (λ n. 0 < n → failures self.new ≡ failures self.old) }
+        ensures empty { OnOk result (bytes.now ≡ [] → failures self.new ≡ failures self.old) }
+
+        // Each failure is counted, and takes no byte.
+        ensures none { IfOk result (λ n.
+            n ≡ 0 → 0 < length bytes.now → failures self.new ≡ failures self.old + 1) }
+        ensures err { OnErr result (failures self.new ≡ failures self.old + 1) }
+        ensures kept { OnErr result (Keeps (taken self.old) (taken self.new)) };
+
+    /// Hands on what it keeps back, if it keeps anything back.
+    fn flush(&mut self) -> Result<(), SinkFailed>
+        requires { failures self.old < u64.MAX }
+        ensures ok { OnOk result (failures self.new ≡ failures self.old) }
+        ensures kept { Keeps (taken self.old) (taken self.new) }
+
+        // Each failure is counted.
+        ensures err { OnErr result (failures self.new ≡ failures self.old + 1) }
+    {
+        Ok(())
+    }
+
+    /// How often it has failed.
+    fn failures(&self) -> u64
+        ensures { result ≡ failures self.now };
+}
+
+/// One of std's writers, as a sink.
+#[derive(Drop)]
+pub struct Writer<W> {
+    writer: W,
+    failures: u64,
+}
+
+impl<W: Write> Writer<W> {
+    /// A sink that has not failed yet.
+    pub fn new(writer: W) -> Writer<W>
+        ensures taken { ⟦<Writer<W> as Sink>⟧.taken result ≡ W.contents writer }
+        ensures failures { ⟦<Writer<W> as Sink>⟧.failures result ≡ 0 }
+    {
+        Writer {
+            writer,
+            failures: 0,
+        }
+    }
+}
+
+impl<W: Write> Sink for Writer<W> {
+    ghost taken = { λ sink. W.contents sink.writer };
+
+    ghost failures = { λ sink. sink.failures };
+
+    fn write(&mut self, bytes: &[u8]) -> Result<usize, SinkFailed> {
+        match self.writer.write(bytes) {
+            Ok(count) => {
+                if count == 0 && !bytes.is_empty() {
+                    self.failures += 1;
+                }
+                Ok(count)
+            }
+            Err(_) => {
+                self.failures += 1;
+                Err(SinkFailed)
+            }
+        }
+    }
+
+    fn flush(&mut self) -> Result<(), SinkFailed> {
+        match self.writer.flush() {
+            Ok(()) => Ok(()),
+            Err(_) => {
+                self.failures += 1;
+                Err(SinkFailed)
+            }
+        }
+    }
+
+    fn failures(&self) -> u64 {
+        self.failures
+    }
+}
+
+/// The sink failed before all bytes went out (E19).
+#[derive(Clone, Copy, Debug, Error)]
+#[error("the output failed after {count} bytes")]
+pub struct Sent {
+    /// How many bytes went out.
+    pub count: usize,
+}
+
+/// Writes a text to a sink, all of it unless the sink fails.
+pub fn send<S: Sink>(sink: &mut S, bytes: &[u8]) -> Result<(), Sent>
+    requires { S.failures sink.old < u64.MAX }
+
+    // What `Ok` holds: all bytes went out.
+    ensures all { OnOk result (Appends (S.taken sink.old) (S.taken sink.new) bytes.now) }
+    ensures ok { OnOk result (S.failures sink.new ≡ S.failures sink.old) }
+
+    // Else exactly the first `count` went out, and the sink failed.
+    ensures within { IfErr result (λ sent. sent.count < length bytes.now) }
+    ensures first { IfErr result (λ sent.
+        Appends (S.taken sink.old) (S.taken sink.new) (take sent.count bytes.now)) }
+    ensures failed { OnErr result (S.failures sink.new ≡ S.failures sink.old + 1) }
+{
+    let mut count = 0;
+    while count < bytes.len() {
+        match sink.write(&bytes[count..]) {
+            Ok(more) if more > 0 => count += more,
+            _ => return Err(Sent { count }),
+        }
+    }
+    Ok(())
+}
