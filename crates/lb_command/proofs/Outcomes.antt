@@ -1,5 +1,5 @@
 -- What a run comes to, from what its parts answer.
-use Rattle.std.proofs.Common.{◌≡◌, ◌⊎◌, List, Option, Result, Ok, Err, inl, inr, subst, sym}
+use Rattle.std.proofs.Common.{◌≡◌, Result, Ok, Err, inl, inr, subst, sym}
 use Rattle.std.specs.Prelude.{IfOk, IfErr}
 use Rattle.std.specs.Result.{IsErrAnd}
 use Rattle.clap.specs.Words.{Text}
@@ -8,12 +8,10 @@ use Rattle.lb_report.specs.declared.error.BenchError.{BenchError}
 use Rattle.lb_report.specs.declared.feed.LoadError.{LoadError}
 use Rattle.lb_report.specs.declared.feed.LoadError.TheVariants as load
 use Rattle.lb_report.specs.declared.options.Options.{Options}
-use Rattle.lb_report.specs.declared.text.Report.{Report}
-use Rattle.lb_command.specs.Correct.{IsOutcomeOn, IsRefusal, IsToldBy}
-use Rattle.lb_command.specs.Correct.{IsUnread, load_number}
-use Rattle.lb_command.specs.Correct.IsRefusal.{memory, usage}
-use Rattle.lb_command.specs.Correct.IsRefusedOn.{judged, unread}
-use Rattle.lb_command.specs.Words.{IsUnlawful}
+use Rattle.lb_pool.specs.declared.text.Report.{Report}
+use Rattle.lb_command.specs.Outcomes.{IsOutcomeOn, IsToldBy}
+use Rattle.lb_command.specs.Outcomes.{IsUnread, load_number}
+use Rattle.lb_command.specs.Outcomes.IsRefusedOn.{judged, unread}
 use Rattle.lb_command.specs.declared.refusal.Refusal.{Refusal}
 
 pub load_unread : (cause : LoadError) (refusal : Refusal) → refusal.number ≡ load_number cause
@@ -51,13 +49,6 @@ outcome_on Are Other options (Ok report) f is = record {
 outcome_on Are Other options (Err refusal) f (unread h) = unread h
 outcome_on Are Other options (Err refusal) f (judged source traces are e answered told) =
     judged source traces (f source traces are) e answered told
-
--- a refusal of the words
-pub refused_words : (words : List Text) (known : Option Text) (refusal : Refusal)
-    → (refusal.number ≡ 0) ⊎ ((refusal.number ≡ 20) × IsUnlawful words)
-    → IsRefusal words known refusal
-refused_words words known refusal (inl none) = memory none
-refused_words words known refusal (inr (number, unlawful)) = usage number unlawful
 
 -- a refusal that a `?` passes on
 pub passed_on : {T : Type 0} (r : Result T Refusal) (first : Refusal) (P : Refusal → Type 0)

@@ -1,158 +1,59 @@
 -- How a run of the program ends.
 -- Source: this project's rule.
-use Rattle.std.specs.Prelude.{◌≡◌, ◌≢◌, ℕ, ◌==◌, ◌||◌, ◌⊎◌, if◌then◌else◌, IfSome, List, Option}
-use Rattle.std.specs.Prelude.{Some, None, Result, Ok, Err, codes, string_bytes}
-use Rattle.std.specs.Borrow.{Bor}
-use Rattle.lb_report.specs.Bench.{IsBenchReport}
-use Rattle.lb_report.specs.Cases.{parts_of}
-use Rattle.lb_report.specs.Correct.{IsBenchAnswer}
-use Rattle.lb_report.specs.Refusals.{number_of, position_of}
-use Rattle.lb_report.specs.declared.error.BenchError.{BenchError}
-use Rattle.lb_report.specs.declared.feed.LoadError.{LoadError}
-use Rattle.lb_report.specs.declared.feed.LoadError.TheVariants as load
-use Rattle.lb_report.specs.declared.options.Options.{Options}
-use Rattle.lb_report.specs.declared.text.Report.{Report}
-use Rattle.clap.specs.Words.{Text, first_of}
+use Rattle.std.specs.Prelude.{◌≡◌, ◌⊎◌, ℕ, true, false, List}
+use Rattle.lb_pool.specs.declared.text.Report.{Report}
+use Rattle.clap.specs.Words.{Text}
 use Rattle.lb_command.specs.Lines.{line}
-use Rattle.lb_command.specs.Streams.{Change, HasFailed, Input, IsUnreadable, IsUntouched}
-use Rattle.lb_command.specs.Streams.{NeverFailed, Took, TookOrFailed}
-use Rattle.lb_command.specs.Words.{AsksForHelp, IsAsked, IsUnlawful, values_of}
-use Rattle.lb_command.specs.declared.refusal.Refusal.{Refusal}
-use Rattle.lb_command.specs.declared.request.Task.{Task}
+use Rattle.lb_command.specs.Live.{IsLiveRun}
+use Rattle.lb_command.specs.Outcomes.{AreTexts, HasPath, IsDelivered, IsRefusedOn, IsReportOn}
+use Rattle.lb_command.specs.Outcomes.{TellsOfInput, refusal_status}
+use Rattle.lb_command.specs.Streams.{Change, Input, IsUntouched, NeverFailed, TookOrFailed}
+use Rattle.lb_command.specs.Words.{AsksForHelp, IsAsked, IsUnlawful}
 use Rattle.lb_command.specs.declared.run.Answer.{Answer}
 use Rattle.lb_command.specs.declared.run.Answer.TheVariants.{OfTraces, Help}
+use Rattle.lb_command.specs.declared.refusal.Refusal.{Refusal}
+use Rattle.lb_command.specs.declared.request.Task.{Task}
 
--- ## The texts
+-- a run of a task whose report is written at once: no read of the input failed, and the report is
+-- delivered; or the input or the texts are refused, the output is as it was, and the refusal is told
+pub data IsWholeRun (task : Task) (i : Input) (status : ℕ) (output errors : Change) : Type 0 where
+  answered : (report : Report) → IsReportOn (AreTexts task i.coming) task.options report
+      → NeverFailed i → IsDelivered (OfTraces report) status output errors
+      → IsWholeRun task i status output errors
+  refused : (refusal : Refusal) → IsRefusedOn (AreTexts task i.coming) task.options refusal
+      → TellsOfInput (HasPath task) i refusal
+      → status ≡ refusal_status refusal.number → IsUntouched output
+      → TookOrFailed errors (line refusal.number refusal.position)
+      → IsWholeRun task i status output errors
 
--- the text is what an input had still to give, where that is known
-abbrev pub IsInput : Option Text → Text → Type 0
-IsInput known text = IfSome known (λ bytes. text ≡ bytes)
+-- a run of a task, whose report is written at once or line by line, as it says
+pub data IsTaskRun (task : Task) (i : Input) (status : ℕ) (output errors : Change) : Type 0 where
+  whole : task.follow ≡ false → IsWholeRun task i status output errors
+      → IsTaskRun task i status output errors
+  live : task.follow ≡ true → IsLiveRun task i status output errors
+      → IsTaskRun task i status output errors
 
--- the two texts are the parts of a case text, which is the input
-pub record AreParts (known : Option Text) (source traces : Text) : Type 0 where
-  pub case : Text
-  pub input : IsInput known case
-  pub first : source ≡ (parts_of case).source
-  pub second : traces ≡ (parts_of case).traces
+-- an answer is the help text
+abbrev pub IsHelp : Answer → Type 0
+IsHelp (OfTraces report) = ⊥
+IsHelp (Help text) = Unit {0}
 
--- the two texts of a run: without a path they are the parts of the input, with one path the traces
--- are the input; what a file holds no contract says
-pub data AreTexts (task : Task) (known : Option Text) (source traces : Text) : Type 0 where
-  of_case : task.source ≡ None → AreParts known source traces → AreTexts task known source traces
-  of_input : (path : Bor Text) → task.source ≡ Some path → task.traces ≡ None
-      → IsInput known traces → AreTexts task known source traces
-  of_files : (path other : Bor Text) → task.source ≡ Some path → task.traces ≡ Some other
-      → AreTexts task known source traces
+-- memory ran out, or the words are unlawful
+abbrev pub IsRefusal : List Text → Refusal → Type 0
+IsRefusal words refusal =
+    (refusal.number ≡ 0) ⊎ ((refusal.number ≡ 20) × IsUnlawful words)
 
--- ## Reports and refusals
-
--- the number of the refusal of an input
-abbrev pub load_number : LoadError → ℕ
-load_number load.Memory = 0
-load_number load.Read = 21
-
--- an input could not be read, or memory ran out
-abbrev pub IsUnread : Refusal → Type 0
-IsUnread refusal = (refusal.number ≡ 0) ⊎ (refusal.number ≡ 21)
-
--- a refusal has the number and the place of an error of the bench
-pub record IsToldBy (e : BenchError) (refusal : Refusal) : Type 0 where
-  pub number : refusal.number ≡ number_of e
-  pub position : refusal.position ≡ position_of e
-
--- the report that the bench promises of two such texts
-pub record IsReportOn (Are : Text → Text → Type 0) (options : Options) (report : Report)
-    : Type 0 where
-  pub source : Text
-  pub traces : Text
-  pub texts : Are source traces
-  pub reported : IsBenchReport source traces options report
-
--- a refusal of the input, or of two such texts by the bench
-pub data IsRefusedOn (Are : Text → Text → Type 0) (options : Options) (refusal : Refusal)
-    : Type 0 where
-  unread : IsUnread refusal → IsRefusedOn Are options refusal
-  judged : (source traces : Text) → Are source traces → (e : BenchError)
-      → IsBenchAnswer source traces options (Err e) → IsToldBy e refusal
-      → IsRefusedOn Are options refusal
-
--- a report or a refusal
-abbrev pub IsOutcomeOn : (Text → Text → Type 0) → Options → Result Report Refusal → Type 0
-IsOutcomeOn Are options (Ok report) = IsReportOn Are options report
-IsOutcomeOn Are options (Err refusal) = IsRefusedOn Are options refusal
-
--- ## What a refusal tells of the input
-
--- E21 comes only where the input could not be read, or where some file is read too; and with any
--- other number no read of the input has failed
-pub record TellsOfInput (HasFile : Type 0) (i : Input) (refusal : Refusal) : Type 0 where
-  pub read : refusal.number ≡ 21 → HasFile ⊎ IsUnreadable i
-  pub other : refusal.number ≢ 21 → NeverFailed i
-
--- what an outcome tells of the input
-abbrev pub HasRead : {T : Type 0} → (HasFile : Type 0) → Input → Result T Refusal → Type 0
-HasRead HasFile i (Ok x) = NeverFailed i
-HasRead HasFile i (Err refusal) = TellsOfInput HasFile i refusal
-
--- the task names a file
-abbrev pub HasPath : Task → Type 0
-HasPath task = (path : Bor Text) × (task.source ≡ Some path)
-
--- the words name a file
-abbrev pub NamesFile : List Text → Type 0
-NamesFile words = (path : Text) × (first_of (codes "source") (values_of words) ≡ Some path)
-
--- ## A run
-
--- the bytes of an answer for the output
-abbrev pub text_of : Answer → List ℕ
-text_of (OfTraces report) = report.text.items
-text_of (Help text) = string_bytes text
-
--- the exit status of an answer: that of the report, which is 1 where a verdict is a fault,
--- undefined or false, and else 0; and 0 for help
-abbrev pub status_of : Answer → ℕ
-status_of (OfTraces report) = report.status
-status_of (Help text) = 0
-
--- the exit status of a refusal: 3 where memory, the output or an input failed, else 2
-abbrev pub refusal_status : ℕ → ℕ
-refusal_status number = if number == 0 || number == 19 || number == 21 then 3 else 2
-
--- the report on the texts that the words name
-pub record IsReportFor (words : List Text) (known : Option Text) (report : Report) : Type 0 where
-  pub task : Task
-  pub asked : IsAsked words task
-  pub reported : IsReportOn (AreTexts task known) task.options report
-
--- a report on the texts that the words name, or the help text where they ask for it
-abbrev pub IsAnswer : List Text → Option Text → Answer → Type 0
-IsAnswer words known (OfTraces report) = IsReportFor words known report
-IsAnswer words known (Help text) = AsksForHelp words
-
--- memory ran out, or the words are unlawful, or the texts that they name are refused
-pub data IsRefusal (words : List Text) (known : Option Text) (refusal : Refusal) : Type 0 where
-  memory : refusal.number ≡ 0 → IsRefusal words known refusal
-  usage : refusal.number ≡ 20 → IsUnlawful words → IsRefusal words known refusal
-  texts : (task : Task) → IsAsked words task
-      → IsRefusedOn (AreTexts task known) task.options refusal → IsRefusal words known refusal
-
--- an answer went out whole, and the status is its own; or the output failed, which is E19
-pub data IsDelivered (answer : Answer) (status : ℕ) (output errors : Change) : Type 0 where
-  whole : status ≡ status_of answer → Took output (text_of answer) → IsUntouched errors
-      → IsDelivered answer status output errors
-  broken : status ≡ refusal_status 19 → HasFailed output → TookOrFailed errors (line 19 None)
-      → IsDelivered answer status output errors
-
--- a run with these words, this input and this exit status: no read of the input failed, and it
--- delivers an answer; or it leaves the output as it was and tells of a refusal
+-- a run with these words, this input and this exit status: a run of the task that they ask for; or
+-- the help text is delivered; or the words are refused, nothing was read, the output is as it was,
+-- and the refusal is told
 pub data IsRun
     (words : List Text) (i : Input) (status : ℕ) (output errors : Change)
     : Type 0 where
-  answered : (answer : Answer) → IsAnswer words i.coming answer → NeverFailed i
+  asked : (task : Task) → IsAsked words task → IsTaskRun task i status output errors
+      → IsRun words i status output errors
+  help : (answer : Answer) → IsHelp answer → AsksForHelp words → NeverFailed i
       → IsDelivered answer status output errors → IsRun words i status output errors
-  refused : (refusal : Refusal) → IsRefusal words i.coming refusal
-      → TellsOfInput (NamesFile words) i refusal
+  refused : (refusal : Refusal) → IsRefusal words refusal → NeverFailed i
       → status ≡ refusal_status refusal.number → IsUntouched output
       → TookOrFailed errors (line refusal.number refusal.position)
       → IsRun words i status output errors

@@ -1,7 +1,7 @@
 -- The command line that the program knows, and what its words ask for.
 -- Source: this project's rule; what words make of a command line is what the library `clap` says.
 use Rattle.std.specs.Prelude.{◌≡◌, ◌≢◌, ℕ, ◌≤◌, List, [], ◌∷◌, codes, unwrap_or, option_map}
-use Rattle.std.specs.Prelude.{Some, string_bytes}
+use Rattle.std.specs.Prelude.{Bool, true, false, ◌<◌, Option, None, Some, string_bytes, bytes_eq}
 use Rattle.std.specs.Str.Parse.{IsNumeral, digits_value}
 use Rattle.clap.specs.Words.{App, IsAmong, Kinds, Row, Rule, Text, fault_of, first_of, matches_of}
 use Rattle.clap.specs.Words.{new_app, new_rule, with_rule}
@@ -40,8 +40,12 @@ with_numbers app =
     with_rule (with_rule app (by_default (codes "1") (named (codes "workers"))))
     (by_default (codes "64") (named (codes "batch")))
 
+abbrev pub with_switches : App → App
+with_switches app =
+    with_rule (with_rule app (switch (codes "by-length"))) (switch (codes "follow"))
+
 abbrev pub with_spread : App → App
-with_spread app = with_rule (with_numbers app) (switch (codes "by-length"))
+with_spread app = with_switches (with_numbers app)
 
 abbrev pub with_inputs : App → App
 with_inputs app = with_rule (with_rule app (placed (codes "source"))) (placed (codes "traces"))
@@ -78,9 +82,16 @@ pub record IsOptions (rows : List Row) (options : Options) : Type 0 where
   pub workers : HasNumber rows (codes "workers") (codes "1") 0 64 options.workers
   pub batch : HasNumber rows (codes "batch") (codes "64") 1 64 options.batch
 
--- the run that the values ask for
+-- whether a value is that of an option without a value that is given
+abbrev pub is_given : Option Text → Bool
+is_given (Some text) = bytes_eq text (codes "true")
+is_given None = false
+
+-- the run that the values ask for; a live report has a worker
 pub record IsTask (rows : List Row) (task : Task) : Type 0 where
   pub options : IsOptions rows task.options
+  pub follow : task.follow ≡ is_given (first_of (codes "follow") rows)
+  pub worker : task.follow ≡ true → 0 < task.options.workers
   pub source : option_map (λ s. s.now) task.source ≡ first_of (codes "source") rows
   pub traces : option_map (λ s. s.now) task.traces ≡ first_of (codes "traces") rows
 
@@ -98,10 +109,12 @@ abbrev pub IsRequest : List Text → Request → Type 0
 IsRequest words (Help text) = AsksForHelp words
 IsRequest words (Run task) = IsAsked words task
 
--- a value is no number in its range
+-- a value is no number in its range, or a live report is to have no worker
 pub data IsWrongNumber (rows : List Row) : Type 0 where
   workers : ((n : ℕ) → HasNumber rows (codes "workers") (codes "1") 0 64 n → ⊥) → IsWrongNumber rows
   batch : ((n : ℕ) → HasNumber rows (codes "batch") (codes "64") 1 64 n → ⊥) → IsWrongNumber rows
+  no_worker : is_given (first_of (codes "follow") rows) ≡ true
+      → HasNumber rows (codes "workers") (codes "1") 0 64 0 → IsWrongNumber rows
 
 -- the words are no command line that the program knows
 pub data IsUnlawful (words : List Text) : Type 0 where

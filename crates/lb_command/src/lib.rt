@@ -2,6 +2,7 @@
 #![tactic(auto)]
 
 mod line;
+mod live;
 mod refusal;
 mod request;
 mod run;

@@ -3,7 +3,7 @@
 ghost use Rattle.std.specs.Prelude.{◌≡◌, ◌<◌, OnOk, OnErr, decimal};
 ghost use Rattle.std.specs.Io.KnownBytes.{Appends};
 ghost use Rattle.lb_report.specs.Refusals.{word_of};
-ghost use Rattle.lb_command.specs.Correct.{refusal_status};
+ghost use Rattle.lb_command.specs.Outcomes.{refusal_status};
 ghost use Rattle.lb_command.specs.Lines as spec;
 ghost use Rattle.lb_command.specs.Streams.{TookOrFailed, change};
 

@@ -1,8 +1,8 @@
 //! Why the program prints no report.
 
-ghost use Rattle.std.specs.Prelude.{◌≡◌, ◌<◌};
+ghost use Rattle.std.specs.Prelude.{◌≡◌, ◌<◌, None};
 
-use lb_report::{BenchError, LoadError};
+use lb_report::{BenchError, FollowError, LoadError};
 use std::alloc::AllocError;
 
 /// Why the program prints no report: the number of a refusal, 0 to 21, and for E1 to E3 the line
@@ -15,7 +15,7 @@ pub struct Refusal {
 }
 
 impl Refusal {
-    ghost use Rattle.lb_command.specs.Correct.{refusal_status};
+    ghost use Rattle.lb_command.specs.Outcomes.{refusal_status};
 
     /// E0: memory ran out.
     pub const MEMORY: Refusal = Refusal {
@@ -58,7 +58,7 @@ impl From<AllocError> for Refusal {
 }
 
 impl From<LoadError> for Refusal {
-    ghost use Rattle.lb_command.specs.Correct.{load_number};
+    ghost use Rattle.lb_command.specs.Outcomes.{load_number};
 
     ghost from_gives = { λ cause refusal. refusal.number ≡ load_number cause };
 
@@ -71,7 +71,7 @@ impl From<LoadError> for Refusal {
 }
 
 impl From<BenchError> for Refusal {
-    ghost use Rattle.lb_command.specs.Correct.{IsToldBy};
+    ghost use Rattle.lb_command.specs.Outcomes.{IsToldBy};
 
     ghost from_gives = { λ cause refusal. IsToldBy cause refusal };
 
@@ -79,6 +79,20 @@ impl From<BenchError> for Refusal {
         Refusal {
             number: cause.number(),
             position: cause.position(),
+        }
+    }
+}
+
+impl From<FollowError> for Refusal {
+    ghost use Rattle.lb_command.specs.Live.{stop_number};
+
+    ghost from_gives = { λ cause refusal. (refusal.number ≡ stop_number cause)
+        × (refusal.position ≡ None) };
+
+    fn from(cause: FollowError) -> Refusal {
+        match cause {
+            FollowError::Memory { .. } => Refusal::MEMORY,
+            FollowError::Write { .. } => Refusal::WRITE,
         }
     }
 }

@@ -20,10 +20,12 @@ pub enum Request<'a> {
     Run(Task<'a>),
 }
 
-/// A run: its options, and the paths of its inputs. What has no path comes from standard input.
+/// A run: its options, whether its report is written line by line, and the paths of its inputs. What
+/// has no path comes from standard input.
 #[derive(Drop)]
 pub struct Task<'a> {
     pub options: Options,
+    pub follow: bool,
     pub source: Option<&'a str>,
     pub traces: Option<&'a str>,
 }
@@ -80,13 +82,22 @@ fn with_numbers<'a>(alloc: Global, command: Command<'a>) -> Result<Command<'a>, 
     command.arg(batch.default_value("64"))
 }
 
-/// Adds the options that tell how the work is spread.
+/// Adds the options without a value.
+fn with_switches<'a>(alloc: Global, command: Command<'a>) -> Result<Command<'a>, AllocError>
+    ensures { IfOk result (λ c. app_of c ≡ spec.with_switches (app_of command.entry)) }
+{
+    let help = "puts traces of like length into one batch";
+    let command = command.arg(switch_argument(alloc, "by-length", help))?;
+    let help = "writes each line as soon as it and all before it are known";
+    command.arg(switch_argument(alloc, "follow", help))
+}
+
+/// Adds the options that tell how the work is spread and the report is written.
 fn with_spread<'a>(alloc: Global, command: Command<'a>) -> Result<Command<'a>, AllocError>
     ensures { IfOk result (λ c. app_of c ≡ spec.with_spread (app_of command.entry)) }
 {
     let command = with_numbers(alloc, command)?;
-    let help = "puts traces of like length into one batch";
-    command.arg(switch_argument(alloc, "by-length", help))
+    with_switches(alloc, command)
 }
 
 /// Adds the inputs.
@@ -175,14 +186,30 @@ fn options(alloc: Global, matches: &ArgMatches<'_>) -> Result<Options, Refusal>
     Ok(Options::new(node, observer, workers, batch, by_length))
 }
 
-/// The run that the words ask for.
+/// Whether the words give an option that has no value.
+fn is_given(matches: &ArgMatches<'_>, id: &str) -> bool
+    ensures { result ≡ spec.is_given (first_of id.now (rows_of (found_of matches.now))) }
+{
+    match text_of(matches, id) {
+        Some(text) => text == "true",
+        None => false,
+    }
+}
+
+/// The run that the words ask for. A live report takes a worker at least.
 fn read_task<'a>(alloc: Global, matches: &ArgMatches<'a>) -> Result<Task<'a>, Refusal>
     ensures ok { IfOk result (spec.IsTask (rows_of (found_of matches.now))) }
     ensures err { IfErr result (λ refusal. (refusal.number ≡ 0)
         ⊎ ((refusal.number ≡ 20) × spec.IsWrongNumber (rows_of (found_of matches.now)))) }
 {
+    let options = options(alloc, matches)?;
+    let follow = is_given(matches, "follow");
+    if follow && options.workers == 0 {
+        return Err(Refusal::USAGE);
+    }
     Ok(Task {
-        options: options(alloc, matches)?,
+        options,
+        follow,
         source: text_of(matches, "source"),
         traces: text_of(matches, "traces"),
     })

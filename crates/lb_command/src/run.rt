@@ -1,13 +1,15 @@
 //! A run of the program, on any streams.
 
-ghost use Rattle.std.specs.Prelude.{◌≡◌, ◌≢◌, ℕ, ◌<◌, List, Err, Ok, IfErr, IfOk, OnErr, OnOk};
+ghost use Rattle.std.specs.Prelude.{◌≡◌, ◌≢◌, ℕ, ◌<◌, true, List, Err, Ok, IfErr, IfOk, OnErr, OnOk};
 ghost use Rattle.std.specs.Prelude.{map, string_bytes};
 ghost use Rattle.std.specs.Io.KnownBytes.{Appends};
 ghost use Rattle.lb_report.specs.declared.error.BenchError.{BenchError as Cause};
-ghost use Rattle.lb_command.specs.Correct as spec;
+ghost use Rattle.lb_command.specs.Correct.{IsRun, IsTaskRun, IsWholeRun};
+ghost use Rattle.lb_command.specs.Outcomes as spec;
 ghost use Rattle.lb_command.specs.Streams.{change, input};
 
 use crate::line::refuse;
+use crate::live::run_live;
 use crate::refusal::Refusal;
 use crate::request::{Request, Task, read_words};
 use lb_report::{
@@ -16,8 +18,10 @@ use lb_report::{
 };
 use std::alloc::Global;
 use std::fs::File;
+use std::io::Read;
 use std::os::unix::fs::FileExt;
 use std::rt::Runtime;
+use std::sync::Wait;
 use std::thread::Threads;
 
 /// What a run has for the output.
@@ -53,7 +57,7 @@ impl Answer {
 
 /// The bytes of an input. The errors are E0 and E21.
 #[tactic(auto, using(crate::proofs::Outcomes::load_unread))]
-fn load_input<F: Feed>(alloc: Global, feed: &mut F) -> Result<Vec<u8>, Refusal>
+pub(crate) fn load_input<F: Feed>(alloc: Global, feed: &mut F) -> Result<Vec<u8>, Refusal>
     requires { F.failures feed.old < u64.MAX }
     ensures ok { IfOk result (λ bytes. spec.IsInput (F.coming feed.old) bytes.items) }
     ensures err { IfErr result spec.IsUnread }
@@ -63,12 +67,19 @@ fn load_input<F: Feed>(alloc: Global, feed: &mut F) -> Result<Vec<u8>, Refusal>
     Ok(load(alloc, feed)?)
 }
 
+/// The bytes of a file that is open. The errors are E0 and E21.
+pub(crate) fn load_open<F: Read>(alloc: Global, file: &mut F) -> Result<Vec<u8>, Refusal>
+    ensures { IfErr result spec.IsUnread }
+{
+    load_input(alloc, &mut Reader::new(file))
+}
+
 /// The bytes of a file. The errors are E0 and E21.
-fn load_file<R: Runtime + AllocGlobal>(rt: &R, path: &str) -> Result<Vec<u8>, Refusal>
+pub(crate) fn load_file<R: Runtime + AllocGlobal>(rt: &R, path: &str) -> Result<Vec<u8>, Refusal>
     ensures { IfErr result spec.IsUnread }
 {
     match File::open(rt, path) {
-        Ok(mut file) => load_input(rt.alloc(), &mut Reader::new(&mut file)),
+        Ok(mut file) => load_open(rt.alloc(), &mut file),
         Err(_) => Err(Refusal::READ),
     }
 }
@@ -122,7 +133,8 @@ where
     told(bench(rt, source.as_slice(), traces.as_slice(), options))
 }
 
-/// The report on a source file and a file of traces.
+/// The report on a source file and a file of traces, which is opened once: of a pipe with a name, a
+/// second opening would lose what the first one was given.
 fn report_on_files<R>(
     rt: &R,
     path: &str,
@@ -135,10 +147,13 @@ where
     ensures { spec.IsOutcomeOn (λ _ _. Unit {0}) options.now result }
 {
     let source = load_file(rt, path)?;
-    if let Some(report) = bench_file(rt, source.as_slice(), traces_path, options) {
+    let Ok(mut file) = File::open(rt, traces_path) else {
+        return Err(Refusal::READ);
+    };
+    if let Some(report) = bench_file(rt, source.as_slice(), &file, options) {
         return Ok(report);
     }
-    let traces = load_file(rt, traces_path)?;
+    let traces = load_open(rt.alloc(), &mut file)?;
     told(bench(rt, source.as_slice(), traces.as_slice(), options))
 }
 
@@ -160,25 +175,6 @@ where
     match task.traces {
         None => report_on_input(rt, path, &task.options, reader),
         Some(traces_path) => report_on_files(rt, path, traces_path, &task.options),
-    }
-}
-
-/// What the words ask for.
-fn answer_to<R, F>(rt: &R, words: &[String], reader: &mut F) -> Result<Answer, Refusal>
-where
-    R: Runtime + AllocGlobal + Threads + Sync,
-    R::File: FileExt + Sync,
-    F: Feed,
-    requires { F.failures reader.old < u64.MAX }
-    ensures ok { IfOk result (spec.IsAnswer (map string_bytes words.now) (F.coming reader.old)) }
-    ensures err { IfErr result (spec.IsRefusal (map string_bytes words.now)
-        (F.coming reader.old)) }
-    ensures read { spec.HasRead (spec.NamesFile (map string_bytes words.now))
-        (input (F.coming reader.old) (F.failures reader.old) (F.failures reader.new)) result }
-{
-    match read_words(rt.alloc(), words)? {
-        Request::Help(text) => Ok(Answer::Help(text)),
-        Request::Run(task) => Ok(Answer::OfTraces(report(rt, &task, reader)?)),
     }
 }
 
@@ -211,17 +207,10 @@ fn deliver<W: Sink, E: Sink>(answer: &Answer, writer: &mut W, errors: &mut E) ->
     }
 }
 
-/// Runs the program on these words, the program's name first, and answers its exit status.
-///
-/// | Status | When |
-/// |---|---|
-/// | 0 | a report in which no trace has a fault, is undefined or false; `--help` |
-/// | 1 | a report in which some trace has a fault, is undefined or false |
-/// | 2 | refused: E1 to E18, E20 |
-/// | 3 | E0, E19, E21 |
-pub fn command<R, F, W, E>(
+/// Runs a task whose report is written at once, and answers the exit status.
+fn run_whole<R, F, W, E>(
     rt: &R,
-    words: &[String],
+    task: &Task<'_>,
     reader: &mut F,
     writer: &mut W,
     errors: &mut E,
@@ -235,15 +224,88 @@ where
     requires reader { F.failures reader.old < u64.MAX }
     requires writer { W.failures writer.old < u64.MAX }
     requires errors { E.failures errors.old < u64.MAX }
-    ensures { spec.IsRun (map string_bytes words.now)
+    ensures { IsWholeRun task.now
         (input (F.coming reader.old) (F.failures reader.old) (F.failures reader.new)) result
         (change (W.taken writer.old) (W.taken writer.new)
         (W.failures writer.old) (W.failures writer.new))
         (change (E.taken errors.old) (E.taken errors.new)
         (E.failures errors.old) (E.failures errors.new)) }
 {
-    match answer_to(rt, words, reader) {
-        Ok(answer) => deliver(&answer, writer, errors),
+    match report(rt, task, reader) {
+        Ok(report) => deliver(&Answer::OfTraces(report), writer, errors),
+        Err(refusal) => refuse(&refusal, errors),
+    }
+}
+
+/// Runs a task, and answers the exit status.
+fn run_task<R, F, W, E>(
+    rt: &R,
+    task: &Task<'_>,
+    reader: &mut F,
+    writer: &mut W,
+    errors: &mut E,
+) -> u8
+where
+    R: Runtime + AllocGlobal + Threads + Wait + Sync,
+    R::File: FileExt + Sync,
+    F: Feed,
+    W: Sink,
+    E: Sink,
+    requires worker { task.now.follow ≡ true → 0 < task.now.options.workers }
+    requires reader { F.failures reader.old < u64.MAX }
+    requires writer { W.failures writer.old < u64.MAX }
+    requires errors { E.failures errors.old < u64.MAX }
+    ensures { IsTaskRun task.now
+        (input (F.coming reader.old) (F.failures reader.old) (F.failures reader.new)) result
+        (change (W.taken writer.old) (W.taken writer.new)
+        (W.failures writer.old) (W.failures writer.new))
+        (change (E.taken errors.old) (E.taken errors.new)
+        (E.failures errors.old) (E.failures errors.new)) }
+{
+    if task.follow {
+        run_live(rt, task, reader, writer, errors)
+    } else {
+        run_whole(rt, task, reader, writer, errors)
+    }
+}
+
+/// Runs the program on these words, the program's name first, and answers its exit status.
+///
+/// | Status | When |
+/// |---|---|
+/// | 0 | a report in which no trace has a fault, is undefined or false; `--help` |
+/// | 0 | with `--follow`: the whole report went out |
+/// | 1 | a report in which some trace has a fault, is undefined or false |
+/// | 2 | refused: E1 to E18, E20 |
+/// | 3 | E0, E19, E21 |
+pub fn command<R, F, W, E>(
+    rt: &R,
+    words: &[String],
+    reader: &mut F,
+    writer: &mut W,
+    errors: &mut E,
+) -> u8
+where
+    R: Runtime + AllocGlobal + Threads + Wait + Sync,
+    R::File: FileExt + Sync,
+    F: Feed,
+    W: Sink,
+    E: Sink,
+    requires reader { F.failures reader.old < u64.MAX }
+    requires writer { W.failures writer.old < u64.MAX }
+    requires errors { E.failures errors.old < u64.MAX }
+    ensures { IsRun (map string_bytes words.now)
+        (input (F.coming reader.old) (F.failures reader.old) (F.failures reader.new)) result
+        (change (W.taken writer.old) (W.taken writer.new)
+        (W.failures writer.old) (W.failures writer.new))
+        (change (E.taken errors.old) (E.taken errors.new)
+        (E.failures errors.old) (E.failures errors.new)) }
+{
+    match read_words(rt.alloc(), words) {
+        Ok(request) => match request {
+            Request::Help(text) => deliver(&Answer::Help(text), writer, errors),
+            Request::Run(task) => run_task(rt, &task, reader, writer, errors),
+        },
         Err(refusal) => refuse(&refusal, errors),
     }
 }

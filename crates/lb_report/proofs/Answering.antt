@@ -1,5 +1,6 @@
 -- A report is given where nothing refuses first, and an error has the number of the first refusal.
 use Rattle.std.proofs.Common.{◌≡◌, ℕ, ◌<◌, inl, inr, Option, Some, None, Result, Ok, Err, refl, ap}
+use Rattle.std.proofs.Common.{List}
 use Rattle.std.proofs.Common.{◌∙◌, arith}
 use Rattle.std.specs.Prelude.{IfOk, IfErr, string_bytes}
 use Rattle.std.specs.Option.{option_map}
@@ -25,13 +26,14 @@ use Rattle.lb_flat.specs.declared.error.OrderError.{OrderError}
 use Rattle.lb_flat.specs.declared.error.OrderError.TheVariants as order
 use Rattle.lb_report.specs.Bench.{IsBenchReport, IsCycle, IsRefused, program_of}
 use Rattle.lb_report.specs.Correct.{HasFirstNumber, IsBenchAnswer, IsFirstOf}
+use Rattle.lb_report.specs.LiveReports.{IsBenchText}
 use Rattle.lb_report.specs.FirstRefusals.{IsFirstRefusal, IsTextRefusal, too_long, no_tokens}
 use Rattle.lb_report.specs.FirstRefusals.{over_limit, no_tree, of_text, of_program, of_traces}
 use Rattle.lb_report.specs.Refusals.{syntax_number, static_number, check_number, order_number}
 use Rattle.lb_report.specs.declared.error.BenchError.{BenchError}
 use Rattle.lb_report.specs.declared.error.BenchError.TheVariants as part
 use Rattle.lb_report.specs.declared.options.Options.{Options}
-use Rattle.lb_report.specs.declared.text.Report.{Report}
+use Rattle.lb_pool.specs.declared.text.Report.{Report}
 use Rattle.lb_report.proofs.FirstRefusals.{only_first}
 
 -- a refusal with this number
@@ -67,16 +69,16 @@ by_static :
     IsNumbered (λ r. IsFirst P (Some r)) (static_number e)
 by_static P static.Memory some h = absurd (omega (arith, some))
 by_static P (static.Name x) some h =
-    record { refusal = E4; refuses = static_first P E4 h; same = refl }
+    record { refusal = E4; refuses = static_first P E4 h.0; same = refl }
 by_static P (static.Recursion x) some h =
-    record { refusal = E7; refuses = static_first P E7 h; same = refl }
-by_static P static.Root some h =
+    record { refusal = E7; refuses = static_first P E7 h.0; same = refl }
+by_static P (static.Root x) some h =
     record { refusal = E8; refuses = static_first P E8 h; same = refl }
 by_static P (static.Value x) some h =
     record { refusal = E5; refuses = static_first P E5 h; same = refl }
 by_static P (static.Range x) some h =
     record { refusal = E6; refuses = static_first P E6 h; same = refl }
-by_static P static.Instances some h =
+by_static P (static.Instances x) some h =
     record { refusal = E12; refuses = static_first P E12 h; same = refl }
 
 -- so is what is refused of types, clocks and definitions, where there is nothing before
@@ -102,7 +104,7 @@ by_order :
     (P : Program) (e : OrderError) → 0 < order_number e → IsCycle P e →
     IsNumbered (λ r. IsFirst P (Some r)) (order_number e)
 by_order P order.Memory some h = absurd (omega (arith, some))
-by_order P (order.Cycle elements) some h = record { refusal = E13; refuses = h; same = refl }
+by_order P (order.Cycle cycle) some h = record { refusal = E13; refuses = h.0; same = refl }
 
 -- ## What the bench answers
 
@@ -114,7 +116,7 @@ module _ (source traces : Text) (options : Options) where
       IsFirstOf source traces options first
   first_of first h = only_first source traces _ _ first h
 
-  numbered :
+  pub numbered :
       (e : BenchError) → IsRefused source traces options e →
       HasFirstNumber source traces options e
   numbered part.Memory h = λ some. absurd (omega (arith, some))
@@ -128,8 +130,8 @@ module _ (source traces : Text) (options : Options) where
       let by = by_check (program_of h.tree options) e some h.holds.0 h.holds.1 in
       first_of _ (of_program h.tree by.refusal h.spelled by.refuses (ap Some by.same))
   numbered (part.Flat flat.Memory) h = λ some. absurd (omega (arith, some))
-  numbered (part.Flat flat.Large) h = λ some.
-      first_of _ (of_program h.tree E12 h.spelled h.holds refl)
+  numbered (part.Flat (flat.Large fault)) h = λ some.
+      first_of _ (of_program h.tree E12 h.spelled h.holds.0 refl)
   numbered (part.Order e) h = λ some.
       let by = by_order (program_of h.tree options) e some h.holds in
       first_of _ (of_program h.tree by.refusal h.spelled by.refuses (ap Some by.same))
@@ -142,6 +144,14 @@ module _ (source traces : Text) (options : Options) where
   reported : (report : Report) → IsBenchReport source traces options report
       → IsFirstOf source traces options None
   reported report h =
+      let recorded = h.holds.recorded in
+      first_of None
+      (of_traces h.tree h.spelled h.holds.accepted
+      (h.holds.recording.traces, recorded.text_spells_it))
+
+  pub none_refuses : (report : List ℕ) → IsBenchText source traces options report
+      → IsFirstOf source traces options None
+  none_refuses report h =
       let recorded = h.holds.recorded in
       first_of None
       (of_traces h.tree h.spelled h.holds.accepted

@@ -1,6 +1,6 @@
 -- What a part of the bench refuses is the first refusal of the program; one that no part refuses is
 -- accepted.
-use Rattle.std.proofs.Common.{◌≡◌, true, Option, None, Err, ap, ◌∙◌}
+use Rattle.std.proofs.Common.{◌≡◌, true, Option, None, Err, ap, ◌∙◌, subst, sym}
 use Rattle.std.specs.Prelude.{string_bytes}
 use Rattle.std.specs.Option.{option_map}
 use Rattle.lb_syntax.specs.Lists.{or_else}
@@ -12,9 +12,11 @@ use Rattle.lb_check.specs.Acceptance.{check_refusal, refusal, IsAccepted}
 use Rattle.lb_check.specs.Needs.{IsCausal}
 use Rattle.lb_check.specs.TypeRules.{is_small}
 use Rattle.lb_flat.specs.Correct.{IsCycleFound, IsExpansionAnswer, IsExpansionOf, IsOrderOf}
+use Rattle.lb_flat.specs.Correct.{IsPlaced}
 use Rattle.lb_flat.specs.FlatPrograms.{IsFlatOf}
 use Rattle.lb_flat.specs.Judging.{FlatProgram}
 use Rattle.lb_flat.specs.Programs.{numbers_of}
+use Rattle.lb_flat.specs.Reading.{IsCertificate}
 use Rattle.lb_flat.specs.declared.error.FlatError.{FlatError}
 use Rattle.lb_flat.specs.declared.error.FlatError.TheVariants as flat
 use Rattle.lb_flat.specs.declared.error.OrderError.{OrderError}
@@ -44,7 +46,8 @@ pub too_large :
     (P : Program) (e : FlatError) → static_refusal P ≡ None → check_refusal P ≡ None →
     IsExpansionAnswer P (Err e) → IsTooLarge P e
 too_large P flat.Memory s c h = tt
-too_large P flat.Large s c h = size_decides P s c ∙ ap (λ b. unless b E12) h
+too_large P (flat.Large fault) s c h =
+    (size_decides P s c ∙ ap (λ b. unless b E12) h.0, h.1)
 
 -- a small one whose equations cannot be put in order is refused for that first
 pub is_cycle :
@@ -52,10 +55,21 @@ pub is_cycle :
     check_refusal P ≡ None → is_small P ≡ true → IsExpansionOf P f →
     IsCycleFound f e → IsCycle P e
 is_cycle P f Memory s c z expansion found = tt
-is_cycle P f (Cycle elements) s c z expansion found = (
-  size_decides P s c ∙ ap (λ b. unless b E12) z,
-  cyclic_of P (numbers_of elements.items) (found.1 P expansion),
+is_cycle P f (Cycle cycle) s c z expansion found = (
+  (
+    size_decides P s c ∙ ap (λ b. unless b E12) z,
+    cyclic_of P (numbers_of cycle.value.elements.items) (found.1 P expansion),
+  ),
+  found.1 P expansion,
 )
+
+-- and so it is where the places of its elements are found
+pub placed_cycle :
+    (P : Program) (e placed : OrderError) → IsPlaced e placed → IsCycle P e → IsCycle P placed
+placed_cycle P e Memory same h = tt
+placed_cycle P Memory (Cycle placed) same h = absurd same
+placed_cycle P (Cycle cycle) (Cycle placed) same h =
+    (h.0, subst (λ is. IsCertificate P (numbers_of is)) (sym same.0) h.1)
 
 -- a causal program whose equations are put in order is accepted, and these are its equations
 pub accepted_is :

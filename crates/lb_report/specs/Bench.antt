@@ -18,6 +18,9 @@ use Rattle.lb_check.specs.Verdicts.{IsOnlyVerdict}
 use Rattle.lb_check.specs.declared.verdict.Verdict.{Verdict}
 use Rattle.lb_check.specs.declared.verdict.Verdict.TheVariants.{Passed}
 use Rattle.lb_flat.specs.Inputs.{inputs_of}
+use Rattle.lb_flat.specs.Programs.{numbers_of}
+use Rattle.lb_flat.specs.Reading.{IsCertificate}
+use Rattle.lb_flat.specs.SizeFaults.{IsSizeFault}
 use Rattle.lb_flat.specs.Traces.{Recording, Traces, trace_names}
 use Rattle.lb_flat.specs.declared.error.FlatError.{FlatError}
 use Rattle.lb_flat.specs.declared.error.FlatError.TheVariants as flat
@@ -25,11 +28,11 @@ use Rattle.lb_flat.specs.declared.error.OrderError.{OrderError}
 use Rattle.lb_flat.specs.declared.error.OrderError.TheVariants as order
 use Rattle.lb_trace.specs.Errors.{Refuses}
 use Rattle.lb_trace.specs.Spelling.{Spells}
-use Rattle.lb_report.specs.Reports.{IsReport}
+use Rattle.lb_pool.specs.Reports.{IsReport}
 use Rattle.lb_report.specs.declared.error.BenchError.{BenchError}
 use Rattle.lb_report.specs.declared.error.BenchError.TheVariants as part
 use Rattle.lb_report.specs.declared.options.Options.{Options}
-use Rattle.lb_report.specs.declared.text.Report.{Report}
+use Rattle.lb_pool.specs.declared.text.Report.{Report}
 
 -- ## The program
 
@@ -82,15 +85,17 @@ IsBenchReport source traces options report =
 
 -- ## Refusals
 
--- the first refusal of a program is its size
+-- the first refusal of a program is its size, which is told
 abbrev pub IsTooLarge : Program → FlatError → Type 0
 IsTooLarge P flat.Memory = Unit {0}
-IsTooLarge P flat.Large = refusal P ≡ Some E12
+IsTooLarge P (flat.Large fault) = (refusal P ≡ Some E12) × IsSizeFault P fault
 
--- the first refusal of a program is that an element needs itself at the same instant
+-- the first refusal of a program is that an element needs itself at the same instant: elements are
+-- told of which each needs the next one, and the last one the first
 abbrev pub IsCycle : Program → OrderError → Type 0
 IsCycle P order.Memory = Unit {0}
-IsCycle P (order.Cycle elements) = IsFirst P (Some E13)
+IsCycle P (order.Cycle cycle) =
+    IsFirst P (Some E13) × IsCertificate P (numbers_of cycle.value.elements.items)
 
 -- the named part refuses, and none before it; nothing is said where memory ran out
 abbrev pub IsRefused : (source traces : Text) → Options → BenchError → Type 0

@@ -9,7 +9,7 @@ use Rattle.lb_report.specs.FirstRefusals.{IsOnlyFirstRefusal}
 use Rattle.lb_report.specs.Refusals.{number_of}
 use Rattle.lb_report.specs.declared.error.BenchError.{BenchError}
 use Rattle.lb_report.specs.declared.options.Options.{Options}
-use Rattle.lb_report.specs.declared.text.Report.{Report}
+use Rattle.lb_pool.specs.declared.text.Report.{Report}
 
 -- the first refusal of the texts, with the node under test and the observer that the options name
 abbrev pub IsFirstOf : (source traces : Text) → Options → Option ℕ → Type 0

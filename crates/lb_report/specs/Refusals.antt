@@ -54,12 +54,12 @@ syntax_number (syntax.Size line column) = 3
 
 abbrev pub static_number : StaticError → ℕ
 static_number static.Memory = 0
-static_number (static.Name name) = 4
-static_number (static.Recursion name) = 7
-static_number static.Root = 8
-static_number (static.Value name) = 5
-static_number (static.Range name) = 6
-static_number static.Instances = 12
+static_number (static.Name fault) = 4
+static_number (static.Recursion cycle) = 7
+static_number (static.Root fault) = 8
+static_number (static.Value fault) = 5
+static_number (static.Range fault) = 6
+static_number (static.Instances fault) = 12
 
 abbrev pub check_number : CheckError → ℕ
 check_number check.Memory = 0
@@ -69,11 +69,11 @@ check_number (check.Definition name) = 11
 
 abbrev pub flat_number : FlatError → ℕ
 flat_number flat.Memory = 0
-flat_number flat.Large = 12
+flat_number (flat.Large fault) = 12
 
 abbrev pub order_number : OrderError → ℕ
 order_number order.Memory = 0
-order_number (order.Cycle elements) = 13
+order_number (order.Cycle cycle) = 13
 
 -- the number of a refusal
 abbrev pub number_of : BenchError → ℕ

@@ -27,17 +27,16 @@ ghost use Rattle.lb_report.specs.declared.options.Options.{Options as Asked};
 
 use crate::case::split_case;
 use crate::error::BenchError;
-use crate::file_chunks::{chunk_starts, load_chunk, numbers_after_first};
+use crate::file_chunks::FileChunks;
 use crate::options::Options;
-use crate::text::Report;
 use lb_check::{Verdict, check};
-use lb_flat::{Ordered, TraceSet, expand, order};
-use lb_pool::{NoGate, Plan, run_claims, run_spread};
+use lb_flat::{Ordered, TraceSet, expand, order, with_places};
+use lb_pool::{NoGate, Plan, Report, run_claims, run_spread};
 use lb_static::{Signature, elaborate};
 use lb_syntax::{Source, parse};
 use lb_trace::{TraceError, read_loaded, read_traces_by};
 use std::alloc::{AllocError, Global};
-use std::fs::File;
+use std::fs::OpenFile;
 use std::os::unix::fs::FileExt;
 use std::rt::Runtime;
 use std::thread::Threads;
@@ -47,9 +46,9 @@ const MOST_WORKERS: usize = 16;
 
 /// A program that keeps all rules: its signature is that of its traces, its equations run.
 #[derive(Drop)]
-struct AcceptedProgram {
-    signature: Signature,
-    ordered: Ordered,
+pub(crate) struct AcceptedProgram {
+    pub(crate) signature: Signature,
+    pub(crate) ordered: Ordered,
 }
 
 /// The program of a tree, ready to run.
@@ -65,14 +64,22 @@ fn accept_tree(
 {
     let elab = elaborate(alloc, tree, options.node.as_str(), options.observer_name())?;
     let checked = check(alloc, elab)?;
-    let flat = expand(alloc, &checked);
-    let signature = checked.into_signature();
-    let ordered = order(alloc, flat?)?;
-    Ok(AcceptedProgram { signature, ordered })
+    let flat = expand(alloc, &checked)?;
+    match order(alloc, flat) {
+        Ok(ordered) => Ok(AcceptedProgram {
+            signature: checked.into_signature(),
+            ordered,
+        }),
+        Err(cause) => Err(BenchError::Order(with_places(alloc, &checked, cause))),
+    }
 }
 
 /// The program that a source spells, ready to run.
-fn accept(alloc: Global, source: &[u8], options: &Options) -> Result<AcceptedProgram, BenchError>
+pub(crate) fn accept(
+    alloc: Global,
+    source: &[u8],
+    options: &Options,
+) -> Result<AcceptedProgram, BenchError>
     ensures ok { IfOk result (λ p. OnlyProgram source.now options.now (IsAcceptedProgram p)) }
     ensures err { IfErr result (λ e.
         (traces : Text) → IsRefused source.now traces options.now e) }
@@ -82,7 +89,7 @@ fn accept(alloc: Global, source: &[u8], options: &Options) -> Result<AcceptedPro
 }
 
 /// Which traces run together, as the options say.
-fn plan_of(alloc: Global, set: &TraceSet, options: &Options) -> Result<Plan, AllocError>
+pub(crate) fn plan_of(alloc: Global, set: &TraceSet, options: &Options) -> Result<Plan, AllocError>
     ensures { IfOk result (λ plan. length (numbers_in plan) ≡ length set.now.traces) }
 {
     if options.by_length {
@@ -218,12 +225,13 @@ where
     Some(report)
 }
 
-/// As [`bench_loaded`] of the chunks of a large file. None also where one worker is to read it, and
-/// where it is not large: [`bench`] of its bytes then tells what refuses first.
-pub fn bench_file<R>(rt: &R, source: &[u8], path: &str, options: &Options) -> Option<Report>
+/// As [`bench_loaded`] of the chunks of a large file that is open. None also where one worker is to
+/// read it, and where it is no regular file or not large: [`bench`] of its bytes then tells what
+/// refuses first. It reads at places of its own, so the file can still be read from its begin.
+pub fn bench_file<R, F>(rt: &R, source: &[u8], file: &F, options: &Options) -> Option<Report>
 where
     R: Runtime + AllocGlobal + Threads + Sync,
-    R::File: FileExt + Sync,
+    F: OpenFile + FileExt + Sync,
     ensures { IfSome result (λ report. (traces : Text)
         × IsBenchReport source.now traces options.now report) }
 {
@@ -231,26 +239,14 @@ where
         return None;
     }
     let alloc = rt.alloc();
-    let Ok(file) = File::open(rt, path) else {
-        return None;
-    };
-    let Ok(starts) = chunk_starts(alloc, &file) else {
-        return None;
-    };
-    let Ok(numbers) = numbers_after_first(alloc, starts.len().saturating_sub(1)) else {
-        return None;
-    };
-    let places = starts.as_slice();
-    let load = |k: usize| -> Option<Vec<u8>> { load_chunk(alloc, &file, places, k) };
-    let Some(first) = load(0) else {
-        return None;
-    };
+    let chunks = FileChunks::of_file(alloc, file)?;
+    let load = |k: usize| -> Option<Vec<u8>> { chunks.load(alloc, k) };
     bench_loaded(
         rt,
         source,
-        first.as_slice(),
+        chunks.first.as_slice(),
         &load,
-        numbers.as_slice(),
+        chunks.numbers.as_slice(),
         options,
     )
 }

@@ -33,10 +33,10 @@ fn static_number(cause: &StaticError) -> u8
         StaticError::Memory => 0,
         StaticError::Name(_) => 4,
         StaticError::Recursion(_) => 7,
-        StaticError::Root => 8,
+        StaticError::Root(_) => 8,
         StaticError::Value(_) => 5,
         StaticError::Range(_) => 6,
-        StaticError::Instances => 12,
+        StaticError::Instances(_) => 12,
     }
 }
 
@@ -58,7 +58,7 @@ fn flat_number(cause: &FlatError) -> u8
 {
     match cause {
         FlatError::Memory => 0,
-        FlatError::Large => 12,
+        FlatError::Large(_) => 12,
     }
 }
 

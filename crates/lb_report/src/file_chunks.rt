@@ -44,10 +44,7 @@ fn line_start<F: FileExt>(file: &F, from: u64) -> Option<u64> {
 
 /// Where the chunks of a large file begin, and then where the last one ends; none where the file is
 /// not large, or does not end with a line.
-pub(crate) fn chunk_starts<F: OpenFile + FileExt>(
-    alloc: Global,
-    file: &F,
-) -> Result<Vec<u64>, AllocError> {
+fn chunk_starts<F: OpenFile + FileExt>(alloc: Global, file: &F) -> Result<Vec<u64>, AllocError> {
     let mut starts = Vec::new(alloc);
     let size = size_of(file);
     if size < LEAST || size > INPUT_LIMIT as u64 {
@@ -72,7 +69,7 @@ pub(crate) fn chunk_starts<F: OpenFile + FileExt>(
 }
 
 /// The numbers of so many chunks, but for the first.
-pub(crate) fn numbers_after_first(alloc: Global, count: usize) -> Result<Vec<usize>, AllocError> {
+fn numbers_after_first(alloc: Global, count: usize) -> Result<Vec<usize>, AllocError> {
     let mut numbers = Vec::new(alloc);
     for k in 1..count {
         numbers.push(k)?;
@@ -82,12 +79,7 @@ pub(crate) fn numbers_after_first(alloc: Global, count: usize) -> Result<Vec<usi
 
 /// The bytes of a chunk of a file, by where all of them begin and the last one ends; None where
 /// they could not be read.
-pub(crate) fn load_chunk<F: FileExt>(
-    alloc: Global,
-    file: &F,
-    starts: &[u64],
-    k: usize,
-) -> Option<Vec<u8>> {
+fn load_chunk<F: FileExt>(alloc: Global, file: &F, starts: &[u64], k: usize) -> Option<Vec<u8>> {
     let start = starts.get(k)?;
     let past = starts.get(k.saturating_add(1))?;
     let mut chunk = Vec::new(alloc);
@@ -98,4 +90,40 @@ pub(crate) fn load_chunk<F: FileExt>(
         return None;
     };
     Some(chunk)
+}
+
+/// A large file in chunks, of which the first is loaded.
+#[derive(Drop)]
+pub(crate) struct FileChunks<'f, F> {
+    file: &'f F,
+    /// Where they begin, and then where the last one ends.
+    starts: Vec<u64>,
+    pub(crate) first: Vec<u8>,
+    /// The numbers of the others.
+    pub(crate) numbers: Vec<usize>,
+}
+
+impl<'f, F: OpenFile + FileExt> FileChunks<'f, F> {
+    /// The chunks of a file; None where it is not large, does not end with a line, or could not be
+    /// read.
+    pub(crate) fn of_file(alloc: Global, file: &'f F) -> Option<FileChunks<'f, F>> {
+        let Ok(starts) = chunk_starts(alloc, file) else {
+            return None;
+        };
+        let Ok(numbers) = numbers_after_first(alloc, starts.len().saturating_sub(1)) else {
+            return None;
+        };
+        let first = load_chunk(alloc, file, starts.as_slice(), 0)?;
+        Some(FileChunks {
+            file,
+            starts,
+            first,
+            numbers,
+        })
+    }
+
+    /// The bytes of a chunk; None where they could not be read.
+    pub(crate) fn load(&self, alloc: Global, k: usize) -> Option<Vec<u8>> {
+        load_chunk(alloc, self.file, self.starts.as_slice(), k)
+    }
 }

@@ -6,16 +6,17 @@ mod case;
 mod error;
 mod feed;
 mod file_chunks;
+mod live;
 mod options;
 mod refusal;
-mod sink;
-mod text;
 
 pub use answer::{bench, bench_file, bench_loaded, run_case};
 pub use case::split_case;
 pub use error::BenchError;
 pub use feed::{Feed, FeedFailed, LoadError, Reader, load};
+pub use lb_pool::{
+    FollowError, Gate, NoGate, Report, Sent, Sink, SinkFailed, Writer, report_text, send, status,
+};
+pub use live::{FollowFault, follow, follow_file};
 pub use options::Options;
 pub use refusal::word;
-pub use sink::{Sent, Sink, SinkFailed, Writer, send};
-pub use text::{Report, report_text, status};

@@ -11,6 +11,7 @@ use std::io::{self, ErrorKind};
 use std::os::unix::fs::FileExt;
 use std::process::ExitCode;
 use std::rt::Runtime;
+use std::sync::Wait;
 use std::thread::{Builder, Threads};
 
 /// The words of the command line, the program's name first.
@@ -28,7 +29,7 @@ const STACK: usize = 2 << 20;
 /// Runs the program on these streams, and answers its exit status.
 fn run<R, F, W, E>(rt: &R, reader: &mut F, writer: &mut W, errors: &mut E) -> u8
 where
-    R: Runtime + AllocGlobal + Threads + Sync,
+    R: Runtime + AllocGlobal + Threads + Wait + Sync,
     R::File: FileExt + Sync,
     F: Feed,
     W: Sink,

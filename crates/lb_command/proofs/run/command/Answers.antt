@@ -1,13 +1,34 @@
-use Rattle.std.proofs.Common.{refl}
-use Rattle.lb_command.specs.Correct.IsRun.{answered, refused}
+use Rattle.std.proofs.Common.{map, refl, subst}
+use Rattle.std.specs.Prelude.{string_bytes}
+use Rattle.lb_command.specs.Correct.IsRun.{asked, help, refused}
+use Rattle.lb_command.specs.Words.{AsksForHelp, IsAsked, IsRequest}
+use Rattle.lb_command.specs.declared.request.Request.{Request}
+use Rattle.lb_command.specs.declared.run.Answer.TheVariants.{Help}
 use Rattle.lb_command.proofs.Streams.{keeps_all}
 use Rattle.lb_command.proofs.run.command.Goals as goal
 
-pub returns-in-Ok : goal.returns-in-Ok
-returns-in-Ok g c =
-    answered c.in-Ok.answer c.in-Ok.ensures.ok c.in-Ok.ensures.read c.deliver.ensures
+pub run_task-requires-clause-worker : goal.run_task-requires-clause-worker
+run_task-requires-clause-worker g c κs within =
+    let words = map string_bytes c.args.words.now in
+    let Is : Request → Type 0 = IsRequest words in
+    let given : IsAsked words c.in-Run.task = subst Is c.in-Run.is c.in-Ok.ensures.ok in
+    given.given.worker
+
+pub returns-in-Help : goal.returns-in-Help
+returns-in-Help g c =
+    let words = map string_bytes c.args.words.now in
+    let Is : Request → Type 0 = IsRequest words in
+    let asks : AsksForHelp words = subst Is c.in-Help.is c.in-Ok.ensures.ok in
+    help (Help c.in-Help.text) tt asks refl c.deliver.ensures
+
+pub returns-in-Run : goal.returns-in-Run
+returns-in-Run g c =
+    let words = map string_bytes c.args.words.now in
+    let Is : Request → Type 0 = IsRequest words in
+    let given : IsAsked words c.in-Run.task = subst Is c.in-Run.is c.in-Ok.ensures.ok in
+    asked c.in-Run.task given c.run_task.ensures
 
 pub returns-in-Err : goal.returns-in-Err
 returns-in-Err g c =
-    refused c.in-Err.refusal c.in-Err.ensures.err c.in-Err.ensures.read c.refuse.ensures.status
+    refused c.in-Err.refusal c.in-Err.ensures.err refl c.refuse.ensures.status
     (record { kept = keeps_all _; never_failed = refl }) c.refuse.ensures.told

@@ -1,6 +1,6 @@
 use Rattle.std.proofs.Common.{List, ℕ, refl, subst}
 use Rattle.std.specs.Io.KnownBytes.{Appends}
-use Rattle.lb_command.specs.Correct.IsDelivered.{broken, whole}
+use Rattle.lb_command.specs.Outcomes.IsDelivered.{broken, whole}
 use Rattle.lb_command.proofs.Streams.{keeps_all}
 use Rattle.lb_command.proofs.run.deliver.Goals as goal
 

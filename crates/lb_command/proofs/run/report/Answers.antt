@@ -1,6 +1,6 @@
 use Rattle.clap.specs.Words.{Text}
-use Rattle.lb_command.specs.Correct.{AreParts, AreTexts, IsInput}
-use Rattle.lb_command.specs.Correct.AreTexts.{of_case, of_files, of_input}
+use Rattle.lb_command.specs.Outcomes.{AreParts, AreTexts, IsInput}
+use Rattle.lb_command.specs.Outcomes.AreTexts.{of_case, of_files, of_input}
 use Rattle.lb_command.proofs.Outcomes.{outcome_on}
 use Rattle.lb_command.proofs.run.report.Goals as goal
 

@@ -1,6 +1,6 @@
 use Rattle.std.proofs.Common.{refl, subst, sym}
 use Rattle.clap.specs.Words.{Text}
-use Rattle.lb_command.specs.Correct.{IsInput}
+use Rattle.lb_command.specs.Outcomes.{IsInput}
 use Rattle.lb_command.proofs.Outcomes.{outcome_of}
 use Rattle.lb_command.proofs.run.report_on_case.Goals as goal
 

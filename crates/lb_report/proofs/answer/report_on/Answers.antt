@@ -6,7 +6,7 @@ use Rattle.lb_trace.specs.Correct.{IsTraceReading}
 use Rattle.lb_trace.specs.Errors.{Refuses}
 use Rattle.lb_trace.specs.Spelling.{Spells}
 use Rattle.lb_report.specs.Bench.{program_of}
-use Rattle.lb_report.specs.Reports.{IsReport}
+use Rattle.lb_pool.specs.Reports.{IsReport}
 use Rattle.lb_report.proofs.VerdictLists.{are_verdicts}
 use Rattle.lb_report.proofs.answer.report_on.Goals as goal
 

@@ -1,0 +1,25 @@
+use Rattle.std.proofs.Common.{refl, subst, sym}
+use Rattle.clap.specs.Words.{Text}
+use Rattle.lb_command.specs.Outcomes.{AreParts, IsInput}
+use Rattle.lb_command.proofs.Living.{live_of, unread_with}
+use Rattle.lb_command.proofs.Streams.{keeps_all}
+use Rattle.lb_command.proofs.live.follow_case.Goals as goal
+
+pub returns-in-Ok : goal.returns-in-Ok
+returns-in-Ok g c =
+    let known = g.F.Feed.coming c.args.reader.now in
+    let Is : Text → Type 0 = IsInput known in
+    let given = subst Is (sym c.as_slice.ensures.value) c.in-Ok.ensures.ok in
+    live_of (AreParts known) ⊥ _ _ _ _ _ c.follow_texts.result
+    (record {
+      case = c.as_slice.result.now;
+      input = given;
+      first = c.split_case.ensures.source;
+      second = c.split_case.ensures.traces;
+    }) c.in-Ok.ensures.read c.follow_texts.ensures
+
+pub returns-in-Err : goal.returns-in-Err
+returns-in-Err g c =
+    unread_with (AreParts (g.F.Feed.coming c.args.reader.now)) ⊥ _ _ _ c.in-Err.refusal
+    c.in-Err.ensures.err c.in-Err.ensures.read
+    (record { kept = keeps_all _; never_failed = refl })

@@ -1,0 +1,15 @@
+use Rattle.std.proofs.Common.{refl}
+use Rattle.lb_command.proofs.Living.{live_of, tells_of_file, unread_with}
+use Rattle.lb_command.proofs.Streams.{keeps_all}
+use Rattle.lb_command.proofs.live.follow_loaded.Goals as goal
+
+pub returns-in-Ok : goal.returns-in-Ok
+returns-in-Ok g c = λ i never.
+    live_of (λ source traces. Unit {0}) (Unit {0}) _ _ _ i _ c.follow_texts.result tt never
+    c.follow_texts.ensures
+
+pub returns-in-Err : goal.returns-in-Err
+returns-in-Err g c = λ i never.
+    unread_with (λ source traces. Unit {0}) (Unit {0}) _ i _ c.in-Err.refusal c.in-Err.ensures
+    (tells_of_file i c.in-Err.refusal never)
+    (record { kept = keeps_all _; never_failed = refl })
