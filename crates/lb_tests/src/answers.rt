@@ -13,9 +13,9 @@ pub fn push_refusal(said: &mut String, error: &BenchError) -> Result<(), AllocEr
         return write!(said, " at {line}:{column}");
     }
     match error {
-        BenchError::Check(
-            CheckError::Type(name) | CheckError::Clock(name) | CheckError::Definition(name),
-        ) => write!(said, " in {name}"),
+        BenchError::Check(CheckError::Type(fault)) => write!(said, " in {}", fault.node),
+        BenchError::Check(CheckError::Clock(fault)) => write!(said, " in {}", fault.node),
+        BenchError::Check(CheckError::Definition(fault)) => write!(said, " in {}", fault.node),
         _ => Ok(()),
     }
 }

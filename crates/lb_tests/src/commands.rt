@@ -5,6 +5,7 @@ use lb_report::{Reader, Writer};
 use std::alloc::{AllocError, Global};
 use std::os::unix::fs::FileExt;
 use std::rt::Runtime;
+use std::sync::Wait;
 use std::test::Fail;
 use std::thread::Threads;
 use std::{env, fs};
@@ -20,7 +21,7 @@ fn words_of(alloc: Global, line: &str) -> Result<Vec<String>, AllocError> {
 
 /// Runs a command line on an input, and gives its status. What it prints goes behind what stands in
 /// the output and the errors.
-pub fn run_line<R: Runtime + AllocGlobal + Threads + Sync>(
+pub fn run_line<R: Runtime + AllocGlobal + Threads + Wait + Sync>(
     rt: &R,
     line: &str,
     input: &str,
@@ -42,7 +43,7 @@ where
 
 /// What is printed as an error, the status, and whether there is output, where the first line has
 /// the words and the others are the input.
-pub fn push_answer<R: Runtime + AllocGlobal + Threads + Sync>(
+pub fn push_answer<R: Runtime + AllocGlobal + Threads + Wait + Sync>(
     rt: &R,
     asked: &str,
     said: &mut String,
@@ -79,6 +80,30 @@ status 2
 ----
 lbench no/such/source => refused: E21 read
 status 3
+----
+lbench --follow --workers 0 => refused: E20 usage
+status 2
+----
+lbench --follow no/such/source => refused: E21 read
+status 3
+----
+lbench --follow
+% => refused: E1 character at 1:1
+status 2
+----
+lbench --follow
+node main(x: int) returns (ok: bool);
+var n: int;
+let
+  n = 0 -> pre n + x;
+  ok = n < 10;
+tel
+%traces
+trace,x
+a,1
+a,5
+a,6
+b,0 => status 0 with output
 ----
 lbench
 % => refused: E1 character at 1:1
@@ -124,7 +149,7 @@ total 2 passed 1 fault 0 undefined 0 assertion 0 false 1
 
 /// Whether the program reports on the source at a path and these traces, which stand at another
 /// path or in the standard input.
-fn is_reported<R: Runtime + AllocGlobal + Threads + Sync>(
+fn is_reported<R: Runtime + AllocGlobal + Threads + Wait + Sync>(
     rt: &R,
     source: &str,
     traces: &str,

@@ -14,7 +14,7 @@ fn cycle_of(alloc: Global, tree: &Source) -> Option<Vec<ElementId>> {
     let elab = elaborate(alloc, tree, "main", None).ok()?;
     let checked = check(alloc, elab).ok()?;
     match order(alloc, expand(alloc, &checked).ok()?) {
-        Err(OrderError::Cycle(cycle)) => Some(cycle),
+        Err(OrderError::Cycle(cycle)) => Some(Box::into_inner(cycle).elements),
         _ => None,
     }
 }

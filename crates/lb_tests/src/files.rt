@@ -42,7 +42,10 @@ where
     let Some(options) = options_of(rt.alloc(), workers)? else {
         return Ok(None);
     };
-    Ok(bench_file(rt, SOURCE.as_bytes(), path, &options))
+    let Ok(file) = fs::File::open(rt, path) else {
+        return Ok(None);
+    };
+    Ok(bench_file(rt, SOURCE.as_bytes(), &file, &options))
 }
 
 /// Whether the report on a trace file by so many workers is that on its text by one.

@@ -9,6 +9,8 @@ mod answers;
 #[cfg(test)]
 mod batches;
 #[cfg(test)]
+mod check_causes;
+#[cfg(test)]
 mod commands;
 #[cfg(test)]
 mod cycles;
@@ -17,13 +19,23 @@ mod elaboration;
 #[cfg(test)]
 mod files;
 #[cfg(test)]
+mod flat_causes;
+#[cfg(test)]
+mod follow;
+#[cfg(test)]
+mod follow_board;
+#[cfg(test)]
 mod forms;
+#[cfg(test)]
+mod hostile;
 #[cfg(test)]
 mod lane_words;
 #[cfg(test)]
 mod lanes;
 #[cfg(test)]
 mod machine;
+#[cfg(test)]
+mod offsets;
 #[cfg(test)]
 mod pool;
 #[cfg(test)]
@@ -42,6 +54,8 @@ mod source_places;
 mod source_texts;
 #[cfg(test)]
 mod sources;
+#[cfg(test)]
+mod static_causes;
 #[cfg(test)]
 mod streams;
 #[cfg(test)]

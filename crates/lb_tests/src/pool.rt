@@ -17,6 +17,7 @@ use std::alloc::{AllocError, Global};
 use std::hint::spin_loop;
 use std::os::unix::fs::FileExt;
 use std::rt::Runtime;
+use std::sync::Wait;
 use std::sync::atomic::{AtomicBool, Ordering};
 use std::thread::Threads;
 
@@ -237,7 +238,7 @@ pub fn push_case(case: &mut String, short: &str) -> Result<(), AllocError> {
 }
 
 // The output and the status of a command line on a case.
-fn push_output<R: Runtime + AllocGlobal + Threads + Sync>(
+fn push_output<R: Runtime + AllocGlobal + Threads + Wait + Sync>(
     rt: &R,
     line: &str,
     case: &str,
@@ -254,7 +255,7 @@ where
 }
 
 // The first command line that answers a case otherwise than was said, if there is one.
-fn push_other<R: Runtime + AllocGlobal + Threads + Sync>(
+fn push_other<R: Runtime + AllocGlobal + Threads + Wait + Sync>(
     rt: &R,
     case: &str,
     said: &mut String,
@@ -274,7 +275,7 @@ where
 }
 
 /// What all command lines answer on a case whose records are told by their count.
-pub fn push_spread<R: Runtime + AllocGlobal + Threads + Sync>(
+pub fn push_spread<R: Runtime + AllocGlobal + Threads + Wait + Sync>(
     rt: &R,
     asked: &str,
     said: &mut String,
@@ -389,15 +390,28 @@ status 0";
 
 /// Holds the worker of batch 0 until another batch has been entered.
 #[derive(Drop)]
-struct Hold {
+pub struct Hold {
     is_entered: AtomicBool,
     has_given_up: AtomicBool,
 }
 
 /// How often the worker of batch 0 looks.
-const TURNS: u32 = 100_000_000;
+pub const TURNS: u32 = 100_000_000;
 
 impl Hold {
+    /// No batch has been entered.
+    pub fn new() -> Hold {
+        Hold {
+            is_entered: AtomicBool::new(false),
+            has_given_up: AtomicBool::new(false),
+        }
+    }
+
+    /// Whether the worker of batch 0 has looked for the last time.
+    pub fn has_given_up(&self) -> bool {
+        self.has_given_up.load(Ordering::SeqCst)
+    }
+
     fn wait(&self) {
         for _ in 0..TURNS {
             if self.is_entered.load(Ordering::SeqCst) {
@@ -505,16 +519,10 @@ fn push_gated_row<R: Threads + Sync>(
 /// A body that runs all batches on one thread does not pass the gate.
 #[test]
 fn one_thread_for_all(rt: HostRuntime) -> Result<(), AllocError> {
-    let gate = Hold {
-        is_entered: AtomicBool::new(false),
-        has_given_up: AtomicBool::new(false),
-    };
+    let gate = Hold::new();
     let mut said = String::new(rt.alloc());
     push_gated_row(&rt, rt.alloc(), &gate, &mut said)?;
-    assert!(rt;
-        !gate.has_given_up.load(Ordering::SeqCst),
-        "batch 1 was not entered"
-    );
+    assert!(rt; !gate.has_given_up(), "batch 1 was not entered");
     assert_eq!(rt; said.as_str(), "65 verdicts, status 1, last false 64");
     Ok(())
 }

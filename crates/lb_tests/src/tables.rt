@@ -13,12 +13,14 @@
 //! `{2 x@, }` stands for `x0, x1, `, `{3 a}` for `aaa`, and `{1..2 x@ @, }` for `x1 1, x2 2, `.
 
 use crate::{
-    answers, batches, commands, cycles, elaboration, forms, lane_words, lanes, machine, pool,
-    programs, random, readings, reports, runs, source_places, source_texts, sources,
+    answers, batches, check_causes, commands, cycles, elaboration, flat_causes, forms, hostile,
+    lane_words, lanes, machine, offsets, pool, programs, random, readings, reports, runs,
+    source_places, source_texts, sources, static_causes,
 };
 use std::alloc::AllocError;
 use std::os::unix::fs::FileExt;
 use std::rt::Runtime;
+use std::sync::Wait;
 use std::thread::Threads;
 
 /// What the rows of a table ask about.
@@ -26,8 +28,16 @@ use std::thread::Threads;
 enum Asks<'a> {
     /// A source: its text, or its node under test.
     Sources,
+    /// A source: what breaks a rule of names, static values and instances.
+    StaticCauses,
     /// What stands behind this front: the place at which the text is refused as E2.
     Places(&'a str),
+    /// A text: where its names and forms stand.
+    Offsets,
+    /// A source: what breaks a rule of types, clocks or definitions, and where.
+    CheckCauses,
+    /// A source, with an observer that is named: why it is too large, or has no order.
+    FlatCauses(&'a str),
     /// A case text.
     Cases,
     /// What stands behind some nodes and this front.
@@ -97,6 +107,12 @@ const TEXTS: Form = Form {
     mark: " => ",
 };
 
+/// A line of dashes between two rows, and what is wanted in lines of its own.
+const OFFSETS: Form = Form {
+    between: "\n----\n",
+    mark: "\n=>",
+};
+
 /// Cases whose answers end with a line end.
 const BATCHES: Form = Form {
     between: "%case\n",
@@ -141,6 +157,20 @@ static TEXT_TABLES: [Table; 7] = [
     (Asks::Parts, TEXTS, reports::CASES),
 ];
 
+/// Sources: where their names and forms stand, and what a refusal holds.
+static CAUSE_TABLES: [Table; 10] = [
+    (Asks::Offsets, OFFSETS, offsets::OFFSETS),
+    (Asks::FlatCauses(""), OFFSETS, flat_causes::CAUSES),
+    (Asks::FlatCauses("watch"), OFFSETS, flat_causes::OBSERVED),
+    (Asks::StaticCauses, TEXTS, static_causes::NAMES),
+    (Asks::StaticCauses, TEXTS, static_causes::VALUES),
+    (Asks::StaticCauses, TEXTS, static_causes::RANGES),
+    (Asks::StaticCauses, TEXTS, static_causes::RECURSIONS),
+    (Asks::StaticCauses, TEXTS, static_causes::ROOTS),
+    (Asks::StaticCauses, TEXTS, static_causes::LIMITS),
+    (Asks::CheckCauses, TEXTS, check_causes::CASES),
+];
+
 /// Kernels, code, cycles, batches and what is claimed of them.
 static LANE_TABLES: [Table; 11] = [
     (Asks::Ints, LINES, lanes::INTEGERS),
@@ -181,6 +211,9 @@ static CASE_TABLES: [Table; 9] = [
     (Asks::Spreads, SPREADS, pool::SPREADS),
     (Asks::Runs, TEXTS, commands::RUNS),
 ];
+
+/// Cases at the limits of size and number.
+static LIMIT_TABLES: [Table; 1] = [(Asks::Cases, CASES, hostile::LIMITS)];
 
 /// The turns of `a@` from a first number to an end, one after the other.
 fn push_turns(row: &mut String, first: u32, end: u32, turn: &str) -> Result<(), AllocError> {
@@ -227,7 +260,7 @@ pub fn write_out(row: &mut String, short: &str) -> Result<bool, AllocError> {
 }
 
 /// What is answered on what a row asks.
-fn push_answer<R: Runtime + AllocGlobal + Threads + Sync>(
+fn push_answer<R: Runtime + AllocGlobal + Threads + Wait + Sync>(
     rt: &R,
     asks: Asks<'_>,
     asked: &str,
@@ -238,7 +271,11 @@ where
 {
     match asks {
         Asks::Sources => sources::push_answer(rt.alloc(), asked, said),
+        Asks::StaticCauses => static_causes::push_answer(rt.alloc(), asked, said),
         Asks::Places(front) => sources::push_place(rt.alloc(), front, asked, said),
+        Asks::Offsets => offsets::push_offsets(rt.alloc(), asked, said),
+        Asks::CheckCauses => check_causes::push_answer(rt.alloc(), asked, said),
+        Asks::FlatCauses(observer) => flat_causes::push_cause(rt.alloc(), observer, asked, said),
         Asks::Cases => answers::push_case(rt, asked, said),
         Asks::Programs(front) => programs::push_answer(rt, front, asked, said),
         Asks::Parts => reports::push_parts(asked, said),
@@ -263,7 +300,7 @@ where
 }
 
 /// Whether a row is answered as it wants, with the answer. A row without the mark is not.
-fn is_right<R: Runtime + AllocGlobal + Threads + Sync>(
+fn is_right<R: Runtime + AllocGlobal + Threads + Wait + Sync>(
     rt: &R,
     table: Table,
     row: &str,
@@ -283,7 +320,7 @@ where
 
 /// Whether each row of a table is answered as it wants. The first that is not stays in `row`, with
 /// its answer in `said`; a row with a brace without a number of turns is one.
-fn is_answered<R: Runtime + AllocGlobal + Threads + Sync>(
+fn is_answered<R: Runtime + AllocGlobal + Threads + Wait + Sync>(
     rt: &R,
     table: Table,
     row: &mut String,
@@ -303,7 +340,7 @@ where
 
 /// The first row of some tables that is answered otherwise than it wants, and its answer. Nothing
 /// where there is none.
-fn first_wrong<R: Runtime + AllocGlobal + Threads + Sync>(
+fn first_wrong<R: Runtime + AllocGlobal + Threads + Wait + Sync>(
     rt: &R,
     tables: &[Table],
 ) -> Result<String, AllocError>
@@ -328,6 +365,13 @@ fn text_tables(rt: HostRuntime) -> Result<(), AllocError> {
 }
 
 #[test]
+fn cause_tables(rt: HostRuntime) -> Result<(), AllocError> {
+    let wrong = first_wrong(&rt, &CAUSE_TABLES)?;
+    assert!(rt; wrong.is_empty(), "{wrong}");
+    Ok(())
+}
+
+#[test]
 fn lane_tables(rt: HostRuntime) -> Result<(), AllocError> {
     let wrong = first_wrong(&rt, &LANE_TABLES)?;
     assert!(rt; wrong.is_empty(), "{wrong}");
@@ -345,5 +389,12 @@ fn trace_tables(rt: HostRuntime) -> Result<(), AllocError> {
 fn case_tables(rt: HostRuntime) -> Result<(), AllocError> {
     let wrong = first_wrong(&rt, &CASE_TABLES)?;
     assert!(rt; wrong.is_empty(), "{wrong}");
+    Ok(())
+}
+
+#[test]
+fn limit_tables(rt: HostRuntime) -> Result<(), AllocError> {
+    let wrong = first_wrong(&rt, &LIMIT_TABLES)?;
+    assert!(rt; wrong.is_empty(), "a row of the limits");
     Ok(())
 }

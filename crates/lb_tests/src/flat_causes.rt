@@ -1,0 +1,285 @@
+//! Why a program is too large (E12), and where the elements of a cycle are defined (E13).
+//!
+//! An element of a cycle is told in a line of its own, with the place of what defines it and the
+//! way to its instance: the node under test or the observer, and each call from there. They stand
+//! as they need one another, from the one with the least number on.
+
+use lb_check::{Checked, check};
+use lb_flat::{Cycle, FlatError, OrderError, expand, order, with_places};
+use lb_static::{CallPath, elaborate};
+use lb_syntax::{Source, line_column, parse};
+use std::alloc::{AllocError, Global};
+
+/// ` at 3:5`: where the byte at an offset stands.
+fn push_place(text: &str, offset: u32, said: &mut String) -> Result<(), AllocError> {
+    let bytes = text.as_bytes();
+    if bytes.len() >= u32::MAX as usize {
+        return said.push_str(" in a long text");
+    }
+    let place = line_column(bytes, offset);
+    write!(said, " at {}:{}", place.line, place.column)
+}
+
+/// ` in main > cell[1] at 3:5`
+fn push_path(text: &str, path: &CallPath, said: &mut String) -> Result<(), AllocError> {
+    write!(said, " in {}", path.node)?;
+    for step in &path.steps {
+        write!(said, " > {}", step.node)?;
+        if let Some(index) = step.index {
+            write!(said, "[{index}]")?;
+        }
+        push_place(text, step.offset, said)?;
+    }
+    Ok(())
+}
+
+/// The element at a place of a cycle.
+fn push_element(text: &str, cycle: &Cycle, k: usize, said: &mut String) -> Result<(), AllocError> {
+    let Some(place) = cycle.places.get(k) else {
+        return said.push_str("\n no place");
+    };
+    write!(said, "\n {}", place.name)?;
+    push_place(text, place.offset, said)?;
+    match cycle.instances.get(place.instance) {
+        Some(path) => push_path(text, path, said),
+        None => said.push_str(" in no instance"),
+    }
+}
+
+/// The place of the least number of a cycle.
+fn least_of(cycle: &Cycle) -> usize {
+    let mut least = 0;
+    for (k, element) in cycle.elements.iter().enumerate() {
+        if cycle
+            .elements
+            .get(least)
+            .is_some_and(|other| element.0 < other.0)
+        {
+            least = k;
+        }
+    }
+    least
+}
+
+fn push_cycle(text: &str, cycle: &Cycle, said: &mut String) -> Result<(), AllocError> {
+    let least = least_of(cycle);
+    for k in least..cycle.elements.len() {
+        push_element(text, cycle, k, said)?;
+    }
+    for k in 0..least {
+        push_element(text, cycle, k, said)?;
+    }
+    Ok(())
+}
+
+fn push_order(
+    alloc: Global,
+    text: &str,
+    checked: &Checked,
+    said: &mut String,
+) -> Result<(), AllocError> {
+    let flat = match expand(alloc, checked) {
+        Ok(flat) => flat,
+        Err(FlatError::Large(fault)) => {
+            let least = if fault.is_least { "at least " } else { "" };
+            return write!(said, "\n size {least}{} of {}", fault.size, fault.limit);
+        }
+        Err(FlatError::Memory) => return said.push_str("\n memory"),
+    };
+    match order(alloc, flat) {
+        Ok(_) => said.push_str("\n in order"),
+        Err(cause) => match with_places(alloc, checked, cause) {
+            OrderError::Cycle(cycle) => push_cycle(text, &cycle, said),
+            OrderError::Memory => said.push_str("\n memory"),
+        },
+    }
+}
+
+fn push_tree(
+    alloc: Global,
+    text: &str,
+    tree: &Source,
+    observer: &str,
+    said: &mut String,
+) -> Result<(), AllocError> {
+    let observer = if observer.is_empty() {
+        None
+    } else {
+        Some(observer)
+    };
+    let Ok(elab) = elaborate(alloc, tree, "main", observer) else {
+        return said.push_str("\n refused before");
+    };
+    match check(alloc, elab) {
+        Ok(checked) => push_order(alloc, text, &checked, said),
+        Err(_) => said.push_str("\n refused before"),
+    }
+}
+
+/// Why a source is refused, with an observer that is named; an empty name is none.
+pub fn push_cause(
+    alloc: Global,
+    observer: &str,
+    text: &str,
+    said: &mut String,
+) -> Result<(), AllocError> {
+    match parse(alloc, text.as_bytes()) {
+        Ok(tree) => push_tree(alloc, text, &tree, observer, said),
+        Err(_) => said.push_str("\n refused before"),
+    }
+}
+
+/// Sources without an observer. Cycles: after comments, tabs and carriage returns; in what is
+/// called, and in what that calls; through the input and the output of a call; in one of two
+/// iterated nodes, which differ by a static argument; through elements of an array of arrays; and
+/// through the second of two results. Sizes: of one node; of calls; of variables alone; and of
+/// expressions that are too many to be counted.
+pub const CAUSES: &str = "-- a comment; and\ttabs\r
+node main(c: bool) returns (ok: bool);\r
+var\tx, y: int;\r
+let\r
+\tx = y + 1;\r
+\ty = (* one\r
+more *) x;\t/* and */\tok = c;\r
+tel
+=>
+ x at 5:2 in main
+ y at 6:2 in main
+----
+node inner(a: int) returns (b: int);
+var u, v: int;
+let
+  u = v;
+  v = u + a; b = v;
+tel
+node outer(a: int) returns (b: int); let b = a + inner(a); tel
+node main(c: bool) returns (ok: bool);
+let
+  ok = outer(1) > 0 and c;
+tel
+=>
+ u at 4:3 in main > outer at 10:8 > inner at 7:50
+ v at 5:3 in main > outer at 10:8 > inner at 7:50
+----
+node same(a: int) returns (b: int); let b = a; tel
+node main(c: bool) returns (ok: bool);
+var x: int;
+let
+  x = 1 + same(x);
+  ok = c;
+tel
+=>
+ x at 5:3 in main
+ b at 1:41 in main > same at 5:11
+ a at 5:11 in main > same at 5:11
+----
+node cell<<const k: int>>(a: int) returns (b: int);
+var t: int^2;
+let
+  t = [a, t[k]]; b = t[1];
+tel
+node main(c: bool) returns (ok: bool);
+var p, q: int^2;
+let
+  p = map<<cell<<0>>, 2>>([1, 2]);
+  q = map<<cell<<1>>, 2>>([1, 2]);
+  ok = p[0] = q[1] and c;
+tel
+=>
+ t[1] at 4:3 in main > cell[1] at 10:12
+----
+node main(c: bool) returns (ok: bool);
+var m: int^2^3;
+let
+  m = [[1, 2], [3, 4], [m[2][1], m[2][0]]];
+  ok = c;
+tel
+=>
+ m[2][0] at 4:3 in main
+ m[2][1] at 4:3 in main
+----
+node two(a, b: int) returns (p, q: int); let p = a; q = b; tel
+node main(c: bool) returns (ok: bool);
+var x, y: int;
+let
+  (x, y) = two(1, y);
+  ok = c;
+tel
+=>
+ y at 5:3 in main
+ q at 1:53 in main > two at 5:12
+ b at 5:12 in main > two at 5:12
+----
+node sum(a, x: int) returns (b: int); let b = a + x; tel
+node main(c: bool) returns (ok: bool);
+var s: int; t: int^2;
+let
+  t = [1, s];
+  s = red<<sum, 2>>(0, t);
+  ok = c;
+tel
+=>
+ s at 6:3 in main
+ b at 1:43 in main > sum[1] at 6:12
+ x at 6:12 in main > sum[1] at 6:12
+ t[1] at 5:3 in main
+----
+node main(c: bool) returns (ok: bool); var x: int; let x = 0 -> pre x; ok = c; tel
+=>
+ in order
+----
+node main(c: bool) returns (ok: bool); var a: int^4096^8; let a = 0^4096^8; ok = c; tel
+=>
+ size 69636 of 65536
+----
+node f(x: int^4096) returns (y: int^4096); let y = x; tel
+node main(c: bool) returns (ok: bool);
+var a: int^4096; let a = f(f(f(f(f(f(0^4096)))))); ok = c; tel
+=>
+ size 106500 of 65536
+----
+node f(x: int^4096) returns (y: int^4096); let y = x; tel
+node main(c: bool) returns (ok: bool);
+var a: int^4096; let a = f(f(f(f(f(f(f(f(0^4096)))))))); ok = c; tel
+=>
+ size 139268 of 65536
+----
+node main(c: bool) returns (ok: bool);
+var a, b: int^4096^8; let a = b; b = 0^4096^8; ok = c; tel
+=>
+ size at least 65538 of 65536
+----
+node main(c: bool) returns (ok: bool); let ok = (0^4096^16)[0][0] = 0 and c; tel
+=>
+ size at least 65537 of 65536";
+
+/// Sources with the observer `watch`: a cycle in it, one in what it calls, and a size that is over
+/// the limit with it.
+pub const OBSERVED: &str = "node main(c: bool) returns (ok: bool); let ok = c; tel
+node watch(c, ok: bool) returns (fine: bool);
+var z: bool;
+let
+  fine = ok;
+  z = not z;
+tel
+=>
+ z at 6:3 in watch
+----
+node main(c: bool) returns (ok: bool); let ok = c; tel
+node later(a: bool) returns (b: bool);
+let
+  b = a or not b;
+tel
+node watch(c, ok: bool) returns (fine: bool);
+let
+  fine = later(c) and later(ok);
+tel
+=>
+ b at 4:3 in watch > later at 8:10
+----
+node main(c: bool) returns (ok: bool);
+var a: int^4096^4; let a = 0^4096^4; ok = c; tel
+node watch(c, ok: bool) returns (fine: bool);
+var a: int^4096^3; let a = 0^4096^3; fine = ok; tel
+=>
+ size 65545 of 65536";

@@ -1,0 +1,216 @@
+//! The board of settled traces, step by step.
+
+ghost use Rattle.std.specs.Prelude.{◌≡◌, ◌<◌, Some, IfOk, length};
+ghost use Rattle.lb_flat.specs.Programs.{program_of};
+ghost use Rattle.lb_flat.specs.RightVerdicts.{right_verdicts};
+ghost use Rattle.lb_flat.specs.Standing.{HasKindsOf};
+ghost use Rattle.lb_pool.specs.FollowSeats.{IsFollowSeatOf, right_of};
+ghost use Rattle.lb_pool.specs.Settlements.{IsRight};
+
+use crate::batches::ordered_of;
+use crate::pool::{SPREADS, push_case};
+use crate::tables::write_out;
+use lb_check::Verdict;
+use lb_flat::{Ordered, TraceSet, eval_trace};
+use lb_pool::{FollowBoard, FollowSeat, Look, Plan};
+use lb_report::split_case;
+use lb_sim::has_kinds;
+use lb_static::Signature;
+use lb_syntax::parse;
+use lb_trace::read_traces;
+use std::alloc::{AllocError, Global};
+
+// What a trace is settled with.
+fn push_settled(settled: Option<Verdict>, said: &mut String) -> Result<(), AllocError> {
+    match settled {
+        Some(Verdict::Passed) => said.push_str(" passed"),
+        Some(Verdict::False(t)) => write!(said, " false {t}"),
+        Some(_) => said.push_str(" another"),
+        None => said.push_str(" failed"),
+    }
+}
+
+// Claims once.
+fn push_claim(
+    board: &FollowBoard,
+    seat: &mut FollowSeat,
+    said: &mut String,
+) -> Result<(), AllocError>
+    requires { IsFollowSeatOf board.now seat.old }
+    ensures { IsFollowSeatOf board.now seat.new }
+{
+    match board.claim(seat) {
+        Some(i) => write!(said, "claim {i}\n"),
+        None => said.push_str("claim none\n"),
+    }
+}
+
+// Looks at a trace once.
+fn push_look(
+    board: &FollowBoard,
+    seat: &mut FollowSeat,
+    k: u32,
+    said: &mut String,
+) -> Result<(), AllocError>
+    requires seat { IsFollowSeatOf board.now seat.old }
+    requires trace { k < length (right_of board.now) }
+    ensures { IsFollowSeatOf board.now seat.new }
+{
+    write!(said, "look {k}")?;
+    match board.look(seat, k) {
+        Look::Waiting => said.push_str(" waiting")?,
+        Look::Ready(verdict) => push_settled(Some(verdict), said)?,
+        Look::Failed => push_settled(None, said)?,
+    }
+    said.push('\n')
+}
+
+// Posts a trace once.
+fn push_post(
+    board: &FollowBoard,
+    seat: &mut FollowSeat,
+    k: u32,
+    verdict: Option<Verdict>,
+    said: &mut String,
+) -> Result<(), AllocError>
+    requires seat { IsFollowSeatOf board.now seat.old }
+    requires trace { k < length (right_of board.now) }
+    requires right { IsRight (right_of board.now) k verdict }
+    ensures { IsFollowSeatOf board.now seat.new }
+{
+    write!(said, "post {k}")?;
+    push_settled(board.post(seat, k, verdict), said)?;
+    said.push('\n')
+}
+
+// The verdict of a trace, found alone.
+fn verdict_of(
+    alloc: Global,
+    board: &FollowBoard,
+    ordered: &Ordered,
+    set: &TraceSet,
+    k: u32,
+) -> Result<Verdict, AllocError>
+    requires right { right_of board.now
+        ≡ right_verdicts (program_of ordered.now.program) set.now }
+    requires kinds { HasKindsOf (program_of ordered.now.program) set.now }
+    requires trace { k < length set.now.traces }
+    ensures { IfOk result (λ v. IsRight (right_of board.now) k (Some v)) }
+{
+    let _ = board;
+    eval_trace(alloc, ordered, set, k)
+}
+
+// One seat claims and posts, another looks.
+fn push_turns(
+    alloc: Global,
+    board: &FollowBoard,
+    ordered: &Ordered,
+    set: &TraceSet,
+    first: &mut FollowSeat,
+    second: &mut FollowSeat,
+    said: &mut String,
+) -> Result<(), AllocError>
+    requires first { IsFollowSeatOf board.now first.old }
+    requires second { IsFollowSeatOf board.now second.old }
+    requires right { right_of board.now
+        ≡ right_verdicts (program_of ordered.now.program) set.now }
+    requires kinds { HasKindsOf (program_of ordered.now.program) set.now }
+    requires traces { length set.now.traces ≡ 65 }
+    requires words { length (right_of board.now) ≡ 65 }
+    ensures first { IsFollowSeatOf board.now first.new }
+    ensures second { IsFollowSeatOf board.now second.new }
+{
+    push_claim(board, second, said)?;
+    let verdict = verdict_of(alloc, board, ordered, set, 0)?;
+    push_post(board, second, 0, Some(verdict), said)?;
+    push_look(board, first, 0, said)?;
+    push_look(board, first, 1, said)?;
+    push_post(board, second, 1, None, said)?;
+    let verdict = verdict_of(alloc, board, ordered, set, 1)?;
+    push_post(board, second, 1, Some(verdict), said)?;
+    push_look(board, first, 1, said)?;
+    let verdict = verdict_of(alloc, board, ordered, set, 64)?;
+    push_post(board, second, 64, Some(verdict), said)?;
+    push_look(board, first, 64, said)?;
+    push_claim(board, first, said)?;
+    push_claim(board, second, said)
+}
+
+// The steps on a board that is split once, and the shares of its seats.
+fn push_steps(
+    alloc: Global,
+    ordered: &Ordered,
+    set: &TraceSet,
+    said: &mut String,
+) -> Result<(), AllocError> {
+    let plan = Plan::in_order(alloc, set.len(), 64)?;
+    if set.len() != 65 || plan.traces() != 65 {
+        return said.push_str("another count");
+    }
+    if !has_kinds(set.signature(), ordered.program.inputs.as_slice()) {
+        return said.push_str("other kinds");
+    }
+    let (board, seat) = FollowBoard::new(alloc, ordered, set, &plan)?;
+    write!(said, "shares {}\n", seat.shares())?;
+    let (mut first, mut second) = board.split(seat);
+    write!(said, "shares {} {}\n", first.shares(), second.shares())?;
+    push_turns(alloc, &board, ordered, set, &mut first, &mut second, said)?;
+    let seat = board.join(first, second);
+    write!(said, "shares {}", seat.shares())
+}
+
+// The steps on the board of a program and a trace text.
+fn push_steps_on(
+    alloc: Global,
+    program: &(Signature, Ordered),
+    traces: &[u8],
+    said: &mut String,
+) -> Result<(), AllocError> {
+    match &read_traces(alloc, &program.0, traces) {
+        Ok(set) => push_steps(alloc, &program.1, set, said),
+        Err(_) => said.push_str("no traces"),
+    }
+}
+
+// The steps on the first case of the table, which has sixty-five traces.
+fn push_steps_of_row(alloc: Global, said: &mut String) -> Result<(), AllocError> {
+    let (short, _) = SPREADS.split_once("%answer\n").unwrap_or(("", ""));
+    let mut row = String::new(alloc);
+    let mut case = String::new(alloc);
+    let _ = write_out(&mut row, short)?;
+    push_case(&mut case, row.as_str())?;
+    let (source, traces) = split_case(case.as_str().as_bytes());
+    match &parse(alloc, source) {
+        Ok(tree) => match &ordered_of(alloc, tree, "") {
+            Some(program) => push_steps_on(alloc, program, traces, said),
+            None => said.push_str("no program"),
+        },
+        Err(_) => said.push_str("no source"),
+    }
+}
+
+const STEPS: &str = "\
+shares 64
+shares 32 32
+claim 0
+post 0 passed
+look 0 passed
+look 1 waiting
+post 1 failed
+post 1 failed
+look 1 failed
+post 64 false 64
+look 64 false 64
+claim 1
+claim none
+shares 64";
+
+/// A trace is settled once, and a look tells with what.
+#[test]
+fn settled_once(rt: HostRuntime) -> Result<(), AllocError> {
+    let mut said = String::new(rt.alloc());
+    push_steps_of_row(rt.alloc(), &mut said)?;
+    assert_eq!(rt; said.as_str(), STEPS);
+    Ok(())
+}
