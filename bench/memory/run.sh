@@ -1,38 +1,65 @@
 #!/usr/bin/env bash
-# Refuses each request for memory of a run in turn, with 1 and with 7 workers. Each run has to
-# answer E0 with status 3 and no output, or the whole report where it could do without. Needs rt on
-# the path.
+# Refuses each request for memory of a run in turn: with 0, 1 and 7 workers, in the order of the
+# traces and by length, from files, from standard input and as a case text, and of a source that is
+# refused. Each run has to answer E0 with status 3 and no output, or else what it answers with ample
+# memory: some requests a run can do without. lbench is proved and built by LLVM as the merge gate
+# builds it. Needs rt and cc on the path. With a path as its argument that program is tried.
 #
-#     bench/memory/run.sh
+#     bench/memory/run.sh [PROGRAM]
 set -euo pipefail
 here=$(cd "$(dirname "$0")" && pwd)
+crates=$(cd "$here/../../crates" && pwd)
+examples=$(cd "$here/../../examples" && pwd)
+lbench=${1:-$crates/lbench/out/lbench}
+[ $# -gt 0 ] || (cd "$crates/lbench" && rt run -- --help > /dev/null)
 work=$(mktemp -d)
 trap 'rm -rf "$work"' EXIT
-cd "$here/../../crates/lbench"
-source=$here/../../examples/burner.lus
-traces=$here/../../examples/burner.csv
+cc -O2 -shared -fPIC -o "$work/refuse.so" "$here/refuse.c"
 
-# So many runs with the whole report, one after the other, end the list of requests.
-most=20
+# once NUMBER INPUT WORD ..: one run in which the request of that number is refused (0: none).
+once() {
+    local number=$1 input=$2
+    shift 2
+    status=0
+    REFUSED=$number COUNTED=$work/count LD_PRELOAD=$work/refuse.so \
+        "$lbench" "$@" < "$input" > "$work/output" 2> "$work/errors" || status=$?
+}
 
-for workers in 1 7; do
-    options=(--workers "$workers" --batch 1 "$source" "$traces")
-    rt try -- "${options[@]}" > "$work/report" 2> "$work/errors" || true
-    whole=0
-    for ((number = 1; whole < most; number++)); do
-        status=0
-        rt try --fail-alloc "$number" -- "${options[@]}" \
-            > "$work/output" 2> "$work/errors" || status=$?
-        if cmp -s "$work/output" "$work/report"; then
-            whole=$((whole + 1))
-        elif [ "$status" = 3 ] && [ ! -s "$work/output" ] \
-            && grep -q '^refused: E0 memory$' "$work/errors"; then
-            whole=0
-        else
-            echo "workers $workers, request $number: status $status" >&2
+# each INPUT WORD ..: a run for each request, and one more with ample memory.
+each() {
+    local input=$1 requests wanted number refusals=0
+    shift
+    once 0 "$input" "$@"
+    requests=$(cat "$work/count")
+    wanted=$status
+    cp "$work/output" "$work/report"
+    cp "$work/errors" "$work/refusal"
+    for ((number = 1; number <= requests; number++)); do
+        once "$number" "$input" "$@"
+        if [ "$status" = 3 ] && [ ! -s "$work/output" ] \
+            && [ "$(cat "$work/errors")" = "refused: E0 memory" ]; then
+            refusals=$((refusals + 1))
+        elif [ "$status" != "$wanted" ] || ! cmp -s "$work/output" "$work/report" \
+            || ! cmp -s "$work/errors" "$work/refusal"; then
+            echo "lbench $*: request $number: status $status" >&2
             cat "$work/output" "$work/errors" >&2
             exit 1
         fi
     done
-    echo "workers $workers: $((number - 1 - most)) requests, each refused once"
+    once 0 "$input" "$@"
+    cmp "$work/output" "$work/report"
+    echo "$requests requests, $refusals E0: lbench $*"
+}
+
+for workers in 0 1 7; do
+    for order in "" --by-length; do
+        # shellcheck disable=SC2086 # No word stands for no option.
+        each /dev/null --workers "$workers" --batch 1 $order \
+            "$examples/burner.lus" "$examples/burner.csv"
+    done
 done
+each "$examples/burner.csv" "$examples/burner.lus"
+(cat "$examples/burner.lus"; echo %traces; cat "$examples/burner.csv") > "$work/case"
+each "$work/case"
+each /dev/null --node no_such_node "$examples/burner.lus" "$examples/burner.csv"
+each /dev/null --help
