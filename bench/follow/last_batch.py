@@ -1,7 +1,7 @@
 #!/usr/bin/env python3
-"""last_batch.py LBENCH [INSTANTS [WORKERS]]: runs LBENCH with --follow on short traces, of which the
-last 40 stand in a batch with one trace of so many instants, and prints when the lines of all short
-ones came, when those after them did, and how many processors were busy between."""
+"""last_batch.py LBENCH [INSTANTS [WORKERS]]: runs LBENCH with --follow on 6,440 short traces. The last
+40 of them stand in a batch with a trace of INSTANTS instants. Prints when the lines of all short ones
+came, when those after them did, and how many processors were busy between."""
 import os
 import subprocess
 import sys

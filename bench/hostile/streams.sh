@@ -8,7 +8,7 @@
 set -euo pipefail
 here=$(cd "$(dirname "$0")" && pwd)
 crates=$(cd "$here/../../crates" && pwd)
-lbench=${1:-$crates/lbench/out/lbench}
+lbench=$(realpath "${1:-$crates/lbench/out/lbench}")
 [ $# -gt 0 ] || (cd "$crates/lbench" && rt run -- --help > /dev/null)
 work=$(mktemp -d)
 trap 'rm -rf "$work"' EXIT
