@@ -1,0 +1,4 @@
+pub mod ClockAssignments
+pub mod LaneRuns
+pub mod Ticks
+pub mod MemoryWaits
