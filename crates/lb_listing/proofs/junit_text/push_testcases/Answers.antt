@@ -1,0 +1,9 @@
+use Rattle.lb_listing.specs.Junit.{testcase}
+use Rattle.lb_listing.proofs.Counts.{text_more}
+use Rattle.lb_listing.proofs.junit_text.push_testcases.Goals as goal
+
+pub loop-entry-preserved : goal.loop-entry-preserved
+loop-entry-preserved c =
+    text_more (testcase c.args.suite.now) c.args.entries.now c.loop-entry.entry-index _
+    c.args.text.now.items _ _ c.loop-entry-test.true c.loop-entry.invariant
+    c.in_ok-push_testcase.ensures

@@ -1,0 +1,6 @@
+pub mod Listings
+pub mod Verdicts
+pub mod Indexed
+pub mod Plain
+pub mod Compared
+pub mod Junit
