@@ -5,3 +5,4 @@ pub mod Bench
 pub mod Correct
 pub mod AcceptedPrograms
 pub mod LiveReports
+pub mod Judging

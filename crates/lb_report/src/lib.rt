@@ -6,6 +6,7 @@ mod case;
 mod error;
 mod feed;
 mod file_chunks;
+mod judging;
 mod live;
 mod options;
 mod refusal;
@@ -14,6 +15,7 @@ pub use answer::{bench, bench_file, bench_loaded, run_case};
 pub use case::split_case;
 pub use error::BenchError;
 pub use feed::{Feed, FeedFailed, LoadError, Reader, load};
+pub use judging::judge;
 pub use lb_pool::{
     FollowError, Gate, NoGate, Report, Sent, Sink, SinkFailed, Writer, report_text, send, status,
 };
