@@ -1,0 +1,174 @@
+//! The line of a text with marks below a stretch of it.
+//!
+//! ```text
+//!    14 |   n = m + open;
+//!       |           ^^^^
+//! ```
+
+use crate::bytes::{continues, part};
+use crate::texts::{Stretch, Text, line_at};
+use std::alloc::AllocError;
+
+/// The most columns of a line that are shown.
+const WIDTH: usize = 80;
+
+/// The character that a byte order mark is.
+const BYTE_ORDER_MARK: char = '\u{FEFF}';
+
+/// A byte of a text that is not valid UTF-8, or that would move a terminal's cursor, as a character
+/// that does not.
+fn plain_char(b: u8) -> char {
+    match b {
+        b'\t' => ' ',
+        b' '..=b'~' => char::from(b),
+        _ => '?',
+    }
+}
+
+/// Puts bytes as text, so that each character takes one column.
+pub fn put_bytes(page: &mut String, bytes: &[u8]) -> Result<(), AllocError> {
+    match std::str::from_utf8(bytes) {
+        Ok(text) => put_text(page, text),
+        Err(_) => put_ascii(page, bytes),
+    }
+}
+
+/// Puts a text, with a sign for each control character.
+fn put_text(page: &mut String, text: &str) -> Result<(), AllocError> {
+    for c in text.chars() {
+        if c == '\t' {
+            page.push(' ')?;
+        } else if c.is_control() || c == BYTE_ORDER_MARK {
+            page.push('?')?;
+        } else {
+            page.push(c)?;
+        }
+    }
+    Ok(())
+}
+
+/// Puts bytes with a sign for each that is not of ASCII.
+fn put_ascii(page: &mut String, bytes: &[u8]) -> Result<(), AllocError> {
+    for b in bytes {
+        if !continues(*b) {
+            page.push(plain_char(*b))?;
+        }
+    }
+    Ok(())
+}
+
+/// Puts a character so many times.
+pub fn put_times(page: &mut String, c: char, times: usize) -> Result<(), AllocError> {
+    for _time in 0..times {
+        page.push(c)?;
+    }
+    Ok(())
+}
+
+/// How many columns bytes take.
+fn columns(bytes: &[u8]) -> usize {
+    let mut columns: usize = 0;
+    for b in bytes {
+        columns = columns.saturating_add(usize::from(!continues(*b)));
+    }
+    columns
+}
+
+/// Which bytes of a line are shown.
+#[derive(Clone, Copy)]
+struct Window {
+    from: usize,
+    to: usize,
+}
+
+/// At most `WIDTH` bytes of a line of a length round a place.
+fn plain_window(length: usize, at: usize) -> Window {
+    if length <= WIDTH {
+        return Window {
+            from: 0,
+            to: length,
+        };
+    }
+    let from = at
+        .saturating_sub(WIDTH / 2)
+        .min(length.saturating_sub(WIDTH));
+    Window {
+        from,
+        to: from.saturating_add(WIDTH),
+    }
+}
+
+/// The same with characters that are whole.
+fn whole_window(line: &[u8], at: usize) -> Window {
+    let found = plain_window(line.len(), at);
+    Window {
+        from: next_whole(line, found.from),
+        to: next_whole(line, found.to),
+    }
+}
+
+/// The first place from `at` on that is not within a character.
+fn next_whole(line: &[u8], at: usize) -> usize {
+    for ahead in 0..4 {
+        let place = at.saturating_add(ahead);
+        if place >= line.len() || !continues(line[place]) {
+            return place.min(line.len());
+        }
+    }
+    at
+}
+
+/// How many digits a number has.
+fn digits(n: u64) -> usize {
+    let mut left = n / 10;
+    let mut digits: usize = 1;
+    for _turn in 0..20 {
+        if left == 0 {
+            return digits;
+        }
+        left /= 10;
+        digits = digits.saturating_add(1);
+    }
+    digits
+}
+
+/// The width of the margin: five columns, or as many as the number of the line takes.
+fn margin(line: u64) -> usize {
+    digits(line).max(5)
+}
+
+/// Puts the margin with a number.
+fn put_margin(page: &mut String, line: u64) -> Result<(), AllocError> {
+    put_times(page, ' ', margin(line).saturating_sub(digits(line)))?;
+    write!(page, "{line} | ")
+}
+
+/// Puts the line of a place, and marks below the stretch.
+pub fn put_excerpt(page: &mut String, text: &Text<'_>, spot: &Stretch) -> Result<(), AllocError> {
+    let line = line_at(text.bytes, spot.line_start);
+    let at = spot.start.saturating_sub(spot.line_start).min(line.len());
+    let shown = whole_window(line, at);
+    put_margin(page, spot.line)?;
+    put_bytes(page, part(line, shown.from, shown.to))?;
+    page.push('\n')?;
+    let end = spot.end.saturating_sub(spot.line_start).min(shown.to);
+    let marks = columns(part(line, at, end)).max(1);
+    put_times(page, ' ', margin(spot.line))?;
+    page.push_str(" | ")?;
+    put_times(page, ' ', columns(part(line, shown.from, at)))?;
+    put_times(page, '^', marks)?;
+    page.push('\n')
+}
+
+/// Puts `pump.lus:14:13: ` and a word as `error`.
+pub fn put_place(
+    page: &mut String,
+    text: &Text<'_>,
+    spot: &Stretch,
+    word: &str,
+) -> Result<(), AllocError> {
+    let name = text.name;
+    let line = spot.line;
+    let column = spot.column;
+    write!(page, "{name}:{line}:{column}: {word}: ")
+}

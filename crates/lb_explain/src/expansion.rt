@@ -1,0 +1,43 @@
+//! E12: a program that is too large once it is expanded.
+
+use crate::counts::put_count;
+use crate::declared::node_named;
+use crate::excerpt::{put_excerpt, put_place};
+use crate::texts::{Stretch, Text, spot};
+use lb_flat::SizeFault;
+use std::alloc::AllocError;
+
+/// The place of the name of a node, or else the start of the text.
+fn node_spot(text: &Text<'_>, node: &str) -> Stretch {
+    match node_named(text.bytes, node.as_bytes()) {
+        Some(end) => spot(text, end.saturating_sub(node.len()), end),
+        None => spot(text, 0, 0),
+    }
+}
+
+/// Puts how large a program is.
+fn put_size(page: &mut String, fault: &SizeFault) -> Result<(), AllocError> {
+    page.push_str("expanded, the program has ")?;
+    if fault.is_least {
+        page.push_str("at least ")?;
+    }
+    let limit = fault.limit;
+    put_count(page, fault.size as usize, "scalar element")?;
+    write!(page, "; at most {limit} are run\n")
+}
+
+/// Explains E12 for the size of the program of a node under test.
+pub fn explain_large(
+    page: &mut String,
+    text: &Text<'_>,
+    node: &str,
+    fault: &SizeFault,
+) -> Result<(), AllocError> {
+    let place = node_spot(text, node);
+    put_place(page, text, &place, "error")?;
+    put_size(page, fault)?;
+    put_excerpt(page, text, &place)?;
+    page.push_str(
+        "help: each instance counts each variable and each expression, with all elements\n",
+    )
+}

@@ -1,0 +1,168 @@
+//! What is told of an error.
+
+ghost use Rattle.std.specs.Prelude.{◌<◌, length, IfOk, IfSome};
+ghost use Rattle.std.specs.Io.{StartsWith};
+ghost use Rattle.lb_explain.specs.FirstPlaces as spec;
+
+use crate::cells::{explain_cell, explain_length};
+use crate::characters::explain_character;
+use crate::columns::explain_header;
+use crate::first_places::head_of;
+use crate::program_errors::explain_program;
+use crate::sizes::explain_size;
+use crate::syntax::explain_syntax;
+use crate::texts::Text;
+use crate::trace_limits::explain_limit;
+use crate::trace_names::explain_trace_name;
+use lb_report::{BenchError, Options};
+use lb_static::{Signature, elaborate};
+use lb_syntax::{SyntaxError, parse};
+use lb_trace::TraceError;
+use std::alloc::{AllocError, Global};
+
+/// The most lines that are told.
+const MOST_LINES: usize = 19;
+
+/// What was judged: the texts, and what was asked for.
+#[derive(Drop)]
+struct Subject<'a> {
+    alloc: Global,
+    source: &'a Text<'a>,
+    traces: &'a Text<'a>,
+    options: &'a Options,
+}
+
+/// Explains E1, E2 or E3.
+fn explain_syntax_error(
+    page: &mut String,
+    alloc: Global,
+    text: &Text<'_>,
+    error: &SyntaxError,
+) -> Result<(), AllocError> {
+    match error {
+        SyntaxError::Memory => Ok(()),
+        SyntaxError::Character { line, column } => explain_character(page, text, *line, *column),
+        SyntaxError::Syntax { line, column } => {
+            explain_syntax(page, alloc, text, *line, *column)
+        }
+        SyntaxError::Size { line, column } => explain_size(page, text, *line, *column),
+    }
+}
+
+/// The inputs of the node under test of a source that was accepted.
+fn signature_of(
+    alloc: Global,
+    source: &[u8],
+    options: &Options,
+) -> Result<Option<Signature>, AllocError> {
+    let Ok(tree) = parse(alloc, source) else {
+        return Ok(None);
+    };
+    match elaborate(alloc, &tree, options.node.as_str(), options.observer_name()) {
+        Ok(elab) => Ok(Some(elab.signature().copy(alloc)?)),
+        Err(_) => Ok(None),
+    }
+}
+
+/// Explains E14 or E16, for which the inputs of the node under test have to be known.
+fn explain_under_signature(
+    page: &mut String,
+    alloc: Global,
+    text: &Text<'_>,
+    signature: &Signature,
+    error: &TraceError,
+) -> Result<(), AllocError> {
+    match error {
+        TraceError::Header => explain_header(page, alloc, text, signature),
+        TraceError::Cell { record, column } => {
+            explain_cell(page, alloc, text, signature, *record, *column)
+        }
+        _ => Ok(()),
+    }
+}
+
+/// Explains E14 to E18.
+fn explain_trace_error(
+    page: &mut String,
+    subject: &Subject<'_>,
+    error: &TraceError,
+) -> Result<(), AllocError> {
+    let alloc = subject.alloc;
+    let text = subject.traces;
+    match error {
+        TraceError::Memory(_) => Ok(()),
+        TraceError::Header | TraceError::Cell { .. } => {
+            let source = subject.source.bytes;
+            match signature_of(alloc, source, subject.options)? {
+                Some(signature) => explain_under_signature(page, alloc, text, &signature, error),
+                None => Ok(()),
+            }
+        }
+        TraceError::Record { record, .. } => explain_length(page, alloc, text, *record),
+        TraceError::Trace { record } => explain_trace_name(page, alloc, text, *record),
+        TraceError::Limit { record } => explain_limit(page, alloc, text, *record),
+    }
+}
+
+/// Puts what is told of an error.
+fn put_all(page: &mut String, subject: &Subject<'_>, error: &BenchError) -> Result<(), AllocError> {
+    let alloc = subject.alloc;
+    let source = subject.source;
+    match error {
+        BenchError::Syntax(cause) => explain_syntax_error(page, alloc, source, cause),
+        BenchError::Trace(cause) => explain_trace_error(page, subject, cause),
+        _ => explain_program(page, alloc, source, subject.options, error),
+    }
+}
+
+/// The first lines of a text.
+fn first_lines(text: &[u8]) -> &[u8] {
+    let mut lines: usize = 0;
+    for (at, b) in text.iter().enumerate() {
+        if *b == b'\n' {
+            lines = lines.saturating_add(1);
+            if lines >= MOST_LINES {
+                return &text[..=at];
+            }
+        }
+    }
+    text
+}
+
+/// Lines for a person that tell where and why a source or its traces are refused by the bench, and
+/// how they may be mended. There are at most 19, each with its newline, and none where nothing more
+/// is known.
+///
+/// Where the error holds its place in the source, that is what the first line begins with. A source
+/// is a file from its first line on.
+///
+/// ```text
+/// pump.csv:12:7: error: column `open` is bool, and `TRUE` is no value of it
+///    12 | warm,TRUE,3
+///       |      ^^^^
+/// help: write `true`, in small letters, or 1
+/// in trace `warm`, instant 3, record 11
+/// ```
+pub fn explain(
+    alloc: Global,
+    source: &Text<'_>,
+    traces: &Text<'_>,
+    options: &Options,
+    error: &BenchError,
+) -> Result<Vec<u8>, AllocError>
+    ensures { length source.now.bytes.now < u32.MAX → IfOk result (λ lines.
+        IfSome (spec.place_in source.now.bytes.now error.now) (λ p.
+        StartsWith lines.items (spec.head source.now.name.now p.0 p.1))) }
+{
+    let mut page = String::new(alloc);
+    let subject = Subject {
+        alloc,
+        source,
+        traces,
+        options,
+    };
+    put_all(&mut page, &subject, error)?;
+    let mut lines = head_of(alloc, source, error)?;
+    lines.extend_from_slice(first_lines(page.as_bytes()))?;
+    Ok(lines)
+}

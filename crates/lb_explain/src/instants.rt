@@ -1,0 +1,55 @@
+//! The instant of a record within its trace.
+//!
+//! The records of a trace stand together. So where no byte before a record is a quote, its lines are
+//! gone back over, and the text is not read again from its start.
+
+use crate::bytes::byte_at;
+use crate::quoted::{ends_line, first_cell_is};
+use crate::records::{Cursor, Goal, find_record, start_of};
+
+/// Where the last line before a place ends that is not empty; 0 where there is none.
+fn end_before(text: &[u8], at: usize) -> usize {
+    for back in 0..at {
+        let end = at.saturating_sub(back);
+        if !ends_line(byte_at(text, end.saturating_sub(1))) {
+            return end;
+        }
+    }
+    0
+}
+
+/// Where the line begins that goes on to a place.
+fn start_before(text: &[u8], end: usize) -> usize {
+    for back in 0..end {
+        let start = end.saturating_sub(back);
+        if ends_line(byte_at(text, start.saturating_sub(1))) {
+            return start;
+        }
+    }
+    0
+}
+
+/// How many records of a trace stand in lines just before a record.
+fn lines_back(text: &[u8], record: &Cursor, name: &[u8]) -> u64 {
+    let mut instant: u64 = 0;
+    let mut at = record.at;
+    for _earlier in 1..record.records {
+        at = start_before(text, end_before(text, at));
+        if !first_cell_is(text, at, name) {
+            return instant;
+        }
+        instant = instant.saturating_add(1);
+    }
+    instant
+}
+
+/// The instant of a record in the trace with a name, from 0 on.
+pub fn instant_of(text: &[u8], record: &Cursor, name: &[u8]) -> u64 {
+    if !record.has_quote {
+        return lines_back(text, record, name);
+    }
+    match find_record(text, &start_of(text), &Goal::Name(name)) {
+        Some(first) => record.records.saturating_sub(first.records),
+        None => 0,
+    }
+}

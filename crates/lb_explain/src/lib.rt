@@ -1,0 +1,49 @@
+//! Why a text is refused: place, cause and mend of a refusal, for a person to read.
+//!
+//! All of this is done after a refusal, from the error and the texts. The first place is told as
+//! `pump.lus:14:13: error: ..`, which editors can jump to, with the line of the text.
+#![tactic(auto)]
+
+mod bytes;
+mod calls;
+mod cells;
+mod characters;
+mod clock_places;
+mod clocks;
+mod columns;
+mod context;
+mod counts;
+mod cycles;
+mod declared;
+mod definitions;
+mod excerpt;
+mod expansion;
+mod explanation;
+mod first_places;
+mod headings;
+mod instants;
+mod interfaces;
+mod lexeme;
+mod marking;
+mod names;
+mod near;
+mod paths;
+mod program_errors;
+mod quoted;
+mod record_scan;
+mod records;
+mod roots;
+mod sizes;
+mod statements;
+mod syntax;
+mod texts;
+mod trace_limits;
+mod trace_names;
+mod types;
+mod values;
+mod wiring;
+mod words;
+
+pub use explanation::explain;
+pub use texts::Text;
+pub use wiring::wiring_warnings;

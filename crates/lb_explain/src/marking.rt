@@ -1,0 +1,39 @@
+//! Places that errors hold: offsets of tokens in the source.
+
+use crate::excerpt::{put_excerpt, put_place};
+use crate::lexeme::{Lexeme, piece_at};
+use crate::texts::{Stretch, Text, spot};
+use std::alloc::AllocError;
+
+/// The token at an offset.
+pub fn token_of(text: &Text<'_>, offset: u32) -> Lexeme {
+    piece_at(text.bytes, offset as usize)
+}
+
+/// The bytes of the token at an offset.
+pub fn word_of<'t>(text: &Text<'t>, offset: u32) -> &'t [u8] {
+    token_of(text, offset).of(text.bytes)
+}
+
+/// The place of the token at an offset.
+pub fn token_spot(text: &Text<'_>, offset: u32) -> Stretch {
+    let token = token_of(text, offset);
+    spot(text, token.start, token.end)
+}
+
+/// Puts `pump.lus:14:13: note: ` for the token at an offset.
+pub fn put_note(page: &mut String, text: &Text<'_>, offset: u32) -> Result<(), AllocError> {
+    put_place(page, text, &token_spot(text, offset), "note")
+}
+
+/// Puts the line of the token at an offset, with marks below the token.
+pub fn put_marked(page: &mut String, text: &Text<'_>, offset: u32) -> Result<(), AllocError> {
+    put_excerpt(page, text, &token_spot(text, offset))
+}
+
+/// Puts `pump.lus:14:13`.
+pub fn put_where(page: &mut String, text: &Text<'_>, offset: u32) -> Result<(), AllocError> {
+    let place = token_spot(text, offset);
+    let (name, line, column) = (text.name, place.line, place.column);
+    write!(page, "{name}:{line}:{column}")
+}

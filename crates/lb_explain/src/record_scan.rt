@@ -1,0 +1,158 @@
+//! Records of a text without quotes, 32 bytes at a time.
+//!
+//! A record begins at each byte that ends no line and follows one that does.
+
+ghost use Rattle.std.specs.Prelude.{◌<◌, IfOk, IfSome, length};
+ghost use Rattle.lb_explain.specs.Found.{IsNumbered};
+
+use crate::bytes::rest;
+use crate::quoted::{ends_line, first_cell_is};
+use crate::records::{Cursor, Goal, is_goal};
+use std::simd::prelude::*;
+
+/// How many bytes are looked at together.
+const BLOCK: usize = 32;
+
+/// A text has a quote, and so is not told by its lines.
+#[derive(Drop)]
+pub struct HasQuote;
+
+/// Those of 32 bytes that are this one, as bits.
+#[inline(always)]
+fn places_of(block: &[u8], byte: u8) -> u64
+    requires { 31 < length block.now }
+{
+    u8x32::from_slice(block)
+        .simd_eq(u8x32::splat(byte))
+        .to_bitmask()
+}
+
+/// What 32 bytes hold.
+#[derive(Clone, Copy)]
+struct Marks {
+    /// Where records begin.
+    starts: u64,
+    newlines: u64,
+    /// Whether the last of them ends a line: 1 or 0.
+    carry: u64,
+    has_quote: bool,
+}
+
+/// What 32 bytes hold, where `carry` says whether the byte before them ends a line.
+#[inline(always)]
+fn marks_of(block: &[u8], carry: u64) -> Marks
+    requires { 31 < length block.now }
+{
+    let newlines = places_of(block, b'\n');
+    let ends = newlines | places_of(block, b'\r');
+    Marks {
+        starts: !ends & (ends << 1 | carry) & 0xFFFF_FFFF,
+        newlines,
+        carry: ends >> 31 & 1,
+        has_quote: places_of(block, b'"') != 0,
+    }
+}
+
+/// Whether a record that begins at one of these places has a name.
+fn has_name(text: &[u8], at: usize, starts: u64, name: &[u8]) -> bool {
+    let mut left = starts;
+    for _turn in 0..BLOCK {
+        if left == 0 {
+            return false;
+        }
+        let place = left.trailing_zeros() as usize;
+        if first_cell_is(text, at.saturating_add(place), name) {
+            return true;
+        }
+        left &= left - 1;
+    }
+    false
+}
+
+/// Whether the record that is looked for begins among 32 bytes.
+#[inline(always)]
+fn is_within(text: &[u8], cursor: &Cursor, starts: u64, goal: &Goal<'_>) -> bool {
+    match goal {
+        Goal::Number(n) => {
+            cursor
+                .records
+                .saturating_add(u64::from(starts.count_ones()))
+                > *n
+        }
+        Goal::Name(name) => has_name(text, cursor.at, starts, name),
+    }
+}
+
+/// Behind 32 bytes.
+#[inline(always)]
+fn past(cursor: &Cursor, marks: &Marks) -> Cursor {
+    let records = u64::from(marks.starts.count_ones());
+    let lines = u64::from(marks.newlines.count_ones());
+    Cursor {
+        at: cursor.at.saturating_add(BLOCK),
+        records: cursor.records.saturating_add(records),
+        lines: cursor.lines.saturating_add(lines),
+        has_quote: cursor.has_quote,
+    }
+}
+
+/// The record that is looked for, byte by byte; `begins` says whether the next byte begins one,
+/// unless it ends a line.
+fn walk(
+    text: &[u8],
+    from: &Cursor,
+    begins: bool,
+    goal: &Goal<'_>,
+) -> Result<Option<Cursor>, HasQuote>
+    ensures { IfOk result (λ found. IfSome found (λ c. IsNumbered goal.now c.records)) }
+{
+    let mut begins = begins;
+    let mut records = from.records;
+    let mut lines = from.lines;
+    for at in from.at..text.len() {
+        let b = text[at];
+        if b == b'"' {
+            return Err(HasQuote);
+        }
+        if begins && !ends_line(b) {
+            if is_goal(goal, text, records, at) {
+                return Ok(Some(Cursor {
+                    at,
+                    records,
+                    lines,
+                    has_quote: from.has_quote,
+                }));
+            }
+            records = records.saturating_add(1);
+        }
+        begins = ends_line(b);
+        lines = lines.saturating_add(u64::from(b == b'\n'));
+    }
+    Ok(None)
+}
+
+/// The record that is looked for, from a place between records on.
+pub fn next_plain(text: &[u8], from: &Cursor, goal: &Goal<'_>) -> Result<Option<Cursor>, HasQuote>
+    ensures { IfOk result (λ found. IfSome found (λ c. IsNumbered goal.now c.records)) }
+{
+    let mut cursor = *from;
+    let mut carry: u64 = 1;
+    let mut left = rest(text, from.at);
+    for _turn in 0..left.len() {
+        if left.len() < BLOCK {
+            break;
+        }
+        let (block, after) = left.split_at(BLOCK);
+        let marks = marks_of(block, carry);
+        if marks.has_quote {
+            return Err(HasQuote);
+        }
+        if is_within(text, &cursor, marks.starts, goal) {
+            break;
+        }
+        cursor = past(&cursor, &marks);
+        carry = marks.carry;
+        left = after;
+    }
+    walk(text, &cursor, carry == 1, goal)
+}

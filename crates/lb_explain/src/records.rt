@@ -1,0 +1,87 @@
+//! Records of a trace text, found again by their numbers or their names.
+//!
+//! The rules are those of the reader: an empty line is no record, and a cell that begins with `"`
+//! goes on to the closing one. A text without quotes is gone over many bytes at once.
+
+ghost use Rattle.std.specs.Prelude.{IsTrue, IfSome};
+ghost use Rattle.lb_explain.specs.Found.{IsNumbered};
+
+use crate::bytes::part;
+use crate::quoted::{first_cell_is, next_quoted};
+use crate::record_scan::next_plain;
+
+/// A place between records of a text: which record comes next, and how many lines stand before.
+#[derive(Clone, Copy)]
+pub struct Cursor {
+    /// Where the search goes on.
+    pub at: usize,
+    /// How many records stand before, the header included.
+    pub records: u64,
+    /// How many newlines stand before.
+    pub lines: u64,
+    /// Whether a quote may stand before.
+    pub has_quote: bool,
+}
+
+/// Which record is looked for.
+#[derive(Clone, Copy)]
+pub enum Goal<'g> {
+    /// That with this number, where the header has 0.
+    Number(u64),
+    /// The first after the header whose trace has this name.
+    Name(&'g [u8]),
+}
+
+/// Whether a record with this number that begins at a place is the one that is looked for.
+pub fn is_goal(goal: &Goal<'_>, text: &[u8], number: u64, start: usize) -> bool
+    ensures { IsTrue result → IsNumbered goal.now number }
+{
+    match goal {
+        Goal::Number(n) => *n == number,
+        Goal::Name(name) => number > 0 && first_cell_is(text, start, name),
+    }
+}
+
+/// Where records begin: behind the byte order mark, if there is one.
+fn first_byte(text: &[u8]) -> usize {
+    if part(text, 0, 3) == b"\xEF\xBB\xBF".as_slice() {
+        3
+    } else {
+        0
+    }
+}
+
+/// Before the first record.
+pub fn start_of(text: &[u8]) -> Cursor {
+    Cursor {
+        at: first_byte(text),
+        records: 0,
+        lines: 0,
+        has_quote: false,
+    }
+}
+
+/// The record that is looked for, from a place on: the cursor stands where it begins.
+pub fn find_record(text: &[u8], from: &Cursor, goal: &Goal<'_>) -> Option<Cursor>
+    ensures { IfSome result (λ found. IsNumbered goal.now found.records) }
+{
+    match next_plain(text, from, goal) {
+        Ok(found) => found,
+        // A quote: then each byte counts.
+        Err(_) => next_quoted(text, from, goal),
+    }
+}
+
+/// A cell of a record, as it stands in the text.
+#[derive(Clone, Copy)]
+pub struct CellPlace {
+    pub start: usize,
+    pub end: usize,
+}
+
+impl CellPlace {
+    /// Its bytes, with quotes if it has them.
+    pub fn raw<'t>(&self, text: &'t [u8]) -> &'t [u8] {
+        part(text, self.start, self.end)
+    }
+}

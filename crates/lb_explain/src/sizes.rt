@@ -1,0 +1,167 @@
+//! E3: a text, a name, a number or a statement over its limit.
+
+use crate::bytes::byte_at;
+use crate::context::context_of;
+use crate::excerpt::put_excerpt;
+use crate::lexeme::{Lexeme, Sort, token_at};
+use crate::texts::{Text, offset_of, spot};
+use std::alloc::AllocError;
+
+/// The most bytes of a text, of a name, the greatest number, and the most operators and opening
+/// brackets of a statement.
+const MOST_TEXT: usize = 1_000_000;
+
+const MOST_NAME: usize = 64;
+
+const MOST_NUMBER: u32 = 2_147_483_647;
+
+const MOST_SIGNS: usize = 500;
+
+/// The signs and words that count in a statement.
+const SIGNS: [&[u8]; 18] = [
+    b"|", b"->", b"=>", b"=", b"<>", b"<", b"<=", b">", b">=", b"+", b"-", b"*", b"/", b"^", b"#",
+    b"(", b"[", b"<<",
+];
+
+const SIGN_WORDS: [&[u8]; 12] = [
+    b"if", b"fby", b"or", b"xor", b"and", b"not", b"div", b"mod", b"when", b"pre", b"current",
+    b"nor",
+];
+
+/// Whether a token counts in a statement.
+fn is_counted(text: &[u8], token: &Lexeme) -> bool {
+    token.is_among(text, &SIGNS) || token.is_among(text, &SIGN_WORDS)
+}
+
+/// How many static brackets are open after a token.
+fn depth_after(text: &[u8], depth: usize, token: &Lexeme) -> usize {
+    if token.is(text, b"<<".as_slice()) {
+        return depth.saturating_add(1);
+    }
+    if token.is(text, b">>".as_slice()) {
+        return depth.saturating_sub(1);
+    }
+    depth
+}
+
+/// Whether a token ends a statement.
+fn ends_statement(text: &[u8], depth: usize, token: &Lexeme) -> bool {
+    if token.sort == Sort::End {
+        return true;
+    }
+    if depth == 0 && token.is(text, b";".as_slice()) {
+        return true;
+    }
+    token.is(text, b"let".as_slice()) || token.is(text, b"tel".as_slice())
+}
+
+/// How many operators and opening brackets the statement has that begins at a place.
+fn signs_from(text: &[u8], start: usize) -> usize {
+    let mut signs: usize = 0;
+    let mut depth: usize = 0;
+    let mut at = start;
+    for _turn in start..text.len() {
+        let token = token_at(text, at);
+        if ends_statement(text, depth, &token) {
+            return signs;
+        }
+        signs = signs.saturating_add(usize::from(is_counted(text, &token)));
+        depth = depth_after(text, depth, &token);
+        at = token.end;
+    }
+    signs
+}
+
+/// Where the statement of a place begins.
+fn statement_start(text: &[u8], place: usize) -> usize {
+    let context = context_of(text, place);
+    let mut start = context.start;
+    let mut at = context.start;
+    let mut depth: usize = 0;
+    for _turn in context.start..place {
+        let token = token_at(text, at);
+        if token.start >= place {
+            return start;
+        }
+        if ends_statement(text, depth, &token) {
+            start = token.end;
+        }
+        depth = depth_after(text, depth, &token);
+        at = token.end;
+    }
+    start
+}
+
+/// Puts the limit that a text goes past.
+fn put_long_text(page: &mut String, text: &Text<'_>) -> Result<(), AllocError> {
+    let found = text.bytes.len();
+    write!(
+        page,
+        "the source has {found} bytes; at most {MOST_TEXT} are read\n"
+    )?;
+    page.push_str("help: split the source; a node that is not used can be left out\n")
+}
+
+/// Puts how the least number is written, where a minus stands before a number.
+fn put_least(page: &mut String, text: &[u8], at: usize) -> Result<(), AllocError> {
+    if at > 0 && byte_at(text, at.saturating_sub(1)) == b'-' {
+        return page.push_str("help: the least int is written `-2147483647 - 1`\n");
+    }
+    Ok(())
+}
+
+/// Puts the limit that a statement goes past.
+fn put_signs(page: &mut String, text: &[u8], at: usize) -> Result<(), AllocError> {
+    let found = signs_from(text, statement_start(text, at));
+    write!(
+        page,
+        "this statement has {found} operators and opening brackets; at most {MOST_SIGNS} are read\n"
+    )
+}
+
+/// Puts the limit that a token goes past.
+fn put_limit(page: &mut String, text: &[u8], token: &Lexeme) -> Result<(), AllocError> {
+    let length = token.end.saturating_sub(token.start);
+    match token.sort {
+        Sort::Name if length > MOST_NAME => {
+            write!(
+                page,
+                "this name has {length} bytes; at most {MOST_NAME} are read\n"
+            )
+        }
+        Sort::Number => {
+            write!(
+                page,
+                "this number is greater than {MOST_NUMBER}, the greatest int\n"
+            )
+        }
+        _ => put_signs(page, text, token.start),
+    }
+}
+
+/// Puts how to mend it.
+fn put_mend(page: &mut String, text: &[u8], token: &Lexeme) -> Result<(), AllocError> {
+    match token.sort {
+        Sort::Name => Ok(()),
+        Sort::Number => put_least(page, text, token.start),
+        _ => page.push_str("help: give parts of it to variables of their own\n"),
+    }
+}
+
+/// Explains E3 at a line and a column.
+pub fn explain_size(
+    page: &mut String,
+    text: &Text<'_>,
+    line: u32,
+    column: u32,
+) -> Result<(), AllocError> {
+    if text.bytes.len() > MOST_TEXT {
+        return put_long_text(page, text);
+    }
+    let at = offset_of(text.bytes, line, column);
+    let token = token_at(text.bytes, at);
+    let place = spot(text, token.start, token.end);
+    put_limit(page, text.bytes, &token)?;
+    put_excerpt(page, text, &place)?;
+    put_mend(page, text.bytes, &token)
+}

@@ -1,0 +1,233 @@
+//! E2: no tree spells the tokens.
+
+use crate::bytes::{byte_at, part};
+use crate::context::{Context, Section, context_of};
+use crate::excerpt::{put_bytes, put_excerpt, put_place};
+use crate::headings::{InConstant, constant_at, expected_in_heading};
+use crate::lexeme::{Lexeme, Sort, piece_at, token_at};
+use crate::statements::{expected_in_body, expected_in_value};
+use crate::texts::{Stretch, Text, line_at, offset_of, spot};
+use crate::words::mend_of_word;
+use std::alloc::{AllocError, Global};
+
+/// The most bytes of a token that are shown.
+const SHOWN: usize = 40;
+
+/// What could stand at a place among constants.
+fn expected_in_constants(
+    alloc: Global,
+    text: &[u8],
+    context: &Context,
+    place: usize,
+) -> Result<&'static str, AllocError> {
+    let is_first = token_at(text, context.node).end == context.start;
+    match constant_at(text, context.start, place, is_first) {
+        InConstant::Before(expected) => Ok(expected),
+        InConstant::Value(start) => expected_in_value(alloc, text, start, place),
+    }
+}
+
+/// What could stand at a place between nodes.
+fn expected_at_top(last: &Lexeme, text: &[u8]) -> &'static str {
+    if last.is(text, b"tel".as_slice()) {
+        return "`;`, `.`, `const`, `node`, `function` or the end of the text";
+    }
+    "`const`, `node`, `function` or the end of the text"
+}
+
+/// What could stand at a place; nothing where that is not known.
+fn expected_at(
+    alloc: Global,
+    text: &[u8],
+    context: &Context,
+    last: &Lexeme,
+    place: usize,
+) -> Result<&'static str, AllocError> {
+    match context.part {
+        Section::Top => Ok(expected_at_top(last, text)),
+        Section::Constants => expected_in_constants(alloc, text, context, place),
+        Section::Heading => Ok(expected_in_heading(text, context.node, place)),
+        Section::Body => expected_in_body(alloc, text, context.start, place),
+    }
+}
+
+/// The last token before a place, from another on.
+fn last_before(text: &[u8], from: usize, place: usize) -> Lexeme {
+    let mut last = piece_at(text, text.len());
+    let mut at = from;
+    for _turn in from..place {
+        let token = token_at(text, at);
+        if token.start >= place {
+            return last;
+        }
+        last = token;
+        at = token.end;
+    }
+    last
+}
+
+/// Where the last token before a place may begin: the statement's first, or the word of the node.
+fn window_start(text: &[u8], context: &Context) -> usize {
+    if context.part == Section::Top {
+        return context.start.saturating_sub(3);
+    }
+    if token_at(text, context.node).end == context.start {
+        return context.node;
+    }
+    context.start
+}
+
+/// Whether a token joins two operands.
+fn is_infix(text: &[u8], token: &Lexeme) -> bool {
+    const WORDS: [&[u8]; 8] = [
+        b"and", b"or", b"xor", b"div", b"mod", b"fby", b"when", b"=>",
+    ];
+    const SIGNS: [&[u8]; 14] = [
+        b"+", b"-", b"*", b"/", b"=", b"<>", b"<", b"<=", b">", b">=", b"->", b"|", b"^", b"[",
+    ];
+    token.is_among(text, &WORDS) || token.is_among(text, &SIGNS)
+}
+
+/// What to write in place of a token after another, where two belong together.
+fn mend_of_pair(text: &[u8], last: &Lexeme, found: &Lexeme) -> &'static str {
+    match (last.of(text), found.of(text)) {
+        (b"|", b"|") => "disjunction is written `or`",
+        (b"=", b"=") => "equality is written `=`",
+        (b"/", b"=") => "unequal is written `<>`",
+        (b"=", b">=") => "`=>` is the implication",
+        (_, b"." | b"..") if last.sort == Sort::Number => {
+            "real numbers are not in the language; scale them to int"
+        }
+        _ => "",
+    }
+}
+
+/// Whether an operator stands where one could, and does not go with those before it.
+fn does_not_group(expected: &str, text: &[u8], found: &Lexeme) -> bool {
+    expected.ends_with("or an operator") && is_infix(text, found)
+}
+
+/// What to write in place of a token where others could stand.
+fn mend_of_place(text: &[u8], found: &Lexeme, expected: &str) -> &'static str {
+    match (expected, found.of(text)) {
+        ("`,` or `=`", b":") => "an equation is written `x = e;`",
+        ("`,` or `=`", b"[") => "an equation defines a whole array: `x = [a, b];`",
+        ("a name, `(`, `assert` or `tel`", b"if") => {
+            "`if` chooses a value: `x = if c then a else b;`"
+        }
+        ("`^`, `when`, `;` or `)`", b",") => {
+            "variables of one type are parted by `,`, and others by `;`"
+        }
+        ("`var` or `let`", b"const") => "constants are declared outside of nodes",
+        ("`;` or an operator", b".") => "structures are not in the language",
+        _ => "",
+    }
+}
+
+/// How to mend what was found, where that is common.
+fn mend_of(text: &[u8], last: &Lexeme, found: &Lexeme, expected: &str) -> &'static str {
+    let pair = mend_of_pair(text, last, found);
+    if !pair.is_empty() {
+        return pair;
+    }
+    let place = mend_of_place(text, found, expected);
+    if !place.is_empty() {
+        return place;
+    }
+    let word = mend_of_word(found.of(text));
+    if !word.is_empty() {
+        return word;
+    }
+    if does_not_group(expected, text, found) {
+        return "this operator does not go on from what stands before it; write parentheses";
+    }
+    mend_of_word(last.of(text))
+}
+
+/// Puts what was found.
+fn put_found(page: &mut String, text: &[u8], found: &Lexeme) -> Result<(), AllocError> {
+    if found.sort == Sort::End {
+        return page.push_str("found the end of the text\n");
+    }
+    let end = found.end.min(found.start.saturating_add(SHOWN));
+    page.push_str("found `")?;
+    put_bytes(page, part(text, found.start, end))?;
+    page.push_str("`\n")
+}
+
+/// Puts what could stand there.
+fn put_expected(page: &mut String, expected: &str) -> Result<(), AllocError> {
+    if expected.is_empty() {
+        return Ok(());
+    }
+    write!(page, "expected {expected}, ")
+}
+
+/// Puts the line of a place, unless nothing stands in it.
+fn put_line(page: &mut String, text: &Text<'_>, place: &Stretch) -> Result<(), AllocError> {
+    if line_at(text.bytes, place.line_start).is_empty() {
+        return Ok(());
+    }
+    put_excerpt(page, text, place)
+}
+
+/// Puts the name of the node whose word ends at a place.
+fn put_node_name(page: &mut String, text: &[u8], from: usize) -> Result<(), AllocError> {
+    let name = token_at(text, from);
+    if name.sort == Sort::Name {
+        page.push(' ')?;
+        put_bytes(page, name.of(text))?;
+    }
+    page.push_str(", which begins here\n")
+}
+
+/// Puts the place of the node that is not complete.
+fn put_open_node(page: &mut String, text: &Text<'_>, context: &Context) -> Result<(), AllocError> {
+    if context.part != Section::Heading && context.part != Section::Body {
+        return Ok(());
+    }
+    let word = token_at(text.bytes, context.node);
+    let place = spot(text, word.start, word.end);
+    put_place(page, text, &place, "note")?;
+    page.push_str("in ")?;
+    put_bytes(page, word.of(text.bytes))?;
+    put_node_name(page, text.bytes, word.end)
+}
+
+/// Puts how to mend it, where that is common.
+fn put_mend(page: &mut String, mend: &str) -> Result<(), AllocError> {
+    if mend.is_empty() {
+        return Ok(());
+    }
+    write!(page, "help: {mend}\n")
+}
+
+/// The token at a place, without what stands before it.
+fn found_at(text: &[u8], at: usize) -> Lexeme {
+    if byte_at(text, at) == 0 {
+        return piece_at(text, text.len());
+    }
+    piece_at(text, at)
+}
+
+/// Explains E2 at a line and a column.
+pub fn explain_syntax(
+    page: &mut String,
+    alloc: Global,
+    text: &Text<'_>,
+    line: u32,
+    column: u32,
+) -> Result<(), AllocError> {
+    let bytes = text.bytes;
+    let at = offset_of(bytes, line, column);
+    let context = context_of(bytes, at);
+    let found = found_at(bytes, at);
+    let last = last_before(bytes, window_start(bytes, &context), at);
+    let expected = expected_at(alloc, bytes, &context, &last, at)?;
+    let place = spot(text, found.start, found.end);
+    put_expected(page, expected)?;
+    put_found(page, bytes, &found)?;
+    put_line(page, text, &place)?;
+    put_open_node(page, text, &context)?;
+    put_mend(page, mend_of(bytes, &last, &found, expected))
+}

@@ -1,0 +1,101 @@
+//! Texts and places in them.
+
+use crate::bytes::{byte_at, count, find, part, rest};
+
+/// A text that a person knows by the name of its file.
+#[derive(Drop)]
+pub struct Text<'a> {
+    /// The path of the file, or `-` for standard input.
+    pub name: &'a str,
+    pub bytes: &'a [u8],
+    /// How many lines of the file stand before the text.
+    pub lines_before: u64,
+}
+
+/// A stretch of a line.
+#[derive(Clone, Copy)]
+pub struct Stretch {
+    /// From 1, in the file.
+    pub line: u64,
+    /// In bytes, from 1.
+    pub column: usize,
+    /// Where the line begins in the text.
+    pub line_start: usize,
+    /// Where the stretch begins in the text, and where it ends.
+    pub start: usize,
+    pub end: usize,
+}
+
+/// The place of a byte of a text, where the line that begins at `line_start` is known to be the one
+/// after `lines` others.
+pub fn spot_in(
+    text: &Text<'_>,
+    lines: u64,
+    line_start: usize,
+    start: usize,
+    end: usize,
+) -> Stretch {
+    Stretch {
+        line: text.lines_before.saturating_add(lines).saturating_add(1),
+        column: start.saturating_sub(line_start).saturating_add(1),
+        line_start,
+        start,
+        end,
+    }
+}
+
+/// Where the line of a byte begins.
+pub fn line_start(bytes: &[u8], at: usize) -> usize {
+    let at = at.min(bytes.len());
+    for back in 0..at {
+        let start = at.saturating_sub(back);
+        if byte_at(bytes, start.saturating_sub(1)) == b'\n' {
+            return start;
+        }
+    }
+    0
+}
+
+/// The place of a byte of a text.
+pub fn spot(text: &Text<'_>, start: usize, end: usize) -> Stretch {
+    let begin = line_start(text.bytes, start);
+    let lines = count(part(text.bytes, 0, begin), b'\n') as u64;
+    spot_in(text, lines, begin, start, end)
+}
+
+/// Where the line with this number, from 1 on in the text, begins.
+fn start_of_line(bytes: &[u8], line: u32) -> usize {
+    let mut start = 0;
+    for _line in 1..line {
+        start = find(bytes, start, b'\n').saturating_add(1);
+    }
+    start.min(bytes.len())
+}
+
+/// The offset of a line and a column, from 1 both.
+pub fn offset_of(bytes: &[u8], line: u32, column: u32) -> usize {
+    let start = start_of_line(bytes, line);
+    start
+        .saturating_add(column.saturating_sub(1) as usize)
+        .min(bytes.len())
+}
+
+/// The bytes of the line that begins at a place, without what ends it.
+pub fn line_at(bytes: &[u8], start: usize) -> &[u8] {
+    let end = find(bytes, start, b'\n');
+    let line = part(bytes, start, end);
+    match line {
+        [front @ .., b'\r'] => front,
+        _ => line,
+    }
+}
+
+/// Whether nothing but white space stands from a place on.
+pub fn is_blank_from(bytes: &[u8], from: usize) -> bool {
+    for b in rest(bytes, from) {
+        if *b > b' ' {
+            return false;
+        }
+    }
+    true
+}

@@ -1,0 +1,105 @@
+//! E18: a trace text over a limit.
+
+use crate::cells::{put_record, stretch_of};
+use crate::excerpt::put_place;
+use crate::instants::instant_of;
+use crate::quoted::{cell_at, decoded, width};
+use crate::records::{Cursor, Goal, find_record, start_of};
+use crate::texts::{Text, spot};
+use std::alloc::{AllocError, Global};
+
+/// The most bytes, instants of a trace, and cells in all.
+const MOST_BYTES: usize = 1_073_741_824;
+
+const MOST_INSTANTS: u64 = 1_000_000;
+
+const MOST_CELLS: u64 = 67_108_864;
+
+/// Puts how to go on.
+fn put_mend(page: &mut String) -> Result<(), AllocError> {
+    page.push_str("help: split the traces into several files, and run each\n")
+}
+
+/// How many instants the trace of a record has up to it.
+fn instants(alloc: Global, text: &[u8], record: &Cursor) -> Result<u64, AllocError> {
+    let Some(cell) = cell_at(text, record.at, 0) else {
+        return Ok(0);
+    };
+    let name = decoded(alloc, cell.raw(text))?;
+    Ok(instant_of(text, record, name.as_slice()).saturating_add(1))
+}
+
+/// Puts which limit a record goes past.
+fn put_limit(
+    page: &mut String,
+    alloc: Global,
+    text: &[u8],
+    record: &Cursor,
+    columns: u64,
+) -> Result<(), AllocError> {
+    let cells = record.records.saturating_mul(columns);
+    if instants(alloc, text, record)? > MOST_INSTANTS {
+        return write!(
+            page,
+            "this is instant {MOST_INSTANTS} of its trace; at most {MOST_INSTANTS} are read\n"
+        );
+    }
+    if cells > MOST_CELLS {
+        return write!(
+            page,
+            "up to here there are {cells} cells; at most {MOST_CELLS} are read\n"
+        );
+    }
+    page.push_str("this is trace 1000001; at most 1000000 are read\n")
+}
+
+/// Explains E18 for the length of a text, or for the record with a number.
+pub fn explain_limit(
+    page: &mut String,
+    alloc: Global,
+    text: &Text<'_>,
+    number: Option<u64>,
+) -> Result<(), AllocError> {
+    match number {
+        Some(record) => explain_record(page, alloc, text, record),
+        None => explain_long(page, text),
+    }
+}
+
+/// Explains a text that is too long.
+fn explain_long(page: &mut String, text: &Text<'_>) -> Result<(), AllocError> {
+    let length = text.bytes.len();
+    if length <= MOST_BYTES {
+        return Ok(());
+    }
+    let place = spot(text, 0, 0);
+    put_place(page, text, &place, "error")?;
+    write!(
+        page,
+        "the text of the traces has {length} bytes; at most {MOST_BYTES} are read\n"
+    )?;
+    put_mend(page)
+}
+
+/// Explains a record that goes past a limit.
+fn explain_record(
+    page: &mut String,
+    alloc: Global,
+    text: &Text<'_>,
+    number: u64,
+) -> Result<(), AllocError> {
+    let bytes = text.bytes;
+    let first = start_of(bytes);
+    let Some(header) = find_record(bytes, &first, &Goal::Number(0)) else {
+        return Ok(());
+    };
+    let Some(record) = find_record(bytes, &header, &Goal::Number(number)) else {
+        return Ok(());
+    };
+    let columns = width(bytes, header.at).saturating_sub(1).max(1) as u64;
+    let place = stretch_of(text, &record, record.at, record.at);
+    put_place(page, text, &place, "error")?;
+    put_limit(page, alloc, bytes, &record, columns)?;
+    put_mend(page)?;
+    put_record(page, alloc, bytes, &record)
+}

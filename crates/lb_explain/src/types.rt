@@ -1,0 +1,171 @@
+//! E9: an expression, an argument or a left side of another type than is wanted.
+
+use crate::counts::put_count;
+use crate::excerpt::put_bytes;
+use crate::lexeme::{Lexeme, Sort, piece_at, token_at};
+use crate::marking::{put_marked, token_of, word_of};
+use crate::paths::put_path;
+use crate::texts::Text;
+use lb_check::{SourceType, TypeFault, TypeRule};
+use std::alloc::AllocError;
+
+/// Puts the types that were found, as `this is int` or `this has 2 results`.
+fn put_found(page: &mut String, found: &[SourceType]) -> Result<(), AllocError> {
+    match found {
+        [] => page.push_str("this has no type"),
+        [one] => write!(page, "this is {one}"),
+        several => {
+            page.push_str("this has ")?;
+            put_count(page, several.len(), "result")
+        }
+    }
+}
+
+/// Puts the type that is wanted and the type that was found.
+fn put_types(page: &mut String, fault: &TypeFault) -> Result<(), AllocError> {
+    match &fault.wanted {
+        Some(wanted) => write!(page, "{wanted} is wanted, ")?,
+        None => page.push_str("another type is wanted, ")?,
+    }
+    put_found(page, fault.found.as_slice())?;
+    page.push('\n')
+}
+
+/// Puts what an operator wants, and what its operand is.
+fn put_operand(page: &mut String, text: &Text<'_>, fault: &TypeFault) -> Result<(), AllocError> {
+    let Some(sign) = fault.sign_offset else {
+        return put_types(page, fault);
+    };
+    page.push('`')?;
+    put_bytes(page, word_of(text, sign))?;
+    match &fault.wanted {
+        Some(wanted) => write!(page, "` wants {wanted}, ")?,
+        None => page.push_str("` wants operands of one type, ")?,
+    }
+    put_found(page, fault.found.as_slice())?;
+    page.push('\n')
+}
+
+/// Puts how a left variable and the right side differ.
+fn put_left(page: &mut String, fault: &TypeFault) -> Result<(), AllocError> {
+    match &fault.wanted {
+        Some(wanted) => write!(page, "this is {wanted}, and the right side ")?,
+        None => page.push_str("this is of another type, and the right side ")?,
+    }
+    match fault.found.as_slice() {
+        [one] => write!(page, "is {one}\n"),
+        _ => page.push_str("is not\n"),
+    }
+}
+
+/// Puts how many arguments there are, and how many are wanted.
+fn put_arguments(page: &mut String, found: usize, wanted: usize) -> Result<(), AllocError> {
+    put_count(page, found, "argument")?;
+    page.push_str(if found == 1 {
+        " is given, "
+    } else {
+        " are given, "
+    })?;
+    write!(
+        page,
+        "{wanted} {}\n",
+        if wanted == 1 {
+            "is wanted"
+        } else {
+            "are wanted"
+        }
+    )
+}
+
+/// Puts how many variables stand on the left, and how many results on the right.
+fn put_results(page: &mut String, found: usize, wanted: usize) -> Result<(), AllocError> {
+    put_count(page, found, "variable")?;
+    page.push_str(" on the left, ")?;
+    put_count(page, wanted, "result")?;
+    page.push_str(" on the right\n")
+}
+
+/// Puts the rule that is broken.
+fn put_rule(page: &mut String, text: &Text<'_>, fault: &TypeFault) -> Result<(), AllocError> {
+    match fault.rule {
+        TypeRule::Number => page.push_str("this value is out of the range of int\n"),
+        TypeRule::Operand(_) => put_operand(page, text, fault),
+        TypeRule::Argument(place) => {
+            write!(page, "argument {place}: ")?;
+            put_types(page, fault)
+        }
+        TypeRule::ArgumentCount { found, wanted } => put_arguments(page, found, wanted),
+        TypeRule::Left(_) => put_left(page, fault),
+        TypeRule::LeftCount { found, wanted } => put_results(page, found, wanted),
+        TypeRule::Index => put_array(page, fault),
+        _ => put_further_rule(page, fault),
+    }
+}
+
+/// Puts that an index or the ends of a slice are outside of an array.
+fn put_array(page: &mut String, fault: &TypeFault) -> Result<(), AllocError> {
+    page.push_str("the index is outside of the array")?;
+    if let [array] = fault.found.as_slice() {
+        write!(page, ", which is {array}")?;
+    }
+    page.push('\n')
+}
+
+/// The same for rules of calls, arrays, assertions and clocks.
+fn put_further_rule(page: &mut String, fault: &TypeFault) -> Result<(), AllocError> {
+    match fault.rule {
+        TypeRule::ResultCount => page.push_str("one result is wanted, ")?,
+        TypeRule::IteratedNode => page.push_str("the iterator does not go over this node, ")?,
+        TypeRule::Length => page.push_str("an array has 1 to 4096 elements, ")?,
+        TypeRule::Assertion => page.push_str("an assertion is bool, ")?,
+        TypeRule::ClockVariable => page.push_str("the variable of a clock is bool, ")?,
+        _ => {}
+    }
+    put_found(page, fault.found.as_slice())?;
+    page.push('\n')
+}
+
+/// The token before a place, from another on.
+fn token_before(text: &[u8], from: usize, place: usize) -> Lexeme {
+    let mut last = piece_at(text, text.len());
+    let mut at = from;
+    for _turn in from..place {
+        let token = token_at(text, at);
+        if token.start >= place {
+            return last;
+        }
+        last = token;
+        at = token.end;
+    }
+    last
+}
+
+/// Puts how a comparison after `not` was read.
+fn put_reading(page: &mut String, text: &Text<'_>, fault: &TypeFault) -> Result<(), AllocError> {
+    const COMPARISONS: [&[u8]; 6] = [b"=", b"<>", b"<", b"<=", b">", b">="];
+    let bytes = text.bytes;
+    let operand = token_of(text, fault.offset);
+    let before = token_before(bytes, fault.part_offset as usize, operand.start);
+    let after = token_at(bytes, operand.end);
+    let is_single = operand.sort == Sort::Name || operand.sort == Sort::Number;
+    if !is_single || !before.is(bytes, b"not".as_slice()) || !after.is_among(bytes, &COMPARISONS) {
+        return Ok(());
+    }
+    page.push_str("help: this is read as `(not ")?;
+    put_bytes(page, operand.of(bytes))?;
+    page.push_str(") ")?;
+    put_bytes(page, after.of(bytes))?;
+    page.push_str(" ..`; write parentheses round the comparison\n")
+}
+
+/// Explains E9.
+pub fn explain_type(
+    page: &mut String,
+    text: &Text<'_>,
+    fault: &TypeFault,
+) -> Result<(), AllocError> {
+    put_rule(page, text, fault)?;
+    put_marked(page, text, fault.offset)?;
+    put_reading(page, text, fault)?;
+    put_path(page, text, &fault.path)
+}
