@@ -1,5 +1,8 @@
 pub mod Streams
+pub mod Inputs
 pub mod Outcomes
 pub mod Words
-pub mod Inputs
 pub mod Living
+pub mod Deliveries
+pub mod Columns
+pub mod Judgements

@@ -1,23 +1,24 @@
 -- What a live report comes to, from what its parts answer.
-use Rattle.std.proofs.Common.{◌∙◌, Result, Ok, Err, inl, subst, sym}
+use Rattle.std.proofs.Common.{◌≡◌, ◌∙◌, Result, Ok, Err, inl, subst, sym}
 use Rattle.clap.specs.Words.{Text}
 use Rattle.lb_report.specs.LiveReports.{IsTurnedAway}
 use Rattle.lb_report.specs.declared.error.BenchError.{BenchError}
 use Rattle.lb_report.specs.declared.options.Options.{Options}
 use Rattle.lb_pool.specs.declared.follow_error.FollowError.{FollowError}
 use Rattle.lb_command.specs.Live.{AreRefused, GoesOn, GoesTo, IsLive, IsLiveOn, IsRefusedWith}
-use Rattle.lb_command.specs.Live.{IsRunOf}
-use Rattle.lb_command.specs.Outcomes.{IsRefusedOn, IsToldBy, IsUnread, TellsOfInput}
+use Rattle.lb_command.specs.Outcomes.{IsRefusedOn, IsToldBy, IsUnread, TellsOfInput, source_in}
+use Rattle.lb_command.specs.Outcomes.{traces_in}
 use Rattle.lb_command.specs.Outcomes.IsRefusedOn.{judged, unread}
 use Rattle.lb_command.specs.Streams.{Change, Input, IsUntouched, NeverFailed}
 use Rattle.lb_command.specs.declared.live.LiveFault.{LiveFault}
 use Rattle.lb_command.specs.declared.live.LiveFault.TheVariants.{Refused, Stopped}
 use Rattle.lb_command.specs.declared.refusal.Refusal.{Refusal}
+use Rattle.lb_command.specs.declared.refusal.Texts.{Texts}
 use Rattle.lb_command.proofs.Inputs.{is_not_read, tells_more}
 
 -- the live report on two texts that are such
-pub live_of : (Are : Text → Text → Type 0) (HasFile : Type 0) (source traces : Text)
-    (options : Options) (i : Input) (output : Change) (r : Result (Unit {0}) LiveFault)
+pub live_of : {T : Type 0} (Are : Text → Text → Type 0) (HasFile : Type 0) (source traces : Text)
+    (options : Options) (i : Input) (output : Change) (r : Result T LiveFault)
     → Are source traces → NeverFailed i → IsLive source traces options output r
     → IsLiveOn Are HasFile options i output r
 live_of Are HasFile source traces options i output (Ok x) are never h =
@@ -81,8 +82,8 @@ goes_on Are Other options i output run f h = record {
 }
 
 -- of texts of which more is known
-pub live_on : (Are Other : Text → Text → Type 0) (HasFile HasOther : Type 0) (options : Options)
-    (i : Input) (output : Change) (r : Result (Unit {0}) LiveFault)
+pub live_on : {T : Type 0} (Are Other : Text → Text → Type 0) (HasFile HasOther : Type 0)
+    (options : Options) (i : Input) (output : Change) (r : Result T LiveFault)
     → ((source traces : Text) → Are source traces → Other source traces) → (HasFile → HasOther)
     → IsLiveOn Are HasFile options i output r → IsLiveOn Other HasOther options i output r
 live_on Are Other HasFile HasOther options i output (Ok x) f more h =
@@ -96,27 +97,22 @@ live_on Are Other HasFile HasOther options i output (Err (Refused refusal)) f mo
 }
 
 -- a run of two texts that files hold
-pub live_run : (source traces : Text) (options : Options) (i : Input) (output : Change)
-    (run : Result (Unit {0}) FollowError) (r : Result (Unit {0}) LiveFault) → NeverFailed i
-    → GoesTo source traces options output run → IsRunOf run r
-    → IsLiveOn (λ source traces. Unit {0}) (Unit {0}) options i output r
-live_run source traces options i output (Ok x) r never goes is =
-    let Is : Result (Unit {0}) LiveFault → Type 0 =
-    IsLiveOn (λ source traces. Unit {0}) (Unit {0}) options i output in
-    subst Is (sym is) (record {
-      source = source;
-      traces = traces;
-      texts = tt;
-      goes = goes;
-      read = never;
-    })
-live_run source traces options i output (Err e) r never goes is =
-    let Is : Result (Unit {0}) LiveFault → Type 0 =
-    IsLiveOn (λ source traces. Unit {0}) (Unit {0}) options i output in
-    subst Is (sym is) (record {
-      source = source;
-      traces = traces;
-      texts = tt;
-      goes = goes;
-      read = never;
-    })
+pub live_run : {T : Type 0} (source traces : Text) (options : Options) (i : Input) (output : Change)
+    (x : T) → NeverFailed i → GoesTo source traces options output (Ok tt)
+    → IsLiveOn (λ source traces. Unit {0}) (Unit {0}) options i output (Ok x)
+live_run source traces options i output x never goes = record {
+  source = source;
+  traces = traces;
+  texts = tt;
+  goes = goes;
+  read = never;
+}
+
+-- the live report on two texts, as they stand in the texts of a task
+pub live_in : {T : Type 0} (texts : Texts) (source traces : Text) (options : Options)
+    (output : Change) (r : Result T LiveFault) → source ≡ source_in texts
+    → traces ≡ traces_in texts → IsLive source traces options output r
+    → IsLive (source_in texts) (traces_in texts) options output r
+live_in texts source traces options output r first second live =
+    subst (λ (s : Text). IsLive s (traces_in texts) options output r) first
+    (subst (λ (s : Text). IsLive source s options output r) second live)

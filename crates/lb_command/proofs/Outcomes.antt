@@ -1,46 +1,33 @@
 -- What a run comes to, from what its parts answer.
-use Rattle.std.proofs.Common.{◌≡◌, Result, Ok, Err, inl, inr, subst, sym}
-use Rattle.std.specs.Prelude.{IfOk, IfErr}
+use Rattle.std.proofs.Common.{◌≡◌, ◌≢◌, Option, Result, Ok, Err, inl, inr, subst, sym}
+use Rattle.std.specs.Prelude.{IfErr}
 use Rattle.std.specs.Result.{IsErrAnd}
 use Rattle.clap.specs.Words.{Text}
-use Rattle.lb_report.specs.Correct.{IsBenchAnswer}
-use Rattle.lb_report.specs.declared.error.BenchError.{BenchError}
 use Rattle.lb_report.specs.declared.feed.LoadError.{LoadError}
 use Rattle.lb_report.specs.declared.feed.LoadError.TheVariants as load
 use Rattle.lb_report.specs.declared.options.Options.{Options}
 use Rattle.lb_pool.specs.declared.text.Report.{Report}
-use Rattle.lb_command.specs.Outcomes.{IsOutcomeOn, IsToldBy}
-use Rattle.lb_command.specs.Outcomes.{IsUnread, load_number}
+use Rattle.lb_command.specs.Outcomes.{AreIn, AreTexts, HasRead, IsOutcomeOn, IsUnread, load_number}
+use Rattle.lb_command.specs.Outcomes.{source_in, traces_in}
 use Rattle.lb_command.specs.Outcomes.IsRefusedOn.{judged, unread}
+use Rattle.lb_command.specs.Streams.{Input, NeverFailed}
+use Rattle.lb_command.specs.declared.answer.Warned.{Warned}
 use Rattle.lb_command.specs.declared.refusal.Refusal.{Refusal}
+use Rattle.lb_command.specs.declared.refusal.Texts.{Texts}
+use Rattle.lb_command.specs.declared.request.Task.{Task}
+use Rattle.lb_command.proofs.Inputs.{tells_more}
 
 pub load_unread : (cause : LoadError) (refusal : Refusal) → refusal.number ≡ load_number cause
     → IsUnread refusal
 load_unread load.Memory refusal e = inl e
 load_unread load.Read refusal e = inr e
 
--- what the bench answers about two texts, told as a report or a refusal
-pub outcome_of : (Are : Text → Text → Type 0) (source traces : Text) (options : Options)
-    (answer : Result Report BenchError) (result : Result Report Refusal) → Are source traces
-    → IsBenchAnswer source traces options answer → IfOk result (λ report. answer ≡ Ok report)
-    → IfErr result (λ refusal. (e : BenchError) × (answer ≡ Err e) × IsToldBy e refusal)
-    → IsOutcomeOn Are options result
-outcome_of Are source traces options answer (Ok report) are answered ok err = record {
-  source = source;
-  traces = traces;
-  texts = are;
-  reported = (subst (IsBenchAnswer source traces options) ok answered).report;
-}
-outcome_of Are source traces options answer (Err refusal) are answered ok err =
-    judged source traces are err.0 (subst (IsBenchAnswer source traces options) err.1 answered)
-    err.2
-
 -- of texts of which more is known
 pub outcome_on : (Are Other : Text → Text → Type 0) (options : Options)
-    (result : Result Report Refusal)
+    (result : Result (Warned Report) Refusal)
     → ((source traces : Text) → Are source traces → Other source traces)
     → IsOutcomeOn Are options result → IsOutcomeOn Other options result
-outcome_on Are Other options (Ok report) f is = record {
+outcome_on Are Other options (Ok found) f is = record {
   source = is.source;
   traces = is.traces;
   texts = f is.source is.traces is.texts;
@@ -49,6 +36,34 @@ outcome_on Are Other options (Ok report) f is = record {
 outcome_on Are Other options (Err refusal) f (unread h) = unread h
 outcome_on Are Other options (Err refusal) f (judged source traces are e answered told) =
     judged source traces (f source traces are) e answered told
+
+-- the two texts that are in the texts of a task
+pub are_texts : (task : Task) (known : Option Text) (t : Texts) (source traces : Text)
+    → AreTexts task known (source_in t) (traces_in t) → AreIn t source traces
+    → AreTexts task known source traces
+are_texts task known t source traces are here =
+    subst (λ (s : Text). AreTexts task known s traces) (sym here.first)
+    (subst (λ (s : Text). AreTexts task known (source_in t) s) (sym here.second) are)
+
+-- what is said of texts that were read tells of no read that failed
+pub all_read : {T : Type 0} (HasFile : Type 0) (i : Input) (r : Result T Refusal) → NeverFailed i
+    → IfErr r (λ refusal. refusal.number ≢ 21) → HasRead HasFile i r
+all_read HasFile i (Ok x) never not_read = never
+all_read HasFile i (Err refusal) never not_read =
+    record { read = λ number. absurd (not_read number); other = λ number. never }
+
+-- of a file
+pub file_read : {T : Type 0} (HasFile : Type 0) (i : Input) (r : Result T Refusal) → HasFile
+    → NeverFailed i → HasRead HasFile i r
+file_read HasFile i (Ok x) file never = never
+file_read HasFile i (Err refusal) file never =
+    record { read = λ number. inl file; other = λ number. never }
+
+-- what is said of an input, where more may have been read
+pub read_more : {T : Type 0} (HasFile Other : Type 0) (i : Input) (r : Result T Refusal)
+    → (HasFile → Other) → HasRead HasFile i r → HasRead Other i r
+read_more HasFile Other i (Ok x) f has = has
+read_more HasFile Other i (Err refusal) f has = tells_more HasFile Other i refusal f has
 
 -- a refusal that a `?` passes on
 pub passed_on : {T : Type 0} (r : Result T Refusal) (first : Refusal) (P : Refusal → Type 0)

@@ -1,14 +1,18 @@
 -- What the parser of words answers at the command line that the program knows.
-use Rattle.std.proofs.Common.{◌≡◌, ◌≢◌, ◌∙◌, ◌⊎◌, List, Result, Ok, Err, true, ap, subst, refl, sym}
+use Rattle.std.proofs.Common.{◌≡◌, ◌≢◌, ◌∙◌, ◌⊎◌, List, Result, Ok, Err, true, false}
+use Rattle.std.proofs.Common.{ap, subst, refl, sym}
 use Rattle.std.proofs.Common.{ℕ, inl, inr}
-use Rattle.std.specs.Prelude.{[], IfErr, OnOk}
-use Rattle.clap.specs.Words.{App, FailsBy, HasMatchesOf, IsAmong, Text, fault_of, found_of}
+use Rattle.std.specs.Prelude.{[], IfErr, OnOk, codes}
+use Rattle.clap.specs.Words.{App, FailsBy, HasMatchesOf, IsAmong, Row, Text, fault_of, found_of}
 use Rattle.clap.specs.Words.{is_simple, is_simple_and_free, kind_of, matches_of, rows_of}
 use Rattle.clap.specs.declared.parser.matches.ArgMatches.{ArgMatches}
 use Rattle.clap.specs.declared.error.Error.{Error}
 use Rattle.clap.specs.declared.error.kind.ErrorKind.TheVariants.{DisplayHelp, OutOfMemory}
-use Rattle.lb_command.specs.Words.{AsksForHelp, IsUnlawful, command_line, faults_of, values_of}
-use Rattle.lb_command.specs.Words.IsUnlawful.{fault}
+use Rattle.lb_command.specs.Words.{AsksForHelp, IsRequest, IsRequestOf, IsTask, IsUnlawful}
+use Rattle.lb_command.specs.Words.{IsWrongNumber, command_line, faults_of, has_switch, values_of}
+use Rattle.lb_command.specs.Words.IsUnlawful.{fault, wrong_number}
+use Rattle.lb_command.specs.declared.request.Request.{Request}
+use Rattle.lb_command.specs.declared.request.Request.TheVariants.{Help, Version, Run}
 
 is_simple_line : is_simple command_line ≡ true
 unfolding command_line
@@ -74,3 +78,25 @@ pub refused_by : (words : List Text) (e : Error) (number : ℕ)
 refused_by words e number among (inl memory) = inl memory
 refused_by words e number among (inr (usage, not_help, not_memory)) =
     inr (usage, is_unlawful words e among not_help not_memory)
+
+-- what lawful words ask for, by their values
+pub asked_by : (words : List Text) (rows : List Row) (request : Request) → rows ≡ values_of words
+    → faults_of words ≡ [] → IsRequestOf rows request → IsRequest words request
+asked_by words rows (Help text) same lawful is = absurd is
+asked_by words rows Version same lawful is = record {
+  lawful = lawful;
+  version = subst (λ (r : List Row). has_switch (codes "version") r ≡ true) same is;
+}
+asked_by words rows (Run task) same lawful is = record {
+  lawful = lawful;
+  no_version = subst (λ (r : List Row). has_switch (codes "version") r ≡ false) same is.0;
+  given = subst (λ (r : List Row). IsTask r task) same is.1;
+}
+
+-- the refusal of words that are lawful but for a number
+pub misnumbered : (words : List Text) (rows : List Row) (number : ℕ) → rows ≡ values_of words
+    → (number ≡ 0) ⊎ ((number ≡ 20) × IsWrongNumber rows)
+    → (number ≡ 0) ⊎ ((number ≡ 20) × IsUnlawful words)
+misnumbered words rows number same (inl memory) = inl memory
+misnumbered words rows number same (inr (usage, wrong)) =
+    inr (usage, wrong_number (subst (λ (r : List Row). IsWrongNumber r) same wrong))

@@ -1,6 +1,9 @@
 pub mod Words
 pub mod Lines
 pub mod Streams
+pub mod Warnings
 pub mod Outcomes
+pub mod Judging
 pub mod Live
 pub mod Correct
+pub mod Announcements

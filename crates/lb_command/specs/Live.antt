@@ -1,6 +1,6 @@
 -- A run whose report is written line by line.
 -- Source: this project's rule.
-use Rattle.std.specs.Prelude.{◌≡◌, ◌≢◌, ℕ, None, Result, Ok, Err}
+use Rattle.std.specs.Prelude.{◌≡◌, ◌≢◌, ℕ, List, None, Result, Ok, Err}
 use Rattle.lb_report.specs.Correct.{IsBenchAnswer}
 use Rattle.lb_report.specs.LiveReports.{IsUnderWay}
 use Rattle.lb_report.specs.declared.error.BenchError.{BenchError}
@@ -9,9 +9,10 @@ use Rattle.lb_pool.specs.declared.follow_error.FollowError.{FollowError}
 use Rattle.lb_pool.specs.declared.follow_error.FollowError.TheVariants.{Memory, Write}
 use Rattle.clap.specs.Words.{Text}
 use Rattle.lb_command.specs.Outcomes.{AreTexts, HasPath, IsRefusedOn, IsToldBy, TellsOfInput}
-use Rattle.lb_command.specs.Outcomes.{refusal_status}
+use Rattle.lb_command.specs.Outcomes.{IsTold, refusal_status}
 use Rattle.lb_command.specs.Lines.{line}
-use Rattle.lb_command.specs.Streams.{Change, Input, IsUntouched, NeverFailed, TookOrFailed}
+use Rattle.lb_command.specs.Streams.{Change, Input, IsUntouched, NeverFailed}
+use Rattle.lb_command.specs.Warnings.{AreWarnings, IsWarned}
 use Rattle.lb_command.specs.declared.live.LiveFault.{LiveFault}
 use Rattle.lb_command.specs.declared.live.LiveFault.TheVariants.{Refused, Stopped}
 use Rattle.lb_command.specs.declared.refusal.Refusal.{Refusal}
@@ -38,20 +39,16 @@ pub record AreRefused (source traces : Text) (options : Options) (output : Chang
   pub not_read : refusal.number ≢ 21
   pub untouched : IsUntouched output
 
--- what the live report on two texts comes to
-abbrev pub IsLive : (source traces : Text) → Options → Change → Result (Unit {0}) LiveFault → Type 0
-IsLive source traces options output (Ok x) = GoesTo source traces options output (Ok x)
+-- a live report on two texts: it went out, or it stopped, or the texts are refused
+abbrev pub IsLive : {T : Type 0} → (source traces : Text) → Options → Change → Result T LiveFault
+    → Type 0
+IsLive source traces options output (Ok x) = GoesTo source traces options output (Ok tt)
 IsLive source traces options output (Err (Stopped e)) =
     GoesTo source traces options output (Err e)
 IsLive source traces options output (Err (Refused refusal)) =
     AreRefused source traces options output refusal
 
--- what a run of two texts comes to: the whole report, or where it stopped
-abbrev pub IsRunOf : Result (Unit {0}) FollowError → Result (Unit {0}) LiveFault → Type 0
-IsRunOf (Ok x) r = r ≡ Ok x
-IsRunOf (Err e) r = r ≡ Err (Stopped e)
-
--- the report on two such texts goes to an output, and no read of the input failed
+-- the report on two texts, of which `Are` holds, goes to an output, and no read of the input failed
 pub record GoesOn (Are : Text → Text → Type 0) (options : Options) (i : Input) (output : Change)
     (run : Result (Unit {0}) FollowError) : Type 0 where
   pub source : Text
@@ -60,32 +57,36 @@ pub record GoesOn (Are : Text → Text → Type 0) (options : Options) (i : Inpu
   pub goes : GoesTo source traces options output run
   pub read : NeverFailed i
 
--- the input or two such texts are refused, and the output is as it was
+-- the input could not be read, or two texts, of which `Are` holds, are refused; and the output is
+-- as it was
 pub record IsRefusedWith (Are : Text → Text → Type 0) (HasFile : Type 0) (options : Options)
     (i : Input) (output : Change) (refusal : Refusal) : Type 0 where
   pub refused : IsRefusedOn Are options refusal
   pub read : TellsOfInput HasFile i refusal
   pub untouched : IsUntouched output
 
--- what the live report on two such texts comes to
-abbrev pub IsLiveOn : (Are : Text → Text → Type 0) → (HasFile : Type 0) → Options → Input → Change
-    → Result (Unit {0}) LiveFault → Type 0
-IsLiveOn Are HasFile options i output (Ok x) = GoesOn Are options i output (Ok x)
+-- a live report on two texts, of which `Are` holds
+abbrev pub IsLiveOn : {T : Type 0} → (Are : Text → Text → Type 0) → (HasFile : Type 0) → Options
+    → Input → Change → Result T LiveFault → Type 0
+IsLiveOn Are HasFile options i output (Ok x) = GoesOn Are options i output (Ok tt)
 IsLiveOn Are HasFile options i output (Err (Stopped e)) = GoesOn Are options i output (Err e)
 IsLiveOn Are HasFile options i output (Err (Refused refusal)) =
     IsRefusedWith Are HasFile options i output refusal
 
--- a live run of a task: the whole report went out, and the status is 0; or it stopped, its first
--- bytes went out, and the cause is told, E0 or E19; or the input or the texts are refused, nothing
--- went out, and the refusal is told
-pub data IsLiveRun (task : Task) (i : Input) (status : ℕ) (output errors : Change) : Type 0 where
-  whole : (x : Unit {0}) → GoesOn (AreTexts task i.coming) task.options i output (Ok x)
-      → status ≡ 0 → IsUntouched errors → IsLiveRun task i status output errors
+-- a live run of a task: the whole report went out, the status is 0, and the warnings went to the
+-- errors; or it stopped, its first bytes went out, and the cause is told, E0 or E19; or the input
+-- or the texts are refused, nothing went out, and the refusal is told
+pub data IsLiveRun
+    (words : List Text) (task : Task) (i : Input) (status : ℕ) (output errors : Change)
+    : Type 0 where
+  whole : (warnings : List ℕ) → GoesOn (AreTexts task i.coming) task.options i output (Ok tt)
+      → status ≡ 0 → AreWarnings words task.options warnings → IsWarned errors warnings
+      → IsLiveRun words task i status output errors
   stopped : (e : FollowError) → GoesOn (AreTexts task i.coming) task.options i output (Err e)
-      → status ≡ refusal_status (stop_number e) → TookOrFailed errors (line (stop_number e) None)
-      → IsLiveRun task i status output errors
+      → status ≡ refusal_status (stop_number e) → IsTold words errors (line (stop_number e) None)
+      → IsLiveRun words task i status output errors
   refused : (refusal : Refusal)
       → IsRefusedWith (AreTexts task i.coming) (HasPath task) task.options i output refusal
       → status ≡ refusal_status refusal.number
-      → TookOrFailed errors (line refusal.number refusal.position)
-      → IsLiveRun task i status output errors
+      → IsTold words errors (line refusal.number refusal.position)
+      → IsLiveRun words task i status output errors

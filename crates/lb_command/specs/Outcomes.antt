@@ -1,7 +1,7 @@
--- What the texts of a run come to, and what is told of them.
+-- The report of a run or its refusal, and which of them the outputs get.
 -- Source: this project's rule.
 use Rattle.std.specs.Prelude.{◌≡◌, ◌≢◌, ℕ, ◌==◌, ◌||◌, ◌⊎◌, if◌then◌else◌, IfSome, List, Option}
-use Rattle.std.specs.Prelude.{Some, None, Result, Ok, Err, string_bytes}
+use Rattle.std.specs.Prelude.{Some, None, Result, Ok, Err, string_bytes, codes, [], ◌++◌, false}
 use Rattle.std.specs.Borrow.{Bor}
 use Rattle.lb_report.specs.Bench.{IsBenchReport}
 use Rattle.lb_report.specs.Cases.{parts_of}
@@ -14,12 +14,19 @@ use Rattle.lb_report.specs.declared.options.Options.{Options}
 use Rattle.lb_pool.specs.declared.text.Report.{Report}
 use Rattle.clap.specs.Words.{Text}
 use Rattle.lb_command.specs.Lines.{line}
-use Rattle.lb_command.specs.Streams.{Change, HasFailed, Input, IsUnreadable, IsUntouched}
+use Rattle.lb_command.specs.Streams.{Change, HasFailed, Input, IsUnreadable}
 use Rattle.lb_command.specs.Streams.{NeverFailed, Took, TookOrFailed}
+use Rattle.lb_command.specs.Warnings.{IsWarned}
+use Rattle.lb_command.specs.Words.{asks_to_explain}
+use Rattle.lb_command.specs.declared.answer.Answer.{Answer}
+use Rattle.lb_command.specs.declared.answer.Answer.TheVariants.{OfTraces, OfSource, Help, Version}
+use Rattle.lb_command.specs.declared.answer.Warned.{Warned}
+use Rattle.lb_command.specs.declared.loading.Loaded.{Loaded}
+use Rattle.lb_command.specs.declared.loading.Loaded.TheVariants as loaded
 use Rattle.lb_command.specs.declared.refusal.Refusal.{Refusal}
+use Rattle.lb_command.specs.declared.refusal.Texts.{Texts}
+use Rattle.lb_command.specs.declared.refusal.Texts.TheVariants as texts
 use Rattle.lb_command.specs.declared.request.Task.{Task}
-use Rattle.lb_command.specs.declared.run.Answer.{Answer}
-use Rattle.lb_command.specs.declared.run.Answer.TheVariants.{OfTraces, Help}
 
 -- ## The texts
 
@@ -34,14 +41,46 @@ pub record AreParts (known : Option Text) (source traces : Text) : Type 0 where
   pub first : source ≡ (parts_of case).source
   pub second : traces ≡ (parts_of case).traces
 
--- the two texts of a run: without a path they are the parts of the input, with one path the traces
--- are the input; what a file holds no contract says
+-- the two texts of a run: without a path they are the parts of the input; with one path the traces
+-- are the input, and with two neither is. No contract says what a file holds
 pub data AreTexts (task : Task) (known : Option Text) (source traces : Text) : Type 0 where
   of_case : task.source ≡ None → AreParts known source traces → AreTexts task known source traces
   of_input : (path : Bor Text) → task.source ≡ Some path → task.traces ≡ None
       → IsInput known traces → AreTexts task known source traces
   of_files : (path other : Bor Text) → task.source ≡ Some path → task.traces ≡ Some other
       → AreTexts task known source traces
+
+-- the source and the traces in some texts
+abbrev pub source_in : Texts → Text
+source_in (texts.Two source traces) = source.items
+source_in (texts.Case case) = (parts_of case.items).source
+
+abbrev pub traces_in : Texts → Text
+traces_in (texts.Two source traces) = traces.items
+traces_in (texts.Case case) = (parts_of case.items).traces
+
+-- the two texts are the source and the traces in some texts
+pub record AreIn (texts : Texts) (source traces : Text) : Type 0 where
+  pub first : source ≡ source_in texts
+  pub second : traces ≡ traces_in texts
+
+-- the task names a file
+abbrev pub HasPath : Task → Type 0
+HasPath task = (path : Bor Text) × (task.source ≡ Some path)
+
+-- what was loaded for a task: its two texts; or a source and an open file of traces. No contract
+-- says what a file holds
+abbrev pub IsLoaded : {F : Type 0} → Task → (known : Option Text) → Loaded F → Type 0
+IsLoaded task known (loaded.Texts texts) = AreTexts task known (source_in texts) (traces_in texts)
+IsLoaded task known (loaded.Open source path file) =
+    HasPath task × ((first second : Text) → AreTexts task known first second)
+
+-- the source of a run: without a path it is the first part of the input. No contract says what a
+-- file holds
+pub data IsSource (task : Task) (known : Option Text) (source : Text) : Type 0 where
+  of_case : task.source ≡ None → (case : Text) → IsInput known case
+      → source ≡ (parts_of case).source → IsSource task known source
+  of_file : (path : Bor Text) → task.source ≡ Some path → IsSource task known source
 
 -- ## Reports and refusals
 
@@ -59,7 +98,7 @@ pub record IsToldBy (e : BenchError) (refusal : Refusal) : Type 0 where
   pub number : refusal.number ≡ number_of e
   pub position : refusal.position ≡ position_of e
 
--- the report that the bench promises of two such texts
+-- a report: the bench promises it of two texts, of which `Are` holds
 pub record IsReportOn (Are : Text → Text → Type 0) (options : Options) (report : Report)
     : Type 0 where
   pub source : Text
@@ -67,7 +106,7 @@ pub record IsReportOn (Are : Text → Text → Type 0) (options : Options) (repo
   pub texts : Are source traces
   pub reported : IsBenchReport source traces options report
 
--- a refusal of the input, or of two such texts by the bench
+-- a refusal: an input could not be read; or the bench refuses two texts, of which `Are` holds
 pub data IsRefusedOn (Are : Text → Text → Type 0) (options : Options) (refusal : Refusal)
     : Type 0 where
   unread : IsUnread refusal → IsRefusedOn Are options refusal
@@ -75,9 +114,9 @@ pub data IsRefusedOn (Are : Text → Text → Type 0) (options : Options) (refus
       → IsBenchAnswer source traces options (Err e) → IsToldBy e refusal
       → IsRefusedOn Are options refusal
 
--- a report or a refusal
-abbrev pub IsOutcomeOn : (Text → Text → Type 0) → Options → Result Report Refusal → Type 0
-IsOutcomeOn Are options (Ok report) = IsReportOn Are options report
+-- a report, or a refusal
+abbrev pub IsOutcomeOn : (Text → Text → Type 0) → Options → Result (Warned Report) Refusal → Type 0
+IsOutcomeOn Are options (Ok found) = IsReportOn Are options found.value
 IsOutcomeOn Are options (Err refusal) = IsRefusedOn Are options refusal
 
 -- ## What a refusal tells of the input
@@ -88,35 +127,49 @@ pub record TellsOfInput (HasFile : Type 0) (i : Input) (refusal : Refusal) : Typ
   pub read : refusal.number ≡ 21 → HasFile ⊎ IsUnreadable i
   pub other : refusal.number ≢ 21 → NeverFailed i
 
--- what an outcome tells of the input
+-- a report says that no read of the input failed; a refusal says what `TellsOfInput` does
 abbrev pub HasRead : {T : Type 0} → (HasFile : Type 0) → Input → Result T Refusal → Type 0
 HasRead HasFile i (Ok x) = NeverFailed i
 HasRead HasFile i (Err refusal) = TellsOfInput HasFile i refusal
 
--- the task names a file
-abbrev pub HasPath : Task → Type 0
-HasPath task = (path : Bor Text) × (task.source ≡ Some path)
-
 -- ## Answers
+
+-- what `--version` prints
+abbrev pub version : Text
+version = codes "lbench 0.1.0\nrattle-kit-13f logic dac8208d650f15bf\n"
 
 -- the bytes of an answer for the output
 abbrev pub text_of : Answer → List ℕ
 text_of (OfTraces report) = report.text.items
+text_of (OfSource text) = text.items
 text_of (Help text) = string_bytes text
+text_of Version = version
 
 -- the exit status of an answer: that of the report, which is 1 where a verdict is a fault,
--- undefined or false, and else 0; and 0 for help
+-- undefined or false, and else 0; and 0 for all other answers
 abbrev pub status_of : Answer → ℕ
 status_of (OfTraces report) = report.status
+status_of (OfSource text) = 0
 status_of (Help text) = 0
+status_of Version = 0
 
 -- the exit status of a refusal: 3 where memory, the output or an input failed, else 2
 abbrev pub refusal_status : ℕ → ℕ
 refusal_status number = if number == 0 || number == 19 || number == 21 then 3 else 2
 
--- an answer went out whole, and the status is its own; or the output failed, which is E19
-pub data IsDelivered (answer : Answer) (status : ℕ) (output errors : Change) : Type 0 where
-  whole : status ≡ status_of answer → Took output (text_of answer) → IsUntouched errors
-      → IsDelivered answer status output errors
-  broken : status ≡ refusal_status 19 → HasFailed output → TookOrFailed errors (line 19 None)
-      → IsDelivered answer status output errors
+-- the line of a refusal went to the errors, unless these failed, and behind it further lines where
+-- the words ask for them, and else nothing
+pub record IsTold (words : List Text) (errors : Change) (text : List ℕ) : Type 0 where
+  pub further : List ℕ
+  pub unasked : asks_to_explain words ≡ false → further ≡ []
+  pub told : TookOrFailed errors (text ++ further)
+
+-- an answer went out whole, the status is its own, and the warnings went to the errors; or the
+-- output failed, which is E19
+pub data IsDelivered
+    (words : List Text) (answer : Answer) (warnings : List ℕ) (status : ℕ) (output errors : Change)
+    : Type 0 where
+  whole : status ≡ status_of answer → Took output (text_of answer) → IsWarned errors warnings
+      → IsDelivered words answer warnings status output errors
+  broken : status ≡ refusal_status 19 → HasFailed output → IsTold words errors (line 19 None)
+      → IsDelivered words answer warnings status output errors

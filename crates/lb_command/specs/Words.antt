@@ -1,7 +1,9 @@
 -- The command line that the program knows, and what its words ask for.
 -- Source: this project's rule; what words make of a command line is what the library `clap` says.
 use Rattle.std.specs.Prelude.{◌≡◌, ◌≢◌, ℕ, ◌≤◌, List, [], ◌∷◌, codes, unwrap_or, option_map}
-use Rattle.std.specs.Prelude.{Bool, true, false, ◌<◌, Option, None, Some, string_bytes, bytes_eq}
+use Rattle.std.specs.Prelude.{Bool, true, false, if◌then◌else◌, ◌<◌}
+use Rattle.std.specs.Prelude.{Option, None, Some, string_bytes, bytes_eq}
+use Rattle.std.specs.List.{list_any}
 use Rattle.std.specs.Str.Parse.{IsNumeral, digits_value}
 use Rattle.clap.specs.Words.{App, IsAmong, Kinds, Row, Rule, Text, fault_of, first_of, matches_of}
 use Rattle.clap.specs.Words.{new_app, new_rule, with_rule}
@@ -9,8 +11,10 @@ use Rattle.clap.specs.declared.builder.action.ArgAction.TheVariants.{SetTrue}
 use Rattle.clap.specs.declared.error.kind.ErrorKind.{ErrorKind}
 use Rattle.clap.specs.declared.error.kind.ErrorKind.TheVariants.{DisplayHelp}
 use Rattle.lb_report.specs.declared.options.Options.{Options}
+use Rattle.lb_command.specs.declared.request.Aim.{Aim}
+use Rattle.lb_command.specs.declared.request.Aim.TheVariants.{Report, LiveReport, Check, Header}
 use Rattle.lb_command.specs.declared.request.Request.{Request}
-use Rattle.lb_command.specs.declared.request.Request.TheVariants.{Help, Run}
+use Rattle.lb_command.specs.declared.request.Request.TheVariants.{Help, Version, Run}
 use Rattle.lb_command.specs.declared.request.Task.{Task}
 
 -- ## The command line
@@ -47,12 +51,28 @@ with_switches app =
 abbrev pub with_spread : App → App
 with_spread app = with_switches (with_numbers app)
 
+abbrev pub with_explanations : App → App
+with_explanations app = with_rule app (switch (codes "explain"))
+
+abbrev pub with_judging : App → App
+with_judging app = with_rule (with_rule app (switch (codes "check"))) (switch (codes "header"))
+
+-- `--version`, or `-V`
+abbrev pub version_switch : Rule
+version_switch = record (switch (codes "version")) { short = Some 86 }
+
+abbrev pub with_version : App → App
+with_version app = with_rule app version_switch
+
+abbrev pub with_modes : App → App
+with_modes app = with_version (with_judging (with_explanations app))
+
 abbrev pub with_inputs : App → App
 with_inputs app = with_rule (with_rule app (placed (codes "source"))) (placed (codes "traces"))
 
 -- the command line that the program knows
 unfoldable pub command_line : App
-command_line = with_inputs (with_spread (with_nodes (new_app (codes "lbench"))))
+command_line = with_inputs (with_modes (with_spread (with_nodes (new_app (codes "lbench")))))
 
 -- what the parser makes of the words, and the kinds of error that it has for them
 unfoldable pub values_of : List Text → List Row
@@ -62,6 +82,10 @@ unfoldable pub faults_of : List Text → Kinds
 faults_of words = fault_of command_line words
 
 -- ## What the words ask for
+
+-- one of the words asks for explanations
+abbrev pub asks_to_explain : List Text → Bool
+asks_to_explain words = list_any (λ word. bytes_eq word (codes "--explain")) words
 
 -- ASCII digits alone that spell a number in a range
 pub record IsNumber (text : Text) (least most n : ℕ) : Type 0 where
@@ -87,11 +111,22 @@ abbrev pub is_given : Option Text → Bool
 is_given (Some text) = bytes_eq text (codes "true")
 is_given None = false
 
+-- whether the values have an option without a value
+abbrev pub has_switch : Text → List Row → Bool
+has_switch id rows = is_given (first_of id rows)
+
+-- what the run that the values ask for is to give
+abbrev pub aim_of : List Row → Aim
+aim_of rows =
+    if has_switch (codes "header") rows then Header
+    else (if has_switch (codes "check") rows then Check
+    else (if has_switch (codes "follow") rows then LiveReport else Report))
+
 -- the run that the values ask for; a live report has a worker
 pub record IsTask (rows : List Row) (task : Task) : Type 0 where
   pub options : IsOptions rows task.options
-  pub follow : task.follow ≡ is_given (first_of (codes "follow") rows)
-  pub worker : task.follow ≡ true → 0 < task.options.workers
+  pub aim : task.aim ≡ aim_of rows
+  pub worker : task.aim ≡ LiveReport → 0 < task.options.workers
   pub source : option_map (λ s. s.now) task.source ≡ first_of (codes "source") rows
   pub traces : option_map (λ s. s.now) task.traces ≡ first_of (codes "traces") rows
 
@@ -99,21 +134,35 @@ pub record IsTask (rows : List Row) (task : Task) : Type 0 where
 abbrev pub AsksForHelp : List Text → Type 0
 AsksForHelp words = IsAmong DisplayHelp (faults_of words)
 
--- the words are lawful, and ask for this run
+-- the words are lawful, and ask for the version
+pub record AsksForVersion (words : List Text) : Type 0 where
+  pub lawful : faults_of words ≡ []
+  pub version : has_switch (codes "version") (values_of words) ≡ true
+
+-- the words are lawful, and ask for this run, and not for the version
 pub record IsAsked (words : List Text) (task : Task) : Type 0 where
   pub lawful : faults_of words ≡ []
+  pub no_version : has_switch (codes "version") (values_of words) ≡ false
   pub given : IsTask (values_of words) task
 
 -- what the words ask for
 abbrev pub IsRequest : List Text → Request → Type 0
 IsRequest words (Help text) = AsksForHelp words
+IsRequest words Version = AsksForVersion words
 IsRequest words (Run task) = IsAsked words task
+
+-- what the values ask for, which is not help
+abbrev pub IsRequestOf : List Row → Request → Type 0
+IsRequestOf rows (Help text) = ⊥
+IsRequestOf rows Version = has_switch (codes "version") rows ≡ true
+IsRequestOf rows (Run task) =
+    (has_switch (codes "version") rows ≡ false) × IsTask rows task
 
 -- a value is no number in its range, or a live report is to have no worker
 pub data IsWrongNumber (rows : List Row) : Type 0 where
   workers : ((n : ℕ) → HasNumber rows (codes "workers") (codes "1") 0 64 n → ⊥) → IsWrongNumber rows
   batch : ((n : ℕ) → HasNumber rows (codes "batch") (codes "64") 1 64 n → ⊥) → IsWrongNumber rows
-  no_worker : is_given (first_of (codes "follow") rows) ≡ true
+  no_worker : aim_of rows ≡ LiveReport
       → HasNumber rows (codes "workers") (codes "1") 0 64 0 → IsWrongNumber rows
 
 -- the words are no command line that the program knows

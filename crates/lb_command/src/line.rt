@@ -1,6 +1,6 @@
 //! The line that tells of a refusal.
 
-ghost use Rattle.std.specs.Prelude.{◌≡◌, ◌<◌, OnOk, OnErr, decimal};
+ghost use Rattle.std.specs.Prelude.{◌≡◌, ◌<◌, ◌++◌, OnOk, OnErr, decimal};
 ghost use Rattle.std.specs.Io.KnownBytes.{Appends};
 ghost use Rattle.lb_report.specs.Refusals.{word_of};
 ghost use Rattle.lb_command.specs.Outcomes.{refusal_status};
@@ -76,6 +76,19 @@ fn send_line<S: Sink>(sink: &mut S, refusal: &Refusal) -> Result<(), Sent>
     send_word(sink, refusal.number)?;
     send_position(sink, refusal.position)?;
     send(sink, b"\n")?;
+    Ok(())
+}
+
+/// Writes the line of a refusal and further lines.
+pub fn send_lines<S: Sink>(sink: &mut S, refusal: &Refusal, further: &[u8]) -> Result<(), Sent>
+    requires { S.failures sink.old < u64.MAX }
+    ensures all { OnOk result (Appends (S.taken sink.old) (S.taken sink.new)
+        (spec.line refusal.now.number refusal.now.position ++ further.now)) }
+    ensures ok { OnOk result (S.failures sink.new ≡ S.failures sink.old) }
+    ensures failed { OnErr result (S.failures sink.old < S.failures sink.new) }
+{
+    send_line(sink, refusal)?;
+    send(sink, further)?;
     Ok(())
 }
 

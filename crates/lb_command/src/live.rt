@@ -1,19 +1,17 @@
 //! A run whose report is written line by line.
 
-ghost use Rattle.std.specs.Prelude.{◌<◌, ℕ};
+ghost use Rattle.std.specs.Prelude.{◌<◌, IfOk, map, string_bytes};
 ghost use Rattle.lb_command.specs.Outcomes as spec;
-ghost use Rattle.lb_command.specs.Live.{IsLive, IsLiveOn, IsLiveRun, IsRunOf};
+ghost use Rattle.lb_command.specs.Live.{IsLive, IsLiveOn, IsLiveRun};
 ghost use Rattle.lb_command.specs.Streams.{Input, NeverFailed, change, input};
+ghost use Rattle.lb_command.specs.Warnings.{AreWarnings};
 
-use crate::line::refuse;
-use crate::refusal::Refusal;
+use crate::delivery::warn;
+use crate::explanation::{tell, warnings_of};
+use crate::loading::{Loaded, load_open, load_texts};
+use crate::refusal::{Refusal, Texts};
 use crate::request::Task;
-use crate::run::{load_file, load_input, load_open};
-use lb_report::{
-    Feed, FollowError, FollowFault, NoGate, Options, Sink, follow, follow_file, split_case,
-};
-use std::alloc::Global;
-use std::fs::File;
+use lb_report::{Feed, FollowError, FollowFault, NoGate, Sink, follow, follow_file};
 use std::io::Read;
 use std::os::unix::fs::FileExt;
 use std::rt::Runtime;
@@ -29,204 +27,106 @@ pub enum LiveFault {
     Stopped(FollowError),
 }
 
-/// Writes the report on two texts.
+/// Writes the report on some texts, and answers what is to be warned of.
 fn follow_texts<R, W>(
     rt: &R,
-    source: &[u8],
-    traces: &[u8],
-    options: &Options,
+    words: &[String],
+    task: &Task<'_>,
+    texts: Texts,
     writer: &mut W,
-) -> Result<(), LiveFault>
+) -> Result<Vec<u8>, LiveFault>
 where
     R: Runtime + AllocGlobal + Threads + Wait + Sync,
     W: Sink,
-    requires workers { 0 < options.now.workers }
+    requires workers { 0 < task.now.options.workers }
     requires failures { W.failures writer.old < u64.MAX }
-    ensures { IsLive source.now traces.now options.now
+    ensures live { IsLive (spec.source_in texts) (spec.traces_in texts) task.now.options
         (change (W.taken writer.old) (W.taken writer.new)
         (W.failures writer.old) (W.failures writer.new)) result }
+    ensures warned { IfOk result (λ warnings.
+        AreWarnings (map string_bytes words.now) task.now.options warnings.items) }
 {
-    match follow(rt, source, traces, options, &NoGate, writer) {
-        Ok(()) => Ok(()),
+    let (source, traces) = texts.parts();
+    match follow(rt, source, traces, &task.options, &NoGate, writer) {
+        Ok(()) => Ok(warnings_of(rt.alloc(), words, task, source)),
         Err(fault) => match fault {
-            FollowFault::Refused(cause) => Err(LiveFault::Refused(Refusal::from(cause))),
+            FollowFault::Refused(cause) => {
+                Err(LiveFault::Refused(Refusal::of_texts(cause, texts)))
+            }
             FollowFault::Stopped(cause) => Err(LiveFault::Stopped(cause)),
         },
-    }
-}
-
-/// What a run comes to.
-fn stopped(run: Result<(), FollowError>) -> Result<(), LiveFault>
-    ensures { IsRunOf run result }
-{
-    match run {
-        Ok(()) => Ok(()),
-        Err(cause) => Err(LiveFault::Stopped(cause)),
-    }
-}
-
-/// Writes the report on the parts of the input.
-fn follow_case<R, F, W>(
-    rt: &R,
-    options: &Options,
-    reader: &mut F,
-    writer: &mut W,
-) -> Result<(), LiveFault>
-where
-    R: Runtime + AllocGlobal + Threads + Wait + Sync,
-    F: Feed,
-    W: Sink,
-    requires workers { 0 < options.now.workers }
-    requires reader { F.failures reader.old < u64.MAX }
-    requires writer { W.failures writer.old < u64.MAX }
-    ensures { IsLiveOn (spec.AreParts (F.coming reader.old)) ⊥ options.now
-        (input (F.coming reader.old) (F.failures reader.old) (F.failures reader.new))
-        (change (W.taken writer.old) (W.taken writer.new)
-        (W.failures writer.old) (W.failures writer.new)) result }
-{
-    match load_input(rt.alloc(), reader) {
-        Ok(case) => {
-            let (source, traces) = split_case(case.as_slice());
-            follow_texts(rt, source, traces, options, writer)
-        }
-        Err(refusal) => Err(LiveFault::Refused(refusal)),
-    }
-}
-
-/// Writes the report on a source and the input.
-fn follow_source<R, F, W>(
-    rt: &R,
-    source: &[u8],
-    options: &Options,
-    reader: &mut F,
-    writer: &mut W,
-) -> Result<(), LiveFault>
-where
-    R: Runtime + AllocGlobal + Threads + Wait + Sync,
-    F: Feed,
-    W: Sink,
-    requires workers { 0 < options.now.workers }
-    requires reader { F.failures reader.old < u64.MAX }
-    requires writer { W.failures writer.old < u64.MAX }
-    ensures { IsLiveOn (λ _ traces. spec.IsInput (F.coming reader.old) traces) (Unit {0})
-        options.now (input (F.coming reader.old) (F.failures reader.old) (F.failures reader.new))
-        (change (W.taken writer.old) (W.taken writer.new)
-        (W.failures writer.old) (W.failures writer.new)) result }
-{
-    match load_input(rt.alloc(), reader) {
-        Ok(traces) => follow_texts(rt, source, traces.as_slice(), options, writer),
-        Err(refusal) => Err(LiveFault::Refused(refusal)),
-    }
-}
-
-/// Writes the report on a source file and the input.
-fn follow_input<R, F, W>(
-    rt: &R,
-    path: &str,
-    options: &Options,
-    reader: &mut F,
-    writer: &mut W,
-) -> Result<(), LiveFault>
-where
-    R: Runtime + AllocGlobal + Threads + Wait + Sync,
-    F: Feed,
-    W: Sink,
-    requires workers { 0 < options.now.workers }
-    requires reader { F.failures reader.old < u64.MAX }
-    requires writer { W.failures writer.old < u64.MAX }
-    ensures { IsLiveOn (λ _ traces. spec.IsInput (F.coming reader.old) traces) (Unit {0})
-        options.now (input (F.coming reader.old) (F.failures reader.old) (F.failures reader.new))
-        (change (W.taken writer.old) (W.taken writer.new)
-        (W.failures writer.old) (W.failures writer.new)) result }
-{
-    match load_file(rt, path) {
-        Ok(source) => follow_source(rt, source.as_slice(), options, reader, writer),
-        Err(refusal) => Err(LiveFault::Refused(refusal)),
     }
 }
 
 /// Writes the report on a source and an open file of traces, which is loaded as a whole.
 fn follow_loaded<R, F, W>(
     rt: &R,
-    source: &[u8],
+    words: &[String],
+    task: &Task<'_>,
+    source: Vec<u8>,
+    path: &str,
     file: &mut F,
-    options: &Options,
     writer: &mut W,
-) -> Result<(), LiveFault>
+) -> Result<Vec<u8>, LiveFault>
 where
     R: Runtime + AllocGlobal + Threads + Wait + Sync,
     F: Read,
     W: Sink,
-    requires workers { 0 < options.now.workers }
+    requires workers { 0 < task.now.options.workers }
     requires failures { W.failures writer.old < u64.MAX }
-    ensures { (i : Input) → NeverFailed i → IsLiveOn (λ _ _. Unit {0}) (Unit {0}) options.now i
+    ensures live { (i : Input) → NeverFailed i →
+        IsLiveOn (λ _ _. Unit {0}) (Unit {0}) task.now.options i
         (change (W.taken writer.old) (W.taken writer.new)
         (W.failures writer.old) (W.failures writer.new)) result }
+    ensures warned { IfOk result (λ warnings.
+        AreWarnings (map string_bytes words.now) task.now.options warnings.items) }
 {
-    match load_open(rt.alloc(), file) {
-        Ok(traces) => follow_texts(rt, source, traces.as_slice(), options, writer),
+    match load_open(rt.alloc(), path, file) {
+        Ok(traces) => follow_texts(rt, words, task, Texts::Two { source, traces }, writer),
         Err(refusal) => Err(LiveFault::Refused(refusal)),
     }
 }
 
-/// Writes the report on a source and a file of traces, which is opened once.
-fn follow_traces<R, W>(
+/// Writes the report on a source and a file of traces that is open.
+fn follow_open<R, W>(
     rt: &R,
-    source: &[u8],
-    traces_path: &str,
-    options: &Options,
-    writer: &mut W,
-) -> Result<(), LiveFault>
-where
-    R: Runtime + AllocGlobal + Threads + Wait + Sync,
-    R::File: FileExt + Sync,
-    W: Sink,
-    requires workers { 0 < options.now.workers }
-    requires failures { W.failures writer.old < u64.MAX }
-    ensures { (i : Input) → NeverFailed i → IsLiveOn (λ _ _. Unit {0}) (Unit {0}) options.now i
-        (change (W.taken writer.old) (W.taken writer.new)
-        (W.failures writer.old) (W.failures writer.new)) result }
-{
-    let Ok(mut file) = File::open(rt, traces_path) else {
-        return Err(LiveFault::Refused(Refusal::READ));
-    };
-    match follow_file(rt, source, &file, options, &NoGate, writer) {
-        Some(run) => stopped(run),
-        None => follow_loaded(rt, source, &mut file, options, writer),
-    }
-}
-
-/// Writes the report on a source file and a file of traces.
-fn follow_files<R, W>(
-    rt: &R,
+    words: &[String],
+    task: &Task<'_>,
+    source: Vec<u8>,
     path: &str,
-    traces_path: &str,
-    options: &Options,
+    mut file: R::File,
     writer: &mut W,
-) -> Result<(), LiveFault>
+) -> Result<Vec<u8>, LiveFault>
 where
     R: Runtime + AllocGlobal + Threads + Wait + Sync,
     R::File: FileExt + Sync,
     W: Sink,
-    requires workers { 0 < options.now.workers }
+    requires workers { 0 < task.now.options.workers }
     requires failures { W.failures writer.old < u64.MAX }
-    ensures { (i : Input) → NeverFailed i → IsLiveOn (λ _ _. Unit {0}) (Unit {0}) options.now i
+    ensures live { (i : Input) → NeverFailed i →
+        IsLiveOn (λ _ _. Unit {0}) (Unit {0}) task.now.options i
         (change (W.taken writer.old) (W.taken writer.new)
         (W.failures writer.old) (W.failures writer.new)) result }
+    ensures warned { IfOk result (λ warnings.
+        AreWarnings (map string_bytes words.now) task.now.options warnings.items) }
 {
-    match load_file(rt, path) {
-        Ok(source) => follow_traces(rt, source.as_slice(), traces_path, options, writer),
-        Err(refusal) => Err(LiveFault::Refused(refusal)),
+    match follow_file(rt, source.as_slice(), &file, &task.options, &NoGate, writer) {
+        Some(run) => match run {
+            Ok(()) => Ok(warnings_of(rt.alloc(), words, task, source.as_slice())),
+            Err(cause) => Err(LiveFault::Stopped(cause)),
+        },
+        None => follow_loaded(rt, words, task, source, path, &mut file, writer),
     }
 }
 
-/// Writes the report of a task.
+/// Writes the report of a task, and answers what is to be warned of.
 fn follow_task<R, F, W>(
     rt: &R,
+    words: &[String],
     task: &Task<'_>,
     reader: &mut F,
     writer: &mut W,
-) -> Result<(), LiveFault>
+) -> Result<Vec<u8>, LiveFault>
 where
     R: Runtime + AllocGlobal + Threads + Wait + Sync,
     R::File: FileExt + Sync,
@@ -235,25 +135,30 @@ where
     requires workers { 0 < task.now.options.workers }
     requires reader { F.failures reader.old < u64.MAX }
     requires writer { W.failures writer.old < u64.MAX }
-    ensures { IsLiveOn (spec.AreTexts task.now (F.coming reader.old)) (spec.HasPath task.now)
-        task.now.options
+    ensures live { IsLiveOn (spec.AreTexts task.now (F.coming reader.old))
+        (spec.HasPath task.now) task.now.options
         (input (F.coming reader.old) (F.failures reader.old) (F.failures reader.new))
         (change (W.taken writer.old) (W.taken writer.new)
         (W.failures writer.old) (W.failures writer.new)) result }
+    ensures warned { IfOk result (λ warnings.
+        AreWarnings (map string_bytes words.now) task.now.options warnings.items) }
 {
-    let Some(path) = task.source else {
-        return follow_case(rt, &task.options, reader, writer);
-    };
-    match task.traces {
-        None => follow_input(rt, path, &task.options, reader, writer),
-        Some(traces_path) => follow_files(rt, path, traces_path, &task.options, writer),
+    match load_texts(rt, task, reader) {
+        Ok(loaded) => match loaded {
+            Loaded::Texts(texts) => follow_texts(rt, words, task, texts, writer),
+            Loaded::Open { source, path, file } => {
+                follow_open(rt, words, task, source, path, file, writer)
+            }
+        },
+        Err(refusal) => Err(LiveFault::Refused(refusal)),
     }
 }
 
 /// Runs a task whose report is written line by line, and answers the exit status: 0 where the whole
 /// report went out.
-pub(crate) fn run_live<R, F, W, E>(
+pub fn run_live<R, F, W, E>(
     rt: &R,
+    words: &[String],
     task: &Task<'_>,
     reader: &mut F,
     writer: &mut W,
@@ -269,18 +174,21 @@ where
     requires reader { F.failures reader.old < u64.MAX }
     requires writer { W.failures writer.old < u64.MAX }
     requires errors { E.failures errors.old < u64.MAX }
-    ensures { IsLiveRun task.now
+    ensures { IsLiveRun (map string_bytes words.now) task.now
         (input (F.coming reader.old) (F.failures reader.old) (F.failures reader.new)) result
         (change (W.taken writer.old) (W.taken writer.new)
         (W.failures writer.old) (W.failures writer.new))
         (change (E.taken errors.old) (E.taken errors.new)
         (E.failures errors.old) (E.failures errors.new)) }
 {
-    match follow_task(rt, task, reader, writer) {
-        Ok(()) => 0,
+    match follow_task(rt, words, task, reader, writer) {
+        Ok(warnings) => {
+            warn(errors, warnings.as_slice());
+            0
+        }
         Err(fault) => match fault {
-            LiveFault::Refused(refusal) => refuse(&refusal, errors),
-            LiveFault::Stopped(cause) => refuse(&Refusal::from(cause), errors),
+            LiveFault::Refused(refusal) => tell(rt.alloc(), words, &refusal, errors),
+            LiveFault::Stopped(cause) => tell(rt.alloc(), words, &Refusal::from(cause), errors),
         },
     }
 }

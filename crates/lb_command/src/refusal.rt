@@ -2,15 +2,69 @@
 
 ghost use Rattle.std.specs.Prelude.{◌≡◌, ◌<◌, None};
 
-use lb_report::{BenchError, FollowError, LoadError};
-use std::alloc::AllocError;
+use lb_report::{BenchError, FollowError, LoadError, split_case};
+use std::alloc::{AllocError, Global};
+
+/// The texts that were judged.
+#[derive(Drop)]
+pub enum Texts {
+    /// A source and its traces.
+    Two { source: Vec<u8>, traces: Vec<u8> },
+    /// A case text, which holds both.
+    Case(Vec<u8>),
+}
+
+impl Texts {
+    ghost use Rattle.lb_command.specs.Outcomes.{source_in, traces_in};
+
+    /// The source and its traces.
+    pub fn parts(&self) -> (&[u8], &[u8])
+        ensures source { result.0.now ≡ source_in self.now }
+        ensures traces { result.1.now ≡ traces_in self.now }
+    {
+        match self {
+            Texts::Two { source, traces } => (source.as_slice(), traces.as_slice()),
+            Texts::Case(case) => split_case(case.as_slice()),
+        }
+    }
+}
+
+/// A file that could not be read.
+#[derive(Drop)]
+pub struct Unread {
+    pub path: String,
+    /// The system's cause, or what is known of it.
+    pub why: String,
+}
+
+impl Unread {
+    /// The file at a path, with what is known of the cause.
+    fn new(alloc: Global, path: &str, why: &str) -> Result<Unread, AllocError> {
+        Ok(Unread {
+            path: String::from_str(alloc, path)?,
+            why: String::from_str(alloc, why)?,
+        })
+    }
+}
+
+/// What a refusal comes from, for those who want to know more than its number.
+#[derive(Drop)]
+pub enum Cause {
+    /// What the bench says of the texts.
+    Judged { error: BenchError, texts: Texts },
+    /// A file could not be read.
+    Unread(Unread),
+    /// The output failed: how many bytes went out, and of how many, where that is known.
+    Unsent { sent: usize, all: Option<usize> },
+}
 
 /// Why the program prints no report: the number of a refusal, 0 to 21, and for E1 to E3 the line
 /// and the column.
-#[derive(Clone, Copy)]
+#[derive(Drop)]
 pub struct Refusal {
     pub number: u8,
     pub position: Option<(u32, u32)>,
+    pub cause: Option<Cause>,
     pub ghost known: { number < 22 },
 }
 
@@ -21,21 +75,19 @@ impl Refusal {
     pub const MEMORY: Refusal = Refusal {
         number: 0,
         position: None,
-    };
-    /// E19: the output failed.
-    pub const WRITE: Refusal = Refusal {
-        number: 19,
-        position: None,
+        cause: None,
     };
     /// E20: the command line is not one that the program knows.
     pub const USAGE: Refusal = Refusal {
         number: 20,
         position: None,
+        cause: None,
     };
     /// E21: an input could not be read, or is too long.
     pub const READ: Refusal = Refusal {
         number: 21,
         position: None,
+        cause: None,
     };
 
     /// The exit status: 3 where memory, the output or an input failed, else 2.
@@ -70,15 +122,43 @@ impl From<LoadError> for Refusal {
     }
 }
 
-impl From<BenchError> for Refusal {
+impl Refusal {
     ghost use Rattle.lb_command.specs.Outcomes.{IsToldBy};
 
-    ghost from_gives = { λ cause refusal. IsToldBy cause refusal };
-
-    fn from(cause: BenchError) -> Refusal {
+    /// The refusal of these texts by the bench.
+    pub fn of_texts(error: BenchError, texts: Texts) -> Refusal
+        ensures { IsToldBy error result }
+    {
         Refusal {
-            number: cause.number(),
-            position: cause.position(),
+            number: error.number(),
+            position: error.position(),
+            cause: Some(Cause::Judged { error, texts }),
+        }
+    }
+
+    /// E21: the file at this path could not be read.
+    pub fn unread(alloc: Global, path: &str, why: &str) -> Refusal
+        ensures { result.number ≡ 21 }
+    {
+        Refusal {
+            number: 21,
+            position: None,
+            cause: match Unread::new(alloc, path, why) {
+                Ok(unread) => Some(Cause::Unread(unread)),
+                Err(_) => None,
+            },
+        }
+    }
+
+    /// E19: the output failed. `sent` bytes went out, of `all` where that is known.
+    pub fn unsent(sent: usize, all: Option<usize>) -> Refusal
+        ensures number { result.number ≡ 19 }
+        ensures position { result.position ≡ None }
+    {
+        Refusal {
+            number: 19,
+            position: None,
+            cause: Some(Cause::Unsent { sent, all }),
         }
     }
 }
@@ -92,7 +172,7 @@ impl From<FollowError> for Refusal {
     fn from(cause: FollowError) -> Refusal {
         match cause {
             FollowError::Memory { .. } => Refusal::MEMORY,
-            FollowError::Write { .. } => Refusal::WRITE,
+            FollowError::Write { count } => Refusal::unsent(count, None),
         }
     }
 }

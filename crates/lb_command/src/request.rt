@@ -1,10 +1,12 @@
 //! What the words of the command line ask for.
 
-ghost use Rattle.std.specs.Prelude.{◌≡◌, ◌≢◌, ◌≤◌, ◌==◌, ◌⊎◌, ℕ, false, IfOk, IfErr, OnOk, OnErr};
+ghost use Rattle.std.specs.Prelude.{◌≡◌, ◌≢◌, ◌≤◌, ◌==◌, ◌⊎◌, ℕ, true, false};
+ghost use Rattle.std.specs.Prelude.{IfOk, IfErr, OnOk, OnErr};
 ghost use Rattle.std.specs.Prelude.{[], map, option_map, slice_index, string_bytes};
 ghost use Rattle.clap.specs.Words.{IsAmong, app_of, first_of, found_of, kind_of, rows_of, rule_of};
 ghost use Rattle.lb_command.specs.Words as spec;
 
+use crate::modes::with_modes;
 use crate::refusal::Refusal;
 use clap::error::ErrorKind;
 use clap::{Arg, ArgAction, ArgMatches, Command, Error};
@@ -16,22 +18,50 @@ use std::alloc::{AllocError, Global};
 pub enum Request<'a> {
     /// The help text, which is this.
     Help(String),
+    /// The program's name and its version.
+    Version,
     /// A run.
     Run(Task<'a>),
 }
 
-/// A run: its options, whether its report is written line by line, and the paths of its inputs. What
-/// has no path comes from standard input.
+/// What a run is to give.
+#[derive(Clone, Copy)]
+pub enum Aim {
+    /// The report on the traces, at once.
+    Report,
+    /// The report on the traces, line by line.
+    LiveReport,
+    /// Whether the source is accepted. No traces are read.
+    Check,
+    /// The header that the traces must have, if the source is accepted. No traces are read.
+    Header,
+}
+
+impl Aim {
+    /// Whether a report is written line by line.
+    fn is_live(&self) -> bool
+        ensures live { result ≡ true → self.now ≡ Aim.LiveReport }
+        ensures other { result ≡ false → self.now ≢ Aim.LiveReport }
+    {
+        match self {
+            Aim::LiveReport => true,
+            _ => false,
+        }
+    }
+}
+
+/// A run: its options, what it is to give, and the paths of its inputs. What has no path comes from
+/// standard input.
 #[derive(Drop)]
 pub struct Task<'a> {
     pub options: Options,
-    pub follow: bool,
+    pub aim: Aim,
     pub source: Option<&'a str>,
     pub traces: Option<&'a str>,
 }
 
 /// An option with a value: what help calls the value, and what the option is for.
-fn named_argument<'a>(alloc: Global, name: &'a str, value: &'a str, help: &'a str) -> Arg<'a>
+pub fn named_argument<'a>(alloc: Global, name: &'a str, value: &'a str, help: &'a str) -> Arg<'a>
     ensures rule { rule_of result ≡ spec.named name.entry.now }
     ensures global { result.global ≡ false }
 {
@@ -50,7 +80,7 @@ fn placed_argument<'a>(alloc: Global, name: &'a str, value: &'a str, help: &'a s
 }
 
 /// An option without a value.
-fn switch_argument<'a>(alloc: Global, name: &'a str, help: &'a str) -> Arg<'a>
+pub fn switch_argument<'a>(alloc: Global, name: &'a str, help: &'a str) -> Arg<'a>
     ensures rule { rule_of result ≡ spec.switch name.entry.now }
     ensures global { result.global ≡ false }
 {
@@ -117,6 +147,7 @@ fn command_line<'a>(alloc: Global) -> Result<Command<'a>, AllocError>
     let about = "Runs one node of a Lustre V6 source over recorded traces.";
     let command = with_nodes(alloc, Command::new(alloc, "lbench").about(about))?;
     let command = with_spread(alloc, command)?;
+    let command = with_modes(alloc, command)?;
     with_inputs(alloc, command)
 }
 
@@ -196,6 +227,22 @@ fn is_given(matches: &ArgMatches<'_>, id: &str) -> bool
     }
 }
 
+/// What the run that the words ask for is to give. The header says that the source is accepted,
+/// too.
+fn aim_of(matches: &ArgMatches<'_>) -> Aim
+    ensures { result ≡ spec.aim_of (rows_of (found_of matches.now)) }
+{
+    if is_given(matches, "header") {
+        Aim::Header
+    } else if is_given(matches, "check") {
+        Aim::Check
+    } else if is_given(matches, "follow") {
+        Aim::LiveReport
+    } else {
+        Aim::Report
+    }
+}
+
 /// The run that the words ask for. A live report takes a worker at least.
 fn read_task<'a>(alloc: Global, matches: &ArgMatches<'a>) -> Result<Task<'a>, Refusal>
     ensures ok { IfOk result (spec.IsTask (rows_of (found_of matches.now))) }
@@ -203,13 +250,13 @@ fn read_task<'a>(alloc: Global, matches: &ArgMatches<'a>) -> Result<Task<'a>, Re
         ⊎ ((refusal.number ≡ 20) × spec.IsWrongNumber (rows_of (found_of matches.now)))) }
 {
     let options = options(alloc, matches)?;
-    let follow = is_given(matches, "follow");
-    if follow && options.workers == 0 {
+    let aim = aim_of(matches);
+    if options.workers == 0 && aim.is_live() {
         return Err(Refusal::USAGE);
     }
     Ok(Task {
         options,
-        follow,
+        aim,
         source: text_of(matches, "source"),
         traces: text_of(matches, "traces"),
     })
@@ -241,6 +288,18 @@ fn parse<'a>(command: Command<'a>, words: &'a [String]) -> Result<ArgMatches<'a>
     command.try_get_matches_from(words)
 }
 
+/// What lawful words ask for.
+fn request_of<'a>(alloc: Global, matches: &ArgMatches<'a>) -> Result<Request<'a>, Refusal>
+    ensures ok { IfOk result (spec.IsRequestOf (rows_of (found_of matches.now))) }
+    ensures err { IfErr result (λ refusal. (refusal.number ≡ 0)
+        ⊎ ((refusal.number ≡ 20) × spec.IsWrongNumber (rows_of (found_of matches.now)))) }
+{
+    if is_given(matches, "version") {
+        return Ok(Request::Version);
+    }
+    Ok(Request::Run(read_task(alloc, matches)?))
+}
+
 /// What the words ask for; the first is the program's name. The errors are E0 and E20.
 // Out of line, lest what the command line is made of stand on the stack of a whole run.
 #[inline(never)]
@@ -252,7 +311,7 @@ pub fn read_words(alloc: Global, words: &[String]) -> Result<Request<'_>, Refusa
 {
     let command = command_line(alloc)?;
     match parse(command, words) {
-        Ok(matches) => Ok(Request::Run(read_task(alloc, &matches)?)),
+        Ok(matches) => request_of(alloc, &matches),
         Err(error) => Ok(Request::Help(help(alloc, &error)?)),
     }
 }

@@ -1,13 +1,13 @@
 //! The program: one node over many recorded traces, one verdict for each.
 #![tactic(auto)]
 
-ghost use Rattle.std.specs.Prelude.{◌<◌};
+ghost use Rattle.std.specs.Prelude.{◌+◌, ◌<◌, ◌≤◌};
 
-use lb_command::{Refusal, command, refuse};
-use lb_report::{Feed, Reader, Sink, Writer};
+use lb_command::{Painted, Refusal, announce, command, refuse};
+use lb_report::{Reader, Sink, Writer};
 use std::alloc::Global;
 use std::env;
-use std::io::{self, ErrorKind};
+use std::io::{self, ErrorKind, IsTerminal, Stderr, Stdin};
 use std::os::unix::fs::FileExt;
 use std::process::ExitCode;
 use std::rt::Runtime;
@@ -23,42 +23,72 @@ fn words<R: Runtime + AllocGlobal>(rt: &R) -> Result<Vec<String>, Refusal> {
     }
 }
 
-/// How much stack a run has, in bytes: more than the deepest texts need that are accepted.
-const STACK: usize = 2 << 20;
-
-/// Runs the program on these streams, and answers its exit status.
-fn run<R, F, W, E>(rt: &R, reader: &mut F, writer: &mut W, errors: &mut E) -> u8
-where
-    R: Runtime + AllocGlobal + Threads + Wait + Sync,
-    R::File: FileExt + Sync,
-    F: Feed,
-    W: Sink,
-    E: Sink,
-    requires reader { F.failures reader.old < u64.MAX }
-    requires writer { W.failures writer.old < u64.MAX }
-    requires errors { E.failures errors.old < u64.MAX }
+/// Says that the traces are awaited, where these words ask for them and standard input is a
+/// terminal.
+fn say_awaited<E: Sink>(alloc: Global, words: &[String], stdin: Stdin, errors: &mut E)
+    requires { E.failures errors.old < u64.MAX }
+    ensures { E.failures errors.new ≤ E.failures errors.old + 1 }
 {
-    match words(rt) {
-        Ok(words) => command(rt, words.as_slice(), reader, writer, errors),
-        Err(refusal) => refuse(&refusal, errors),
+    if stdin.is_terminal() {
+        let _ = announce(alloc, words, errors);
     }
 }
 
+/// Runs the program on the words of the command line and these streams, and answers its exit
+/// status.
+fn run<R, E>(rt: &R, stdin: Stdin, errors: &mut E) -> u8
+where
+    R: Runtime + AllocGlobal + Threads + Wait + Sync,
+    R::File: FileExt + Sync,
+    E: Sink,
+    requires { E.failures errors.old + 1 < u64.MAX }
+{
+    let words = match words(rt) {
+        Ok(words) => words,
+        Err(refusal) => return refuse(&refusal, errors),
+    };
+    say_awaited(rt.alloc(), words.as_slice(), stdin, errors);
+    let mut reader = Reader::new(stdin);
+    let mut writer = Writer::new(io::writer(rt));
+    command(rt, words.as_slice(), &mut reader, &mut writer, errors)
+}
+
+/// Whether explanations are in colour: standard error is a terminal, and the environment has no
+/// `NO_COLOR`, or an empty one.
+fn is_coloured<R: Runtime + AllocGlobal>(rt: &R, stderr: &Stderr) -> bool {
+    if !stderr.is_terminal() {
+        return false;
+    }
+    match env::var(rt, "NO_COLOR") {
+        Ok(value) => value.is_empty(),
+        Err(_) => true,
+    }
+}
+
+/// Runs the program on the standard streams, and answers its exit status.
+fn run_on_streams<R>(rt: &R, stdin: Stdin, stderr: Stderr) -> u8
+where
+    R: Runtime + AllocGlobal + Threads + Wait + Sync,
+    R::File: FileExt + Sync,
+{
+    let mut errors = Writer::new(io::writer(&stderr));
+    if is_coloured(rt, &stderr) {
+        run(rt, stdin, &mut Painted::new(rt.alloc(), errors))
+    } else {
+        run(rt, stdin, &mut errors)
+    }
+}
+
+/// How much stack a run has, in bytes: more than the deepest texts need that are accepted.
+const STACK: usize = 2 << 20;
+
+/// Runs the program in a thread with that stack; where no thread can be made, on the stack that it
+/// has.
 fn main(rt: HostRuntime) -> ExitCode {
     let builder = Builder::new().stack_size(STACK);
-    let status = match builder.spawn(&rt, move || {
-        let stderr = rt.stderr();
-        let mut reader = Reader::new(rt.stdin());
-        let mut writer = Writer::new(io::writer(&rt));
-        run(
-            &rt,
-            &mut reader,
-            &mut writer,
-            &mut Writer::new(io::writer(&stderr)),
-        )
-    }) {
+    let status = match builder.spawn(&rt, move || run_on_streams(&rt, rt.stdin(), rt.stderr())) {
         Ok(thread) => thread.join(&rt),
-        Err(_) => refuse(&Refusal::MEMORY, &mut Writer::new(io::writer(&rt.stderr()))),
+        Err(_) => run_on_streams(&rt, rt.stdin(), rt.stderr()),
     };
     ExitCode::from(status)
 }

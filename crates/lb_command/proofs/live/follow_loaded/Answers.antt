@@ -3,13 +3,13 @@ use Rattle.lb_command.proofs.Living.{live_of, tells_of_file, unread_with}
 use Rattle.lb_command.proofs.Streams.{keeps_all}
 use Rattle.lb_command.proofs.live.follow_loaded.Goals as goal
 
-pub returns-in-Ok : goal.returns-in-Ok
-returns-in-Ok g c = λ i never.
+pub returns-in-Ok-clause-live : goal.returns-in-Ok-clause-live
+returns-in-Ok-clause-live g c = λ i never.
     live_of (λ source traces. Unit {0}) (Unit {0}) _ _ _ i _ c.follow_texts.result tt never
-    c.follow_texts.ensures
+    c.follow_texts.ensures.live
 
-pub returns-in-Err : goal.returns-in-Err
-returns-in-Err g c = λ i never.
+pub returns-in-Err-clause-live : goal.returns-in-Err-clause-live
+returns-in-Err-clause-live g c = λ i never.
     unread_with (λ source traces. Unit {0}) (Unit {0}) _ i _ c.in-Err.refusal c.in-Err.ensures
     (tells_of_file i c.in-Err.refusal never)
     (record { kept = keeps_all _; never_failed = refl })

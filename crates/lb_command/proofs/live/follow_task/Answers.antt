@@ -1,29 +1,28 @@
-use Rattle.std.proofs.Common.{refl}
+use Rattle.std.proofs.Common.{refl, subst}
 use Rattle.clap.specs.Words.{Text}
-use Rattle.lb_command.specs.Outcomes.{AreParts, AreTexts, HasPath, IsInput}
-use Rattle.lb_command.specs.Outcomes.AreTexts.{of_case, of_files, of_input}
-use Rattle.lb_command.proofs.Living.{live_on}
+use Rattle.lb_command.specs.Outcomes.{AreTexts, HasPath, IsLoaded}
+use Rattle.lb_command.proofs.Living.{live_of, live_on, unread_with}
+use Rattle.lb_command.proofs.Streams.{keeps_all}
 use Rattle.lb_command.proofs.live.follow_task.Goals as goal
 
-pub returns-in_default : goal.returns-in_default
-returns-in_default g c =
+pub returns-in-Texts-clause-live : goal.returns-in-Texts-clause-live
+returns-in-Texts-clause-live g c =
     let known = g.F.Feed.coming c.args.reader.now in
-    live_on (AreParts known) (AreTexts c.args.task.now known) ⊥ (HasPath c.args.task.now) _ _ _
-    c.follow_case.result (λ source traces are. of_case c.in_default.is are)
-    (λ none. absurd none) c.follow_case.ensures
+    let is = subst (IsLoaded c.args.task.now known) c.in-Texts.is c.in-Ok.ensures.ok in
+    live_of (AreTexts c.args.task.now known) (HasPath c.args.task.now) _ _ _ _ _
+    c.follow_texts.result is c.in-Ok.ensures.read c.follow_texts.ensures.live
 
-pub returns-in-None : goal.returns-in-None
-returns-in-None g c =
+pub returns-in-Open-clause-live : goal.returns-in-Open-clause-live
+returns-in-Open-clause-live g c =
     let known = g.F.Feed.coming c.args.reader.now in
-    let Are : Text → Text → Type 0 = λ source traces. IsInput known traces in
-    live_on Are (AreTexts c.args.task.now known) (Unit {0}) (HasPath c.args.task.now) _ _ _
-    c.follow_input.result (λ source traces are. of_input _ c.in-Some.is c.in-None.is are)
-    (λ none. (_, c.in-Some.is)) c.follow_input.ensures
-
-pub returns-in-Some-traces : goal.returns-in-Some-traces
-returns-in-Some-traces g c =
-    let known = g.F.Feed.coming c.args.reader.now in
+    let is = subst (IsLoaded c.args.task.now known) c.in-Open.is c.in-Ok.ensures.ok in
     let Are : Text → Text → Type 0 = λ source traces. Unit {0} in
     live_on Are (AreTexts c.args.task.now known) (Unit {0}) (HasPath c.args.task.now) _ _ _
-    c.follow_files.result (λ source traces are. of_files _ _ c.in-Some.is c.in-Some-traces.is)
-    (λ none. (_, c.in-Some.is)) (c.follow_files.ensures _ refl)
+    c.follow_open.result (λ source traces are. is.1 source traces) (λ none. is.0)
+    (c.follow_open.ensures.live _ c.in-Ok.ensures.read)
+
+pub returns-in-Err-clause-live : goal.returns-in-Err-clause-live
+returns-in-Err-clause-live g c =
+    unread_with (AreTexts c.args.task.now (g.F.Feed.coming c.args.reader.now))
+    (HasPath c.args.task.now) _ _ _ c.in-Err.refusal c.in-Err.ensures.err c.in-Err.ensures.read
+    (record { kept = keeps_all _; never_failed = refl })

@@ -1,5 +1,6 @@
+use Rattle.std.proofs.lemmas.Result.{IfOk-weaker}
 use Rattle.lb_command.proofs.Outcomes.{passed_on}
-use Rattle.lb_command.proofs.Words.{refused_by}
+use Rattle.lb_command.proofs.Words.{asked_by, refused_by}
 use Rattle.lb_command.proofs.request.read_words.Goals as goal
 
 pub returns-in_err-help-in-Err-clause-err : goal.returns-in_err-help-in-Err-clause-err
@@ -9,3 +10,9 @@ returns-in_err-help-in-Err-clause-err c =
     let refused = refused_by _ c.in-Err.error first.number c.in-Err.ensures.err
     c.in_err-help-in-Err.ensures.err in
     passed_on exit.result first _ exit.ensures.1 refused
+
+pub returns-in-Ok-clause-ok : goal.returns-in-Ok-clause-ok
+returns-in-Ok-clause-ok c =
+    IfOk-weaker c.request_of.result _ _
+    (λ request is. asked_by _ _ request c.in-Ok.ensures.ok c.in-Ok.ensures.lawful is)
+    c.request_of.ensures.ok

@@ -1,9 +1,9 @@
 use Rattle.std.proofs.Common.{map, refl, subst}
 use Rattle.std.specs.Prelude.{string_bytes}
-use Rattle.lb_command.specs.Correct.IsRun.{asked, help, refused}
-use Rattle.lb_command.specs.Words.{AsksForHelp, IsAsked, IsRequest}
+use Rattle.lb_command.specs.Correct.IsRun.{asked, refused, told}
+use Rattle.lb_command.specs.Words.{AsksForHelp, AsksForVersion, IsAsked, IsRequest}
+use Rattle.lb_command.specs.declared.answer.Answer.TheVariants.{Help, Version}
 use Rattle.lb_command.specs.declared.request.Request.{Request}
-use Rattle.lb_command.specs.declared.run.Answer.TheVariants.{Help}
 use Rattle.lb_command.proofs.Streams.{keeps_all}
 use Rattle.lb_command.proofs.run.command.Goals as goal
 
@@ -19,7 +19,14 @@ returns-in-Help g c =
     let words = map string_bytes c.args.words.now in
     let Is : Request → Type 0 = IsRequest words in
     let asks : AsksForHelp words = subst Is c.in-Help.is c.in-Ok.ensures.ok in
-    help (Help c.in-Help.text) tt asks refl c.deliver.ensures
+    told (Help c.in-Help.text) asks refl c.deliver.ensures
+
+pub returns-in-Version : goal.returns-in-Version
+returns-in-Version g c =
+    let words = map string_bytes c.args.words.now in
+    let Is : Request → Type 0 = IsRequest words in
+    let asks : AsksForVersion words = subst Is c.in-Version.is c.in-Ok.ensures.ok in
+    told Version asks refl c.deliver-in-Version.ensures
 
 pub returns-in-Run : goal.returns-in-Run
 returns-in-Run g c =
@@ -30,5 +37,5 @@ returns-in-Run g c =
 
 pub returns-in-Err : goal.returns-in-Err
 returns-in-Err g c =
-    refused c.in-Err.refusal c.in-Err.ensures.err refl c.refuse.ensures.status
-    (record { kept = keeps_all _; never_failed = refl }) c.refuse.ensures.told
+    refused c.in-Err.refusal c.in-Err.ensures.err refl c.tell.ensures.status
+    (record { kept = keeps_all _; never_failed = refl }) c.tell.ensures.told

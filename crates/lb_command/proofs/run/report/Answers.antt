@@ -1,30 +1,38 @@
+use Rattle.std.proofs.Common.{subst}
 use Rattle.clap.specs.Words.{Text}
-use Rattle.lb_command.specs.Outcomes.{AreParts, AreTexts, IsInput}
-use Rattle.lb_command.specs.Outcomes.AreTexts.{of_case, of_files, of_input}
-use Rattle.lb_command.proofs.Outcomes.{outcome_on}
+use Rattle.lb_command.specs.Outcomes.{AreIn, AreTexts, HasPath, IsLoaded}
+use Rattle.lb_command.specs.Outcomes.IsRefusedOn.{unread}
+use Rattle.lb_command.proofs.Outcomes.{all_read, are_texts, file_read, outcome_on}
 use Rattle.lb_command.proofs.run.report.Goals as goal
 
-pub returns-in_default-clause-outcome : goal.returns-in_default-clause-outcome
-returns-in_default-clause-outcome g c =
+pub returns-in-Texts-clause-outcome : goal.returns-in-Texts-clause-outcome
+returns-in-Texts-clause-outcome g c =
     let known = g.F.Feed.coming c.args.reader.now in
-    outcome_on (AreParts known) (AreTexts c.args.task.now known) c.args.task.now.options
-    c.report_on_case.result (λ source traces are. of_case c.in_default.is are)
-    c.report_on_case.ensures.outcome
+    let is = subst (IsLoaded c.args.task.now known) c.in-Texts.is c.in-Ok.ensures.ok in
+    outcome_on (AreIn c.in-Texts.texts) (AreTexts c.args.task.now known) c.args.task.now.options
+    c.report_on.result
+    (λ source traces are. are_texts c.args.task.now known c.in-Texts.texts source traces is are)
+    c.report_on.ensures.outcome
 
-pub returns-in-None-clause-outcome : goal.returns-in-None-clause-outcome
-returns-in-None-clause-outcome g c =
-    let known = g.F.Feed.coming c.args.reader.now in
-    let Are : Text → Text → Type 0 = λ source traces. IsInput known traces in
-    outcome_on Are (AreTexts c.args.task.now known) c.args.task.now.options
-    c.report_on_input.result
-    (λ source traces are. of_input _ c.in-Some.is c.in-None.is are)
-    c.report_on_input.ensures.outcome
+pub returns-in-Texts-clause-read : goal.returns-in-Texts-clause-read
+returns-in-Texts-clause-read g c =
+    all_read (HasPath c.args.task.now) _ c.report_on.result c.in-Ok.ensures.read
+    c.report_on.ensures.not_read
 
-pub returns-in-Some-traces-clause-outcome : goal.returns-in-Some-traces-clause-outcome
-returns-in-Some-traces-clause-outcome g c =
+pub returns-in-Open-clause-outcome : goal.returns-in-Open-clause-outcome
+returns-in-Open-clause-outcome g c =
     let known = g.F.Feed.coming c.args.reader.now in
+    let is = subst (IsLoaded c.args.task.now known) c.in-Open.is c.in-Ok.ensures.ok in
     let Are : Text → Text → Type 0 = λ source traces. Unit {0} in
     outcome_on Are (AreTexts c.args.task.now known) c.args.task.now.options
-    c.report_on_files.result
-    (λ source traces are. of_files _ _ c.in-Some.is c.in-Some-traces.is)
-    c.report_on_files.ensures
+    c.report_on_open.result (λ source traces are. is.1 source traces)
+    c.report_on_open.ensures.outcome
+
+pub returns-in-Open-clause-read : goal.returns-in-Open-clause-read
+returns-in-Open-clause-read g c =
+    let known = g.F.Feed.coming c.args.reader.now in
+    let is = subst (IsLoaded c.args.task.now known) c.in-Open.is c.in-Ok.ensures.ok in
+    file_read (HasPath c.args.task.now) _ c.report_on_open.result is.0 c.in-Ok.ensures.read
+
+pub returns-in-Err-clause-outcome : goal.returns-in-Err-clause-outcome
+returns-in-Err-clause-outcome g c = unread c.in-Err.ensures.err

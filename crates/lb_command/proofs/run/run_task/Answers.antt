@@ -1,8 +1,62 @@
-use Rattle.lb_command.specs.Correct.IsTaskRun.{live, whole}
+use Rattle.std.proofs.Common.{map, subst, sym}
+use Rattle.std.specs.Prelude.{string_bytes}
+use Rattle.lb_command.specs.Correct.{IsRunFor}
+use Rattle.lb_command.specs.Streams.{change, input}
+use Rattle.lb_command.specs.declared.request.Aim.{Aim}
 use Rattle.lb_command.proofs.run.run_task.Goals as goal
 
-pub returns-then-task : goal.returns-then-task
-returns-then-task g c = live c.if-task.true c.run_live.ensures
+pub returns-in-Report : goal.returns-in-Report
+returns-in-Report g c =
+    let args = c.args in
+    let new = c.run_whole.new in
+    let Is : Aim → Type 0 = λ aim.
+    IsRunFor aim (map string_bytes args.words.now) args.task.now
+    (input (g.F.Feed.coming args.reader.now) (g.F.Feed.failures args.reader.now)
+    (g.F.Feed.failures new.reader)) c.run_whole.result
+    (change (g.W.Sink.taken args.writer.now) (g.W.Sink.taken new.writer)
+    (g.W.Sink.failures args.writer.now) (g.W.Sink.failures new.writer))
+    (change (g.E.Sink.taken args.errors.now) (g.E.Sink.taken new.errors)
+    (g.E.Sink.failures args.errors.now) (g.E.Sink.failures new.errors)) in
+    subst Is (sym c.in-Report.is) c.run_whole.ensures
 
-pub returns-else-task : goal.returns-else-task
-returns-else-task g c = whole c.if-task.false c.run_whole.ensures
+pub returns-in-LiveReport : goal.returns-in-LiveReport
+returns-in-LiveReport g c =
+    let args = c.args in
+    let new = c.run_live.new in
+    let Is : Aim → Type 0 = λ aim.
+    IsRunFor aim (map string_bytes args.words.now) args.task.now
+    (input (g.F.Feed.coming args.reader.now) (g.F.Feed.failures args.reader.now)
+    (g.F.Feed.failures new.reader)) c.run_live.result
+    (change (g.W.Sink.taken args.writer.now) (g.W.Sink.taken new.writer)
+    (g.W.Sink.failures args.writer.now) (g.W.Sink.failures new.writer))
+    (change (g.E.Sink.taken args.errors.now) (g.E.Sink.taken new.errors)
+    (g.E.Sink.failures args.errors.now) (g.E.Sink.failures new.errors)) in
+    subst Is (sym c.in-LiveReport.is) c.run_live.ensures
+
+pub returns-in-Check : goal.returns-in-Check
+returns-in-Check g c =
+    let args = c.args in
+    let new = c.run_judging.new in
+    let Is : Aim → Type 0 = λ aim.
+    IsRunFor aim (map string_bytes args.words.now) args.task.now
+    (input (g.F.Feed.coming args.reader.now) (g.F.Feed.failures args.reader.now)
+    (g.F.Feed.failures new.reader)) c.run_judging.result
+    (change (g.W.Sink.taken args.writer.now) (g.W.Sink.taken new.writer)
+    (g.W.Sink.failures args.writer.now) (g.W.Sink.failures new.writer))
+    (change (g.E.Sink.taken args.errors.now) (g.E.Sink.taken new.errors)
+    (g.E.Sink.failures args.errors.now) (g.E.Sink.failures new.errors)) in
+    subst Is (sym c.in-Check.is) c.run_judging.ensures
+
+pub returns-in-Header : goal.returns-in-Header
+returns-in-Header g c =
+    let args = c.args in
+    let new = c.run_judging-in-Header.new in
+    let Is : Aim → Type 0 = λ aim.
+    IsRunFor aim (map string_bytes args.words.now) args.task.now
+    (input (g.F.Feed.coming args.reader.now) (g.F.Feed.failures args.reader.now)
+    (g.F.Feed.failures new.reader)) c.run_judging-in-Header.result
+    (change (g.W.Sink.taken args.writer.now) (g.W.Sink.taken new.writer)
+    (g.W.Sink.failures args.writer.now) (g.W.Sink.failures new.writer))
+    (change (g.E.Sink.taken args.errors.now) (g.E.Sink.taken new.errors)
+    (g.E.Sink.failures args.errors.now) (g.E.Sink.failures new.errors)) in
+    subst Is (sym c.in-Header.is) c.run_judging-in-Header.ensures

@@ -1,0 +1,21 @@
+-- Answers of which not all went out.
+use Rattle.std.proofs.Common.{◌≡◌, ◌∙◌, ℕ, List, Option, None, ap, subst}
+use Rattle.clap.specs.Words.{Text}
+use Rattle.lb_command.specs.Outcomes.{IsDelivered, IsTold, refusal_status}
+use Rattle.lb_command.specs.Outcomes.IsDelivered.{broken}
+use Rattle.lb_command.specs.Lines.{line}
+use Rattle.lb_command.specs.Streams.{Change, HasFailed}
+use Rattle.lb_command.specs.declared.refusal.Refusal.{Refusal}
+use Rattle.lb_command.specs.declared.answer.Answer.{Answer}
+
+-- the output failed, and the refusal that is told is E19
+pub broken_by : (words : List Text) (answer : Answer) (warnings : List ℕ) (status : ℕ)
+    (output errors : Change) (r : Refusal) → r.number ≡ 19 → r.position ≡ None
+    → status ≡ refusal_status r.number
+    → HasFailed output → IsTold words errors (line r.number r.position)
+    → IsDelivered words answer warnings status output errors
+broken_by words answer warnings status output errors r number position is failed told =
+    let numbered =
+    subst (λ (n : ℕ). IsTold words errors (line n r.position)) number told in
+    broken (is ∙ ap refusal_status number) failed
+    (subst (λ (p : Option (ℕ × ℕ)). IsTold words errors (line 19 p)) position numbered)

@@ -1,0 +1,44 @@
+-- The note that a run reads its traces from standard input.
+-- Source: this project's rule.
+use Rattle.std.specs.Prelude.{◌&&◌, Bool, true, false, not, is_some, List, codes}
+use Rattle.clap.specs.Words.{Text}
+use Rattle.lb_command.specs.Streams.{Change, IsUntouched, TookOrFailed}
+use Rattle.lb_command.specs.Words.{IsRequest}
+use Rattle.lb_command.specs.declared.request.Aim.{Aim}
+use Rattle.lb_command.specs.declared.request.Aim.TheVariants.{Report, LiveReport, Check, Header}
+use Rattle.lb_command.specs.declared.request.Request.{Request}
+use Rattle.lb_command.specs.declared.request.Request.TheVariants.{Help, Version, Run}
+use Rattle.lb_command.specs.declared.request.Task.{Task}
+
+-- the note
+abbrev pub note : Text
+note = codes "lbench: the traces are read from standard input\n"
+
+-- a run reads traces where it is to give a report
+abbrev pub reads_traces : Aim → Bool
+reads_traces Report = true
+reads_traces LiveReport = true
+reads_traces Check = false
+reads_traces Header = false
+
+-- a task reads a source at a path and then the traces from standard input
+abbrev pub awaits_traces : Task → Bool
+awaits_traces task = reads_traces task.aim && (is_some task.source && not (is_some task.traces))
+
+-- where the flag is true the note went to the errors, unless these failed; else the errors are as
+-- they were
+abbrev pub IsNotedBy : Bool → (errors : Change) → Type 0
+IsNotedBy true errors = TookOrFailed errors note
+IsNotedBy false errors = IsUntouched errors
+
+-- the note went to the errors where a request awaits traces, and else nothing
+abbrev pub IsNoted : Request → (errors : Change) → Type 0
+IsNoted (Run task) errors = IsNotedBy (awaits_traces task) errors
+IsNoted (Help text) errors = IsNotedBy false errors
+IsNoted Version errors = IsNotedBy false errors
+
+-- the same for the request of the words
+pub record IsAnnounced (words : List Text) (errors : Change) : Type 0 where
+  pub request : Request
+  pub asked : IsRequest words request
+  pub noted : IsNoted request errors

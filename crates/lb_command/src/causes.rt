@@ -1,0 +1,307 @@
+//! Why the words, an input or the output failed.
+
+use crate::refusal::Unread;
+use std::alloc::{AllocError, Global};
+
+/// An option of the command line.
+#[derive(Clone, Copy)]
+struct Known {
+    name: &'static str,
+    /// What values it takes; nothing where it takes none.
+    values: &'static str,
+}
+
+/// The options of the command line.
+const OPTIONS: [Known; 11] = [
+    Known {
+        name: "--node",
+        values: "the name of a node",
+    },
+    Known {
+        name: "--observe",
+        values: "the name of a node",
+    },
+    Known {
+        name: "--workers",
+        values: "a number from 0 to 64",
+    },
+    Known {
+        name: "--batch",
+        values: "a number from 1 to 64",
+    },
+    Known {
+        name: "--by-length",
+        values: "",
+    },
+    Known {
+        name: "--follow",
+        values: "",
+    },
+    Known {
+        name: "--explain",
+        values: "",
+    },
+    Known {
+        name: "--check",
+        values: "",
+    },
+    Known {
+        name: "--header",
+        values: "",
+    },
+    Known {
+        name: "--version",
+        values: "",
+    },
+    Known {
+        name: "--help",
+        values: "",
+    },
+];
+
+/// The long name of an option with a short one, else the name itself.
+fn long_name(name: &str) -> &str {
+    match name {
+        "-h" => "--help",
+        "-V" => "--version",
+        _ => name,
+    }
+}
+
+/// The option with a name.
+fn option_of(name: &str) -> Option<Known> {
+    let name = long_name(name);
+    for known in OPTIONS {
+        if known.name == name {
+            return Some(known);
+        }
+    }
+    None
+}
+
+/// Whether a value is lawful for an option.
+fn is_value(name: &str, value: &str) -> bool {
+    let least = match name {
+        "--workers" => 0,
+        "--batch" => 1,
+        _ => return true,
+    };
+    match value.parse::<u32>() {
+        Ok(n) => least <= n && n <= 64 && !value.starts_with('+'),
+        Err(_) => false,
+    }
+}
+
+/// Lines that begin with `lbench: error: `.
+fn page_of(alloc: Global) -> Result<String, AllocError> {
+    String::from_str(alloc, "lbench: error: ")
+}
+
+/// Puts the options that there are.
+fn put_options(page: &mut String) -> Result<(), AllocError> {
+    page.push_str("help: the options are ")?;
+    for (place, known) in OPTIONS.iter().enumerate() {
+        if place > 0 {
+            page.push_str(", ")?;
+        }
+        page.push_str(known.name)?;
+    }
+    page.push('\n')
+}
+
+/// What the words before one are.
+#[derive(Drop)]
+struct Seen {
+    paths: usize,
+    /// The options that were given.
+    options: Vec<Known>,
+}
+
+/// A word that is no part of a lawful command line.
+#[derive(Clone, Copy)]
+enum Wrong<'w> {
+    Unknown(&'w str),
+    NoValue(Known),
+    WrongValue(Known, &'w str),
+    WithValue(Known),
+    Twice(Known),
+    ThirdPath(&'w str),
+}
+
+/// Puts what is wrong with the words.
+fn put_wrong(page: &mut String, wrong: &Wrong<'_>) -> Result<(), AllocError> {
+    match wrong {
+        Wrong::Unknown(word) => {
+            write!(page, "there is no option `{word}`\n")?;
+            put_options(page)
+        }
+        Wrong::NoValue(known) => {
+            let (name, values) = (known.name, known.values);
+            write!(page, "`{name}` lacks its value, {values}\n")
+        }
+        Wrong::WrongValue(known, value) => {
+            let (name, values) = (known.name, known.values);
+            write!(
+                page,
+                "`{value}` is no value of `{name}`, which takes {values}\n"
+            )
+        }
+        Wrong::WithValue(known) => {
+            let name = known.name;
+            write!(page, "`{name}` takes no value\n")
+        }
+        Wrong::Twice(known) => {
+            let name = known.name;
+            write!(page, "`{name}` is given twice\n")
+        }
+        Wrong::ThirdPath(path) => {
+            write!(
+                page,
+                "`{path}` is a third path; a source and its traces are two\n"
+            )
+        }
+    }
+}
+
+/// The name of an option and the value that is joined to it.
+fn parts_of(word: &str) -> (&str, Option<&str>) {
+    match word.split_once('=') {
+        Some((name, value)) => (name, Some(value)),
+        None => (word, None),
+    }
+}
+
+/// What is wrong with an option and its value, if something is; `next` is the word after it.
+fn wrong_option<'w>(word: &'w str, next: Option<&'w str>) -> Option<Wrong<'w>> {
+    let (name, joined) = parts_of(word);
+    let Some(known) = option_of(name) else {
+        return Some(Wrong::Unknown(word));
+    };
+    if known.values.is_empty() {
+        return match joined {
+            Some(_) => Some(Wrong::WithValue(known)),
+            None => None,
+        };
+    }
+    let value = match joined {
+        Some(value) => value,
+        None => match next {
+            Some(value) => value,
+            None => return Some(Wrong::NoValue(known)),
+        },
+    };
+    if joined.is_none() && value.starts_with('-') && value.len() > 1 {
+        return Some(Wrong::NoValue(known));
+    }
+    if is_value(name, value) {
+        return None;
+    }
+    Some(Wrong::WrongValue(known, value))
+}
+
+/// Whether an option takes the word after it.
+fn takes_next(word: &str) -> bool {
+    match option_of(word) {
+        Some(known) => !known.values.is_empty(),
+        None => false,
+    }
+}
+
+/// Whether an option stands among those that were given.
+fn is_among(options: &[Known], known: &Known) -> bool {
+    for other in options {
+        if other.name == known.name {
+            return true;
+        }
+    }
+    false
+}
+
+/// Notes an option; what is wrong where it was given before.
+fn note_option<'w>(seen: &mut Seen, word: &'w str) -> Result<Option<Wrong<'w>>, AllocError> {
+    let (name, _value) = parts_of(word);
+    let Some(known) = option_of(name) else {
+        return Ok(None);
+    };
+    if is_among(seen.options.as_slice(), &known) {
+        return Ok(Some(Wrong::Twice(known)));
+    }
+    seen.options.push(known)?;
+    Ok(None)
+}
+
+/// The first word that is wrong after the program's name.
+fn first_wrong<'w>(alloc: Global, words: &'w [String]) -> Result<Option<Wrong<'w>>, AllocError> {
+    let mut seen = Seen {
+        paths: 0,
+        options: Vec::new(alloc),
+    };
+    let mut is_value = true;
+    for (place, word) in words.iter().enumerate() {
+        let word = word.as_str();
+        if is_value {
+            is_value = false;
+            continue;
+        }
+        if !word.starts_with('-') || word.len() == 1 {
+            seen.paths = seen.paths.saturating_add(1);
+            if seen.paths > 2 {
+                return Ok(Some(Wrong::ThirdPath(word)));
+            }
+            continue;
+        }
+        let next = match words.get(place.saturating_add(1)) {
+            Some(next) => Some(next.as_str()),
+            None => None,
+        };
+        if let Some(wrong) = wrong_option(word, next) {
+            return Ok(Some(wrong));
+        }
+        if let Some(wrong) = note_option(&mut seen, word)? {
+            return Ok(Some(wrong));
+        }
+        is_value = takes_next(word);
+    }
+    Ok(None)
+}
+
+/// Explains E20: the first word that the command line does not take.
+pub fn explain_words(alloc: Global, words: &[String]) -> Result<Vec<u8>, AllocError> {
+    let Some(wrong) = first_wrong(alloc, words)? else {
+        return Ok(Vec::new(alloc));
+    };
+    let mut page = page_of(alloc)?;
+    put_wrong(&mut page, &wrong)?;
+    page.as_bytes().to_vec(alloc)
+}
+
+/// Explains E19: how much of the output went out.
+pub fn explain_output(
+    alloc: Global,
+    sent: usize,
+    all: Option<usize>,
+) -> Result<Vec<u8>, AllocError> {
+    let mut page = page_of(alloc)?;
+    match all {
+        Some(all) => write!(page, "the output failed after {sent} of {all} bytes")?,
+        None => write!(page, "the output failed after {sent} bytes")?,
+    }
+    page.push_str("; what went out is not the whole report\n")?;
+    page.as_bytes().to_vec(alloc)
+}
+
+/// Explains E21: the path of the file that can not be read, and the system's cause.
+pub fn explain_input(alloc: Global, unread: Option<&Unread>) -> Result<Vec<u8>, AllocError> {
+    let mut page = page_of(alloc)?;
+    match unread {
+        Some(Unread { path, why }) => {
+            let (path, why) = (path.as_str(), why.as_str());
+            write!(page, "`{path}` can not be read: {why}\n")?;
+        }
+        None => {
+            page.push_str("an input can not be read: a read failed, or it is longer than ")?;
+            page.push_str("1100000000 bytes\n")?;
+        }
+    }
+    page.as_bytes().to_vec(alloc)
+}

@@ -1,0 +1,129 @@
+//! Explanations in colour, for a person at a terminal.
+//!
+//! ```text
+//! pump.csv:4:7: error: column `open` is bool, and `TRUE` is no value of it
+//!               ------
+//!     4 | storm,TRUE,4
+//!       |       ^^^^
+//!               ----
+//! help: write `true`, in small letters, or 1
+//! -----
+//! ```
+//! What is underlined here is painted; no other byte changes.
+
+ghost use Rattle.std.specs.Prelude.{◌≡◌};
+
+use lb_report::{Sink, SinkFailed, send};
+use std::alloc::{AllocError, Global};
+use std::str;
+
+/// Bold red, yellow and cyan, and no colour again, as terminals know them.
+const RED: &str = "\x1b[1;31m";
+
+const YELLOW: &str = "\x1b[1;33m";
+
+const CYAN: &str = "\x1b[1;36m";
+
+const PLAIN: &str = "\x1b[0m";
+
+/// Puts a stretch in colour.
+fn put_painted(page: &mut String, colour: &str, stretch: &str) -> Result<(), AllocError> {
+    page.push_str(colour)?;
+    page.push_str(stretch)?;
+    page.push_str(PLAIN)
+}
+
+/// Whether these are the marks under a line of a text: nothing but `^`, behind blanks.
+fn are_marks(text: &str) -> bool {
+    let marks = text.trim_start_matches(' ');
+    !marks.is_empty() && marks.trim_start_matches('^').is_empty()
+}
+
+/// Puts a line that begins with a blank: one of a text, or the marks under it.
+fn put_excerpt(page: &mut String, line: &str) -> Result<(), AllocError> {
+    match line.split_once('|') {
+        Some((margin, marks)) if are_marks(marks) => {
+            page.push_str(margin)?;
+            page.push('|')?;
+            put_painted(page, RED, marks)
+        }
+        _ => page.push_str(line),
+    }
+}
+
+/// Puts a line in colour.
+fn put_line(page: &mut String, line: &str) -> Result<(), AllocError> {
+    if line.starts_with(' ') {
+        return put_excerpt(page, line);
+    }
+    if let Some(rest) = line.strip_prefix("help:") {
+        put_painted(page, CYAN, "help:")?;
+        return page.push_str(rest);
+    }
+    if let Some(rest) = line.strip_prefix("warning:") {
+        put_painted(page, YELLOW, "warning:")?;
+        return page.push_str(rest);
+    }
+    let Some((place, message)) = line.split_once(": error: ") else {
+        return page.push_str(line);
+    };
+    page.push_str(place)?;
+    page.push_str(": ")?;
+    put_painted(page, RED, "error:")?;
+    page.push(' ')?;
+    page.push_str(message)
+}
+
+/// A text in colour.
+fn paint(alloc: Global, text: &str) -> Result<String, AllocError> {
+    let mut page = String::new(alloc);
+    for (place, line) in text.split('\n').enumerate() {
+        if place > 0 {
+            page.push('\n')?;
+        }
+        put_line(&mut page, line)?;
+    }
+    Ok(page)
+}
+
+/// A sink that hands on what it is given in colour. What is not UTF-8 stays plain, and all does
+/// where memory ran out.
+#[derive(Drop)]
+pub struct Painted<S> {
+    sink: S,
+    alloc: Global,
+}
+
+impl<S: Sink> Painted<S> {
+    /// A sink that hands on to this one.
+    pub fn new(alloc: Global, sink: S) -> Painted<S>
+        ensures { ⟦<Painted<S> as Sink>⟧.failures result ≡ S.failures sink }
+    {
+        Painted { sink, alloc }
+    }
+}
+
+impl<S: Sink> Sink for Painted<S> {
+    ghost failures = { λ painted. S.failures painted.sink };
+
+    fn write(&mut self, bytes: &[u8]) -> Result<usize, SinkFailed> {
+        let Ok(text) = str::from_utf8(bytes) else {
+            return self.sink.write(bytes);
+        };
+        let Ok(page) = paint(self.alloc, text) else {
+            return self.sink.write(bytes);
+        };
+        match send(&mut self.sink, page.as_bytes()) {
+            Ok(()) => Ok(bytes.len()),
+            Err(_) => Err(SinkFailed),
+        }
+    }
+
+    fn flush(&mut self) -> Result<(), SinkFailed> {
+        self.sink.flush()
+    }
+
+    fn failures(&self) -> u64 {
+        self.sink.failures()
+    }
+}

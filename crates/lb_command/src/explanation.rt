@@ -1,0 +1,148 @@
+//! What is told of a refusal beside its line, where it is asked for.
+
+ghost use Rattle.std.specs.Prelude.{◌≡◌, ◌<◌, [], false, map, string_bytes};
+ghost use Rattle.lb_command.specs.Outcomes.{IsTold, refusal_status};
+ghost use Rattle.lb_command.specs.Lines as spec;
+ghost use Rattle.lb_command.specs.Streams.{change};
+ghost use Rattle.lb_command.specs.Warnings.{AreWarnings};
+ghost use Rattle.lb_command.specs.Words.{asks_to_explain};
+
+use crate::causes::{explain_input, explain_output, explain_words};
+use crate::line::send_lines;
+use crate::refusal::{Cause, Refusal, Texts};
+use crate::request::{Request, Task, read_words};
+use lb_explain::{Text, explain, wiring_warnings};
+use lb_report::{BenchError, Sink, split_case};
+use std::alloc::{AllocError, Global};
+
+/// The option that asks for explanations.
+const ASKED: &str = "--explain";
+
+/// Whether one of the words asks for explanations.
+fn asks_to_explain(mut words: &[String]) -> bool
+    ensures { result ≡ asks_to_explain (map string_bytes words.entry.now) }
+{
+    while let [word, rest @ ..] = words {
+        if word.as_str() == ASKED {
+            return true;
+        }
+        words = rest;
+    }
+    false
+}
+
+/// A text that is known by the path that it came from, or else as standard input.
+fn text_at<'a>(path: Option<&'a str>, bytes: &'a [u8], lines_before: u64) -> Text<'a> {
+    Text {
+        name: path.unwrap_or("-"),
+        bytes,
+        lines_before,
+    }
+}
+
+/// How many lines of a case text stand before its traces.
+fn lines_before(case: &[u8], traces: &[u8]) -> u64 {
+    let mut lines: u64 = 0;
+    let length = case.len().saturating_sub(traces.len());
+    for b in &case[..length.min(case.len())] {
+        lines = lines.saturating_add(u64::from(*b == b'\n'));
+    }
+    lines
+}
+
+/// Explains what the bench says of some texts.
+fn explain_texts(
+    alloc: Global,
+    task: &Task<'_>,
+    error: &BenchError,
+    texts: &Texts,
+) -> Result<Vec<u8>, AllocError> {
+    let options = &task.options;
+    match texts {
+        Texts::Two { source, traces } => {
+            let source = text_at(task.source, source.as_slice(), 0);
+            let traces = text_at(task.traces, traces.as_slice(), 0);
+            explain(alloc, &source, &traces, options, error)
+        }
+        Texts::Case(case) => {
+            let (source, traces) = split_case(case.as_slice());
+            let before = lines_before(case.as_slice(), traces);
+            let source = text_at(None, source, 0);
+            let traces = text_at(None, traces, before);
+            explain(alloc, &source, &traces, options, error)
+        }
+    }
+}
+
+/// Explains what the bench says of the texts that these words name.
+fn explain_judged(
+    alloc: Global,
+    words: &[String],
+    error: &BenchError,
+    texts: &Texts,
+) -> Result<Vec<u8>, AllocError> {
+    match read_words(alloc, words) {
+        Ok(Request::Run(task)) => explain_texts(alloc, &task, error, texts),
+        _ => Ok(Vec::new(alloc)),
+    }
+}
+
+/// The lines that explain a refusal of these words; none where nothing more is known.
+fn explanation(alloc: Global, words: &[String], refusal: &Refusal) -> Result<Vec<u8>, AllocError> {
+    match &refusal.cause {
+        Some(Cause::Judged { error, texts }) => explain_judged(alloc, words, error, texts),
+        Some(Cause::Unsent { sent, all }) => explain_output(alloc, *sent, *all),
+        Some(Cause::Unread(unread)) => explain_input(alloc, Some(unread)),
+        None => match refusal.number {
+            20 => explain_words(alloc, words),
+            21 => explain_input(alloc, None),
+            _ => Ok(Vec::new(alloc)),
+        },
+    }
+}
+
+/// The same; none where memory ran out either.
+fn lines_of(alloc: Global, words: &[String], refusal: &Refusal) -> Vec<u8>
+    ensures { asks_to_explain (map string_bytes words.now) ≡ false → result.items ≡ [] }
+{
+    if !asks_to_explain(words) {
+        return Vec::new(alloc);
+    }
+    match explanation(alloc, words, refusal) {
+        Ok(lines) => lines,
+        Err(_) => Vec::new(alloc),
+    }
+}
+
+/// What is to be warned of where a source is accepted: inputs of the observer that are wired to
+/// something of another name. It is nothing where the words ask for no explanations, and where
+/// memory ran out.
+pub fn warnings_of(alloc: Global, words: &[String], task: &Task<'_>, source: &[u8]) -> Vec<u8>
+    ensures { AreWarnings (map string_bytes words.now) task.now.options result.items }
+{
+    let asked = asks_to_explain(words);
+    if !asked {
+        return Vec::new(alloc);
+    }
+    let source = text_at(task.source, source, 0);
+    match wiring_warnings(alloc, &source, &task.options) {
+        Ok(lines) => lines,
+        Err(_) => Vec::new(alloc),
+    }
+}
+
+/// Writes the line of a refusal to standard error, and behind it the lines that explain it where
+/// the words ask for them, and answers its exit status. Where standard error fails too, the status
+/// alone tells of the refusal.
+pub fn tell<E: Sink>(alloc: Global, words: &[String], refusal: &Refusal, errors: &mut E) -> u8
+    requires { E.failures errors.old < u64.MAX }
+    ensures status { result ≡ refusal_status refusal.now.number }
+    ensures told { IsTold (map string_bytes words.now)
+        (change (E.taken errors.old) (E.taken errors.new)
+        (E.failures errors.old) (E.failures errors.new))
+        (spec.line refusal.now.number refusal.now.position) }
+{
+    let further = lines_of(alloc, words, refusal);
+    let _ = send_lines(errors, refusal, further.as_slice());
+    refusal.status()
+}

@@ -1,0 +1,138 @@
+//! The texts that a run is about, from the files and the input that its task names.
+
+ghost use Rattle.std.specs.Prelude.{◌≡◌, ◌<◌, IfErr, IfOk};
+ghost use Rattle.lb_command.specs.Outcomes as spec;
+ghost use Rattle.lb_command.specs.Streams.{input};
+
+use crate::refusal::{Refusal, Texts};
+use crate::request::Task;
+use lb_report::{Feed, Reader, load};
+use std::alloc::Global;
+use std::fs::File;
+use std::io::{self, Read};
+use std::rt::Runtime;
+
+/// What a report is on.
+#[derive(Drop)]
+pub enum Loaded<'a, F> {
+    /// Two texts.
+    Texts(Texts),
+    /// A source, and the file of its traces, which is open.
+    Open {
+        source: Vec<u8>,
+        path: &'a str,
+        file: F,
+    },
+}
+
+/// What is known of a file that was opened and could not be read to its end.
+const UNREAD: &str = "it is a folder, a read failed, or it is longer than 1100000000 bytes";
+
+/// The bytes of an input. The errors are E0 and E21.
+#[tactic(auto, using(crate::proofs::Outcomes::load_unread))]
+fn load_input<F: Feed>(alloc: Global, feed: &mut F) -> Result<Vec<u8>, Refusal>
+    requires { F.failures feed.old < u64.MAX }
+    ensures ok { IfOk result (λ bytes. spec.IsInput (F.coming feed.old) bytes.items) }
+    ensures err { IfErr result spec.IsUnread }
+    ensures read { spec.HasRead ⊥
+        (input (F.coming feed.old) (F.failures feed.old) (F.failures feed.new)) result }
+{
+    Ok(load(alloc, feed)?)
+}
+
+/// The bytes of the file at a path, which is open. The errors are E0 and E21.
+pub fn load_open<F: Read>(alloc: Global, path: &str, file: &mut F) -> Result<Vec<u8>, Refusal>
+    ensures { IfErr result spec.IsUnread }
+{
+    match load_input(alloc, &mut Reader::new(file)) {
+        Err(refusal) if refusal.number == 21 => Err(Refusal::unread(alloc, path, UNREAD)),
+        loaded => loaded,
+    }
+}
+
+/// The refusal of a file that the system does not open.
+fn unopened(alloc: Global, path: &str, cause: &io::Error) -> Refusal
+    ensures { result.number ≡ 21 }
+{
+    match format!(in alloc; "{cause}") {
+        Ok(why) => Refusal::unread(alloc, path, why.as_str()),
+        Err(_) => Refusal::READ,
+    }
+}
+
+/// The file at a path. The error is E21.
+fn open_file<R: Runtime + AllocGlobal>(rt: &R, path: &str) -> Result<R::File, Refusal>
+    ensures { IfErr result (λ refusal. refusal.number ≡ 21) }
+{
+    match File::open(rt, path) {
+        Ok(file) => Ok(file),
+        Err(cause) => Err(unopened(rt.alloc(), path, &cause)),
+    }
+}
+
+/// The bytes of the file at a path. The errors are E0 and E21.
+fn load_file<R: Runtime + AllocGlobal>(rt: &R, path: &str) -> Result<Vec<u8>, Refusal>
+    ensures { IfErr result spec.IsUnread }
+{
+    match open_file(rt, path) {
+        Ok(mut file) => load_open(rt.alloc(), path, &mut file),
+        Err(refusal) => Err(refusal),
+    }
+}
+
+/// What the report of a task is on; the source is read before the traces. A file of traces is
+/// opened once: of a pipe with a name, a second opening would lose what the first one was given.
+/// The errors are E0 and E21.
+pub fn load_texts<'a, R, F>(
+    rt: &R,
+    task: &Task<'a>,
+    reader: &mut F,
+) -> Result<Loaded<'a, R::File>, Refusal>
+where
+    R: Runtime + AllocGlobal,
+    F: Feed,
+    requires { F.failures reader.old < u64.MAX }
+    ensures ok { IfOk result (spec.IsLoaded task.now (F.coming reader.old)) }
+    ensures err { IfErr result spec.IsUnread }
+    ensures read { spec.HasRead (spec.HasPath task.now)
+        (input (F.coming reader.old) (F.failures reader.old) (F.failures reader.new)) result }
+{
+    let Some(path) = task.source else {
+        let case = load_input(rt.alloc(), reader)?;
+        return Ok(Loaded::Texts(Texts::Case(case)));
+    };
+    let source = load_file(rt, path)?;
+    match task.traces {
+        None => {
+            let traces = load_input(rt.alloc(), reader)?;
+            Ok(Loaded::Texts(Texts::Two { source, traces }))
+        }
+        Some(path) => {
+            let file = open_file(rt, path)?;
+            Ok(Loaded::Open { source, path, file })
+        }
+    }
+}
+
+/// The source of a task, alone where it has a path, else with the traces that the input holds too.
+/// The errors are E0 and E21.
+pub fn load_source<R, F>(rt: &R, task: &Task<'_>, reader: &mut F) -> Result<Texts, Refusal>
+where
+    R: Runtime + AllocGlobal,
+    F: Feed,
+    requires { F.failures reader.old < u64.MAX }
+    ensures ok { IfOk result (λ texts.
+        spec.IsSource task.now (F.coming reader.old) (spec.source_in texts)) }
+    ensures err { IfErr result spec.IsUnread }
+    ensures read { spec.HasRead (spec.HasPath task.now)
+        (input (F.coming reader.old) (F.failures reader.old) (F.failures reader.new)) result }
+{
+    let alloc = rt.alloc();
+    let Some(path) = task.source else {
+        let case = load_input(alloc, reader)?;
+        return Ok(Texts::Case(case));
+    };
+    let source = load_file(rt, path)?;
+    let traces = Vec::new(alloc);
+    Ok(Texts::Two { source, traces })
+}

@@ -1,0 +1,52 @@
+//! The options that ask for more than a report, or for something else.
+
+ghost use Rattle.std.specs.Prelude.{◌≡◌, IfOk, false};
+ghost use Rattle.clap.specs.Words.{app_of, rule_of};
+ghost use Rattle.lb_command.specs.Words as spec;
+
+use crate::request::switch_argument;
+use clap::{Arg, Command};
+use std::alloc::{AllocError, Global};
+
+/// Adds the option that asks for explanations.
+fn with_explanations<'a>(alloc: Global, command: Command<'a>) -> Result<Command<'a>, AllocError>
+    ensures { IfOk result (λ c. app_of c ≡ spec.with_explanations (app_of command.entry)) }
+{
+    let help = "tells why and where a text is refused";
+    command.arg(switch_argument(alloc, "explain", help))
+}
+
+/// Adds the options that ask about the source alone.
+fn with_judging<'a>(alloc: Global, command: Command<'a>) -> Result<Command<'a>, AllocError>
+    ensures { IfOk result (λ c. app_of c ≡ spec.with_judging (app_of command.entry)) }
+{
+    let help = "judges the source alone, and reads no traces";
+    let command = command.arg(switch_argument(alloc, "check", help))?;
+    let help = "prints the header that the traces must have, and reads none";
+    command.arg(switch_argument(alloc, "header", help))
+}
+
+/// The option that asks for the version.
+fn version_argument<'a>(alloc: Global) -> Arg<'a>
+    ensures rule { rule_of result ≡ spec.version_switch }
+    ensures global { result.global ≡ false }
+{
+    let help = "prints the program's name, its version and its toolchain";
+    switch_argument(alloc, "version", help).short('V')
+}
+
+/// Adds the option that asks for the version.
+fn with_version<'a>(alloc: Global, command: Command<'a>) -> Result<Command<'a>, AllocError>
+    ensures { IfOk result (λ c. app_of c ≡ spec.with_version (app_of command.entry)) }
+{
+    command.arg(version_argument(alloc))
+}
+
+/// Adds the options that ask for more than a report, or for something else.
+pub fn with_modes<'a>(alloc: Global, command: Command<'a>) -> Result<Command<'a>, AllocError>
+    ensures { IfOk result (λ c. app_of c ≡ spec.with_modes (app_of command.entry)) }
+{
+    let command = with_explanations(alloc, command)?;
+    let command = with_judging(alloc, command)?;
+    with_version(alloc, command)
+}
