@@ -114,7 +114,77 @@ node
   ; => refused: E2 syntax at 2:3
 status 2
 ----
+lbench --check
+node main(x: int) returns (ok: bool); let ok = x < 5; tel => status 0
+----
+lbench --check --follow
+node main(x: int) returns (ok: bool); let ok = x < 5; tel
+%traces
+no header => status 0
+----
+lbench --check
+node main(x: int) returns (ok: bool); let ok = x; tel => refused: E9 type
+status 2
+----
+lbench --check --node other
+node main(x: int) returns (ok: bool); let ok = x < 5; tel => refused: E4 name
+status 2
+----
+lbench --check no/such/source => refused: E21 read
+status 3
+----
+lbench --header
+% => refused: E1 character at 1:1
+status 2
+----
+lbench --check=1 => refused: E20 usage
+status 2
+----
+lbench --version --version => refused: E20 usage
+status 2
+----
+lbench -V --check => status 0 with output
+----
 lbench --help => status 0 with output";
+
+/// What a command line on an input prints, if its status is 0 and there is no error.
+fn printed<R: Runtime + AllocGlobal + Threads + Wait + Sync>(
+    rt: &R,
+    line: &str,
+    input: &str,
+) -> Result<Vec<u8>, AllocError>
+where
+    R::File: FileExt + Sync,
+{
+    let mut output: Vec<u8> = Vec::new(rt.alloc());
+    let mut errors: Vec<u8> = Vec::new(rt.alloc());
+    let status = run_line(rt, line, input, &mut output, &mut errors)?;
+    if status != 0 || !errors.is_empty() {
+        output.clear();
+    }
+    Ok(output)
+}
+
+/// A node with arrays among its inputs.
+const TANK: &str = "\
+const n = 2;
+node tank(level: int^n; open: bool^3^n; x: int) returns (ok: bool); let ok = x < 5; tel
+";
+
+/// The last index runs fastest.
+const HEADER: &str = "\
+trace,level[0],level[1],\
+open[0][0],open[0][1],open[0][2],open[1][0],open[1][1],open[1][2],x
+";
+
+#[test]
+fn told_without_traces(rt: HostRuntime) -> Result<(), AllocError> {
+    let header = printed(&rt, "lbench --header --node tank", TANK)?;
+    assert_eq!(rt; header.as_slice(), HEADER.as_bytes());
+    let version = printed(&rt, "lbench --version", "")?;
+    assert!(rt; version.as_slice().starts_with(b"lbench 0.1.0\nrattle-kit-"));
+    Ok(())
+}
 
 #[test]
 fn failing_output(rt: HostRuntime) -> Result<(), Fail> {
