@@ -1,0 +1,29 @@
+# Completion of lbench for bash. Source it, or put it into the folder
+# /usr/share/bash-completion/completions under the name lbench.
+
+_lbench() {
+    local word=${COMP_WORDS[COMP_CWORD]} before=${COMP_WORDS[COMP_CWORD - 1]}
+    COMPREPLY=()
+    case $before in
+        --workers)
+            COMPREPLY=($(compgen -W '0 1 2 4 8 16 32 64' -- "$word"))
+            return
+            ;;
+        --batch)
+            COMPREPLY=($(compgen -W '1 16 32 64' -- "$word"))
+            return
+            ;;
+        --node | --observe)
+            return
+            ;;
+    esac
+    if [[ $word == -* ]]; then
+        COMPREPLY=($(compgen -W '--node --observe --workers --batch --by-length --follow
+            --explain --check --header
+            --version --help' -- "$word"))
+        return
+    fi
+    COMPREPLY=($(compgen -f -- "$word"))
+}
+
+complete -o filenames -F _lbench lbench
