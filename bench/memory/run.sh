@@ -1,9 +1,10 @@
 #!/usr/bin/env bash
 # Refuses each request for memory of a run in turn: with 0, 1 and 7 workers, in the order of the
-# traces and by length, from files, from standard input and as a case text, and of a source that is
-# refused. Each run has to answer E0 with status 3 and no output, or else what it answers with ample
-# memory: some requests a run can do without. lbench is proved and built by LLVM as the merge gate
-# builds it. Needs rt and cc on the path. With a path as its argument that program is tried.
+# traces and by length, from files, from standard input and as a case text, of a source that is
+# refused, and of a live report. Each run has to answer E0 with status 3, with no output or with the
+# first bytes of a live report, or else what it answers with ample memory: some requests a run can do
+# without. lbench is proved and built by LLVM as the merge gate builds it. Needs rt and cc on the
+# path. With a path as its argument that program is tried.
 #
 #     bench/memory/run.sh [PROGRAM]
 set -euo pipefail
@@ -25,6 +26,17 @@ once() {
         "$lbench" "$@" < "$input" > "$work/output" 2> "$work/errors" || status=$?
 }
 
+# may_be_out WORD ..: whether a run that memory was refused to may leave this output: nothing, or with
+# --follow the first bytes of the report.
+may_be_out() {
+    local size
+    size=$(stat -c %s "$work/output")
+    case " $* " in
+        *" --follow "*) cmp -s -n "$size" "$work/output" "$work/report" ;;
+        *) [ "$size" = 0 ] ;;
+    esac
+}
+
 # each INPUT WORD ..: a run for each request, and one more with ample memory.
 each() {
     local input=$1 requests wanted number refusals=0
@@ -36,7 +48,7 @@ each() {
     cp "$work/errors" "$work/refusal"
     for ((number = 1; number <= requests; number++)); do
         once "$number" "$input" "$@"
-        if [ "$status" = 3 ] && [ ! -s "$work/output" ] \
+        if [ "$status" = 3 ] && may_be_out "$@" \
             && [ "$(cat "$work/errors")" = "refused: E0 memory" ]; then
             refusals=$((refusals + 1))
         elif [ "$status" != "$wanted" ] || ! cmp -s "$work/output" "$work/report" \
@@ -62,4 +74,11 @@ each "$examples/burner.csv" "$examples/burner.lus"
 (cat "$examples/burner.lus"; echo %traces; cat "$examples/burner.csv") > "$work/case"
 each "$work/case"
 each /dev/null --node no_such_node "$examples/burner.lus" "$examples/burner.csv"
+for workers in 1 7; do
+    each /dev/null --follow --workers "$workers" --batch 1 \
+        "$examples/burner.lus" "$examples/burner.csv"
+done
+each "$work/case" --follow
+each /dev/null --check "$examples/burner.lus"
+each /dev/null --header "$examples/burner.lus"
 each /dev/null --help
