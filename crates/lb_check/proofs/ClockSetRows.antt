@@ -90,7 +90,7 @@ both_nowhere NoClock = refl
 both_nowhere AnyClock = refl
 both_nowhere (OneClock k) = refl
 
-both_both : (s t u : ClockSet) → both s (both t u) ≡ both (both s t) u
+pub both_both : (s t u : ClockSet) → both s (both t u) ≡ both (both s t) u
 both_both NoClock t u = refl
 both_both AnyClock t u = refl
 both_both (OneClock k) NoClock u = refl

@@ -1,12 +1,62 @@
--- The pairs that a loop over places finds, from a place on.
-use Rattle.std.proofs.Common.{◌≡◌, ℕ, suc, ◌+◌, ◌-◌, ◌<◌, ◌≤◌, List, [], ◌∷◌, ◌++◌, Option}
-use Rattle.std.proofs.Common.{ap, sym, ◌∙◌, arith}
-use Rattle.std.proofs.lemmas.List.{append_assoc, append-nil}
+-- Flags of what is waited for, and the pairs that a loop over places finds, from a place on.
+use Rattle.std.proofs.Common.{◌≡◌, ◌≢◌, ℕ, suc, ◌+◌, ◌-◌, ◌<◌, ◌≤◌, List, [], ◌∷◌, ◌++◌, Option}
+use Rattle.std.proofs.Common.{refl, ap, sym, ◌∙◌, arith, Bool, true, false, length, drop, get_or}
+use Rattle.std.proofs.Common.{subst}
+use Rattle.std.specs.Prelude.{◌||◌, nat_eq}
+use Rattle.std.specs.List.{list_any}
+use Rattle.std.proofs.Math.Bool.{or_assoc, or_comm}
+use Rattle.std.proofs.Math.ListN.{set}
+use Rattle.std.proofs.lemmas.Bool.Decides.{nat_tests}
+use Rattle.std.proofs.lemmas.List.{append_assoc, append-nil, drop_more, get_or-set_other}
+use Rattle.std.proofs.lemmas.List.{get_or-set_same}
 use Rattle.lb_syntax.specs.Lists.{listed}
 use Rattle.lb_static.specs.declared.resolved.ResolvedNode.{ResolvedNode}
+use Rattle.lb_static.specs.declared.resolved.Variable.{Variable}
 use Rattle.lb_static.specs.declared.resolved.VariableId.{VariableId}
-use Rattle.lb_check.specs.PlacedClocks.{given_from, given_variable}
+use Rattle.lb_check.specs.PlacedClocks.{given_from, given_variable, waits_at}
 use Rattle.lb_check.specs.declared.found_clocks.GivenVariable.{GivenVariable}
+
+-- ## Flags
+
+-- one flag more
+pub flag_more : (flags : List Bool) (p i : ℕ) → p < length flags →
+    get_or (set flags p true) i false ≡ (nat_eq p i || get_or flags i false)
+flag_more flags p i lt = by (nat_eq p i) refl
+  where
+    by : (b : Bool) → nat_eq p i ≡ b →
+        get_or (set flags p true) i false ≡ (b || get_or flags i false)
+    by true e =
+        let same : p ≡ i = grind (arith, nat_tests) in
+        subst (λ k. get_or (set flags p true) k false ≡ true) same
+        (get_or-set_same flags p true false lt)
+    by false e =
+        let other : i ≢ p = grind (arith, nat_tests) in
+        get_or-set_other flags p i true false other
+
+-- a place that has no flag
+pub flag_past : (flags : List Bool) (p i : ℕ) → length flags ≤ p → i < length flags →
+    get_or flags i false ≡ (nat_eq p i || get_or flags i false)
+flag_past flags p i le lt =
+    let e : nat_eq p i ≡ false = grind (arith, nat_tests) in
+    sym (ap (λ b. b || get_or flags i false) e)
+
+-- whether one of some variables waits for what is at a place
+abbrev pub is_waited : ℕ → List Variable → Bool
+is_waited i vs = list_any (λ (v : Variable). waits_at i v.clock) vs
+
+-- one more variable is looked at
+pub waited_more : (vs : List Variable) (j i : ℕ) (d : Variable) (old now : List Bool) (new : Bool) →
+    j < length vs → new ≡ (waits_at i (get_or vs j d).clock || get_or now i false) → now ≡ old →
+    (is_waited i (drop j vs) || get_or old i false) ≡ (is_waited i (drop (j + 1) vs) || new)
+waited_more vs j i d old now new lt e same =
+    let one = waits_at i (get_or vs j d).clock in
+    let rest = is_waited i (drop (j + 1) vs) in
+    let flag = get_or old i false in
+    ap (λ l. is_waited i l || flag) (drop_more vs j d lt)
+    ∙ ap (λ b. b || flag) (or_comm one rest) ∙ or_assoc rest one flag
+    ∙ ap (λ b. rest || b) (sym (e ∙ ap (λ fs. one || get_or fs i false) same))
+
+-- ## Pairs
 
 module _ (n : ResolvedNode) (given : ℕ → Option VariableId) (count i : ℕ)
     (done : List GivenVariable)

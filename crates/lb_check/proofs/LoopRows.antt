@@ -7,9 +7,10 @@ use Rattle.std.proofs.lemmas.List.{append_assoc, drop_all, drop_more}
 use Rattle.lb_static.specs.declared.resolved.Term.{Term}
 use Rattle.lb_static.specs.declared.resolved.VariableId.{VariableId}
 use Rattle.lb_check.specs.CallClocks.{variable_of}
-use Rattle.lb_check.specs.TermClocks.{Context, operand_of, operands_of, infer_clock}
+use Rattle.lb_check.specs.TermClocks.{Context, both, operand_of, operands_of, infer_clock, together}
 use Rattle.lb_check.specs.declared.clock_set.Operand.{Operand}
 use Rattle.lb_check.specs.declared.clock_set.ClockSet.{ClockSet}
+use Rattle.lb_check.proofs.ClockSetRows.{both_anywhere, both_both}
 
 -- ## A test of each item
 
@@ -68,3 +69,24 @@ module _ (ctx : Context) (all : List Term) (done : List Operand) (i : ℕ)
   pub operands_end : length all ≤ i → operands_of ctx all ≡ done
   operands_end le = known ∙ ap (λ l. done ++ operands_of ctx l) (drop_all i all le)
       ∙ nothing_more done
+
+-- ## The clocks that terms accept together
+
+module _ (ctx : Context) (all : List Term) (whole done : ClockSet) (i : ℕ)
+    (known : whole ≡ both done (together (operands_of ctx (drop i all)))) where
+  -- one more term
+  pub together_more : (e : Term) (s next : ClockSet) → i < length all → e ≡ get_or all i e →
+      s ≡ infer_clock ctx e → next ≡ both done s →
+      whole ≡ both next (together (operands_of ctx (drop (i + 1) all)))
+  together_more e s next lt is stands n =
+      let rest = together (operands_of ctx (drop (i + 1) all)) in
+      known ∙ ap (λ l. both done (together (operands_of ctx l))) (drop_more all i e lt)
+      ∙ ap (λ (t : Term). both done (both (infer_clock ctx t) rest)) (sym is)
+      ∙ ap (λ u. both done (both u rest)) (sym stands)
+      ∙ both_both done s rest ∙ ap (λ u. both u rest) (sym n)
+
+  -- none is left
+  pub together_end : length all ≤ i → whole ≡ done
+  together_end le =
+      known ∙ ap (λ l. both done (together (operands_of ctx l))) (drop_all i all le)
+      ∙ both_anywhere done

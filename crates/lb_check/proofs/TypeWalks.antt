@@ -1,7 +1,7 @@
 -- What is kept of the types of the parts of a term, from what is kept of its operands, and of rows
 -- of terms from a place on.
 use Rattle.std.proofs.Common.{◌≡◌, ◌⊎◌, inl, inr, ℕ, ◌+◌, ◌<◌, ◌≤◌, Bool, List, [], ◌∷◌, ◌++◌}
-use Rattle.std.proofs.Common.{length, drop, flat_map, get_or, Box, Global, Vec, refl, ap}
+use Rattle.std.proofs.Common.{length, drop, flat_map, get_or, map, Box, Global, Vec, refl, ap}
 use Rattle.std.proofs.Common.{sym, ◌∙◌}
 use Rattle.std.proofs.lemmas.List.{drop_all, drop_more}
 use Rattle.lb_syntax.specs.declared.tree.ArrayIterator.{ArrayIterator}
@@ -29,28 +29,6 @@ pub more_terms : (f : FoundNode) (xs ys : List FoundTypes) →
 more_terms f [] ys = refl
 more_terms f (x ∷ xs) ys = more_terms (with_term f x) xs ys
 
-module _ (old noted : FoundNode) (whole : List FoundTypes) (t : FoundTypes)
-    (first : noted ≡ with_term old t) where
-  -- a term, and then its one operand or row
-  pub one_more :
-      (xs : List FoundTypes) → whole ≡ t ∷ xs → with_terms noted xs ≡ with_terms old whole
-  one_more xs e = ap (λ f. with_terms f xs) first ∙ ap (with_terms old) (sym e)
-
-  -- two operands
-  pub two_more :
-      (after : FoundNode) (xs ys : List FoundTypes) → after ≡ with_terms noted xs →
-      whole ≡ t ∷ (xs ++ ys) → with_terms after ys ≡ with_terms old whole
-  two_more after xs ys a e =
-      ap (λ f. with_terms f ys) a ∙ sym (more_terms noted xs ys) ∙ one_more (xs ++ ys) e
-
-  -- and three
-  pub three_more :
-      (after last : FoundNode) (xs ys zs : List FoundTypes) → after ≡ with_terms noted xs →
-      last ≡ with_terms after ys → whole ≡ t ∷ (xs ++ (ys ++ zs)) →
-      with_terms last zs ≡ with_terms old whole
-  three_more after last xs ys zs a b e =
-      ap (λ f. with_terms f zs) b ∙ sym (more_terms after ys zs) ∙ two_more after xs (ys ++ zs) a e
-
 module _ {A : Type 0} (f : A → List FoundTypes) (whole now : FoundNode) (all : List A) (i : ℕ)
     (known : whole ≡ with_terms now (flat_map f (drop i all))) where
   -- one more item
@@ -65,6 +43,21 @@ module _ {A : Type 0} (f : A → List FoundTypes) (whole now : FoundNode) (all :
   -- none is left
   pub flat_end : length all ≤ i → whole ≡ now
   flat_end le = known ∙ ap (λ l. with_terms now (flat_map f l)) (drop_all i all le)
+
+module _ {A : Type 0} (f : A → FoundTypes) (whole now : FoundNode) (all : List A) (i : ℕ)
+    (known : whole ≡ with_terms now (map f (drop i all))) where
+  -- one more part
+  pub kept_more : (more : FoundNode) (x : A) → i < length all → x ≡ get_or all i x →
+      more ≡ with_term now (f x) → whole ≡ with_terms more (map f (drop (i + 1) all))
+  kept_more more x lt is e =
+      let rest = map f (drop (i + 1) all) in
+      known ∙ ap (λ l. with_terms now (map f l)) (drop_more all i x lt)
+      ∙ ap (λ y. with_terms (with_term now (f y)) rest) (sym is)
+      ∙ ap (λ g. with_terms g rest) (sym e)
+
+  -- none is left
+  pub kept_end : length all ≤ i → whole ≡ now
+  kept_end le = known ∙ ap (λ l. with_terms now (map f l)) (drop_all i all le)
 
 -- ## Terms by their forms
 

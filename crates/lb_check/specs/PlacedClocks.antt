@@ -2,8 +2,9 @@
 -- places them.
 -- This file mirrors code (src/placed_clock.rt, src/given_variables.rt, src/found_clocks.rt); no
 -- definition of the language stands on it.
-use Rattle.std.specs.Prelude.{ℕ, zero, suc, ◌+◌, nat_eq, Bool, if◌then◌else◌, Option, Some, None}
-use Rattle.std.specs.Prelude.{option_map, List, [], ◌∷◌, ◌++◌, map, flat_map, length, take}
+use Rattle.std.specs.Prelude.{◌≡◌, ℕ, zero, suc, ◌+◌, ◌<◌, nat_eq, Bool, false, if◌then◌else◌}
+use Rattle.std.specs.Prelude.{Option, Some, None, option_map, List, [], ◌∷◌, ◌++◌, map, flat_map}
+use Rattle.std.specs.Prelude.{length, take, get_or}
 use Rattle.std.specs.List.{list_any}
 use Rattle.lb_syntax.specs.Lists.{either_or, holds, listed}
 use Rattle.lb_static.specs.declared.reach.Reached.{Reached}
@@ -85,6 +86,10 @@ waits_at i c = holds (λ s. nat_eq s.variable.0 i) c
 abbrev pub is_awaited : ResolvedNode → ℕ → Bool
 is_awaited n i =
     list_any (λ v. waits_at i v.clock) (take (n.inputs + n.outputs) n.variables.items)
+
+-- flags of the inputs and outputs of a node: whether one of them waits for it
+abbrev pub AreAwaited : ResolvedNode → List Bool → Type 0
+AreAwaited n flags = (i : ℕ) → i < length flags → get_or flags i false ≡ is_awaited n i
 
 abbrev pub pair_at : ℕ → VariableId → GivenVariable
 pair_at i y = record { callee = record { 0 = i }; caller = y }

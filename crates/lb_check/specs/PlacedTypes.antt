@@ -2,7 +2,7 @@
 -- kept of them.
 -- This file mirrors code (src/placed_types.rt, src/found_types.rt); no definition of the language
 -- stands on it.
-use Rattle.std.specs.Prelude.{◌≡◌, ℕ, ◌-◌, ◌<◌, min, Option, Some, None, List, Vec}
+use Rattle.std.specs.Prelude.{◌≡◌, ℕ, ◌-◌, ◌<◌, min, Option, Some, None, option_map, List, Vec}
 use Rattle.std.specs.Prelude.{[], ◌∷◌, ◌++◌, flat_map, length, map, reverse, take, drop, slice_get}
 use Rattle.std.specs.Prelude.{sum_by}
 use Rattle.std.specs.Global.{Global}
@@ -12,6 +12,8 @@ use Rattle.lb_static.specs.declared.reach.Reached.{Reached}
 use Rattle.lb_static.specs.declared.table.Specialization.{Specialization}
 use Rattle.lb_static.specs.declared.table.Table.{Table}
 use Rattle.lb_static.specs.DataTypes.{DataType, int, product, total}
+use Rattle.lb_static.specs.StoredTypes.{view_types}
+use Rattle.lb_static.specs.declared.data_type.DataType as stored
 use Rattle.lb_static.specs.declared.resolved.ResolvedNode.{ResolvedNode}
 use Rattle.lb_static.specs.declared.resolved.ResolvedStatement.{ResolvedStatement}
 use Rattle.lb_static.specs.declared.resolved.ResolvedStatement.TheVariants as statement
@@ -21,7 +23,7 @@ use Rattle.lb_static.specs.declared.resolved.Term.{Current', When', Replicate', 
 use Rattle.lb_static.specs.declared.resolved.Term.{Join', Array', AtMostOne', Nor', Call'}
 use Rattle.lb_static.specs.declared.resolved.Term.{IterateNode', IterateSymbol', Row_of-Term}
 use Rattle.lb_static.specs.declared.resolved.Term.{end_of-Term, more_of-Term}
-use Rattle.lb_check.specs.TermTypes.{Context, context_of, results}
+use Rattle.lb_check.specs.TermTypes.{Context, context_of, results, type_of, types_of}
 use Rattle.lb_check.specs.Types.{only}
 use Rattle.lb_check.specs.declared.found_types.NodeTypes.{NodeTypes}
 use Rattle.lb_check.specs.declared.found_types.TermType.{TermType}
@@ -89,6 +91,30 @@ abbrev pub specialization_types : Reached → Table → Specialization → List 
 specialization_types r t s =
     listed (λ (n : ResolvedNode). node_types (context_of r t n s) n)
     (slice_get r.nodes.items s.node.0)
+
+-- ## What a walk over a term finds
+
+-- the types of the results of parts, as the walk holds them
+abbrev pub parts_in : List (Option (Vec stored.DataType Global)) → List FoundTypes
+parts_in parts = map (option_map view_types) parts
+
+-- the parts of a term are added against the order of the text, and its type is known
+abbrev pub IsWalked :
+    Context → Term → (before after : List FoundTypes) → Option DataType → Type 0
+IsWalked ctx e before after own =
+    (own ≡ type_of ctx e) × (after ≡ before ++ reverse (placed_types ctx e))
+
+-- and those of terms in a row
+abbrev pub IsRowWalked :
+    Context → List Term → (before after : List FoundTypes) → Option (List DataType) → Type 0
+IsRowWalked ctx es before after row =
+    (row ≡ types_of ctx es) × (after ≡ before ++ reverse (placed_all_types ctx es))
+
+-- one more type of a row
+abbrev pub with_one : Option (List DataType) → Option DataType → Option (List DataType)
+with_one None own = None
+with_one (Some row) None = None
+with_one (Some row) (Some own) = Some (row ++ own ∷ [])
 
 -- ## What is kept of types
 

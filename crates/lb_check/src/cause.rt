@@ -114,6 +114,28 @@ pub fn variable_name(
     }
 }
 
+/// Adds the names of some declarations.
+fn add_names<'t>(
+    names: &mut Vec<&'t Name>,
+    declarations: &'t [Declarations],
+) -> Result<(), AllocError> {
+    for group in declarations {
+        for name in &group.names {
+            names.push(name)?;
+        }
+    }
+    Ok(())
+}
+
+/// The names of the variables of a node, by their places.
+pub fn variable_names<'t>(alloc: Global, node: &'t Node) -> Result<Vec<&'t Name>, AllocError> {
+    let mut names = Vec::new(alloc);
+    add_names(&mut names, &node.inputs)?;
+    add_names(&mut names, &node.outputs)?;
+    add_names(&mut names, &node.locals)?;
+    Ok(names)
+}
+
 /// Where the variable of a declared clock stands.
 pub fn clock_offset(node: &Node, variable: VariableId) -> u32 {
     let Some(declared) = declared_variable(node, variable) else {

@@ -7,7 +7,7 @@ ghost use Rattle.std.specs.Prelude.{◌≡◌, IfOk, string_bytes};
 ghost use Rattle.lb_syntax.specs.Lists.{listed};
 ghost use Rattle.lb_static.specs.ReachedNodes.{tree_at};
 
-use crate::call_clock::{Given, expected, outputs_of, result_clock};
+use crate::call_clock::{Given, expected, outputs_of, result_clock, variable_of};
 use crate::cause::{clock_offset, name_of, part_offset, path_to_node};
 use crate::clock_fault::{ClockFault, ClockRule};
 use crate::clock_reason::{
@@ -18,78 +18,132 @@ use crate::clock_set::{ClockSet, Operand};
 use crate::own_clock::{Clock, is_same};
 use crate::part::{IllFormed, Part};
 use crate::sites::{Site, left_offset, operand_at, right_side, ungrouped};
-use crate::term_clock::{ClockEnv, infer_clock, operands_of};
+use crate::term_clock::{ClockEnv, infer_clock, row_clock_set, unary_clock_set};
 use lb_static::{CallId, Reached, ResolvedNode, ResolvedStatement, Table, Term, VariableId};
 use lb_syntax::{Expr, Statement};
 use std::alloc::{AllocError, Global};
 
-/// Whether a term stands on no clock.
-fn is_unclocked(alloc: Global, env: &ClockEnv, term: &Term) -> Result<bool, AllocError> {
-    match infer_clock(alloc, env, term)? {
-        ClockSet::NoClock => Ok(true),
-        ClockSet::AnyClock | ClockSet::OneClock(_) => Ok(false),
+/// What is found of a term, from what is found of its operands.
+#[derive(Clone, Copy)]
+enum Clocking<'t> {
+    /// It stands on these clocks.
+    Clocked(ClockSet),
+    /// This part stands on no clock, though each of its operands stands on one.
+    Unclocked(Site<'t>),
+}
+
+/// What is found of terms in a row.
+#[derive(Drop)]
+enum RowClocking<'t> {
+    Clocked(Vec<Operand>),
+    Unclocked(Site<'t>),
+}
+
+/// What is found of a term of which each operand stands on a clock.
+fn own_clocking<'t>(clock_set: ClockSet, site: Site<'t>) -> Clocking<'t> {
+    match clock_set {
+        ClockSet::NoClock => Clocking::Unclocked(site),
+        ClockSet::AnyClock | ClockSet::OneClock(_) => Clocking::Clocked(clock_set),
     }
 }
 
-/// The innermost part on no clock of some terms, which stand in a row in an expression.
-#[cycle(unclocked)]
-fn unclocked_among<'t>(
+/// What is found of some terms, which stand in a row in an expression.
+#[cycle(clockings)]
+fn clocked_row<'t>(
     alloc: Global,
     env: &ClockEnv,
     terms: &'t [Term],
     expr: &'t Expr,
-) -> Result<Option<Site<'t>>, AllocError> {
+) -> Result<RowClocking<'t>, AllocError> {
+    let mut operands = Vec::new(alloc);
     for (place, term) in terms.iter().enumerate() {
-        let found = unclocked(alloc, env, term, operand_at(expr, place))?;
-        if found.is_some() {
-            return Ok(found);
+        match clocked_term(alloc, env, term, operand_at(expr, place))? {
+            Clocking::Clocked(clock_set) => operands.push(Operand {
+                clock_set,
+                variable: variable_of(term),
+            })?,
+            Clocking::Unclocked(site) => return Ok(RowClocking::Unclocked(site)),
         }
     }
-    Ok(None)
+    Ok(RowClocking::Clocked(operands))
 }
 
-/// The innermost part on no clock of a term: none where it stands on one.
-#[cycle(unclocked)]
-fn unclocked<'t>(
+/// What is found of a term with two operands, of which this is found.
+fn pair_clocking<'t>(site: Site<'t>, left: Clocking<'t>, right: Clocking<'t>) -> Clocking<'t> {
+    match (left, right) {
+        (Clocking::Clocked(left), Clocking::Clocked(right)) => {
+            own_clocking(left.both(right), site)
+        }
+        (Clocking::Unclocked(inner), _) => Clocking::Unclocked(inner),
+        (_, unclocked) => unclocked,
+    }
+}
+
+/// What is found of a choice, of whose condition and branches this is found.
+fn choice_clocking<'t>(
+    site: Site<'t>,
+    condition: Clocking<'t>,
+    left: Clocking<'t>,
+    right: Clocking<'t>,
+) -> Clocking<'t> {
+    match condition {
+        Clocking::Clocked(condition) => match pair_clocking(site, left, right) {
+            Clocking::Clocked(branches) => own_clocking(condition.both(branches), site),
+            unclocked => unclocked,
+        },
+        unclocked => unclocked,
+    }
+}
+
+/// What is found of a term: each part is looked at once.
+#[cycle(clockings)]
+fn clocked_term<'t>(
     alloc: Global,
     env: &ClockEnv,
     term: &'t Term,
     expr: &'t Expr,
-) -> Result<Option<Site<'t>>, AllocError> {
-    if !is_unclocked(alloc, env, term)? {
-        return Ok(None);
-    }
-    let inner = match term {
-        Term::Literal(_) | Term::Truth(_) | Term::Value(_) | Term::Variable(_) => None,
-        Term::Group(e)
-        | Term::Unary(_, e)
+) -> Result<Clocking<'t>, AllocError> {
+    let site = Site { term, expr };
+    match term {
+        Term::Literal(_) | Term::Truth(_) | Term::Value(_) | Term::Variable(_) => {
+            Ok(own_clocking(infer_clock(alloc, env, term)?, site))
+        }
+        Term::Group(e) => clocked_term(alloc, env, e, operand_at(expr, 0)),
+        Term::Unary(_, e)
         | Term::Pre(e)
         | Term::Current(e)
         | Term::When(e, _, _)
         | Term::Replicate(e, _)
         | Term::Index(e, _)
-        | Term::Slice(e, _, _) => unclocked(alloc, env, e, operand_at(expr, 0))?,
-        Term::Binary(_, a, b) | Term::Arrow(a, b) | Term::Fby(a, b) | Term::Join(a, b) => {
-            match unclocked(alloc, env, a, operand_at(expr, 0))? {
-                Some(site) => Some(site),
-                None => unclocked(alloc, env, b, operand_at(expr, 1))?,
+        | Term::Slice(e, _, _) => match clocked_term(alloc, env, e, operand_at(expr, 0))? {
+            Clocking::Clocked(operand) => {
+                Ok(own_clocking(unary_clock_set(env, term, operand), site))
             }
-        }
-        Term::If(c, a, b) => match unclocked(alloc, env, c, operand_at(expr, 0))? {
-            Some(site) => Some(site),
-            None => match unclocked(alloc, env, a, operand_at(expr, 1))? {
-                Some(site) => Some(site),
-                None => unclocked(alloc, env, b, operand_at(expr, 2))?,
-            },
+            unclocked => Ok(unclocked),
         },
+        Term::Binary(_, a, b) | Term::Arrow(a, b) | Term::Fby(a, b) | Term::Join(a, b) => {
+            let left = clocked_term(alloc, env, a, operand_at(expr, 0))?;
+            let right = clocked_term(alloc, env, b, operand_at(expr, 1))?;
+            Ok(pair_clocking(site, left, right))
+        }
+        Term::If(c, a, b) => {
+            let condition = clocked_term(alloc, env, c, operand_at(expr, 0))?;
+            let left = clocked_term(alloc, env, a, operand_at(expr, 1))?;
+            let right = clocked_term(alloc, env, b, operand_at(expr, 2))?;
+            Ok(choice_clocking(site, condition, left, right))
+        }
         Term::Array(terms)
         | Term::AtMostOne(terms)
         | Term::Nor(terms)
         | Term::Call(_, terms)
         | Term::IterateNode(_, _, terms)
-        | Term::IterateSymbol(_, _, _, terms) => unclocked_among(alloc, env, terms, expr)?,
-    };
-    Ok(Some(inner.unwrap_or(Site { term, expr })))
+        | Term::IterateSymbol(_, _, _, terms) => match clocked_row(alloc, env, terms, expr)? {
+            RowClocking::Clocked(operands) => {
+                Ok(own_clocking(row_clock_set(env, term, &operands), site))
+            }
+            RowClocking::Unclocked(site) => Ok(Clocking::Unclocked(site)),
+        },
+    }
 }
 
 /// The first left variable, counted from 0, that stands on another clock than this one.
@@ -190,9 +244,9 @@ fn called_reason(
 
 /// Why a term stands on no clock.
 fn term_reason(alloc: Global, env: &ClockEnv, whole: Site) -> Result<ClockReason, AllocError> {
-    match unclocked(alloc, env, whole.term, whole.expr)? {
-        Some(site) => clock_reason(alloc, env, site),
-        None => clock_reason(alloc, env, whole),
+    match clocked_term(alloc, env, whole.term, whole.expr)? {
+        Clocking::Unclocked(site) => clock_reason(alloc, env, site),
+        Clocking::Clocked(_) => clock_reason(alloc, env, whole),
     }
 }
 
@@ -206,10 +260,10 @@ fn call_equation_reason(
     terms: &[Term],
     statement: &Statement,
 ) -> Result<ClockReason, AllocError> {
-    if let Some(inner) = unclocked_among(alloc, env, terms, site.expr)? {
-        return clock_reason(alloc, env, inner);
-    }
-    let operands = operands_of(alloc, env, terms)?;
+    let operands = match clocked_row(alloc, env, terms, site.expr)? {
+        RowClocking::Clocked(operands) => operands,
+        RowClocking::Unclocked(inner) => return clock_reason(alloc, env, inner),
+    };
     match env.callee(call) {
         Some(callee) => called_reason(alloc, env, site, callee, &operands, lefts, statement),
         None => Ok(of_rule(ClockRule::Argument(1), site.offset())),

@@ -1,13 +1,14 @@
 //! Why a term stands on no clock, where its operands stand on one (E10).
 
 use crate::call_clock::{Given, base_clock, expected, inputs_of, is_base_clocked, parameters};
-use crate::cause::variable_name;
+use crate::cause::variable_names;
 use crate::clock_fault::{ClockRule, ClockSign, SourceClock};
 use crate::clock_set::{ClockSet, Operand};
 use crate::own_clock::{Clock, parent};
 use crate::sites::Site;
 use crate::term_clock::{ClockEnv, infer_clock, operands_of};
 use lb_static::{ResolvedNode, Term, Variable, VariableId};
+use lb_syntax::Name;
 use std::alloc::{AllocError, Global};
 
 /// What is wrong with a part of a node, where it stands, and on which clock it is and should be.
@@ -20,12 +21,21 @@ pub struct ClockReason {
     pub wanted: Option<SourceClock>,
 }
 
+/// The name of a variable again, of those by their places.
+fn name_at(alloc: Global, names: &[&Name], variable: VariableId) -> Result<String, AllocError> {
+    match names.get(variable.0) {
+        Some(name) => String::from_str(alloc, name.as_str()),
+        None => Ok(String::new(alloc)),
+    }
+}
+
 /// The signs on which a clock of a node rests, the last one first.
 fn signs_of(
     alloc: Global,
     node: &ResolvedNode,
     clock: Clock,
 ) -> Result<Vec<ClockSign>, AllocError> {
+    let names = variable_names(alloc, node.tree)?;
     let mut signs = Vec::new(alloc);
     let mut above = clock;
     for _ in 0..node.variables.len() {
@@ -33,7 +43,7 @@ fn signs_of(
             return Ok(signs);
         };
         signs.push(ClockSign {
-            variable: variable_name(alloc, node.tree, variable)?,
+            variable: name_at(alloc, &names, variable)?,
             sign,
         })?;
         match parent(node, above) {

@@ -1,7 +1,9 @@
 //! Which variables of a caller stand for clock parameters of a callee.
 
-ghost use Rattle.std.specs.Prelude.{◌≡◌, IfOk, OnOk, ◌++◌, ◌∷◌, []};
+ghost use Rattle.std.specs.Prelude.{◌≡◌, ◌+◌, ◌<◌, ◌||◌, ℕ, false, IfOk, OnOk, ◌++◌, ◌∷◌, []};
+ghost use Rattle.std.specs.Prelude.{get_or, length, take};
 ghost use Rattle.lb_syntax.specs.Lists.{listed};
+ghost use Rattle.lb_static.specs.declared.resolved.ResolvedNode.{ResolvedNode as Node};
 ghost use Rattle.lb_check.specs.PlacedClocks as placed_mirror;
 ghost use Rattle.lb_check.specs.StoredClocks.{given_in};
 
@@ -11,33 +13,44 @@ use crate::found_clocks::GivenVariable;
 use lb_static::{ResolvedNode, Sampling, VariableId};
 use std::alloc::{AllocError, Global};
 
-/// Whether a clock waits for the variable at this place.
-fn waits_at(place: usize, clock: Option<Sampling>) -> bool
-    ensures { result ≡ placed_mirror.waits_at place clock }
+/// Flags the variable that a clock waits for, if it has a flag.
+#[tactic(auto, using(crate::proofs::GivenRows::flag_more, crate::proofs::GivenRows::flag_past))]
+fn flag_awaited(awaited: &mut [bool], clock: Option<Sampling>)
+    ensures length_kept { length awaited.new ≡ length awaited.old }
+    ensures flagged { (i : ℕ) → i < length awaited.old → get_or awaited.new i false
+        ≡ (placed_mirror.waits_at i clock || get_or awaited.old i false) }
 {
-    match clock {
-        Some(clock) => clock.variable.0 == place,
-        None => false,
+    if let Some(clock) = clock {
+        let place = clock.variable.0;
+        if place < awaited.len() {
+            awaited[place] = true;
+        }
     }
 }
 
-/// Whether an input or output of a node waits for the variable at this place.
-fn is_awaited(node: &ResolvedNode, place: usize) -> bool
-    ensures { result ≡ placed_mirror.is_awaited node.now place }
+/// For each input and output of a node, whether one of them waits for it.
+#[tactic(auto, using(crate::proofs::GivenRows::waited_more))]
+fn awaited_parameters(alloc: Global, node: &ResolvedNode) -> Result<Vec<bool>, AllocError>
+    ensures length { IfOk result (λ awaited. length awaited.items
+        ≡ length (take (node.now.inputs + node.now.outputs) node.now.variables.items)) }
+    ensures flags { IfOk result (λ awaited.
+        placed_mirror.AreAwaited node.now awaited.items) }
 {
-    for variable in parameters(node) {
-        if waits_at(place, variable.clock) {
-            return true;
-        }
+    let parameters = parameters(node);
+    let mut awaited = vec![in alloc; false; parameters.len()]?;
+    for variable in parameters {
+        flag_awaited(&mut awaited, variable.clock);
     }
-    false
+    Ok(awaited)
 }
 
 /// What stands for the parameter at this place, if it is a clock parameter.
-fn given_variable(callee: &ResolvedNode, given: &Given, place: usize) -> Option<GivenVariable>
-    ensures { result ≡ placed_mirror.given_variable callee.now (given_in given.now) place }
+fn given_variable(awaited: &[bool], given: &Given, place: usize) -> Option<GivenVariable>
+    requires { place < length awaited.now }
+    ensures { (n : Node) → placed_mirror.AreAwaited n awaited.now →
+        result ≡ placed_mirror.given_variable n (given_in given.now) place }
 {
-    if !is_awaited(callee, place) {
+    if !awaited[place] {
         return None;
     }
     let variable = given.at(place)?;
@@ -60,19 +73,19 @@ fn add_given(pairs: &mut Vec<GivenVariable>, pair: Option<GivenVariable>) -> Res
     }
 }
 
-/// What stands for the clock parameters among the first so many parameters.
-fn given_below(
+/// What stands for the clock parameters of a node.
+fn given_where(
     alloc: Global,
-    callee: &ResolvedNode,
+    awaited: &[bool],
     given: &Given,
-    count: usize,
 ) -> Result<Vec<GivenVariable>, AllocError>
-    ensures { IfOk result (λ pairs. pairs.items
-        ≡ placed_mirror.given_from callee.now (given_in given.now) 0 count) }
+    ensures { (n : Node) → placed_mirror.AreAwaited n awaited.now →
+        IfOk result (λ pairs. pairs.items
+        ≡ placed_mirror.given_from n (given_in given.now) 0 (length awaited.now)) }
 {
     let mut pairs = Vec::new(alloc);
-    for place in 0..count {
-        add_given(&mut pairs, given_variable(callee, given, place))?;
+    for place in 0..awaited.len() {
+        add_given(&mut pairs, given_variable(awaited, given, place))?;
     }
     Ok(pairs)
 }
@@ -87,6 +100,10 @@ pub fn given_variables(
     ensures { IfOk result (λ pairs. pairs.items
         ≡ placed_mirror.given_variables callee.now operands.now lefts.now) }
 {
-    let given = &Given::Whole(callee.inputs, operands, lefts);
-    given_below(alloc, callee, given, parameters(callee).len())
+    let awaited = awaited_parameters(alloc, callee)?;
+    given_where(
+        alloc,
+        &awaited,
+        &Given::Whole(callee.inputs, operands, lefts),
+    )
 }

@@ -1,97 +1,57 @@
 //! The types of the terms of each specialization, for the layer above.
 
-ghost use Rattle.std.specs.Prelude.{◌≡◌, IfOk, OnOk};
+ghost use Rattle.std.specs.Prelude.{◌≡◌, option_map, IfOk, OnOk};
+ghost use Rattle.lb_static.specs.StoredTypes.{view_types};
 ghost use Rattle.lb_check.specs.PlacedTypes as placed_mirror;
 ghost use Rattle.lb_check.specs.StoredTypes.{context_in};
-ghost use Rattle.lb_check.specs.TermTypes as mirror;
 
 use crate::found_types::NodeTypes;
 use crate::type_env::TypeEnv;
-use crate::types::results;
-use lb_static::{Reached, ResolvedStatement, Specialization, Table, Term};
+use crate::walked_types::walk;
+use lb_static::{DataType, Reached, ResolvedStatement, Specialization, Table, Term};
 use std::alloc::{AllocError, Global};
 
 /// The greatest size of a program.
 const MOST: u32 = 65536;
 
-/// Notes the types of the results of a term, its parts apart.
-fn place_own(
-    alloc: Global,
-    env: &TypeEnv,
-    term: &Term,
-    found: &mut NodeTypes,
-) -> Result<(), AllocError>
+/// Notes what is found of a part of a term.
+fn note_part(part: &Option<Vec<DataType>>, found: &mut NodeTypes) -> Result<(), AllocError>
     ensures { OnOk result (placed_mirror.found_in found.new
         ≡ placed_mirror.with_term (placed_mirror.found_in found.old)
-        (mirror.results (context_in env.now) term.now)) }
+        (option_map view_types part.now)) }
 {
-    match results(alloc, env, term)? {
-        Some(types) => found.note(&types),
+    match part {
+        Some(types) => found.note(types),
         None => found.note(&[]),
     }
 }
 
-/// Notes the types of terms and of their parts.
-#[cycle(placing)]
-fn place_all(
-    alloc: Global,
-    env: &TypeEnv,
-    terms: &[Term],
-    found: &mut NodeTypes,
-) -> Result<(), AllocError>
+/// Notes what is found of the parts of a term.
+fn note_all(parts: &[Option<Vec<DataType>>], found: &mut NodeTypes) -> Result<(), AllocError>
     ensures { OnOk result (placed_mirror.found_in found.new
         ≡ placed_mirror.with_terms (placed_mirror.found_in found.old)
-        (placed_mirror.placed_all_types (context_in env.now) terms.now)) }
+        (placed_mirror.parts_in parts.now)) }
 {
-    for term in terms {
-        place(alloc, env, term, found)?;
+    for part in parts {
+        note_part(part, found)?;
     }
     Ok(())
 }
 
-/// Notes the types of the parts of a term, in text order.
-#[cycle(placing)]
-fn place(alloc: Global, env: &TypeEnv, term: &Term, found: &mut NodeTypes) -> Result<(), AllocError>
-    ensures { OnOk result (placed_mirror.found_in found.new
-        ≡ placed_mirror.with_terms (placed_mirror.found_in found.old)
-        (placed_mirror.placed_types (context_in env.now) term.now)) }
+/// The types of the results of the parts of a term, in text order.
+#[tactic(auto, using(crate::proofs::WalkedTypes::parts_turned))]
+fn parts_of(
+    alloc: Global,
+    env: &TypeEnv,
+    term: &Term,
+) -> Result<Vec<Option<Vec<DataType>>>, AllocError>
+    ensures { IfOk result (λ parts. placed_mirror.parts_in parts.items
+        ≡ placed_mirror.placed_types (context_in env.now) term.now) }
 {
-    match term {
-        Term::Group(e) => place(alloc, env, e, found),
-        Term::Literal(_) | Term::Truth(_) | Term::Value(_) | Term::Variable(_) => {
-            place_own(alloc, env, term, found)
-        }
-        Term::Unary(_, e)
-        | Term::Pre(e)
-        | Term::Current(e)
-        | Term::When(e, _, _)
-        | Term::Replicate(e, _)
-        | Term::Index(e, _)
-        | Term::Slice(e, _, _) => {
-            place_own(alloc, env, term, found)?;
-            place(alloc, env, e, found)
-        }
-        Term::Binary(_, a, b) | Term::Arrow(a, b) | Term::Fby(a, b) | Term::Join(a, b) => {
-            place_own(alloc, env, term, found)?;
-            place(alloc, env, a, found)?;
-            place(alloc, env, b, found)
-        }
-        Term::If(c, a, b) => {
-            place_own(alloc, env, term, found)?;
-            place(alloc, env, c, found)?;
-            place(alloc, env, a, found)?;
-            place(alloc, env, b, found)
-        }
-        Term::Array(terms)
-        | Term::AtMostOne(terms)
-        | Term::Nor(terms)
-        | Term::Call(_, terms)
-        | Term::IterateNode(_, _, terms)
-        | Term::IterateSymbol(_, _, _, terms) => {
-            place_own(alloc, env, term, found)?;
-            place_all(alloc, env, terms, found)
-        }
-    }
+    let mut parts = Vec::new(alloc);
+    walk(alloc, env, term, &mut parts)?;
+    parts.reverse();
+    Ok(parts)
 }
 
 /// Notes the types of a statement.
@@ -105,10 +65,8 @@ fn place_statement(
         ≡ placed_mirror.with_terms (placed_mirror.found_in found.old)
         (placed_mirror.statement_types (context_in env.now) statement.now)) }
 {
-    match statement {
-        ResolvedStatement::Equation(_, right) => place(alloc, env, right, found),
-        ResolvedStatement::Assertion(term) => place(alloc, env, term, found),
-    }
+    let (ResolvedStatement::Equation(_, term) | ResolvedStatement::Assertion(term)) = statement;
+    note_all(&parts_of(alloc, env, term)?, found)
 }
 
 /// What is found of the terms of a specialization.

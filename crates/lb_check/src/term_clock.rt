@@ -65,7 +65,7 @@ impl<'a, 's> ClockEnv<'a, 's> {
 }
 
 /// The clocks that a term with these operands in a row accepts.
-fn row_clock_set(env: &ClockEnv, term: &Term, operands: &[Operand]) -> ClockSet
+pub fn row_clock_set(env: &ClockEnv, term: &Term, operands: &[Operand]) -> ClockSet
     ensures { result ≡ mirror.row_clock_set (context_in env.now) term.now operands.now }
 {
     match term {
@@ -82,7 +82,7 @@ fn row_clock_set(env: &ClockEnv, term: &Term, operands: &[Operand]) -> ClockSet
 }
 
 /// The clocks that a term accepts whose one operand accepts these.
-fn unary_clock_set(env: &ClockEnv, term: &Term, operand: ClockSet) -> ClockSet
+pub fn unary_clock_set(env: &ClockEnv, term: &Term, operand: ClockSet) -> ClockSet
     ensures { result ≡ mirror.unary_clock_set (context_in env.now) term.now operand }
 {
     match term {
@@ -111,6 +111,20 @@ pub fn operands_of(
         })?;
     }
     Ok(operands)
+}
+
+/// The clocks that all of some terms accept.
+#[inline(always)]
+#[cycle(clock_sets)]
+fn all_together(alloc: Global, env: &ClockEnv, terms: &[Term]) -> Result<ClockSet, AllocError>
+    ensures { IfOk result (λ s.
+        s ≡ mirror.together (mirror.operands_of (context_in env.now) terms.now)) }
+{
+    let mut clock_set = ClockSet::AnyClock;
+    for term in terms {
+        clock_set = clock_set.both(infer_clock(alloc, env, term)?);
+    }
+    Ok(clock_set)
 }
 
 /// Where a term may stand whose two operands, or the branches of whose choice, may stand there
@@ -158,9 +172,8 @@ pub fn infer_clock(alloc: Global, env: &ClockEnv, term: &Term) -> Result<ClockSe
         Term::Array(terms)
         | Term::AtMostOne(terms)
         | Term::Nor(terms)
-        | Term::Call(_, terms)
-        | Term::IterateNode(_, _, terms)
-        | Term::IterateSymbol(_, _, _, terms) => {
+        | Term::IterateSymbol(_, _, _, terms) => all_together(alloc, env, terms),
+        Term::Call(_, terms) | Term::IterateNode(_, _, terms) => {
             Ok(row_clock_set(env, term, &operands_of(alloc, env, terms)?))
         }
     }

@@ -7,76 +7,143 @@ ghost use Rattle.lb_syntax.specs.Lists.{listed};
 ghost use Rattle.lb_static.specs.ReachedNodes.{tree_at};
 
 use crate::cause::{clock_offset, name_of, part_offset, path_to_specialization};
+use crate::operand_types::{common_type, only, when_truth};
 use crate::part::Part;
 use crate::sites::{Site, left_offset, operand_at, right_side, ungrouped};
 use crate::type_env::TypeEnv;
 use crate::type_fault::{TypeFault, TypeRule};
 use crate::type_reason::{TypeReason, all_shown, copy_shown, scalar, shown, type_reason};
 use crate::type_rules::IllTyped;
-use crate::types::{results, type_of};
+use crate::types::{one_type, results, row_results, two_types, type_of};
 use lb_static::{DataType, Reached, ResolvedStatement, Table, Term, VariableId};
 use lb_syntax::{Expr, Kind, Statement};
 use std::alloc::{AllocError, Global};
 
-/// The innermost part without a type of some terms, which stand in a row in an expression.
-#[cycle(untyped)]
-fn untyped_among<'t>(
+/// What is found of a term, from what is found of its operands.
+#[derive(Drop)]
+enum Typing<'t> {
+    /// It has this type.
+    Typed(DataType),
+    /// This part has no type, though each of its operands has one.
+    Untyped(Site<'t>),
+}
+
+/// What is found of terms in a row.
+#[derive(Drop)]
+enum RowTyping<'t> {
+    Typed(Vec<DataType>),
+    Untyped(Site<'t>),
+}
+
+/// What is found of a term of which each operand has a type.
+fn own_typing<'t>(data_type: Option<DataType>, site: Site<'t>) -> Typing<'t> {
+    match data_type {
+        Some(data_type) => Typing::Typed(data_type),
+        None => Typing::Untyped(site),
+    }
+}
+
+/// What is found of some terms, which stand in a row in an expression.
+#[cycle(typings)]
+fn typed_row<'t>(
     alloc: Global,
     env: &TypeEnv,
     terms: &'t [Term],
     expr: &'t Expr,
-) -> Result<Option<Site<'t>>, AllocError> {
+) -> Result<RowTyping<'t>, AllocError> {
+    let mut types = Vec::new(alloc);
     for (place, term) in terms.iter().enumerate() {
-        let found = untyped(alloc, env, term, operand_at(expr, place))?;
-        if found.is_some() {
-            return Ok(found);
+        match typed_term(alloc, env, term, operand_at(expr, place))? {
+            Typing::Typed(data_type) => types.push(data_type)?,
+            Typing::Untyped(site) => return Ok(RowTyping::Untyped(site)),
         }
     }
-    Ok(None)
+    Ok(RowTyping::Typed(types))
 }
 
-/// The innermost part without a type of a term: none where it has a type.
-#[cycle(untyped)]
-fn untyped<'t>(
+/// What is found of a term with two operands, of which this is found.
+fn pair_typing<'t>(
+    alloc: Global,
+    env: &TypeEnv,
+    site: Site<'t>,
+    left: Typing<'t>,
+    right: Typing<'t>,
+) -> Result<Typing<'t>, AllocError> {
+    match (left, right) {
+        (Typing::Typed(left), Typing::Typed(right)) => {
+            let own = two_types(alloc, env, site.term, Some(left), Some(right))?;
+            Ok(own_typing(own, site))
+        }
+        (Typing::Untyped(inner), _) => Ok(Typing::Untyped(inner)),
+        (_, untyped) => Ok(untyped),
+    }
+}
+
+/// What is found of a choice, of whose condition and branches this is found.
+fn choice_typing<'t>(
+    site: Site<'t>,
+    condition: Typing<'t>,
+    left: Typing<'t>,
+    right: Typing<'t>,
+) -> Typing<'t> {
+    match (condition, left, right) {
+        (Typing::Typed(condition), Typing::Typed(left), Typing::Typed(right)) => {
+            let chosen = common_type(Some(left), Some(right));
+            own_typing(when_truth(Some(condition), chosen), site)
+        }
+        (Typing::Untyped(inner), _, _) => Typing::Untyped(inner),
+        (_, Typing::Untyped(inner), _) => Typing::Untyped(inner),
+        (_, _, untyped) => untyped,
+    }
+}
+
+/// What is found of a term: each part is looked at once.
+#[cycle(typings)]
+fn typed_term<'t>(
     alloc: Global,
     env: &TypeEnv,
     term: &'t Term,
     expr: &'t Expr,
-) -> Result<Option<Site<'t>>, AllocError> {
-    if type_of(alloc, env, term)?.is_some() {
-        return Ok(None);
-    }
-    let inner = match term {
-        Term::Literal(_) | Term::Truth(_) | Term::Value(_) | Term::Variable(_) => None,
-        Term::Group(e)
-        | Term::Unary(_, e)
+) -> Result<Typing<'t>, AllocError> {
+    let site = Site { term, expr };
+    match term {
+        Term::Literal(_) | Term::Truth(_) | Term::Value(_) | Term::Variable(_) => {
+            Ok(own_typing(type_of(alloc, env, term)?, site))
+        }
+        Term::Group(e) => typed_term(alloc, env, e, operand_at(expr, 0)),
+        Term::Unary(_, e)
         | Term::Pre(e)
         | Term::Current(e)
         | Term::When(e, _, _)
         | Term::Replicate(e, _)
         | Term::Index(e, _)
-        | Term::Slice(e, _, _) => untyped(alloc, env, e, operand_at(expr, 0))?,
-        Term::Binary(_, a, b) | Term::Arrow(a, b) | Term::Fby(a, b) | Term::Join(a, b) => {
-            match untyped(alloc, env, a, operand_at(expr, 0))? {
-                Some(site) => Some(site),
-                None => untyped(alloc, env, b, operand_at(expr, 1))?,
-            }
-        }
-        Term::If(c, a, b) => match untyped(alloc, env, c, operand_at(expr, 0))? {
-            Some(site) => Some(site),
-            None => match untyped(alloc, env, a, operand_at(expr, 1))? {
-                Some(site) => Some(site),
-                None => untyped(alloc, env, b, operand_at(expr, 2))?,
-            },
+        | Term::Slice(e, _, _) => match typed_term(alloc, env, e, operand_at(expr, 0))? {
+            Typing::Typed(operand) => Ok(own_typing(one_type(alloc, env, term, operand)?, site)),
+            untyped => Ok(untyped),
         },
+        Term::Binary(_, a, b) | Term::Arrow(a, b) | Term::Fby(a, b) | Term::Join(a, b) => {
+            let left = typed_term(alloc, env, a, operand_at(expr, 0))?;
+            let right = typed_term(alloc, env, b, operand_at(expr, 1))?;
+            pair_typing(alloc, env, site, left, right)
+        }
+        Term::If(c, a, b) => {
+            let condition = typed_term(alloc, env, c, operand_at(expr, 0))?;
+            let left = typed_term(alloc, env, a, operand_at(expr, 1))?;
+            let right = typed_term(alloc, env, b, operand_at(expr, 2))?;
+            Ok(choice_typing(site, condition, left, right))
+        }
         Term::Array(terms)
         | Term::AtMostOne(terms)
         | Term::Nor(terms)
         | Term::Call(_, terms)
         | Term::IterateNode(_, _, terms)
-        | Term::IterateSymbol(_, _, _, terms) => untyped_among(alloc, env, terms, expr)?,
-    };
-    Ok(Some(inner.unwrap_or(Site { term, expr })))
+        | Term::IterateSymbol(_, _, _, terms) => match typed_row(alloc, env, terms, expr)? {
+            RowTyping::Typed(types) => {
+                Ok(own_typing(only(row_results(alloc, env, term, &types)?), site))
+            }
+            RowTyping::Untyped(site) => Ok(Typing::Untyped(site)),
+        },
+    }
 }
 
 /// Why a right side has no types of results.
@@ -87,9 +154,9 @@ fn side_reason(
     expr: &Expr,
 ) -> Result<TypeReason, AllocError> {
     let whole = ungrouped(right, expr);
-    match untyped(alloc, env, whole.term, whole.expr)? {
-        Some(site) => type_reason(alloc, env, site),
-        None => type_reason(alloc, env, whole),
+    match typed_term(alloc, env, whole.term, whole.expr)? {
+        Typing::Untyped(site) => type_reason(alloc, env, site),
+        Typing::Typed(_) => type_reason(alloc, env, whole),
     }
 }
 

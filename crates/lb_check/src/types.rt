@@ -112,7 +112,7 @@ fn symbol_results(
 }
 
 /// The types of the results of a term whose operands, in a row, have these types.
-fn row_results(
+pub fn row_results(
     alloc: Global,
     env: &TypeEnv,
     term: &Term,
@@ -139,7 +139,7 @@ fn row_results(
 
 /// The type of a term with one operand of this type.
 #[inline(always)]
-fn one_type(
+pub fn one_type(
     alloc: Global,
     env: &TypeEnv,
     term: &Term,
@@ -200,7 +200,7 @@ fn operand_results(
 /// The type of a term whose two operands, or the branches of whose choice, have these types.
 #[inline(always)]
 #[cycle(typing)]
-fn two_types(
+pub fn two_types(
     alloc: Global,
     env: &TypeEnv,
     term: &Term,

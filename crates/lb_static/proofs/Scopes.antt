@@ -1,26 +1,25 @@
 -- Names that are declared once each: one more declaration, and the place of a name.
 use Rattle.std.proofs.Common.{◌≡◌, ℕ, suc, ◌+◌, Bool, true, false, cond, List, [], ◌∷◌, ◌++◌}
-use Rattle.std.proofs.Common.{length, map, Some, None, refl, ap, sym, ◌∙◌, subst, arith}
-use Rattle.std.specs.Prelude.{◌&&◌, ◌||◌, not, nat_lt, position, slice_get, if◌then◌else◌}
+use Rattle.std.proofs.Common.{length, map, Option, Some, None, refl, ap, sym, ◌∙◌}
+use Rattle.std.proofs.Common.{subst, arith}
+use Rattle.std.specs.Prelude.{◌&&◌, ◌||◌, not, nat_lt, option_map, position, slice_get}
+use Rattle.std.specs.Prelude.{String}
 use Rattle.std.proofs.lemmas.Bool.Decides.{nat_tests}
-use Rattle.std.proofs.lemmas.List.{length-map, map-append}
-use Rattle.std.specs.List.{list_any, prefix_len, position_or_len}
+use Rattle.std.proofs.lemmas.List.{length-map}
+use Rattle.std.specs.BTreeMap.{BTreeMap, get_by_text}
+use Rattle.std.specs.List.{prefix_len, position_or_len}
 use Rattle.std.specs.Str.{bytes_eq}
 use Rattle.std.proofs.lemmas.Slice.Eq.{bytes_eq-Decides}
 use Rattle.std.proofs.Math.Bool.{or_assoc, or-false}
 use Rattle.std.proofs.lemmas.Bool.{and_right, or_right}
+use Rattle.lb_syntax.proofs.TruthValues.{or_first, or_second}
 use Rattle.lb_syntax.specs.Tree.{Name}
 use Rattle.lb_static.specs.Parts.{among}
 use Rattle.lb_static.specs.CountedNames.{are_once, counted}
 use Rattle.lb_static.specs.Names.{are_distinct}
-use Rattle.lb_static.specs.Scopes.{declared_after}
+use Rattle.lb_static.specs.Scopes.{ArePlaced}
 
 -- ## A list under a view
-
-pub any_map : {A B : Type 0} (p : B → Bool) (g : A → B) (xs : List A)
-    → list_any (λ x. p (g x)) xs ≡ list_any p (map g xs)
-any_map p g [] = refl
-any_map p g (x ∷ xs) = ap (λ b. p (g x) || b) (any_map p g xs)
 
 prefix_map : {A B : Type 0} (p : B → Bool) (g : A → B) (xs : List A)
     → prefix_len (λ x. p (g x)) xs ≡ prefix_len p (map g xs)
@@ -35,19 +34,6 @@ position_map p g xs =
     None) (sym (length-map xs g))
 
 -- ## One more name
-
-after_view : {A : Type 0} (g : A → Name) (ks : List A) (k : A) (b : Bool)
-    → map g (if b then ks else ks ++ k ∷ []) ≡ (if b then map g ks else map g ks ++ g k ∷ [])
-after_view g ks k true = refl
-after_view g ks k false = map-append g ks (k ∷ [])
-
--- the view of the keys after one more insertion
-pub view_declared : {A : Type 0} (g : A → Name) (ks after : List A) (k : A)
-    → after ≡ (if list_any (λ x. bytes_eq (g k) (g x)) ks then ks else ks ++ k ∷ [])
-    → map g after ≡ declared_after (map g ks) (g k)
-view_declared g ks after k e =
-    ap (map g) e ∙ after_view g ks k (list_any (λ x. bytes_eq (g k) (g x)) ks)
-    ∙ ap (λ b. if b then map g ks else map g ks ++ g k ∷ []) (any_map (bytes_eq (g k)) g ks)
 
 pub bytes_eq-symmetric : (x y : Name) → bytes_eq x y ≡ bytes_eq y x
 bytes_eq-symmetric x y = by (bytes_eq x y) (bytes_eq y x) refl refl
@@ -85,14 +71,87 @@ distinct_more (y ∷ xs) x =
     ∙ ap (λ b. not (among y xs || bytes_eq x y) && b) (distinct_more xs x)
     ∙ distinct_step (among y xs) (among x xs) (bytes_eq x y) (are_distinct xs)
 
-distinct_either : (xs : List Name) (x : Name) (b : Bool) → among x xs ≡ b → are_distinct xs ≡ true
-    → are_distinct (if b then xs else xs ++ x ∷ []) ≡ true
-distinct_either xs x true e d = d
-distinct_either xs x false e d = distinct_more xs x ∙ ap (λ c. c && not (among x xs)) d ∙ ap not e
+-- ## Where names are found
 
-pub distinct_declared : (xs : List Name) (x : Name) → are_distinct xs ≡ true
-    → are_distinct (declared_after xs x) ≡ true
-distinct_declared xs x d = distinct_either xs x (among x xs) refl d
+-- the first place in a list that has one more item before the others
+position_longer : {A : Type 0} (p : A → Bool) (y : A) (ys : List A)
+    → position p (y ∷ ys) ≡ cond (p y) (Some 0) (option_map (λ i. 1 + i) (position p ys))
+position_longer p y ys = by (p y) (position_or_len p ys)
+  where
+    mapped : (n : ℕ) (b : Bool)
+        → cond b (Some (1 + n)) None ≡ option_map (λ i. 1 + i) (cond b (Some n) None)
+    mapped n true = refl
+    mapped n false = refl
+
+    in_front : (n : ℕ) → nat_lt (1 + n) (length (y ∷ ys)) ≡ nat_lt n (length ys)
+    in_front n = grind (arith, nat_tests)
+
+    by : (b : Bool) (n : ℕ)
+        → cond (nat_lt (cond (not b) (1 + n) 0) (length (y ∷ ys)))
+        (Some (cond (not b) (1 + n) 0)) None
+        ≡ cond b (Some 0) (option_map (λ i. 1 + i) (cond (nat_lt n (length ys)) (Some n) None))
+    by true n = let f : nat_lt 0 (length (y ∷ ys)) ≡ true = grind (arith, nat_tests) in rw f refl
+    by false n =
+        ap (λ b. cond b (Some (1 + n)) None) (in_front n) ∙ mapped n (nat_lt n (length ys))
+
+same_as : (x y : Name) → bytes_eq x y ≡ true → x ≡ y
+same_as x y = (bytes_eq-Decides x y).0
+
+-- the place of each name, where one that is new is declared after the others
+pub placed_more : (ns : List Name) (x q : Name) → among x ns ≡ false
+    → cond (bytes_eq x q) (Some (length ns)) (position (bytes_eq q) ns)
+    ≡ position (bytes_eq q) (ns ++ x ∷ [])
+placed_more [] x q a =
+    ap (λ b. cond b (Some 0) None) (bytes_eq-symmetric x q)
+    ∙ sym (position_longer (bytes_eq q) x [])
+placed_more (y ∷ ns) x q a =
+    ap (cond (bytes_eq x q) (Some (length (y ∷ ns)))) (position_longer (bytes_eq q) y ns)
+    ∙ by (or_first (bytes_eq x y) (among x ns) a) (bytes_eq q y) (bytes_eq x q) refl refl
+    (placed_more ns x q (or_second (bytes_eq x y) (among x ns) a))
+    ∙ sym (position_longer (bytes_eq q) y (ns ++ x ∷ []))
+  where
+    later : ℕ → ℕ
+    later i = 1 + i
+
+    both : bytes_eq x y ≡ false → bytes_eq q y ≡ true → bytes_eq x q ≡ true → ⊥
+    both apart there here =
+        let e : bytes_eq x y ≡ true =
+        (bytes_eq-Decides x y).1 (same_as x q here ∙ same_as q y there) in
+        absurd cc
+
+    mapped : (c : Bool) (o : Option ℕ) → cond c (Some (length (y ∷ ns))) (option_map later o)
+        ≡ option_map later (cond c (Some (length ns)) o)
+    mapped true o = let e : length (y ∷ ns) ≡ 1 + length ns = omega arith in ap Some e
+    mapped false o = refl
+
+    by : bytes_eq x y ≡ false → (b c : Bool) → bytes_eq q y ≡ b → bytes_eq x q ≡ c
+        → cond (bytes_eq x q) (Some (length ns)) (position (bytes_eq q) ns)
+        ≡ position (bytes_eq q) (ns ++ x ∷ [])
+        → cond (bytes_eq x q) (Some (length (y ∷ ns)))
+        (cond (bytes_eq q y) (Some 0) (option_map later (position (bytes_eq q) ns)))
+        ≡ cond (bytes_eq q y) (Some 0) (option_map later (position (bytes_eq q) (ns ++ x ∷ [])))
+    by apart true true there here next = absurd (both apart there here)
+    by apart true false there here next = rw (there, here) refl
+    by apart false c there here next =
+        rw there (mapped (bytes_eq x q) (position (bytes_eq q) ns) ∙ ap (option_map later) next)
+
+-- one more name has its place in the map
+pub placed_after : {A : Type 0} (before after : BTreeMap (String A) ℕ) (ns ns' : List Name)
+    (key x : Name) (place : ℕ) → ArePlaced ns before → among x ns ≡ false → key ≡ x
+    → place ≡ length ns → ns' ≡ ns ++ x ∷ []
+    → ((q : Name) → get_by_text after q
+    ≡ cond (bytes_eq key q) (Some place) (get_by_text before q))
+    → ArePlaced ns' after
+placed_after before after ns ns' key x place h fresh is last more set = (
+  subst (λ l. are_distinct l ≡ true) (sym more)
+      (distinct_more ns x ∙ ap (λ b. b && not (among x ns)) h.0 ∙ ap not fresh),
+  λ q.
+      set q
+      ∙ ap (cond (bytes_eq key q) (Some place)) (h.1 q)
+      ∙ ap (λ k. cond (bytes_eq k q) (Some place) (position (bytes_eq q) ns)) is
+      ∙ ap (λ n. cond (bytes_eq x q) (Some n) (position (bytes_eq q) ns)) last
+      ∙ placed_more ns x q fresh ∙ sym (ap (position (bytes_eq q)) more),
+)
 
 -- ## A name that stands twice, and counts
 

@@ -7,28 +7,33 @@ ghost use Rattle.lb_static.specs.Parts.{among};
 ghost use Rattle.lb_static.specs.Names.{are_distinct};
 ghost use Rattle.lb_static.specs.Scopes.{declared_after};
 
-use indexmap::IndexSet;
 use std::alloc::{AllocError, Global};
+use std::collections::BTreeMap;
 use std::marker::Model;
 
 /// Names in the order of their declarations, each of them once.
 ///
+/// They are found in an ordered map: whoever writes a source picks its names, and a search in such
+/// a map takes no longer for any of them.
+///
 /// Contracts see a list of names (as bytes).
 #[derive(Drop)]
 pub struct Scope {
-    names: IndexSet<String>,
+    names: Vec<String>,
+    /// The place of each name.
+    places: BTreeMap<String, usize>,
 }
 
 impl Model for Scope {
-    ghost use Rattle.std.specs.Prelude.{◌≡◌, true, map, List, string_bytes};
+    ghost use Rattle.std.specs.Prelude.{map, List, string_bytes};
     ghost use Rattle.lb_syntax.specs.Tree.{Name};
-    ghost use Rattle.lb_static.specs.Names.{are_distinct};
+    ghost use Rattle.lb_static.specs.Scopes.{ArePlaced};
 
     ghost Value = { List Name };
 
-    ghost view = { λ s. map string_bytes s.names.keys };
+    ghost view = { λ s. map string_bytes s.names.items };
 
-    ghost invariant = { λ s. are_distinct (map string_bytes s.names.keys) ≡ true };
+    ghost invariant = { λ s. ArePlaced (map string_bytes s.names.items) s.places };
 }
 
 impl Scope {
@@ -37,7 +42,8 @@ impl Scope {
         ensures { result ≡ [] }
     {
         Scope {
-            names: IndexSet::new(alloc),
+            names: Vec::new(alloc),
+            places: BTreeMap::new(alloc),
         }
     }
 
@@ -48,8 +54,17 @@ impl Scope {
         ensures after { IfOk result (λ _. self.new ≡ declared_after self.old name.now) }
         ensures err { OnErr result (self.new ≡ self.old) }
     {
-        let (_, fresh) = self.names.insert_full(String::from_str(alloc, name)?)?;
-        Ok(fresh)
+        if self.places.get(name).is_some() {
+            return Ok(false);
+        }
+        let key = String::from_str(alloc, name)?;
+        let place = self.names.len();
+        self.names.push(String::from_str(alloc, name)?)?;
+        let Ok(_) = self.places.insert(key, place) else {
+            self.names.pop();
+            return Err(AllocError);
+        };
+        Ok(true)
     }
 
     /// The place of a name among those that are declared, from 0.
@@ -58,7 +73,7 @@ impl Scope {
         ensures within { IfSome result (λ i. i < length self.now) }
         ensures once { are_distinct self.now ≡ true }
     {
-        self.names.get_index_of(name)
+        self.places.get(name).copied()
     }
 
     /// Each name is declared once.

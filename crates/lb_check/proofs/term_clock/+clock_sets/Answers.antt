@@ -4,8 +4,8 @@ use Rattle.lb_check.specs.TermClocks as mirror
 use Rattle.lb_check.specs.TermClocks.{infer_clock}
 use Rattle.lb_check.specs.declared.clock_set.ClockSet.TheVariants.{OneClock}
 use Rattle.lb_check.proofs.ClockParts.{free_stands, pair_stands, single_stands}
-use Rattle.lb_check.proofs.ClockRows.{infer_clock_of_row}
-use Rattle.lb_check.proofs.LoopRows.{operands_more, operands_end}
+use Rattle.lb_check.proofs.ClockRows.{stands_called, stands_together}
+use Rattle.lb_check.proofs.LoopRows.{operands_more, operands_end, together_end, together_more}
 use Rattle.lb_check.proofs.term_clock.+clock_sets.Goals as goal
 
 -- ## The operands that some terms are
@@ -25,6 +25,25 @@ operands_of-returns t c =
     let l = c.loop-term in
     sym (operands_end ctx c.args.terms.now l.operands.items l.term-index l.invariant
     c.loop-term-test.false)
+
+-- ## Where some terms may stand together
+
+pub all_together-loop-term-preserved : goal.all_together-loop-term-preserved
+all_together-loop-term-preserved t c =
+    let ctx = context_in c.args.env.now in
+    let l = c.loop-term in
+    let all = c.args.terms.now in
+    together_more ctx all (mirror.together (mirror.operands_of ctx all)) l.clock_set l.term-index
+    l.invariant c.term-item.result c.in_ok-infer_clock.field-0 c.both-clock_set.result
+    c.loop-term-test.true c.term-item.is c.in_ok-infer_clock.ensures c.both-clock_set.ensures
+
+pub all_together-returns : goal.all_together-returns
+all_together-returns t c =
+    let ctx = context_in c.args.env.now in
+    let l = c.loop-term in
+    let all = c.args.terms.now in
+    sym (together_end ctx all (mirror.together (mirror.operands_of ctx all)) l.clock_set
+    l.term-index l.invariant c.loop-term-test.false)
 
 -- ## Where a term with two operands may stand
 
@@ -77,13 +96,22 @@ infer_clock-returns-in_ok-infer_clock-in-Binary t c =
     (ap (mirror.pair_clock_set ctx c.args.term.now) c.both-pair.ensures ∙ stands)
     c.pair_clock_set.ensures
 
-pub infer_clock-returns-in_ok-operands_of-in-Array :
-    goal.infer_clock-returns-in_ok-operands_of-in-Array
-infer_clock-returns-in_ok-operands_of-in-Array t c =
+pub infer_clock-returns-in-Array : goal.infer_clock-returns-in-Array
+infer_clock-returns-in-Array t c =
+    let ctx = context_in c.args.env.now in
+    let term = c.args.term.now in
+    subst (λ r. IfOk c.all_together.result (λ s. s ≡ r))
+    (ap (λ l. mirror.together (mirror.operands_of ctx l)) c.deref-in-Array.ensures.value
+    ∙ sym (stands_together ctx term c.in-Array.terms c.in-Array.is))
+    c.all_together.ensures
+
+pub infer_clock-returns-in_ok-operands_of-in-Call :
+    goal.infer_clock-returns-in_ok-operands_of-in-Call
+infer_clock-returns-in_ok-operands_of-in-Call t c =
     let ctx = context_in c.args.env.now in
     let term = c.args.term.now in
     c.row_clock_set.ensures
     ∙ ap (mirror.row_clock_set ctx term)
-    (c.deref-in-Array.ensures.value ∙ c.in_ok-operands_of-in-Array.ensures
+    (c.deref-in-Call.ensures.value ∙ c.in_ok-operands_of-in-Call.ensures
     ∙ ap (mirror.operands_of ctx) c.deref.ensures.value)
-    ∙ sym (infer_clock_of_row ctx term c.in-Array.terms c.in-Array.is)
+    ∙ sym (stands_called ctx term c.in-Call.terms c.in-Call.is)

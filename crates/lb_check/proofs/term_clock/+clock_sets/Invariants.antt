@@ -8,3 +8,9 @@ invariant-operands_of-loop-term l =
     let ctx = context_in l.env in
     mirror.operands_of ctx l.terms ≡ l.operands.items
     ++ mirror.operands_of ctx (drop l.term-index l.terms)
+
+abbrev pub invariant-all_together-loop-term : goal.invariant-all_together-loop-term
+invariant-all_together-loop-term l =
+    let of = mirror.operands_of (context_in l.env) in
+    mirror.together (of l.terms)
+    ≡ mirror.both l.clock_set (mirror.together (of (drop l.term-index l.terms)))

@@ -1,36 +1,80 @@
--- The view of the keys is that of the names before with the new name.
-use Rattle.std.proofs.Common.{◌≡◌, true, map, ap, sym, subst, ◌∙◌, string_bytes}
-use Rattle.std.specs.Prelude.{not}
+-- A name that is found stays where it is; one that is new goes last, and its place into the map.
+use Rattle.std.proofs.Common.{◌≡◌, ◌∙◌, ◌++◌, ◌∷◌, [], ℕ, Bool, true, false, cond, map, ap, sym, refl}
+use Rattle.std.proofs.Common.{Option, Some, None, arith, length, string_bytes}
+use Rattle.std.specs.Borrow.{Bor}
+use Rattle.std.specs.Prelude.{is_some, not, option_copied, if◌then◌else◌}
 use Rattle.std.specs.Str.{bytes_eq}
-use Rattle.lb_static.specs.Names.{are_distinct}
+use Rattle.std.proofs.lemmas.List.{length-map, map-append}
+use Rattle.std.proofs.lemmas.Map.Text.{btree_map_updates_text}
 use Rattle.lb_static.specs.Parts.{among}
 use Rattle.lb_static.specs.Scopes.{declared_after}
-use Rattle.lb_static.proofs.Scopes.{any_map, view_declared, distinct_declared}
+use Rattle.lb_static.proofs.ConstantPlaces.{is_found}
+use Rattle.lb_static.proofs.Scopes.{placed_after}
 use Rattle.lb_static.proofs.scope.Scope.declare.Goals as goal
 
-after : (c : goal.In_ok-fresh)
-    → map string_bytes c.insert_full.new.self.keys ≡ declared_after c.args.self.now c.args.name.now
-after c =
-    view_declared string_bytes c.self.inside.names.keys c.insert_full.new.self.keys
-    c.in_ok-from_str.field-0 c.in_ok-fresh.ensures.keys
-    ∙ ap (λ xs. declared_after xs (string_bytes c.in_ok-from_str.field-0)) c.self.view_is
-    ∙ ap (declared_after c.args.self.now) c.in_ok-from_str.ensures.ok
+copied : (r : Option (Bor ℕ)) → is_some r ≡ is_some (option_copied r)
+copied None = refl
+copied (Some x) = refl
 
-pub invariant_of-self-2 : goal.invariant_of-self-2
-invariant_of-self-2 c =
-    let before : are_distinct c.args.self.now ≡ true =
-    subst (λ xs. are_distinct xs ≡ true) c.self.view_is c.self.invariant in
-    subst (λ xs. are_distinct xs ≡ true) (sym (after c))
-    (distinct_declared c.args.self.now c.args.name.now before)
+pub returns-then-is_some-clause-fresh : goal.returns-then-is_some-clause-fresh
+returns-then-is_some-clause-fresh c =
+    let x = c.args.name.now in
+    let ns = map string_bytes c.self.inside.names.items in
+    let found = is_found (bytes_eq x) ns (option_copied c.get.result)
+    (c.get.ensures.value ∙ c.self.invariant.1 x) in
+    let there : among x c.args.self.now ≡ true =
+    ap (among x) (sym c.self.view_is) ∙ sym found ∙ sym (copied c.get.result)
+    ∙ sym c.is_some.ensures ∙ c.if-is_some.true in
+    ap not (sym there)
+
+pub returns-then-is_some-clause-after : goal.returns-then-is_some-clause-after
+returns-then-is_some-clause-after c =
+    let x = c.args.name.now in
+    let ns = map string_bytes c.self.inside.names.items in
+    let found = is_found (bytes_eq x) ns (option_copied c.get.result)
+    (c.get.ensures.value ∙ c.self.invariant.1 x) in
+    let there : among x c.args.self.now ≡ true =
+    ap (among x) (sym c.self.view_is) ∙ sym found ∙ sym (copied c.get.result)
+    ∙ sym c.is_some.ensures ∙ c.if-is_some.true in
+    ap (λ b. if b then c.args.self.now else c.args.self.now ++ x ∷ []) (sym there)
+
+-- the names with the new one at the end
+pushed : (c : goal.In-Ok)
+    → map string_bytes c.push.new.self.items
+    ≡ map string_bytes c.self.inside.names.items ++ c.args.name.now ∷ []
+pushed c =
+    ap (map string_bytes) c.in_ok-push.ensures.items
+    ∙ map-append string_bytes c.self.inside.names.items (c.in_ok-from_str.field-0 ∷ [])
+    ∙ ap (λ x. map string_bytes c.self.inside.names.items ++ x ∷ []) c.in_ok-from_str.ensures.ok
+
+-- the name is none of those before it
+fresh : (c : goal.In-Ok)
+    → among c.args.name.now (map string_bytes c.self.inside.names.items) ≡ false
+fresh c =
+    let x = c.args.name.now in
+    let ns = map string_bytes c.self.inside.names.items in
+    let found = is_found (bytes_eq x) ns (option_copied c.get.result)
+    (c.get.ensures.value ∙ c.self.invariant.1 x) in
+    sym found ∙ sym (copied c.get.result) ∙ sym c.is_some.ensures ∙ c.if-is_some.false
+
+pub invariant_of-self-in-Ok : goal.invariant_of-self-in-Ok
+invariant_of-self-in-Ok c =
+    let names = c.self.inside.names.items in
+    let last : c.len-place.result ≡ length names = omega (arith, c.len-place.ensures) in
+    placed_after c.self.inside.places c.insert.new.self (map string_bytes names)
+    (map string_bytes c.push.new.self.items) (string_bytes c.in_ok-key.key) c.args.name.now
+    c.len-place.result c.self.invariant (fresh c) c.in_ok-key.ensures.ok
+    (last ∙ sym (length-map names string_bytes)) (pushed c)
+    (btree_map_updates_text (string_bytes c.in_ok-key.key) c.self.inside.places
+    c.insert.new.self (Some c.len-place.result) c.in-Ok.ensures.updates)
 
 pub returns-clause-fresh : goal.returns-clause-fresh
 returns-clause-fresh c =
-    c.in_ok-fresh.ensures.added
-    ∙ ap not (any_map (bytes_eq (string_bytes c.in_ok-from_str.field-0)) string_bytes
-    c.self.inside.names.keys)
-    ∙ ap (λ x. not (among x (map string_bytes c.self.inside.names.keys)))
-    c.in_ok-from_str.ensures.ok
-    ∙ ap (λ xs. not (among c.args.name.now xs)) c.self.view_is
+    ap not (sym (ap (among c.args.name.now) (sym c.self.view_is) ∙ fresh c))
 
 pub returns-clause-after : goal.returns-clause-after
-returns-clause-after c = after c
+returns-clause-after c =
+    let x = c.args.name.now in
+    let ns = map string_bytes c.self.inside.names.items in
+    pushed c ∙ ap (λ b. if b then ns else ns ++ x ∷ []) (sym (fresh c))
+    ∙ ap (λ l. declared_after l x) c.self.view_is

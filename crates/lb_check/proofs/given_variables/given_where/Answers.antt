@@ -1,0 +1,17 @@
+use Rattle.std.proofs.Common.{length, sym, arith}
+use Rattle.lb_check.specs.StoredClocks.{given_in}
+use Rattle.lb_check.proofs.GivenRows.{given_more, given_end}
+use Rattle.lb_check.proofs.given_variables.given_where.Goals as goal
+
+pub loop-place-preserved : goal.loop-place-preserved
+loop-place-preserved c n flags =
+    let l = c.loop-place in
+    given_more n (given_in c.args.given.now) (length c.args.awaited.now) l.place l.pairs.items
+    (l.invariant n flags) c.add_given.new.pairs.items c.given_variable.result (omega arith)
+    (c.given_variable.ensures n flags) c.in_ok-add_given.ensures
+
+pub returns : goal.returns
+returns c n flags =
+    let l = c.loop-place in
+    sym (given_end n (given_in c.args.given.now) (length c.args.awaited.now) l.place l.pairs.items
+    (l.invariant n flags) (omega arith))
