@@ -1,7 +1,6 @@
 -- A report is given where nothing refuses first, and an error has the number of the first refusal.
 use Rattle.std.proofs.Common.{◌≡◌, ℕ, ◌<◌, inl, inr, Option, Some, None, Result, Ok, Err, refl, ap}
-use Rattle.std.proofs.Common.{List}
-use Rattle.std.proofs.Common.{◌∙◌, arith}
+use Rattle.std.proofs.Common.{List, zero, suc, ◌⊎◌, sym, ◌∙◌, arith}
 use Rattle.std.specs.Prelude.{IfOk, IfErr, string_bytes}
 use Rattle.std.specs.Option.{option_map}
 use Rattle.lb_syntax.specs.Lists.{or_else}
@@ -25,16 +24,17 @@ use Rattle.lb_flat.specs.declared.error.FlatError.TheVariants as flat
 use Rattle.lb_flat.specs.declared.error.OrderError.{OrderError}
 use Rattle.lb_flat.specs.declared.error.OrderError.TheVariants as order
 use Rattle.lb_report.specs.Bench.{IsBenchReport, IsCycle, IsRefused, program_of}
-use Rattle.lb_report.specs.Correct.{HasFirstNumber, IsBenchAnswer, IsFirstOf}
+use Rattle.lb_report.specs.Correct.{IsBenchAnswer, IsFirstTold, first_of}
 use Rattle.lb_report.specs.LiveReports.{IsBenchText}
 use Rattle.lb_report.specs.FirstRefusals.{IsFirstRefusal, IsTextRefusal, too_long, no_tokens}
 use Rattle.lb_report.specs.FirstRefusals.{over_limit, no_tree, of_text, of_program, of_traces}
 use Rattle.lb_report.specs.Refusals.{syntax_number, static_number, check_number, order_number}
+use Rattle.lb_report.specs.Refusals.{number_of}
 use Rattle.lb_report.specs.declared.error.BenchError.{BenchError}
 use Rattle.lb_report.specs.declared.error.BenchError.TheVariants as part
 use Rattle.lb_report.specs.declared.options.Options.{Options}
 use Rattle.lb_pool.specs.declared.text.Report.{Report}
-use Rattle.lb_report.proofs.FirstRefusals.{only_first}
+use Rattle.lb_report.proofs.FirstRefusals.{is_computed}
 
 -- a refusal with this number
 record IsNumbered (Refuses : Refusal → Type 0) (number : ℕ) : Type 0 where
@@ -108,60 +108,76 @@ by_order P (order.Cycle cycle) some h = record { refusal = E13; refuses = h.0; s
 
 -- ## What the bench answers
 
-module _ (source traces : Text) (options : Options) where
-  first_of :
-      (first : Option ℕ) →
-      IsFirstRefusal source traces (string_bytes options.node)
-      (option_map string_bytes options.observer) first →
-      IsFirstOf source traces options first
-  first_of first h = only_first source traces _ _ first h
+none_or_some : (n : ℕ) → (n ≡ 0) ⊎ (0 < n)
+none_or_some zero = inl refl
+none_or_some (suc n) = inr (omega arith)
 
-  pub numbered :
-      (e : BenchError) → IsRefused source traces options e →
-      HasFirstNumber source traces options e
+module _ (source traces : Text) (options : Options) where
+  -- the first refusal as a relation
+  abbrev IsFirstOf : Option ℕ → Type 0
+  IsFirstOf first =
+      IsFirstRefusal source traces (string_bytes options.node)
+      (option_map string_bytes options.observer) first
+
+  numbered :
+      (e : BenchError) → IsRefused source traces options e → 0 < number_of e →
+      IsFirstOf (Some (number_of e))
   numbered part.Memory h = λ some. absurd (omega (arith, some))
   numbered (part.Syntax e) h = λ some.
       let by = by_text source e some h in
-      first_of _ (of_text by.refusal by.refuses (ap Some by.same))
+      of_text by.refusal by.refuses (ap Some by.same)
   numbered (part.Static e) h = λ some.
       let by = by_static (program_of h.tree options) e some h.holds in
-      first_of _ (of_program h.tree by.refusal h.spelled by.refuses (ap Some by.same))
+      of_program h.tree by.refusal h.spelled by.refuses (ap Some by.same)
   numbered (part.Check e) h = λ some.
       let by = by_check (program_of h.tree options) e some h.holds.0 h.holds.1 in
-      first_of _ (of_program h.tree by.refusal h.spelled by.refuses (ap Some by.same))
+      of_program h.tree by.refusal h.spelled by.refuses (ap Some by.same)
   numbered (part.Flat flat.Memory) h = λ some. absurd (omega (arith, some))
   numbered (part.Flat (flat.Large fault)) h = λ some.
-      first_of _ (of_program h.tree E12 h.spelled h.holds.0 refl)
+      of_program h.tree E12 h.spelled h.holds.0 refl
   numbered (part.Order e) h = λ some.
       let by = by_order (program_of h.tree options) e some h.holds in
-      first_of _ (of_program h.tree by.refusal h.spelled by.refuses (ap Some by.same))
+      of_program h.tree by.refusal h.spelled by.refuses (ap Some by.same)
   numbered (part.Trace e) h = λ some.
       elim h.holds.1 [
-        | inl zero ↦ absurd (omega (arith, some, zero))
-        | inr refused ↦ first_of _ (of_traces h.tree h.spelled h.holds.0 refused)
+        | inl none ↦ absurd (omega (arith, some, none))
+        | inr refused ↦ of_traces h.tree h.spelled h.holds.0 refused
       ]
 
   reported : (report : Report) → IsBenchReport source traces options report
-      → IsFirstOf source traces options None
+      → IsFirstOf None
   reported report h =
       let recorded = h.holds.recorded in
-      first_of None
-      (of_traces h.tree h.spelled h.holds.accepted
-      (h.holds.recording.traces, recorded.text_spells_it))
+      of_traces h.tree h.spelled h.holds.accepted
+      (h.holds.recording.traces, recorded.text_spells_it)
+
+  text_reported : (report : List ℕ) → IsBenchText source traces options report
+      → IsFirstOf None
+  text_reported report h =
+      let recorded = h.holds.recorded in
+      of_traces h.tree h.spelled h.holds.accepted
+      (h.holds.recording.traces, recorded.text_spells_it)
+
+  is_first : (first : Option ℕ) → IsFirstOf first → first ≡ first_of source traces options
+  is_first first h = is_computed source traces _ _ first h
 
   pub none_refuses : (report : List ℕ) → IsBenchText source traces options report
-      → IsFirstOf source traces options None
-  none_refuses report h =
-      let recorded = h.holds.recorded in
-      first_of None
-      (of_traces h.tree h.spelled h.holds.accepted
-      (h.holds.recording.traces, recorded.text_spells_it))
+      → first_of source traces options ≡ None
+  none_refuses report h = sym (is_first None (text_reported report h))
+
+  pub first_told :
+      (e : BenchError) → IsRefused source traces options e →
+      IsFirstTold source traces options (Some (number_of e))
+  first_told e h =
+      elim (none_or_some (number_of e)) [
+        | inl none ↦ inl (ap Some none)
+        | inr some ↦ inr (is_first (Some (number_of e)) (numbered e h some))
+      ]
 
   pub answered :
       (answer : Result Report BenchError) → IfOk answer (IsBenchReport source traces options) →
       IfErr answer (IsRefused source traces options) →
       IsBenchAnswer source traces options answer
   answered (Ok report) h k =
-      record { report = h; refused = tt; nothing_refuses = reported report h; first_refuses = tt }
-  answered (Err e) h k =
-      record { report = tt; refused = k; nothing_refuses = tt; first_refuses = numbered e k }
+      record { report = h; refused = tt; first = inr (is_first None (reported report h)) }
+  answered (Err e) h k = record { report = tt; refused = k; first = first_told e k }

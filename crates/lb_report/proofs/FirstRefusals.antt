@@ -1,17 +1,41 @@
--- There is at most one first refusal.
+-- There is one first refusal, or none, and it is the computed one.
 use Rattle.std.proofs.Common.{◌≡◌, ℕ, ◌⊎◌, inl, inr, Option, Some, None, refl, ap, sym, subst, ◌∙◌}
-use Rattle.std.proofs.Common.{arith, IsTrue}
+use Rattle.std.proofs.Common.{arith, IsTrue, ◌≤◌, Bool, true, false, Result, Ok, Err, List, length}
+use Rattle.std.proofs.Common.{◌∷◌}
+use Rattle.std.specs.Prelude.{nat_lt, suc, []}
+use Rattle.std.specs.List.{list_all}
+use Rattle.std.proofs.lemmas.Bool.{ltb-true, ltb-false}
+use Rattle.lb_syntax.specs.declared.token.Token.{Token}
+use Rattle.lb_syntax.specs.Lists.{or_else}
+use Rattle.lb_syntax.specs.Programs.{source_at}
 use Rattle.lb_syntax.specs.Tree.{Name, Source}
-use Rattle.lb_syntax.specs.Tokens.{Text}
+use Rattle.lb_syntax.specs.Tokens.{Text, tokens}
 use Rattle.lb_syntax.specs.Correct.{IsOnlyProgram, KeepsLimits}
 use Rattle.lb_syntax.specs.Limits.{keeps_limits}
-use Rattle.lb_syntax.specs.Refusals.{Refusal, E1, E2, E3, E13, refusal_number}
-use Rattle.lb_syntax.specs.Texts.{BreaksLimit}
-use Rattle.lb_static.specs.Instances.{Program}
-use Rattle.lb_check.specs.Acceptance.{refusal, IsAccepted, IsFirst}
+use Rattle.lb_syntax.specs.Refusals.{Refusal, E1, E2, E3, E4, E5, E6, E7, E8, E9, E10, E11, E12}
+use Rattle.lb_syntax.specs.Refusals.{E13, E14, E15, E16, E17, E18, refusal_number, unless}
+use Rattle.lb_syntax.specs.Texts.{BreaksLimit, HasTokens}
+use Rattle.lb_syntax.proofs.Parses.{only_program, syntax_fault}
+use Rattle.lb_static.specs.Instances.{Program, Instance, instances}
+use Rattle.lb_static.specs.Instantiation.{has_values, is_in_range, may_enter, instance_refusal}
+use Rattle.lb_static.specs.Instantiation.{instantiation_refusal, has_no_parameters, static_refusal}
+use Rattle.lb_static.specs.Names.{keeps_names, is_well_founded}
+use Rattle.lb_static.specs.DataTypes.{signature}
+use Rattle.lb_check.specs.Acceptance.{refusal, check_refusal, IsAccepted, IsFirst}
+use Rattle.lb_check.specs.TypeRules.{is_typed, is_small}
+use Rattle.lb_check.specs.ClockRules.{is_clocked}
+use Rattle.lb_flat.specs.Traces.{Traces}
+use Rattle.lb_trace.specs.Refusals.{outcome}
+use Rattle.lb_trace.proofs.Outcomes.{sound_text, refused_text}
+use Rattle.lb_report.specs.Causality.{is_causal, IsDecidedBy}
 use Rattle.lb_report.specs.FirstRefusals.{IsFirstRefusal, IsOnlyFirstRefusal, IsTextRefusal}
+use Rattle.lb_report.specs.FirstRefusals.{first_refusal, text_outcome, text_by, tokens_by}
+use Rattle.lb_report.specs.FirstRefusals.{limited_by}
+use Rattle.lb_report.specs.FirstRefusals.{tree_by, program_refusal, source_number, program_number}
+use Rattle.lb_report.specs.FirstRefusals.{trace_number}
 use Rattle.lb_report.specs.FirstRefusals.{IsTraceRefusal, too_long, no_tokens, over_limit, no_tree}
 use Rattle.lb_report.specs.FirstRefusals.{of_text, of_program, of_traces}
+use Rattle.lb_report.proofs.Causality.{decided}
 
 -- ## The text of the source
 
@@ -128,10 +152,162 @@ module _ (source traces : Text) (node : Name) (observer : Option Name) where
       one_trace (program tree) traces a b h
       (at_one (λ P. IsTraceRefusal P traces b) tree other only same k)
 
-  pub only_first :
+  -- a first refusal is the only one
+  only_first :
       (first : Option ℕ) → IsFirstRefusal source traces node observer first →
       IsOnlyFirstRefusal source traces node observer first
   only_first first h = record {
     is_first = h;
     no_other_is = λ other k. at_most_one other first k h;
   }
+
+-- ## The computed one
+
+-- what the outcome of a text says of it
+abbrev IsOutcome : Text → Result Source Refusal → Type 0
+IsOutcome text (Ok tree) = IsOnlyProgram tree text
+IsOutcome text (Err r) = IsTextRefusal text r
+
+by_tree : (text : Text) (ts : List Token) (o : Option Source) → HasTokens text ts →
+    source_at ts ≡ o → IsOutcome text (tree_by o)
+by_tree text ts (Some tree) has e = only_program text ts tree has e
+by_tree text ts None has e = no_tree (syntax_fault text ts has e)
+
+by_limits : (text : Text) (ts : List Token) (b : Bool) → length text ≤ 1000000 →
+    tokens text ≡ Some ts → keeps_limits ts ≡ b → IsOutcome text (limited_by b ts)
+by_limits text ts true short are e =
+    by_tree text ts (source_at ts)
+    record { short = short; tokens_are = are; limits_kept = e } refl
+by_limits text ts false short are e = over_limit short (ts, are, e)
+
+by_tokens : (text : Text) (o : Option (List Token)) → length text ≤ 1000000 →
+    tokens text ≡ o → IsOutcome text (tokens_by o)
+by_tokens text (Some ts) short e = by_limits text ts (keeps_limits ts) short e refl
+by_tokens text None short e = no_tokens short e
+
+by_length : (text : Text) (b : Bool) → nat_lt 1000000 (length text) ≡ b →
+    IsOutcome text (text_by b text)
+by_length text true e = too_long (ltb-true 1000000 (length text) e)
+by_length text false e =
+    by_tokens text (tokens text) (ltb-false 1000000 (length text) e) refl
+
+text_is : (text : Text) → IsOutcome text (text_outcome text)
+unfolding text_outcome
+text_is text = by_length text (nat_lt 1000000 (length text)) refl
+
+-- a refusal by a rule that is judged before causality
+abbrev IsEarly : Option Refusal → Type 0
+IsEarly o = o ≡ Some E13 → ⊥
+
+early_or : (o q : Option Refusal) → IsEarly o → IsEarly q → IsEarly (or_else o q)
+early_or (Some r) q h k = h
+early_or None q h k = k
+
+early_unless : (b : Bool) (r : Refusal) → (r ≡ E13 → ⊥) → IsEarly (unless b r)
+early_unless true r f = λ e. cc
+early_unless false r f = λ e. f cc
+
+early_instances :
+    (P : Program) (n : ℕ) (is : List Instance) → IsEarly (instantiation_refusal P n is)
+early_instances P n [] = λ e. cc
+early_instances P n (here ∷ rest) =
+    early_or (instance_refusal P n here) (instantiation_refusal P (suc n) rest)
+    (early_or (unless (may_enter P n here) E12) _ (early_unless _ E12 (λ e. cc))
+    (early_or (unless (has_values P here) E5) (unless (is_in_range P here) E6)
+    (early_unless _ E5 (λ e. cc)) (early_unless _ E6 (λ e. cc))))
+    (early_instances P (suc n) rest)
+
+early_static : (P : Program) → IsEarly (static_refusal P)
+early_static P =
+    early_or (unless (keeps_names P) E4) _ (early_unless _ E4 (λ e. cc))
+    (early_or (unless (is_well_founded P) E7) _ (early_unless _ E7 (λ e. cc))
+    (early_or (unless (has_no_parameters P) E8) _ (early_unless _ E8 (λ e. cc))
+    (early_or (instantiation_refusal P 0 (instances P)) _ (early_instances P 0 (instances P))
+    (early_unless _ E8 (λ e. cc)))))
+
+early_check : (P : Program) → IsEarly (check_refusal P)
+early_check P =
+    early_or (unless (list_all (is_typed P) (instances P)) E9) _ (early_unless _ E9 (λ e. cc))
+    (early_or (unless (list_all (λ here. is_clocked P here.node) (instances P)) E10) _
+    (early_unless _ E10 (λ e. cc)) (early_unless _ E11 (λ e. cc)))
+
+early : (P : Program) → IsEarly (refusal P)
+early P =
+    early_or (static_refusal P) _ (early_static P)
+    (early_or (check_refusal P) _ (early_check P) (early_unless (is_small P) E12 (λ e. cc)))
+
+-- a rule that is broken before causality refuses first
+rule_first : (P : Program) (r : Refusal) → refusal P ≡ Some r → IsFirst P (Some r)
+rule_first P E1 e = e
+rule_first P E2 e = e
+rule_first P E3 e = e
+rule_first P E4 e = e
+rule_first P E5 e = e
+rule_first P E6 e = e
+rule_first P E7 e = e
+rule_first P E8 e = e
+rule_first P E9 e = e
+rule_first P E10 e = e
+rule_first P E11 e = e
+rule_first P E12 e = e
+rule_first P E13 e = absurd (early P e)
+rule_first P E14 e = e
+rule_first P E15 e = e
+rule_first P E16 e = e
+rule_first P E17 e = e
+rule_first P E18 e = e
+
+causal_first : (P : Program) (b : Bool) → refusal P ≡ None → IsDecidedBy b P →
+    IsFirst P (unless b E13)
+causal_first P true e h = record { rules = e; causal = h }
+causal_first P false e h = (e, h)
+
+by_rules : (P : Program) (o : Option Refusal) → refusal P ≡ o →
+    IsFirst P (or_else o (unless (is_causal P) E13))
+by_rules P (Some r) e = rule_first P r e
+by_rules P None e = causal_first P (is_causal P) e (decided P)
+
+program_is : (P : Program) → IsFirst P (program_refusal P)
+unfolding program_refusal
+program_is P = by_rules P (refusal P) refl
+
+-- the first refusal of the traces of a program
+traces_are : (P : Program) (text : Text) (o : Result Traces ℕ) → outcome (signature P) text ≡ o →
+    IsTraceRefusal P text (trace_number o)
+traces_are P text (Ok traces) e = (traces, sound_text (signature P) text traces e)
+traces_are P text (Err number) e = (e, refused_text (signature P) text number e)
+
+module _ (source traces : Text) (node : Name) (observer : Option Name) where
+  by_program :
+      (tree : Source) (o : Option Refusal) → IsOnlyProgram tree source →
+      IsFirst (program source traces node observer tree) o →
+      IsFirstRefusal source traces node observer
+      (program_number o (program source traces node observer tree) traces)
+  by_program tree (Some r) only first = of_program tree r only first refl
+  by_program tree None only is =
+      let P = program source traces node observer tree in
+      of_traces tree only is (traces_are P traces (outcome (signature P) traces) refl)
+
+  by_source :
+      (o : Result Source Refusal) → IsOutcome source o →
+      IsFirstRefusal source traces node observer (source_number o traces node observer)
+  by_source (Err r) h = of_text r h refl
+  by_source (Ok tree) only =
+      let P = program source traces node observer tree in
+      by_program tree (program_refusal P) only (program_is P)
+
+  computed_is :
+      IsFirstRefusal source traces node observer (first_refusal source traces node observer)
+  unfolding first_refusal
+  computed_is = by_source (text_outcome source) (text_is source)
+
+  -- the computed one is the first refusal, and nothing else is
+  pub only_computed :
+      IsOnlyFirstRefusal source traces node observer (first_refusal source traces node observer)
+  only_computed = only_first source traces node observer _ computed_is
+
+  -- a first refusal is the computed one
+  pub is_computed :
+      (first : Option ℕ) → IsFirstRefusal source traces node observer first →
+      first ≡ first_refusal source traces node observer
+  is_computed first h = only_computed.no_other_is first h

@@ -2,6 +2,7 @@ pub mod FeedBytes
 pub mod VerdictLists
 pub mod Planning
 pub mod Refusing
+pub mod Causality
 pub mod FirstRefusals
 pub mod Answering
 pub mod RefusalNumbers

@@ -1,5 +1,6 @@
 -- What is ready to be run gives the report of the texts.
-use Rattle.std.proofs.Common.{◌≡◌, ◌∙◌, ℕ, List, Option, None, Some, Result, Ok, Err, ap, refl, subst, sym}
+use Rattle.std.proofs.Common.{◌≡◌, ◌∙◌, ℕ, List, Option, None, Some, Result, Ok, Err, ap, refl}
+use Rattle.std.proofs.Common.{subst, sym}
 use Rattle.std.specs.Io.KnownBytes.{Keeps}
 use Rattle.lb_syntax.specs.Tokens.{Text}
 use Rattle.lb_static.specs.DataTypes.{signature}
@@ -20,7 +21,7 @@ use Rattle.lb_report.specs.declared.answer.AcceptedProgram.{AcceptedProgram}
 use Rattle.lb_report.specs.declared.error.BenchError.{BenchError}
 use Rattle.lb_report.specs.declared.live.Prepared.{Prepared}
 use Rattle.lb_report.specs.declared.options.Options.{Options}
-use Rattle.lb_report.proofs.Answering.{none_refuses, numbered}
+use Rattle.lb_report.proofs.Answering.{none_refuses, first_told}
 use Rattle.lb_report.proofs.VerdictLists.{are_verdicts}
 
 -- the report on the right verdicts is that of the texts
@@ -91,7 +92,7 @@ pub is_turned_away : (source traces : Text) (options : Options) (e : BenchError)
     → IsTurnedAway source traces options a a n n e
 is_turned_away source traces options e a n refused = record {
   refused = refused;
-  first_refuses = numbered source traces options e refused;
+  first = first_told source traces options e refused;
   kept = keeps_all a;
   never_failed = refl;
 }

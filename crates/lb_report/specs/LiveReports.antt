@@ -1,6 +1,6 @@
 -- What a live report of a source and a trace text comes to.
 -- Source: this project's rule.
-use Rattle.std.specs.Prelude.{◌≡◌, ℕ, List, length, Option, None, Result, Ok, Err}
+use Rattle.std.specs.Prelude.{◌≡◌, ℕ, List, length, Option, Some, None, Result, Ok, Err}
 use Rattle.std.specs.Io.KnownBytes.{Keeps}
 use Rattle.lb_syntax.specs.Tokens.{Text}
 use Rattle.lb_static.specs.Instances.{Program}
@@ -16,7 +16,8 @@ use Rattle.lb_pool.specs.Reports.{report_of}
 use Rattle.lb_pool.specs.declared.follow_error.FollowError.{FollowError}
 use Rattle.lb_report.specs.AcceptedPrograms.{IsAcceptedProgram}
 use Rattle.lb_report.specs.Bench.{AreVerdicts, IsOnlyRecording, IsRefused, OnlyProgram}
-use Rattle.lb_report.specs.Correct.{HasFirstNumber, IsFirstOf}
+use Rattle.lb_report.specs.Correct.{IsFirstTold, first_of}
+use Rattle.lb_report.specs.Refusals.{number_of}
 use Rattle.lb_report.specs.declared.error.BenchError.{BenchError}
 use Rattle.lb_report.specs.declared.live.FollowFault.{FollowFault}
 use Rattle.lb_report.specs.declared.live.FollowFault.TheVariants.{Refused, Stopped}
@@ -46,7 +47,7 @@ pub record IsUnderWay
     : Type 0 where
   pub report : List ℕ
   pub reported : IsBenchText source traces options report
-  pub nothing_refuses : IsFirstOf source traces options None
+  pub nothing_refuses : first_of source traces options ≡ None
   pub followed : IsFollowed report before after failures_before failures_after run
 
 -- the texts are refused, and the sink is left as it was
@@ -55,7 +56,7 @@ pub record IsTurnedAway
     (failures_before failures_after : ℕ) (e : BenchError)
     : Type 0 where
   pub refused : IsRefused source traces options e
-  pub first_refuses : HasFirstNumber source traces options e
+  pub first : IsFirstTold source traces options (Some (number_of e))
   pub kept : Keeps before after
   pub never_failed : failures_after ≡ failures_before
 

@@ -7,6 +7,7 @@ mod error;
 mod feed;
 mod file_chunks;
 mod judging;
+mod laws;
 mod live;
 mod options;
 mod refusal;
@@ -16,6 +17,7 @@ pub use case::split_case;
 pub use error::BenchError;
 pub use feed::{Feed, FeedFailed, LoadError, Reader, load};
 pub use judging::judge;
+pub use laws::first_refusal_is_computed;
 pub use lb_pool::{
     FollowError, Gate, NoGate, Report, Sent, Sink, SinkFailed, Writer, report_text, send, status,
 };
