@@ -1,0 +1,5 @@
+pub mod Cells
+pub mod Replaying
+pub mod Histories
+pub mod Replays
+pub mod ReplayParts

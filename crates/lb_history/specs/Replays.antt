@@ -1,0 +1,29 @@
+-- What contracts say of a trace that is replayed.
+-- This file says what data of the program mean; no definition of the language stands on it.
+use mathlib.Core.Sum.{⊎_set}
+use Rattle.std.specs.Prelude.{◌≡◌, ℕ, suc, List, length, map, All}
+use Rattle.std.specs.Coded.{×_prop, Unit-prop}
+use Rattle.std.proofs.Props.{props}
+use Rattle.lb_check.specs.Solutions.{Inputs}
+use Rattle.lb_flat.specs.declared.equation.Equation.{Equation}
+use Rattle.lb_flat.specs.declared.program.FlatProgram.{FlatProgram}
+use Rattle.lb_flat.specs.Flat.{FlatClock-set}
+use Rattle.lb_flat.specs.Programs.{flat_equations, program_of}
+use Rattle.lb_flat.specs.Within.{IsWithin}
+use Rattle.lb_history.specs.Cells.{cell_of}
+use Rattle.lb_history.specs.Replaying.{equations_before, row_at}
+use Rattle.lb_history.specs.declared.cell.Cell.{Cell}
+
+-- before instant t the equations have the memories that the instants before it left, and the row
+-- is that of the instant before, if there was one
+pub record IsReplayed (p : FlatProgram) (X : Inputs) (t : ℕ) (equations : List Equation)
+    (row : List Cell) : Type 0 where
+  pub equations_are :
+      flat_equations p.clocks.items equations
+      ≡ equations_before p.size (program_of p).equations X t
+  pub within : All (IsWithin p.size p.clocks.items) equations
+  pub has_all_elements : length row ≡ p.size
+  pub row_is : (s : ℕ) → t ≡ suc s → map cell_of row ≡ row_at (program_of p) X s
+
+-- what shows that there is one proof of it at most
+pub ruleset replayed_props = (FlatClock-set, ⊎_set, props)

@@ -1,0 +1,12 @@
+//! The values of one recorded trace, instant by instant: those of the one history that solves the
+//! program on it.
+#![tactic(auto)]
+
+mod cell;
+mod instant;
+mod laws;
+mod replay;
+
+pub use cell::Cell;
+pub use laws::rows_are_those_of_histories;
+pub use replay::Replay;

@@ -1,0 +1,131 @@
+//! The elements that are shown, with their names.
+
+ghost use Rattle.std.specs.Prelude.{◌≢◌, IfErr};
+
+use crate::error::ShowError;
+use crate::options::Selection;
+use crate::signals::{Signal, Signals};
+use lb_flat::ElementId;
+use lb_syntax::Kind;
+use std::alloc::{AllocError, Global};
+
+/// An element that is shown.
+#[derive(Drop)]
+pub(crate) struct Column {
+    /// Its name with that of its instance: `main.A[0]`.
+    pub(crate) name: String,
+    /// Its name in its instance: `A[0]`.
+    pub(crate) label: String,
+    /// The place of its instance among the scopes.
+    pub(crate) scope: usize,
+    pub(crate) kind: Kind,
+    pub(crate) element: ElementId,
+}
+
+impl Signal {
+    /// Whether a name is that of the element, or of its variable.
+    fn has_name(&self, name: &str) -> bool {
+        let label = self.label.as_bytes();
+        let variable = label.split_at(self.variable.min(label.len())).0;
+        let asked = name.as_bytes();
+        asked == label || asked == variable
+    }
+}
+
+impl Signals {
+    /// The name of an element with that of its instance.
+    fn full_name(&self, alloc: Global, signal: &Signal) -> Result<String, AllocError> {
+        let mut name = String::new(alloc);
+        if let Some(scope) = self.scopes.get(signal.scope) {
+            name.push_str(scope.name.as_str())?;
+            name.push_str(".")?;
+        }
+        name.push_str(signal.label.as_str())?;
+        Ok(name)
+    }
+
+    /// Adds an element to those that are shown.
+    fn push_column(
+        &self,
+        alloc: Global,
+        signal: &Signal,
+        columns: &mut Vec<Column>,
+    ) -> Result<(), AllocError> {
+        let column = Column {
+            name: self.full_name(alloc, signal)?,
+            label: String::from_str(alloc, signal.label.as_str())?,
+            scope: signal.scope,
+            kind: signal.kind,
+            element: signal.element,
+        };
+        columns.push(column)?;
+        Ok(())
+    }
+
+    /// Whether a name stands for an element: it is its own, or that of its variable; with the name
+    /// of its instance, or of the node under test without.
+    fn is_named(&self, signal: &Signal, name: &str) -> bool {
+        let Some(scope) = self.scopes.get(signal.scope) else {
+            return false;
+        };
+        if signal.scope == 0 && signal.has_name(name) {
+            return true;
+        }
+        let Some(rest) = name.strip_prefix(scope.name.as_str()) else {
+            return false;
+        };
+        match rest.strip_prefix(".") {
+            Some(own) => signal.has_name(own),
+            None => false,
+        }
+    }
+
+    /// Adds the elements that a name stands for; answers how many there are.
+    fn push_named(
+        &self,
+        alloc: Global,
+        name: &str,
+        columns: &mut Vec<Column>,
+    ) -> Result<usize, AllocError> {
+        let before = columns.len();
+        for signal in &self.signals {
+            if self.is_named(signal, name) {
+                self.push_column(alloc, signal, columns)?;
+            }
+        }
+        Ok(columns.len().saturating_sub(before))
+    }
+
+    /// The elements that are shown, in their order.
+    pub(crate) fn columns(
+        &self,
+        alloc: Global,
+        selection: Selection<'_>,
+    ) -> Result<Vec<Column>, ShowError>
+        ensures { IfErr result (λ e. e ≢ ShowError.UnknownTrace) }
+    {
+        let mut columns = Vec::new(alloc);
+        match selection {
+            Selection::Named(names) => {
+                for place in 0..names.len() {
+                    if self.push_named(alloc, names[place], &mut columns)? == 0 {
+                        return Err(ShowError::UnknownVariable(place));
+                    }
+                }
+            }
+            Selection::All => {
+                for signal in &self.signals {
+                    self.push_column(alloc, signal, &mut columns)?;
+                }
+            }
+            Selection::Starts => {
+                for signal in &self.signals {
+                    if self.scopes.get(signal.scope).is_some_and(|s| s.is_start) {
+                        self.push_column(alloc, signal, &mut columns)?;
+                    }
+                }
+            }
+        }
+        Ok(columns)
+    }
+}

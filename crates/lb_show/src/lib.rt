@@ -1,0 +1,23 @@
+//! The values of one recorded trace as a text: a table, CSV, a waveform or a picture.
+#![tactic(auto)]
+
+mod columns;
+mod csv;
+mod error;
+mod lines;
+mod marks;
+mod options;
+mod player;
+mod show;
+mod signals;
+mod svg;
+mod table;
+mod vcd;
+mod verdict_line;
+mod write;
+
+pub use error::ShowError;
+pub use lines::{Lines, Spot};
+pub use options::{Format, Selection, ShowOptions};
+pub use show::Show;
+pub use signals::{Scope, Signal, Signals, signals_of};

@@ -1,0 +1,374 @@
+//! The values of one recorded trace, part by part.
+
+ghost use Rattle.std.specs.Prelude.{◌≡◌, ◌≢◌, ◌<◌, ◌≤◌, ℕ, length, IfSome, IfNone};
+ghost use Rattle.lb_flat.specs.Traces.{trace_at};
+ghost use Rattle.lb_show.specs.Windows.{end_at, first_at};
+
+use crate::columns::Column;
+use crate::csv::CsvText;
+use crate::error::ShowError;
+use crate::marks::{Marks, Shown};
+use crate::options::{Format, ShowOptions};
+use crate::player::Player;
+use crate::signals::{Signals, signals_of};
+use crate::svg::{MOST_INSTANTS, Picture};
+use crate::table::{Block, push_title};
+use crate::vcd::Dump;
+use crate::verdict_line::deciding;
+use crate::write::CHUNK;
+use lb_check::{Checked, Verdict};
+use lb_flat::{FlatProgram, Ordered, TraceSet, eval_trace};
+use lb_history::Cell;
+use std::alloc::{AllocError, Global};
+
+/// The number of the trace with a name.
+fn trace_named(set: &TraceSet, name: &str) -> Option<u32>
+    ensures within { IfSome result (λ k. k < length set.now.traces) }
+    ensures named { IfSome result (λ k. (trace_at set.now.traces k).0 ≡ name.now) }
+    ensures none { IfNone result ((k : ℕ) → k < length set.now.traces →
+        (trace_at set.now.traces k).0 ≢ name.now) }
+{
+    for k in 0..set.len() {
+        if set.name(k) == name {
+            return Some(k);
+        }
+    }
+    None
+}
+
+/// The instant behind the last one that is shown, of so many.
+fn end_at(decides: Option<u32>, count: u32) -> u32
+    ensures { result ≡ end_at decides count }
+{
+    match decides {
+        Some(t) if t < count => t + 1,
+        _ => count,
+    }
+}
+
+/// The first one, where so many of the last are shown.
+fn first_at(last: Option<u32>, end: u32) -> u32
+    ensures value { result ≡ first_at last end }
+    ensures before { result ≤ end }
+{
+    match last {
+        Some(last) => end.saturating_sub(last),
+        None => 0,
+    }
+}
+
+/// What takes the instants that are shown, one after another.
+#[derive(Drop)]
+enum Painter {
+    Table(Block),
+    Vcd(Dump),
+    Svg(Picture),
+}
+
+impl Painter {
+    /// Adds what stands before the first instant.
+    fn begin(
+        &mut self,
+        alloc: Global,
+        text: &mut Vec<u8>,
+        shown: &Shown,
+    ) -> Result<(), AllocError> {
+        match self {
+            Painter::Table(_) => push_title(text, shown),
+            Painter::Vcd(dump) => dump.push_header(alloc, text, shown),
+            Painter::Svg(_) => Ok(()),
+        }
+    }
+
+    /// Takes an instant.
+    fn push(
+        &mut self,
+        text: &mut Vec<u8>,
+        shown: &Shown,
+        t: u32,
+        cells: &[Cell],
+    ) -> Result<(), AllocError> {
+        match self {
+            Painter::Table(block) => block.push(text, shown, t, cells),
+            Painter::Vcd(dump) => dump.push_instant(text, shown, t, cells),
+            Painter::Svg(picture) => picture.push(cells),
+        }
+    }
+
+    /// Adds what is left at the end.
+    fn end(&mut self, text: &mut Vec<u8>, shown: &Shown) -> Result<(), AllocError> {
+        match self {
+            Painter::Table(block) => block.write(text, shown),
+            Painter::Vcd(dump) => dump.push_end(text, shown),
+            Painter::Svg(picture) => picture.write(text, shown),
+        }
+    }
+}
+
+/// What a text that is painted is about.
+#[derive(Drop)]
+struct Subject<'a> {
+    trace: &'a str,
+    program: &'a FlatProgram,
+    verdict: Verdict,
+    columns: Vec<Column>,
+    signals: Signals,
+    /// The first instant that is shown, and the one behind the last.
+    first: u32,
+    end: u32,
+}
+
+impl<'a> Subject<'a> {
+    /// What is painted.
+    fn shown(&self) -> Shown<'_> {
+        Shown {
+            trace: self.trace,
+            marks: Marks {
+                program: self.program,
+                verdict: self.verdict,
+            },
+            columns: self.columns.as_slice(),
+            signals: &self.signals,
+            first: self.first,
+            end: self.end,
+        }
+    }
+}
+
+/// A text that is painted, part by part.
+#[derive(Drop)]
+struct Painting<'a> {
+    alloc: Global,
+    subject: Subject<'a>,
+    player: Player<'a>,
+    /// The cells of the latest instant.
+    cells: Vec<Cell>,
+    painter: Painter,
+    is_begun: bool,
+}
+
+impl<'a> Painting<'a> {
+    ghost use Rattle.std.specs.Prelude.{◌+◌, true, false, Ok, OnOk};
+    ghost use Rattle.lb_show.specs.Players.{next_played};
+    ghost use Rattle.lb_show.specs.Paintings.{instants_left, parts_left};
+
+    /// Paints the next instant.
+    fn paint_instant(&mut self, text: &mut Vec<u8>) -> Result<(), AllocError>
+        requires { next_played self.old.player < self.old.player.end }
+        ensures fewer { OnOk result (instants_left self.new < instants_left self.old) }
+        ensures begun { OnOk result (self.new.is_begun ≡ self.old.is_begun) }
+    {
+        let shown = self.subject.shown();
+        let t = self.player.next();
+        self.player.advance();
+        self.player.read(shown.columns, &mut self.cells)?;
+        self.painter.push(text, &shown, t, self.cells.as_slice())
+    }
+
+    /// Paints instants up to the end of a part, one at least.
+    fn paint_instants(&mut self, text: &mut Vec<u8>) -> Result<(), AllocError>
+        requires { next_played self.old.player < self.old.player.end }
+        ensures fewer { OnOk result (instants_left self.new < instants_left self.old) }
+        ensures begun { OnOk result (self.new.is_begun ≡ self.old.is_begun) }
+    {
+        self.paint_instant(text)?;
+        'instants: while self.player.has_next() && text.len() < CHUNK {
+            self.paint_instant(text)?;
+        }
+        Ok(())
+    }
+
+    /// Adds the next part of the text, and answers whether more is left: what stands before the
+    /// first instant, then instants, and then what is left at the end.
+    fn write(&mut self, text: &mut Vec<u8>) -> Result<bool, AllocError>
+        ensures { result ≡ Ok true → parts_left self.new < parts_left self.old }
+    {
+        if !self.is_begun {
+            self.painter.begin(self.alloc, text, &self.subject.shown())?;
+            self.is_begun = true;
+            return Ok(true);
+        }
+        if !self.player.has_next() {
+            self.painter.end(text, &self.subject.shown())?;
+            return Ok(false);
+        }
+        self.paint_instants(text)?;
+        Ok(true)
+    }
+}
+
+/// The text, by its format.
+#[derive(Drop)]
+enum Text<'a> {
+    Csv(CsvText<'a>),
+    Painted(Painting<'a>),
+}
+
+/// The values of one trace of a program, instant by instant up to the one that decides its verdict,
+/// or to the end where it passed: a text that is written part by part. It takes the memory of one
+/// instant, and of a picture that of all that it shows.
+///
+/// ```text
+/// let mut show = Show::new(alloc, source, &checked, &ordered, &set, &options)?;
+/// let mut text = Vec::new(alloc);
+/// while show.write(&mut text)? {
+///     send(sink, &text)?;
+///     text.clear();
+/// }
+/// send(sink, &text)?;
+/// ```
+#[derive(Drop)]
+pub struct Show<'a> {
+    text: Text<'a>,
+}
+
+/// Which of the elements that are shown have the value of a fault: only the instant that decides
+/// may have some.
+fn bad_columns(
+    alloc: Global,
+    ordered: &Ordered,
+    set: &TraceSet,
+    k: u32,
+    end: u32,
+    columns: &[Column],
+) -> Result<Vec<bool>, AllocError>
+    requires trace { k < length set.now.traces }
+    requires end { end ≤ length (trace_at set.now.traces k).1 }
+{
+    let player = Player::new(alloc, ordered, set, k, end, end)?;
+    let mut cells = Vec::new(alloc);
+    player.read(columns, &mut cells)?;
+    let mut bad = Vec::new(alloc);
+    for cell in cells {
+        bad.push(cell == Cell::Bad)?;
+    }
+    Ok(bad)
+}
+
+/// How many of the last instants are shown, if not all.
+fn last_of(options: &ShowOptions<'_>) -> Option<u32>
+    ensures { options.now.format ≡ Format.Csv → result ≡ options.now.last }
+{
+    match options.format {
+        Format::Svg => Some(options.last.unwrap_or(MOST_INSTANTS)),
+        Format::Table | Format::Csv | Format::Vcd => options.last,
+    }
+}
+
+/// What paints a format, where these elements have the value of a fault somewhere; nothing paints
+/// comma-separated values.
+fn painter_of(alloc: Global, format: Format, bad: Vec<bool>) -> Option<Painter>
+    ensures { IfSome result (λ painter. format ≢ Format.Csv) }
+{
+    match format {
+        Format::Csv => None,
+        Format::Table => Some(Painter::Table(Block::new(alloc))),
+        Format::Vcd => Some(Painter::Vcd(Dump::new(alloc, bad))),
+        Format::Svg => Some(Painter::Svg(Picture::new(alloc))),
+    }
+}
+
+impl<'a> Show<'a> {
+    ghost use Rattle.std.specs.Prelude.{◌++◌, ◌-◌, true, false, [], Ok, Err, IfOk, OnOk};
+    ghost use Rattle.lb_show.specs.CsvTexts.{header, records};
+    ghost use Rattle.lb_show.specs.Players.{inputs_played, next_played, program_played};
+    ghost use Rattle.lb_show.specs.Shown.{names_of, numbers_of};
+    ghost use Rattle.lb_flat.specs.Programs.{program_of};
+    ghost use Rattle.lb_show.specs.Shows.{IsCsvOf, csv_rest, is_csv, parts_left};
+
+    /// What the options ask for, of a program whose text is `source`, and of these traces.
+    ///
+    /// Elements come in the order of their variables among those of the node, an array's first
+    /// index slowest. Fails where the name of the trace, or of a variable, is unknown.
+    pub fn new(
+        alloc: Global,
+        source: &[u8],
+        checked: &Checked,
+        ordered: &'a Ordered,
+        set: &'a TraceSet,
+        options: &ShowOptions<'a>,
+    ) -> Result<Show<'a>, ShowError>
+        ensures csv { options.now.format ≡ Format.Csv → IfOk result (λ show.
+            (is_csv show ≡ true)
+            × IsCsvOf (program_of ordered.now.program) set.now options.now (csv_rest show)) }
+        ensures unknown { result ≡ Err ShowError.UnknownTrace → (k : ℕ) →
+            k < length set.now.traces →
+            (trace_at set.now.traces k).0 ≢ options.now.trace.now }
+    {
+        let Some(k) = trace_named(set, options.trace) else {
+            return Err(ShowError::UnknownTrace);
+        };
+        let signals = signals_of(alloc, source, checked.elab())?;
+        let columns = signals.columns(alloc, options.selection)?;
+        let verdict = eval_trace(alloc, ordered, set, k)?;
+        let end = end_at(deciding(verdict), set.length(k));
+        let first = first_at(last_of(options), end);
+        let player = Player::new(alloc, ordered, set, k, first, end)?;
+        let bad = match options.format {
+            Format::Vcd => bad_columns(alloc, ordered, set, k, end, columns.as_slice())?,
+            _ => Vec::new(alloc),
+        };
+        match painter_of(alloc, options.format, bad) {
+            None => Ok(Show::csv(alloc, player, columns)),
+            Some(painter) => {
+                let subject = Subject {
+                    trace: options.trace,
+                    program: &ordered.program,
+                    verdict,
+                    columns,
+                    signals,
+                    first,
+                    end,
+                };
+                Ok(Show::painted(alloc, player, subject, painter))
+            }
+        }
+    }
+
+    /// Comma-separated values.
+    fn csv(alloc: Global, player: Player<'a>, columns: Vec<Column>) -> Show<'a>
+        ensures csv { is_csv result ≡ true }
+        ensures rest { csv_rest result ≡ header (names_of columns.items)
+            ++ records (program_played player.entry) (inputs_played player.entry)
+            (numbers_of columns.items) (next_played player.entry)
+            (player.entry.end - next_played player.entry) }
+    {
+        Show {
+            text: Text::Csv(CsvText::new(alloc, player, columns)),
+        }
+    }
+
+    /// A text that is painted.
+    fn painted(
+        alloc: Global,
+        player: Player<'a>,
+        subject: Subject<'a>,
+        painter: Painter,
+    ) -> Show<'a> {
+        Show {
+            text: Text::Painted(Painting {
+                alloc,
+                subject,
+                player,
+                cells: Vec::new(alloc),
+                painter,
+                is_begun: false,
+            }),
+        }
+    }
+
+    /// Adds the next part of the text, which ends once the text has 64 KiB, and answers whether more
+    /// is left. Once nothing is left it is not called again.
+    pub fn write(&mut self, text: &mut Vec<u8>) -> Result<bool, AllocError>
+        ensures kept { is_csv self.new ≡ is_csv self.old }
+        ensures csv { is_csv self.old ≡ true → OnOk result
+            (text.old.items ++ csv_rest self.old ≡ text.new.items ++ csv_rest self.new) }
+        ensures all { is_csv self.old ≡ true → result ≡ Ok false → csv_rest self.new ≡ [] }
+        ensures fewer { result ≡ Ok true → parts_left self.new < parts_left self.old }
+    {
+        match &mut self.text {
+            Text::Csv(csv) => csv.write(text),
+            Text::Painted(painting) => painting.write(text),
+        }
+    }
+}

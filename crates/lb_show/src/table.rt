@@ -1,0 +1,192 @@
+//! A table for a terminal: a row for each element, a column for each instant.
+//!
+//! ```text
+//! long false 3
+//!
+//! instant    0 1 2 >3
+//! main.open  1 1 1  1
+//! main.ok    1 1 1 >.
+//! main.n     1 2 3  4
+//! ```
+//!
+//! `.` is false and `1` is true; an absent cell is blank, a nil one `?`, and that of a fault `!`.
+//! Before the instant that decides, and its cells that do, stands `>`. Where the instants do not fit
+//! a line, more such tables follow.
+
+use crate::marks::Shown;
+use crate::verdict_line::{deciding, push_verdict};
+use crate::write::{digits, push, push_cell, push_number, push_spaces};
+use lb_history::Cell;
+use std::alloc::{AllocError, Global};
+
+/// The longest line, unless a single instant takes more.
+const LINE: usize = 100;
+
+/// The instants that are not written yet.
+#[derive(Drop)]
+pub(crate) struct Block {
+    /// The first of them.
+    first: u32,
+    /// How wide the column of each is.
+    widths: Vec<usize>,
+    /// The cells, one instant after another.
+    cells: Vec<Cell>,
+    /// How long the lines are.
+    length: usize,
+}
+
+/// How wide a cell is.
+fn cell_width(cell: Cell) -> usize {
+    match cell {
+        Cell::Integer(z) => {
+            let sign = usize::from(z < 0);
+            usize::saturating_add(digits(u64::from(z.unsigned_abs())), sign)
+        }
+        _ => 1,
+    }
+}
+
+/// Adds a cell; a Boolean as `1` or `.`.
+fn push_table_cell(text: &mut Vec<u8>, cell: Cell) -> Result<(), AllocError> {
+    match cell {
+        Cell::Boolean(false) => push(text, "."),
+        _ => push_cell(text, cell),
+    }
+}
+
+/// The length of the longest name.
+fn name_width(shown: &Shown) -> usize {
+    let mut width = "instant".len();
+    for column in shown.columns {
+        width = width.max(column.name.len());
+    }
+    width
+}
+
+/// Adds the line of the verdict.
+pub(crate) fn push_title(text: &mut Vec<u8>, shown: &Shown) -> Result<(), AllocError> {
+    push_verdict(text, shown.trace, shown.marks.verdict)?;
+    push(text, "\n")
+}
+
+/// Adds a name, filled up with spaces.
+fn push_name(text: &mut Vec<u8>, name: &str, width: usize) -> Result<(), AllocError> {
+    push(text, name)?;
+    push_spaces(
+        text,
+        usize::saturating_add(width, 1).saturating_sub(name.len()),
+    )
+}
+
+impl Block {
+    /// No instant yet.
+    pub(crate) fn new(alloc: Global) -> Block {
+        Block {
+            first: 0,
+            widths: Vec::new(alloc),
+            cells: Vec::new(alloc),
+            length: 0,
+        }
+    }
+
+    /// The width of the column of an instant.
+    fn column_width(shown: &Shown, t: u32, cells: &[Cell]) -> usize {
+        let decides = usize::from(deciding(shown.marks.verdict) == Some(t));
+        let mut width = usize::saturating_add(digits(u64::from(t)), decides);
+        for (column, cell) in shown.columns.iter().zip(cells.iter()) {
+            let mark = usize::from(shown.marks.decides(column.element, *cell, t));
+            width = width.max(usize::saturating_add(cell_width(*cell), mark));
+        }
+        width
+    }
+
+    /// Takes an instant; what does not fit a line with it is written first.
+    pub(crate) fn push(
+        &mut self,
+        text: &mut Vec<u8>,
+        shown: &Shown,
+        t: u32,
+        cells: &[Cell],
+    ) -> Result<(), AllocError> {
+        let width = usize::saturating_add(Block::column_width(shown, t, cells), 1);
+        if !self.widths.is_empty() && usize::saturating_add(self.length, width) > LINE {
+            self.write(text, shown)?;
+        }
+        if self.widths.is_empty() {
+            self.first = t;
+            self.length = usize::saturating_add(name_width(shown), 1);
+        }
+        self.widths.push(width)?;
+        self.length = usize::saturating_add(self.length, width);
+        self.cells.extend_from_slice(cells)
+    }
+
+    /// Adds the line of the numbers of the instants.
+    fn push_instants(
+        &self,
+        text: &mut Vec<u8>,
+        shown: &Shown,
+        width: usize,
+    ) -> Result<(), AllocError> {
+        push_name(text, "instant", width)?;
+        for (place, column) in self.widths.iter().enumerate() {
+            let t = u64::from(self.first).saturating_add(place as u64);
+            let decides = deciding(shown.marks.verdict).map(u64::from) == Some(t);
+            let taken = usize::saturating_add(digits(t), usize::from(decides));
+            push_spaces(text, column.saturating_sub(taken))?;
+            if decides {
+                push(text, ">")?;
+            }
+            push_number(text, t)?;
+        }
+        push(text, "\n")
+    }
+
+    /// Adds the line of an element, the one at a place among those that are shown.
+    fn push_row(
+        &self,
+        text: &mut Vec<u8>,
+        shown: &Shown,
+        row: usize,
+        width: usize,
+    ) -> Result<(), AllocError> {
+        let Some(column) = shown.columns.get(row) else {
+            return Ok(());
+        };
+        push(text, column.name.as_str())?;
+        let mut place = row;
+        let mut t = self.first;
+        let mut blanks = usize::saturating_add(width, 1).saturating_sub(column.name.len());
+        for room in &self.widths {
+            let cell = self.cells.get(place).copied().unwrap_or(Cell::Absent);
+            let is_marked = shown.marks.decides(column.element, cell, t);
+            blanks = usize::saturating_add(blanks, *room);
+            if cell != Cell::Absent {
+                let taken = usize::saturating_add(cell_width(cell), usize::from(is_marked));
+                push_spaces(text, blanks.saturating_sub(taken))?;
+                push(text, if is_marked { ">" } else { "" })?;
+                push_table_cell(text, cell)?;
+                blanks = 0;
+            }
+            place = usize::saturating_add(place, shown.columns.len());
+            t = u32::saturating_add(t, 1);
+        }
+        push(text, "\n")
+    }
+
+    /// Adds what was taken so far, if anything was.
+    pub(crate) fn write(&mut self, text: &mut Vec<u8>, shown: &Shown) -> Result<(), AllocError> {
+        if self.widths.is_empty() {
+            return Ok(());
+        }
+        push(text, "\n")?;
+        let width = name_width(shown);
+        self.push_instants(text, shown, width)?;
+        for row in 0..shown.columns.len() {
+            self.push_row(text, shown, row, width)?;
+        }
+        self.widths.clear();
+        self.cells.clear();
+        Ok(())
+    }
+}

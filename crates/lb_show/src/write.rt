@@ -1,0 +1,68 @@
+//! Adding to a text.
+
+ghost use Rattle.std.specs.Prelude.{◌≡◌, ◌++◌, decimal, OnOk};
+ghost use Rattle.std.specs.Fmt.{signed_decimal};
+ghost use Rattle.lb_history.specs.Cells.{cell_of};
+ghost use Rattle.lb_show.specs.CsvTexts.{cell_text};
+
+use itoa::Buffer;
+use lb_history::Cell;
+use std::alloc::AllocError;
+
+/// After how many bytes a part of a text ends.
+pub(crate) const CHUNK: usize = 65536;
+
+/// Adds a text.
+pub(crate) fn push(text: &mut Vec<u8>, more: &str) -> Result<(), AllocError>
+    ensures { OnOk result (text.new.items ≡ text.old.items ++ more.now) }
+{
+    text.extend_from_slice(more.as_bytes())
+}
+
+/// Adds a number.
+pub(crate) fn push_number(text: &mut Vec<u8>, n: u64) -> Result<(), AllocError>
+    ensures { OnOk result (text.new.items ≡ text.old.items ++ decimal n) }
+{
+    text.extend_from_slice(Buffer::new().format(n).as_bytes())
+}
+
+/// Adds an `int`.
+pub(crate) fn push_integer(text: &mut Vec<u8>, n: i32) -> Result<(), AllocError>
+    ensures { OnOk result (text.new.items ≡ text.old.items ++ signed_decimal n) }
+{
+    text.extend_from_slice(Buffer::new().format(n).as_bytes())
+}
+
+/// Adds so many spaces.
+pub(crate) fn push_spaces(text: &mut Vec<u8>, count: usize) -> Result<(), AllocError> {
+    for _ in 0..count {
+        text.push(b' ')?;
+    }
+    Ok(())
+}
+
+/// Adds a cell as a number, 0 or 1; nothing where it is absent, `?` where it is nil, and `!` where
+/// it is the value of a fault.
+pub(crate) fn push_cell(text: &mut Vec<u8>, cell: Cell) -> Result<(), AllocError>
+    ensures { OnOk result (text.new.items ≡ text.old.items ++ cell_text (cell_of cell)) }
+{
+    match cell {
+        Cell::Absent => Ok(()),
+        Cell::Nil => push(text, "?"),
+        Cell::Bad => push(text, "!"),
+        Cell::Integer(z) => push_integer(text, z),
+        Cell::Boolean(false) => push(text, "0"),
+        Cell::Boolean(true) => push(text, "1"),
+    }
+}
+
+/// How many characters the decimal digits of a number are.
+pub(crate) fn digits(n: u64) -> usize {
+    let mut count = 1;
+    let mut rest = n / 10;
+    'digits: while rest > 0 {
+        count = usize::saturating_add(count, 1);
+        rest /= 10;
+    }
+    count
+}
