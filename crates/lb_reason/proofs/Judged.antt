@@ -1,0 +1,168 @@
+-- The row of the instant that decides a verdict.
+use Rattle.std.proofs.Common.{◌≡◌, ◌∙◌, ◌<◌, ℕ, zero, suc, ◌+◌, List, [], ◌∷◌, Bool, true, false}
+use Rattle.std.proofs.Common.{Some, None, ap, arith, get_or, length, refl, subst, sym}
+use Rattle.std.proofs.Common.{is_some, map}
+use Rattle.std.specs.Prelude.{if◌then◌else◌}
+use Rattle.lb_check.specs.Solutions.{Inputs}
+use Rattle.lb_check.specs.Verdicts as verdicts
+use Rattle.lb_check.specs.Verdicts.{or_later}
+use Rattle.lb_check.specs.declared.verdict.Verdict.{Verdict}
+use Rattle.lb_check.specs.declared.verdict.Verdict.TheVariants.{Passed, Fault, Undefined, Assertion}
+use Rattle.lb_check.specs.declared.verdict.Verdict.TheVariants.{False}
+use Rattle.lb_flat.specs.Judging.{FlatProgram, flat_verdict, named_elements, row_judged}
+use Rattle.lb_flat.specs.Judging.{rows_judged, some_in, truth_elements}
+use Rattle.lb_flat.specs.Flat.{FlatEquation}
+use Rattle.lb_flat.specs.Run.{Row, advanced, row_of, run}
+use Rattle.lb_flat.proofs.Judging.{length-run}
+use Rattle.lb_history.specs.Replaying.{equations_before, row_at}
+use Rattle.lb_reason.specs.Deciding.{is_bad, is_false, is_nil}
+use Rattle.lb_reason.specs.Reasons.{first_place, instant_of}
+use Rattle.lb_reason.proofs.Firsts.{some_first}
+
+-- ## The rows of a run
+
+module _ (size : ℕ) where
+  later :
+      (Q : List FlatEquation) (given : _) (X : Inputs) (t : ℕ) →
+      equations_before size Q (given ∷ X) (suc t)
+      ≡ equations_before size (map (advanced (row_of size Q given)) Q) X t
+  later Q given X zero = refl
+  later Q given X (suc t) =
+      ap (λ (E : List FlatEquation). map (advanced (row_of size E (get_or X t []))) E)
+      (later Q given X t)
+
+  -- the rows of a run, one by one
+  run_row :
+      (Q : List FlatEquation) (X : Inputs) (t : ℕ) → t < length X →
+      get_or (run size Q X) t [] ≡ row_of size (equations_before size Q X t) (get_or X t [])
+  run_row Q [] t lt = absurd (omega arith)
+  run_row Q (given ∷ X) zero lt = refl
+  run_row Q (given ∷ X) (suc t) lt =
+      run_row (map (advanced (row_of size Q given)) Q) X t (omega arith)
+      ∙ ap (λ E. row_of size E (get_or X t [])) (sym (later Q given X t))
+
+-- ## What a row is asked
+
+-- the verdict at instant s by what is found there
+abbrev found : (a b c d : Bool) → (s : ℕ) → Verdict
+found a b c d s =
+    if a then Fault s else if b then Undefined s else if c then Assertion s else
+    if d then False s else Passed
+
+-- it has this instant
+found_at :
+    (a b c d : Bool) (s u : ℕ) → instant_of (found a b c d s) ≡ Some u → s ≡ u
+found_at true b c d s u is = cc
+found_at false true c d s u is = cc
+found_at false false true d s u is = cc
+found_at false false false true s u is = cc
+found_at false false false false s u is = absurd (cc)
+
+-- what a verdict stands for
+abbrev meant : Verdict → (a b c d : Bool) → Bool
+meant Passed a b c d = false
+meant (Fault t) a b c d = a
+meant (Undefined t) a b c d = b
+meant (Assertion t) a b c d = c
+meant (False t) a b c d = d
+
+found_is :
+    (a b c d : Bool) (s u : ℕ) → instant_of (found a b c d s) ≡ Some u →
+    meant (found a b c d s) a b c d ≡ true
+found_is true b c d s u is = refl
+found_is false true c d s u is = refl
+found_is false false true d s u is = refl
+found_is false false false true s u is = refl
+found_is false false false false s u is = absurd (cc)
+
+-- ## The instant of a verdict
+
+-- an instant of some rows, of which the first is that of instant s, whose row gives a verdict
+record IsJudgedAt (f : FlatProgram) (s : ℕ) (rows : List Row) (v : Verdict) (t : ℕ) : Type 0 where
+  place : ℕ
+  is : t ≡ s + place
+  within : place < length rows
+  gives : row_judged f t (get_or rows place []) ≡ v
+
+module _ (f : FlatProgram) (s : ℕ) (row : Row) (rows : List Row) (v : Verdict) (t : ℕ)
+    (is : instant_of v ≡ Some t) where
+  judged_here : row_judged f s row ≡ v → IsJudgedAt f s (row ∷ rows) v t
+  judged_here gives =
+      let at : s ≡ t = found_at _ _ _ _ s t (ap instant_of gives ∙ is) in
+      record {
+        place = 0;
+        is = omega (arith, at);
+        within = omega arith;
+        gives = subst (λ (u : ℕ). row_judged f u row ≡ v) at gives;
+      }
+
+  judged_later : IsJudgedAt f (suc s) rows v t → IsJudgedAt f s (row ∷ rows) v t
+  judged_later h = record {
+    place = suc h.place;
+    is = omega (arith, h.is);
+    within = omega (arith, h.within);
+    gives = h.gives;
+  }
+
+  judged_more :
+      (w : Verdict) → row_judged f s row ≡ w → v ≡ or_later w (rows_judged f (suc s) rows) →
+      (v ≡ rows_judged f (suc s) rows → IsJudgedAt f (suc s) rows v t) →
+      IsJudgedAt f s (row ∷ rows) v t
+  judged_more Passed gives same later = judged_later (later same)
+  judged_more (Fault u) gives same later = judged_here (gives ∙ sym same)
+  judged_more (Undefined u) gives same later = judged_here (gives ∙ sym same)
+  judged_more (Assertion u) gives same later = judged_here (gives ∙ sym same)
+  judged_more (False u) gives same later = judged_here (gives ∙ sym same)
+
+judged_in :
+    (f : FlatProgram) (s : ℕ) (rows : List Row) (v : Verdict) (t : ℕ) → instant_of v ≡ Some t →
+    v ≡ rows_judged f s rows → IsJudgedAt f s rows v t
+judged_in f s [] v t is same =
+    let none : instant_of v ≡ None = ap instant_of same in absurd (cc)
+judged_in f s (row ∷ rows) v t is same =
+    judged_more f s row rows v t is (row_judged f s row) refl same
+    (judged_in f (suc s) rows v t is)
+
+-- the instant is one of the trace, and its row gives the verdict
+pub judged_at :
+    (f : FlatProgram) (X : Inputs) (v : Verdict) (t : ℕ) → instant_of v ≡ Some t →
+    v ≡ flat_verdict f X → (t < length X) × (row_judged f t (row_at f X t) ≡ v)
+judged_at f X v t is same =
+    let rows = run f.size f.equations X in
+    let h = judged_in f 0 rows v t is same in
+    let at : h.place ≡ t = omega (arith, h.is) in
+    let lt : t < length X = omega (arith, h.within, at, length-run f.size f.equations X) in
+    let row : get_or rows h.place [] ≡ row_at f X t =
+    ap (λ i. get_or rows i []) at ∙ run_row f.size f.equations X t lt in
+    (lt, subst (λ (r : Row). row_judged f t r ≡ v) row h.gives)
+
+-- ## The place of a verdict
+
+-- a verdict that no place has is not meant
+no_place :
+    (f : FlatProgram) (row : Row) (v : Verdict) → first_place f row v ≡ None →
+    meant v (some_in verdicts.is_bad row (named_elements f))
+    (some_in verdicts.is_nil row (truth_elements f)) (some_in verdicts.is_false row f.asserted)
+    (some_in verdicts.is_false row (f.property ∷ [])) ≡ false
+no_place f row Passed none = refl
+no_place f row (Fault t) none =
+    some_first is_bad row (named_elements f) ∙ ap is_some none
+no_place f row (Undefined t) none =
+    some_first is_nil row (truth_elements f) ∙ ap is_some none
+no_place f row (Assertion t) none = some_first is_false row f.asserted ∙ ap is_some none
+no_place f row (False t) none = some_first is_false row (f.property ∷ []) ∙ ap is_some none
+
+-- a row that gives a verdict has a place of it
+pub has_place :
+    (f : FlatProgram) (t : ℕ) (row : Row) (v : Verdict) (u : ℕ) → instant_of v ≡ Some u →
+    row_judged f t row ≡ v → first_place f row v ≡ None → ⊥
+has_place f t row v u is gives none =
+    let a = some_in verdicts.is_bad row (named_elements f) in
+    let b = some_in verdicts.is_nil row (truth_elements f) in
+    let c = some_in verdicts.is_false row f.asserted in
+    let d = some_in verdicts.is_false row (f.property ∷ []) in
+    let found_true : meant v a b c d ≡ true =
+    subst (λ (w : Verdict). meant w a b c d ≡ true) gives
+    (found_is a b c d t u (ap instant_of gives ∙ is)) in
+    let found_false : meant v a b c d ≡ false = no_place f row v none in
+    cc

@@ -1,0 +1,241 @@
+//! Expressions as they stand in the text of a source.
+
+use lb_syntax::{BinaryOperator, Expr, Static};
+use std::alloc::{AllocError, Global};
+
+/// The most characters of an expression that are told; behind them stands `..`.
+const MOST: usize = 60;
+
+/// More forms within one another than a text has.
+const DEEPEST: usize = 1_000_000;
+
+/// The sign of an operator.
+pub(crate) fn sign_of(op: BinaryOperator) -> &'static str {
+    match op {
+        BinaryOperator::Or => "or",
+        BinaryOperator::Xor => "xor",
+        BinaryOperator::And => "and",
+        BinaryOperator::Implies => "=>",
+        BinaryOperator::Equal => "=",
+        BinaryOperator::Unequal => "<>",
+        BinaryOperator::Less => "<",
+        BinaryOperator::AtMost => "<=",
+        BinaryOperator::Greater => ">",
+        BinaryOperator::AtLeast => ">=",
+        BinaryOperator::Plus => "+",
+        BinaryOperator::Minus => "-",
+        BinaryOperator::Times => "*",
+        BinaryOperator::Divide => "/",
+        BinaryOperator::Modulo => "mod",
+    }
+}
+
+/// Where a form ends, but for the brackets that close behind it.
+#[derive(Clone, Copy)]
+struct Ending {
+    /// The end of its last name or number.
+    at: usize,
+    /// How many brackets close behind that.
+    brackets: usize,
+}
+
+/// The byte of a text at a place.
+fn byte_at(text: &[u8], at: usize) -> u8 {
+    text.get(at).copied().unwrap_or(0)
+}
+
+/// Where the digits or letters that begin at a place end.
+fn word_end(text: &[u8], start: usize) -> usize {
+    for at in start..text.len() {
+        let b = byte_at(text, at);
+        if !b.is_ascii_alphanumeric() && b != b'_' {
+            return at;
+        }
+    }
+    text.len()
+}
+
+/// Where a static expression ends.
+fn static_end(text: &[u8], written: &Static, brackets: usize) -> Ending {
+    let mut brackets = brackets;
+    let mut inner = written;
+    for _ in 0..DEEPEST {
+        match inner {
+            Static::Whole(_, at) => {
+                let at = word_end(text, *at as usize);
+                return Ending { at, brackets };
+            }
+            Static::Named(name) => {
+                let at = word_end(text, name.offset() as usize);
+                return Ending { at, brackets };
+            }
+            Static::Negated(e, _) | Static::Combined(_, _, e, _) => inner = e,
+            Static::Grouped(e, _) => {
+                brackets = brackets.saturating_add(1);
+                inner = e;
+            }
+        }
+    }
+    Ending { at: 0, brackets }
+}
+
+/// The last of some operands, or the end of the word that begins at a place.
+fn last_of<'e>(
+    text: &[u8],
+    list: &'e [Expr],
+    at: u32,
+    brackets: usize,
+) -> Result<&'e Expr, Ending> {
+    match list.last() {
+        Some(last) => Ok(last),
+        None => Err(Ending {
+            at: word_end(text, at as usize),
+            brackets,
+        }),
+    }
+}
+
+/// Where a form ends, or the form that it ends with, behind which so many brackets close.
+fn last_form<'e>(
+    text: &[u8],
+    expr: &'e Expr,
+    brackets: usize,
+) -> (Result<&'e Expr, Ending>, usize) {
+    let more = brackets.saturating_add(1);
+    match expr {
+        Expr::Literal(_, at) | Expr::Truth(_, at) => {
+            let at = word_end(text, *at as usize);
+            (Err(Ending { at, brackets }), brackets)
+        }
+        Expr::Variable(name) | Expr::When(_, name, _, _) => {
+            let at = word_end(text, name.offset() as usize);
+            (Err(Ending { at, brackets }), brackets)
+        }
+        Expr::Unary(_, e, _) | Expr::Pre(e, _) | Expr::Current(e, _) => (Ok(&**e), brackets),
+        Expr::Binary(_, _, e, _) | Expr::If(_, _, e, _) => (Ok(&**e), brackets),
+        Expr::Arrow(_, e, _) | Expr::Fby(_, e, _) | Expr::Join(_, e, _) => (Ok(&**e), brackets),
+        Expr::Group(e, _) => (Ok(&**e), more),
+        Expr::Replicate(_, n, _) => (Err(static_end(text, n, brackets)), brackets),
+        Expr::Index(_, i, _) | Expr::Slice(_, _, i, _) => (Err(static_end(text, i, more)), more),
+        Expr::Array(list, at) | Expr::AtMostOne(list, at) | Expr::Nor(list, at) => {
+            (last_of(text, list, *at, more), more)
+        }
+        Expr::Call(name, _, list) => (last_of(text, list, name.offset(), more), more),
+        Expr::Iterate(_, _, _, list, at) => (last_of(text, list, *at, more), more),
+    }
+}
+
+/// Where a comment ends that begins at a place, or that place.
+fn comment_end(text: &[u8], at: usize) -> usize {
+    if byte_at(text, at) != b'-' || byte_at(text, at.saturating_add(1)) != b'-' {
+        return at;
+    }
+    for end in at..text.len() {
+        if byte_at(text, end) == b'\n' {
+            return end;
+        }
+    }
+    text.len()
+}
+
+/// Where so many brackets have closed, from a place on.
+fn closed(text: &[u8], ending: Ending) -> usize {
+    let mut at = ending.at;
+    let mut left = ending.brackets;
+    for _ in ending.at..text.len() {
+        if left == 0 {
+            return at;
+        }
+        let end = comment_end(text, at);
+        if end > at {
+            at = end;
+            continue;
+        }
+        if byte_at(text, at) == b')' || byte_at(text, at) == b']' {
+            left = left.saturating_sub(1);
+        }
+        at = at.saturating_add(1);
+    }
+    at
+}
+
+/// Where an expression ends in the text of its source.
+fn end_of(text: &[u8], expr: &Expr) -> usize {
+    let mut brackets = 0;
+    let mut inner = expr;
+    for _ in 0..DEEPEST {
+        let (form, more) = last_form(text, inner, brackets);
+        brackets = more;
+        match form {
+            Ok(last) => inner = last,
+            Err(ending) => return closed(text, ending),
+        }
+    }
+    text.len()
+}
+
+/// Puts an expression as it stands in the text of its source, in one line and without comments.
+pub(crate) fn put_expression(
+    alloc: Global,
+    page: &mut Vec<u8>,
+    text: &[u8],
+    expr: &Expr,
+) -> Result<(), AllocError> {
+    let start = expr.offset() as usize;
+    let end = end_of(text, expr).min(text.len());
+    let mut line: Vec<u8> = Vec::new(alloc);
+    let mut at = start;
+    for _ in start..end {
+        at = comment_end(text, at);
+        if at >= end || line.len() >= MOST {
+            break;
+        }
+        let b = byte_at(text, at);
+        if b > b' ' {
+            line.push(b)?;
+        } else if line.last().copied() != Some(b' ') {
+            line.push(b' ')?;
+        }
+        at = at.saturating_add(1);
+    }
+    if line.last().copied() == Some(b' ') {
+        line.pop();
+    }
+    page.extend_from_slice(line.as_slice())?;
+    if at < end {
+        page.extend_from_slice(b" ..")
+    } else {
+        Ok(())
+    }
+}
+
+/// The expression without the parentheses round it.
+pub(crate) fn ungrouped(expr: &Expr) -> &Expr {
+    let mut inner = expr;
+    for _ in 0..DEEPEST {
+        match inner {
+            Expr::Group(e, _) => inner = &**e,
+            _ => return inner,
+        }
+    }
+    inner
+}
+
+/// Whether an operator joins truths.
+pub(crate) fn joins(op: BinaryOperator) -> bool {
+    matches!(
+        op,
+        BinaryOperator::And | BinaryOperator::Or | BinaryOperator::Implies | BinaryOperator::Xor
+    )
+}
+
+/// Whether an expression is told by its text: a variable or a number, perhaps with one sign.
+pub(crate) fn is_short(expr: &Expr) -> bool {
+    match ungrouped(expr) {
+        Expr::Unary(_, e, _) | Expr::Pre(e, _) | Expr::Index(e, _, _) => {
+            matches!(&**e, Expr::Variable(_))
+        }
+        Expr::Variable(_) | Expr::Literal(_, _) | Expr::Truth(_, _) => true,
+        _ => false,
+    }
+}

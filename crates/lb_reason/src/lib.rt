@@ -1,0 +1,17 @@
+//! Why a trace does not pass.
+#![tactic(auto)]
+
+mod arguments;
+mod deciding;
+mod expressions;
+mod finding;
+mod laws;
+mod moment;
+mod page;
+mod report;
+mod site;
+mod told;
+
+pub use finding::{Reason, Step, find_reason};
+pub use laws::reasons_lead_to_where_they_arise;
+pub use report::{Explained, explain_traces};

@@ -1,0 +1,59 @@
+//! Why the traces of a report do not pass.
+
+ghost use Rattle.std.specs.Prelude.{◌≤◌, length};
+
+use crate::site::Subject;
+use crate::told::{Recorded, put_reason};
+use lb_check::Checked;
+use lb_flat::{Ordered, TraceSet};
+use lb_show::{Lines, signals_of};
+use std::alloc::{AllocError, Global};
+
+/// A program and recorded traces of it, with the text that the program is read of.
+#[derive(Clone, Copy)]
+pub struct Explained<'a, 's> {
+    /// The name of the file.
+    pub file: &'a str,
+    pub source: &'a [u8],
+    pub checked: &'a Checked<'s>,
+    pub ordered: &'a Ordered,
+    pub set: &'a TraceSet,
+}
+
+/// Tells why some traces do not pass, by their numbers: for each a line with its name, its verdict
+/// and what decides that, and where the property or an assertion is false the steps behind it.
+pub fn explain_traces(
+    alloc: Global,
+    explained: Explained<'_, '_>,
+    numbers: &[u32],
+) -> Result<Vec<u8>, AllocError> {
+    let Explained {
+        file,
+        source,
+        checked,
+        ordered,
+        set,
+    } = explained;
+    let lines = Lines::of(alloc, source)?;
+    let signals = signals_of(alloc, source, checked.elab())?;
+    let subject = Subject {
+        file,
+        source,
+        lines: &lines,
+        elab: checked.elab(),
+        program: &ordered.program,
+        signals: &signals,
+    };
+    let mut page = Vec::new(alloc);
+    for k in numbers {
+        if *k < set.len() {
+            let recorded = Recorded {
+                ordered,
+                set,
+                k: *k,
+            };
+            put_reason(alloc, &mut page, subject, recorded)?;
+        }
+    }
+    Ok(page)
+}

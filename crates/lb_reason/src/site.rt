@@ -1,0 +1,325 @@
+//! Where in a source an element of a flat program stands.
+
+use crate::arguments::argument_in;
+use lb_flat::{ElementId, FlatProgram, Operation};
+use lb_show::{Lines, Scope, Signal, Signals, Spot};
+use lb_static::{Elab, Origin, ResolvedNode, ResolvedStatement, Term, VariableId};
+use lb_syntax::{Declarations, Expr, Statement};
+use std::alloc::{AllocError, Global};
+
+/// More parentheses than a text has round an expression.
+const DEEPEST: usize = 1_000_000;
+
+/// A program with the text that it is read of.
+#[derive(Clone, Copy)]
+pub(crate) struct Subject<'a, 's> {
+    /// The name of the file.
+    pub(crate) file: &'a str,
+    pub(crate) source: &'a [u8],
+    pub(crate) lines: &'a Lines,
+    pub(crate) elab: &'a Elab<'s>,
+    pub(crate) program: &'a FlatProgram,
+    pub(crate) signals: &'a Signals,
+}
+
+/// An expression in the node of an instance.
+#[derive(Clone, Copy)]
+pub(crate) struct Site<'a> {
+    /// The place of the instance.
+    pub(crate) row: usize,
+    pub(crate) term: &'a Term,
+    pub(crate) expr: &'a Expr,
+}
+
+/// A statement of the node of an instance, with its expression.
+#[derive(Clone, Copy)]
+pub(crate) struct Placed<'a> {
+    pub(crate) offset: u32,
+    pub(crate) site: Site<'a>,
+}
+
+impl<'a> Site<'a> {
+    /// Another expression of the same node.
+    pub(crate) fn at(&self, term: &'a Term, expr: &'a Expr) -> Site<'a> {
+        Site {
+            row: self.row,
+            term,
+            expr,
+        }
+    }
+
+    /// The same expression without the parentheses round it.
+    pub(crate) fn ungrouped(&self) -> Site<'a> {
+        let mut site = *self;
+        for _ in 0..DEEPEST {
+            match (site.term, site.expr) {
+                (Term::Group(term), Expr::Group(expr, _)) => site = site.at(&**term, &**expr),
+                _ => return site,
+            }
+        }
+        site
+    }
+
+    /// Whether an operation is the one that the expression has.
+    pub(crate) fn fits(&self, operation: Operation) -> bool {
+        let site = self.ungrouped();
+        match (site.term, operation) {
+            (Term::Unary(_, _), Operation::ApplyUnary(_, _)) => true,
+            (Term::Binary(op, _, _), Operation::ApplyBinary(other, _, _)) => *op == other,
+            (Term::If(_, _, _), Operation::Choose(_, _, _)) => true,
+            (Term::Arrow(_, _) | Term::Fby(_, _), Operation::FirstThen(_, _, _)) => true,
+            (Term::Pre(_) | Term::Fby(_, _), Operation::Previous(_, _)) => true,
+            (Term::Current(_), Operation::Latest(_, _)) => true,
+            (Term::When(_, _, _), Operation::Sample(_)) => true,
+            (Term::AtMostOne(_) | Term::Nor(_), Operation::ApplyUnary(_, _)) => true,
+            (Term::Literal(_) | Term::Truth(_) | Term::Value(_), Operation::Constant(_)) => true,
+            _ => false,
+        }
+    }
+
+    /// The operands of an expression with their elements, where they can be told.
+    pub(crate) fn operands(&self, operation: Operation) -> [Option<(Site<'a>, ElementId)>; 3] {
+        let site = self.ungrouped();
+        match (site.term, site.expr, operation) {
+            (Term::Unary(_, t), Expr::Unary(_, e, _), Operation::ApplyUnary(_, a)) => {
+                [Some((site.at(&**t, &**e), a)), None, None]
+            }
+            (Term::Binary(_, t, u), Expr::Binary(_, e, f, _), Operation::ApplyBinary(_, a, b)) => [
+                Some((site.at(&**t, &**e), a)),
+                Some((site.at(&**u, &**f), b)),
+                None,
+            ],
+            (Term::If(t, u, v), Expr::If(e, f, g, _), Operation::Choose(a, b, c)) => [
+                Some((site.at(&**t, &**e), a)),
+                Some((site.at(&**u, &**f), b)),
+                Some((site.at(&**v, &**g), c)),
+            ],
+            (Term::Arrow(t, u), Expr::Arrow(e, f, _), Operation::FirstThen(_, a, b)) => [
+                Some((site.at(&**t, &**e), a)),
+                Some((site.at(&**u, &**f), b)),
+                None,
+            ],
+            (Term::Fby(t, _), Expr::Fby(e, _, _), Operation::FirstThen(_, a, b)) => {
+                [Some((site.at(&**t, &**e), a)), Some((site, b)), None]
+            }
+            (Term::Fby(_, t), Expr::Fby(_, e, _), Operation::Previous(_, a)) => {
+                [Some((site.at(&**t, &**e), a)), None, None]
+            }
+            (Term::Pre(t), Expr::Pre(e, _), Operation::Previous(_, a)) => {
+                [Some((site.at(&**t, &**e), a)), None, None]
+            }
+            (Term::Current(t), Expr::Current(e, _), Operation::Latest(_, a)) => {
+                [Some((site.at(&**t, &**e), a)), None, None]
+            }
+            (Term::When(t, _, _), Expr::When(e, _, _, _), Operation::Sample(a)) => {
+                [Some((site.at(&**t, &**e), a)), None, None]
+            }
+            _ => [None, None, None],
+        }
+    }
+
+    /// The operand that has an element, where it can be told.
+    pub(crate) fn operand(&self, operation: Operation, element: ElementId) -> Option<Site<'a>> {
+        for operand in self.operands(operation) {
+            if let Some((site, own)) = operand {
+                if own == element {
+                    return Some(site);
+                }
+            }
+        }
+        None
+    }
+}
+
+/// What a whole expression stands for.
+#[derive(Clone, Copy)]
+pub(crate) enum Owner {
+    /// The variable that it defines, or the input of an instance that it is given to.
+    Variable(ElementId),
+    /// The assertion with this number, counted over all instances.
+    Assertion(usize),
+}
+
+/// A whole expression, with its element.
+#[derive(Clone, Copy)]
+pub(crate) struct Whole {
+    pub(crate) root: ElementId,
+    pub(crate) owner: Owner,
+}
+
+/// Whether a root comes behind an element, and before the nearest one so far.
+fn is_nearer(root: ElementId, element: ElementId, nearest: Option<Whole>) -> bool {
+    match nearest {
+        Some(whole) => root.0 >= element.0 && root.0 < whole.root.0,
+        None => root.0 >= element.0,
+    }
+}
+
+/// The offset of the name at a place among those of some groups, or how many names they have.
+fn name_in(groups: &[Declarations], place: usize) -> Result<u32, usize> {
+    let mut before: usize = 0;
+    for group in groups {
+        for name in &group.names {
+            if before == place {
+                return Ok(name.offset());
+            }
+            before = before.saturating_add(1);
+        }
+    }
+    Err(before)
+}
+
+impl<'a, 's> Subject<'a, 's> {
+    /// The node of an instance.
+    pub(crate) fn node(&self, row: usize) -> Option<&'a ResolvedNode<'s>> {
+        let table = self.elab.table();
+        let instance = table.instances.get(row)?;
+        let id = instance.specialization.0 as usize;
+        let specialization = table.specializations.get(id)?;
+        self.elab.reached().nodes.get(specialization.node.0)
+    }
+
+    /// The place of a byte of the source.
+    pub(crate) fn spot(&self, offset: u32) -> Spot {
+        self.lines.spot(offset as usize)
+    }
+
+    /// The variable that an element is one of, with its instance.
+    pub(crate) fn signal(&self, element: ElementId) -> Option<&'a Signal> {
+        self.signals.signals.get(element.0 as usize)
+    }
+
+    /// An instance.
+    pub(crate) fn scope(&self, row: usize) -> Option<&'a Scope> {
+        self.signals.scopes.get(row)
+    }
+
+    /// The statement at a place of the node of an instance.
+    fn placed(&self, row: usize, place: usize) -> Option<Placed<'a>> {
+        let node = self.node(row)?;
+        let tree: &'a lb_syntax::Node = node.tree;
+        match (node.body.get(place)?, tree.body.get(place)?) {
+            (ResolvedStatement::Equation(_, term), Statement::Equation(_, expr, offset)) => {
+                Some(Placed {
+                    offset: *offset,
+                    site: Site { row, term, expr },
+                })
+            }
+            (ResolvedStatement::Assertion(term), Statement::Assertion(expr, offset)) => {
+                Some(Placed {
+                    offset: *offset,
+                    site: Site { row, term, expr },
+                })
+            }
+            _ => None,
+        }
+    }
+
+    /// The statement that defines a variable of an instance.
+    pub(crate) fn definition(&self, row: usize, variable: VariableId) -> Option<Placed<'a>> {
+        let node = self.node(row)?;
+        for (place, statement) in node.body.iter().enumerate() {
+            if let ResolvedStatement::Equation(lefts, _) = statement {
+                if lefts.as_slice().contains(&variable) {
+                    return self.placed(row, place);
+                }
+            }
+        }
+        None
+    }
+
+    /// The assertion with a number, counted over all instances.
+    pub(crate) fn assertion(&self, number: usize) -> Option<Placed<'a>> {
+        let mut before: usize = 0;
+        for row in 0..self.elab.table().instances.len() {
+            let node = self.node(row)?;
+            for (place, statement) in node.body.iter().enumerate() {
+                if let ResolvedStatement::Assertion(_) = statement {
+                    if before == number {
+                        return self.placed(row, place);
+                    }
+                    before = before.saturating_add(1);
+                }
+            }
+        }
+        None
+    }
+
+    /// The assertion that has an element.
+    pub(crate) fn assertion_with(&self, element: ElementId) -> Option<Placed<'a>> {
+        for (number, asserted) in self.program.asserted.as_slice().iter().enumerate() {
+            if asserted.0 == element.0 {
+                return self.assertion(number);
+            }
+        }
+        None
+    }
+
+    /// Where a variable of an instance is declared.
+    pub(crate) fn declaration(&self, row: usize, variable: VariableId) -> u32 {
+        let Some(node) = self.node(row) else {
+            return 0;
+        };
+        let tree = node.tree;
+        let inputs = match name_in(tree.inputs.as_slice(), variable.0) {
+            Ok(offset) => return offset,
+            Err(count) => count,
+        };
+        let rest = variable.0.saturating_sub(inputs);
+        let outputs = match name_in(tree.outputs.as_slice(), rest) {
+            Ok(offset) => return offset,
+            Err(count) => count,
+        };
+        let rest = rest.saturating_sub(outputs);
+        name_in(tree.locals.as_slice(), rest).unwrap_or(tree.offset)
+    }
+
+    /// The whole expression in which an element stands that is none of a variable: elements are
+    /// numbered as the text goes, so it is the one whose own element comes next.
+    pub(crate) fn enclosing(&self, element: ElementId) -> Option<Whole> {
+        let mut nearest: Option<Whole> = None;
+        for q in &self.program.equations {
+            let Operation::Copy(root) = q.operation else {
+                continue;
+            };
+            if q.element.0 < self.program.variables && is_nearer(root, element, nearest) {
+                let owner = Owner::Variable(q.element);
+                nearest = Some(Whole { root, owner });
+            }
+        }
+        for (number, root) in self.program.asserted.as_slice().iter().enumerate() {
+            if is_nearer(*root, element, nearest) {
+                let owner = Owner::Assertion(number);
+                nearest = Some(Whole { root: *root, owner });
+            }
+        }
+        nearest
+    }
+
+    /// The argument that an input of an instance is given where that is called.
+    pub(crate) fn argument(
+        &self,
+        alloc: Global,
+        row: usize,
+        input: VariableId,
+    ) -> Result<Option<Site<'a>>, AllocError> {
+        let Some(instance) = self.elab.table().instances.get(row) else {
+            return Ok(None);
+        };
+        let Origin::Called { caller, call, .. } = instance.origin else {
+            return Ok(None);
+        };
+        let above = caller.0 as usize;
+        let Some(node) = self.node(above) else {
+            return Ok(None);
+        };
+        for place in 0..node.body.len() {
+            if let Some(placed) = self.placed(above, place) {
+                if let Some(argument) = argument_in(alloc, placed.site, call, input.0)? {
+                    return Ok(Some(argument));
+                }
+            }
+        }
+        Ok(None)
+    }
+}
