@@ -1,0 +1,47 @@
+//! A program, from its tree to its equations.
+
+ghost use Rattle.std.specs.Prelude.{IfOk, IfErr};
+ghost use Rattle.lb_syntax.specs.Correct.{IsOnlyProgram};
+ghost use Rattle.lb_syntax.specs.SourceView.{view_source};
+ghost use Rattle.lb_syntax.specs.Tokens.{Text};
+ghost use Rattle.lb_report.specs.Bench.{IsRefused, program_of};
+ghost use Rattle.lb_values.specs.Programs.{IsProgram};
+
+use lb_check::{Checked, check};
+use lb_flat::{Ordered, expand, order, with_places};
+use lb_report::{BenchError, Options};
+use lb_static::elaborate;
+use lb_syntax::Source;
+use std::alloc::Global;
+
+/// A program that keeps all rules, with its equations in order.
+#[derive(Drop)]
+pub(crate) struct Program<'s> {
+    pub(crate) checked: Checked<'s>,
+    pub(crate) ordered: Ordered,
+}
+
+impl<'s> Program<'s> {
+    /// The program of a tree, with the node under test and the observer that the options name.
+    pub(crate) fn of_tree(
+        alloc: Global,
+        tree: &'s Source,
+        options: &'s Options,
+    ) -> Result<Program<'s>, BenchError>
+        ensures ok { IfOk result (λ p. IsProgram p
+            (program_of (view_source tree.now) options.now)) }
+        ensures err { (source traces : Text) → IsOnlyProgram (view_source tree.now) source →
+            IfErr result (IsRefused source traces options.now) }
+    {
+        let elab = elaborate(alloc, tree, options.node.as_str(), options.observer_name())?;
+        let checked = check(alloc, elab)?;
+        let flat = expand(alloc, &checked)?;
+        match order(alloc, flat) {
+            Ok(ordered) => {
+                let _ = checked.signature();
+                Ok(Program { checked, ordered })
+            }
+            Err(cause) => Err(BenchError::Order(with_places(alloc, &checked, cause))),
+        }
+    }
+}
