@@ -6,3 +6,4 @@ pub mod ReadLines
 pub mod Digits
 pub mod Cuts
 pub mod Pieces
+pub mod Merging

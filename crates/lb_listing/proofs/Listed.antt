@@ -41,7 +41,7 @@ first_lines (l ∷ before) (m ∷ listed) verdicts rest lawful all small e =
     (All-tail IsLine m listed all) small same.1 in
     (found.0, ap (λ (x : Line). x ∷ listed) (sym same.0) ∙ ap (λ xs. l ∷ xs) found.1, found.2)
 
-length_verdicts : (listed : List Line) → length (verdicts_of listed) ≡ length listed
+pub length_verdicts : (listed : List Line) → length (verdicts_of listed) ≡ length listed
 length_verdicts listed = length-map listed (λ (l : Line). l.1)
 
 -- what a text lists begins with the lines that it begins with

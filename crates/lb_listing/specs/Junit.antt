@@ -1,6 +1,7 @@
 -- A report as JUnit XML: a suite, and a test case for each trace.
 -- Source: this project's rule, within the schema of the XML that Jenkins reads.
-use Rattle.std.specs.Prelude.{ℕ, Bool, true, false, List, [], ◌++◌, length, codes, decimal}
+use Rattle.std.specs.Prelude.{ℕ, Bool, true, false, List, [], ◌∷◌, ◌++◌, length, codes, decimal}
+use Rattle.std.specs.Prelude.{◌==◌, nat_le, ◌||◌, ◌&&◌, if◌then◌else◌}
 use Rattle.std.specs.Prelude.{count_by}
 use Rattle.std.specs.Prelude.{flat_map, get_or}
 use Rattle.lb_check.specs.declared.verdict.Verdict.{Verdict}
@@ -51,9 +52,29 @@ counts all failed skipped =
     counted (codes " tests=") all ++ counted (codes " failures=") failed
     ++ codes " errors='0'" ++ counted (codes " skipped=") skipped ++ codes ">\n"
 
--- the text of a report on these traces; the suite has this name
-abbrev pub junit_of : (suite : List ℕ) → List Line → List ℕ
-junit_of suite listed =
+-- a byte of a text between tags or quotes: an entity, or `?`, for one that cannot stand there as it
+-- is
+abbrev pub escaped : ℕ → List ℕ
+escaped b =
+    if b == 38 then codes "&amp;"
+    else (if b == 60 then codes "&lt;"
+    else (if b == 62 then codes "&gt;"
+    else (if b == 39 then codes "&apos;"
+    else (if b == 9 || b == 10 || nat_le 32 b && nat_le b 126 then b ∷ [] else codes "?"))))
+
+-- what is said beside a report, if something is
+abbrev pub said_beside : (remarks : List ℕ) → List ℕ
+said_beside [] = []
+said_beside (b ∷ bs) = codes "<system-err>" ++ flat_map escaped (b ∷ bs) ++ codes "</system-err>\n"
+
+-- the text of a report on these traces, with the name of the suite as it stands there
+abbrev pub junit_named : (suite : List ℕ) → List Line → (remarks : List ℕ) → List ℕ
+junit_named suite listed remarks =
     head suite ++ counts (length listed) (count_by (λ l. is_failure l.1) listed)
     (count_by (λ l. is_skipped l.1) listed)
-    ++ flat_map (testcase suite) listed ++ codes "</testsuite>\n</testsuites>\n"
+    ++ flat_map (testcase suite) listed ++ said_beside remarks
+    ++ codes "</testsuite>\n</testsuites>\n"
+
+-- the text of a report on these traces; the suite has this name, and these remarks stand beside it
+abbrev pub junit_of : (suite : List ℕ) → List Line → (remarks : List ℕ) → List ℕ
+junit_of suite listed remarks = junit_named (flat_map escaped suite) listed remarks

@@ -4,3 +4,4 @@ pub mod Indexed
 pub mod Plain
 pub mod Compared
 pub mod Junit
+pub mod Merged

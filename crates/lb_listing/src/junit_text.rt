@@ -84,12 +84,12 @@ fn push_outcome(text: &mut Vec<u8>, verdict: Verdict) -> Result<(), AllocError>
 }
 
 /// Adds the case of a trace.
-fn push_testcase(text: &mut Vec<u8>, suite: &str, entry: &Entry<'_>) -> Result<(), AllocError>
+fn push_testcase(text: &mut Vec<u8>, suite: &[u8], entry: &Entry<'_>) -> Result<(), AllocError>
     ensures { OnOk result (text.new.items
         ≡ text.old.items ++ spec.testcase suite.now (listing.line_of entry.now)) }
 {
     text.extend_from_slice(b"<testcase classname=")?;
-    push_quoted(text, suite.as_bytes())?;
+    push_quoted(text, suite)?;
     text.extend_from_slice(b" name=")?;
     push_quoted(text, entry.name.as_bytes())?;
     push_outcome(text, entry.verdict)?;
@@ -97,7 +97,7 @@ fn push_testcase(text: &mut Vec<u8>, suite: &str, entry: &Entry<'_>) -> Result<(
 }
 
 /// Adds the cases of some traces.
-fn push_testcases(text: &mut Vec<u8>, suite: &str, entries: &[Entry<'_>]) -> Result<(), AllocError>
+fn push_testcases(text: &mut Vec<u8>, suite: &[u8], entries: &[Entry<'_>]) -> Result<(), AllocError>
     ensures { OnOk result (text.new.items ≡ text.old.items
         ++ flat_map (spec.testcase suite.now) (map listing.line_of entries.now)) }
 {
@@ -125,12 +125,12 @@ fn count_skipped(entries: &[Entry<'_>]) -> usize
 }
 
 /// Adds what stands before the counts of the suite.
-fn push_head(text: &mut Vec<u8>, suite: &str) -> Result<(), AllocError>
+fn push_head(text: &mut Vec<u8>, suite: &[u8]) -> Result<(), AllocError>
     ensures { OnOk result (text.new.items ≡ text.old.items ++ spec.head suite.now) }
 {
     text.extend_from_slice(b"<?xml version='1.0' encoding='UTF-8'?>\n")?;
     text.extend_from_slice(b"<testsuites>\n<testsuite name=")?;
-    push_quoted(text, suite.as_bytes())?;
+    push_quoted(text, suite)?;
     Ok(())
 }
 
@@ -151,16 +151,53 @@ fn push_counts(
     Ok(())
 }
 
-/// A report as JUnit XML: one suite of this name, and a case for each trace. A fault, what is
-/// undefined and a false property are failures; a broken assumption is a case that was skipped. The
-/// name of the suite stands in quotes as it is, so it must have no `'`, `<` or `&`.
-///
-/// ```text
-/// <testcase classname='main' name='stuck'><failure type='false' message='false 7'/></testcase>
-/// ```
-pub fn junit(alloc: Global, suite: &str, entries: &[Entry<'_>]) -> Result<Vec<u8>, AllocError>
+/// Adds a byte of a text between tags or quotes. What XML takes for its own, or has no place for,
+/// stands as an entity or `?`.
+fn push_escaped(text: &mut Vec<u8>, b: u8) -> Result<(), AllocError>
+    ensures { OnOk result (text.new.items ≡ text.old.items ++ spec.escaped b) }
+{
+    match b {
+        b'&' => text.extend_from_slice(b"&amp;"),
+        b'<' => text.extend_from_slice(b"&lt;"),
+        b'>' => text.extend_from_slice(b"&gt;"),
+        b'\'' => text.extend_from_slice(b"&apos;"),
+        b'\t' | b'\n' | b' '..=b'~' => text.extend_from_slice(&[b]),
+        _ => text.extend_from_slice(b"?"),
+    }
+}
+
+/// Adds what is said beside a report, if something is.
+fn push_remarks(text: &mut Vec<u8>, remarks: &[u8]) -> Result<(), AllocError>
+    ensures { OnOk result (text.new.items ≡ text.old.items ++ spec.said_beside remarks.now) }
+{
+    if remarks.is_empty() {
+        return Ok(());
+    }
+    text.extend_from_slice(b"<system-err>")?;
+    push_all_escaped(text, remarks)?;
+    text.extend_from_slice(b"</system-err>\n")?;
+    Ok(())
+}
+
+/// Adds the bytes of a text between tags or quotes.
+fn push_all_escaped(text: &mut Vec<u8>, bytes: &[u8]) -> Result<(), AllocError>
+    ensures { OnOk result (text.new.items ≡ text.old.items ++ flat_map spec.escaped bytes.now) }
+{
+    for b in bytes {
+        push_escaped(text, *b)?;
+    }
+    Ok(())
+}
+
+/// A report as JUnit XML, with the name of its suite as it stands there.
+fn junit_named(
+    alloc: Global,
+    suite: &[u8],
+    entries: &[Entry<'_>],
+    remarks: &[u8],
+) -> Result<Vec<u8>, AllocError>
     ensures { IfOk result (λ text.
-        text.items ≡ spec.junit_of suite.now (map listing.line_of entries.now)) }
+        text.items ≡ spec.junit_named suite.now (map listing.line_of entries.now) remarks.now) }
 {
     let mut text = Vec::new(alloc);
     push_head(&mut text, suite)?;
@@ -168,6 +205,28 @@ pub fn junit(alloc: Global, suite: &str, entries: &[Entry<'_>]) -> Result<Vec<u8
     let skipped = count_skipped(entries);
     push_counts(&mut text, entries.len(), failed, skipped)?;
     push_testcases(&mut text, suite, entries)?;
+    push_remarks(&mut text, remarks)?;
     text.extend_from_slice(b"</testsuite>\n</testsuites>\n")?;
     Ok(text)
+}
+
+/// A report as JUnit XML: one suite of this name, and a case for each trace. A fault, what is
+/// undefined and a false property are failures; a broken assumption is a case that was skipped. What
+/// is said beside the report is the `system-err` of the suite.
+///
+/// ```text
+/// <testcase classname='main' name='stuck'><failure type='false' message='false 7'/></testcase>
+/// ```
+pub fn junit(
+    alloc: Global,
+    suite: &str,
+    entries: &[Entry<'_>],
+    remarks: &[u8],
+) -> Result<Vec<u8>, AllocError>
+    ensures { IfOk result (λ text.
+        text.items ≡ spec.junit_of suite.now (map listing.line_of entries.now) remarks.now) }
+{
+    let mut name = Vec::new(alloc);
+    push_all_escaped(&mut name, suite.as_bytes())?;
+    junit_named(alloc, name.as_slice(), entries, remarks)
 }

@@ -6,8 +6,9 @@ ghost use Rattle.lb_check.specs.declared.verdict.Verdict.{Verdict as Said};
 ghost use Rattle.lb_listing.specs.Listings as spec;
 ghost use Rattle.lb_listing.specs.Plain.{is_plain};
 
-use crate::entry::{Entry, is_trace_name};
+use crate::entry::Entry;
 use lb_check::Verdict;
+use lb_flat::is_trace_name;
 use std::str;
 
 /// One more than the last instant of the longest trace.
@@ -71,7 +72,7 @@ fn read_entry(line: &str) -> Option<Entry<'_>>
     ensures none { IfNone result ((l : spec.Line) → spec.IsLine l → line.now ≢ spec.body l) }
 {
     let (name, said) = line.split_once(' ')?;
-    if !is_trace_name(name) {
+    if !is_trace_name(name.as_bytes()) {
         return None;
     }
     let verdict = read_verdict(said)?;

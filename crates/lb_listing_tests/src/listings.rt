@@ -1,6 +1,8 @@
-//! Reports that are read back, compared, and written as JUnit XML.
+//! Reports that are read back, compared, merged, and written as JUnit XML.
 
-use lb_listing::{ListingError, Measure, compare, junit, read_listing, status_by};
+use lb_listing::{
+    ListingError, Measure, MergeError, compare, junit, merge, read_listing, status_by,
+};
 use std::alloc::{AllocError, Global};
 
 /// What is read of a report: its status by either measure, or the first line that is wrong.
@@ -36,11 +38,26 @@ fn push_comparison(alloc: Global, asked: &str, said: &mut String) -> Result<(), 
     write!(said, "{text}{}, strict {}\n", found.status, strict.status)
 }
 
-/// A report as JUnit XML.
+/// The one report of several.
+fn push_merged(alloc: Global, asked: &str, said: &mut String) -> Result<(), AllocError> {
+    let mut texts = Vec::new(alloc);
+    for text in asked.split("%\n") {
+        texts.push(text.as_bytes().to_vec(alloc)?)?;
+    }
+    match merge(alloc, texts.as_slice()) {
+        Ok(text) => said.push_str(std::str::from_utf8(text.as_slice()).unwrap_or("no text")),
+        Err(MergeError::Fault { file, line }) => write!(said, "file {file}, line {line}\n"),
+        Err(MergeError::Twice { file, line }) => write!(said, "again: file {file}, line {line}\n"),
+        Err(MergeError::Memory(cause)) => Err(cause),
+    }
+}
+
+/// A report, and what is said beside it, as JUnit XML.
 fn push_suite(alloc: Global, asked: &str, said: &mut String) -> Result<(), AllocError> {
-    match read_listing(alloc, asked.as_bytes()) {
+    let (report, remarks) = asked.split_once("%\n").unwrap_or((asked, ""));
+    match read_listing(alloc, report.as_bytes()) {
         Ok(found) => {
-            let text = junit(alloc, "pump", found.entries.as_slice())?;
+            let text = junit(alloc, "pump", found.entries.as_slice(), remarks.as_bytes())?;
             said.push_str(std::str::from_utf8(text.as_slice()).unwrap_or("no text"))
         }
         Err(_) => said.push_str("no report\n"),
@@ -216,6 +233,76 @@ total 0 passed 0 fault 0 undefined 0 assertion 0 false 0
 <testsuite name='pump' tests='0' failures='0' errors='0' skipped='0'>
 </testsuite>
 </testsuites>
+%case
+dry fault 0
+empty undefined 2
+total 2 passed 0 fault 1 undefined 1 assertion 0 false 0
+%
+dry fault 0: main.q, a / b with a = 5, b = 0 (pump.lus:14:9)
+  a <> b & c > d is \"no\"\t`end` \u{7f}\u{e9}
+%answer
+<?xml version='1.0' encoding='UTF-8'?>
+<testsuites>
+<testsuite name='pump' tests='2' failures='2' errors='0' skipped='0'>
+<testcase classname='pump' name='dry'><failure type='fault' message='fault 0'/></testcase>
+<testcase classname='pump' name='empty'><failure type='undefined' message='undefined 2'/></testcase>
+<system-err>dry fault 0: main.q, a / b with a = 5, b = 0 (pump.lus:14:9)
+  a &lt;&gt; b &amp; c &gt; d is \"no\"\t`end` ???
+</system-err>
+</testsuite>
+</testsuites>
+";
+
+/// Reports, and the one that they make.
+const MERGES: &str = "\
+a passed
+total 1 passed 1 fault 0 undefined 0 assertion 0 false 0
+%
+total 0 passed 0 fault 0 undefined 0 assertion 0 false 0
+%
+c false 2
+b fault 1
+total 2 passed 0 fault 1 undefined 0 assertion 0 false 1
+%answer
+a passed
+c false 2
+b fault 1
+total 3 passed 1 fault 1 undefined 0 assertion 0 false 1
+%case
+a passed
+total 1 passed 1 fault 0 undefined 0 assertion 0 false 0
+%
+b passed
+a passed
+total 2 passed 2 fault 0 undefined 0 assertion 0 false 0
+%answer
+again: file 1, line 2
+%case
+a passed
+total 1 passed 1 fault 0 undefined 0 assertion 0 false 0
+%
+b passed
+%answer
+file 1, line 2
+%case
+a passed
+total 1 passed 1 fault 0 undefined 0 assertion 0 false 0
+%
+b passed
+total 2 passed 2 fault 0 undefined 0 assertion 0 false 0
+%
+c passed
+%answer
+file 1, line 2
+%case
+a passed
+a passed
+total 2 passed 2 fault 0 undefined 0 assertion 0 false 0
+%answer
+file 0, line 2
+%case
+%answer
+file 0, line 1
 ";
 
 /// What the rows of a table ask about.
@@ -223,13 +310,15 @@ total 0 passed 0 fault 0 undefined 0 assertion 0 false 0
 enum Asks {
     Read,
     Comparisons,
+    Merges,
     Suites,
 }
 
 /// The tables.
-static TABLES: [(Asks, &str); 3] = [
+static TABLES: [(Asks, &str); 4] = [
     (Asks::Read, READ),
     (Asks::Comparisons, COMPARISONS),
+    (Asks::Merges, MERGES),
     (Asks::Suites, SUITES),
 ];
 
@@ -243,6 +332,7 @@ fn push_answer(
     match asks {
         Asks::Read => push_read(alloc, asked, said),
         Asks::Comparisons => push_comparison(alloc, asked, said),
+        Asks::Merges => push_merged(alloc, asked, said),
         Asks::Suites => push_suite(alloc, asked, said),
     }
 }

@@ -18,8 +18,9 @@ returns-then-not-is_trace_name-clause-none c = λ l lawful e.
       c.in_ok-name.said,
     )
     c.split_once.ensures.cases lawful c.in_ok-name.was e in
-    let named : IsTraceName c.in_ok-name.name.now =
-    subst (λ (name : List ℕ). IsTraceName name) (sym parts.0) lawful.name in
+    let named : IsTraceName c.as_bytes.result.now =
+    subst (λ (name : List ℕ). IsTraceName name) (sym parts.0 ∙ sym c.as_bytes.ensures.value)
+    lawful.name in
     let no : false ≡ true = c.if-not-is_trace_name.ensures.1 named in cc
 
 pub returns-in_err-verdict-clause-none : goal.returns-in_err-verdict-clause-none
