@@ -54,7 +54,7 @@ abbrev pub place_at : List ℕ → Option ℕ → Option (ℕ × ℕ)
 place_at text None = None
 place_at text (Some offset) = Some (line_of text offset, column_of text offset)
 
--- the line and the column of a text that is cut wrongly
+-- the line and the column that E1 to E3 hold
 abbrev pub syntax_place : SyntaxError → Option (ℕ × ℕ)
 syntax_place syntax.Memory = None
 syntax_place (syntax.Character line column) = Some (line, column)

@@ -1,11 +1,11 @@
-//! Parts of texts, whatever the places are.
+//! Parts of texts. A place may lie past the end of a text.
 
 /// The byte at a place, or 0 past the end.
 pub fn byte_at(text: &[u8], at: usize) -> u8 {
     if at < text.len() { text[at] } else { 0 }
 }
 
-/// The bytes from a place to another, as far as they are there.
+/// The bytes from one place to another, as far as the text has them.
 pub fn part(text: &[u8], from: usize, to: usize) -> &[u8] {
     let end = to.min(text.len());
     let start = from.min(end);
@@ -17,7 +17,7 @@ pub fn rest(text: &[u8], from: usize) -> &[u8] {
     &text[from.min(text.len())..]
 }
 
-/// The first place from `from` on at which a byte stands, or the end.
+/// The first place of a byte, from `from` on; the end of the text where there is none.
 pub fn find(text: &[u8], from: usize, byte: u8) -> usize {
     for at in from..text.len() {
         if text[at] == byte {
@@ -27,7 +27,7 @@ pub fn find(text: &[u8], from: usize, byte: u8) -> usize {
     text.len()
 }
 
-/// How many bytes of a text are this one.
+/// How often a text has a byte.
 pub fn count(text: &[u8], byte: u8) -> usize {
     let mut count: usize = 0;
     for b in text {
@@ -36,7 +36,7 @@ pub fn count(text: &[u8], byte: u8) -> usize {
     count
 }
 
-/// Whether a byte continues a character of more than one byte.
+/// Whether a byte is the second or a later one of a UTF-8 character.
 pub fn continues(b: u8) -> bool {
     (0x80..0xC0).contains(&b)
 }

@@ -1,4 +1,4 @@
-//! E7 and E12: nodes that reach themselves, and instances that are too many or too deep.
+//! E7 and E12: nodes that call themselves, and instances that are too many or too deeply nested.
 
 use crate::excerpt::{put_bytes, put_place};
 use crate::marking::{put_marked, put_note, token_spot, word_of};
@@ -7,7 +7,7 @@ use crate::texts::Text;
 use lb_static::{CallCycle, CycleCall, Limit, LimitFault};
 use std::alloc::AllocError;
 
-/// The most calls that are told.
+/// The most calls that are shown.
 const MOST: usize = 8;
 
 /// Puts that a node calls another.

@@ -8,7 +8,7 @@ use crate::counts::put_count;
 use crate::excerpt::{put_excerpt, put_place};
 use crate::instants::instant_of;
 use crate::quoted::{cell_at, decoded, end_of_record, width};
-use crate::records::{CellPlace, Cursor, Goal, find_record, start_of};
+use crate::records::{CellPlace, Cursor, header_and_record};
 use crate::texts::{Stretch, Text, line_start, spot_in};
 use lb_static::Signature;
 use lb_syntax::Kind;
@@ -43,14 +43,15 @@ pub fn put_cell(page: &mut String, cell: &[u8]) -> Result<(), AllocError> {
     page.push('`')
 }
 
-/// The place of bytes of a record.
+/// The place of some bytes of a record in its text.
 pub fn stretch_of(text: &Text<'_>, record: &Cursor, start: usize, end: usize) -> Stretch {
     let inner = count(part(text.bytes, record.at, start), b'\n') as u64;
     let begin = line_start(text.bytes, start);
     spot_in(text, record.lines.saturating_add(inner), begin, start, end)
 }
 
-/// The bytes of a cell of a record, or none where it has none there.
+/// The value of cell `place` of the record that begins at `start`, without quotes; empty where the
+/// record has no such cell.
 pub fn cell_of(
     alloc: Global,
     text: &[u8],
@@ -78,7 +79,7 @@ pub fn put_record(
     write!(page, ", instant {instant}, record {number}\n")
 }
 
-/// Puts that a text looks parted by another sign than the comma.
+/// Puts a hint where a line has no commas, but has `;` or tabs.
 pub fn put_other_separator(page: &mut String, line: &[u8]) -> Result<(), AllocError> {
     if count(line, b',') > 0 {
         return Ok(());
@@ -92,7 +93,8 @@ pub fn put_other_separator(page: &mut String, line: &[u8]) -> Result<(), AllocEr
     Ok(())
 }
 
-/// The bytes of a record that are marked: the cells that are too many, or its end.
+/// What to mark of a record of a wrong length: the cells that are too many, or the whole record
+/// where cells are missing.
 fn marked(text: &[u8], record: &Cursor, columns: usize) -> CellPlace {
     let end = end_of_record(text, record.at);
     match cell_at(text, record.at, columns) {
@@ -107,7 +109,7 @@ fn marked(text: &[u8], record: &Cursor, columns: usize) -> CellPlace {
     }
 }
 
-/// Puts how to mend a record of a wrong length, where that is common.
+/// Puts how to mend a record of a wrong length, for common mistakes.
 fn put_length_mend(
     page: &mut String,
     text: &[u8],
@@ -136,11 +138,7 @@ pub fn explain_length(
     number: u64,
 ) -> Result<(), AllocError> {
     let bytes = text.bytes;
-    let first = start_of(bytes);
-    let Some(header) = find_record(bytes, &first, &Goal::Number(0)) else {
-        return Ok(());
-    };
-    let Some(record) = find_record(bytes, &header, &Goal::Number(number)) else {
+    let Some((header, record)) = header_and_record(bytes, number) else {
         return Ok(());
     };
     let cells = width(bytes, record.at);
@@ -151,7 +149,7 @@ pub fn explain_length(
     put_length(page, alloc, text, &record, cells, columns)
 }
 
-/// Puts what is wrong with the length of a record.
+/// Puts the explanation of E15 for a record.
 fn put_length(
     page: &mut String,
     alloc: Global,
@@ -171,7 +169,7 @@ fn put_length(
     put_record(page, alloc, text.bytes, record)
 }
 
-/// Whether bytes are 1 to 20 digits after a sign or not.
+/// Whether a cell is 1 to 20 digits, with or without a minus sign before them.
 fn is_integer(cell: &[u8]) -> bool {
     let digits = match cell {
         [b'-', digits @ ..] => digits,
@@ -180,7 +178,7 @@ fn is_integer(cell: &[u8]) -> bool {
     !digits.is_empty() && digits.len() <= 20 && has_digits_alone(digits)
 }
 
-/// Whether bytes are digits.
+/// Whether all bytes are digits.
 fn has_digits_alone(bytes: &[u8]) -> bool {
     for b in bytes {
         if !b.is_ascii_digit() {
@@ -190,7 +188,7 @@ fn has_digits_alone(bytes: &[u8]) -> bool {
     true
 }
 
-/// How an integer is mended that is out of range; nothing where it is within.
+/// How to mend an integer that is out of range; nothing for one that is in range.
 fn mend_of_range(cell: &[u8]) -> &'static str {
     let most: u64 = if cell.starts_with(b"-".as_slice()) {
         2_147_483_648
@@ -203,7 +201,7 @@ fn mend_of_range(cell: &[u8]) -> &'static str {
     "an int is from -2147483648 to 2147483647"
 }
 
-/// The number that digits spell, a sign left out.
+/// The number that the digits of a cell spell, without its sign.
 fn natural_of(cell: &[u8]) -> u64 {
     let mut n: u64 = 0;
     for b in cell {
@@ -216,7 +214,7 @@ fn natural_of(cell: &[u8]) -> u64 {
     n
 }
 
-/// How an integer cell is mended that is no value, where that is common.
+/// How to mend a cell of an integer column; nothing where the cell is an integer in range.
 fn mend_of_int(cell: &[u8]) -> &'static str {
     if is_integer(cell) {
         return mend_of_range(cell);
@@ -230,7 +228,7 @@ fn mend_of_int(cell: &[u8]) -> &'static str {
     }
 }
 
-/// The same for what is no integer, by the signs in it.
+/// The same for other cells, by the characters in them.
 fn mend_of_digits(cell: &[u8]) -> &'static str {
     if count(cell, b'.') == 1 && has_digits_alone_but(cell, b'.') {
         return "write the number without a point; scale it if need be";
@@ -241,10 +239,10 @@ fn mend_of_digits(cell: &[u8]) -> &'static str {
     if cell == b"true".as_slice() || cell == b"false".as_slice() {
         return "this column is of int; write 1 or 0";
     }
-    "write digits, after a `-` or not, at most 20"
+    "write at most 20 digits, with or without a `-` before them"
 }
 
-/// Whether bytes are digits but for this one, and signs.
+/// Whether all bytes are digits, `+`, `-` or this one.
 fn has_digits_alone_but(bytes: &[u8], sign: u8) -> bool {
     for b in bytes {
         if !b.is_ascii_digit() && *b != sign && *b != b'-' && *b != b'+' {
@@ -254,7 +252,7 @@ fn has_digits_alone_but(bytes: &[u8], sign: u8) -> bool {
     true
 }
 
-/// How a Boolean cell is mended that is no value, where that is common.
+/// How to mend a cell of a Boolean column that is no truth value.
 fn mend_of_bool(cell: &[u8]) -> &'static str {
     if cell.eq_ignore_ascii_case(b"true") {
         return "write `true`, in small letters, or 1";
@@ -269,13 +267,13 @@ fn mend_of_bool(cell: &[u8]) -> &'static str {
     }
 }
 
-/// Whether a cell looks lawful: then another cell is meant, and nothing is said.
+/// Whether a cell is a truth value.
 fn is_bool(cell: &[u8]) -> bool {
     matches!(cell, b"0" | b"1" | b"true" | b"false")
 }
 
-/// Where the signature has the input with a name, if it has it.
-fn input_named(signature: &Signature, name: &[u8]) -> Option<u32>
+/// The number of the input with a name, if there is one.
+pub fn input_named(signature: &Signature, name: &[u8]) -> Option<u32>
     ensures within { IfSome result (λ i. i < length signature.now) }
     ensures named { IfSome result (λ i. slice_get (names_of signature.now) i ≡ Some name.now) }
 {
@@ -287,7 +285,7 @@ fn input_named(signature: &Signature, name: &[u8]) -> Option<u32>
     None
 }
 
-/// Puts which cell of which column is no value.
+/// Puts that a cell is no value of its column.
 fn put_no_value(
     page: &mut String,
     column: &[u8],
@@ -304,7 +302,7 @@ fn put_no_value(
     page.push_str(" is no value of it\n")
 }
 
-/// How a cell is mended; nothing where it looks lawful.
+/// How to mend a cell; nothing where it is a value of its kind.
 fn mend_of(kind: Kind, cell: &[u8]) -> &'static str {
     match kind {
         Kind::Int => mend_of_int(cell),
@@ -313,7 +311,7 @@ fn mend_of(kind: Kind, cell: &[u8]) -> &'static str {
     }
 }
 
-/// Puts what is wrong with a cell of a record.
+/// Puts the explanation of E16 for a cell of a record.
 fn put_value(
     page: &mut String,
     alloc: Global,
@@ -336,7 +334,7 @@ fn put_value(
     put_record(page, alloc, text.bytes, record)
 }
 
-/// Explains E16 for a cell of the record with a number, by the column after `trace`.
+/// Explains E16 for the record with a number; `column` counts the columns after `trace` from 0.
 pub fn explain_cell(
     page: &mut String,
     alloc: Global,
@@ -346,11 +344,7 @@ pub fn explain_cell(
     column: usize,
 ) -> Result<(), AllocError> {
     let bytes = text.bytes;
-    let first = start_of(bytes);
-    let Some(header) = find_record(bytes, &first, &Goal::Number(0)) else {
-        return Ok(());
-    };
-    let Some(record) = find_record(bytes, &header, &Goal::Number(number)) else {
+    let Some((header, record)) = header_and_record(bytes, number) else {
         return Ok(());
     };
     let place = column.saturating_add(1);

@@ -6,12 +6,12 @@ use crate::lexeme::{Sort, piece_at};
 use crate::texts::{Text, offset_of, spot};
 use std::alloc::AllocError;
 
-/// Whether a comment that is closed at its own end begins at a place.
+/// Whether `(*` or `/*` stands at a place.
 fn opens_comment(text: &[u8], at: usize) -> bool {
     piece_at(text, at).sort == Sort::Blank
 }
 
-/// What to write for a byte that begins no token, and for the one after it.
+/// How to mend a byte that begins no token, by it and the byte behind it.
 fn mend_of(first: u8, second: u8) -> &'static str {
     match (first, second) {
         (b'!', b'=') => "unequal is written `<>`",
@@ -26,7 +26,7 @@ fn mend_of(first: u8, second: u8) -> &'static str {
     }
 }
 
-/// The same for bytes that are not of ASCII, and for control bytes.
+/// The same for bytes outside of ASCII, and for control bytes.
 fn mend_of_byte(first: u8, second: u8) -> &'static str {
     match (first, second) {
         (0xEF, 0xBB) => "save the file as UTF-8 without a byte order mark",
@@ -36,9 +36,14 @@ fn mend_of_byte(first: u8, second: u8) -> &'static str {
     }
 }
 
-/// Puts a byte: itself where it is printed, and else its number.
-fn put_byte(page: &mut String, b: u8) -> Result<(), AllocError> {
-    if b > b' ' && b < 127 {
+/// Whether a byte is a character of ASCII that can be seen.
+pub fn is_printable(b: u8) -> bool {
+    b > b' ' && b < 127
+}
+
+/// Puts a byte: as it is where it is printable, else as a number.
+pub fn put_byte(page: &mut String, b: u8) -> Result<(), AllocError> {
+    if is_printable(b) {
         let c = char::from(b);
         return write!(page, "`{c}`");
     }
@@ -58,7 +63,7 @@ fn put_cause(page: &mut String, text: &[u8], at: usize) -> Result<(), AllocError
     page.push_str(" begins no token\n")
 }
 
-/// Puts how to mend it, where that is common.
+/// Puts how to mend it, for common mistakes.
 fn put_mend(page: &mut String, text: &[u8], at: usize) -> Result<(), AllocError> {
     if opens_comment(text, at) {
         return put_closing(page, byte_at(text, at));
@@ -70,7 +75,7 @@ fn put_mend(page: &mut String, text: &[u8], at: usize) -> Result<(), AllocError>
     write!(page, "help: {mend}\n")
 }
 
-/// Puts what closes a comment that begins with this byte.
+/// Puts how a comment is closed that begins with this byte and `*`.
 fn put_closing(page: &mut String, first: u8) -> Result<(), AllocError> {
     if first == b'(' {
         return page.push_str("help: `(*` is closed by the next `*)`\n");
@@ -78,7 +83,7 @@ fn put_closing(page: &mut String, first: u8) -> Result<(), AllocError> {
     page.push_str("help: `/*` is closed by the next `*/`\n")
 }
 
-/// How many bytes are marked.
+/// How many bytes to mark.
 fn marked(text: &[u8], at: usize) -> usize {
     if opens_comment(text, at) {
         return 2;

@@ -4,7 +4,7 @@ use crate::declared::node_named;
 use crate::lexeme::{Lexeme, Sort, token_at};
 use lb_check::SourceClock;
 
-/// A `when` with the variable that is waited for.
+/// A `when` and the variable behind it; `sign` is false for `when not`.
 #[derive(Clone, Copy)]
 struct Waiting {
     word: Lexeme,
@@ -38,7 +38,7 @@ impl<'t> NodeText<'t> {
     }
 }
 
-/// What is read at a `when`.
+/// The `when` at a token, and the variable behind it.
 fn waiting_at(text: &[u8], word: Lexeme) -> Waiting {
     let first = token_at(text, word.end);
     let is_negated = first.is(text, b"not".as_slice());
@@ -59,7 +59,7 @@ fn waiting_at(text: &[u8], word: Lexeme) -> Waiting {
     }
 }
 
-/// Where a variable of a node is declared, by its name there.
+/// The name of a variable where the node declares it.
 fn declaration_of(node: &NodeText<'_>, name: &[u8]) -> Option<Lexeme> {
     let text = node.text;
     let mut at = node.heading;
@@ -79,12 +79,12 @@ fn declaration_of(node: &NodeText<'_>, name: &[u8]) -> Option<Lexeme> {
     None
 }
 
-/// Whether a token ends the declaration of some variables, where so many parentheses are open.
+/// Whether a token ends a declaration of variables; `nested` parentheses are open before it.
 fn ends_declaration(text: &[u8], token: &Lexeme, nested: usize) -> bool {
     token.sort == Sort::End || nested == 0 && token.is_among(text, &[b";", b")", b"let"])
 }
 
-/// How many parentheses are open after a token.
+/// How many parentheses are open behind a token; `nested` are open before it.
 fn nested_after(text: &[u8], token: &Lexeme, nested: usize) -> usize {
     if token.is(text, b"(".as_slice()) {
         return nested.saturating_add(1);
@@ -95,7 +95,7 @@ fn nested_after(text: &[u8], token: &Lexeme, nested: usize) -> usize {
     nested
 }
 
-/// The clock of the declaration that goes on at a place; none where that is the base clock.
+/// The `when` of a declaration, from a place in it on; none where it is on the base clock.
 fn declared_clock(text: &[u8], from: usize) -> Option<Waiting> {
     let mut nested: usize = 0;
     let mut at = from;
@@ -113,7 +113,7 @@ fn declared_clock(text: &[u8], from: usize) -> Option<Waiting> {
     None
 }
 
-/// Whether a `when` gives a clock.
+/// Whether a clock ends with this `when`.
 fn gives(text: &[u8], waiting: &Waiting, clock: &SourceClock) -> bool {
     match clock.signs.last() {
         Some(last) => {
@@ -123,7 +123,7 @@ fn gives(text: &[u8], waiting: &Waiting, clock: &SourceClock) -> bool {
     }
 }
 
-/// Where a variable is declared, if it is declared on a clock.
+/// Where a variable is declared, if its clock is this one.
 fn declared_on(node: &NodeText<'_>, name: &[u8], clock: &SourceClock) -> Option<Lexeme> {
     let declaration = declaration_of(node, name)?;
     let is_right = match declared_clock(node.text, declaration.end) {
@@ -133,7 +133,7 @@ fn declared_on(node: &NodeText<'_>, name: &[u8], clock: &SourceClock) -> Option<
     if is_right { Some(declaration) } else { None }
 }
 
-/// Where the variable at a place is declared, if it is declared on a clock.
+/// Where the variable at a place is declared, if its clock is this one.
 pub fn place_of_variable(
     node: &NodeText<'_>,
     at: usize,
@@ -144,14 +144,14 @@ pub fn place_of_variable(
     Some(ClockPlace::Declaration(declaration))
 }
 
-/// Where the variable of the `when` at a place is declared, if it is declared on a clock.
+/// Where the variable of the `when` at a place is declared, if its clock is this one.
 pub fn place_of_waited(node: &NodeText<'_>, at: usize, clock: &SourceClock) -> Option<ClockPlace> {
     let waiting = waiting_at(node.text, token_at(node.text, at));
     let declaration = declared_on(node, waiting.variable.of(node.text), clock)?;
     Some(ClockPlace::Declaration(declaration))
 }
 
-/// What a token tells of a clock, and where the next one is looked for.
+/// The place that gives a clock, if a token is one, and where the search for another goes on.
 fn place_at(
     node: &NodeText<'_>,
     token: Lexeme,
@@ -177,7 +177,7 @@ fn place_at(
     }
 }
 
-/// The first thing from a place on, in the same statement, that gives a clock.
+/// The first place in the rest of a statement that gives a clock.
 pub fn place_after(node: &NodeText<'_>, from: usize, clock: &SourceClock) -> Option<ClockPlace> {
     let text = node.text;
     let mut at = from;
@@ -195,7 +195,7 @@ pub fn place_after(node: &NodeText<'_>, from: usize, clock: &SourceClock) -> Opt
     None
 }
 
-/// The last thing from a place to another that gives a clock.
+/// The last place between two others that gives a clock.
 pub fn place_before(
     node: &NodeText<'_>,
     from: usize,

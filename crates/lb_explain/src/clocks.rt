@@ -1,4 +1,4 @@
-//! E10: an expression, an argument or a left side on another clock than is wanted.
+//! E10: an expression, an argument or a left side on a wrong clock.
 
 use crate::clock_places::{
     ClockPlace, NodeText, place_after, place_before, place_of_variable, place_of_waited,
@@ -73,7 +73,7 @@ fn put_rule(page: &mut String, text: &Text<'_>, fault: &ClockFault) -> Result<()
     }
 }
 
-/// The same for rules of `current`, iterators and declarations.
+/// The same, for the rules of `current`, iterators and declarations.
 fn put_further_rule(page: &mut String, fault: &ClockFault) -> Result<(), AllocError> {
     match fault.rule {
         ClockRule::Current => {
@@ -84,9 +84,9 @@ fn put_further_rule(page: &mut String, fault: &ClockFault) -> Result<(), AllocEr
             page.push_str("an iterated node has no input or output with a `when`\n")
         }
         ClockRule::Interface => page.push_str(
-            "an input waits for an input alone, and an output for an input or an output\n",
+            "the clock of an input has to be an input, that of an output an input or an output\n",
         ),
-        _ => page.push_str("this declared clock waits for itself\n"),
+        _ => page.push_str("this declared clock depends on itself\n"),
     }
 }
 
@@ -114,16 +114,17 @@ fn put_when(page: &mut String, text: &Text<'_>, word: &Lexeme) -> Result<(), All
     page.push_str("this `when` puts it on ")
 }
 
-/// Puts where a clock comes from.
+/// Puts where a clock comes from, if that is known.
 fn put_origin(
     page: &mut String,
     text: &Text<'_>,
     clock: &SourceClock,
-    place: &ClockPlace,
+    place: Option<ClockPlace>,
 ) -> Result<(), AllocError> {
     match place {
-        ClockPlace::Declaration(name) => put_declaration(page, text, name)?,
-        ClockPlace::When(word) => put_when(page, text, word)?,
+        Some(ClockPlace::Declaration(name)) => put_declaration(page, text, &name)?,
+        Some(ClockPlace::When(word)) => put_when(page, text, &word)?,
+        None => return Ok(()),
     }
     put_clock(page, clock)?;
     page.push('\n')
@@ -157,7 +158,7 @@ fn wanted_place(
     }
 }
 
-/// The node that is called where the argument at a place stands, by its name.
+/// The name of the node that is called with the argument at a place.
 fn callee_before(
     alloc: Global,
     text: &[u8],
@@ -184,7 +185,7 @@ fn callee_before(
     Ok(opened.pop())
 }
 
-/// Puts where the input of a called node is declared that takes an argument.
+/// Puts where the called node declares the input for an argument.
 fn put_input(
     page: &mut String,
     alloc: Global,
@@ -211,38 +212,6 @@ fn put_input(
     page.push_str(" is declared here\n")
 }
 
-/// Puts where the clock comes from that was found, if that is known.
-fn put_found_origin(
-    page: &mut String,
-    text: &Text<'_>,
-    node: &NodeText<'_>,
-    fault: &ClockFault,
-) -> Result<(), AllocError> {
-    let Some(clock) = &fault.found else {
-        return Ok(());
-    };
-    match found_place(node, fault, clock) {
-        Some(place) => put_origin(page, text, clock, &place),
-        None => Ok(()),
-    }
-}
-
-/// Puts where the clock comes from that is wanted, if that is known.
-fn put_wanted_origin(
-    page: &mut String,
-    text: &Text<'_>,
-    node: &NodeText<'_>,
-    fault: &ClockFault,
-) -> Result<(), AllocError> {
-    let Some(clock) = &fault.wanted else {
-        return Ok(());
-    };
-    match wanted_place(node, fault, clock) {
-        Some(place) => put_origin(page, text, clock, &place),
-        None => Ok(()),
-    }
-}
-
 /// Puts where the clocks come from.
 fn put_origins(
     page: &mut String,
@@ -251,8 +220,12 @@ fn put_origins(
     fault: &ClockFault,
 ) -> Result<(), AllocError> {
     let node = NodeText::named(text.bytes, fault.node.as_str());
-    put_found_origin(page, text, &node, fault)?;
-    put_wanted_origin(page, text, &node, fault)?;
+    if let Some(clock) = &fault.found {
+        put_origin(page, text, clock, found_place(&node, fault, clock))?;
+    }
+    if let Some(clock) = &fault.wanted {
+        put_origin(page, text, clock, wanted_place(&node, fault, clock))?;
+    }
     match fault.rule {
         ClockRule::Argument(place) | ClockRule::ClockArgument(place) => {
             put_input(page, alloc, text, fault, place)
@@ -261,7 +234,7 @@ fn put_origins(
     }
 }
 
-/// Puts how to mend it, where that is common.
+/// Puts how to mend it, for common mistakes.
 fn put_mend(page: &mut String, fault: &ClockFault) -> Result<(), AllocError> {
     match fault.rule {
         ClockRule::Operand(_) | ClockRule::Left(_) | ClockRule::Argument(_) => page.push_str(

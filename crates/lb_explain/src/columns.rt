@@ -1,7 +1,7 @@
 //! E14: a header that does not name the inputs.
 
 use crate::bytes::part;
-use crate::cells::{cell_of, put_cell, put_other_separator, stretch_of};
+use crate::cells::{cell_of, input_named, put_cell, put_other_separator, stretch_of};
 use crate::excerpt::{put_excerpt, put_place};
 use crate::near::{Nearest, differ_in_case};
 use crate::quoted::{cell_at, end_of_record, width};
@@ -10,17 +10,17 @@ use crate::texts::{Text, spot};
 use lb_static::Signature;
 use std::alloc::{AllocError, Global};
 
-/// The most names that are told.
+/// The most names of a list that are shown.
 const MOST: usize = 6;
 
-/// The most names of a header that would do.
+/// The most inputs that the wanted header shows.
 const MOST_WANTED: u32 = 12;
 
-/// The header of a text, as its cells.
+/// The header of a text: its first cell, and the cells behind that.
 #[derive(Drop)]
 struct Header {
     start: Cursor,
-    /// The names after the first cell.
+    /// The names behind the first cell.
     names: Vec<Vec<u8>>,
     first: Vec<u8>,
 }
@@ -42,16 +42,6 @@ fn header_of(alloc: Global, text: &[u8]) -> Result<Option<Header>, AllocError> {
     }))
 }
 
-/// Whether a signature has a name.
-fn is_input(signature: &Signature, name: &[u8]) -> bool {
-    for i in 0..signature.len() {
-        if signature.name(i).as_bytes() == name {
-            return true;
-        }
-    }
-    false
-}
-
 /// Whether one of the names is this one.
 fn has_name(names: &[Vec<u8>], name: &[u8]) -> bool {
     for other in names {
@@ -67,18 +57,18 @@ fn has_name(names: &[Vec<u8>], name: &[u8]) -> bool {
 enum Fault {
     /// The first cell is not `trace`.
     First,
-    /// A name that is no input, and one that stands before.
+    /// A name that is no input, and a name that an earlier column has.
     Unknown,
     Doubled,
 }
 
-/// The first column that is wrong, counted from 0, the first one.
+/// The first wrong column, counted from 0, and what is wrong there.
 fn first_fault(signature: &Signature, header: &Header) -> Option<(usize, Fault)> {
     if header.first.as_slice() != b"trace".as_slice() {
         return Some((0, Fault::First));
     }
     for (place, name) in header.names.iter().enumerate() {
-        if !is_input(signature, name.as_slice()) {
+        if input_named(signature, name.as_slice()).is_none() {
             return Some((place.saturating_add(1), Fault::Unknown));
         }
         if has_name(&header.names.as_slice()[..place], name.as_slice()) {
@@ -88,7 +78,7 @@ fn first_fault(signature: &Signature, header: &Header) -> Option<(usize, Fault)>
     None
 }
 
-/// Whether a name has white space at an end.
+/// Whether a name begins or ends with white space.
 fn is_padded(name: &[u8]) -> bool {
     matches!(name, [b' ' | b'\t', ..] | [.., b' ' | b'\t'])
 }
@@ -110,7 +100,8 @@ fn put_missing(
     end_list(page, found)
 }
 
-/// Puts a name of a list that begins with a word, where so many stand before it.
+/// Puts the next name of a list, which shows `found` names so far: `word` stands before the first
+/// one, and nothing is put where the list is full.
 fn put_listed(page: &mut String, word: &str, found: usize, name: &str) -> Result<(), AllocError> {
     if found == 0 {
         return write!(page, "{word}{name}");
@@ -121,7 +112,7 @@ fn put_listed(page: &mut String, word: &str, found: usize, name: &str) -> Result
     Ok(())
 }
 
-/// Ends a list of so many names.
+/// Ends the line of a list of `found` names, with how many of them it does not show.
 fn end_list(page: &mut String, found: usize) -> Result<(), AllocError> {
     if found == 0 {
         return Ok(());
@@ -141,7 +132,7 @@ fn put_unknown(
 ) -> Result<(), AllocError> {
     let mut found: usize = 0;
     for name in &header.names {
-        if !is_input(signature, name.as_slice()) {
+        if input_named(signature, name.as_slice()).is_none() {
             if found == 0 {
                 page.push_str("unknown: ")?;
             } else if found < MOST {
@@ -173,7 +164,7 @@ fn put_nearest(page: &mut String, signature: &Signature, name: &[u8]) -> Result<
     page.push('\n')
 }
 
-/// Puts how to mend a column.
+/// Puts how to mend a wrong column.
 fn put_mend(
     page: &mut String,
     signature: &Signature,
@@ -201,7 +192,7 @@ fn put_fault(page: &mut String, fault: Fault, name: &[u8]) -> Result<(), AllocEr
     page.push('\n')
 }
 
-/// The cell that is marked: the one at fault, or the whole header.
+/// What to mark: the cell of the wrong column, or the whole header where there is none.
 fn marked(text: &[u8], header: &Header, column: Option<usize>) -> CellPlace {
     let whole = CellPlace {
         start: header.start.at,
@@ -216,7 +207,7 @@ fn marked(text: &[u8], header: &Header, column: Option<usize>) -> CellPlace {
     }
 }
 
-/// Puts the first line of a header that is at fault, with the text.
+/// Puts what is wrong with a header, and its line with marks.
 fn put_header(
     page: &mut String,
     alloc: Global,
@@ -241,7 +232,7 @@ fn put_header(
     put_excerpt(page, text, &place)
 }
 
-/// Puts what is missing and unknown, and how to mend it.
+/// Puts the missing and the unknown names, and how to mend the header.
 fn put_lists(
     page: &mut String,
     alloc: Global,
@@ -261,7 +252,7 @@ fn put_lists(
     put_wanted(page, signature)
 }
 
-/// Puts a header that would do, as far as it is short.
+/// Puts a right header; one of many columns is cut off.
 fn put_wanted(page: &mut String, signature: &Signature) -> Result<(), AllocError> {
     page.push_str("wanted: trace")?;
     for i in 0..signature.len().min(MOST_WANTED) {

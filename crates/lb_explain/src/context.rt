@@ -1,6 +1,7 @@
 //! Where in a source a place lies: in which part of which node.
 
-use crate::lexeme::{Lexeme, Sort, piece_at};
+use crate::landmarks::{Passed, pass};
+use crate::lexeme::{Lexeme, Sort, piece_at, run_start};
 use std::cmp::Ordering;
 
 /// A part of a source.
@@ -20,9 +21,9 @@ pub enum Section {
 #[derive(Clone, Copy)]
 pub struct Context {
     pub part: Section,
-    /// Where what is not complete begins: the heading, the statement, the constant.
+    /// Where the heading, the statement or the constant begins that the place lies in.
     pub start: usize,
-    /// Where the node begins, by its word, and the constants by theirs.
+    /// Where the last `node` or `function` stands, or the `const` behind it.
     pub node: usize,
     /// How many static brackets are open.
     depth: usize,
@@ -37,7 +38,7 @@ impl Context {
         depth: 0,
     };
 
-    /// A part that begins at a place, after the same word of a node.
+    /// Another part, which begins at a place; the node is the same.
     fn at(&self, part: Section, start: usize) -> Context {
         Context {
             part,
@@ -47,7 +48,7 @@ impl Context {
         }
     }
 
-    /// The same with static brackets opened or closed.
+    /// The same with another number of open static brackets.
     fn with_depth(&self, depth: usize) -> Context {
         Context {
             part: self.part,
@@ -57,7 +58,7 @@ impl Context {
         }
     }
 
-    /// After a word of three to eight letters.
+    /// After a reserved word.
     fn after_word(&self, text: &[u8], token: &Lexeme) -> Context {
         let inner = self.part == Section::Heading || self.part == Section::Body;
         match token.of(text) {
@@ -84,11 +85,17 @@ impl Context {
         match token.of(text) {
             b"<<" => self.with_depth(self.depth.saturating_add(1)),
             b">>" => self.with_depth(self.depth.saturating_sub(1)),
-            b";" if self.depth == 0 && self.part != Section::Heading => {
-                self.at(self.part, token.end)
-            }
+            b";" => self.after_semicolon(token.end),
             _ => *self,
         }
+    }
+
+    /// After a `;` that ends at a place.
+    fn after_semicolon(&self, end: usize) -> Context {
+        if self.depth > 0 || self.part == Section::Heading {
+            return *self;
+        }
+        self.at(self.part, end)
     }
 
     /// After a token.
@@ -103,17 +110,59 @@ impl Context {
     }
 }
 
+/// A place between two tokens, and the part that it lies in.
+#[derive(Clone, Copy)]
+struct Reached {
+    context: Context,
+    at: usize,
+}
+
+impl Reached {
+    /// After a stretch without landmarks.
+    fn past(&self, passed: &Passed) -> Context {
+        match passed.statement {
+            Some(end) => self.context.after_semicolon(end),
+            None => self.context,
+        }
+    }
+
+    /// After the next token.
+    fn step(&self, text: &[u8]) -> Reached {
+        let token = piece_at(text, self.at);
+        Reached {
+            context: self.context.after(text, &token),
+            at: token.end,
+        }
+    }
+
+    /// After the next landmark, or some more tokens before a place.
+    fn advance(&self, text: &[u8], place: usize) -> Reached {
+        let passed = pass(text, self.at, place);
+        let mut reached = Reached {
+            context: self.past(&passed),
+            at: run_start(text, self.at, passed.end),
+        };
+        for _token in reached.at..passed.end.saturating_add(1) {
+            if reached.at > passed.end {
+                return reached;
+            }
+            reached = reached.step(text);
+        }
+        reached
+    }
+}
+
 /// The part that a place lies in.
 pub fn context_of(text: &[u8], place: usize) -> Context {
-    let mut context = Context::START;
-    let mut at = 0;
+    let mut reached = Reached {
+        context: Context::START,
+        at: 0,
+    };
     for _turn in 0..place {
-        if at >= place {
-            return context;
+        if reached.at >= place {
+            return reached.context;
         }
-        let token = piece_at(text, at);
-        context = context.after(text, &token);
-        at = token.end;
+        reached = reached.advance(text, place);
     }
-    context
+    reached.context
 }

@@ -6,12 +6,12 @@ use crate::texts::Text;
 use lb_flat::{Cycle, CyclePlace};
 use std::alloc::AllocError;
 
-/// The most elements that are told, and how many of them in a line.
+/// The most elements that are shown, and how many of them stand in one line.
 const MOST: usize = 27;
 
 const IN_LINE: usize = 3;
 
-/// Puts what joins an element to the one before it, by its place in the cycle.
+/// Puts what stands between an element of the cycle, by its number, and the one before it.
 fn put_joint(page: &mut String, place: usize) -> Result<(), AllocError> {
     match place {
         0 => Ok(()),
@@ -29,7 +29,7 @@ fn put_element(page: &mut String, text: &Text<'_>, element: &CyclePlace) -> Resu
     write!(page, "{name} ({line}:{column})")
 }
 
-/// Puts that the last element needs the first.
+/// Puts that the last element needs the first, or how many elements are not shown.
 fn put_closing(page: &mut String, cycle: &Cycle, first: &str) -> Result<(), AllocError> {
     let more = cycle.places.len().saturating_sub(MOST);
     if more > 0 {

@@ -3,7 +3,7 @@
 use crate::lexeme::{Lexeme, Sort, piece_at, token_at};
 use crate::near::Nearest;
 
-/// Which names are meant.
+/// Which names a search takes.
 #[derive(Clone, Copy)]
 pub struct Sorts {
     pub nodes: bool,
@@ -13,14 +13,14 @@ pub struct Sorts {
     pub constants: bool,
 }
 
-/// Where in a source a token stands, as far as declarations go.
+/// The part of a source that a token stands in.
 #[derive(Clone, Copy, PartialEq, Eq)]
 enum Region {
     /// Between nodes and constants, or in a body.
     Elsewhere,
     /// After `node` or `function`: its name comes next.
     NodeName,
-    /// From the name of the node that is meant to its `let`.
+    /// From the name of the node whose variables are taken to its `let`.
     Heading,
     /// After `const` or `;` among constants: a name comes next.
     ConstantName,
@@ -36,7 +36,7 @@ struct Search<'t> {
     sorts: Sorts,
 }
 
-/// What a name in a region declares, as far as it is meant.
+/// Whether a search takes the names in a region.
 fn is_meant(search: &Search<'_>, region: Region) -> bool {
     match region {
         Region::NodeName => search.sorts.nodes,
@@ -76,8 +76,7 @@ fn after(search: &Search<'_>, region: Region, token: &Lexeme) -> Region {
     }
 }
 
-/// The declared name that is nearest to another, if one is near. Variables are those of the node
-/// with a name.
+/// The declared name that is nearest to `name`, if one is near. Variables are those of `node`.
 pub fn nearest_of<'t>(
     text: &'t [u8],
     node: &'t [u8],
@@ -106,7 +105,7 @@ pub fn nearest_of<'t>(
     nearest.name
 }
 
-/// Where the node with a name begins, after its name.
+/// The place behind the name of the node with this name, where it is declared.
 pub fn node_named(text: &[u8], name: &[u8]) -> Option<usize> {
     let mut at = 0;
     for _turn in 0..text.len() {

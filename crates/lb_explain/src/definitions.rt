@@ -1,4 +1,4 @@
-//! E11: a variable without exactly one definition, and a function with memory.
+//! E11: a variable that does not have exactly one definition, and a function with memory.
 
 use crate::excerpt::put_bytes;
 use crate::marking::{put_marked, put_note, word_of};
@@ -7,7 +7,7 @@ use crate::texts::Text;
 use lb_check::{DefinitionFault, DefinitionRule};
 use std::alloc::AllocError;
 
-/// The most definitions that are told.
+/// The most definitions that are shown.
 const MOST: usize = 6;
 
 /// Puts the rule that is broken.
@@ -46,7 +46,7 @@ fn put_definitions(
     Ok(())
 }
 
-/// Puts how to mend it, where that is common.
+/// Puts how to mend it, for common mistakes.
 fn put_mend(page: &mut String, fault: &DefinitionFault) -> Result<(), AllocError> {
     match fault.rule {
         DefinitionRule::Memory | DefinitionRule::NodeCall => {

@@ -15,8 +15,7 @@ const WIDTH: usize = 80;
 /// The character that a byte order mark is.
 const BYTE_ORDER_MARK: char = '\u{FEFF}';
 
-/// A byte of a text that is not valid UTF-8, or that would move a terminal's cursor, as a character
-/// that does not.
+/// What is shown for a byte of a text that is not UTF-8: `?` where the byte is not printable.
 fn plain_char(b: u8) -> char {
     match b {
         b'\t' => ' ',
@@ -33,7 +32,7 @@ pub fn put_bytes(page: &mut String, bytes: &[u8]) -> Result<(), AllocError> {
     }
 }
 
-/// Puts a text, with a sign for each control character.
+/// Puts a text, with `?` for each control character.
 fn put_text(page: &mut String, text: &str) -> Result<(), AllocError> {
     for c in text.chars() {
         if c == '\t' {
@@ -47,7 +46,7 @@ fn put_text(page: &mut String, text: &str) -> Result<(), AllocError> {
     Ok(())
 }
 
-/// Puts bytes with a sign for each that is not of ASCII.
+/// Puts bytes that are not UTF-8, with `?` for each character outside of ASCII.
 fn put_ascii(page: &mut String, bytes: &[u8]) -> Result<(), AllocError> {
     for b in bytes {
         if !continues(*b) {
@@ -57,7 +56,7 @@ fn put_ascii(page: &mut String, bytes: &[u8]) -> Result<(), AllocError> {
     Ok(())
 }
 
-/// Puts a character so many times.
+/// Puts `times` copies of a character.
 pub fn put_times(page: &mut String, c: char, times: usize) -> Result<(), AllocError> {
     for _time in 0..times {
         page.push(c)?;
@@ -81,7 +80,7 @@ struct Window {
     to: usize,
 }
 
-/// At most `WIDTH` bytes of a line of a length round a place.
+/// At most `WIDTH` bytes of a line, round a place in it.
 fn plain_window(length: usize, at: usize) -> Window {
     if length <= WIDTH {
         return Window {
@@ -98,7 +97,7 @@ fn plain_window(length: usize, at: usize) -> Window {
     }
 }
 
-/// The same with characters that are whole.
+/// The same, moved so that it cuts no character.
 fn whole_window(line: &[u8], at: usize) -> Window {
     let found = plain_window(line.len(), at);
     Window {
@@ -107,7 +106,7 @@ fn whole_window(line: &[u8], at: usize) -> Window {
     }
 }
 
-/// The first place from `at` on that is not within a character.
+/// The first place from `at` on at which a character begins, or the end of the line.
 fn next_whole(line: &[u8], at: usize) -> usize {
     for ahead in 0..4 {
         let place = at.saturating_add(ahead);
@@ -143,7 +142,7 @@ fn put_margin(page: &mut String, line: u64) -> Result<(), AllocError> {
     write!(page, "{line} | ")
 }
 
-/// Puts the line of a place, and marks below the stretch.
+/// Puts the line of a stretch, and marks below the stretch.
 pub fn put_excerpt(page: &mut String, text: &Text<'_>, spot: &Stretch) -> Result<(), AllocError> {
     let line = line_at(text.bytes, spot.line_start);
     let at = spot.start.saturating_sub(spot.line_start).min(line.len());
@@ -160,7 +159,7 @@ pub fn put_excerpt(page: &mut String, text: &Text<'_>, spot: &Stretch) -> Result
     page.push('\n')
 }
 
-/// Puts `pump.lus:14:13: ` and a word as `error`.
+/// Puts the place and a word, as `pump.lus:14:13: error: `.
 pub fn put_place(
     page: &mut String,
     text: &Text<'_>,

@@ -1,4 +1,4 @@
-//! E12: a program that is too large once it is expanded.
+//! E12: a program that is too large after its expansion.
 
 use crate::counts::put_count;
 use crate::declared::node_named;

@@ -1,4 +1,4 @@
-//! What is told of an error.
+//! The explanation of an error.
 
 ghost use Rattle.std.specs.Prelude.{◌<◌, length, IfOk, IfSome};
 ghost use Rattle.std.specs.Io.{StartsWith};
@@ -20,10 +20,10 @@ use lb_syntax::{SyntaxError, parse};
 use lb_trace::TraceError;
 use std::alloc::{AllocError, Global};
 
-/// The most lines that are told.
+/// The most lines of an explanation.
 const MOST_LINES: usize = 19;
 
-/// What was judged: the texts, and what was asked for.
+/// What was judged: the two texts, and the options of the run.
 #[derive(Drop)]
 struct Subject<'a> {
     alloc: Global,
@@ -64,7 +64,7 @@ fn signature_of(
     }
 }
 
-/// Explains E14 or E16, for which the inputs of the node under test have to be known.
+/// Explains E14 or E16, which need the inputs of the node under test.
 fn explain_under_signature(
     page: &mut String,
     alloc: Global,
@@ -104,7 +104,7 @@ fn explain_trace_error(
     }
 }
 
-/// Puts what is told of an error.
+/// Puts the explanation of an error, except for the place that it begins with.
 fn put_all(page: &mut String, subject: &Subject<'_>, error: &BenchError) -> Result<(), AllocError> {
     let alloc = subject.alloc;
     let source = subject.source;
@@ -133,8 +133,8 @@ fn first_lines(text: &[u8]) -> &[u8] {
 /// how they may be mended. There are at most 19, each with its newline, and none where nothing more
 /// is known.
 ///
-/// Where the error holds its place in the source, that is what the first line begins with. A source
-/// is a file from its first line on.
+/// Where the error holds its place in the source, the first line begins with that place. The source
+/// is the beginning of its file: no lines stand before it.
 ///
 /// ```text
 /// pump.csv:12:7: error: column `open` is bool, and `TRUE` is no value of it

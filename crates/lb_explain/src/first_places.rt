@@ -12,7 +12,7 @@ use lb_static::StaticError;
 use lb_syntax::{SyntaxError, line_column};
 use std::alloc::{AllocError, Global};
 
-/// The offset of what breaks a rule of names, static values and instances, if the error holds one.
+/// The offset of a broken rule of names, static values or instances, if the error holds one.
 fn static_offset(error: &StaticError) -> Option<u32>
     ensures { result ≡ spec.static_offset error.now }
 {
@@ -29,7 +29,7 @@ fn static_offset(error: &StaticError) -> Option<u32>
     }
 }
 
-/// The offset of what breaks a rule of types, clocks or definitions.
+/// The offset of a broken rule of types, clocks or definitions.
 fn check_offset(error: &CheckError) -> Option<u32>
     ensures { result ≡ spec.check_offset error.now }
 {
@@ -68,7 +68,7 @@ fn place_at(source: &[u8], offset: Option<u32>) -> Option<(u32, u32)>
     }
 }
 
-/// The line and the column of a text that is cut wrongly.
+/// The line and the column that E1 to E3 hold.
 fn syntax_place(error: &SyntaxError) -> Option<(u32, u32)>
     ensures { result ≡ spec.syntax_place error.now }
 {

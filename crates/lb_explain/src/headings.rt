@@ -1,4 +1,4 @@
-//! What could stand at a place of the heading of a node, or of constants, by the tokens before it.
+//! What could stand at a place in the heading of a node, or among constants, by the tokens before.
 
 use crate::lexeme::{Lexeme, Sort, token_at};
 
@@ -69,7 +69,7 @@ impl Place {
         }
     }
 
-    /// The same step with other parentheses.
+    /// The same step with another number of open parentheses.
     fn nest(&self, nested: usize) -> Place {
         Place {
             step: self.step,
@@ -94,7 +94,7 @@ impl Place {
         }
     }
 
-    /// After a token within a size or a clock.
+    /// After a token of a size or a clock.
     fn inner(&self, bytes: &[u8]) -> Place {
         match bytes {
             b"(" => self.nest(self.nested.saturating_add(1)),
@@ -114,7 +114,7 @@ impl Place {
         }
     }
 
-    /// After a token behind a type, a clock or a name.
+    /// After the token that stands behind a type, a clock or a name.
     fn ended(&self, bytes: &[u8]) -> Place {
         match bytes {
             b"^" => self.to(Step::Size),
@@ -231,8 +231,8 @@ pub fn expected_in_heading(text: &[u8], start: usize, place: usize) -> &'static 
     here.expected()
 }
 
-/// What could stand at a place of a constant before its value; None from its value on, with the
-/// place where that begins.
+/// Where in a constant a place lies: before its value, with what could stand there, or in its
+/// value, with the start of that.
 pub enum InConstant {
     Before(&'static str),
     Value(usize),
@@ -248,7 +248,7 @@ fn after_constant_token(text: &[u8], token: &Lexeme) -> &'static str {
     }
 }
 
-/// The same for the constant that begins at `start`.
+/// Where a place lies in the constant that begins at `start`.
 pub fn constant_at(text: &[u8], start: usize, place: usize, is_first: bool) -> InConstant {
     let mut expected = if is_first {
         "a name"

@@ -1,13 +1,13 @@
 //! The instant of a record within its trace.
 //!
-//! The records of a trace stand together. So where no byte before a record is a quote, its lines are
-//! gone back over, and the text is not read again from its start.
+//! The records of a trace stand together. So where no byte before a record is a quote, the lines
+//! before it are counted from the last one back, and the text is not read again from its start.
 
 use crate::bytes::byte_at;
 use crate::quoted::{ends_line, first_cell_is};
 use crate::records::{Cursor, Goal, find_record, start_of};
 
-/// Where the last line before a place ends that is not empty; 0 where there is none.
+/// The end of the last line before a place that is not empty; 0 where there is none.
 fn end_before(text: &[u8], at: usize) -> usize {
     for back in 0..at {
         let end = at.saturating_sub(back);
@@ -18,7 +18,7 @@ fn end_before(text: &[u8], at: usize) -> usize {
     0
 }
 
-/// Where the line begins that goes on to a place.
+/// The start of the line that ends at a place.
 fn start_before(text: &[u8], end: usize) -> usize {
     for back in 0..end {
         let start = end.saturating_sub(back);

@@ -31,12 +31,12 @@ pub struct Interface {
 #[derive(Drop)]
 struct List {
     found: Vec<Parameter>,
-    /// How many of them have their types.
+    /// How many variables have their types.
     typed: usize,
     /// Whether a type or a clock is being read, and how many parentheses are open in it.
     in_type: bool,
     nested: usize,
-    /// Whether the type itself ended, since a clock follows.
+    /// Whether the type has ended, and its clock is being read.
     in_clock: bool,
 }
 
@@ -52,7 +52,7 @@ impl List {
         }
     }
 
-    /// Gives their type to those that have none, up to a place.
+    /// Extends the type of the variables that wait for theirs.
     fn extend_type(&mut self, start: usize, end: usize) {
         for place in self.typed..self.found.len() {
             if let Some(parameter) = self.found.get_mut(place) {
@@ -71,7 +71,7 @@ impl List {
         self.in_clock = false;
     }
 
-    /// Goes on over a token within a type or a clock.
+    /// Takes a token of a type or a clock.
     fn take_inner(&mut self, text: &[u8], token: &Lexeme) {
         match token.of(text) {
             b"when" => self.in_clock = true,
@@ -84,7 +84,7 @@ impl List {
         }
     }
 
-    /// Goes on over a token of the list.
+    /// Takes a token of the list.
     fn take(&mut self, text: &[u8], token: &Lexeme) -> Result<(), AllocError> {
         if self.in_type {
             if self.nested == 0 && token.is(text, b";".as_slice()) {
@@ -105,7 +105,7 @@ impl List {
     }
 }
 
-/// The first parenthesis from a place on, behind static parameters, if they stand there.
+/// The place behind the first `(` from a place on; static parameters are passed over.
 fn opening(text: &[u8], from: usize) -> usize {
     let mut at = from;
     for _turn in from..text.len() {
@@ -118,7 +118,7 @@ fn opening(text: &[u8], from: usize) -> usize {
     at
 }
 
-/// Puts the variables of the list that begins at a place, and gives the place behind it.
+/// Reads the list that begins at a place, and gives the place behind its `)`.
 fn read_list(text: &[u8], from: usize, list: &mut List) -> Result<usize, AllocError> {
     let mut at = from;
     for _turn in from..text.len() {
@@ -152,8 +152,8 @@ pub fn interface_of(
     }))
 }
 
-/// The parameter that an observer observes by an input at a place: an input of the node under test,
-/// or else an output.
+/// The parameter of the node under test that is wired to an input of an observer, by the number of
+/// that: its inputs come first, and then its outputs.
 pub fn observed(interface: &Interface, place: usize) -> Option<Parameter> {
     if place < interface.inputs.len() {
         return interface.inputs.get(place).copied();

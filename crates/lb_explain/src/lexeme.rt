@@ -1,7 +1,7 @@
-//! Tokens of a source, cut one after the other without keeping them.
+//! Tokens of a source, read one after the other; none is kept.
 //!
-//! The text was cut before, and refused: so nothing is judged here, and what begins no token is a
-//! lexeme of one byte.
+//! The parser has refused the text already. So nothing is judged here: a byte that begins no token
+//! is a lexeme by itself.
 
 use crate::bytes::{byte_at, find, part};
 use crate::words::is_reserved;
@@ -33,12 +33,12 @@ impl Lexeme {
         part(text, self.start, self.end)
     }
 
-    /// Whether it is this mark.
+    /// Whether it is this reserved word or symbol.
     pub fn is(&self, text: &[u8], mark: &[u8]) -> bool {
         self.sort == Sort::Mark && self.of(text) == mark
     }
 
-    /// Whether it is one of these marks.
+    /// Whether it is one of these reserved words or symbols.
     pub fn is_among(&self, text: &[u8], marks: &[&[u8]]) -> bool {
         for mark in marks {
             if self.is(text, *mark) {
@@ -54,12 +54,12 @@ fn is_space(b: u8) -> bool {
     b == b' ' || b == b'\t' || b == b'\r' || b == b'\n' || b == 12
 }
 
-/// Whether a byte goes on with a name.
+/// Whether a byte may stand in a name.
 fn is_of_name(b: u8) -> bool {
     b.is_ascii_alphanumeric() || b == b'_'
 }
 
-/// Where white space ends that begins at a place.
+/// The end of the white space that begins at a place.
 fn end_of_space(text: &[u8], from: usize) -> usize {
     for at in from..text.len() {
         if !is_space(text[at]) {
@@ -69,7 +69,7 @@ fn end_of_space(text: &[u8], from: usize) -> usize {
     text.len()
 }
 
-/// Where a name ends that begins at a place.
+/// The end of the name that begins at a place.
 fn end_of_name(text: &[u8], from: usize) -> usize {
     for at in from..text.len() {
         if !is_of_name(text[at]) {
@@ -79,7 +79,7 @@ fn end_of_name(text: &[u8], from: usize) -> usize {
     text.len()
 }
 
-/// Where a number ends that begins at a place.
+/// The end of the number that begins at a place.
 fn end_of_number(text: &[u8], from: usize) -> usize {
     for at in from..text.len() {
         if !text[at].is_ascii_digit() {
@@ -89,7 +89,7 @@ fn end_of_number(text: &[u8], from: usize) -> usize {
     text.len()
 }
 
-/// Where a comment ends whose two opening bytes stand before a place, by its two closing bytes.
+/// The end of the comment whose inner text begins at `from`; `first` and `second` close it.
 fn end_of_comment(text: &[u8], from: usize, first: u8, second: u8) -> usize {
     for at in from..text.len() {
         if text[at] == first && byte_at(text, at.saturating_add(1)) == second {
@@ -110,7 +110,28 @@ fn symbol_length(first: u8, second: u8) -> usize {
     }
 }
 
-/// A piece from a place to another.
+/// Whether a byte is of symbols that have two bytes.
+fn is_of_pair(b: u8) -> bool {
+    b == b'-' || b == b'=' || b == b'<' || b == b'>' || b == b'.'
+}
+
+/// The start of the run of letters and digits, or of symbols, that holds a byte. A token begins
+/// there. The run is followed back to `from` at most, where a token begins too, and no comment
+/// stands from there on.
+pub fn run_start(text: &[u8], from: usize, at: usize) -> usize {
+    for back in 0..at.saturating_sub(from) {
+        let start = at.saturating_sub(back);
+        let last = byte_at(text, start.saturating_sub(1));
+        let next = byte_at(text, start);
+        let goes_on = is_of_name(last) && is_of_name(next) || is_of_pair(last) && is_of_pair(next);
+        if !goes_on {
+            return start;
+        }
+    }
+    from
+}
+
+/// A piece of a text from one place to another.
 fn piece(sort: Sort, start: usize, end: usize) -> Lexeme {
     Lexeme { sort, start, end }
 }
@@ -172,4 +193,20 @@ pub fn token_at(text: &[u8], from: usize) -> Lexeme {
         at = found.end;
     }
     piece_at(text, at)
+}
+
+/// The last token before a place, of those from another place on; the end of the text where there
+/// is none.
+pub fn last_before(text: &[u8], from: usize, place: usize) -> Lexeme {
+    let mut last = piece_at(text, text.len());
+    let mut at = from;
+    for _turn in from..place {
+        let token = token_at(text, at);
+        if token.start >= place {
+            return last;
+        }
+        last = token;
+        at = token.end;
+    }
+    last
 }

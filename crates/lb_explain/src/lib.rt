@@ -4,6 +4,7 @@
 //! `pump.lus:14:13: error: ..`, which editors can jump to, with the line of the text.
 #![tactic(auto)]
 
+mod blocks;
 mod bytes;
 mod calls;
 mod cells;
@@ -23,6 +24,7 @@ mod first_places;
 mod headings;
 mod instants;
 mod interfaces;
+mod landmarks;
 mod lexeme;
 mod marking;
 mod names;

@@ -1,4 +1,4 @@
-//! Places that errors hold: offsets of tokens in the source.
+//! Places that errors hold, as offsets of tokens in the source.
 
 use crate::excerpt::{put_excerpt, put_place};
 use crate::lexeme::{Lexeme, piece_at};

@@ -13,8 +13,7 @@ use std::alloc::AllocError;
 fn sought_word(sought: Sought) -> &'static str {
     match sought {
         Sought::Node => "no node or function is named",
-        Sought::Variable => "no variable is named",
-        Sought::Clock => "no variable, for a clock, is named",
+        Sought::Variable | Sought::Clock => "no variable is named",
         Sought::Value => "no variable, static parameter or constant is named",
         Sought::Constant => "no static parameter or constant is named",
     }
@@ -105,7 +104,7 @@ fn put_rule(page: &mut String, fault: &NameFault) -> Result<(), AllocError> {
     }
 }
 
-/// Puts what helps to mend it.
+/// Puts how to mend it.
 fn put_further(page: &mut String, text: &Text<'_>, fault: &NameFault) -> Result<(), AllocError> {
     match fault.rule {
         NameRule::Unknown(sought) => put_nearest(page, text, fault, sought)?,

@@ -1,11 +1,11 @@
-//! The way to an instance: the calls by which it is reached.
+//! The path of calls that leads to an instance.
 
 use crate::marking::put_where;
 use crate::texts::Text;
 use lb_static::{CallPath, CallStep, Start};
 use std::alloc::AllocError;
 
-/// The most calls that are told.
+/// The most calls that are shown.
 const MOST: usize = 4;
 
 /// Puts one call, as `in node pump, called at pump.lus:31:8`.
@@ -19,7 +19,7 @@ fn put_step(page: &mut String, text: &Text<'_>, step: &CallStep) -> Result<(), A
     page.push('\n')
 }
 
-/// Puts the node that is run.
+/// Puts the node under test or the observer, to which no call leads.
 fn put_start(page: &mut String, path: &CallPath) -> Result<(), AllocError> {
     let node = path.node.as_str();
     match path.start {
@@ -28,7 +28,7 @@ fn put_start(page: &mut String, path: &CallPath) -> Result<(), AllocError> {
     }
 }
 
-/// Puts the way to an instance, the innermost call first.
+/// Puts the path to an instance, the innermost call first.
 pub fn put_path(page: &mut String, text: &Text<'_>, path: &CallPath) -> Result<(), AllocError> {
     if path.steps.is_empty() {
         return put_start(page, path);

@@ -1,4 +1,4 @@
-//! E4 to E13: what is told of a refusal of the program.
+//! E4 to E13: refusals of the program.
 
 use crate::calls::{explain_cycle_of_calls, explain_instances};
 use crate::clocks::explain_clock;

@@ -7,7 +7,7 @@ use crate::bytes::{byte_at, part, rest};
 use crate::records::{CellPlace, Cursor, Goal, is_goal};
 use std::alloc::{AllocError, Global};
 
-/// What stands before a byte.
+/// What the bytes before a place are part of.
 #[derive(Clone, Copy, PartialEq, Eq)]
 enum State {
     /// No byte of a record yet.
@@ -73,7 +73,7 @@ pub fn next_quoted(text: &[u8], from: &Cursor, goal: &Goal<'_>) -> Option<Cursor
     None
 }
 
-/// The cell at a place of the record that begins at `start`, from 0 on.
+/// The cell with number `place`, from 0 on, of the record that begins at `start`.
 pub fn cell_at(text: &[u8], start: usize, place: usize) -> Option<CellPlace> {
     let mut state = State::Cell;
     let mut left = place;
@@ -108,7 +108,7 @@ fn last_cell(text: &[u8], left: usize, begin: usize) -> Option<CellPlace> {
     })
 }
 
-/// How many cells the record has that begins at `start`.
+/// The number of cells of the record that begins at `start`.
 pub fn width(text: &[u8], start: usize) -> usize {
     let mut state = State::Cell;
     let mut cells: usize = 1;
@@ -122,7 +122,7 @@ pub fn width(text: &[u8], start: usize) -> usize {
     cells
 }
 
-/// Where the record ends that begins at `start`.
+/// The end of the record that begins at `start`.
 pub fn end_of_record(text: &[u8], start: usize) -> usize {
     let mut state = State::Cell;
     for at in start..text.len() {
@@ -134,7 +134,7 @@ pub fn end_of_record(text: &[u8], start: usize) -> usize {
     text.len()
 }
 
-/// The byte that a cell stands for by the next of its bytes, if any.
+/// The byte that the next byte of a cell adds to its value, if any.
 fn emitted(state: State, b: u8) -> Option<u8> {
     match (state, b) {
         (State::Cell | State::Quoted, b'"') => None,
@@ -142,7 +142,7 @@ fn emitted(state: State, b: u8) -> Option<u8> {
     }
 }
 
-/// After a byte within a cell, where commas and ends of lines are bytes like others.
+/// After a byte of a cell: commas and ends of lines are bytes like others.
 fn within(state: State, b: u8) -> State {
     match after(state, b) {
         State::Record | State::Cell => State::Plain,
@@ -150,7 +150,7 @@ fn within(state: State, b: u8) -> State {
     }
 }
 
-/// The bytes that a cell stands for.
+/// The value of a cell: its bytes without its quotes.
 pub fn decoded(alloc: Global, raw: &[u8]) -> Result<Vec<u8>, AllocError> {
     let mut bytes = Vec::new(alloc);
     let mut state = State::Cell;
@@ -163,7 +163,7 @@ pub fn decoded(alloc: Global, raw: &[u8]) -> Result<Vec<u8>, AllocError> {
     Ok(bytes)
 }
 
-/// Whether the bytes that a cell stands for are a name.
+/// Whether the value of a cell is a name.
 fn stands_for(raw: &[u8], name: &[u8]) -> bool {
     let mut state = State::Cell;
     let mut matched: usize = 0;
@@ -179,7 +179,7 @@ fn stands_for(raw: &[u8], name: &[u8]) -> bool {
     matched == name.len()
 }
 
-/// Whether the first cell of the record that begins at a place is a name.
+/// Whether a name is the value of the first cell of the record that begins at a place.
 pub fn first_cell_is(text: &[u8], start: usize, name: &[u8]) -> bool {
     if byte_at(text, start) == b'"' {
         return match cell_at(text, start, 0) {

@@ -5,27 +5,14 @@
 ghost use Rattle.std.specs.Prelude.{◌<◌, IfOk, IfSome, length};
 ghost use Rattle.lb_explain.specs.Found.{IsNumbered};
 
+use crate::blocks::{BLOCK, places_of};
 use crate::bytes::rest;
 use crate::quoted::{ends_line, first_cell_is};
 use crate::records::{Cursor, Goal, is_goal};
-use std::simd::prelude::*;
 
-/// How many bytes are looked at together.
-const BLOCK: usize = 32;
-
-/// A text has a quote, and so is not told by its lines.
+/// A text has a quote, so a line may be less than a record.
 #[derive(Drop)]
 pub struct HasQuote;
-
-/// Those of 32 bytes that are this one, as bits.
-#[inline(always)]
-fn places_of(block: &[u8], byte: u8) -> u64
-    requires { 31 < length block.now }
-{
-    u8x32::from_slice(block)
-        .simd_eq(u8x32::splat(byte))
-        .to_bitmask()
-}
 
 /// What 32 bytes hold.
 #[derive(Clone, Copy)]
@@ -53,7 +40,7 @@ fn marks_of(block: &[u8], carry: u64) -> Marks
     }
 }
 
-/// Whether a record that begins at one of these places has a name.
+/// Whether a record of a trace with this name begins at one of 32 bytes; `starts` has their bits.
 fn has_name(text: &[u8], at: usize, starts: u64, name: &[u8]) -> bool {
     let mut left = starts;
     for _turn in 0..BLOCK {

@@ -1,7 +1,7 @@
-//! Records of a trace text, found again by their numbers or their names.
+//! Records of a trace text, found by their numbers or the names of their traces.
 //!
 //! The rules are those of the reader: an empty line is no record, and a cell that begins with `"`
-//! goes on to the closing one. A text without quotes is gone over many bytes at once.
+//! goes on to the closing one. A text without quotes is searched 32 bytes at a time.
 
 ghost use Rattle.std.specs.Prelude.{IsTrue, IfSome};
 ghost use Rattle.lb_explain.specs.Found.{IsNumbered};
@@ -15,24 +15,24 @@ use crate::record_scan::next_plain;
 pub struct Cursor {
     /// Where the search goes on.
     pub at: usize,
-    /// How many records stand before, the header included.
+    /// How many records stand before it, with the header.
     pub records: u64,
-    /// How many newlines stand before.
+    /// How many newlines stand before it.
     pub lines: u64,
-    /// Whether a quote may stand before.
+    /// Whether a quote may stand before it.
     pub has_quote: bool,
 }
 
 /// Which record is looked for.
 #[derive(Clone, Copy)]
 pub enum Goal<'g> {
-    /// That with this number, where the header has 0.
+    /// The record with this number; the header has 0.
     Number(u64),
-    /// The first after the header whose trace has this name.
+    /// The first record behind the header whose trace has this name.
     Name(&'g [u8]),
 }
 
-/// Whether a record with this number that begins at a place is the one that is looked for.
+/// Whether the record with this number, which begins at `start`, is the one that is looked for.
 pub fn is_goal(goal: &Goal<'_>, text: &[u8], number: u64, start: usize) -> bool
     ensures { IsTrue result → IsNumbered goal.now number }
 {
@@ -42,7 +42,7 @@ pub fn is_goal(goal: &Goal<'_>, text: &[u8], number: u64, start: usize) -> bool
     }
 }
 
-/// Where records begin: behind the byte order mark, if there is one.
+/// The place at which records begin: behind the byte order mark, if there is one.
 fn first_byte(text: &[u8]) -> usize {
     if part(text, 0, 3) == b"\xEF\xBB\xBF".as_slice() {
         3
@@ -70,6 +70,13 @@ pub fn find_record(text: &[u8], from: &Cursor, goal: &Goal<'_>) -> Option<Cursor
         // A quote: then each byte counts.
         Err(_) => next_quoted(text, from, goal),
     }
+}
+
+/// The header, and the record with a number, where the text has both.
+pub fn header_and_record(text: &[u8], number: u64) -> Option<(Cursor, Cursor)> {
+    let header = find_record(text, &start_of(text), &Goal::Number(0))?;
+    let record = find_record(text, &header, &Goal::Number(number))?;
+    Some((header, record))
 }
 
 /// A cell of a record, as it stands in the text.

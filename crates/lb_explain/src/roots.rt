@@ -1,4 +1,4 @@
-//! E8: the node under test or an observer with an interface that it may not have.
+//! E8: a node under test or an observer whose inputs or outputs are not lawful.
 
 use crate::excerpt::put_bytes;
 use crate::interfaces::{Interface, Parameter, interface_of, observed};
@@ -57,7 +57,7 @@ fn put_parameter(page: &mut String, text: &[u8], parameter: &Parameter) -> Resul
     page.push('`')
 }
 
-/// The place of the input with a name among the inputs of an observer.
+/// The number of the input with a name among the inputs of an observer.
 fn place_of(text: &[u8], observer: &Interface, name: &[u8]) -> usize {
     for (place, input) in observer.inputs.iter().enumerate() {
         if input.name.of(text) == name {
@@ -67,7 +67,7 @@ fn place_of(text: &[u8], observer: &Interface, name: &[u8]) -> usize {
     observer.inputs.len()
 }
 
-/// Puts that an observer lacks an input for a parameter, or has one too many.
+/// Puts that an observer lacks an input, or has one too many.
 fn put_number(
     page: &mut String,
     text: &[u8],
@@ -88,7 +88,7 @@ fn put_number(
     }
 }
 
-/// Puts that an input of an observer has another type than what it observes.
+/// Puts that an input of an observer has another type than the parameter that is wired to it.
 fn put_type(
     page: &mut String,
     text: &[u8],
@@ -108,7 +108,7 @@ fn put_type(
     page.push_str(" is wired\n")
 }
 
-/// Puts what does not fit between an observer and the node under test.
+/// Puts how an observer does not fit the node under test.
 fn put_wiring(
     page: &mut String,
     alloc: Global,
@@ -127,12 +127,12 @@ fn put_wiring(
     put_type(page, text, fault, &observer, &tested)
 }
 
-/// Whether a rule speaks of the node under test too.
+/// Whether a rule compares an observer with the node under test.
 fn is_of_wiring(rule: RootRule) -> bool {
     rule == RootRule::AsManyInputs || rule == RootRule::SameType
 }
 
-/// Puts how to mend it, where that is common.
+/// Puts how to mend it, for common mistakes.
 fn put_mend(page: &mut String, fault: &RootFault) -> Result<(), AllocError> {
     if is_of_wiring(fault.rule) {
         let help = "an observer takes the inputs and then the outputs of the node under test";
@@ -144,7 +144,7 @@ fn put_mend(page: &mut String, fault: &RootFault) -> Result<(), AllocError> {
     Ok(())
 }
 
-/// Explains E8, where the node under test has a name.
+/// Explains E8; `tested` is the name of the node under test.
 pub fn explain_root(
     page: &mut String,
     alloc: Global,

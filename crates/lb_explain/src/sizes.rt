@@ -7,7 +7,7 @@ use crate::lexeme::{Lexeme, Sort, token_at};
 use crate::texts::{Text, offset_of, spot};
 use std::alloc::AllocError;
 
-/// The most bytes of a text, of a name, the greatest number, and the most operators and opening
+/// The limits: bytes of a text, bytes of a name, the greatest number, and operators and opening
 /// brackets of a statement.
 const MOST_TEXT: usize = 1_000_000;
 
@@ -17,7 +17,7 @@ const MOST_NUMBER: u32 = 2_147_483_647;
 
 const MOST_SIGNS: usize = 500;
 
-/// The signs and words that count in a statement.
+/// The operators and opening brackets of a statement: symbols, and words.
 const SIGNS: [&[u8]; 18] = [
     b"|", b"->", b"=>", b"=", b"<>", b"<", b"<=", b">", b">=", b"+", b"-", b"*", b"/", b"^", b"#",
     b"(", b"[", b"<<",
@@ -28,12 +28,12 @@ const SIGN_WORDS: [&[u8]; 12] = [
     b"nor",
 ];
 
-/// Whether a token counts in a statement.
+/// Whether a token is an operator or an opening bracket.
 fn is_counted(text: &[u8], token: &Lexeme) -> bool {
     token.is_among(text, &SIGNS) || token.is_among(text, &SIGN_WORDS)
 }
 
-/// How many static brackets are open after a token.
+/// How many static brackets are open behind a token; `depth` are open before it.
 fn depth_after(text: &[u8], depth: usize, token: &Lexeme) -> usize {
     if token.is(text, b"<<".as_slice()) {
         return depth.saturating_add(1);
@@ -92,7 +92,7 @@ fn statement_start(text: &[u8], place: usize) -> usize {
     start
 }
 
-/// Puts the limit that a text goes past.
+/// Puts the length of a text that is too long.
 fn put_long_text(page: &mut String, text: &Text<'_>) -> Result<(), AllocError> {
     let found = text.bytes.len();
     write!(
@@ -102,7 +102,7 @@ fn put_long_text(page: &mut String, text: &Text<'_>) -> Result<(), AllocError> {
     page.push_str("help: split the source; a node that is not used can be left out\n")
 }
 
-/// Puts how the least number is written, where a minus stands before a number.
+/// Puts how the least int is written, where a `-` stands right before the number.
 fn put_least(page: &mut String, text: &[u8], at: usize) -> Result<(), AllocError> {
     if at > 0 && byte_at(text, at.saturating_sub(1)) == b'-' {
         return page.push_str("help: the least int is written `-2147483647 - 1`\n");
@@ -110,7 +110,7 @@ fn put_least(page: &mut String, text: &[u8], at: usize) -> Result<(), AllocError
     Ok(())
 }
 
-/// Puts the limit that a statement goes past.
+/// Puts how many operators and opening brackets the statement of a place has.
 fn put_signs(page: &mut String, text: &[u8], at: usize) -> Result<(), AllocError> {
     let found = signs_from(text, statement_start(text, at));
     write!(
@@ -119,7 +119,7 @@ fn put_signs(page: &mut String, text: &[u8], at: usize) -> Result<(), AllocError
     )
 }
 
-/// Puts the limit that a token goes past.
+/// Puts the limit that is broken at a token.
 fn put_limit(page: &mut String, text: &[u8], token: &Lexeme) -> Result<(), AllocError> {
     let length = token.end.saturating_sub(token.start);
     match token.sort {

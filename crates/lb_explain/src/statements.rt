@@ -1,4 +1,4 @@
-//! What could stand at a place of a statement or of a constant's value, by the tokens before it.
+//! What could stand at a place in a statement or in a constant's value, by the tokens before it.
 
 use crate::lexeme::{Lexeme, Sort, token_at};
 use std::alloc::{AllocError, Global};
@@ -21,7 +21,7 @@ enum Open {
 /// What the last token was.
 #[derive(Clone, Copy, PartialEq, Eq)]
 enum Last {
-    /// There is none: a statement begins.
+    /// None: a statement begins.
     Start,
     /// A name, and the end of another operand.
     Name,
@@ -40,7 +40,7 @@ enum Last {
     Operator,
 }
 
-/// What is known of the tokens of a statement so far.
+/// What the tokens of a statement tell so far.
 #[derive(Drop)]
 struct Reading {
     opened: Vec<Open>,
@@ -52,7 +52,7 @@ struct Reading {
 }
 
 impl Reading {
-    /// What is open innermost.
+    /// What was opened last.
     fn innermost(&self) -> Option<Open> {
         match self.opened.as_slice() {
             [.., last] => Some(*last),
@@ -60,7 +60,7 @@ impl Reading {
         }
     }
 
-    /// Closes what is open through the innermost that a closing bracket may close.
+    /// Closes the innermost bracket, and the `if` and `then` that are open in it.
     fn close(&mut self) {
         for _turn in 0..self.opened.len() {
             match self.opened.pop() {
@@ -70,7 +70,7 @@ impl Reading {
         }
     }
 
-    /// Puts an opening bracket, and what an operand may follow.
+    /// Opens something, by a token that leaves `last` behind.
     fn put(&mut self, open: Open, last: Last) -> Result<(), AllocError> {
         self.last = last;
         self.opened.push(open)?;
@@ -103,7 +103,7 @@ impl Reading {
         self.put(Open::Static, last)
     }
 
-    /// Goes on from a condition to the choice, and from a choice to what is chosen else.
+    /// Ends the condition at `then`, and the choice at `else`.
     fn choose(&mut self, next: Option<Open>) -> Result<(), AllocError> {
         let _before = self.opened.pop();
         self.last = Last::Operator;
@@ -119,7 +119,7 @@ impl Reading {
         self.is_right = true;
     }
 
-    /// An operator of the program, applied by an iterator.
+    /// An operator: in an expression, or as what an iterator applies.
     fn operator(&mut self) {
         self.last = if self.last == Last::Applied {
             Last::Operand
@@ -128,13 +128,13 @@ impl Reading {
         };
     }
 
-    /// What follows a closing bracket.
+    /// A bracket closes, and leaves `last` behind.
     fn closed(&mut self, last: Last) {
         self.close();
         self.last = last;
     }
 
-    /// Goes on over a bracket.
+    /// Takes a bracket or an operator.
     fn bracket(&mut self, bytes: &[u8]) -> Result<(), AllocError> {
         match bytes {
             b"(" => self.open_group()?,
@@ -147,7 +147,7 @@ impl Reading {
         Ok(())
     }
 
-    /// Goes on over a mark.
+    /// Takes a reserved word or a symbol.
     fn mark(&mut self, bytes: &[u8]) -> Result<(), AllocError> {
         match bytes {
             b"if" => self.put(Open::Condition, Last::Operator)?,
@@ -165,7 +165,7 @@ impl Reading {
         Ok(())
     }
 
-    /// Goes on over a token.
+    /// Takes a token.
     fn take(&mut self, text: &[u8], token: &Lexeme) -> Result<(), AllocError> {
         let bytes = token.of(text);
         match token.sort {
@@ -225,7 +225,7 @@ impl Reading {
     }
 }
 
-/// What is known of the tokens from a place to another.
+/// What the tokens from `start` to `place` tell.
 fn read(
     alloc: Global,
     text: &[u8],

@@ -4,7 +4,7 @@ use crate::bytes::{byte_at, part};
 use crate::context::{Context, Section, context_of};
 use crate::excerpt::{put_bytes, put_excerpt, put_place};
 use crate::headings::{InConstant, constant_at, expected_in_heading};
-use crate::lexeme::{Lexeme, Sort, piece_at, token_at};
+use crate::lexeme::{Lexeme, Sort, last_before, piece_at, token_at};
 use crate::statements::{expected_in_body, expected_in_value};
 use crate::texts::{Stretch, Text, line_at, offset_of, spot};
 use crate::words::mend_of_word;
@@ -35,7 +35,7 @@ fn expected_at_top(last: &Lexeme, text: &[u8]) -> &'static str {
     "`const`, `node`, `function` or the end of the text"
 }
 
-/// What could stand at a place; nothing where that is not known.
+/// What could stand at a place; empty where that is not known.
 fn expected_at(
     alloc: Global,
     text: &[u8],
@@ -51,22 +51,7 @@ fn expected_at(
     }
 }
 
-/// The last token before a place, from another on.
-fn last_before(text: &[u8], from: usize, place: usize) -> Lexeme {
-    let mut last = piece_at(text, text.len());
-    let mut at = from;
-    for _turn in from..place {
-        let token = token_at(text, at);
-        if token.start >= place {
-            return last;
-        }
-        last = token;
-        at = token.end;
-    }
-    last
-}
-
-/// Where the last token before a place may begin: the statement's first, or the word of the node.
+/// A place from which the tokens are read to find the last one before a place in this context.
 fn window_start(text: &[u8], context: &Context) -> usize {
     if context.part == Section::Top {
         return context.start.saturating_sub(3);
@@ -88,7 +73,7 @@ fn is_infix(text: &[u8], token: &Lexeme) -> bool {
     token.is_among(text, &WORDS) || token.is_among(text, &SIGNS)
 }
 
-/// What to write in place of a token after another, where two belong together.
+/// How to mend two tokens that other languages write together; empty for other tokens.
 fn mend_of_pair(text: &[u8], last: &Lexeme, found: &Lexeme) -> &'static str {
     match (last.of(text), found.of(text)) {
         (b"|", b"|") => "disjunction is written `or`",
@@ -102,12 +87,12 @@ fn mend_of_pair(text: &[u8], last: &Lexeme, found: &Lexeme) -> &'static str {
     }
 }
 
-/// Whether an operator stands where one could, and does not go with those before it.
+/// Whether an operator is refused where operators could stand: it does not group with those before.
 fn does_not_group(expected: &str, text: &[u8], found: &Lexeme) -> bool {
     expected.ends_with("or an operator") && is_infix(text, found)
 }
 
-/// What to write in place of a token where others could stand.
+/// How to mend a token, by what could stand there; empty where nothing is known.
 fn mend_of_place(text: &[u8], found: &Lexeme, expected: &str) -> &'static str {
     match (expected, found.of(text)) {
         ("`,` or `=`", b":") => "an equation is written `x = e;`",
@@ -124,7 +109,7 @@ fn mend_of_place(text: &[u8], found: &Lexeme, expected: &str) -> &'static str {
     }
 }
 
-/// How to mend what was found, where that is common.
+/// How to mend the token that was found; empty where that is no common mistake.
 fn mend_of(text: &[u8], last: &Lexeme, found: &Lexeme, expected: &str) -> &'static str {
     let pair = mend_of_pair(text, last, found);
     if !pair.is_empty() {
@@ -139,7 +124,7 @@ fn mend_of(text: &[u8], last: &Lexeme, found: &Lexeme, expected: &str) -> &'stat
         return word;
     }
     if does_not_group(expected, text, found) {
-        return "this operator does not go on from what stands before it; write parentheses";
+        return "this operator does not group with the one before it; write parentheses";
     }
     mend_of_word(last.of(text))
 }
@@ -163,7 +148,7 @@ fn put_expected(page: &mut String, expected: &str) -> Result<(), AllocError> {
     write!(page, "expected {expected}, ")
 }
 
-/// Puts the line of a place, unless nothing stands in it.
+/// Puts the line of a place with marks, unless it is empty.
 fn put_line(page: &mut String, text: &Text<'_>, place: &Stretch) -> Result<(), AllocError> {
     if line_at(text.bytes, place.line_start).is_empty() {
         return Ok(());
@@ -171,7 +156,7 @@ fn put_line(page: &mut String, text: &Text<'_>, place: &Stretch) -> Result<(), A
     put_excerpt(page, text, place)
 }
 
-/// Puts the name of the node whose word ends at a place.
+/// Puts the name of a node, from the end of its `node` or `function` on.
 fn put_node_name(page: &mut String, text: &[u8], from: usize) -> Result<(), AllocError> {
     let name = token_at(text, from);
     if name.sort == Sort::Name {
@@ -181,7 +166,7 @@ fn put_node_name(page: &mut String, text: &[u8], from: usize) -> Result<(), Allo
     page.push_str(", which begins here\n")
 }
 
-/// Puts the place of the node that is not complete.
+/// Puts where the node begins that a place lies in, if it lies in one.
 fn put_open_node(page: &mut String, text: &Text<'_>, context: &Context) -> Result<(), AllocError> {
     if context.part != Section::Heading && context.part != Section::Body {
         return Ok(());
@@ -194,7 +179,7 @@ fn put_open_node(page: &mut String, text: &Text<'_>, context: &Context) -> Resul
     put_node_name(page, text.bytes, word.end)
 }
 
-/// Puts how to mend it, where that is common.
+/// Puts how to mend it, if that is known.
 fn put_mend(page: &mut String, mend: &str) -> Result<(), AllocError> {
     if mend.is_empty() {
         return Ok(());
@@ -202,7 +187,7 @@ fn put_mend(page: &mut String, mend: &str) -> Result<(), AllocError> {
     write!(page, "help: {mend}\n")
 }
 
-/// The token at a place, without what stands before it.
+/// The token at a place; the end of the text where the place is at the end or a byte there is 0.
 fn found_at(text: &[u8], at: usize) -> Lexeme {
     if byte_at(text, at) == 0 {
         return piece_at(text, text.len());

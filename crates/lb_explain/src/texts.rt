@@ -2,7 +2,7 @@
 
 use crate::bytes::{byte_at, count, find, part, rest};
 
-/// A text that a person knows by the name of its file.
+/// A text and the name of its file.
 #[derive(Drop)]
 pub struct Text<'a> {
     /// The path of the file, or `-` for standard input.
@@ -26,8 +26,7 @@ pub struct Stretch {
     pub end: usize,
 }
 
-/// The place of a byte of a text, where the line that begins at `line_start` is known to be the one
-/// after `lines` others.
+/// A stretch of a text, in a line that begins at `line_start` and has `lines` lines before it.
 pub fn spot_in(
     text: &Text<'_>,
     lines: u64,
@@ -44,7 +43,7 @@ pub fn spot_in(
     }
 }
 
-/// Where the line of a byte begins.
+/// The start of the line that a place is in.
 pub fn line_start(bytes: &[u8], at: usize) -> usize {
     let at = at.min(bytes.len());
     for back in 0..at {
@@ -56,14 +55,14 @@ pub fn line_start(bytes: &[u8], at: usize) -> usize {
     0
 }
 
-/// The place of a byte of a text.
+/// A stretch of a text.
 pub fn spot(text: &Text<'_>, start: usize, end: usize) -> Stretch {
     let begin = line_start(text.bytes, start);
     let lines = count(part(text.bytes, 0, begin), b'\n') as u64;
     spot_in(text, lines, begin, start, end)
 }
 
-/// Where the line with this number, from 1 on in the text, begins.
+/// The start of the line with this number, from 1 on.
 fn start_of_line(bytes: &[u8], line: u32) -> usize {
     let mut start = 0;
     for _line in 1..line {
@@ -72,7 +71,7 @@ fn start_of_line(bytes: &[u8], line: u32) -> usize {
     start.min(bytes.len())
 }
 
-/// The offset of a line and a column, from 1 both.
+/// The offset of a line and a column, which both count from 1.
 pub fn offset_of(bytes: &[u8], line: u32, column: u32) -> usize {
     let start = start_of_line(bytes, line);
     start
@@ -80,7 +79,7 @@ pub fn offset_of(bytes: &[u8], line: u32, column: u32) -> usize {
         .min(bytes.len())
 }
 
-/// The bytes of the line that begins at a place, without what ends it.
+/// The bytes of the line that begins at a place, without its line end.
 pub fn line_at(bytes: &[u8], start: usize) -> &[u8] {
     let end = find(bytes, start, b'\n');
     let line = part(bytes, start, end);
@@ -90,7 +89,7 @@ pub fn line_at(bytes: &[u8], start: usize) -> &[u8] {
     }
 }
 
-/// Whether nothing but white space stands from a place on.
+/// Whether a text is white space and control bytes from a place on.
 pub fn is_blank_from(bytes: &[u8], from: usize) -> bool {
     for b in rest(bytes, from) {
         if *b > b' ' {

@@ -1,31 +1,28 @@
 //! E18: a trace text over a limit.
 
-use crate::cells::{put_record, stretch_of};
+use crate::cells::{cell_of, put_record, stretch_of};
 use crate::excerpt::put_place;
 use crate::instants::instant_of;
-use crate::quoted::{cell_at, decoded, width};
-use crate::records::{Cursor, Goal, find_record, start_of};
+use crate::quoted::width;
+use crate::records::{Cursor, header_and_record};
 use crate::texts::{Text, spot};
 use std::alloc::{AllocError, Global};
 
-/// The most bytes, instants of a trace, and cells in all.
+/// The limits: bytes of a text, instants of a trace, and cells of a text.
 const MOST_BYTES: usize = 1_073_741_824;
 
 const MOST_INSTANTS: u64 = 1_000_000;
 
 const MOST_CELLS: u64 = 67_108_864;
 
-/// Puts how to go on.
+/// Puts how to mend it.
 fn put_mend(page: &mut String) -> Result<(), AllocError> {
     page.push_str("help: split the traces into several files, and run each\n")
 }
 
-/// How many instants the trace of a record has up to it.
+/// How many instants its trace has up to and with a record.
 fn instants(alloc: Global, text: &[u8], record: &Cursor) -> Result<u64, AllocError> {
-    let Some(cell) = cell_at(text, record.at, 0) else {
-        return Ok(0);
-    };
-    let name = decoded(alloc, cell.raw(text))?;
+    let name = cell_of(alloc, text, record.at, 0)?;
     Ok(instant_of(text, record, name.as_slice()).saturating_add(1))
 }
 
@@ -89,11 +86,7 @@ fn explain_record(
     number: u64,
 ) -> Result<(), AllocError> {
     let bytes = text.bytes;
-    let first = start_of(bytes);
-    let Some(header) = find_record(bytes, &first, &Goal::Number(0)) else {
-        return Ok(());
-    };
-    let Some(record) = find_record(bytes, &header, &Goal::Number(number)) else {
+    let Some((header, record)) = header_and_record(bytes, number) else {
         return Ok(());
     };
     let columns = width(bytes, header.at).saturating_sub(1).max(1) as u64;

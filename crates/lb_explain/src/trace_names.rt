@@ -1,6 +1,7 @@
-//! E17: the name of a trace that breaks its rule, or comes back.
+//! E17: the name of a trace that is not lawful, or comes back behind another trace.
 
 use crate::cells::{put_cell, stretch_of};
+use crate::characters::{is_printable, put_byte};
 use crate::excerpt::{put_excerpt, put_place};
 use crate::quoted::{cell_at, decoded};
 use crate::records::{CellPlace, Cursor, Goal, find_record, start_of};
@@ -15,7 +16,7 @@ fn is_of_name(b: u8) -> bool {
     b.is_ascii_alphanumeric() || matches!(b, b'_' | b'-' | b'.' | b'/')
 }
 
-/// The first byte of a name that may not stand there.
+/// The first byte of a name that may not stand in names.
 fn first_other(name: &[u8]) -> Option<u8> {
     for b in name {
         if !is_of_name(*b) {
@@ -27,17 +28,14 @@ fn first_other(name: &[u8]) -> Option<u8> {
 
 /// Puts a byte that may not stand in a name.
 fn put_other(page: &mut String, b: u8) -> Result<(), AllocError> {
-    if b > b' ' && b < 127 {
-        let c = char::from(b);
-        return write!(page, "has a `{c}`");
-    }
     if b == b' ' {
         return page.push_str("has a space");
     }
-    write!(page, "has the byte 0x{b:02X}")
+    page.push_str(if is_printable(b) { "has a " } else { "has " })?;
+    put_byte(page, b)
 }
 
-/// Puts what is wrong with a name by itself; whether something is.
+/// Puts what is wrong with a name that is not lawful.
 fn put_rule(page: &mut String, name: &[u8]) -> Result<(), AllocError> {
     if name.is_empty() {
         return page.push_str("the trace name is empty\n");
@@ -55,12 +53,12 @@ fn put_rule(page: &mut String, name: &[u8]) -> Result<(), AllocError> {
     Ok(())
 }
 
-/// Whether a name keeps the rule.
+/// Whether a name is lawful.
 fn keeps_rule(name: &[u8]) -> bool {
     !name.is_empty() && name.len() <= MOST && first_other(name).is_none()
 }
 
-/// Explains a name that breaks the rule.
+/// Explains a name that is not lawful.
 fn explain_rule(
     page: &mut String,
     text: &Text<'_>,

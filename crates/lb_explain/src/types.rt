@@ -1,8 +1,8 @@
-//! E9: an expression, an argument or a left side of another type than is wanted.
+//! E9: an expression, an argument or a left side of a wrong type.
 
 use crate::counts::put_count;
 use crate::excerpt::put_bytes;
-use crate::lexeme::{Lexeme, Sort, piece_at, token_at};
+use crate::lexeme::{Sort, last_before, token_at};
 use crate::marking::{put_marked, token_of, word_of};
 use crate::paths::put_path;
 use crate::texts::Text;
@@ -31,16 +31,29 @@ fn put_types(page: &mut String, fault: &TypeFault) -> Result<(), AllocError> {
     page.push('\n')
 }
 
+/// What an operator wants whose operand may have several types.
+fn wanted_by(sign: &[u8]) -> &'static str {
+    match sign {
+        b"[" => "an array",
+        b"|" => "arrays of one type",
+        _ => "int or bool",
+    }
+}
+
 /// Puts what an operator wants, and what its operand is.
 fn put_operand(page: &mut String, text: &Text<'_>, fault: &TypeFault) -> Result<(), AllocError> {
-    let Some(sign) = fault.sign_offset else {
+    let Some(offset) = fault.sign_offset else {
         return put_types(page, fault);
     };
+    let sign = word_of(text, offset);
     page.push('`')?;
-    put_bytes(page, word_of(text, sign))?;
+    put_bytes(page, sign)?;
     match &fault.wanted {
         Some(wanted) => write!(page, "` wants {wanted}, ")?,
-        None => page.push_str("` wants operands of one type, ")?,
+        None => {
+            let wanted = wanted_by(sign);
+            write!(page, "` wants {wanted}, ")?;
+        }
     }
     put_found(page, fault.found.as_slice())?;
     page.push('\n')
@@ -111,12 +124,14 @@ fn put_array(page: &mut String, fault: &TypeFault) -> Result<(), AllocError> {
     page.push('\n')
 }
 
-/// The same for rules of calls, arrays, assertions and clocks.
+/// The same, for the rules of calls, arrays, assertions and clocks.
 fn put_further_rule(page: &mut String, fault: &TypeFault) -> Result<(), AllocError> {
     match fault.rule {
         TypeRule::ResultCount => page.push_str("one result is wanted, ")?,
-        TypeRule::IteratedNode => page.push_str("the iterator does not go over this node, ")?,
-        TypeRule::Length => page.push_str("an array has 1 to 4096 elements, ")?,
+        TypeRule::IteratedNode => return page.push_str("this node does not fit its iterator\n"),
+        TypeRule::Length => {
+            return page.push_str("this array would have no element, or more than 4096\n");
+        }
         TypeRule::Assertion => page.push_str("an assertion is bool, ")?,
         TypeRule::ClockVariable => page.push_str("the variable of a clock is bool, ")?,
         _ => {}
@@ -125,27 +140,12 @@ fn put_further_rule(page: &mut String, fault: &TypeFault) -> Result<(), AllocErr
     page.push('\n')
 }
 
-/// The token before a place, from another on.
-fn token_before(text: &[u8], from: usize, place: usize) -> Lexeme {
-    let mut last = piece_at(text, text.len());
-    let mut at = from;
-    for _turn in from..place {
-        let token = token_at(text, at);
-        if token.start >= place {
-            return last;
-        }
-        last = token;
-        at = token.end;
-    }
-    last
-}
-
 /// Puts how a comparison after `not` was read.
 fn put_reading(page: &mut String, text: &Text<'_>, fault: &TypeFault) -> Result<(), AllocError> {
     const COMPARISONS: [&[u8]; 6] = [b"=", b"<>", b"<", b"<=", b">", b">="];
     let bytes = text.bytes;
     let operand = token_of(text, fault.offset);
-    let before = token_before(bytes, fault.part_offset as usize, operand.start);
+    let before = last_before(bytes, fault.part_offset as usize, operand.start);
     let after = token_at(bytes, operand.end);
     let is_single = operand.sort == Sort::Name || operand.sort == Sort::Number;
     if !is_single || !before.is(bytes, b"not".as_slice()) || !after.is_among(bytes, &COMPARISONS) {
@@ -158,6 +158,25 @@ fn put_reading(page: &mut String, text: &Text<'_>, fault: &TypeFault) -> Result<
     page.push_str(" ..`; write parentheses round the comparison\n")
 }
 
+/// Puts what an iterator wants of its node.
+fn put_iterator(page: &mut String, iterator: &[u8]) -> Result<(), AllocError> {
+    match iterator {
+        b"red" => page.push_str("help: `red` wants one output, of the type of the first input\n"),
+        b"fill" => page.push_str(
+            "help: `fill` wants one input, an output of its type, and further outputs\n",
+        ),
+        _ => Ok(()),
+    }
+}
+
+/// Puts how to mend it, for common mistakes.
+fn put_mend(page: &mut String, text: &Text<'_>, fault: &TypeFault) -> Result<(), AllocError> {
+    match fault.rule {
+        TypeRule::IteratedNode => put_iterator(page, word_of(text, fault.offset)),
+        _ => put_reading(page, text, fault),
+    }
+}
+
 /// Explains E9.
 pub fn explain_type(
     page: &mut String,
@@ -166,6 +185,6 @@ pub fn explain_type(
 ) -> Result<(), AllocError> {
     put_rule(page, text, fault)?;
     put_marked(page, text, fault.offset)?;
-    put_reading(page, text, fault)?;
+    put_mend(page, text, fault)?;
     put_path(page, text, &fault.path)
 }

@@ -50,7 +50,7 @@ pub fn explain_value(
     put_path(page, text, &fault.path)
 }
 
-/// What a value is there for.
+/// What a value is used for.
 fn role_word(role: RangeRole) -> &'static str {
     match role {
         RangeRole::Size => "the size is",

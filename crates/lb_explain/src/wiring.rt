@@ -1,7 +1,7 @@
 //! Inputs of an observer that are wired to something of another name.
 //!
 //! The inputs and then the outputs of the node under test are wired to the inputs of the observer,
-//! by place. So two Booleans that changed places are not refused.
+//! by their order. So two Booleans that are swapped are not refused.
 
 ghost use Rattle.std.specs.Prelude.{◌≡◌, [], IfOk, None};
 
@@ -10,7 +10,7 @@ use lb_report::Options;
 use lb_syntax::{Declarations, Node, Source, parse};
 use std::alloc::{AllocError, Global};
 
-/// The most warnings that are told.
+/// The most warnings that are shown.
 const MOST: usize = 19;
 
 /// The node of a source with a name.
@@ -23,7 +23,7 @@ fn node_of<'s>(tree: &'s Source, name: &str) -> Option<&'s Node> {
     None
 }
 
-/// Adds the names that are declared in some groups.
+/// Adds the names that groups of declarations have.
 fn push_names<'s>(names: &mut Vec<&'s str>, groups: &'s [Declarations]) -> Result<(), AllocError> {
     for group in groups {
         for name in &group.names {

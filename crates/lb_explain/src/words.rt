@@ -33,7 +33,7 @@ fn is_long(word: &[u8]) -> bool {
     )
 }
 
-/// What to write for a word that other dialects have.
+/// How to mend a word of another language; empty for other words.
 pub fn mend_of_word(word: &[u8]) -> &'static str {
     match word {
         b"real" | b"float" => "real numbers are not in the language; scale them to int",
@@ -50,7 +50,7 @@ pub fn mend_of_word(word: &[u8]) -> &'static str {
     }
 }
 
-/// The same for words that are put where a sign or another word stands.
+/// The same for words that this language writes in another way.
 fn mend_of_sign(word: &[u8]) -> &'static str {
     match word {
         b"integer" => "write int",
