@@ -1,7 +1,8 @@
 -- Answers of which not all went out.
-use Rattle.std.proofs.Common.{◌≡◌, ◌∙◌, ℕ, List, Option, None, ap, subst}
+use Rattle.std.proofs.Common.{◌≡◌, ◌∙◌, ◌≤◌, ℕ, List, Option, None, ap, length, subst, take}
+use Rattle.std.specs.Io.KnownBytes.{Appends}
 use Rattle.clap.specs.Words.{Text}
-use Rattle.lb_command.specs.Outcomes.{IsDelivered, IsTold, refusal_status}
+use Rattle.lb_command.specs.Outcomes.{IsDelivered, IsTold, refusal_status, text_of}
 use Rattle.lb_command.specs.Outcomes.IsDelivered.{broken}
 use Rattle.lb_command.specs.Lines.{line}
 use Rattle.lb_command.specs.Streams.{Change, HasFailed}
@@ -10,12 +11,15 @@ use Rattle.lb_command.specs.declared.answer.Answer.{Answer}
 
 -- the output failed, and the refusal that is told is E19
 pub broken_by : (words : List Text) (answer : Answer) (warnings : List ℕ) (status : ℕ)
-    (output errors : Change) (r : Refusal) → r.number ≡ 19 → r.position ≡ None
+    (output errors : Change) (r : Refusal) (count : ℕ) → r.number ≡ 19 → r.position ≡ None
+    → count ≤ length (text_of answer)
+    → Appends output.before output.after (take count (text_of answer))
     → status ≡ refusal_status r.number
     → HasFailed output → IsTold words errors (line r.number r.position)
     → IsDelivered words answer warnings status output errors
-broken_by words answer warnings status output errors r number position is failed told =
+broken_by words answer warnings status output errors r count number position within took is failed
+    told =
     let numbered =
     subst (λ (n : ℕ). IsTold words errors (line n r.position)) number told in
-    broken (is ∙ ap refusal_status number) failed
+    broken count within took (is ∙ ap refusal_status number) failed
     (subst (λ (p : Option (ℕ × ℕ)). IsTold words errors (line 19 p)) position numbered)

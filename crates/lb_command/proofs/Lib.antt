@@ -6,3 +6,5 @@ pub mod Living
 pub mod Deliveries
 pub mod Columns
 pub mod Judgements
+pub mod Remarks
+pub mod Showings

@@ -42,8 +42,7 @@ are_refused source traces options output cause refusal away told = record {
   answered = record {
     report = tt;
     refused = away.refused;
-    nothing_refuses = tt;
-    first_refuses = away.first_refuses;
+    first = away.first;
   };
   told = told;
   not_read = λ number. is_not_read cause (sym told.number ∙ number);

@@ -9,8 +9,9 @@ use Rattle.clap.specs.declared.parser.matches.ArgMatches.{ArgMatches}
 use Rattle.clap.specs.declared.error.Error.{Error}
 use Rattle.clap.specs.declared.error.kind.ErrorKind.TheVariants.{DisplayHelp, OutOfMemory}
 use Rattle.lb_command.specs.Words.{AsksForHelp, IsRequest, IsRequestOf, IsTask, IsUnlawful}
-use Rattle.lb_command.specs.Words.{IsWrongNumber, command_line, faults_of, has_switch, values_of}
-use Rattle.lb_command.specs.Words.IsUnlawful.{fault, wrong_number}
+use Rattle.lb_command.specs.WordValues.{has_switch}
+use Rattle.lb_command.specs.Words.{IsWrongValue, command_line, faults_of, values_of}
+use Rattle.lb_command.specs.Words.IsUnlawful.{fault, wrong_value}
 use Rattle.lb_command.specs.declared.request.Request.{Request}
 use Rattle.lb_command.specs.declared.request.Request.TheVariants.{Help, Version, Run}
 
@@ -95,8 +96,8 @@ asked_by words rows (Run task) same lawful is = record {
 
 -- the refusal of words that are lawful but for a number
 pub misnumbered : (words : List Text) (rows : List Row) (number : ℕ) → rows ≡ values_of words
-    → (number ≡ 0) ⊎ ((number ≡ 20) × IsWrongNumber rows)
+    → (number ≡ 0) ⊎ ((number ≡ 20) × IsWrongValue rows)
     → (number ≡ 0) ⊎ ((number ≡ 20) × IsUnlawful words)
 misnumbered words rows number same (inl memory) = inl memory
 misnumbered words rows number same (inr (usage, wrong)) =
-    inr (usage, wrong_number (subst (λ (r : List Row). IsWrongNumber r) same wrong))
+    inr (usage, wrong_value (subst (λ (r : List Row). IsWrongValue r) same wrong))

@@ -5,7 +5,8 @@ use Rattle.clap.specs.Words.{Text}
 use Rattle.lb_command.specs.Streams.{Change, IsUntouched, TookOrFailed}
 use Rattle.lb_command.specs.Words.{IsRequest}
 use Rattle.lb_command.specs.declared.request.Aim.{Aim}
-use Rattle.lb_command.specs.declared.request.Aim.TheVariants.{Report, LiveReport, Check, Header}
+use Rattle.lb_command.specs.declared.request.Aim.TheVariants.{Report, LiveReport, OneTrace, Check}
+use Rattle.lb_command.specs.declared.request.Aim.TheVariants.{Header}
 use Rattle.lb_command.specs.declared.request.Request.{Request}
 use Rattle.lb_command.specs.declared.request.Request.TheVariants.{Help, Version, Run}
 use Rattle.lb_command.specs.declared.request.Task.{Task}
@@ -14,10 +15,11 @@ use Rattle.lb_command.specs.declared.request.Task.{Task}
 abbrev pub note : Text
 note = codes "lbench: the traces are read from standard input\n"
 
--- a run reads traces where it is to give a report
+-- a run reads traces where it is to give a report, or the values of a trace
 abbrev pub reads_traces : Aim → Bool
 reads_traces Report = true
 reads_traces LiveReport = true
+reads_traces OneTrace = true
 reads_traces Check = false
 reads_traces Header = false
 

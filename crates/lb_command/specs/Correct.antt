@@ -8,8 +8,9 @@ use Rattle.lb_command.specs.Lines.{line}
 use Rattle.lb_command.specs.Live.{IsLiveRun}
 use Rattle.lb_command.specs.Outcomes.{AreTexts, HasPath, IsDelivered, IsRefusedOn, IsReportOn}
 use Rattle.lb_command.specs.Outcomes.{IsTold, TellsOfInput, refusal_status}
+use Rattle.lb_command.specs.Showing.{IsShowingRun}
 use Rattle.lb_command.specs.Streams.{Change, Input, IsUntouched, NeverFailed}
-use Rattle.lb_command.specs.Warnings.{AreWarnings}
+use Rattle.lb_command.specs.Warnings.{AreRemarks}
 use Rattle.lb_command.specs.Words.{AsksForHelp, AsksForVersion, IsAsked, IsUnlawful}
 use Rattle.lb_command.specs.declared.answer.Answer.{Answer}
 use Rattle.lb_command.specs.declared.answer.Answer.TheVariants.{OfTraces, OfSource, Help, Version}
@@ -24,10 +25,10 @@ use Rattle.lb_command.specs.declared.request.Task.{Task}
 pub data IsWholeRun
     (words : List Text) (task : Task) (i : Input) (status : ℕ) (output errors : Change)
     : Type 0 where
-  answered : (report : Report) → (warnings : List ℕ)
+  answered : (report : Report) → (remarks : List ℕ)
       → IsReportOn (AreTexts task i.coming) task.options report → NeverFailed i
-      → AreWarnings words task.options warnings
-      → IsDelivered words (OfTraces report) warnings status output errors
+      → AreRemarks words task.options remarks
+      → IsDelivered words (OfTraces report) remarks status output errors
       → IsWholeRun words task i status output errors
   refused : (refusal : Refusal) → IsRefusedOn (AreTexts task i.coming) task.options refusal
       → TellsOfInput (HasPath task) i refusal
@@ -42,6 +43,8 @@ IsRunFor aim.Report words task i status output errors =
     IsWholeRun words task i status output errors
 IsRunFor aim.LiveReport words task i status output errors =
     IsLiveRun words task i status output errors
+IsRunFor aim.OneTrace words task i status output errors =
+    IsShowingRun words task i status output errors
 IsRunFor _ words task i status output errors = IsJudgingRun words task i status output errors
 
 abbrev pub IsTaskRun : (words : List Text) → Task → Input → (status : ℕ)

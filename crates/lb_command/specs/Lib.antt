@@ -1,3 +1,5 @@
+pub mod WordValues
+pub mod ValuesWords
 pub mod Words
 pub mod Lines
 pub mod Streams
@@ -5,5 +7,6 @@ pub mod Warnings
 pub mod Outcomes
 pub mod Judging
 pub mod Live
+pub mod Showing
 pub mod Correct
 pub mod Announcements

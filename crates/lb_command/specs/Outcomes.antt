@@ -2,6 +2,8 @@
 -- Source: this project's rule.
 use Rattle.std.specs.Prelude.{◌≡◌, ◌≢◌, ℕ, ◌==◌, ◌||◌, ◌⊎◌, if◌then◌else◌, IfSome, List, Option}
 use Rattle.std.specs.Prelude.{Some, None, Result, Ok, Err, string_bytes, codes, [], ◌++◌, false}
+use Rattle.std.specs.Prelude.{◌≤◌, length, take}
+use Rattle.std.specs.Io.KnownBytes.{Appends}
 use Rattle.std.specs.Borrow.{Bor}
 use Rattle.lb_report.specs.Bench.{IsBenchReport}
 use Rattle.lb_report.specs.Cases.{parts_of}
@@ -165,11 +167,13 @@ pub record IsTold (words : List Text) (errors : Change) (text : List ℕ) : Type
   pub told : TookOrFailed errors (text ++ further)
 
 -- an answer went out whole, the status is its own, and the warnings went to the errors; or the
--- output failed, which is E19
+-- output failed, which is E19, after the first bytes of the answer went out, so many of them
 pub data IsDelivered
     (words : List Text) (answer : Answer) (warnings : List ℕ) (status : ℕ) (output errors : Change)
     : Type 0 where
   whole : status ≡ status_of answer → Took output (text_of answer) → IsWarned errors warnings
       → IsDelivered words answer warnings status output errors
-  broken : status ≡ refusal_status 19 → HasFailed output → IsTold words errors (line 19 None)
+  broken : (count : ℕ) → count ≤ length (text_of answer)
+      → Appends output.before output.after (take count (text_of answer))
+      → status ≡ refusal_status 19 → HasFailed output → IsTold words errors (line 19 None)
       → IsDelivered words answer warnings status output errors

@@ -1,6 +1,6 @@
 -- What is said beside an answer of an accepted source.
 -- Source: this project's rule.
-use Rattle.std.specs.Prelude.{◌≡◌, ℕ, List, [], ◌∷◌, None, false}
+use Rattle.std.specs.Prelude.{◌≡◌, ℕ, List, [], ◌∷◌, ◌++◌, None, false}
 use Rattle.clap.specs.Words.{Text}
 use Rattle.lb_report.specs.declared.options.Options.{Options}
 use Rattle.lb_command.specs.Streams.{Change, IsUntouched, TookOrFailed}
@@ -16,3 +16,12 @@ pub record AreWarnings (words : List Text) (options : Options) (warnings : List 
 abbrev pub IsWarned : (errors : Change) → (warnings : List ℕ) → Type 0
 IsWarned errors [] = IsUntouched errors
 IsWarned errors (x ∷ xs) = TookOrFailed errors (x ∷ xs)
+
+-- beside a report stand the warnings, and then why traces do not pass, where the words ask for
+-- explanations
+pub record AreRemarks (words : List Text) (options : Options) (remarks : List ℕ) : Type 0 where
+  pub warnings : List ℕ
+  pub reasons : List ℕ
+  pub are_warnings : AreWarnings words options warnings
+  pub unasked : asks_to_explain words ≡ false → reasons ≡ []
+  pub both : remarks ≡ warnings ++ reasons

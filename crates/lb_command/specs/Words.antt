@@ -1,38 +1,24 @@
 -- The command line that the program knows, and what its words ask for.
 -- Source: this project's rule; what words make of a command line is what the library `clap` says.
-use Rattle.std.specs.Prelude.{◌≡◌, ◌≢◌, ℕ, ◌≤◌, List, [], ◌∷◌, codes, unwrap_or, option_map}
-use Rattle.std.specs.Prelude.{Bool, true, false, if◌then◌else◌, ◌<◌}
-use Rattle.std.specs.Prelude.{Option, None, Some, string_bytes, bytes_eq}
+use Rattle.std.specs.Prelude.{◌≡◌, ◌≢◌, ℕ, List, [], codes, unwrap_or, option_map}
+use Rattle.std.specs.Prelude.{Bool, true, false, if◌then◌else◌, ◌<◌, ◌||◌, is_some}
+use Rattle.std.specs.Prelude.{None, Some, string_bytes, bytes_eq}
 use Rattle.std.specs.List.{list_any}
-use Rattle.std.specs.Str.Parse.{IsNumeral, digits_value}
 use Rattle.clap.specs.Words.{App, IsAmong, Kinds, Row, Rule, Text, fault_of, first_of, matches_of}
-use Rattle.clap.specs.Words.{new_app, new_rule, with_rule}
-use Rattle.clap.specs.declared.builder.action.ArgAction.TheVariants.{SetTrue}
+use Rattle.clap.specs.Words.{new_app, with_rule}
 use Rattle.clap.specs.declared.error.kind.ErrorKind.{ErrorKind}
 use Rattle.clap.specs.declared.error.kind.ErrorKind.TheVariants.{DisplayHelp}
 use Rattle.lb_report.specs.declared.options.Options.{Options}
+use Rattle.lb_command.specs.ValuesWords.{AreValues, format_in, with_values}
+use Rattle.lb_command.specs.WordValues.{HasNumber, by_default, has_switch, named, placed, switch}
 use Rattle.lb_command.specs.declared.request.Aim.{Aim}
-use Rattle.lb_command.specs.declared.request.Aim.TheVariants.{Report, LiveReport, Check, Header}
+use Rattle.lb_command.specs.declared.request.Aim.TheVariants.{Report, LiveReport, OneTrace, Check}
+use Rattle.lb_command.specs.declared.request.Aim.TheVariants.{Header}
 use Rattle.lb_command.specs.declared.request.Request.{Request}
 use Rattle.lb_command.specs.declared.request.Request.TheVariants.{Help, Version, Run}
 use Rattle.lb_command.specs.declared.request.Task.{Task}
 
 -- ## The command line
-
--- an option with a value, and an argument that is told by its place
-abbrev pub named : Text → Rule
-named name = record (new_rule name) { long = Some name; value_names = 1 }
-
-abbrev pub placed : Text → Rule
-placed name = record (new_rule name) { value_names = 1 }
-
--- with a value that stands for none
-abbrev pub by_default : Text → Rule → Rule
-by_default value rule = record rule { defaults = value ∷ [] }
-
--- an option without a value
-abbrev pub switch : Text → Rule
-switch name = record (new_rule name) { long = Some name; action = Some SetTrue }
 
 abbrev pub with_nodes : App → App
 with_nodes app =
@@ -52,7 +38,8 @@ abbrev pub with_spread : App → App
 with_spread app = with_switches (with_numbers app)
 
 abbrev pub with_explanations : App → App
-with_explanations app = with_rule app (switch (codes "explain"))
+with_explanations app =
+    with_rule (with_rule app (switch (codes "explain"))) (switch (codes "explain-all"))
 
 abbrev pub with_judging : App → App
 with_judging app = with_rule (with_rule app (switch (codes "check"))) (switch (codes "header"))
@@ -72,7 +59,8 @@ with_inputs app = with_rule (with_rule app (placed (codes "source"))) (placed (c
 
 -- the command line that the program knows
 unfoldable pub command_line : App
-command_line = with_inputs (with_modes (with_spread (with_nodes (new_app (codes "lbench")))))
+command_line =
+    with_inputs (with_modes (with_values (with_spread (with_nodes (new_app (codes "lbench"))))))
 
 -- what the parser makes of the words, and the kinds of error that it has for them
 unfoldable pub values_of : List Text → List Row
@@ -85,42 +73,25 @@ faults_of words = fault_of command_line words
 
 -- one of the words asks for explanations
 abbrev pub asks_to_explain : List Text → Bool
-asks_to_explain words = list_any (λ word. bytes_eq word (codes "--explain")) words
+asks_to_explain words =
+    list_any (λ word. bytes_eq word (codes "--explain") || bytes_eq word (codes "--explain-all"))
+    words
 
--- ASCII digits alone that spell a number in a range
-pub record IsNumber (text : Text) (least most n : ℕ) : Type 0 where
-  pub digits : IsNumeral 10 text
-  pub value : digits_value 10 text ≡ n
-  pub not_below : least ≤ n
-  pub not_above : n ≤ most
-
--- of the values that the words give, the one of this argument is a number in a range
-abbrev pub HasNumber : List Row → (id default : Text) → (least most n : ℕ) → Type 0
-HasNumber rows id default least most n =
-    IsNumber (unwrap_or (first_of id rows) default) least most n
-
--- the options that the values give; whether traces of like length share a batch is not told
+-- the options that the values give
 pub record IsOptions (rows : List Row) (options : Options) : Type 0 where
   pub node : string_bytes options.node ≡ unwrap_or (first_of (codes "node") rows) (codes "main")
   pub observer : option_map string_bytes options.observer ≡ first_of (codes "observe") rows
   pub workers : HasNumber rows (codes "workers") (codes "1") 0 64 options.workers
   pub batch : HasNumber rows (codes "batch") (codes "64") 1 64 options.batch
-
--- whether a value is that of an option without a value that is given
-abbrev pub is_given : Option Text → Bool
-is_given (Some text) = bytes_eq text (codes "true")
-is_given None = false
-
--- whether the values have an option without a value
-abbrev pub has_switch : Text → List Row → Bool
-has_switch id rows = is_given (first_of id rows)
+  pub by_length : options.by_length ≡ has_switch (codes "by-length") rows
 
 -- what the run that the values ask for is to give
 abbrev pub aim_of : List Row → Aim
 aim_of rows =
     if has_switch (codes "header") rows then Header
     else (if has_switch (codes "check") rows then Check
-    else (if has_switch (codes "follow") rows then LiveReport else Report))
+    else (if is_some (first_of (codes "show") rows) then OneTrace
+    else (if has_switch (codes "follow") rows then LiveReport else Report)))
 
 -- the run that the values ask for; a live report has a worker
 pub record IsTask (rows : List Row) (task : Task) : Type 0 where
@@ -129,6 +100,7 @@ pub record IsTask (rows : List Row) (task : Task) : Type 0 where
   pub worker : task.aim ≡ LiveReport → 0 < task.options.workers
   pub source : option_map (λ s. s.now) task.source ≡ first_of (codes "source") rows
   pub traces : option_map (λ s. s.now) task.traces ≡ first_of (codes "traces") rows
+  pub values : AreValues rows task.values
 
 -- the words ask for help
 abbrev pub AsksForHelp : List Text → Type 0
@@ -158,15 +130,18 @@ IsRequestOf rows Version = has_switch (codes "version") rows ≡ true
 IsRequestOf rows (Run task) =
     (has_switch (codes "version") rows ≡ false) × IsTask rows task
 
--- a value is no number in its range, or a live report is to have no worker
-pub data IsWrongNumber (rows : List Row) : Type 0 where
-  workers : ((n : ℕ) → HasNumber rows (codes "workers") (codes "1") 0 64 n → ⊥) → IsWrongNumber rows
-  batch : ((n : ℕ) → HasNumber rows (codes "batch") (codes "64") 1 64 n → ⊥) → IsWrongNumber rows
+-- a value is no number in its range or no format, or a live report is to have no worker
+pub data IsWrongValue (rows : List Row) : Type 0 where
+  workers : ((n : ℕ) → HasNumber rows (codes "workers") (codes "1") 0 64 n → ⊥) → IsWrongValue rows
+  batch : ((n : ℕ) → HasNumber rows (codes "batch") (codes "64") 1 64 n → ⊥) → IsWrongValue rows
   no_worker : aim_of rows ≡ LiveReport
-      → HasNumber rows (codes "workers") (codes "1") 0 64 0 → IsWrongNumber rows
+      → HasNumber rows (codes "workers") (codes "1") 0 64 0 → IsWrongValue rows
+  format : format_in rows ≡ None → IsWrongValue rows
+  last : ((n : ℕ) → HasNumber rows (codes "last") (codes "0") 0 1000000000 n → ⊥)
+      → IsWrongValue rows
 
 -- the words are no command line that the program knows
 pub data IsUnlawful (words : List Text) : Type 0 where
   fault : (kind : ErrorKind) → IsAmong kind (faults_of words) → kind ≢ DisplayHelp
       → IsUnlawful words
-  wrong_number : IsWrongNumber (values_of words) → IsUnlawful words
+  wrong_value : IsWrongValue (values_of words) → IsUnlawful words

@@ -19,7 +19,8 @@ fn awaits_traces(task: &Task<'_>) -> bool
     ensures { result ≡ spec.awaits_traces task.now }
 {
     match task.aim {
-        Aim::Report | Aim::LiveReport => task.source.is_some() && task.traces.is_none(),
+        Aim::Report | Aim::LiveReport | Aim::OneTrace => task.source.is_some()
+            && task.traces.is_none(),
         Aim::Check | Aim::Header => false,
     }
 }

@@ -1,6 +1,6 @@
 //! Why the words, an input or the output failed.
 
-use crate::refusal::Unread;
+use crate::refusal::{Unknown, Unread};
 use std::alloc::{AllocError, Global};
 
 /// An option of the command line.
@@ -12,7 +12,7 @@ struct Known {
 }
 
 /// The options of the command line.
-const OPTIONS: [Known; 11] = [
+const OPTIONS: [Known; 17] = [
     Known {
         name: "--node",
         values: "the name of a node",
@@ -38,7 +38,31 @@ const OPTIONS: [Known; 11] = [
         values: "",
     },
     Known {
+        name: "--show",
+        values: "the name of a trace",
+    },
+    Known {
+        name: "--format",
+        values: "table, csv, vcd or svg",
+    },
+    Known {
+        name: "--last",
+        values: "a number from 0 to 1000000000",
+    },
+    Known {
+        name: "--vars",
+        values: "names of variables, parted by commas",
+    },
+    Known {
+        name: "--all",
+        values: "",
+    },
+    Known {
         name: "--explain",
+        values: "",
+    },
+    Known {
+        name: "--explain-all",
         values: "",
     },
     Known {
@@ -81,13 +105,15 @@ fn option_of(name: &str) -> Option<Known> {
 
 /// Whether a value is lawful for an option.
 fn is_value(name: &str, value: &str) -> bool {
-    let least = match name {
-        "--workers" => 0,
-        "--batch" => 1,
+    let (least, most) = match name {
+        "--workers" => (0, 64),
+        "--batch" => (1, 64),
+        "--last" => (0, 1_000_000_000),
+        "--format" => return matches!(value, "table" | "csv" | "vcd" | "svg"),
         _ => return true,
     };
     match value.parse::<u32>() {
-        Ok(n) => least <= n && n <= 64 && !value.starts_with('+'),
+        Ok(n) => least <= n && n <= most && !value.starts_with('+'),
         Err(_) => false,
     }
 }
@@ -272,6 +298,20 @@ pub fn explain_words(alloc: Global, words: &[String]) -> Result<Vec<u8>, AllocEr
     };
     let mut page = page_of(alloc)?;
     put_wrong(&mut page, &wrong)?;
+    page.as_bytes().to_vec(alloc)
+}
+
+/// Explains E20 where nothing has a name that is asked for.
+pub fn explain_name(alloc: Global, unknown: &Unknown) -> Result<Vec<u8>, AllocError> {
+    let name = unknown.name.as_str();
+    let mut page = page_of(alloc)?;
+    if unknown.is_trace {
+        write!(page, "no trace is named `{name}`\n")?;
+        page.push_str("help: the report has the names of all traces\n")?;
+    } else {
+        write!(page, "no variable is named `{name}`\n")?;
+        page.push_str("help: with `--format csv --all --last 1` the names of all variables\n")?;
+    }
     page.as_bytes().to_vec(alloc)
 }
 

@@ -1,6 +1,7 @@
 //! An answer goes out.
 
-ghost use Rattle.std.specs.Prelude.{◌≡◌, ◌+◌, ◌<◌, ◌≤◌, OnErr, OnOk, map, string_bytes};
+ghost use Rattle.std.specs.Prelude.{◌≡◌, ◌+◌, ◌<◌, ◌≤◌, IfErr, OnErr, OnOk, length};
+ghost use Rattle.std.specs.Prelude.{map, string_bytes, take};
 ghost use Rattle.std.specs.Io.KnownBytes.{Appends};
 ghost use Rattle.lb_command.specs.Outcomes as spec;
 ghost use Rattle.lb_command.specs.Streams.{change};
@@ -18,6 +19,9 @@ fn put<S: Sink>(sink: &mut S, text: &[u8]) -> Result<(), Sent>
     ensures all { OnOk result (Appends (S.taken sink.old) (S.taken sink.new) text.now) }
     ensures ok { OnOk result (S.failures sink.new ≡ S.failures sink.old) }
     ensures failed { OnErr result (S.failures sink.old < S.failures sink.new) }
+    ensures within { IfErr result (λ sent. sent.count ≤ length text.now) }
+    ensures first { IfErr result (λ sent.
+        Appends (S.taken sink.old) (S.taken sink.new) (take sent.count text.now)) }
 {
     send(sink, text)?;
     match sink.flush() {

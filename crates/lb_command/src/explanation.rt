@@ -4,26 +4,32 @@ ghost use Rattle.std.specs.Prelude.{◌≡◌, ◌<◌, [], false, map, string_b
 ghost use Rattle.lb_command.specs.Outcomes.{IsTold, refusal_status};
 ghost use Rattle.lb_command.specs.Lines as spec;
 ghost use Rattle.lb_command.specs.Streams.{change};
-ghost use Rattle.lb_command.specs.Warnings.{AreWarnings};
+ghost use Rattle.lb_command.specs.Warnings.{AreRemarks, AreWarnings};
 ghost use Rattle.lb_command.specs.Words.{asks_to_explain};
 
-use crate::causes::{explain_input, explain_output, explain_words};
+use crate::causes::{explain_input, explain_name, explain_output, explain_words};
 use crate::line::send_lines;
 use crate::refusal::{Cause, Refusal, Texts};
 use crate::request::{Request, Task, read_words};
 use lb_explain::{Text, explain, wiring_warnings};
-use lb_report::{BenchError, Sink, split_case};
+use lb_report::{BenchError, Report, Sink, split_case};
+use lb_values::explain_report;
 use std::alloc::{AllocError, Global};
 
-/// The option that asks for explanations.
+/// The option that asks for explanations, and the one that asks for those of all traces.
 const ASKED: &str = "--explain";
 
+const ASKED_ALL: &str = "--explain-all";
+
+/// How many traces that did not pass are explained, unless all are asked for.
+const MOST_TRACES: usize = 20;
+
 /// Whether one of the words asks for explanations.
-fn asks_to_explain(mut words: &[String]) -> bool
+pub fn asks_to_explain(mut words: &[String]) -> bool
     ensures { result ≡ asks_to_explain (map string_bytes words.entry.now) }
 {
     while let [word, rest @ ..] = words {
-        if word.as_str() == ASKED {
+        if word.as_str() == ASKED || word.as_str() == ASKED_ALL {
             return true;
         }
         words = rest;
@@ -93,6 +99,7 @@ fn explanation(alloc: Global, words: &[String], refusal: &Refusal) -> Result<Vec
         Some(Cause::Judged { error, texts }) => explain_judged(alloc, words, error, texts),
         Some(Cause::Unsent { sent, all }) => explain_output(alloc, *sent, *all),
         Some(Cause::Unread(unread)) => explain_input(alloc, Some(unread)),
+        Some(Cause::Unknown(unknown)) => explain_name(alloc, unknown),
         None => match refusal.number {
             20 => explain_words(alloc, words),
             21 => explain_input(alloc, None),
@@ -129,6 +136,60 @@ pub fn warnings_of(alloc: Global, words: &[String], task: &Task<'_>, source: &[u
         Ok(lines) => lines,
         Err(_) => Vec::new(alloc),
     }
+}
+
+/// Whether one of the words asks for the explanations of all traces.
+fn asks_for_all(words: &[String]) -> bool {
+    for word in words {
+        if word.as_str() == ASKED_ALL {
+            return true;
+        }
+    }
+    false
+}
+
+/// Why traces of a report on some texts do not pass. It is nothing where the words ask for no
+/// explanations, and where memory ran out.
+fn reasons_of(
+    alloc: Global,
+    words: &[String],
+    task: &Task<'_>,
+    texts: (&[u8], &[u8]),
+    report: &Report,
+) -> Vec<u8>
+    ensures { asks_to_explain (map string_bytes words.now) ≡ false → result.items ≡ [] }
+{
+    if !asks_to_explain(words) {
+        return Vec::new(alloc);
+    }
+    let most = if asks_for_all(words) {
+        usize::MAX
+    } else {
+        MOST_TRACES
+    };
+    let file = task.source.unwrap_or("-");
+    let (source, traces) = texts;
+    let report = report.text.as_slice();
+    match explain_report(alloc, file, source, traces, &task.options, report, most) {
+        Ok(lines) => lines,
+        Err(_) => Vec::new(alloc),
+    }
+}
+
+/// What is said beside a report on some texts: warnings, and then why traces do not pass.
+pub fn remarks_of(
+    alloc: Global,
+    words: &[String],
+    task: &Task<'_>,
+    texts: (&[u8], &[u8]),
+    report: &Report,
+) -> Vec<u8>
+    ensures { AreRemarks (map string_bytes words.now) task.now.options result.items }
+{
+    let mut remarks = warnings_of(alloc, words, task, texts.0);
+    let reasons = reasons_of(alloc, words, task, texts, report);
+    let _ = remarks.extend_from_slice(reasons.as_slice());
+    remarks
 }
 
 /// Writes the line of a refusal to standard error, and behind it the lines that explain it where

@@ -15,6 +15,8 @@ mod modes;
 mod refusal;
 mod request;
 mod run;
+mod showing;
+mod values_request;
 mod version;
 
 pub use announcement::announce;

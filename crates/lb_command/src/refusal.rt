@@ -56,6 +56,16 @@ pub enum Cause {
     Unread(Unread),
     /// The output failed: how many bytes went out, and of how many, where that is known.
     Unsent { sent: usize, all: Option<usize> },
+    /// Nothing has a name that is asked for.
+    Unknown(Unknown),
+}
+
+/// A name that nothing has.
+#[derive(Drop)]
+pub struct Unknown {
+    /// Whether it is that of a trace, and not of a variable.
+    pub is_trace: bool,
+    pub name: String,
 }
 
 /// Why the program prints no report: the number of a refusal, 0 to 21, and for E1 to E3 the line
@@ -145,6 +155,21 @@ impl Refusal {
             position: None,
             cause: match Unread::new(alloc, path, why) {
                 Ok(unread) => Some(Cause::Unread(unread)),
+                Err(_) => None,
+            },
+        }
+    }
+
+    /// E20: nothing has this name: no trace, or no variable.
+    pub fn unknown(alloc: Global, is_trace: bool, name: &str) -> Refusal
+        ensures number { result.number ≡ 20 }
+        ensures position { result.position ≡ None }
+    {
+        Refusal {
+            number: 20,
+            position: None,
+            cause: match String::from_str(alloc, name) {
+                Ok(name) => Some(Cause::Unknown(Unknown { is_trace, name })),
                 Err(_) => None,
             },
         }

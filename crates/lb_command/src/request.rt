@@ -2,12 +2,14 @@
 
 ghost use Rattle.std.specs.Prelude.{◌≡◌, ◌≢◌, ◌≤◌, ◌==◌, ◌⊎◌, ℕ, true, false};
 ghost use Rattle.std.specs.Prelude.{IfOk, IfErr, OnOk, OnErr};
-ghost use Rattle.std.specs.Prelude.{[], map, option_map, slice_index, string_bytes};
+ghost use Rattle.std.specs.Prelude.{[], codes, is_some, map, option_map, slice_index, string_bytes};
 ghost use Rattle.clap.specs.Words.{IsAmong, app_of, first_of, found_of, kind_of, rows_of, rule_of};
+ghost use Rattle.lb_command.specs.WordValues as given;
 ghost use Rattle.lb_command.specs.Words as spec;
 
 use crate::modes::with_modes;
 use crate::refusal::Refusal;
+use crate::values_request::{Values, values_of, with_values};
 use clap::error::ErrorKind;
 use clap::{Arg, ArgAction, ArgMatches, Command, Error};
 use lb_report::Options;
@@ -31,6 +33,8 @@ pub enum Aim {
     Report,
     /// The report on the traces, line by line.
     LiveReport,
+    /// The values of one trace, in place of the report.
+    OneTrace,
     /// Whether the source is accepted. No traces are read.
     Check,
     /// The header that the traces must have, if the source is accepted. No traces are read.
@@ -58,11 +62,13 @@ pub struct Task<'a> {
     pub aim: Aim,
     pub source: Option<&'a str>,
     pub traces: Option<&'a str>,
+    /// The values that are shown, where those of one trace are asked for.
+    pub values: Values<'a>,
 }
 
 /// An option with a value: what help calls the value, and what the option is for.
 pub fn named_argument<'a>(alloc: Global, name: &'a str, value: &'a str, help: &'a str) -> Arg<'a>
-    ensures rule { rule_of result ≡ spec.named name.entry.now }
+    ensures rule { rule_of result ≡ given.named name.entry.now }
     ensures global { result.global ≡ false }
 {
     Arg::new(alloc, name)
@@ -73,7 +79,7 @@ pub fn named_argument<'a>(alloc: Global, name: &'a str, value: &'a str, help: &'
 
 /// An argument that is told by its place: what help calls it, and what happens without it.
 fn placed_argument<'a>(alloc: Global, name: &'a str, value: &'a str, help: &'a str) -> Arg<'a>
-    ensures rule { rule_of result ≡ spec.placed name.entry.now }
+    ensures rule { rule_of result ≡ given.placed name.entry.now }
     ensures global { result.global ≡ false }
 {
     Arg::new(alloc, name).value_name(value).help(help)
@@ -81,7 +87,7 @@ fn placed_argument<'a>(alloc: Global, name: &'a str, value: &'a str, help: &'a s
 
 /// An option without a value.
 pub fn switch_argument<'a>(alloc: Global, name: &'a str, help: &'a str) -> Arg<'a>
-    ensures rule { rule_of result ≡ spec.switch name.entry.now }
+    ensures rule { rule_of result ≡ given.switch name.entry.now }
     ensures global { result.global ≡ false }
 {
     Arg::new(alloc, name)
@@ -147,12 +153,13 @@ fn command_line<'a>(alloc: Global) -> Result<Command<'a>, AllocError>
     let about = "Runs one node of a Lustre V6 source over recorded traces.";
     let command = with_nodes(alloc, Command::new(alloc, "lbench").about(about))?;
     let command = with_spread(alloc, command)?;
+    let command = with_values(alloc, command)?;
     let command = with_modes(alloc, command)?;
     with_inputs(alloc, command)
 }
 
 /// What the words give for an argument, or what stands for none.
-fn text_of<'a>(matches: &ArgMatches<'a>, id: &str) -> Option<&'a str>
+pub fn text_of<'a>(matches: &ArgMatches<'a>, id: &str) -> Option<&'a str>
     ensures { option_map (λ s. s.now) result ≡ first_of id.now (rows_of (found_of matches.now)) }
 {
     matches.get_str(id)
@@ -170,9 +177,9 @@ fn has_plus(text: &str) -> bool
 
 /// The number that ASCII digits spell, if it is from `least` to `most`.
 fn number(text: &str, least: u32, most: u32) -> Result<u32, Refusal>
-    ensures ok { IfOk result (spec.IsNumber text.now least most) }
+    ensures ok { IfOk result (given.IsNumber text.now least most) }
     ensures usage { IfErr result (λ refusal. refusal.number ≡ 20) }
-    ensures err { OnErr result ((n : ℕ) → spec.IsNumber text.now least most n → ⊥) }
+    ensures err { OnErr result ((n : ℕ) → given.IsNumber text.now least most n → ⊥) }
 {
     if has_plus(text) {
         return Err(Refusal::USAGE);
@@ -184,31 +191,41 @@ fn number(text: &str, least: u32, most: u32) -> Result<u32, Refusal>
 }
 
 /// A number that the words give.
-fn number_of(
+pub fn number_of(
     matches: &ArgMatches<'_>,
     id: &str,
     default: &str,
     least: u32,
     most: u32,
 ) -> Result<u32, Refusal>
-    ensures ok { IfOk result (spec.HasNumber (rows_of (found_of matches.now)) id.now default.now
+    ensures ok { IfOk result (given.HasNumber (rows_of (found_of matches.now)) id.now default.now
         least most) }
     ensures usage { IfErr result (λ refusal. refusal.number ≡ 20) }
     ensures err { OnErr result ((n : ℕ) →
-        spec.HasNumber (rows_of (found_of matches.now)) id.now default.now least most n → ⊥) }
+        given.HasNumber (rows_of (found_of matches.now)) id.now default.now least most n → ⊥) }
 {
     number(text_of(matches, id).unwrap_or(default), least, most)
+}
+
+/// Whether the words give an option that has no value.
+pub fn is_given(matches: &ArgMatches<'_>, id: &str) -> bool
+    ensures { result ≡ given.is_given (first_of id.now (rows_of (found_of matches.now))) }
+{
+    match text_of(matches, id) {
+        Some(text) => text == "true",
+        None => false,
+    }
 }
 
 /// The options that the words give.
 fn options(alloc: Global, matches: &ArgMatches<'_>) -> Result<Options, Refusal>
     ensures ok { IfOk result (spec.IsOptions (rows_of (found_of matches.now))) }
     ensures err { IfErr result (λ refusal. (refusal.number ≡ 0)
-        ⊎ ((refusal.number ≡ 20) × spec.IsWrongNumber (rows_of (found_of matches.now)))) }
+        ⊎ ((refusal.number ≡ 20) × spec.IsWrongValue (rows_of (found_of matches.now)))) }
 {
     let workers = number_of(matches, "workers", "1", 0, 64)?;
     let batch = number_of(matches, "batch", "64", 1, 64)?;
-    let by_length = matches.get_flag("by-length");
+    let by_length = is_given(matches, "by-length");
     let node = String::from_str(alloc, text_of(matches, "node").unwrap_or("main"))?;
     let observer = match text_of(matches, "observe") {
         Some(name) => Some(String::from_str(alloc, name)?),
@@ -217,14 +234,11 @@ fn options(alloc: Global, matches: &ArgMatches<'_>) -> Result<Options, Refusal>
     Ok(Options::new(node, observer, workers, batch, by_length))
 }
 
-/// Whether the words give an option that has no value.
-fn is_given(matches: &ArgMatches<'_>, id: &str) -> bool
-    ensures { result ≡ spec.is_given (first_of id.now (rows_of (found_of matches.now))) }
+/// Whether the words name a trace whose values are shown.
+fn names_trace(matches: &ArgMatches<'_>) -> bool
+    ensures { result ≡ is_some (first_of (codes "show") (rows_of (found_of matches.now))) }
 {
-    match text_of(matches, id) {
-        Some(text) => text == "true",
-        None => false,
-    }
+    text_of(matches, "show").is_some()
 }
 
 /// What the run that the words ask for is to give. The header says that the source is accepted,
@@ -236,6 +250,8 @@ fn aim_of(matches: &ArgMatches<'_>) -> Aim
         Aim::Header
     } else if is_given(matches, "check") {
         Aim::Check
+    } else if names_trace(matches) {
+        Aim::OneTrace
     } else if is_given(matches, "follow") {
         Aim::LiveReport
     } else {
@@ -247,18 +263,20 @@ fn aim_of(matches: &ArgMatches<'_>) -> Aim
 fn read_task<'a>(alloc: Global, matches: &ArgMatches<'a>) -> Result<Task<'a>, Refusal>
     ensures ok { IfOk result (spec.IsTask (rows_of (found_of matches.now))) }
     ensures err { IfErr result (λ refusal. (refusal.number ≡ 0)
-        ⊎ ((refusal.number ≡ 20) × spec.IsWrongNumber (rows_of (found_of matches.now)))) }
+        ⊎ ((refusal.number ≡ 20) × spec.IsWrongValue (rows_of (found_of matches.now)))) }
 {
     let options = options(alloc, matches)?;
     let aim = aim_of(matches);
     if options.workers == 0 && aim.is_live() {
         return Err(Refusal::USAGE);
     }
+    let values = values_of(matches)?;
     Ok(Task {
         options,
         aim,
         source: text_of(matches, "source"),
         traces: text_of(matches, "traces"),
+        values,
     })
 }
 
@@ -292,7 +310,7 @@ fn parse<'a>(command: Command<'a>, words: &'a [String]) -> Result<ArgMatches<'a>
 fn request_of<'a>(alloc: Global, matches: &ArgMatches<'a>) -> Result<Request<'a>, Refusal>
     ensures ok { IfOk result (spec.IsRequestOf (rows_of (found_of matches.now))) }
     ensures err { IfErr result (λ refusal. (refusal.number ≡ 0)
-        ⊎ ((refusal.number ≡ 20) × spec.IsWrongNumber (rows_of (found_of matches.now)))) }
+        ⊎ ((refusal.number ≡ 20) × spec.IsWrongValue (rows_of (found_of matches.now)))) }
 {
     if is_given(matches, "version") {
         return Ok(Request::Version);

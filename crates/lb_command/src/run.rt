@@ -4,18 +4,21 @@ ghost use Rattle.std.specs.Prelude.{◌≡◌, ◌≢◌, ◌<◌, ◌⊎◌, If
 ghost use Rattle.lb_command.specs.Correct.{IsRun, IsTaskRun, IsWholeRun};
 ghost use Rattle.lb_command.specs.Outcomes as spec;
 ghost use Rattle.lb_command.specs.Streams.{change, input};
-ghost use Rattle.lb_command.specs.Warnings.{AreWarnings};
+ghost use Rattle.lb_command.specs.Warnings.{AreRemarks};
 ghost use Rattle.lb_command.specs.declared.request.Aim.TheVariants.{LiveReport};
 
 use crate::answer::{Answer, Warned};
 use crate::delivery::deliver;
-use crate::explanation::{tell, warnings_of};
+use crate::explanation::{asks_to_explain, remarks_of, tell};
 use crate::judging::run_judging;
 use crate::live::run_live;
 use crate::loading::{Loaded, load_open, load_texts};
 use crate::refusal::{Refusal, Texts};
 use crate::request::{Aim, Request, Task, read_words};
+use crate::showing::run_showing;
 use lb_report::{Feed, Report, Sink, bench, bench_file};
+use std::alloc::Global;
+use std::io::Read;
 use std::os::unix::fs::FileExt;
 use std::rt::Runtime;
 use std::sync::Wait;
@@ -33,15 +36,27 @@ where
     ensures outcome { spec.IsOutcomeOn (spec.AreIn texts) task.now.options result }
     ensures not_read { IfErr result (λ refusal. refusal.number ≢ 21) }
     ensures warned { IfOk result (λ found.
-        AreWarnings (map string_bytes words.now) task.now.options found.warnings.items) }
+        AreRemarks (map string_bytes words.now) task.now.options found.warnings.items) }
 {
     let (source, traces) = texts.parts();
     match bench(rt, source, traces, &task.options) {
-        Ok(value) => Ok(Warned {
-            value,
-            warnings: warnings_of(rt.alloc(), words, task, source),
-        }),
+        Ok(value) => {
+            let warnings = remarks_of(rt.alloc(), words, task, (source, traces), &value);
+            Ok(Warned { value, warnings })
+        }
         Err(cause) => Err(Refusal::of_texts(cause, texts)),
+    }
+}
+
+/// The traces of a file that a report was made of in chunks, where the words ask for explanations;
+/// nothing where they do not, and where the file can not be read again.
+fn traces_again<F: Read>(alloc: Global, words: &[String], path: &str, file: &mut F) -> Vec<u8> {
+    if !asks_to_explain(words) {
+        return Vec::new(alloc);
+    }
+    match load_open(alloc, path, file) {
+        Ok(traces) => traces,
+        Err(_) => Vec::new(alloc),
     }
 }
 
@@ -59,10 +74,12 @@ where
     R::File: FileExt + Sync,
     ensures outcome { spec.IsOutcomeOn (λ _ _. Unit {0}) task.now.options result }
     ensures warned { IfOk result (λ found.
-        AreWarnings (map string_bytes words.now) task.now.options found.warnings.items) }
+        AreRemarks (map string_bytes words.now) task.now.options found.warnings.items) }
 {
     if let Some(value) = bench_file(rt, source.as_slice(), &file, &task.options) {
-        let warnings = warnings_of(rt.alloc(), words, task, source.as_slice());
+        let traces = traces_again(rt.alloc(), words, path, &mut file);
+        let texts = (source.as_slice(), traces.as_slice());
+        let warnings = remarks_of(rt.alloc(), words, task, texts, &value);
         return Ok(Warned { value, warnings });
     }
     let traces = load_open(rt.alloc(), path, &mut file)?;
@@ -86,7 +103,7 @@ where
     ensures read { spec.HasRead (spec.HasPath task.now)
         (input (F.coming reader.old) (F.failures reader.old) (F.failures reader.new)) result }
     ensures warned { IfOk result (λ found.
-        AreWarnings (map string_bytes words.now) task.now.options found.warnings.items) }
+        AreRemarks (map string_bytes words.now) task.now.options found.warnings.items) }
 {
     match load_texts(rt, task, reader) {
         Ok(loaded) => match loaded {
@@ -163,6 +180,7 @@ where
     match task.aim {
         Aim::Report => run_whole(rt, words, task, reader, writer, errors),
         Aim::LiveReport => run_live(rt, words, task, reader, writer, errors),
+        Aim::OneTrace => run_showing(rt, words, task, reader, writer, errors),
         Aim::Check => run_judging(rt, words, task, reader, writer, errors),
         Aim::Header => run_judging(rt, words, task, reader, writer, errors),
     }
@@ -174,6 +192,7 @@ where
 /// |---|---|
 /// | 0 | a report in which no trace has a fault, is undefined or false |
 /// | 0 | with `--follow`: the whole report went out |
+/// | 0 | with `--show`: the values went out |
 /// | 0 | with `--check` and `--header`: the source is accepted |
 /// | 0 | `--help`, `--version` |
 /// | 1 | a report in which some trace has a fault, is undefined or false |

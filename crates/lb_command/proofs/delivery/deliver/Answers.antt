@@ -1,4 +1,4 @@
-use Rattle.std.proofs.Common.{List, ℕ, subst}
+use Rattle.std.proofs.Common.{◌≤◌, List, ℕ, length, subst, take}
 use Rattle.std.specs.Io.KnownBytes.{Appends}
 use Rattle.lb_command.specs.Outcomes.IsDelivered.{whole}
 use Rattle.lb_command.proofs.Deliveries.{broken_by}
@@ -15,5 +15,12 @@ returns-in-Ok g c =
 pub returns-in-Err : goal.returns-in-Err
 returns-in-Err g c =
     let is = c.unsent-refusal.ensures in
-    broken_by _ _ _ _ _ _ c.unsent-refusal.result is.number is.position c.tell.ensures.status
+    let taken = g.W.Sink.taken in
+    let sent = c.in-Err.sent in
+    let Within : List ℕ → Type 0 = λ bytes. sent.count ≤ length bytes in
+    let First : List ℕ → Type 0 = λ bytes.
+    Appends (taken c.args.writer.now) (taken c.put.new.sink) (take sent.count bytes) in
+    broken_by _ _ _ _ _ _ c.unsent-refusal.result sent.count is.number is.position
+    (subst Within c.text.ensures c.in-Err.ensures.within)
+    (subst First c.text.ensures c.in-Err.ensures.first) c.tell.ensures.status
     c.in-Err.ensures.failed c.tell.ensures.told

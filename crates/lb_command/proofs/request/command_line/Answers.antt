@@ -2,6 +2,7 @@ use Rattle.std.proofs.Common.{◌≡◌, ◌∙◌, ap, codes}
 use Rattle.std.proofs.lemmas.Result.{IfOk-weaker}
 use Rattle.clap.specs.Words.{app_of, new_app}
 use Rattle.clap.specs.Simple.{app_of_fields}
+use Rattle.lb_command.specs.ValuesWords.{with_values}
 use Rattle.lb_command.specs.Words.{command_line, with_inputs, with_modes, with_nodes, with_spread}
 use Rattle.lb_command.proofs.request.command_line.Goals as goal
 
@@ -14,8 +15,11 @@ returns c =
     ≡ with_spread (with_nodes (new_app (codes "lbench"))) =
     c.in_ok-command-2.ensures
     ∙ ap with_spread (c.in_ok-command.ensures ∙ ap with_nodes made) in
-    let all : app_of c.in_ok-command-3.command
-    ≡ with_modes (with_spread (with_nodes (new_app (codes "lbench")))) =
-    c.in_ok-command-3.ensures ∙ ap with_modes both in
+    let more : app_of c.in_ok-command-3.command
+    ≡ with_values (with_spread (with_nodes (new_app (codes "lbench")))) =
+    c.in_ok-command-3.ensures ∙ ap with_values both in
+    let all : app_of c.in_ok-command-4.command
+    ≡ with_modes (with_values (with_spread (with_nodes (new_app (codes "lbench"))))) =
+    c.in_ok-command-4.ensures ∙ ap with_modes more in
     IfOk-weaker c.with_inputs.result _ _ (λ new is. is ∙ ap with_inputs all)
     c.with_inputs.ensures

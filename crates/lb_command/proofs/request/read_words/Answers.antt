@@ -1,6 +1,6 @@
-use Rattle.std.proofs.lemmas.Result.{IfOk-weaker}
+use Rattle.std.proofs.lemmas.Result.{IfErr-weaker, IfOk-weaker}
 use Rattle.lb_command.proofs.Outcomes.{passed_on}
-use Rattle.lb_command.proofs.Words.{asked_by, refused_by}
+use Rattle.lb_command.proofs.Words.{asked_by, misnumbered, refused_by}
 use Rattle.lb_command.proofs.request.read_words.Goals as goal
 
 pub returns-in_err-help-in-Err-clause-err : goal.returns-in_err-help-in-Err-clause-err
@@ -16,3 +16,9 @@ returns-in-Ok-clause-ok c =
     IfOk-weaker c.request_of.result _ _
     (λ request is. asked_by _ _ request c.in-Ok.ensures.ok c.in-Ok.ensures.lawful is)
     c.request_of.ensures.ok
+
+pub returns-in-Ok-clause-err : goal.returns-in-Ok-clause-err
+returns-in-Ok-clause-err c =
+    IfErr-weaker c.request_of.result _ _
+    (λ refusal is. misnumbered _ _ refusal.number c.in-Ok.ensures.ok is)
+    c.request_of.ensures.err

@@ -33,6 +33,20 @@ returns-in-LiveReport g c =
     (g.E.Sink.failures args.errors.now) (g.E.Sink.failures new.errors)) in
     subst Is (sym c.in-LiveReport.is) c.run_live.ensures
 
+pub returns-in-OneTrace : goal.returns-in-OneTrace
+returns-in-OneTrace g c =
+    let args = c.args in
+    let new = c.run_showing.new in
+    let Is : Aim → Type 0 = λ aim.
+    IsRunFor aim (map string_bytes args.words.now) args.task.now
+    (input (g.F.Feed.coming args.reader.now) (g.F.Feed.failures args.reader.now)
+    (g.F.Feed.failures new.reader)) c.run_showing.result
+    (change (g.W.Sink.taken args.writer.now) (g.W.Sink.taken new.writer)
+    (g.W.Sink.failures args.writer.now) (g.W.Sink.failures new.writer))
+    (change (g.E.Sink.taken args.errors.now) (g.E.Sink.taken new.errors)
+    (g.E.Sink.failures args.errors.now) (g.E.Sink.failures new.errors)) in
+    subst Is (sym c.in-OneTrace.is) c.run_showing.ensures
+
 pub returns-in-Check : goal.returns-in-Check
 returns-in-Check g c =
     let args = c.args in

@@ -1,14 +1,14 @@
 use Rattle.std.proofs.Common.{List, ℕ, map, refl, subst, sym}
 use Rattle.std.specs.Prelude.{string_bytes}
 use Rattle.lb_command.specs.Correct.IsWholeRun.{answered, refused}
-use Rattle.lb_command.specs.Warnings.{AreWarnings}
+use Rattle.lb_command.specs.Warnings.{AreRemarks}
 use Rattle.lb_command.proofs.Streams.{keeps_all}
 use Rattle.lb_command.proofs.run.run_whole.Goals as goal
 
 pub returns-in-Ok : goal.returns-in-Ok
 returns-in-Ok g c =
     let Are : List ℕ → Type 0 =
-    AreWarnings (map string_bytes c.args.words.now) c.args.task.now.options in
+    AreRemarks (map string_bytes c.args.words.now) c.args.task.now.options in
     answered c.in-Ok.found.value c.as_slice.result.now c.in-Ok.ensures.outcome c.in-Ok.ensures.read
     (subst Are (sym c.as_slice.ensures.value) c.in-Ok.ensures.warned) c.deliver.ensures
 

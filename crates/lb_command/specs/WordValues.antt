@@ -1,0 +1,43 @@
+-- The arguments of a command line, and the values that its words give for them.
+-- Source: this project's rule; what words make of a command line is what the library `clap` says.
+use Rattle.std.specs.Prelude.{◌≡◌, ℕ, ◌≤◌, Bool, false, Option, None, Some, List, [], ◌∷◌, codes}
+use Rattle.std.specs.Prelude.{bytes_eq, unwrap_or}
+use Rattle.std.specs.Str.Parse.{IsNumeral, digits_value}
+use Rattle.clap.specs.Words.{Row, Rule, Text, first_of, new_rule}
+use Rattle.clap.specs.declared.builder.action.ArgAction.TheVariants.{SetTrue}
+
+-- an option with a value, and an argument that is told by its place
+abbrev pub named : Text → Rule
+named name = record (new_rule name) { long = Some name; value_names = 1 }
+
+abbrev pub placed : Text → Rule
+placed name = record (new_rule name) { value_names = 1 }
+
+-- with a value that stands for none
+abbrev pub by_default : Text → Rule → Rule
+by_default value rule = record rule { defaults = value ∷ [] }
+
+-- an option without a value
+abbrev pub switch : Text → Rule
+switch name = record (new_rule name) { long = Some name; action = Some SetTrue }
+
+-- ASCII digits alone that spell a number in a range
+pub record IsNumber (text : Text) (least most n : ℕ) : Type 0 where
+  pub digits : IsNumeral 10 text
+  pub value : digits_value 10 text ≡ n
+  pub not_below : least ≤ n
+  pub not_above : n ≤ most
+
+-- of the values that the words give, the one of this argument is a number in a range
+abbrev pub HasNumber : List Row → (id default : Text) → (least most n : ℕ) → Type 0
+HasNumber rows id default least most n =
+    IsNumber (unwrap_or (first_of id rows) default) least most n
+
+-- whether a value is that of an option without a value that is given
+abbrev pub is_given : Option Text → Bool
+is_given (Some text) = bytes_eq text (codes "true")
+is_given None = false
+
+-- whether the values have an option without a value
+abbrev pub has_switch : Text → List Row → Bool
+has_switch id rows = is_given (first_of id rows)
