@@ -1,5 +1,7 @@
 //! What is answered on a case text: the report and the status, or why there is none.
 
+ghost use Rattle.std.specs.Prelude.{◌≡◌, ◌≤◌, IfOk};
+
 use lb_check::CheckError;
 use lb_report::{BenchError, Options, Report, run_case};
 use std::alloc::{AllocError, Global};
@@ -20,6 +22,22 @@ pub fn push_refusal(said: &mut String, error: &BenchError) -> Result<(), AllocEr
     }
 }
 
+/// The node `main`, and how its runs are spread.
+pub fn spread(
+    alloc: Global,
+    workers: u32,
+    batch: u32,
+    by_length: bool,
+) -> Result<Options, AllocError>
+    requires workers { workers ≤ 64 }
+    requires some_lanes { 1 ≤ batch }
+    requires few_lanes { batch ≤ 64 }
+    ensures { IfOk result (λ options. options.workers ≡ workers) }
+{
+    let node = String::from_str(alloc, "main")?;
+    Ok(Options::new(node, None, workers, batch, by_length))
+}
+
 /// The node under test, `main`, and an observer. An empty name is none.
 fn options(alloc: Global, observer: &str) -> Result<Options, AllocError> {
     let observer = if observer.is_empty() {
@@ -32,7 +50,10 @@ fn options(alloc: Global, observer: &str) -> Result<Options, AllocError> {
 }
 
 /// The lines of a report and the status, or the refusal.
-fn push_outcome(said: &mut String, outcome: &Result<Report, BenchError>) -> Result<(), AllocError> {
+pub fn push_outcome(
+    said: &mut String,
+    outcome: &Result<Report, BenchError>,
+) -> Result<(), AllocError> {
     match outcome {
         Ok(report) => {
             let text = std::str::from_utf8(report.text.as_slice()).unwrap_or("no text");

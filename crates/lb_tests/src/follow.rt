@@ -1,48 +1,20 @@
 //! The live report: what goes out, and when.
 
-ghost use Rattle.std.specs.Prelude.{◌≡◌, ◌≤◌, IfOk};
+ghost use Rattle.std.specs.Prelude.{◌<◌, ◌≤◌};
 
-use crate::commands::run_line;
+use crate::answers::spread;
 use crate::pool::{Hold, SPREADS, TURNS, push_case};
 use crate::tables::write_out;
 use lb_report::{FollowError, FollowFault, Gate, NoGate, Options, Writer, follow, split_case};
 use std::alloc::{AllocError, Global};
 use std::hint::spin_loop;
 use std::io::{ErrorKind, Write};
-use std::os::unix::fs::FileExt;
 use std::rt::Runtime;
 use std::sync::Wait;
 use std::sync::atomic::{AtomicBool, AtomicU64, Ordering};
 use std::thread::Threads;
 
 // ## Whatever the workers and the batches
-
-// Numbers of workers, widths of batches, and batches in order or by length.
-const LINES: &str = "\
-lbench --follow --workers 1 --batch 1
-lbench --follow --workers 1 --batch 7
-lbench --follow --workers 1 --batch 64
-lbench --follow --workers 2 --batch 1
-lbench --follow --workers 2 --batch 7
-lbench --follow --workers 2 --batch 64
-lbench --follow --workers 7 --batch 1
-lbench --follow --workers 7 --batch 7
-lbench --follow --workers 7 --batch 64
-lbench --follow --workers 64 --batch 1
-lbench --follow --workers 64 --batch 7
-lbench --follow --workers 64 --batch 64
-lbench --follow --workers 1 --batch 1 --by-length
-lbench --follow --workers 1 --batch 7 --by-length
-lbench --follow --workers 1 --batch 64 --by-length
-lbench --follow --workers 2 --batch 1 --by-length
-lbench --follow --workers 2 --batch 7 --by-length
-lbench --follow --workers 2 --batch 64 --by-length
-lbench --follow --workers 7 --batch 1 --by-length
-lbench --follow --workers 7 --batch 7 --by-length
-lbench --follow --workers 7 --batch 64 --by-length
-lbench --follow --workers 64 --batch 1 --by-length
-lbench --follow --workers 64 --batch 7 --by-length
-lbench --follow --workers 64 --batch 64 --by-length";
 
 // The case of a row whose records are told by their count, and its report.
 fn write_case(
@@ -63,29 +35,78 @@ fn write_case(
     }
 }
 
-// The first command line that writes another report on a case, and what it writes.
+// What goes out of a live report on a case, where that is not a report.
 fn push_other<R: Runtime + AllocGlobal + Threads + Wait + Sync>(
     rt: &R,
     case: &str,
     report: &str,
+    options: &Options,
     said: &mut String,
 ) -> Result<(), AllocError>
-where
-    R::File: FileExt + Sync,
+    requires { 0 < options.now.workers }
 {
-    for line in LINES.split('\n') {
-        let mut output: Vec<u8> = Vec::new(rt.alloc());
-        let mut errors: Vec<u8> = Vec::new(rt.alloc());
-        let status = run_line(rt, line, case, &mut output, &mut errors)?;
-        if status != 0 || output.as_slice() != report.as_bytes() || !errors.is_empty() {
-            let printed = std::str::from_utf8(output.as_slice()).unwrap_or("no text");
-            return write!(said, "{line}: {printed}status {status}");
-        }
+    let (source, traces) = split_case(case.as_bytes());
+    let mut output: Vec<u8> = Vec::new(rt.alloc());
+    let mut sink = Writer::new(&mut output);
+    let is_whole = follow(rt, source, traces, options, &NoGate, &mut sink).is_ok();
+    if is_whole && output.as_slice() == report.as_bytes() {
+        return Ok(());
     }
-    Ok(())
+    let printed = std::str::from_utf8(output.as_slice()).unwrap_or("no text");
+    let (workers, batch) = (options.workers, options.batch);
+    write!(said, "\n{workers} workers, {batch} lanes: {printed}")
 }
 
-/// The report goes out whole, with status 0, whatever its verdicts are.
+// The same for each of three widths.
+fn push_widths<R: Runtime + AllocGlobal + Threads + Wait + Sync>(
+    rt: &R,
+    case: &str,
+    report: &str,
+    workers: u32,
+    by_length: bool,
+    said: &mut String,
+) -> Result<(), AllocError>
+    requires some { 0 < workers }
+    requires few { workers ≤ 64 }
+{
+    push_other(
+        rt,
+        case,
+        report,
+        &spread(rt.alloc(), workers, 1, by_length)?,
+        said,
+    )?;
+    push_other(
+        rt,
+        case,
+        report,
+        &spread(rt.alloc(), workers, 7, by_length)?,
+        said,
+    )?;
+    push_other(
+        rt,
+        case,
+        report,
+        &spread(rt.alloc(), workers, 64, by_length)?,
+        said,
+    )
+}
+
+// The same for these numbers of workers, and for batches in order and by length.
+fn push_spread<R: Runtime + AllocGlobal + Threads + Wait + Sync>(
+    rt: &R,
+    case: &str,
+    report: &str,
+    by_length: bool,
+    said: &mut String,
+) -> Result<(), AllocError> {
+    push_widths(rt, case, report, 1, by_length, said)?;
+    push_widths(rt, case, report, 2, by_length, said)?;
+    push_widths(rt, case, report, 7, by_length, said)?;
+    push_widths(rt, case, report, 64, by_length, said)
+}
+
+/// The report goes out whole, whatever its verdicts are.
 #[test]
 fn every_worker_and_width(rt: HostRuntime) -> Result<(), AllocError> {
     let mut row = String::new(rt.alloc());
@@ -94,7 +115,8 @@ fn every_worker_and_width(rt: HostRuntime) -> Result<(), AllocError> {
     let mut said = String::new(rt.alloc());
     for short in SPREADS.split("\n%case\n") {
         write_case(short, &mut row, &mut case, &mut report)?;
-        push_other(&rt, case.as_str(), report.as_str(), &mut said)?;
+        push_spread(&rt, case.as_str(), report.as_str(), false, &mut said)?;
+        push_spread(&rt, case.as_str(), report.as_str(), true, &mut said)?;
     }
     assert_eq!(rt; said.as_str(), "");
     Ok(())
@@ -149,15 +171,6 @@ impl Gate for UntilWritten<'_> {
     }
 }
 
-// Options with this number of workers and batches of 64.
-fn options_for(alloc: Global, workers: u32) -> Result<Options, AllocError>
-    requires { workers ≤ 64 }
-    ensures { IfOk result (λ options. options.workers ≡ workers) }
-{
-    let node = String::from_str(alloc, "main")?;
-    Ok(Options::new(node, None, workers, 64, false))
-}
-
 // What goes out of a live report with two workers and a gate, and whether it was the whole.
 fn push_gated<R: Runtime + AllocGlobal + Threads + Wait + Sync, G: Gate + Sync>(
     rt: &R,
@@ -167,7 +180,7 @@ fn push_gated<R: Runtime + AllocGlobal + Threads + Wait + Sync, G: Gate + Sync>(
     said: &mut String,
 ) -> Result<(), AllocError> {
     let (source, traces) = split_case(case.as_bytes());
-    let options = options_for(rt.alloc(), 2)?;
+    let options = spread(rt.alloc(), 2, 64, false)?;
     let text = Vec::new(rt.alloc());
     let mut sink = Writer::new(CountedLines { text, lines });
     let is_whole = follow(rt, source, traces, &options, gate, &mut sink).is_ok();
@@ -257,7 +270,7 @@ fn is_stopped<R: Runtime + AllocGlobal + Threads + Wait + Sync>(
     fails_at: usize,
 ) -> Result<bool, AllocError> {
     let (source, traces) = split_case(case.as_bytes());
-    let options = options_for(rt.alloc(), 2)?;
+    let options = spread(rt.alloc(), 2, 64, false)?;
     let mut taken: Vec<u8> = Vec::new(rt.alloc());
     let mut sink = Writer::new(Brittle {
         taken: &mut taken,
@@ -304,7 +317,7 @@ a,1,2,1
 #[test]
 fn refused_texts(rt: HostRuntime) -> Result<(), AllocError> {
     let (source, traces) = split_case(REFUSED.as_bytes());
-    let options = options_for(rt.alloc(), 1)?;
+    let options = spread(rt.alloc(), 1, 64, false)?;
     let mut taken: Vec<u8> = Vec::new(rt.alloc());
     let answer = follow(
         &rt,

@@ -1,4 +1,5 @@
-//! Tests of the libraries, as their callers meet them. There is nothing else here.
+//! Tests of the libraries below the command line, as their callers meet them. There is nothing else
+//! here.
 //!
 //! Most go over a table of text: what is asked and what is wanted, taken apart when the test runs,
 //! so that a further case costs no proof. What is wanted was worked out by hand.
@@ -10,8 +11,6 @@ mod answers;
 mod batches;
 #[cfg(test)]
 mod check_causes;
-#[cfg(test)]
-mod commands;
 #[cfg(test)]
 mod cycles;
 #[cfg(test)]

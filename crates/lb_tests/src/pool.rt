@@ -1,23 +1,21 @@
 //! Plans, claim boards, and runs by workers.
 
-ghost use Rattle.std.specs.Prelude.{◌≡◌};
+ghost use Rattle.std.specs.Prelude.{◌≡◌, ◌≤◌};
 ghost use Rattle.lb_pool.specs.Seats.{IsSeatOf, shares_of};
 
+use crate::answers::{push_answer, push_outcome, spread};
 use crate::batches::ordered_of;
-use crate::commands::run_line;
 use crate::tables::write_out;
 use lb_check::Verdict;
 use lb_flat::{Ordered, TraceSet, eval_trace};
 use lb_pool::{ClaimBoard, ClaimSeat, Gate, Plan, run_claims};
-use lb_report::{split_case, status};
+use lb_report::{Options, run_case, split_case, status};
 use lb_static::Signature;
 use lb_syntax::parse;
 use lb_trace::read_traces;
 use std::alloc::{AllocError, Global};
 use std::hint::spin_loop;
-use std::os::unix::fs::FileExt;
 use std::rt::Runtime;
-use std::sync::Wait;
 use std::sync::atomic::{AtomicBool, Ordering};
 use std::thread::Threads;
 
@@ -237,91 +235,88 @@ pub fn push_case(case: &mut String, short: &str) -> Result<(), AllocError> {
     Ok(())
 }
 
-// The output and the status of a command line on a case.
-fn push_output<R: Runtime + AllocGlobal + Threads + Wait + Sync>(
+// What a run on a case answers, where that is otherwise than was said.
+fn push_other<R: Runtime + AllocGlobal + Threads + Sync>(
     rt: &R,
-    line: &str,
     case: &str,
+    options: &Options,
     said: &mut String,
-) -> Result<(), AllocError>
-where
-    R::File: FileExt + Sync,
-{
-    let mut output: Vec<u8> = Vec::new(rt.alloc());
-    let mut errors: Vec<u8> = Vec::new(rt.alloc());
-    let status = run_line(rt, line, case, &mut output, &mut errors)?;
-    let printed = std::str::from_utf8(output.as_slice()).unwrap_or("no text");
-    write!(said, "{printed}status {status}")
+    other: &mut String,
+) -> Result<(), AllocError> {
+    other.clear();
+    push_outcome(other, &run_case(rt, case.as_bytes(), options))?;
+    if other.as_str() == said.as_str() {
+        return Ok(());
+    }
+    let (workers, batch) = (options.workers, options.batch);
+    write!(said, "\n{workers} workers, {batch} lanes: {other}")
 }
 
-// The first command line that answers a case otherwise than was said, if there is one.
-fn push_other<R: Runtime + AllocGlobal + Threads + Wait + Sync>(
+// The same for each of three widths.
+fn push_widths<R: Runtime + AllocGlobal + Threads + Sync>(
     rt: &R,
     case: &str,
+    workers: u32,
+    by_length: bool,
     said: &mut String,
     other: &mut String,
 ) -> Result<(), AllocError>
-where
-    R::File: FileExt + Sync,
+    requires { workers ≤ 64 }
 {
-    for line in LINES.split('\n') {
-        other.clear();
-        push_output(rt, line, case, other)?;
-        if other.as_str() != said.as_str() {
-            return write!(said, "\n{line}: {other}");
-        }
-    }
-    Ok(())
+    push_other(
+        rt,
+        case,
+        &spread(rt.alloc(), workers, 1, by_length)?,
+        said,
+        other,
+    )?;
+    push_other(
+        rt,
+        case,
+        &spread(rt.alloc(), workers, 7, by_length)?,
+        said,
+        other,
+    )?;
+    push_other(
+        rt,
+        case,
+        &spread(rt.alloc(), workers, 64, by_length)?,
+        said,
+        other,
+    )
 }
 
-/// What all command lines answer on a case whose records are told by their count.
-pub fn push_spread<R: Runtime + AllocGlobal + Threads + Wait + Sync>(
+// The same for batches in order and by length.
+fn push_orders<R: Runtime + AllocGlobal + Threads + Sync>(
+    rt: &R,
+    case: &str,
+    workers: u32,
+    said: &mut String,
+    other: &mut String,
+) -> Result<(), AllocError>
+    requires { workers ≤ 64 }
+{
+    push_widths(rt, case, workers, false, said, other)?;
+    push_widths(rt, case, workers, true, said, other)
+}
+
+/// What runs with all these numbers of workers and widths, in order and by length, answer on a case
+/// whose records are told by their count.
+pub fn push_spread<R: Runtime + AllocGlobal + Threads + Sync>(
     rt: &R,
     asked: &str,
     said: &mut String,
-) -> Result<(), AllocError>
-where
-    R::File: FileExt + Sync,
-{
+) -> Result<(), AllocError> {
     let mut case = String::new(rt.alloc());
     let mut other = String::new(rt.alloc());
     push_case(&mut case, asked)?;
-    push_output(rt, "lbench", case.as_str(), said)?;
-    push_other(rt, case.as_str(), said, &mut other)
+    push_answer(rt, case.as_str(), "", said)?;
+    push_orders(rt, case.as_str(), 0, said, &mut other)?;
+    push_orders(rt, case.as_str(), 1, said, &mut other)?;
+    push_orders(rt, case.as_str(), 2, said, &mut other)?;
+    push_orders(rt, case.as_str(), 7, said, &mut other)?;
+    push_orders(rt, case.as_str(), 64, said, &mut other)
 }
-
-// Numbers of workers, widths of batches, and batches in order or by length.
-const LINES: &str = "\
-lbench --workers 0 --batch 1
-lbench --workers 0 --batch 7
-lbench --workers 0 --batch 64
-lbench --workers 1 --batch 1
-lbench --workers 1 --batch 7
-lbench --workers 1 --batch 64
-lbench --workers 2 --batch 1
-lbench --workers 2 --batch 7
-lbench --workers 2 --batch 64
-lbench --workers 7 --batch 1
-lbench --workers 7 --batch 7
-lbench --workers 7 --batch 64
-lbench --workers 64 --batch 1
-lbench --workers 64 --batch 7
-lbench --workers 64 --batch 64
-lbench --workers 0 --batch 1 --by-length
-lbench --workers 0 --batch 7 --by-length
-lbench --workers 0 --batch 64 --by-length
-lbench --workers 1 --batch 1 --by-length
-lbench --workers 1 --batch 7 --by-length
-lbench --workers 1 --batch 64 --by-length
-lbench --workers 2 --batch 1 --by-length
-lbench --workers 2 --batch 7 --by-length
-lbench --workers 2 --batch 64 --by-length
-lbench --workers 7 --batch 1 --by-length
-lbench --workers 7 --batch 7 --by-length
-lbench --workers 7 --batch 64 --by-length
-lbench --workers 64 --batch 1 --by-length
-lbench --workers 64 --batch 7 --by-length
-lbench --workers 64 --batch 64 --by-length";
 
 // Sixty-five lengths, so that at width 64 the second batch has one trace; traces of which some end
 // early; the same where one of these passes, so that its line and the last one differ; no trace.

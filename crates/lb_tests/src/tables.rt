@@ -13,14 +13,12 @@
 //! `{2 x@, }` stands for `x0, x1, `, `{3 a}` for `aaa`, and `{1..2 x@ @, }` for `x1 1, x2 2, `.
 
 use crate::{
-    answers, batches, check_causes, commands, cycles, elaboration, flat_causes, forms, hostile,
-    lane_words, lanes, machine, offsets, pool, programs, random, readings, reports, runs,
-    source_places, source_texts, sources, static_causes,
+    answers, batches, check_causes, cycles, elaboration, flat_causes, forms, hostile, lane_words,
+    lanes, machine, offsets, pool, programs, random, readings, reports, runs, source_places,
+    source_texts, sources, static_causes,
 };
 use std::alloc::AllocError;
-use std::os::unix::fs::FileExt;
 use std::rt::Runtime;
-use std::sync::Wait;
 use std::thread::Threads;
 
 /// What the rows of a table ask about.
@@ -44,8 +42,6 @@ enum Asks<'a> {
     Programs(&'a str),
     /// The two parts of a case text.
     Parts,
-    /// A run of the program: its words, and its standard input.
-    Runs,
     /// A source: its cycle of elements.
     Cycles,
     /// The plan of a width and the lengths of traces.
@@ -195,8 +191,8 @@ static TRACE_TABLES: [Table; 5] = [
     (Asks::Parted, LINES, readings::PARTS),
 ];
 
-/// Cases, and runs of the program.
-static CASE_TABLES: [Table; 9] = [
+/// Cases.
+static CASE_TABLES: [Table; 8] = [
     (Asks::Programs(programs::MAIN), LINES, programs::RULES),
     (
         Asks::Programs(programs::CLOCKED),
@@ -209,7 +205,6 @@ static CASE_TABLES: [Table; 9] = [
     (Asks::Cases, CASES, forms::FORMS),
     (Asks::Cases, CASES, random::PROGRAMS),
     (Asks::Spreads, SPREADS, pool::SPREADS),
-    (Asks::Runs, TEXTS, commands::RUNS),
 ];
 
 /// Cases at the limits of size and number.
@@ -260,15 +255,12 @@ pub fn write_out(row: &mut String, short: &str) -> Result<bool, AllocError> {
 }
 
 /// What is answered on what a row asks.
-fn push_answer<R: Runtime + AllocGlobal + Threads + Wait + Sync>(
+fn push_answer<R: Runtime + AllocGlobal + Threads + Sync>(
     rt: &R,
     asks: Asks<'_>,
     asked: &str,
     said: &mut String,
-) -> Result<(), AllocError>
-where
-    R::File: FileExt + Sync,
-{
+) -> Result<(), AllocError> {
     match asks {
         Asks::Sources => sources::push_answer(rt.alloc(), asked, said),
         Asks::StaticCauses => static_causes::push_answer(rt.alloc(), asked, said),
@@ -279,7 +271,6 @@ where
         Asks::Cases => answers::push_case(rt, asked, said),
         Asks::Programs(front) => programs::push_answer(rt, front, asked, said),
         Asks::Parts => reports::push_parts(asked, said),
-        Asks::Runs => commands::push_answer(rt, asked, said),
         Asks::Cycles => cycles::push_answer(rt.alloc(), asked, said),
         Asks::Plans => pool::push_plan(rt.alloc(), asked, said),
         Asks::Claims => pool::push_claims(rt.alloc(), asked, said),
@@ -300,15 +291,12 @@ where
 }
 
 /// Whether a row is answered as it wants, with the answer. A row without the mark is not.
-fn is_right<R: Runtime + AllocGlobal + Threads + Wait + Sync>(
+fn is_right<R: Runtime + AllocGlobal + Threads + Sync>(
     rt: &R,
     table: Table,
     row: &str,
     said: &mut String,
-) -> Result<bool, AllocError>
-where
-    R::File: FileExt + Sync,
-{
+) -> Result<bool, AllocError> {
     let (asks, form, _) = table;
     said.clear();
     let Some((asked, wanted)) = row.rsplit_once(form.mark) else {
@@ -320,15 +308,12 @@ where
 
 /// Whether each row of a table is answered as it wants. The first that is not stays in `row`, with
 /// its answer in `said`; a row with a brace without a number of turns is one.
-fn is_answered<R: Runtime + AllocGlobal + Threads + Wait + Sync>(
+fn is_answered<R: Runtime + AllocGlobal + Threads + Sync>(
     rt: &R,
     table: Table,
     row: &mut String,
     said: &mut String,
-) -> Result<bool, AllocError>
-where
-    R::File: FileExt + Sync,
-{
+) -> Result<bool, AllocError> {
     let (_, form, rows) = table;
     for short in rows.split(form.between) {
         if !write_out(row, short)? || !is_right(rt, table, row.as_str(), said)? {
@@ -340,13 +325,10 @@ where
 
 /// The first row of some tables that is answered otherwise than it wants, and its answer. Nothing
 /// where there is none.
-fn first_wrong<R: Runtime + AllocGlobal + Threads + Wait + Sync>(
+fn first_wrong<R: Runtime + AllocGlobal + Threads + Sync>(
     rt: &R,
     tables: &[Table],
-) -> Result<String, AllocError>
-where
-    R::File: FileExt + Sync,
-{
+) -> Result<String, AllocError> {
     let mut row = String::new(rt.alloc());
     let mut said = String::new(rt.alloc());
     for table in tables {

@@ -39,6 +39,16 @@ help: conjunction is written `and`
 status 2
 ----
 lbench --explain
+node main(x: int) returns (ok: bool);
+let ok = 1 < x < 3; tel => refused: E2 syntax at 2:16
+-:2:16: error: expected `;` or an operator, found `<`
+    2 | let ok = 1 < x < 3; tel
+      |                ^
+-:1:1: note: in node main, which begins here
+help: this operator does not group with the one before it; write parentheses
+status 2
+----
+lbench --explain
 node main(x: real) returns (ok: bool);
 let ok = true; tel => refused: E2 syntax at 1:14
 -:1:14: error: expected `int` or `bool`, found `real`
@@ -401,7 +411,7 @@ a,1,\"{50 x}\ty\"
 -:5:5: error: column `level` is int, and `{40 x}..` is no value of it
     5 | a,1,\"{50 x} y\"
       |     {54 ^}
-help: write digits, after a `-` or not, at most 20
+help: write at most 20 digits, with or without a `-` before them
 in trace `a`, instant 0, record 1
 status 2
 ----
@@ -415,7 +425,7 @@ a,1,\"1\t2\"
 -:5:5: error: column `level` is int, and `1\\t2` is no value of it
     5 | a,1,\"1 2\"
       |     ^^^^^
-help: write digits, after a `-` or not, at most 20
+help: write at most 20 digits, with or without a `-` before them
 in trace `a`, instant 0, record 1
 status 2
 ----

@@ -219,6 +219,56 @@ in node main
 status 2
 ----
 lbench --explain
+node main(x: int) returns (ok: bool);
+let ok = x[0] < 1; tel => refused: E9 type
+-:2:10: error: `[` wants an array, this is int
+    2 | let ok = x[0] < 1; tel
+      |          ^
+in node main
+status 2
+----
+lbench --explain
+node main(x: int) returns (ok: bool);
+let ok = x^2 = x^2; tel => refused: E9 type
+-:2:10: error: `=` wants int or bool, this is int^2
+    2 | let ok = x^2 = x^2; tel
+      |          ^
+in node main
+status 2
+----
+lbench --explain
+node f(c: bool) returns (y: int when l);
+var l: bool;
+let y = 1 when l; l = c; tel
+node main(x: int) returns (ok: bool);
+let ok = current f(true) < x; tel => refused: E10 clock
+-:1:38: error: the clock of an input has to be an input, that of an output an input or an output
+    1 | node f(c: bool) returns (y: int when l);
+      |                                      ^
+in node f, called at -:5:18
+status 2
+----
+lbench --explain
+node f(a: int) returns (b, c: int); let b = a; c = a; tel
+node main(x: int) returns (ok: bool);
+let ok = red<<f, 3>>(x, x^3) < 1; tel => refused: E9 type
+-:3:10: error: this node does not fit its iterator
+    3 | let ok = red<<f, 3>>(x, x^3) < 1; tel
+      |          ^^^
+help: `red` wants one output, of the type of the first input
+in node main
+status 2
+----
+lbench --explain
+node main(x: int) returns (ok: bool);
+let ok = (x^4096 | [x])[0] < 1; tel => refused: E9 type
+-:2:11: error: this array would have no element, or more than 4096
+    2 | let ok = (x^4096 | [x])[0] < 1; tel
+      |           ^
+in node main
+status 2
+----
+lbench --explain
 node rise(x: int) returns (y: int);
 var z: bool;
 let z = x; y = x; tel
@@ -434,6 +484,11 @@ let ok = not alarm or open; tel
 trace,level
 calm,3 => warning: safe.alarm is pump.open
 warning: safe.open is pump.alarm
+calm false 0: safe.ok is false (-:4:5)
+  4:10: not alarm or open with not alarm = false, open = false
+  4:10: not alarm with alarm = true
+  3:23: alarm is true, an input
+  2:5: pump.open = level < 9 with level = 3
 status 1
 ----
 lbench --explain --node pump --observe safe

@@ -1,0 +1,207 @@
+//! The tables of text, and the loop over their rows.
+//!
+//! A row has the words of a command line in its first line, then the input, and after a mark what
+//! is wanted. `{3 a}` in a row stands for `aaa`, and `{1..2 x@ @, }` for `x1 1, x2 2, `.
+
+use crate::{command_lines, commands, helps, programs, reasons, shown, texts};
+use std::alloc::AllocError;
+use std::os::unix::fs::FileExt;
+use std::rt::Runtime;
+use std::sync::Wait;
+use std::thread::Threads;
+
+/// What the rows of a table ask about a run.
+#[derive(Clone, Copy)]
+enum Asks {
+    /// What is printed as an error, and the status.
+    Errors,
+    /// The same, and whether there is output.
+    Answers,
+    /// All that is printed, and the status.
+    Prints,
+}
+
+/// A table: what its rows ask about, the mark before what is wanted, and the rows.
+type Table = (Asks, &'static str, &'static str);
+
+const TEXTS: Table = (Asks::Errors, " => ", texts::TEXTS);
+
+const PROGRAMS: Table = (Asks::Errors, " => ", programs::PROGRAMS);
+
+const HELPS: Table = (Asks::Errors, " => ", helps::HELPS);
+
+const RUNS: Table = (Asks::Answers, " => ", commands::RUNS);
+
+const SHOWN: Table = (Asks::Prints, "\n=>\n", shown::SHOWN);
+
+const REASONS: Table = (Asks::Prints, "\n=>\n", reasons::REASONS);
+
+/// A turn with a number in place of each `@`.
+fn push_numbered(row: &mut String, number: u32, turn: &str) -> Result<(), AllocError> {
+    let mut pieces = turn.split('@');
+    row.push_str(pieces.next().unwrap_or(""))?;
+    for piece in pieces {
+        write!(row, "{number}{piece}")?;
+    }
+    Ok(())
+}
+
+/// The turns of `a@` from a first number to an end, one after the other.
+fn push_turns(row: &mut String, first: u32, end: u32, turn: &str) -> Result<(), AllocError> {
+    let has_number = turn.split_once('@').is_some();
+    for number in first..end {
+        if has_number {
+            push_numbered(row, number, turn)?;
+        } else {
+            row.push_str(turn)?;
+        }
+    }
+    Ok(())
+}
+
+/// The first number and the end of `3` or `1..3`.
+fn numbers(text: &str) -> Option<(u32, u32)> {
+    let (first, last) = match text.split_once("..") {
+        Some((first, last)) => (first, last),
+        None => return Some((0, text.parse::<u32>().ok()?)),
+    };
+    let last = last.parse::<u32>().ok()?;
+    Some((first.parse::<u32>().ok()?, last.saturating_add(1)))
+}
+
+/// Of `3 a@}` and what follows it, the numbers, the turn and what follows.
+fn repeated(piece: &str) -> Option<((u32, u32), &str, &str)> {
+    let (repeated, rest) = piece.split_once('}')?;
+    let (count, turn) = repeated.split_once(' ')?;
+    Some((numbers(count)?, turn, rest))
+}
+
+/// The row in which all turns are written out, and whether each brace has a number of turns.
+fn write_out(row: &mut String, short: &str) -> Result<bool, AllocError> {
+    let mut pieces = short.split('{');
+    row.clear();
+    row.push_str(pieces.next().unwrap_or(""))?;
+    for piece in pieces {
+        let Some(((first, end), turn, rest)) = repeated(piece) else {
+            return Ok(false);
+        };
+        push_turns(row, first, end, turn)?;
+        row.push_str(rest)?;
+    }
+    Ok(true)
+}
+
+/// What a run answers on what a row asks.
+fn push_answer<R: Runtime + AllocGlobal + Threads + Wait + Sync>(
+    rt: &R,
+    asks: Asks,
+    asked: &str,
+    said: &mut String,
+) -> Result<(), AllocError>
+where
+    R::File: FileExt + Sync,
+{
+    match asks {
+        Asks::Errors => command_lines::push_told(rt, asked, said),
+        Asks::Answers => command_lines::push_answer(rt, asked, said),
+        Asks::Prints => command_lines::push_printed(rt, asked, said),
+    }
+}
+
+/// Whether a row is answered as it wants, with the answer. A row without the mark is not.
+fn is_right<R: Runtime + AllocGlobal + Threads + Wait + Sync>(
+    rt: &R,
+    table: Table,
+    row: &str,
+    said: &mut String,
+) -> Result<bool, AllocError>
+where
+    R::File: FileExt + Sync,
+{
+    let (asks, mark, _) = table;
+    said.clear();
+    let Some((asked, wanted)) = row.rsplit_once(mark) else {
+        return Ok(false);
+    };
+    push_answer(rt, asks, asked, said)?;
+    Ok(said.as_str() == wanted)
+}
+
+/// Whether each row of a table is answered as it wants. The first that is not stays in `row`, with
+/// its answer in `said`; a row with a brace without a number of turns is one.
+fn is_answered<R: Runtime + AllocGlobal + Threads + Wait + Sync>(
+    rt: &R,
+    table: Table,
+    row: &mut String,
+    said: &mut String,
+) -> Result<bool, AllocError>
+where
+    R::File: FileExt + Sync,
+{
+    let (_, _, rows) = table;
+    for short in rows.split("\n----\n") {
+        if !write_out(row, short)? || !is_right(rt, table, row.as_str(), said)? {
+            return Ok(false);
+        }
+    }
+    Ok(true)
+}
+
+/// The first row of a table that is answered otherwise than it wants, and its answer. Nothing where
+/// there is none.
+fn first_wrong<R: Runtime + AllocGlobal + Threads + Wait + Sync>(
+    rt: &R,
+    table: Table,
+) -> Result<String, AllocError>
+where
+    R::File: FileExt + Sync,
+{
+    let mut row = String::new(rt.alloc());
+    let mut said = String::new(rt.alloc());
+    if is_answered(rt, table, &mut row, &mut said)? {
+        return Ok(String::new(rt.alloc()));
+    }
+    format!(in rt.alloc(); "{row}, and not: {said}")
+}
+
+#[test]
+fn explained_texts(rt: HostRuntime) -> Result<(), AllocError> {
+    let wrong = first_wrong(&rt, TEXTS)?;
+    assert!(rt; wrong.is_empty(), "{wrong}");
+    Ok(())
+}
+
+#[test]
+fn explained_programs(rt: HostRuntime) -> Result<(), AllocError> {
+    let wrong = first_wrong(&rt, PROGRAMS)?;
+    assert!(rt; wrong.is_empty(), "{wrong}");
+    Ok(())
+}
+
+#[test]
+fn explained_mistakes(rt: HostRuntime) -> Result<(), AllocError> {
+    let wrong = first_wrong(&rt, HELPS)?;
+    assert!(rt; wrong.is_empty(), "{wrong}");
+    Ok(())
+}
+
+#[test]
+fn runs(rt: HostRuntime) -> Result<(), AllocError> {
+    let wrong = first_wrong(&rt, RUNS)?;
+    assert!(rt; wrong.is_empty(), "{wrong}");
+    Ok(())
+}
+
+#[test]
+fn shown_values(rt: HostRuntime) -> Result<(), AllocError> {
+    let wrong = first_wrong(&rt, SHOWN)?;
+    assert!(rt; wrong.is_empty(), "{wrong}");
+    Ok(())
+}
+
+#[test]
+fn explained_reports(rt: HostRuntime) -> Result<(), AllocError> {
+    let wrong = first_wrong(&rt, REASONS)?;
+    assert!(rt; wrong.is_empty(), "{wrong}");
+    Ok(())
+}
