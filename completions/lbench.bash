@@ -13,13 +13,17 @@ _lbench() {
             COMPREPLY=($(compgen -W '1 16 32 64' -- "$word"))
             return
             ;;
-        --node | --observe)
+        --format)
+            COMPREPLY=($(compgen -W 'table csv vcd svg' -- "$word"))
+            return
+            ;;
+        --node | --observe | --show | --last | --vars)
             return
             ;;
     esac
     if [[ $word == -* ]]; then
         COMPREPLY=($(compgen -W '--node --observe --workers --batch --by-length --follow
-            --explain --check --header
+            --show --format --last --vars --all --explain --explain-all --check --header
             --version --help' -- "$word"))
         return
     fi
