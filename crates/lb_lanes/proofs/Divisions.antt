@@ -7,7 +7,7 @@ use Rattle.std.specs.Int.RustNames.{int_div}
 use Rattle.std.specs.Int.Signed.{mag}
 use Rattle.std.specs.Ordering.{int_eq}
 use Rattle.std.proofs.lemmas.Int.{to_z-of_z}
-use Rattle.lb_lanes.specs.Operators.{can_divide, is_int}
+use Rattle.lb_lanes.specs.Operators.{can_divide}
 
 mag-neg : (n : ℕ) → mag (neg_ℤ (pos n)) ≡ n - 1
 mag-neg zero = refl
@@ -64,12 +64,6 @@ one_divides a = by (int_eq a (negsuc 2147483647))
     by : (b : Bool) → not (b && false) ≡ true
     by true = refl
     by false = refl
-
--- 1 stands in for a divisor where the test fails
-pub stand_in-is_int : (t : Bool) (b : ℤ) → is_int b ≡ true → is_int (cond t b (pos 1)) ≡ true
-unfolding is_int
-stand_in-is_int true b e = e
-stand_in-is_int false b e = refl
 
 pub stand_in-can_divide : (t : Bool) (a b : ℤ) → (t ≡ true → can_divide a b ≡ true)
     → can_divide a (cond t b (pos 1)) ≡ true

@@ -55,10 +55,6 @@ lanes_joined n test f x k room small before new = record {
         (on-inside f x k j (omega (arith, e)) (before.rest (k + j) (omega arith) (omega (arith, e)))
         ∙ new j (omega arith))
 
-pub plane_joined : (test : ℕ → Bool) (f x k : ℕ) → k + 8 ≤ 64 → x < 256 → DoneBelow test k f
-    → ((j : ℕ) → j < 8 → on x j ≡ test (k + j)) → DoneBelow test (k + 8) (bit_or f (shl k x))
-plane_joined = lanes_joined 8
-
 -- the words below k are as P says, and each later one is as at first
 pub record WrittenBelow (P : ℕ → ℕ → Type 0) (k : ℕ) (first words : List ℕ) : Type 0 where
   pub done : (i : ℕ) → i < k → P i (get_or words i 0)

@@ -1,7 +1,7 @@
 pub mod OnPlanes
 pub mod Words
+pub mod Halves
 pub mod Divisions
-pub mod Vectors
 pub mod Joined
 pub mod Views
 pub mod Rounds

@@ -1,17 +1,15 @@
 -- One lane of a plane, through each operation on words.
 use Rattle.std.proofs.Common.{◌≡◌, ℕ, zero, suc, ◌+◌, ◌-◌, ◌*◌, ◌/◌, ◌%◌, ◌^◌, ◌<◌, ◌≤◌, min, max}
 use Rattle.std.proofs.Common.{Bool, true, false, not, ◌&&◌, ◌||◌, ◌==◌, List, get_or, cond, refl}
-use Rattle.std.proofs.Common.{sym, ap, ap₂, ◌∙◌, subst, arith, nat_eq, zero-add, w64}
-use Rattle.std.proofs.Common.{le_of_suc-le-suc, not-suc-le-zero, mul_assoc, map, ◌⊎◌, inl, inr}
+use Rattle.std.proofs.Common.{sym, ap, ap₂, ◌∙◌, subst, arith, nat_eq, w64}
+use Rattle.std.proofs.Common.{le_of_suc-le-suc, not-suc-le-zero, mul_assoc, ◌⊎◌, inl, inr}
 use Rattle.std.proofs.Common.{lit<}
 use Rattle.std.specs.Int.{bit_at, trailing_zeros}
-use Rattle.std.specs.List.{range_with_len}
 use Rattle.std.proofs.lemmas.Nat.Bits.{and_pow, bit_at_and, bit_at_or, bit_at_xor, bit_at_not}
 use Rattle.std.proofs.lemmas.Nat.Bits.{bit_at-zero, bit_at_above, bit_at-trailing_zeros}
 use Rattle.std.proofs.lemmas.Nat.Bits.{bit_at-lt}
 use Rattle.std.proofs.lemmas.Nat.{pow_pos}
 use Rattle.std.proofs.lemmas.Simd.{bit_mask_l}
-use Rattle.std.proofs.lemmas.List.FromFn.{get_or-map-range_with_len}
 use Rattle.std.proofs.lemmas.Bool.{cases_lt}
 use lib.Bits.{bit_and, bit_or, bit_xor, shifted_even}
 use lib.Lanes.{mask_l, top}
@@ -143,11 +141,6 @@ unfolding on
 lane_mask-on keep k =
     ap (λ n. top 63 (cond (nat_eq n (2 ^ k)) 18446744073709551615 0)) (and_pow keep k)
     ∙ lane_mask_by (2 ^ k) (pow_pos k) (bit_at keep k) (bit_at-lt keep k)
-
-pub lane_masks-on : (keep i : ℕ) → i < 8
-    → get_or (map (lane_mask keep) (range_with_len 0 8)) i false ≡ on keep i
-lane_masks-on keep i h = get_or-map-range_with_len (lane_mask keep) 0 8 i i false h (zero-add i)
-    ∙ lane_mask-on keep i
 
 by_mask : (m x y : Bool) → ((m && x) || (not m && y)) ≡ cond m x y
 by_mask true true y = refl

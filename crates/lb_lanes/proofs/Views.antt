@@ -45,16 +45,8 @@ pub word_of :
     (w : Width) (n : ℕ) (v : ℤ) → SFits w v → n ≡ of_z w (to_z w (of_z w v)) → to_z w n ≡ v
 word_of w n v f e = ap (to_z w) (e ∙ ap (of_z w) (to_z-of_z w v f)) ∙ to_z-of_z w v f
 
--- what holds of the first eight numbers
-pub below8 : (P : ℕ → Type 0) → P 0 → P 1 → P 2 → P 3 → P 4 → P 5 → P 6 → P 7 → (i : ℕ) → i < 8
-    → P i
-below8 P a b c d e f g h zero l = a
-below8 P a b c d e f g h (suc zero) l = b
-below8 P a b c d e f g h (suc (suc zero)) l = c
-below8 P a b c d e f g h (suc (suc (suc zero))) l = d
-below8 P a b c d e f g h (suc (suc (suc (suc zero)))) l = e
-below8 P a b c d e f g h (suc (suc (suc (suc (suc zero))))) l = f
-below8 P a b c d e f g h (suc (suc (suc (suc (suc (suc zero)))))) l = g
-below8 P a b c d e f g h (suc (suc (suc (suc (suc (suc (suc zero))))))) l = h
-below8 P a b c d e f g h (suc (suc (suc (suc (suc (suc (suc (suc n)))))))) l =
-    absurd (omega (arith, l))
+-- a word that was chosen, as an integer
+pub word_by : (w : Width) (b : Bool) (m n : ℕ)
+    → to_z w (cond b m n) ≡ cond b (to_z w m) (to_z w n)
+word_by w true m n = refl
+word_by w false m n = refl

@@ -1,4 +1,4 @@
--- One lane of a vector of sixteen words of 32 bits.
+-- One lane of a vector of words.
 use Rattle.std.proofs.Common.{◌≡◌, ℕ, ◌+◌, ◌/◌, ◌%◌, ◌<◌, ◌^◌, ◌==◌, Bool, true, false, List}
 use Rattle.std.proofs.Common.{length, get_or}
 use Rattle.std.proofs.Common.{cond, map, subst, replicate, refl, ap, ◌∙◌, sym, arith, w32, Fits}
@@ -14,26 +14,27 @@ use lib.Lanes.{zip2, Each1, mask_l, sel_l, top}
 use Rattle.lb_lanes.specs.Planes.{on}
 use Rattle.lb_lanes.proofs.OnPlanes.{on-mod, on-mod_at, on-mask_l, lane_mask-on}
 
--- what a check tells of a vector of words
+-- what a check tells of a vector of sixteen words of 32 bits
 abbrev pub Words16 : List ℕ → Type 0
 Words16 xs = (length xs ≡ 16) × Each1 (Fits w32) xs
 
 pub word_fits : (xs : List ℕ) (i : ℕ) → Words16 xs → i < 16 → get_or xs i 0 < 2 ^ 32
 word_fits xs i w h = (Each1-get_or (Fits w32) xs i 0 (omega (arith, w.0)) w.1).fits
 
-pub splat_long : (k : ℕ) → length (replicate 16 k) ≡ 16
-splat_long k = length-replicate {A = ℕ} 16 k
+-- one word everywhere
+pub splat_long : {n : ℕ} (k : ℕ) → length (replicate n k) ≡ n
+splat_long {n} k = length-replicate {A = ℕ} n k
 
-pub splat_at : (k i : ℕ) → i < 16 → get_or (replicate 16 k) i 0 ≡ k
-splat_at k i h = get_or-replicate 16 i k 0 h
+pub splat_at : {n : ℕ} (k i : ℕ) → i < n → get_or (replicate n k) i 0 ≡ k
+splat_at {n} k i h = get_or-replicate n i k 0 h
 
 -- an operation on two vectors
-pub op_at : (f : ℕ → ℕ → ℕ) (xs ys : List ℕ) (i : ℕ) → length xs ≡ 16 → length ys ≡ 16 → i < 16
-    → get_or (zip2 f xs ys) i 0 ≡ f (get_or xs i 0) (get_or ys i 0)
-op_at f xs ys i p q h = get_or-zip2 f xs ys i 0 0 0 (omega (arith, p)) (omega (arith, q))
+pub op_at : {n : ℕ} (f : ℕ → ℕ → ℕ) (xs ys : List ℕ) (i : ℕ) → length xs ≡ n → length ys ≡ n
+    → i < n → get_or (zip2 f xs ys) i 0 ≡ f (get_or xs i 0) (get_or ys i 0)
+op_at f xs ys i p q h = get_or-zip2 f xs ys i 0 0 0 (omega (arith, p, h)) (omega (arith, q, h))
 
-pub op_long : (f : ℕ → ℕ → ℕ) (xs ys : List ℕ) → length xs ≡ 16 → length ys ≡ 16
-    → length (zip2 f xs ys) ≡ 16
+pub op_long : {n : ℕ} (f : ℕ → ℕ → ℕ) (xs ys : List ℕ) → length xs ≡ n → length ys ≡ n
+    → length (zip2 f xs ys) ≡ n
 op_long f xs ys p q = length-zip2 f xs ys (omega (arith, p, q)) ∙ p
 
 -- the bits of a test of two vectors

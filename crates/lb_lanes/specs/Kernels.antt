@@ -1,17 +1,13 @@
 -- What integer lanes are, and what kernels do of the first so many. This project's rule.
 use Rattle.std.specs.Prelude.{◌≡◌, ℕ, ◌<◌, Bool, true, false, Option, Some, None, List, ℤ, pos}
 use Rattle.std.specs.Prelude.{IsTrue, slice_index_or, if◌then◌else◌}
-use Rattle.std.specs.Int.{cast_signed, w32, w64}
+use Rattle.std.specs.Int.{cast_signed, w32}
 use Rattle.lb_lanes.specs.Operators.{is_int}
 use Rattle.lb_lanes.specs.Planes.{on}
 
 -- lane i of a list of integers
 abbrev pub lane_of : List ℤ → ℕ → ℤ
 lane_of xs i = slice_index_or xs i (pos 0)
-
--- lane i of the words that hold integers
-abbrev pub word_lane : List ℕ → ℕ → ℤ
-word_lane words i = cast_signed w64 (slice_index_or words i 0)
 
 -- lane i of the words of 32 bits that hold integers
 abbrev pub bits_lane : List ℕ → ℕ → ℤ
@@ -29,13 +25,9 @@ faulty true (Some v) = false
 faulty true None = true
 faulty false v = false
 
--- the first n lanes are in the range of `int`
-abbrev pub AreIntsBelow : ℕ → (ℕ → ℤ) → Type 0
-AreIntsBelow n lanes = (i : ℕ) → i < n → IsTrue (is_int (lanes i))
-
 -- all 64 lanes are in the range of `int`
 abbrev pub AreInts : List ℤ → Type 0
-AreInts xs = AreIntsBelow 64 (lane_of xs)
+AreInts xs = (i : ℕ) → i < 64 → IsTrue (is_int (lane_of xs i))
 
 -- the first n lanes, and their faults, are what the operator gives at the lanes of a and b under
 -- the active plane

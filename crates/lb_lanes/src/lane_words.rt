@@ -5,17 +5,18 @@ ghost use Rattle.std.specs.Prelude.{if◌then◌else◌};
 ghost use Rattle.std.specs.Int.{cast_signed, w32};
 ghost use Rattle.std.specs.Ordering.{int_eq};
 ghost use Rattle.lb_lanes.specs.Correct.{IsBlend, IsKernel};
+ghost use Rattle.lb_lanes.specs.Halves.{is_below_unsigned, sign_of};
 ghost use Rattle.lb_lanes.specs.Kernels.{AreInts, lane_of};
 ghost use Rattle.lb_lanes.specs.Operators.{result_of};
 ghost use Rattle.lb_lanes.specs.Planes.{IsPlaneOf};
 
+use crate::division::{Quotient, Remainder};
 use crate::int_operator::IntOperator;
-use crate::operators::{Quotient, Remainder};
 use crate::planes::Plane;
 use crate::word_divisions::run_division;
-use crate::word_kernels::{Difference, Sum, blend, run};
+use crate::word_kernels::{Difference, Sum, blend, commit, run};
 use crate::word_products::run_product;
-use crate::word_tests::{AtMost, Below, Equal, chosen, tested};
+use crate::word_tests::{AtMost, Below, BelowUnsigned, Equal, chosen, tested};
 use std::marker::Model;
 
 /// 64 integers in the range of `int`, a lane each.
@@ -91,6 +92,14 @@ impl LaneWord {
         Plane(tested::<AtMost>(&self.lanes, &other.lanes))
     }
 
+    // The lanes whose bits are a smaller number than those of `other`.
+    pub(crate) fn lt_unsigned(&self, other: &LaneWord) -> Plane
+        ensures { IsPlaneOf (λ i. is_below_unsigned (lane_of self.now i) (lane_of other.now i))
+            result.0 }
+    {
+        Plane(tested::<BelowUnsigned>(&self.lanes, &other.lanes))
+    }
+
     /// Takes over all lanes of another word.
     pub fn copy_from(&mut self, other: &LaneWord)
         ensures { self.new ≡ other.now }
@@ -103,6 +112,21 @@ impl LaneWord {
         ensures { IsBlend mask.0 a.now b.now self.new }
     {
         blend(mask.0, &a.lanes, &b.lanes, &mut self.lanes);
+    }
+
+    // Puts the lanes of `new` where the mask is true.
+    pub(crate) fn commit(&mut self, new: &LaneWord, mask: Plane)
+        ensures { IsBlend mask.0 new.now self.old self.new }
+    {
+        commit(mask.0, &new.lanes, &mut self.lanes);
+    }
+
+    // Takes over the signs of the lanes of another word: -1 where one is below 0, else 0.
+    pub(crate) fn set_signs(&mut self, of: &LaneWord)
+        ensures { (i : ℕ) → i < 64 → lane_of self.new i ≡ sign_of (lane_of of.now i) }
+    {
+        let (zeros, ones) = (&[0; 64], &[u32::MAX; 64]);
+        let _ = chosen::<Below>(&of.lanes, zeros, ones, zeros, &mut self.lanes);
     }
 
     /// Takes over the lanes of `a` where those of `x` and `y` are equal, and those of `b` where

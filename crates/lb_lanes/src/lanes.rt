@@ -1,24 +1,49 @@
-//! Integer lanes: 64 integers side by side.
+//! Integer lanes: 64 integers of 64 bits side by side, as two lane words.
+//!
+//! One word has the upper halves of the integers, and one the bits of the lower halves:
+//!
+//! ```text
+//! integer              upper half   lower half
+//!          7                    0            7
+//!         -7                   -1           -7
+//! 2147483648                    0   -2147483648
+//! 4294967303                    1            7
+//! ```
+//!
+//! An integer is in the range of `int` just where the upper half is the sign of the lower one, -1
+//! or 0. There the lower half is the integer, so that the operators of lane words serve here too.
 
-ghost use Rattle.std.specs.Prelude.{◌≡◌, ℕ, ◌<◌, ◌==◌, not, List, ℤ, map, int_lt, int_le};
+ghost use Rattle.std.specs.Prelude.{◌≡◌, ℕ, ◌<◌, ◌==◌, not, List, ℤ, int_lt, int_le};
 ghost use Rattle.std.specs.Prelude.{if◌then◌else◌};
-ghost use Rattle.std.specs.Int.{cast_signed, w64};
 ghost use Rattle.std.specs.Ordering.{int_eq};
 ghost use Rattle.lb_lanes.specs.Correct.{IsBlend, IsKernel};
+ghost use Rattle.lb_lanes.specs.Halves.{whole_lanes, whole_of};
 ghost use Rattle.lb_lanes.specs.Kernels.{AreInts, lane_of};
-ghost use Rattle.lb_lanes.specs.Operators.{difference_of, divided_by, is_int, lawful, negation_of};
-ghost use Rattle.lb_lanes.specs.Operators.{product_of, quotient_of, remainder_of, result_of};
-ghost use Rattle.lb_lanes.specs.Operators.{sum_of};
+ghost use Rattle.lb_lanes.specs.Operators.{difference_of, is_int, negation_of, product_of};
+ghost use Rattle.lb_lanes.specs.Operators.{quotient_of, remainder_of, result_of, sum_of};
 ghost use Rattle.lb_lanes.specs.Planes.{IsPlaneOf};
 
-use crate::comparisons::{AtMost, Below, Equal, Outside, tested};
 use crate::int_operator::IntOperator;
-use crate::operators::{
-    Difference, Division, Exact, Negation, Product, Quotient, Remainder, Sum, commit, run,
-    run_division,
-};
+use crate::lane_words::LaneWord;
 use crate::planes::Plane;
 use std::marker::Model;
+
+// The halves of an integer.
+fn halves(value: i64) -> (i32, i32)
+    ensures { whole_of result.0 result.1 ≡ value }
+{
+    let bits = value.cast_unsigned();
+    let high = (bits >> 32u64) as u32;
+    let low = (bits % 4294967296) as u32;
+    (high.cast_signed(), low.cast_signed())
+}
+
+// The integer of two halves.
+fn whole(high: i32, low: i32) -> i64
+    ensures { result ≡ whole_of high low }
+{
+    i64::from(high) * 4294967296 + i64::from(low.cast_unsigned())
+}
 
 /// 64 integers of 64 bits, a lane each.
 ///
@@ -26,13 +51,14 @@ use std::marker::Model;
 /// They compute in the lanes of the active plane alone, and give the lanes with a fault as a plane.
 #[derive(Drop)]
 pub struct IntLanes {
-    bits: [u64; 64],
+    high: LaneWord,
+    low: LaneWord,
 }
 
 impl Model for IntLanes {
     ghost Value = { List ℤ };
 
-    ghost view = { λ s. map (cast_signed w64) s.bits };
+    ghost view = { λ s. whole_lanes s.high s.low };
 }
 
 impl IntLanes {
@@ -40,8 +66,10 @@ impl IntLanes {
     pub fn splat(value: i64) -> IntLanes
         ensures { (i : ℕ) → i < 64 → lane_of result i ≡ value }
     {
+        let (high, low) = halves(value);
         IntLanes {
-            bits: [value.cast_unsigned(); 64],
+            high: LaneWord::splat(high),
+            low: LaneWord::splat(low),
         }
     }
 
@@ -50,7 +78,7 @@ impl IntLanes {
         requires { lane < 64 }
         ensures { result ≡ lane_of self.now lane }
     {
-        self.bits[lane as usize].cast_signed()
+        whole(self.high.get(lane), self.low.get(lane))
     }
 
     /// Puts the value into the lane, a number below 64.
@@ -59,114 +87,79 @@ impl IntLanes {
         ensures { (i : ℕ) → i < 64
             → lane_of self.new i ≡ (if i == lane then value else lane_of self.old i) }
     {
-        self.bits[lane as usize] = value.cast_unsigned();
+        let (high, low) = halves(value);
+        self.high.set(lane, high);
+        self.low.set(lane, low);
     }
 
     /// The lanes that are equal in both.
     pub fn eq(&self, other: &IntLanes) -> Plane
         ensures { IsPlaneOf (λ i. int_eq (lane_of self.now i) (lane_of other.now i)) result.0 }
     {
-        Plane(tested::<Equal>(&self.bits, &other.bits))
+        self.low.are_ints();
+        other.low.are_ints();
+        self.high.eq(&other.high).and(self.low.eq(&other.low))
     }
 
     /// The lanes that are below those of `other`.
     pub fn lt(&self, other: &IntLanes) -> Plane
         ensures { IsPlaneOf (λ i. int_lt (lane_of self.now i) (lane_of other.now i)) result.0 }
     {
-        Plane(tested::<Below>(&self.bits, &other.bits))
+        self.low.are_ints();
+        other.low.are_ints();
+        let above_equal = self.high.eq(&other.high);
+        let low_below = self.low.lt_unsigned(&other.low);
+        self.high.lt(&other.high).or(above_equal.and(low_below))
     }
 
     /// The lanes that are at most those of `other`.
     pub fn le(&self, other: &IntLanes) -> Plane
         ensures { IsPlaneOf (λ i. int_le (lane_of self.now i) (lane_of other.now i)) result.0 }
     {
-        Plane(tested::<AtMost>(&self.bits, &other.bits))
+        other.lt(self).not()
     }
 
     /// The lanes that are out of the range of `int`.
     pub fn outside(&self) -> Plane
         ensures { IsPlaneOf (λ i. not (is_int (lane_of self.now i))) result.0 }
     {
-        Plane(tested::<Outside>(&self.bits, &self.bits))
+        self.low.are_ints();
+        let mut signs = LaneWord::splat(0);
+        signs.set_signs(&self.low);
+        self.high.eq(&signs).not()
     }
 
     /// The lanes of `a` where the mask is true, and those of `b` where it is not.
     pub fn blend(mask: Plane, a: &IntLanes, b: &IntLanes) -> IntLanes
         ensures { IsBlend mask.0 a.now b.now result }
     {
-        let mut bits = b.bits;
-        commit(&mut bits, &a.bits, mask.0);
-        IntLanes { bits }
+        let mut lanes = IntLanes::splat(0);
+        lanes.set_blend(mask, a, b);
+        lanes
     }
 
     /// Takes over all lanes of another row.
     pub fn copy_from(&mut self, other: &IntLanes)
         ensures { self.new ≡ other.now }
     {
-        self.bits = other.bits;
+        self.high.copy_from(&other.high);
+        self.low.copy_from(&other.low);
     }
 
     /// Takes over the lanes of `a` where the mask is true, and those of `b` where it is not.
     pub fn set_blend(&mut self, mask: Plane, a: &IntLanes, b: &IntLanes)
         ensures { IsBlend mask.0 a.now b.now self.new }
     {
-        self.bits = b.bits;
-        commit(&mut self.bits, &a.bits, mask.0);
+        self.high.set_blend(mask, &a.high, &b.high);
+        self.low.set_blend(mask, &a.low, &b.low);
     }
 
     // Puts the lanes of `new` where the mask is true.
     pub(crate) fn commit(&mut self, new: &IntLanes, mask: Plane)
         ensures { IsBlend mask.0 new.now self.old self.new }
     {
-        commit(&mut self.bits, &new.bits, mask.0);
-    }
-
-    // The lanes after the operator, and their faults.
-    fn operated<K: Exact>(&self, other: &IntLanes, active: Plane) -> (IntLanes, Plane)
-        requires left { AreInts self.now }
-        requires right { AreInts other.now }
-        ensures lanes { IsKernel (λ x y. lawful (K.exact x y)) self.now other.now active.0
-            result.0 result.1.0 }
-        ensures in_range { AreInts result.0 }
-    {
-        let mut outcome = (IntLanes { bits: [0; 64] }, Plane(0));
-        outcome.1 = Plane(run::<K>(&self.bits, &other.bits, active.0, &mut outcome.0.bits));
-        outcome
-    }
-
-    // The lanes after the division, and their faults.
-    fn divided<K: Division>(&self, other: &IntLanes, active: Plane) -> (IntLanes, Plane)
-        requires left { AreInts self.now }
-        requires right { AreInts other.now }
-        ensures lanes { IsKernel (divided_by K.divided) self.now other.now active.0
-            result.0 result.1.0 }
-        ensures in_range { AreInts result.0 }
-    {
-        let mut lanes = IntLanes { bits: [0; 64] };
-        let faults = run_division::<K>(&self.bits, &other.bits, active.0, &mut lanes.bits);
-        (lanes, Plane(faults))
-    }
-
-    // Puts the lanes after the operator into `out`, and gives their faults.
-    fn put<K: Exact>(&self, other: &IntLanes, active: Plane, out: &mut IntLanes) -> Plane
-        requires left { AreInts self.now }
-        requires right { AreInts other.now }
-        ensures lanes { IsKernel (λ x y. lawful (K.exact x y)) self.now other.now active.0
-            out.new result.0 }
-        ensures in_range { AreInts out.new }
-    {
-        Plane(run::<K>(&self.bits, &other.bits, active.0, &mut out.bits))
-    }
-
-    // Puts the lanes after the division into `out`, and gives their faults.
-    fn put_divided<K: Division>(&self, other: &IntLanes, active: Plane, out: &mut IntLanes) -> Plane
-        requires left { AreInts self.now }
-        requires right { AreInts other.now }
-        ensures lanes { IsKernel (divided_by K.divided) self.now other.now active.0
-            out.new result.0 }
-        ensures in_range { AreInts out.new }
-    {
-        Plane(run_division::<K>(&self.bits, &other.bits, active.0, &mut out.bits))
+        self.high.commit(&new.high, mask);
+        self.low.commit(&new.low, mask);
     }
 
     /// Puts the lanes after an operator into `out`, and gives the faults.
@@ -184,13 +177,24 @@ impl IntLanes {
         ensures lanes { IsKernel (result_of op) self.now other.now active.0 out.new result.0 }
         ensures in_range { AreInts out.new }
     {
-        match op {
-            IntOperator::Add => self.put::<Sum>(other, active, out),
-            IntOperator::Sub => self.put::<Difference>(other, active, out),
-            IntOperator::Mul => self.put::<Product>(other, active, out),
-            IntOperator::Div => self.put_divided::<Quotient>(other, active, out),
-            IntOperator::Rem => self.put_divided::<Remainder>(other, active, out),
-        }
+        self.low.are_ints();
+        other.low.are_ints();
+        let faults = self.low.operate(op, &other.low, active, &mut out.low);
+        out.low.are_ints();
+        out.high.set_signs(&out.low);
+        faults
+    }
+
+    // The lanes after an operator, and their faults.
+    fn operated(&self, op: IntOperator, other: &IntLanes, active: Plane) -> (IntLanes, Plane)
+        requires left { AreInts self.now }
+        requires right { AreInts other.now }
+        ensures lanes { IsKernel (result_of op) self.now other.now active.0 result.0 result.1.0 }
+        ensures in_range { AreInts result.0 }
+    {
+        let mut out = IntLanes::splat(0);
+        let faults = self.operate(op, other, active, &mut out);
+        (out, faults)
     }
 
     /// The sums, and the faults: where a sum is out of the range of `int`.
@@ -202,7 +206,7 @@ impl IntLanes {
         ensures lanes { IsKernel sum_of self.now other.now active.0 result.0 result.1.0 }
         ensures in_range { AreInts result.0 }
     {
-        self.operated::<Sum>(other, active)
+        self.operated(IntOperator::Add, other, active)
     }
 
     /// The differences, and the faults: where a difference is out of the range of `int`.
@@ -214,7 +218,7 @@ impl IntLanes {
         ensures lanes { IsKernel difference_of self.now other.now active.0 result.0 result.1.0 }
         ensures in_range { AreInts result.0 }
     {
-        self.operated::<Difference>(other, active)
+        self.operated(IntOperator::Sub, other, active)
     }
 
     /// The products, and the faults: where a product is out of the range of `int`.
@@ -226,7 +230,7 @@ impl IntLanes {
         ensures lanes { IsKernel product_of self.now other.now active.0 result.0 result.1.0 }
         ensures in_range { AreInts result.0 }
     {
-        self.operated::<Product>(other, active)
+        self.operated(IntOperator::Mul, other, active)
     }
 
     /// The negations, and the faults: where the lane is the least integer.
@@ -238,7 +242,7 @@ impl IntLanes {
             result.0 result.1.0 }
         ensures in_range { AreInts result.0 }
     {
-        self.operated::<Negation>(self, active)
+        IntLanes::splat(0).operated(IntOperator::Sub, self, active)
     }
 
     /// The quotients, truncated toward zero, and the faults: where a divisor is 0, or the least
@@ -251,7 +255,7 @@ impl IntLanes {
         ensures lanes { IsKernel quotient_of self.now other.now active.0 result.0 result.1.0 }
         ensures in_range { AreInts result.0 }
     {
-        self.divided::<Quotient>(other, active)
+        self.operated(IntOperator::Div, other, active)
     }
 
     /// The remainders, with the dividend's sign, and the faults: where a divisor is 0, or the least
@@ -264,6 +268,6 @@ impl IntLanes {
         ensures lanes { IsKernel remainder_of self.now other.now active.0 result.0 result.1.0 }
         ensures in_range { AreInts result.0 }
     {
-        self.divided::<Remainder>(other, active)
+        self.operated(IntOperator::Rem, other, active)
     }
 }

@@ -6,11 +6,10 @@
 #![tactic(auto)]
 
 mod chunks;
-mod comparisons;
+mod division;
 mod int_operator;
 mod lane_words;
 mod lanes;
-mod operators;
 mod planes;
 mod reciprocals;
 mod slices;

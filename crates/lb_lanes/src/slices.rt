@@ -1,13 +1,12 @@
 //! Kernels on slices of any length: chunks of eight words, and a plain loop for the rest.
 
-ghost use Rattle.std.specs.Prelude.{◌≡◌, ℕ, ◌+◌, ◌<◌, ◌≤◌, not, ℤ, pos, length, slice_index};
-ghost use Rattle.std.specs.Prelude.{slice_index_or, bit_and, bit_or, bit_xor};
+ghost use Rattle.std.specs.Prelude.{◌≡◌, ℕ, ◌+◌, ◌<◌, ◌≤◌, not, length, slice_index};
+ghost use Rattle.std.specs.Prelude.{bit_and, bit_or, bit_xor};
 ghost use Rattle.std.specs.List.{list_any};
 ghost use Rattle.lb_lanes.specs.Correct.{CommitsInts, CommitsPlanes, IsSelection, IsWordwise};
-ghost use Rattle.lb_lanes.specs.Kernels.{word_lane};
 ghost use Rattle.lb_lanes.specs.Operators.{is_int};
 
-use crate::chunks::{load8, outside8, store8};
+use crate::chunks::{load8, store8};
 use crate::lanes::IntLanes;
 use crate::planes::{Plane, selected};
 use std::simd::prelude::*;
@@ -144,23 +143,6 @@ pub fn commit_ints(old: &mut [IntLanes], new: &[IntLanes], mask: Plane)
     }
 }
 
-// The words of the eight integers from `at` on.
-fn load8_signed(values: &[i64], at: usize) -> u64x8
-    requires { at + 8 ≤ length values.now }
-    ensures { (i : ℕ) → i < 8 → word_lane result i ≡ slice_index_or values.now (at + i) (pos 0) }
-{
-    u64x8::from_array([
-        values[at].cast_unsigned(),
-        values[at + 1].cast_unsigned(),
-        values[at + 2].cast_unsigned(),
-        values[at + 3].cast_unsigned(),
-        values[at + 4].cast_unsigned(),
-        values[at + 5].cast_unsigned(),
-        values[at + 6].cast_unsigned(),
-        values[at + 7].cast_unsigned(),
-    ])
-}
-
 // Whether the value is out of the range of `int`.
 fn is_outside(value: i64) -> bool
     ensures { result ≡ not (is_int value) }
@@ -172,16 +154,10 @@ fn is_outside(value: i64) -> bool
 pub fn any_outside(values: &[i64]) -> bool
     ensures { result ≡ list_any (λ v. not (is_int v)) values.now }
 {
-    let whole = values.len() / 8;
-    for c in 0..whole {
-        if outside8(load8_signed(values, 8 * c)) != 0 {
-            return true;
-        }
+    // With no way out of the loop, some values are looked at side by side.
+    let mut found = false;
+    for value in values {
+        found |= is_outside(*value);
     }
-    for k in 8 * whole..values.len() {
-        if is_outside(values[k]) {
-            return true;
-        }
-    }
-    false
+    found
 }

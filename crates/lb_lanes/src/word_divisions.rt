@@ -21,7 +21,7 @@ ghost use Rattle.lb_lanes.specs.Kernels.{IsKernelBelow, bits_lane};
 ghost use Rattle.lb_lanes.specs.Operators.{can_divide, divided_by};
 ghost use Rattle.lb_lanes.specs.Planes.{on};
 
-use crate::operators::{Division, Quotient, Remainder};
+use crate::division::Division;
 use crate::planes::Plane;
 use crate::reciprocals::{reciprocal, word_divided, word_shifted};
 use crate::word_kernels::{blend, keep};
@@ -94,7 +94,7 @@ fn divide_some<K: Division>(a: &[u32; 64], b: &[u32; 64], divides: u64, out: &mu
 // Puts the 64 lanes after the division into `out`, each divided by its own divisor, and gives their
 // faults.
 #[inline(never)]
-fn run_each_division<K: FromQuotient>(
+fn run_each_division<K: Division>(
     a: &[u32; 64],
     b: &[u32; 64],
     active: u64,
@@ -142,32 +142,8 @@ fn common_divisor(b: &[u32; 64], active: u64) -> Option<u32>
     if others == 0 { Some(divisor) } else { None }
 }
 
-/// A division that follows from the quotient.
-pub(crate) trait FromQuotient: Division {
-    // The result, by the quotient of the two.
-    fn from_quotient(x: u32, divisor: u32, quotient: u32) -> u32
-        requires divisible { IsTrue (can_divide (cast_signed w32 x) (cast_signed w32 divisor)) }
-        requires quotient { cast_signed w32 quotient
-            ≡ int_div (cast_signed w32 x) (cast_signed w32 divisor) }
-        ensures { cast_signed w32 result
-            ≡ Self.divided (cast_signed w32 x) (cast_signed w32 divisor) };
-}
-
-impl FromQuotient for Quotient {
-    fn from_quotient(x: u32, divisor: u32, quotient: u32) -> u32 {
-        let _ = (x, divisor);
-        quotient
-    }
-}
-
-impl FromQuotient for Remainder {
-    fn from_quotient(x: u32, divisor: u32, quotient: u32) -> u32 {
-        x.wrapping_sub(quotient.wrapping_mul(divisor))
-    }
-}
-
 // Puts the results of lanes that are all divided by one divisor, whose size is a power of 2.
-fn divide_by_power<K: FromQuotient>(a: &[u32; 64], divisor: u32, shift: u32, out: &mut [u32; 64])
+fn divide_by_power<K: Division>(a: &[u32; 64], divisor: u32, shift: u32, out: &mut [u32; 64])
     requires short { shift < 32 }
     requires power { unsigned_abs (cast_signed w32 divisor) ≡ 2 ^ shift }
     requires divisible { (v : ℤ) → IsTrue (can_divide v (cast_signed w32 divisor)) }
@@ -181,7 +157,7 @@ fn divide_by_power<K: FromQuotient>(a: &[u32; 64], divisor: u32, shift: u32, out
 }
 
 // Puts the results of lanes that are all divided by one divisor.
-fn divide_by_one<K: FromQuotient>(a: &[u32; 64], divisor: u32, out: &mut [u32; 64])
+fn divide_by_one<K: Division>(a: &[u32; 64], divisor: u32, out: &mut [u32; 64])
     requires { (v : ℤ) → IsTrue (can_divide v (cast_signed w32 divisor)) }
     ensures { (i : ℕ) → i < 64
         → bits_lane out.new i ≡ K.divided (bits_lane a.now i) (cast_signed w32 divisor) }
@@ -200,7 +176,7 @@ fn divide_by_one<K: FromQuotient>(a: &[u32; 64], divisor: u32, out: &mut [u32; 6
 }
 
 // Puts the 64 lanes after the division into `out`, and gives their faults.
-pub(crate) fn run_division<K: FromQuotient>(
+pub(crate) fn run_division<K: Division>(
     a: &[u32; 64],
     b: &[u32; 64],
     active: u64,

@@ -32,14 +32,24 @@ pub(crate) fn blend(mask: u64, a: &[u32; 64], b: &[u32; 64], out: &mut [u32; 64]
     }
 }
 
+// Puts the lanes of `new` into `old` where the mask is true.
+pub(crate) fn commit(mask: u64, new: &[u32; 64], old: &mut [u32; 64])
+    ensures { IsBlendBelow 64 mask (bits_lane new.now) (bits_lane old.old) (bits_lane old.new) }
+{
+    for c in 0..4usize {
+        let at = 16 * c;
+        let kept = blended16(mask >> (at as u64), load16(new, at), load16(old, at));
+        store16(old, at, kept);
+    }
+}
+
 // Makes the lanes 0 where the mask is not true, which it mostly is in all lanes.
 #[inline(never)]
 fn keep_some(mask: u64, lanes: &mut [u32; 64])
     ensures { (i : ℕ) → i < 64 → bits_lane lanes.new i
         ≡ (if on mask i then bits_lane lanes.old i else pos 0) }
 {
-    let all = *lanes;
-    blend(mask, &all, &[0; 64], lanes);
+    commit(!mask, &[0; 64], lanes);
 }
 
 // Makes the lanes 0 where the mask is not true.

@@ -17,9 +17,9 @@ ghost use Rattle.std.specs.Int.{cast_signed, w32};
 ghost use Rattle.lb_lanes.specs.Kernels.{bits_lane};
 ghost use Rattle.lb_lanes.specs.Operators.{can_divide};
 
+use crate::division::Division;
 use crate::reciprocals::signed;
 use crate::word_chunks::{load16, store16};
-use crate::word_divisions::FromQuotient;
 use std::simd::prelude::*;
 
 /// The least size of a dividend whose quotient is not guessed.
@@ -68,7 +68,7 @@ fn small_quotient(n: u32, d: u32, guess: u32) -> Option<u32>
 }
 
 // A lane after the division and 0, or 0 and all bits where the quotient is in doubt.
-fn settled<K: FromQuotient>(x: u32, y: u32, guess: u32) -> (u32, u32)
+fn settled<K: Division>(x: u32, y: u32, guess: u32) -> (u32, u32)
     ensures divisible { (result.1 == 0) ≡ true
         → can_divide (cast_signed w32 x) (cast_signed w32 y) ≡ true }
     ensures value { cast_signed w32 result.0 ≡ (if result.1 == 0
@@ -84,7 +84,7 @@ fn settled<K: FromQuotient>(x: u32, y: u32, guess: u32) -> (u32, u32)
 
 /// Puts the 64 lanes after the division into `out`, or 0 where one is in doubt, and words that are
 /// 0 just where none is. Gives the union of these.
-pub(crate) fn divide_small<K: FromQuotient>(
+pub(crate) fn divide_small<K: Division>(
     a: &[u32; 64],
     b: &[u32; 64],
     out: &mut [u32; 64],

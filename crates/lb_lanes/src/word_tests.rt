@@ -9,6 +9,7 @@
 ghost use Rattle.std.specs.Prelude.{◌≡◌, ℕ, ◌<◌, Bool, ℤ, int_lt, int_le};
 ghost use Rattle.std.specs.Ordering.{int_eq};
 ghost use Rattle.std.specs.Prelude.{slice_index, if◌then◌else◌};
+ghost use Rattle.lb_lanes.specs.Halves.{is_below_unsigned};
 ghost use Rattle.lb_lanes.specs.Kernels.{IsBlendBelow, bits_lane};
 ghost use Rattle.lb_lanes.specs.Operators.{can_divide};
 ghost use Rattle.lb_lanes.specs.Planes.{IsPlaneOf, on};
@@ -110,6 +111,17 @@ impl WordTest for Divisible {
         let not_least = x.simd_ne(u32x16::splat(LEAST)).to_bitmask();
         let not_minus_one = y.simd_ne(u32x16::splat(MINUS_ONE)).to_bitmask();
         not_zero & (not_least | not_minus_one)
+    }
+}
+
+/// Whether the bits of the first are the smaller number.
+pub(crate) struct BelowUnsigned;
+
+impl WordTest for BelowUnsigned {
+    ghost passes = { is_below_unsigned };
+
+    fn test16(x: u32x16, y: u32x16) -> u64 {
+        x.simd_lt(y).to_bitmask()
     }
 }
 

@@ -1,9 +1,7 @@
-use Rattle.std.proofs.Common.{◌≡◌, ℕ, ◌<◌, ◌*◌, true, get_or, pos}
+use Rattle.std.proofs.Common.{◌≡◌, not, take}
+use Rattle.std.specs.List.{list_any}
 use Rattle.lb_lanes.specs.Operators.{is_int}
 use Rattle.lb_lanes.proofs.slices.any_outside.Given as goal
 
-abbrev pub invariant-loop-c : goal.invariant-loop-c
-invariant-loop-c l = (i : ℕ) → i < 8 * l.c → is_int (get_or l.values i (pos 0)) ≡ true
-
-abbrev pub invariant-loop-k : goal.invariant-loop-k
-invariant-loop-k l = (i : ℕ) → i < l.k → is_int (get_or l.values i (pos 0)) ≡ true
+abbrev pub invariant-loop-value : goal.invariant-loop-value
+invariant-loop-value l = l.found ≡ list_any (λ v. not (is_int v)) (take l.value-index l.values)

@@ -1,7 +1,8 @@
 use Rattle.std.proofs.Common.{◌≡◌, ℕ, ◌*◌, ◌+◌, refl, ap, ap₂, ◌∙◌, subst, arith, not-suc-le-zero}
-use Rattle.std.proofs.Common.{w32, to_z, get_or, cond, Bool, true, false}
+use Rattle.std.proofs.Common.{w32, to_z, get_or, cond}
 use Rattle.lb_lanes.specs.Planes.{on}
 use Rattle.lb_lanes.proofs.OnPlanes.{on-shr}
+use Rattle.lb_lanes.proofs.Views.{word_by}
 use Rattle.lb_lanes.proofs.Joined.{WrittenBelow, more_words_joined}
 use Rattle.lb_lanes.proofs.word_kernels.blend.Goals as goal
 
@@ -25,11 +26,6 @@ loop-c-preserved c =
     (c.load16.ensures j h)
     ∙ ap (cond (on m (k + j)) (get_or a (k + j) 0)) (c.load16-in-loop-c.ensures j h)))
 
--- a word that was chosen, as an integer
-bits_by : (t : Bool) (m n : ℕ) → to_z w32 (cond t m n) ≡ cond t (to_z w32 m) (to_z w32 n)
-bits_by true m n = refl
-bits_by false m n = refl
-
 pub returns : goal.returns
 returns c i h = ap (to_z w32) (c.loop-c.invariant.done i (omega arith))
-    ∙ bits_by (on c.args.mask i) _ _
+    ∙ word_by w32 (on c.args.mask i) _ _

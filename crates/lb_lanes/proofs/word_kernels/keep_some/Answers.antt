@@ -1,10 +1,17 @@
-use Rattle.std.proofs.Common.{◌∙◌, ap, cond}
+use Rattle.std.proofs.Common.{◌≡◌, Bool, true, false, not, ℤ, pos, ◌∙◌, ap, ap₂, cond, refl}
 use Rattle.lb_lanes.specs.Kernels.{bits_lane}
 use Rattle.lb_lanes.specs.Planes.{on}
+use Rattle.lb_lanes.proofs.OnPlanes.{on-flip}
 use Rattle.lb_lanes.proofs.WordArithmetic.{zero_word_at}
 use Rattle.lb_lanes.proofs.word_kernels.keep_some.Goals as goal
 
+turned : (b : Bool) (x y : ℤ) → cond (not b) x y ≡ cond b y x
+turned true x y = refl
+turned false x y = refl
+
 pub returns : goal.returns
 returns c i h =
-    c.blend.ensures i h
-    ∙ ap (cond (on c.args.mask i) (bits_lane c.args.lanes.now i)) (zero_word_at i h)
+    let old = bits_lane c.args.lanes.now i in
+    c.commit.ensures i h
+    ∙ ap₂ (λ t z. cond t z old) (on-flip c.args.mask i c.ranges.mask.fits h) (zero_word_at i h)
+    ∙ turned (on c.args.mask i) (pos 0) old

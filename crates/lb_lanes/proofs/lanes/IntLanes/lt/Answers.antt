@@ -1,0 +1,19 @@
+use Rattle.std.proofs.Common.{◌&&◌, ◌||◌, ap₂, ◌∙◌}
+use Rattle.std.specs.Int.RustNames.{int_lt}
+use Rattle.lb_lanes.specs.Kernels.{lane_of}
+use Rattle.lb_lanes.proofs.Halves.{below_by, lane_is}
+use Rattle.lb_lanes.proofs.Words.{fits_int}
+use Rattle.lb_lanes.proofs.lanes.IntLanes.lt.Goals as goal
+
+pub returns : goal.returns
+returns c i h =
+    let a = c.self.inside in
+    let b = c.other.inside in
+    c.or.ensures i h
+    ∙ ap₂ (λ p q. p || q) (c.lt.ensures i h)
+    (c.and.ensures i h
+    ∙ ap₂ (λ p q. p && q) (c.eq-above_equal.ensures i h) (c.lt_unsigned-low_below.ensures i h))
+    ∙ below_by (lane_of a.high i) (lane_of b.high i) (lane_of a.low i) (lane_of b.low i)
+    (fits_int _ (c.are_ints.ensures i h)) (fits_int _ (c.are_ints-2.ensures i h))
+    ∙ ap₂ int_lt (lane_is a.high a.low c.args.self.now c.self.view_is i h)
+    (lane_is b.high b.low c.args.other.now c.other.view_is i h)
