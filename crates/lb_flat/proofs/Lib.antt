@@ -1,14 +1,3 @@
-pub mod Ledgers
-pub mod NameTexts
-pub mod Recordings
-pub mod StoredRows
-pub mod PackedRows
-pub mod KindColumns
-pub mod HeldRows
-pub mod AddedRows
-pub mod FoundCells
-pub mod Extending
-pub mod Storing
 pub mod Lists
 pub mod Counting
 pub mod Columns
@@ -52,7 +41,6 @@ pub mod FilledKinds
 pub mod Gathering
 pub mod Prefixes
 pub mod RecordedInputs
-pub mod RowsFound
 pub mod InOrder
 pub mod Ordering
 pub mod Awaiting
@@ -190,4 +178,3 @@ pub mod ReadyProgram
 pub mod OperandValues
 pub mod UsedClocks
 pub mod SomeLists
-pub mod BitRows

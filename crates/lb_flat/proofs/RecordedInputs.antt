@@ -18,7 +18,7 @@ use Rattle.lb_check.specs.Scalars as scalars
 use Rattle.lb_check.specs.Scalars.{is_given}
 use Rattle.lb_check.specs.Solutions.{is_row}
 use Rattle.lb_check.proofs.LongStreams.{length-both}
-use Rattle.lb_flat.specs.Traces.{Row, Recording, trace_at, IsCell, IsInt, IsRow, IsRecording}
+use Rattle.lb_traces.specs.Traces.{Row, Recording, trace_at, IsCell, IsInt, IsRow, IsRecording}
 use Rattle.lb_flat.specs.Inputs.{scalar_in, scalars_in, inputs_of}
 use Rattle.lb_flat.specs.Flattening.{IsTrace}
 

@@ -19,7 +19,7 @@ use Rattle.lb_flat.specs.Programs.{program_of}
 use Rattle.lb_flat.specs.RightVerdicts.{right_verdict, right_verdicts}
 use Rattle.lb_flat.specs.Run.{Ready}
 use Rattle.lb_flat.specs.Standing.{HasKindsOf, StandsForProgram}
-use Rattle.lb_flat.specs.Traces.{IsRecording, Recording}
+use Rattle.lb_traces.specs.Traces.{IsRecording, Recording}
 use Rattle.lb_flat.specs.declared.flat.Ordered.{Ordered}
 use Rattle.lb_flat.proofs.InOrder.{ready_of}
 use Rattle.lb_flat.proofs.RecordedInputs.{trace_given}

@@ -22,7 +22,7 @@ use Rattle.lb_flat.specs.Judging.{FlatProgram, flat_verdict}
 use Rattle.lb_flat.specs.Layouts.{Layout}
 use Rattle.lb_flat.specs.Prefixes.{IsPrefix, IsDetermined}
 use Rattle.lb_flat.specs.Run.{Ready, run, streams_of}
-use Rattle.lb_flat.specs.Traces.{Recording, IsRecording}
+use Rattle.lb_traces.specs.Traces.{Recording, IsRecording}
 use Rattle.lb_flat.proofs.FilledFits.{cells_fit}
 use Rattle.lb_flat.proofs.Fitting.{IsFitting, solution_fits}
 use Rattle.lb_flat.proofs.Judging.{flat_ends}

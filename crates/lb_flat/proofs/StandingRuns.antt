@@ -20,7 +20,7 @@ use Rattle.lb_flat.specs.Judging.{FlatProgram, flat_verdict}
 use Rattle.lb_flat.specs.NumberedLayouts.{layout}
 use Rattle.lb_flat.specs.Prefixes.{IsDetermined}
 use Rattle.lb_flat.specs.Run.{Ready}
-use Rattle.lb_flat.specs.Traces.{Recording, IsRecording}
+use Rattle.lb_traces.specs.Traces.{Recording, IsRecording}
 use Rattle.lb_flat.proofs.FlatEquivalence.{same_solves}
 use Rattle.lb_flat.proofs.OrderedSolutions.{in_order, solution_there, solution_back, watched_there}
 use Rattle.lb_flat.proofs.OrderedSolutions.{all_memories_there}

@@ -27,7 +27,7 @@ use Rattle.lb_flat.specs.RightVerdicts.{right_verdict}
 use Rattle.lb_flat.specs.Run.{Ready}
 use Rattle.lb_flat.specs.SizeFaults.{IsSizeFault}
 use Rattle.lb_flat.specs.Standing.{HasKindsOf, StandsForProgram}
-use Rattle.lb_flat.specs.Traces.{Recording}
+use Rattle.lb_traces.specs.Traces.{Recording}
 
 -- ## Expansion
 

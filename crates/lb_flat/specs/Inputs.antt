@@ -7,7 +7,7 @@ use Rattle.lb_syntax.specs.Lists.{zip2}
 use Rattle.lb_static.specs.Signature.{Elements, kinds_of}
 use Rattle.lb_check.specs.Scalars.{Scalar, Integer, Boolean}
 use Rattle.lb_check.specs.Solutions.{Inputs}
-use Rattle.lb_flat.specs.Traces.{Row, Recording, trace_at}
+use Rattle.lb_traces.specs.Traces.{Row, Recording, trace_at}
 
 -- the scalar of a cell; a Boolean is 0 or 1
 abbrev pub scalar_in : Kind → ℤ → Scalar

@@ -1,7 +1,3 @@
-pub mod Traces
-pub mod Ledger
-pub mod Stored
-pub mod Packed
 pub mod Flat
 pub mod Run
 pub mod Layouts
@@ -49,4 +45,3 @@ pub mod ClockPlaces
 pub mod RowFrames
 pub mod EquationKinds
 pub mod AssembledPrograms
-pub mod BitRows

@@ -1,7 +1,7 @@
 -- What contracts say of prepared programs, of traces that are ready to be read, and of room.
 -- This file says what data of the program mean; no definition of the language stands on it.
 use Rattle.std.specs.Prelude.{◌≡◌, vec_len}
-use Rattle.lb_flat.specs.Traces.{Recording}
+use Rattle.lb_traces.specs.Traces.{Recording}
 use Rattle.lb_flat.specs.declared.prepared.Prepared.{Prepared}
 use Rattle.lb_flat.specs.declared.program.FlatProgram.{FlatProgram}
 use Rattle.lb_flat.specs.declared.recorded.Recorded.{Recorded}

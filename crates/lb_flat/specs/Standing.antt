@@ -5,7 +5,7 @@ use Rattle.lb_static.specs.Instances.{Program}
 use Rattle.lb_static.specs.Signature.{kinds_of}
 use Rattle.lb_flat.specs.FlatPrograms.{IsFlatOf}
 use Rattle.lb_flat.specs.Judging.{FlatProgram}
-use Rattle.lb_flat.specs.Traces.{Recording}
+use Rattle.lb_traces.specs.Traces.{Recording}
 
 -- there is a program that it stands for
 abbrev pub StandsForProgram : FlatProgram → Type 0

@@ -1,5 +1,5 @@
 //! Flat programs: nodes, arrays and iterators expanded into equations on scalar elements, put in
-//! order, and evaluated on one trace; and the recorded traces that they run on.
+//! order, and evaluated on one trace.
 #![tactic(auto)]
 
 mod cell;
@@ -16,19 +16,16 @@ mod instant;
 mod instant_verdict;
 mod laws;
 mod layout;
-mod names;
 mod prepare;
 mod prepared;
 mod program;
 mod recorded;
-mod row_columns;
 mod row_frame;
 mod scalar;
 mod scheduling;
 mod scratch;
 mod table_size;
 mod trace_run;
-mod traces;
 mod variable_kinds;
 
 pub use cycle_places::with_places;
@@ -41,4 +38,3 @@ pub use program::FlatProgram;
 pub use scalar::Scalar;
 pub use scheduling::order;
 pub use trace_run::eval_trace;
-pub use traces::{TraceRows, TraceSet, is_trace_name};

@@ -5,15 +5,15 @@ ghost use Rattle.lb_static.specs.Signature.{kinds_of};
 ghost use Rattle.lb_flat.specs.Inputs.{inputs_of};
 ghost use Rattle.lb_flat.specs.Prepared.{place_equation};
 ghost use Rattle.lb_flat.specs.Run.{filled};
-ghost use Rattle.lb_flat.specs.Traces.{trace_at};
+ghost use Rattle.lb_traces.specs.Traces.{trace_at};
 ghost use Rattle.lb_flat.specs.Values.{cell_of};
 
 use crate::cell::Cell;
 use crate::equation::{InputId, InputPlace};
 use crate::evaluate::Instants;
-use crate::traces::TraceSet;
 use lb_static::Signature;
 use lb_syntax::Kind;
+use lb_traces::TraceSet;
 use std::alloc::{AllocError, Global};
 
 // The input of an instant of a trace at a place of the signature.

@@ -10,8 +10,8 @@ use crate::flat::Ordered;
 use crate::prepared::Prepared;
 use crate::recorded::{Recorded, RecordedTrace};
 use crate::scratch::Scratch;
-use crate::traces::TraceSet;
 use lb_check::Verdict;
+use lb_traces::TraceSet;
 use std::alloc::{AllocError, Global};
 
 /// The one verdict that a prepared program has on a trace, computed instant by instant in the room

@@ -11,7 +11,7 @@ use Rattle.lb_check.specs.Streams.{History}
 use Rattle.lb_flat.specs.FlatPrograms.{IsFlatOf}
 use Rattle.lb_flat.specs.Inputs.{inputs_of}
 use Rattle.lb_flat.specs.Judging.{FlatProgram}
-use Rattle.lb_flat.specs.Traces.{Recording}
+use Rattle.lb_traces.specs.Traces.{Recording}
 
 -- what an element of a variable of an instance holds at instant t; it is absent where there is no
 -- such element

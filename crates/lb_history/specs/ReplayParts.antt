@@ -5,7 +5,7 @@ use Rattle.lb_flat.specs.Flat.{FlatEquation}
 use Rattle.lb_flat.specs.Inputs.{inputs_of}
 use Rattle.lb_flat.specs.Programs.{program_of}
 use Rattle.lb_flat.specs.Run.{Row}
-use Rattle.lb_flat.specs.Traces.{Recording}
+use Rattle.lb_traces.specs.Traces.{Recording}
 use Rattle.lb_flat.specs.declared.program.FlatProgram.{FlatProgram}
 use Rattle.lb_history.specs.Replaying.{equations_before, row_at}
 use Rattle.lb_history.specs.declared.replay.Replay.{Replay}

@@ -5,14 +5,15 @@ ghost use Rattle.lb_static.specs.Signature.{kinds_of};
 ghost use Rattle.lb_flat.specs.Inputs.{inputs_of};
 ghost use Rattle.lb_flat.specs.Programs.{flat_equations};
 ghost use Rattle.lb_flat.specs.Run.{cell, is_now, now, filled, remembered, advanced, reads, keeps};
-ghost use Rattle.lb_flat.specs.Traces.{trace_at};
+ghost use Rattle.lb_traces.specs.Traces.{trace_at};
 ghost use Rattle.lb_flat.specs.Values.{clock_of, operation_of};
 ghost use Rattle.lb_flat.specs.Within.{IsClock, AreClocks, IsWithin};
 ghost use Rattle.lb_history.specs.Cells.{cell_of};
 
 use crate::cell::{Cell, chosen_cell, held, newest, one_cell, sample, shows, two_cells};
-use lb_flat::{Clock, ClockId, ElementId, Equation, InputId, Operation, TraceSet};
+use lb_flat::{Clock, ClockId, ElementId, Equation, InputId, Operation};
 use lb_syntax::Kind;
+use lb_traces::TraceSet;
 
 /// An instant of a recorded trace, and what each column of the traces holds.
 #[derive(Clone, Copy)]

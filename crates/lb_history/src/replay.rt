@@ -5,14 +5,15 @@ ghost use Rattle.lb_static.specs.Signature.{kinds_of};
 ghost use Rattle.lb_flat.specs.InOrder.{is_in_order};
 ghost use Rattle.lb_flat.specs.Inputs.{inputs_of};
 ghost use Rattle.lb_flat.specs.Programs.{flat_equations, IsInRange};
-ghost use Rattle.lb_flat.specs.Traces.{trace_at};
+ghost use Rattle.lb_traces.specs.Traces.{trace_at};
 ghost use Rattle.lb_history.specs.Replays.{IsReplayed, replayed_props};
 
 use crate::cell::Cell;
 use crate::instant::{Instant, commit, compute};
-use lb_flat::{ElementId, Equation, FlatProgram, Ordered, TraceSet};
+use lb_flat::{ElementId, Equation, FlatProgram, Ordered};
 use lb_static::Signature;
 use lb_syntax::Kind;
+use lb_traces::TraceSet;
 use std::alloc::{AllocError, Global};
 
 /// A trace of a program, up to an instant. It takes memory once, and none for an instant.

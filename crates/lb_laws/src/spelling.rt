@@ -2,7 +2,7 @@
 
 ghost use Rattle.std.specs.Prelude.{◌≡◌, ℕ, List};
 ghost use Rattle.lb_static.specs.Signature.{Elements};
-ghost use Rattle.lb_flat.specs.Traces.{Traces};
+ghost use Rattle.lb_traces.specs.Traces.{Traces};
 ghost use Rattle.lb_trace.specs.Spelling.{Spells};
 
 /// A text spells one list of traces under a signature at the most. So what a reading promises to

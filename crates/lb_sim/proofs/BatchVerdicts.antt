@@ -7,7 +7,7 @@ use Rattle.lb_flat.specs.FurtherKinds.{kind_among}
 use Rattle.lb_flat.specs.Inputs.{inputs_of}
 use Rattle.lb_flat.specs.Judging.{FlatProgram, flat_verdict}
 use Rattle.lb_flat.specs.Run.{Ready}
-use Rattle.lb_flat.specs.Traces.{Recording, IsRecording}
+use Rattle.lb_traces.specs.Traces.{Recording, IsRecording}
 use Rattle.lb_flat.proofs.RecordedInputs.{trace_given}
 use Rattle.lb_flat.proofs.RightVerdicts.{right_where_fitting}
 use Rattle.lb_flat.proofs.StandingRuns.{standing_determined, standing_recorded}

@@ -4,7 +4,7 @@ use Rattle.std.proofs.Common.{get_or, length, take, sym, ap, ap₂, ◌∙◌, s
 use Rattle.std.proofs.lemmas.List.{take_more, length-append}
 use Rattle.lb_syntax.specs.declared.tree.Kind.{Kind}
 use Rattle.lb_syntax.specs.declared.tree.Kind.TheVariants.{Int as Int_kind, Bool as Bool_kind}
-use Rattle.lb_flat.proofs.KindColumns.{truths_push, numbers_push}
+use Rattle.lb_traces.proofs.KindColumns.{truths_push, numbers_push}
 use Rattle.lb_sim.specs.InputRows.{places_of, truth_columns, number_columns}
 use Rattle.lb_sim.specs.declared.place.Value.{Value}
 use Rattle.lb_sim.specs.declared.place.Value.TheVariants.{Truth, Number}

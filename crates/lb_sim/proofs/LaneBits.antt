@@ -9,7 +9,7 @@ use Rattle.std.specs.Prelude.{bit_or}
 use Rattle.std.specs.Int.{bit_at, trailing_zeros}
 use Rattle.std.proofs.lemmas.Nat.Bits.{bit_at-trailing_zeros}
 use Rattle.std.proofs.Math.Bool.{or_comm}
-use Rattle.lb_flat.specs.Packed.{bit_in}
+use Rattle.lb_traces.specs.Packed.{bit_in}
 use Rattle.lb_lanes.specs.Planes.{on}
 use Rattle.lb_lanes.proofs.OnPlanes.{on-or, on-above, on-zero, shl, on-shl_high, on-shl_low}
 use Rattle.lb_lanes.proofs.OnPlanes.{on-shr}

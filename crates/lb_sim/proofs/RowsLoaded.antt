@@ -14,9 +14,9 @@ use Rattle.lb_static.specs.Signature.{Element, Elements, kinds_of}
 use Rattle.lb_check.specs.Scalars.{Integer, Boolean}
 use Rattle.lb_check.specs.Verdicts.{is_bad}
 use Rattle.lb_flat.specs.Inputs.{scalar_in, scalars_in, inputs_of}
-use Rattle.lb_flat.specs.Traces.{Recording, IsRecording, cell_at, trace_at}
-use Rattle.lb_flat.proofs.RowsFound.{row_follows}
-use Rattle.lb_flat.proofs.Storing.{length-row}
+use Rattle.lb_traces.specs.Traces.{Recording, IsRecording, cell_at, trace_at}
+use Rattle.lb_traces.proofs.RowsFound.{row_follows}
+use Rattle.lb_traces.proofs.Storing.{length-row}
 use Rattle.lb_lanes.specs.Kernels.{lane_of}
 use Rattle.lb_lanes.specs.Planes.{on}
 use Rattle.lb_machine.specs.Meaning.{Lane, lane_at}

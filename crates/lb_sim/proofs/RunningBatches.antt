@@ -15,7 +15,7 @@ use Rattle.lb_flat.specs.Flat.{FlatClock}
 use Rattle.lb_flat.specs.Inputs.{inputs_of, scalars_in}
 use Rattle.lb_flat.specs.Judging.{flat_verdict}
 use Rattle.lb_flat.specs.Programs.{program_of}
-use Rattle.lb_flat.specs.Traces.{Recording, trace_at}
+use Rattle.lb_traces.specs.Traces.{Recording, trace_at}
 use Rattle.lb_lanes.specs.Planes.{IsPlaneOf, on}
 use Rattle.lb_lanes.specs.declared.planes.Plane.{Plane}
 use Rattle.lb_lanes.proofs.OnPlanes.{on-zero, some_on}

@@ -13,7 +13,7 @@ use Rattle.lb_flat.specs.Flat.{FlatClock}
 use Rattle.lb_flat.specs.Inputs.{inputs_of}
 use Rattle.lb_flat.specs.Judging.{flat_verdict}
 use Rattle.lb_flat.specs.Programs.{program_of}
-use Rattle.lb_flat.specs.Traces.{Recording, IsRecording}
+use Rattle.lb_traces.specs.Traces.{Recording, IsRecording}
 use Rattle.lb_flat.proofs.InOrder.{ready_of}
 use Rattle.lb_lanes.specs.Planes.{IsPlaneOf, on}
 use Rattle.lb_lanes.specs.declared.planes.Plane.{Plane}

@@ -15,7 +15,7 @@ use Rattle.lb_flat.specs.FlatPrograms.{IsFlatOf}
 use Rattle.lb_flat.specs.FurtherKinds.{kind_among}
 use Rattle.lb_flat.specs.Judging.{FlatProgram}
 use Rattle.lb_flat.specs.NumberedLayouts.{layout}
-use Rattle.lb_flat.specs.Traces.{Recording}
+use Rattle.lb_traces.specs.Traces.{Recording}
 use Rattle.lb_lanes.specs.Planes.{IsPlaneOf, on}
 use Rattle.lb_lanes.specs.declared.planes.Plane.{Plane}
 use Rattle.lb_sim.specs.BatchRuns.{flat_of, flag_in, lane_in, memory_at, steps_in, verdict_at}

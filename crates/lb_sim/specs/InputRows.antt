@@ -6,8 +6,8 @@ use Rattle.std.specs.Prelude.{length, map, get_or, slice_index_or}
 use Rattle.lb_syntax.specs.declared.tree.Kind.{Kind}
 use Rattle.lb_syntax.specs.declared.tree.Kind.TheVariants.{Int as Int_kind, Bool as Bool_kind}
 use Rattle.lb_check.specs.Scalars.{Scalar, Integer, Boolean}
-use Rattle.lb_flat.specs.Traces.{Recording, trace_at, cell_at}
-pub use Rattle.lb_flat.specs.Packed.{truth_columns, number_columns}
+use Rattle.lb_traces.specs.Traces.{Recording, trace_at, cell_at}
+pub use Rattle.lb_traces.specs.Packed.{truth_columns, number_columns}
 use Rattle.lb_lanes.specs.Kernels.{lane_of}
 use Rattle.lb_lanes.specs.Planes.{on}
 use Rattle.lb_machine.specs.Meaning.{lane_at}

@@ -2,7 +2,7 @@
 -- This file says what data of the program mean.
 use Rattle.std.specs.Prelude.{ℕ, List, ◌<◌, ◌≤◌}
 use Rattle.lb_check.specs.Scalars.{Scalar}
-use Rattle.lb_flat.specs.Traces.{Recording}
+use Rattle.lb_traces.specs.Traces.{Recording}
 use Rattle.lb_sim.specs.InputRows.{lane_row, number_columns, truth_columns}
 use Rattle.lb_sim.specs.Loads.{AreAhead, AreAmong, AreTruthsAhead}
 use Rattle.lb_sim.specs.declared.ahead.Loaded.{Loaded}

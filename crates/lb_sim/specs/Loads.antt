@@ -3,8 +3,8 @@
 use Rattle.std.specs.Prelude.{◌≡◌, ℕ, ◌<◌, ◌≤◌, ◌+◌, ◌*◌, ◌⊎◌, ◌==◌, true, List, [], ℤ, pos}
 use Rattle.std.specs.Prelude.{length, get_or, slice_index, slice_index_or, if◌then◌else◌}
 use Rattle.std.specs.Prelude.{int_le}
-use Rattle.lb_flat.specs.Packed.{words_of_row}
-use Rattle.lb_flat.specs.Traces.{Recording}
+use Rattle.lb_traces.specs.Packed.{words_of_row}
+use Rattle.lb_traces.specs.Traces.{Recording}
 use Rattle.lb_lanes.specs.Kernels.{lane_of}
 use Rattle.lb_lanes.specs.Planes.{on}
 use Rattle.lb_sim.specs.InputRows.{member_cell}

@@ -12,7 +12,7 @@ use Rattle.lb_flat.specs.FurtherKinds.{kind_among}
 use Rattle.lb_flat.specs.Inputs.{inputs_of}
 use Rattle.lb_flat.specs.Judging.{flat_verdict}
 use Rattle.lb_flat.specs.Programs.{program_of}
-use Rattle.lb_flat.specs.Traces.{Recording}
+use Rattle.lb_traces.specs.Traces.{Recording}
 use Rattle.lb_lanes.specs.Planes.{on}
 use Rattle.lb_sim.specs.BatchLanes.{end_in, IsAt}
 use Rattle.lb_sim.specs.BatchRuns.{steps_in, verdict_at}

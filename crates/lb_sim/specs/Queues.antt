@@ -7,7 +7,7 @@ use Rattle.std.specs.Prelude.{get_or, nat_lt, take}
 use Rattle.std.specs.List.{sum_by}
 use Rattle.lb_check.specs.declared.verdict.Verdict.{Verdict}
 use Rattle.lb_flat.specs.Judging.{FlatProgram}
-use Rattle.lb_flat.specs.Traces.{Recording, trace_at}
+use Rattle.lb_traces.specs.Traces.{Recording, trace_at}
 use Rattle.lb_lanes.specs.Planes.{on}
 use Rattle.lb_sim.specs.BatchLanes.{length_in}
 use Rattle.lb_sim.specs.BatchRuns.{steps_in}

@@ -17,7 +17,7 @@
 ghost use Rattle.std.specs.Prelude.{◌≡◌, ◌≢◌, ℕ, ◌<◌, ◌≤◌, ◌+◌, ◌*◌, ◌⊎◌, true, length, get_or};
 ghost use Rattle.std.specs.Prelude.{ℤ, pos, slice_index, slice_index_or, [], All};
 ghost use Rattle.lb_static.specs.Signature.{kinds_of};
-ghost use Rattle.lb_flat.specs.Packed.{number_columns};
+ghost use Rattle.lb_traces.specs.Packed.{number_columns};
 ghost use Rattle.lb_lanes.specs.Kernels.{lane_of};
 ghost use Rattle.lb_lanes.specs.Planes.{on};
 ghost use Rattle.lb_sim.specs.InputRows.{HaveInstant, member_cell};

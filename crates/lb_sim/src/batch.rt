@@ -7,7 +7,7 @@ ghost use Rattle.lb_static.specs.Signature.{kinds_of};
 ghost use Rattle.lb_flat.specs.Flat.{FlatClock};
 ghost use Rattle.lb_flat.specs.Inputs.{inputs_of};
 ghost use Rattle.lb_flat.specs.Programs.{program_of};
-ghost use Rattle.lb_flat.specs.Traces.{IsRecording};
+ghost use Rattle.lb_traces.specs.Traces.{IsRecording};
 ghost use Rattle.lb_lanes.specs.Planes.{on};
 ghost use Rattle.lb_sim.specs.BatchLanes.{end_in, AreRunning};
 ghost use Rattle.lb_sim.specs.BatchRooms.{IsRoomFor};
@@ -25,10 +25,10 @@ use crate::room::{BatchRoom, is_kind};
 use crate::running::{Running, running_at};
 use crate::verdicts::{InOrder, Verdicts};
 use lb_check::Verdict;
-use lb_flat::TraceSet;
 use lb_lanes::Plane;
 use lb_static::Signature;
 use lb_syntax::Kind;
+use lb_traces::TraceSet;
 use std::alloc::{AllocError, Global};
 
 /// The members of a batch that was run, and the verdict of each.

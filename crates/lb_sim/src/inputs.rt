@@ -4,7 +4,7 @@ ghost use Rattle.std.specs.Prelude.{◌≡◌, ℕ, ◌<◌, ◌≤◌, ◌+◌,
 ghost use Rattle.std.specs.Prelude.{IfOk, [], slice_index, slice_index_or};
 ghost use Rattle.lb_static.specs.Signature.{kinds_of};
 ghost use Rattle.lb_flat.specs.Inputs.{inputs_of};
-ghost use Rattle.lb_flat.specs.Packed.{words_of_row};
+ghost use Rattle.lb_traces.specs.Packed.{words_of_row};
 ghost use Rattle.lb_lanes.specs.Planes.{on};
 ghost use Rattle.lb_machine.specs.Meaning.{lane_at};
 ghost use Rattle.lb_sim.specs.InputRows.{HaveInstant, instant_in, number_columns, places_of};
@@ -19,9 +19,9 @@ use crate::lane_bits::{copy_planes, copy_words, groups_of, zeros};
 use crate::loads::{Instant, load_truths, load_truths_ahead};
 use crate::program::LaneProgram;
 use crate::read_inputs::ReadInputs;
-use lb_flat::TraceSet;
 use lb_lanes::{LaneWord, Plane};
 use lb_syntax::Kind;
+use lb_traces::TraceSet;
 use std::alloc::{AllocError, Global};
 
 // How many integers of a row are loaded for some instants together.

@@ -3,7 +3,7 @@
 ghost use Rattle.std.specs.Prelude.{◌≡◌, ◌≢◌, ℕ, ◌<◌, ◌≤◌, ◌+◌, ◌*◌, ◌==◌, ◌&&◌, ◌||◌};
 ghost use Rattle.std.specs.Prelude.{true, false, length, All};
 ghost use Rattle.std.specs.Prelude.{slice_index, slice_index_or, get_or, [], pos, IfOk};
-ghost use Rattle.lb_flat.specs.Packed.{words_of_row};
+ghost use Rattle.lb_traces.specs.Packed.{words_of_row};
 ghost use Rattle.lb_lanes.specs.Kernels.{lane_of};
 ghost use Rattle.lb_lanes.specs.Planes.{IsPlaneOf, on};
 ghost use Rattle.lb_sim.specs.InputRows.{AreZero};

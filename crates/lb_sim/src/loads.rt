@@ -20,7 +20,7 @@ ghost use Rattle.std.specs.Prelude.{◌≡◌, ◌≢◌, ℕ, ◌<◌, ◌≤�
 ghost use Rattle.std.specs.Prelude.{get_or};
 ghost use Rattle.std.specs.Prelude.{pos, int_le, slice_index};
 ghost use Rattle.lb_static.specs.Signature.{kinds_of};
-ghost use Rattle.lb_flat.specs.Packed.{truth_columns, words_of_row};
+ghost use Rattle.lb_traces.specs.Packed.{truth_columns, words_of_row};
 ghost use Rattle.lb_lanes.specs.Planes.{on};
 ghost use Rattle.lb_sim.specs.InputRows.{HaveInstant, member_cell};
 ghost use Rattle.lb_sim.specs.Loads.{AreAmong, AreFourPut, AreTruthsAhead, AreTruthsLoaded};
@@ -28,8 +28,8 @@ ghost use Rattle.lb_sim.specs.Loads.{AreAmong, AreFourPut, AreTruthsAhead, AreTr
 use crate::ahead::{Ahead, Stretch};
 use crate::integer_loads::are_live;
 use crate::lane_bits::{groups_of, size_of_group, turn_group};
-use lb_flat::TraceSet;
 use lb_lanes::Plane;
+use lb_traces::TraceSet;
 
 /// An instant of the members of a batch, in the lanes that are live.
 #[derive(Clone, Copy)]

@@ -25,8 +25,8 @@ ghost use Rattle.lb_sim.specs.Queues.{length_of, AreTaken, IsTakenBy};
 use crate::batch_run::BatchRun;
 use crate::lane_bits::{next_lane, with_lane};
 use crate::verdicts::Verdicts;
-use lb_flat::TraceSet;
 use lb_lanes::Plane;
+use lb_traces::TraceSet;
 
 /// Traces for some lanes, at least one for each.
 #[derive(Clone, Copy)]

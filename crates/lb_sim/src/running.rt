@@ -7,7 +7,7 @@ ghost use Rattle.lb_sim.specs.BatchLanes.{AreRunning};
 ghost use Rattle.lb_sim.specs.InputRows.{begin_of};
 
 use crate::lane_bits::with_lane;
-use lb_flat::TraceSet;
+use lb_traces::TraceSet;
 
 /// Some lanes, and up to which instant they are the ones whose traces go on.
 #[derive(Clone, Copy)]

@@ -8,7 +8,7 @@ ghost use Rattle.lb_sim.specs.InputRows.{HaveInstant};
 use crate::pool::push_case;
 use crate::{forms, random, runs};
 use lb_check::{Verdict, check as check_rules};
-use lb_flat::{Ordered, TraceSet, eval_trace, expand, order};
+use lb_flat::{Ordered, eval_trace, expand, order};
 use lb_lanes::Plane;
 use lb_report::split_case;
 use lb_sim::{
@@ -17,6 +17,7 @@ use lb_sim::{
 use lb_static::{Signature, elaborate};
 use lb_syntax::{Source, parse};
 use lb_trace::read_traces;
+use lb_traces::TraceSet;
 use std::alloc::{AllocError, Global};
 
 // ## What is asked

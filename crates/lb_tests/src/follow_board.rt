@@ -11,13 +11,14 @@ use crate::batches::ordered_of;
 use crate::pool::{SPREADS, push_case};
 use crate::tables::write_out;
 use lb_check::Verdict;
-use lb_flat::{Ordered, TraceSet, eval_trace};
+use lb_flat::{Ordered, eval_trace};
 use lb_pool::{FollowBoard, FollowSeat, Look, Plan};
 use lb_report::split_case;
 use lb_sim::has_kinds;
 use lb_static::Signature;
 use lb_syntax::parse;
 use lb_trace::read_traces;
+use lb_traces::TraceSet;
 use std::alloc::{AllocError, Global};
 
 // What a trace is settled with.

@@ -1,9 +1,9 @@
 //! Trace texts: what is read of them, whichever way their records end and their cells are written.
 
-use lb_flat::TraceSet;
 use lb_static::Signature;
 use lb_syntax::Kind;
 use lb_trace::{TraceError, read_loaded, read_traces, read_traces_by};
+use lb_traces::TraceSet;
 use std::alloc::{AllocError, Global};
 use std::thread::Threads;
 

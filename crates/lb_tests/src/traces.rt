@@ -1,8 +1,8 @@
 //! Traces that are put together, row after row.
 
-use lb_flat::{TraceRows, is_trace_name};
 use lb_static::Signature;
 use lb_syntax::Kind;
+use lb_traces::{TraceRows, is_trace_name};
 use std::test::Fail;
 
 #[test]

@@ -7,8 +7,8 @@ use Rattle.std.specs.List.{All, list_any}
 use Rattle.std.specs.Str.{bytes_eq}
 use Rattle.csv.specs.Records.{field_at}
 use Rattle.lb_static.specs.Signature.{Elements}
-use Rattle.lb_flat.specs.Traces.{IsTrace, IsTraceName, Row, Trace, Traces}
-use Rattle.lb_flat.specs.Traces.{with_row, with_trace}
+use Rattle.lb_traces.specs.Traces.{IsTrace, IsTraceName, Row, Trace, Traces}
+use Rattle.lb_traces.specs.Traces.{with_row, with_trace}
 use Rattle.lb_trace.specs.declared.header.Column.{Column}
 use Rattle.lb_trace.specs.Mirrors.{add_by, go_on_by, record_by, row_by, start_by}
 use Rattle.lb_trace.specs.Mirrors.{start_cells}

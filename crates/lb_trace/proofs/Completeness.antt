@@ -9,9 +9,9 @@ use Rattle.std.proofs.lemmas.List.Sums.{sum_by-append, sum_by-cons}
 use Rattle.std.proofs.Math.Nat.{mul-le-mul_right}
 use Rattle.std.specs.List.{All, AllZip}
 use Rattle.lb_static.specs.Signature.{Elements}
-use Rattle.lb_flat.specs.Traces.{IsRecording, IsTrace, Row, Trace, Traces, cells_of_instant}
-use Rattle.lb_flat.specs.Traces.{instants_of, last_rows, trace_names}
-use Rattle.lb_flat.proofs.Recordings.{last_rows-push, with_row-push}
+use Rattle.lb_traces.specs.Traces.{IsRecording, IsTrace, Row, Trace, Traces, cells_of_instant}
+use Rattle.lb_traces.specs.Traces.{instants_of, last_rows, trace_names}
+use Rattle.lb_traces.proofs.Recordings.{last_rows-push, with_row-push}
 use Rattle.lb_trace.specs.Refusals.{has_room, is_last, with_instant, with_records}
 use Rattle.lb_trace.specs.Spelling.{Record, SpellsInstant, instants}
 use Rattle.lb_trace.proofs.Names.{bytes_eq-same, comes_back-last, comes_back-none, is_last-none}

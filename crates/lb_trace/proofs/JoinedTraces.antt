@@ -10,9 +10,9 @@ use Rattle.std.specs.List.{All, list_any}
 use Rattle.std.specs.Str.{bytes_eq}
 use Rattle.std.proofs.lemmas.Slice.Eq.{bytes_eq-Decides}
 use Rattle.lb_static.specs.Signature.{Elements}
-use Rattle.lb_flat.specs.Traces.{IsRecording, IsRow, Recording, Row, Trace, Traces}
-use Rattle.lb_flat.specs.Traces.{cells_of_instant, instants_of, last_rows, trace_at, with_row}
-use Rattle.lb_flat.specs.Traces.{with_rows, with_trace}
+use Rattle.lb_traces.specs.Traces.{IsRecording, IsRow, Recording, Row, Trace, Traces}
+use Rattle.lb_traces.specs.Traces.{cells_of_instant, instants_of, last_rows, trace_at, with_row}
+use Rattle.lb_traces.specs.Traces.{with_rows, with_trace}
 use Rattle.lb_trace.specs.declared.recorder.Recorder.{Recorder}
 use Rattle.lb_trace.specs.Mirrors.{add_by, start_cells}
 use Rattle.lb_trace.specs.Refusals.{is_last, is_trace_name, with_instant}

@@ -14,10 +14,10 @@ use Rattle.std.proofs.Common.{Equal, Greater, Less, Ordering}
 use Rattle.std.specs.Ordering.{is_lt, nat_cmp, on, then_cmp}
 use Rattle.std.specs.Str.{bytes_eq}
 use Rattle.lb_static.specs.Signature.{Elements}
-use Rattle.lb_flat.specs.Traces.{Recording, Row, Trace, Traces, cells_of_instant, instants_of}
-use Rattle.lb_flat.specs.Traces.{last_rows, trace_at, trace_names, with_row, with_rows}
-use Rattle.lb_flat.specs.Traces.{with_trace}
-use Rattle.lb_flat.proofs.Recordings.{Front, front_of}
+use Rattle.lb_traces.specs.Traces.{Recording, Row, Trace, Traces, cells_of_instant, instants_of}
+use Rattle.lb_traces.specs.Traces.{last_rows, trace_at, trace_names, with_row, with_rows}
+use Rattle.lb_traces.specs.Traces.{with_trace}
+use Rattle.lb_traces.proofs.Recordings.{Front, front_of}
 use Rattle.lb_trace.specs.declared.known.Known.{Known}
 use Rattle.lb_trace.specs.declared.name_table.NameTable.{NameTable}
 use Rattle.lb_trace.specs.Mirrors.{go_on_by, is_below, knows, rises_to, start_cells, IsTableOf}

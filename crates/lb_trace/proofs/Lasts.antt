@@ -3,8 +3,8 @@ use Rattle.std.proofs.Common.{ℕ, ◌≡◌, ◌-◌, ◌<◌, List, [], ◌∷
 use Rattle.std.proofs.Common.{arith}
 use Rattle.std.proofs.lemmas.List.{get_or_push, length_push}
 use Rattle.std.specs.Str.{bytes_eq}
-use Rattle.lb_flat.specs.Traces.{Trace, Traces, last_rows, trace_at}
-use Rattle.lb_flat.proofs.Recordings.{Front, front_of, last_rows-push}
+use Rattle.lb_traces.specs.Traces.{Trace, Traces, last_rows, trace_at}
+use Rattle.lb_traces.proofs.Recordings.{Front, front_of, last_rows-push}
 use Rattle.lb_trace.specs.Refusals.{is_last}
 use Rattle.lb_trace.proofs.Names.{is_last-push}
 

@@ -12,8 +12,8 @@ use Rattle.rayon.specs.Lists.{chunks_of}
 use Rattle.csv.specs.Reading.{strip_bom}
 use Rattle.csv.specs.Records.{fields_of}
 use Rattle.lb_static.specs.Signature.{Elements}
-use Rattle.lb_flat.specs.Traces.{IsRecording, Recording}
-use Rattle.lb_flat.proofs.Recordings.{IsRecording-none}
+use Rattle.lb_traces.specs.Traces.{IsRecording, Recording}
+use Rattle.lb_traces.proofs.Recordings.{IsRecording-none}
 use Rattle.lb_trace.specs.declared.recorder.Recorder.{Recorder}
 use Rattle.lb_trace.specs.declared.table.ColumnTable.{ColumnTable}
 use Rattle.lb_trace.specs.Chunks.{is_ended, text_of}

@@ -10,7 +10,7 @@ use Rattle.std.specs.Bool.{Decides}
 use Rattle.std.specs.List.{All, list_all, list_any}
 use Rattle.std.specs.Str.{bytes_eq}
 use Rattle.lb_static.specs.Signature.{Elements}
-use Rattle.lb_flat.specs.Traces.{IsTrace, IsTraceName, Trace, Traces, is_name_byte, trace_names}
+use Rattle.lb_traces.specs.Traces.{IsTrace, IsTraceName, Trace, Traces, is_name_byte, trace_names}
 use Rattle.lb_trace.specs.Refusals.{comes_back, is_last, is_trace_name}
 
 pub bytes_eq-same : (name : List ℕ) → bytes_eq name name ≡ true

@@ -9,8 +9,8 @@ use Rattle.std.proofs.lemmas.List.Elements.{All-map}
 use Rattle.std.specs.List.{All}
 use Rattle.lb_static.specs.Signature.{Element, Elements, kinds_of}
 use Rattle.lb_syntax.specs.declared.tree.Kind.TheVariants as kind
-use Rattle.lb_flat.specs.BitRows.{AreTruths, row_of_bits}
-use Rattle.lb_flat.specs.Traces.{IsTrace, IsTraceName, Row, Traces, is_name_byte}
+use Rattle.lb_traces.specs.BitRows.{AreTruths, row_of_bits}
+use Rattle.lb_traces.specs.Traces.{IsTrace, IsTraceName, Row, Traces, is_name_byte}
 use Rattle.lb_trace.specs.declared.header.Column.{Column}
 use Rattle.lb_trace.specs.Lines.{after_line, record_of}
 use Rattle.lb_trace.specs.Mirrors.{column_of, go_on_by, record_by, row_by, start_by}

@@ -4,8 +4,8 @@ use Rattle.std.proofs.Common.{length, Ok, Err, refl, sym, ap, ◌∙◌, subst, 
 use Rattle.std.proofs.lemmas.Bool.{false_from_ne_true, le-leb, leb-true}
 use Rattle.std.specs.List.{AllZip}
 use Rattle.lb_static.specs.Signature.{Elements}
-use Rattle.lb_flat.specs.Traces.{IsRecording, Traces}
-use Rattle.lb_flat.proofs.Recordings.{IsRecording-none}
+use Rattle.lb_traces.specs.Traces.{IsRecording, Traces}
+use Rattle.lb_traces.proofs.Recordings.{IsRecording-none}
 use Rattle.lb_trace.specs.Refusals.{outcome, reading, with_records}
 use Rattle.lb_trace.specs.Spelling.{Record, SpelledBy, Spells, SpellsInstant, after_first}
 use Rattle.lb_trace.specs.Spelling.{is_header, records_of}

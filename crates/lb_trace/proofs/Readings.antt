@@ -11,9 +11,9 @@ use Rattle.csv.specs.declared.reader.Trim.TheVariants as trim
 use Rattle.csv.specs.Reading.{ReadRecord, Reached, Ready, default_config, source_of, strip_bom}
 use Rattle.csv.proofs.ReadFacts.{rows-end, rows-more}
 use Rattle.lb_static.specs.Signature.{Elements}
-use Rattle.lb_flat.specs.Traces.{IsRecording, Recording, Row, Trace, Traces, instants_of, with_row}
-use Rattle.lb_flat.specs.Traces.{with_trace}
-use Rattle.lb_flat.proofs.Recordings.{IsRecording-none, Front, front_of, with_row-push}
+use Rattle.lb_traces.specs.Traces.{IsRecording, Recording, Row, Trace, Traces, instants_of, with_row}
+use Rattle.lb_traces.specs.Traces.{with_trace}
+use Rattle.lb_traces.proofs.Recordings.{IsRecording-none, Front, front_of, with_row-push}
 use Rattle.lb_trace.specs.declared.error.TraceError.{TraceError}
 use Rattle.lb_trace.specs.declared.header.Column.{Column}
 use Rattle.lb_trace.specs.Cells.{cell_value}

@@ -16,10 +16,10 @@ use Rattle.std.specs.Option.{option_and_then, option_map}
 use Rattle.lb_syntax.specs.declared.tree.Kind.{Kind}
 use Rattle.lb_syntax.specs.declared.tree.Kind.TheVariants as kind
 use Rattle.lb_static.specs.Signature.{Elements}
-use Rattle.lb_flat.specs.Traces.{HasRoom, IsCell, IsInt, IsRecording, IsRow, IsTraceName, Row}
-use Rattle.lb_flat.specs.Traces.{Trace, Traces, cells_of_instant, instants_of, last_rows}
-use Rattle.lb_flat.specs.Traces.{trace_names, with_row, with_trace}
-use Rattle.lb_flat.proofs.Recordings.{IsRecording-row, IsRecording-trace}
+use Rattle.lb_traces.specs.Traces.{HasRoom, IsCell, IsInt, IsRecording, IsRow, IsTraceName, Row}
+use Rattle.lb_traces.specs.Traces.{Trace, Traces, cells_of_instant, instants_of, last_rows}
+use Rattle.lb_traces.specs.Traces.{trace_names, with_row, with_trace}
+use Rattle.lb_traces.proofs.Recordings.{IsRecording-row, IsRecording-trace}
 use Rattle.lb_trace.specs.Cells.{cell_value, int_of, natural_of, signed}
 use Rattle.lb_trace.specs.Refusals.{comes_back, has_room, is_last, is_trace_name, then_read}
 use Rattle.lb_trace.specs.Refusals.{with_cells, with_instant, with_record, with_records}

@@ -9,8 +9,8 @@ use Rattle.std.proofs.lemmas.List.Elements.{All-cons, All-nil}
 use Rattle.lb_static.specs.Signature.{Elements}
 use Rattle.csv.specs.Reading.{default_config, records as records_by, strip_bom}
 use Rattle.csv.specs.Records.{fields_of}
-use Rattle.lb_flat.specs.Traces.{IsRecording, Recording}
-use Rattle.lb_flat.proofs.Recordings.{IsRecording-none}
+use Rattle.lb_traces.specs.Traces.{IsRecording, Recording}
+use Rattle.lb_traces.proofs.Recordings.{IsRecording-none}
 use Rattle.lb_trace.specs.declared.recorder.Recorder.{Recorder}
 use Rattle.lb_trace.specs.declared.table.ColumnTable.{ColumnTable}
 use Rattle.lb_trace.specs.Mirrors.{knows}

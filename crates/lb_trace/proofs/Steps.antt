@@ -2,7 +2,7 @@
 use Rattle.std.proofs.Common.{◌≡◌, true, false, ◌==◌, List, [], ◌∷◌, length, Some, Ok, refl, ap}
 use Rattle.std.proofs.Common.{◌∙◌, eq-eqb}
 use Rattle.lb_static.specs.Signature.{Elements}
-use Rattle.lb_flat.specs.Traces.{Traces}
+use Rattle.lb_traces.specs.Traces.{Traces}
 use Rattle.lb_trace.specs.Refusals.{comes_back, has_room, is_trace_name, with_instant, with_record}
 use Rattle.lb_trace.specs.Refusals.{with_records}
 use Rattle.lb_trace.specs.Spelling.{Instant, Record, SpellsInstant, row_of}

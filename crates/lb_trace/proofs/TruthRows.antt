@@ -14,8 +14,8 @@ use Rattle.std.proofs.lemmas.Nat.Bits.{bit_at_cat_high, bit_at_cat_low}
 use Rattle.std.specs.Int.{bit_at}
 use Rattle.std.specs.List.{All, range_with_len}
 use Rattle.lb_syntax.specs.declared.tree.Kind.TheVariants as kind
-use Rattle.lb_flat.specs.BitRows.{row_of_bits}
-use Rattle.lb_flat.specs.Packed.{truth_cell}
+use Rattle.lb_traces.specs.BitRows.{row_of_bits}
+use Rattle.lb_traces.specs.Packed.{truth_cell}
 use Rattle.lb_trace.specs.declared.header.Column.{Column}
 use Rattle.lb_trace.specs.Lines.{after_line, record_of}
 use Rattle.lb_trace.specs.Plain.{ends_line}

@@ -2,7 +2,7 @@
 -- Source: this project's rule.
 use Rattle.std.specs.Prelude.{◌≡◌, ℕ, List, Result, IfOk, IfErr}
 use Rattle.lb_static.specs.Signature.{Elements}
-use Rattle.lb_flat.specs.Traces.{Recording, Traces}
+use Rattle.lb_traces.specs.Traces.{Recording, Traces}
 use Rattle.lb_trace.specs.Errors.{Refuses}
 use Rattle.lb_trace.specs.Spelling.{Spells}
 use Rattle.lb_trace.specs.declared.error.TraceError.{TraceError}

@@ -10,8 +10,8 @@ use Rattle.std.specs.List.{list_any, position_or_len}
 use Rattle.std.specs.Option.{option_and_then, option_map}
 use Rattle.std.specs.Str.{bytes_eq}
 use Rattle.lb_static.specs.Signature.{Element, Elements}
-use Rattle.lb_flat.specs.Traces.{IsRow, Row, Traces, cells_of_instant, instants_of, last_rows}
-use Rattle.lb_flat.specs.Traces.{trace_names, with_row, with_trace}
+use Rattle.lb_traces.specs.Traces.{IsRow, Row, Traces, cells_of_instant, instants_of, last_rows}
+use Rattle.lb_traces.specs.Traces.{trace_names, with_row, with_trace}
 use Rattle.lb_trace.specs.declared.header.Column.{Column}
 use Rattle.lb_trace.specs.declared.known.Known.{Known}
 use Rattle.lb_trace.specs.declared.name_table.NameTable.{NameTable}

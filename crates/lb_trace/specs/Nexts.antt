@@ -1,7 +1,7 @@
 -- The name of a record, and a record of the last trace.
 -- This file says what the code finds in a text; no definition of the language stands on it.
 use Rattle.std.specs.Prelude.{ℕ, Bool, true, ◌≡◌, List, ◌∷◌}
-use Rattle.lb_flat.specs.Traces.{Traces}
+use Rattle.lb_traces.specs.Traces.{Traces}
 use Rattle.lb_trace.specs.Lines.{after_line, record_of}
 use Rattle.lb_trace.specs.Refusals.{is_last}
 use Rattle.lb_trace.specs.Scan.{after_cell, cell_of, is_last_cell}

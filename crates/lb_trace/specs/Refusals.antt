@@ -6,8 +6,8 @@ use Rattle.std.specs.Prelude.{Result, Ok, Err}
 use Rattle.std.specs.List.{list_all, list_any}
 use Rattle.std.specs.Str.{bytes_eq}
 use Rattle.lb_static.specs.Signature.{Elements}
-use Rattle.lb_flat.specs.Traces.{Row, Traces, cells_of_instant, instants_of, is_name_byte}
-use Rattle.lb_flat.specs.Traces.{last_rows, with_row, with_trace}
+use Rattle.lb_traces.specs.Traces.{Row, Traces, cells_of_instant, instants_of, is_name_byte}
+use Rattle.lb_traces.specs.Traces.{last_rows, with_row, with_trace}
 use Rattle.lb_trace.specs.Spelling.{Record, after_first, is_header, records_of, row_of}
 
 -- whether a name is lawful

@@ -7,7 +7,7 @@ use Rattle.std.specs.Option.{option_and_then, option_map}
 use Rattle.std.specs.Str.{bytes_eq}
 use Rattle.csv.specs.Reading.{default_config, records, strip_bom}
 use Rattle.lb_static.specs.Signature.{Elements, names_of}
-use Rattle.lb_flat.specs.Traces.{IsRecording, IsTraceName, Row, Traces}
+use Rattle.lb_traces.specs.Traces.{IsRecording, IsTraceName, Row, Traces}
 use Rattle.lb_trace.specs.Cells.{cell_value}
 
 -- a record of a text: its cells, in order

@@ -7,7 +7,7 @@ use Rattle.std.specs.List.{All, range_with_len}
 use lib.Lanes.{mask_l}
 use Rattle.lb_syntax.specs.declared.tree.Kind.TheVariants.{Bool as Bool_kind}
 use Rattle.lb_static.specs.Signature.{Elements}
-use Rattle.lb_flat.specs.BitRows.{AreTruths, row_of_bits}
+use Rattle.lb_traces.specs.BitRows.{AreTruths, row_of_bits}
 use Rattle.lb_trace.specs.declared.header.Column.{Column}
 use Rattle.lb_trace.specs.Lines.{record_of}
 use Rattle.lb_trace.specs.PlainRows.{AreInOrder, plain_row}

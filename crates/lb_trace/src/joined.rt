@@ -2,14 +2,14 @@
 
 ghost use Rattle.std.specs.Prelude.{◌≡◌, ◌<◌, ◌≤◌, ◌+◌, ◌++◌, ◌∷◌, [], true, All, OnOk, IsTrue};
 ghost use Rattle.std.specs.Prelude.{flat_map, get_or, length, map};
-ghost use Rattle.lb_flat.specs.Traces.{HasRoomFor, IsRecording, last_rows, rows_from, trace_at};
+ghost use Rattle.lb_traces.specs.Traces.{HasRoomFor, IsRecording, last_rows, rows_from, trace_at};
 ghost use Rattle.lb_trace.specs.Mirrors.{knows};
 ghost use Rattle.lb_trace.specs.Refusals.{is_last};
 ghost use Rattle.lb_trace.specs.Spelling.{instants};
 
 use crate::error::TraceError;
 use crate::recorder::Recorder;
-use lb_flat::TraceSet;
+use lb_traces::TraceSet;
 use std::alloc::{AllocError, Global};
 
 // Whether the limits have room for so many more instants of the last trace.

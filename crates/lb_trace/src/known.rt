@@ -14,14 +14,14 @@ ghost use Rattle.std.specs.Prelude.{◌≡◌, ◌&&◌, not, ℕ, List, [], IfO
 ghost use Rattle.std.specs.Prelude.{false, true};
 ghost use Rattle.std.specs.List.{list_any};
 ghost use Rattle.std.specs.Str.{bytes_eq};
-ghost use Rattle.lb_flat.specs.Traces.{IsTraceName, Row, trace_names, with_trace};
+ghost use Rattle.lb_traces.specs.Traces.{IsTraceName, Row, trace_names, with_trace};
 ghost use Rattle.lb_trace.specs.Errors.{error_number};
 ghost use Rattle.lb_trace.specs.Mirrors.{is_below, knows, rises_to, IsTableOf};
 ghost use Rattle.lb_trace.specs.Refusals.{is_trace_name as lawful_name};
 
 use crate::error::TraceError;
 use crate::name_table::NameTable;
-use lb_flat::{TraceSet, is_trace_name};
+use lb_traces::{TraceSet, is_trace_name};
 use std::alloc::{AllocError, Global};
 
 /// What tells whether a name is new.

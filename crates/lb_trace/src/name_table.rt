@@ -9,12 +9,12 @@ ghost use Rattle.std.specs.Prelude.{true, false, get_or, OnOk};
 ghost use Rattle.std.specs.BTreeSet.{contains_text};
 ghost use Rattle.std.specs.List.{list_any};
 ghost use Rattle.std.specs.Str.{bytes_eq};
-ghost use Rattle.lb_flat.specs.Traces.{trace_names};
+ghost use Rattle.lb_traces.specs.Traces.{trace_names};
 ghost use Rattle.lb_trace.specs.NamePlaces.{at_first, at_second, first_hash, second_hash};
 ghost use Rattle.lb_trace.specs.NamePlaces.{place_among, HavePlaces};
 ghost use Rattle.lb_trace.specs.Mirrors.{IsTableOf};
 
-use lb_flat::TraceSet;
+use lb_traces::TraceSet;
 use std::alloc::{AllocError, Global};
 use std::collections::BTreeSet;
 use std::hash::{FoldHasher, Hasher};

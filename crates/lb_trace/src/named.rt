@@ -1,14 +1,14 @@
 //! The name of a record, which mostly is that of the record before it.
 
 ghost use Rattle.std.specs.Prelude.{◌≡◌, ◌∷◌, [], if◌then◌else◌, IfSome};
-ghost use Rattle.lb_flat.specs.Traces.{IsTraceName};
+ghost use Rattle.lb_traces.specs.Traces.{IsTraceName};
 ghost use Rattle.lb_trace.specs.Lines.{after_line, record_of};
 ghost use Rattle.lb_trace.specs.Nexts.{IsNamed};
 ghost use Rattle.lb_trace.specs.Refusals.{is_last};
 
 use crate::recorder::is_last;
 use crate::scan::{Cell, next_cell};
-use lb_flat::TraceSet;
+use lb_traces::TraceSet;
 
 /// The name of a record, which is its first cell, and whether the last trace has it.
 #[derive(Clone, Copy)]

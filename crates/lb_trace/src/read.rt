@@ -14,8 +14,8 @@ use crate::record::width;
 use crate::recorder::Recorder;
 use crate::spread::read_spread;
 use csv::{ByteRecord, Reader};
-use lb_flat::TraceSet;
 use lb_static::Signature;
+use lb_traces::TraceSet;
 use std::alloc::{AllocError, Global};
 use std::thread::Threads;
 

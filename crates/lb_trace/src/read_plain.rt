@@ -9,8 +9,8 @@ use crate::begun::begin;
 use crate::error::TraceError;
 use crate::recorder::Recorder;
 use csv::ByteRecord;
-use lb_flat::TraceSet;
 use lb_static::Signature;
+use lb_traces::TraceSet;
 use std::alloc::{AllocError, Global};
 
 /// The traces that a text without quotes spells under a signature; `body` is the text after its

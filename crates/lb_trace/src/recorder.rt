@@ -4,9 +4,9 @@ ghost use Rattle.std.specs.Prelude.{◌≡◌, ◌<◌, ◌≤◌, ◌+◌, ◌*
 ghost use Rattle.std.specs.Prelude.{Ok, IfOk, IfErr, OnOk, IsTrue, IfSome, None, Some};
 ghost use Rattle.std.specs.List.{Contains};
 ghost use Rattle.csv.specs.Records.{fields_of};
-ghost use Rattle.lb_flat.specs.BitRows.{AreTruths, row_of_bits};
-ghost use Rattle.lb_flat.specs.Traces.{IsRecording, IsTraceName, cells_of_instant, instants_of};
-ghost use Rattle.lb_flat.specs.Traces.{IsRow, last_rows, trace_names};
+ghost use Rattle.lb_traces.specs.BitRows.{AreTruths, row_of_bits};
+ghost use Rattle.lb_traces.specs.Traces.{IsRecording, IsTraceName, cells_of_instant, instants_of};
+ghost use Rattle.lb_traces.specs.Traces.{IsRow, last_rows, trace_names};
 ghost use Rattle.lb_trace.specs.Errors.{IsRefusal};
 ghost use Rattle.lb_trace.specs.Mirrors.{RowsFollow, add_by, go_on_by, knows, record_by, row_by};
 ghost use Rattle.lb_trace.specs.Lines.{after_line, record_of};
@@ -30,8 +30,8 @@ use crate::scan::Cell;
 use crate::table::ColumnTable;
 use crate::truth_bits::read_truths;
 use csv::ByteRecord;
-use lb_flat::{TraceRows, TraceSet};
 use lb_static::Signature;
+use lb_traces::{TraceRows, TraceSet};
 use std::alloc::{AllocError, Global};
 
 /// The most cells of all traces together.

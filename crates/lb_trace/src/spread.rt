@@ -2,7 +2,7 @@
 
 ghost use Rattle.std.specs.Prelude.{◌≡◌, ◌∷◌, ℕ, List, All, IfOk, IfSome, OnOk, flat_map};
 ghost use Rattle.std.specs.List.{AllZip};
-ghost use Rattle.lb_flat.specs.Traces.{IsRecording};
+ghost use Rattle.lb_traces.specs.Traces.{IsRecording};
 ghost use Rattle.lb_trace.specs.Plain.{plain_records};
 ghost use Rattle.lb_trace.specs.Parts.{HaveRecordsOf};
 ghost use Rattle.lb_trace.specs.Spelling.{Spells, instants};
@@ -16,8 +16,8 @@ use crate::plain::are_plain;
 use crate::recorder::Recorder;
 use crate::table::ColumnTable;
 use csv::ByteRecord;
-use lb_flat::TraceSet;
 use lb_static::Signature;
+use lb_traces::TraceSet;
 use rayon::prelude::*;
 use std::alloc::{AllocError, Global};
 use std::thread::Threads;

@@ -3,7 +3,7 @@
 ghost use Rattle.std.specs.Prelude.{◌≡◌, ◌<◌, ◌≤◌, IsTrue, IfOk, IfSome, MatchOption, false};
 ghost use Rattle.std.specs.Prelude.{length, true};
 ghost use Rattle.csv.specs.Records.{fields_of};
-ghost use Rattle.lb_flat.specs.BitRows.{AreTruths};
+ghost use Rattle.lb_traces.specs.BitRows.{AreTruths};
 ghost use Rattle.lb_trace.specs.PlainRows.{AreInOrder, ArePlaced, IsPlaced};
 ghost use Rattle.lb_trace.specs.Spelling.{is_header};
 ghost use Rattle.lb_trace.specs.Tables.{IsColumnTable};

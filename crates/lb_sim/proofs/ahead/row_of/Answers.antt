@@ -1,7 +1,7 @@
 -- A lane that is live has each of the instants.
 use Rattle.std.proofs.Common.{◌<◌, ◌≡◌, ◌+◌, ◌-◌, ◌∙◌, ap, get_or, arith}
 use Rattle.lb_static.specs.Signature.{kinds_of}
-use Rattle.lb_flat.specs.Traces.{cell_at}
+use Rattle.lb_traces.specs.Traces.{cell_at}
 use Rattle.lb_sim.specs.InputRows.{begin_of, number_columns}
 use Rattle.lb_sim.proofs.ahead.row_of.Goals as goal
 

@@ -1,6 +1,6 @@
 use Rattle.std.proofs.Common.{◌*◌}
 use Rattle.lb_static.specs.Signature.{kinds_of}
-use Rattle.lb_flat.specs.Packed.{number_columns}
+use Rattle.lb_traces.specs.Packed.{number_columns}
 use Rattle.lb_sim.specs.Loads.{AreLoaded}
 use Rattle.lb_sim.proofs.integer_loads.load_numbers.Given as goal
 

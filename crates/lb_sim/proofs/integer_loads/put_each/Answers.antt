@@ -1,6 +1,6 @@
 use Rattle.std.proofs.Common.{◌+◌, arith}
 use Rattle.lb_static.specs.Signature.{kinds_of}
-use Rattle.lb_flat.specs.Packed.{number_columns}
+use Rattle.lb_traces.specs.Packed.{number_columns}
 use Rattle.lb_sim.proofs.IntegerLoads.{loaded_none, loaded_then}
 use Rattle.lb_sim.proofs.integer_loads.put_each.Goals as goal
 

@@ -1,6 +1,6 @@
 use Rattle.std.proofs.Common.{◌<◌, ◌∙◌, get_or, length, subst}
 use Rattle.lb_static.specs.Signature.{kinds_of}
-use Rattle.lb_flat.specs.Packed.{number_columns}
+use Rattle.lb_traces.specs.Packed.{number_columns}
 use Rattle.lb_sim.specs.InputRows.{member_cell}
 use Rattle.lb_sim.proofs.IntegerLoads.{four_are}
 use Rattle.lb_sim.proofs.integer_loads.put_four_members.Goals as goal

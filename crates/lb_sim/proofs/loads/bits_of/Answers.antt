@@ -3,8 +3,8 @@ use Rattle.std.proofs.Common.{ap, arith}
 use Rattle.std.proofs.lemmas.Bool.{cases_lt}
 use Rattle.std.specs.Prelude.{int_le}
 use Rattle.lb_static.specs.Signature.{kinds_of}
-use Rattle.lb_flat.specs.Packed.{bit_in, words_of_row}
-use Rattle.lb_flat.specs.Traces.{cell_at}
+use Rattle.lb_traces.specs.Packed.{bit_in, words_of_row}
+use Rattle.lb_traces.specs.Traces.{cell_at}
 use Rattle.lb_sim.specs.InputRows.{begin_of, truth_columns}
 use Rattle.lb_sim.proofs.LaneBits.{bit_there}
 use Rattle.lb_sim.proofs.loads.bits_of.Goals as goal

@@ -2,7 +2,7 @@ use Rattle.std.proofs.Common.{◌<◌, ◌≤◌, ◌+◌, ◌*◌, ◌∙◌, �
 use Rattle.std.proofs.Math.Nat.{mul-le-mul_left}
 use Rattle.std.specs.Prelude.{int_le}
 use Rattle.lb_static.specs.Signature.{kinds_of}
-use Rattle.lb_flat.specs.Packed.{words_of_row}
+use Rattle.lb_traces.specs.Packed.{words_of_row}
 use Rattle.lb_lanes.specs.Planes.{on}
 use Rattle.lb_sim.specs.InputRows.{truth_columns, member_cell}
 use Rattle.lb_sim.proofs.Loading.{each_of_four}

@@ -1,7 +1,7 @@
 -- What was read of the first chunk and of the others is what their text spells.
 use Rattle.std.proofs.Common.{sym, ap, ◌∙◌, arith}
 use Rattle.std.proofs.lemmas.Bool.{not-true}
-use Rattle.lb_flat.specs.Traces.{Recording}
+use Rattle.lb_traces.specs.Traces.{Recording}
 use Rattle.lb_trace.specs.Spelling.{instants}
 use Rattle.lb_trace.proofs.LoadedChunks.{given-chunks, loaded_spells}
 use Rattle.lb_trace.proofs.loaded.read_loaded.Goals as goal

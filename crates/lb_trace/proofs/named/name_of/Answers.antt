@@ -1,7 +1,7 @@
 -- A name that is tried first is that of the last trace.
 use Rattle.std.proofs.Common.{arith, length, sym, ap, ◌∙◌, ◌≡◌, ◌<◌, ◌-◌}
 use Rattle.std.specs.Str.{bytes_eq}
-use Rattle.lb_flat.specs.Traces.{trace_at}
+use Rattle.lb_traces.specs.Traces.{trace_at}
 use Rattle.lb_trace.proofs.FirstCells.{first-after, first-record}
 use Rattle.lb_trace.proofs.Lasts.{is_last_at}
 use Rattle.lb_trace.proofs.Names.{bytes_eq-same}

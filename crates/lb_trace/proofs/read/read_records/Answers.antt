@@ -2,7 +2,7 @@
 use Rattle.std.proofs.Common.{◌≡◌, sym, ap, ◌∙◌, Ok, [], ◌∷◌, subst}
 use Rattle.std.proofs.lemmas.Result.{err_from_is_err_and}
 use Rattle.csv.specs.Records.{fields_of}
-use Rattle.lb_flat.specs.Traces.{Recording}
+use Rattle.lb_traces.specs.Traces.{Recording}
 use Rattle.lb_trace.specs.declared.error.TraceError.TheVariants as fault
 use Rattle.lb_trace.specs.Mirrors.{RowsFollow}
 use Rattle.lb_trace.specs.Refusals.{outcome}

@@ -5,7 +5,7 @@ use Rattle.std.proofs.Math.Seq.{drop-cons}
 use Rattle.std.specs.Option.{option_and_then, option_map}
 use Rattle.csv.specs.Records.{fields_of}
 use Rattle.lb_syntax.specs.declared.tree.Kind.TheVariants.{Int}
-use Rattle.lb_flat.specs.Traces.{Row}
+use Rattle.lb_traces.specs.Traces.{Row}
 use Rattle.lb_trace.specs.Cells.{cell_value}
 use Rattle.lb_trace.specs.Mirrors.{row_by}
 use Rattle.lb_trace.specs.Spelling.{Record, after_first}

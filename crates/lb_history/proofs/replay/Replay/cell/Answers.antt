@@ -3,7 +3,7 @@ use Rattle.std.proofs.Common.{◌<◌, ◌≤◌, length, ap, ◌∙◌, arith}
 use Rattle.std.proofs.lemmas.List.{length-map}
 use Rattle.lb_flat.specs.Inputs.{inputs_of, scalars_in}
 use Rattle.lb_flat.specs.Programs.{program_of}
-use Rattle.lb_flat.specs.Traces.{trace_at}
+use Rattle.lb_traces.specs.Traces.{trace_at}
 use Rattle.lb_history.specs.Cells.{cell_of}
 use Rattle.lb_history.proofs.Replays.{program_ready, cell_there, cell_absent}
 use Rattle.lb_history.proofs.Runs.{row_shows}

@@ -5,7 +5,7 @@ use Rattle.std.proofs.lemmas.List.FromFn.{get_or-range_with_len, length-range_wi
 use Rattle.std.specs.List.{range_with_len}
 use Rattle.lb_static.specs.Signature.{kinds_of}
 use Rattle.lb_flat.specs.Inputs.{inputs_of}
-use Rattle.lb_flat.specs.Traces.{cell_at}
+use Rattle.lb_traces.specs.Traces.{cell_at}
 use Rattle.lb_lanes.specs.Kernels.{lane_of}
 use Rattle.lb_sim.specs.InputRows.{truth_columns, number_columns, lane_row, instant_in}
 use Rattle.lb_sim.proofs.RowsLoaded.{amid_from_start, instant_from_start, row_loaded}

@@ -2,7 +2,7 @@ use Rattle.std.proofs.Common.{◌≡◌, ◌<◌, ℕ, List, [], ℤ, pos, get_o
 use Rattle.std.proofs.lemmas.List.{with_items_is, places}
 use Rattle.std.specs.Prelude.{int_le}
 use Rattle.lb_flat.specs.Inputs.{inputs_of}
-use Rattle.lb_flat.specs.Traces.{cell_at}
+use Rattle.lb_traces.specs.Traces.{cell_at}
 use Rattle.lb_lanes.specs.Kernels.{lane_of}
 use Rattle.lb_lanes.specs.Planes.{on}
 use Rattle.lb_sim.specs.InputRows.{truth_columns, number_columns, places_of, lane_row, instant_in}

@@ -4,8 +4,8 @@ use Rattle.std.specs.List.{list_any}
 use Rattle.std.specs.Str.{bytes_eq}
 use Rattle.std.proofs.lemmas.Bool.{false_from_ne_true}
 use Rattle.std.proofs.lemmas.Str.{IsUtf8-from_ascii}
-use Rattle.lb_flat.specs.Traces.{Trace, with_trace}
-use Rattle.lb_flat.proofs.NameTexts.{IsAscii-name}
+use Rattle.lb_traces.specs.Traces.{Trace, with_trace}
+use Rattle.lb_traces.proofs.NameTexts.{IsAscii-name}
 use Rattle.lb_trace.specs.Mirrors.{rises_to}
 use Rattle.lb_trace.specs.Refusals.{is_trace_name}
 use Rattle.lb_trace.proofs.KnownNames.{gathered-knows, risen-knows, risen-new, table-more}

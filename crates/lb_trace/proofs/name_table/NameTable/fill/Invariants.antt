@@ -1,6 +1,6 @@
 use Rattle.std.proofs.Common.{◌<◌, length}
 use Rattle.std.specs.BTreeSet.{contains_text}
-use Rattle.lb_flat.specs.Traces.{trace_names}
+use Rattle.lb_traces.specs.Traces.{trace_names}
 use Rattle.lb_trace.specs.NamePlaces.{HavePlaces}
 use Rattle.lb_trace.proofs.name_table.NameTable.fill.Given as goal
 

@@ -3,7 +3,7 @@ use Rattle.std.proofs.Common.{◌≡◌, ◌≢◌, ◌-◌, ◌≤◌, List, �
 use Rattle.std.proofs.Common.{sym, ap, ◌∙◌, arith, refl}
 use Rattle.std.specs.BTreeSet.{contains_text}
 use Rattle.std.specs.Str.{bytes_eq}
-use Rattle.lb_flat.specs.Traces.{Traces, trace_at, trace_names}
+use Rattle.lb_traces.specs.Traces.{Traces, trace_at, trace_names}
 use Rattle.lb_trace.specs.NamePlaces.{at_first, at_second, first_among, second_among, HavePlaces}
 use Rattle.lb_trace.proofs.KnownNames.{name_at, names-any, names_long}
 use Rattle.lb_trace.proofs.NamePlacing.{look_none, look_other, look_same, look_second}

@@ -2,7 +2,7 @@
 use Rattle.std.proofs.Common.{◌≡◌, Ok, sym, ap, ◌∙◌, inr, subst}
 use Rattle.std.proofs.lemmas.Result.{on_ok_weaker}
 use Rattle.csv.specs.Records.{fields_of}
-use Rattle.lb_flat.specs.Traces.{Recording}
+use Rattle.lb_traces.specs.Traces.{Recording}
 use Rattle.lb_trace.specs.declared.known.Known.{Known}
 use Rattle.lb_trace.specs.Mirrors.{go_on_by, knows, record_by, row_by, start_by}
 use Rattle.lb_trace.specs.Refusals.{is_last}

@@ -2,7 +2,7 @@
 use Rattle.std.proofs.Common.{◌+◌, refl, sym, ap, ◌∙◌, subst}
 use Rattle.std.proofs.lemmas.Result.{err_from_is_err_and}
 use Rattle.lb_static.specs.Signature.{Elements}
-use Rattle.lb_flat.specs.Traces.{Recording, instants_of}
+use Rattle.lb_traces.specs.Traces.{Recording, instants_of}
 use Rattle.lb_trace.specs.Lines.{record_of}
 use Rattle.lb_trace.specs.Mirrors.{RowsFollow}
 use Rattle.lb_trace.specs.Tables.{columns_in}

@@ -1,5 +1,5 @@
 use Rattle.std.proofs.Common.{◌≡◌, ◌+◌}
-use Rattle.lb_flat.specs.Traces.{instants_of}
+use Rattle.lb_traces.specs.Traces.{instants_of}
 use Rattle.lb_trace.specs.Mirrors.{knows}
 use Rattle.lb_trace.specs.Plain.{plain_records}
 use Rattle.lb_trace.specs.Refusals.{with_records}

@@ -1,6 +1,6 @@
 -- The name of a record is its first cell, and may be that of the last trace.
 use Rattle.std.proofs.Common.{◌≡◌, sym, subst, true, ◌∙◌}
-use Rattle.lb_flat.specs.Traces.{Recording}
+use Rattle.lb_traces.specs.Traces.{Recording}
 use Rattle.lb_trace.specs.Refusals.{is_last}
 use Rattle.lb_trace.proofs.Nexts.{has-name}
 use Rattle.lb_trace.proofs.recorder.Recorder.add_row.Goals as goal

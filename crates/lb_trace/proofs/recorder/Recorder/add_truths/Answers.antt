@@ -1,7 +1,7 @@
 -- A record of Booleans is one more instant of the last trace.
 use Rattle.std.proofs.Common.{◌∙◌, length, Some, sym, subst}
 use Rattle.std.proofs.lemmas.Result.{err_from_is_err_and}
-use Rattle.lb_flat.specs.BitRows.{row_of_bits}
+use Rattle.lb_traces.specs.BitRows.{row_of_bits}
 use Rattle.lb_trace.specs.Errors.{IsRefusal}
 use Rattle.lb_trace.proofs.KnownNames.{go_on_by-knows}
 use Rattle.lb_trace.proofs.Nexts.{next-added, truths-read}

@@ -2,7 +2,7 @@
 use Rattle.std.proofs.Common.{◌≡◌, ◌++◌, Ok, Some, sym, ap, ◌∙◌, arith}
 use Rattle.std.proofs.lemmas.Result.{on_ok_weaker}
 use Rattle.std.specs.Prelude.{[], get_or}
-use Rattle.lb_flat.specs.Traces.{Row, trace_at}
+use Rattle.lb_traces.specs.Traces.{Row, trace_at}
 use Rattle.lb_trace.specs.Mirrors.{add_by}
 use Rattle.lb_trace.specs.Refusals.{is_last}
 use Rattle.lb_trace.proofs.JoinedTraces.{instants-copied, last-added, row-lawful}

@@ -1,6 +1,6 @@
 -- The other rows of a trace are added at once.
 use Rattle.std.proofs.Common.{◌+◌, ◌-◌, ◌<◌, ◌≤◌, ap, ◌∙◌, arith, subst, sym, length}
-use Rattle.lb_flat.specs.Traces.{HasRoomFor, Recording, last_rows, rows_from, trace_at}
+use Rattle.lb_traces.specs.Traces.{HasRoomFor, Recording, last_rows, rows_from, trace_at}
 use Rattle.lb_trace.proofs.JoinedTraces.{instants-extended, others-counted}
 use Rattle.lb_trace.proofs.KnownNames.{knows-rows}
 use Rattle.lb_trace.proofs.Soundness.{some_last}

@@ -2,7 +2,7 @@
 use Rattle.std.proofs.Common.{◌≡◌}
 use Rattle.std.proofs.lemmas.Result.{on_ok_weaker}
 use Rattle.std.specs.Prelude.{◌++◌, drop, map}
-use Rattle.lb_flat.specs.Traces.{Row, trace_at}
+use Rattle.lb_traces.specs.Traces.{Row, trace_at}
 use Rattle.lb_trace.specs.Spelling.{instants}
 use Rattle.lb_trace.proofs.JoinedTraces.{trace-started, trace-whole}
 use Rattle.lb_trace.proofs.recorder.Recorder.join_trace.Goals as goal

@@ -4,7 +4,7 @@ use Rattle.std.proofs.lemmas.Result.{on_ok_weaker}
 use Rattle.std.specs.List.{list_any}
 use Rattle.std.specs.Str.{bytes_eq}
 use Rattle.csv.specs.Records.{fields_of}
-use Rattle.lb_flat.specs.Traces.{Recording, Row, Trace, with_trace}
+use Rattle.lb_traces.specs.Traces.{Recording, Row, Trace, with_trace}
 use Rattle.lb_trace.specs.declared.known.Known.{Known}
 use Rattle.lb_trace.specs.Mirrors.{knows, row_by, start_by, start_cells}
 use Rattle.lb_trace.specs.Spelling.{after_first}

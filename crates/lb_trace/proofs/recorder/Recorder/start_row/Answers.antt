@@ -3,7 +3,7 @@ use Rattle.std.proofs.Common.{◌≡◌, false, Ok, Some, sym, ap, ◌∙◌, su
 use Rattle.std.proofs.lemmas.Result.{on_ok_weaker}
 use Rattle.std.specs.List.{list_any}
 use Rattle.std.specs.Str.{bytes_eq}
-use Rattle.lb_flat.specs.Traces.{Recording, Row, Trace, with_trace}
+use Rattle.lb_traces.specs.Traces.{Recording, Row, Trace, with_trace}
 use Rattle.lb_trace.specs.declared.known.Known.{Known}
 use Rattle.lb_trace.specs.Mirrors.{knows, start_by, start_cells}
 use Rattle.lb_trace.proofs.Additions.{start_by-new, start_by-refused}

@@ -1,5 +1,0 @@
-use Rattle.std.proofs.Common.{rules}
-use Rattle.lb_flat.proofs.names.is_name_byte.Goals as goal
-
-pub returns-else-b-eq46 : goal.returns-else-b-eq46
-returns-else-b-eq46 c = search rules

@@ -1,5 +1,0 @@
-use Rattle.std.proofs.Common.{rules}
-use Rattle.lb_flat.proofs.traces.TraceRows.new.Goals as goal
-
-pub returns : goal.returns
-returns c = search rules

@@ -1,0 +1,13 @@
+pub mod Ledgers
+pub mod NameTexts
+pub mod Recordings
+pub mod StoredRows
+pub mod Storing
+pub mod PackedRows
+pub mod KindColumns
+pub mod HeldRows
+pub mod AddedRows
+pub mod FoundCells
+pub mod Extending
+pub mod RowsFound
+pub mod BitRows

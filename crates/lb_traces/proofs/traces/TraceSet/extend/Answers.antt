@@ -1,0 +1,226 @@
+-- The integers and the words have grown by those of the rows, and the last place by their number.
+use Rattle.std.proofs.Common.{arith, rules, ◌≡◌, ◌++◌, length, ◌+◌, ◌-◌, ◌*◌, ap, ◌∙◌, set, take}
+use Rattle.std.proofs.Common.{drop, is_ok, true, length-drop}
+use Rattle.lb_traces.specs.Traces.{with_rows, rows_from, trace_at}
+use Rattle.lb_traces.specs.Ledger.{last_place}
+use Rattle.lb_traces.specs.Packed.{cells_of, words_of_row}
+use Rattle.lb_traces.proofs.Ledgers.{read_last}
+use Rattle.lb_traces.proofs.Storing.{count_of}
+use Rattle.lb_traces.proofs.AddedRows.{Changed}
+use Rattle.lb_traces.proofs.Extending.{finds_rest, set_grown, rows_fit_for}
+use Rattle.lb_traces.proofs.traces.TraceSet.extend.Goals as goal
+
+pub index-requires : goal.index-requires
+index-requires c =
+    let s = c.set.inside in
+    let count =
+    count_of c.args.set.now s.signature s.names
+    (cells_of s.signature s.numbers.items s.words.items s.row_ends.items) s.row_ends.items
+    c.set.view_is in
+    omega (arith, c.requires.trace, c.set.invariant.parts.rows.paired, count)
+
+pub overflow_mul-numbers : goal.overflow_mul-numbers
+overflow_mul-numbers c =
+    let rest =
+    finds_rest c.args.set.now c.set.inside.signature c.set.inside.names c.set.inside.numbers.items
+    c.set.inside.words.items
+    c.set.inside.row_ends.items c.set.inside.columns.integers.items
+    c.set.inside.columns.truths.items
+    c.set.inside.columns.places.items c.args.k c.set.view_is c.set.invariant c.requires.trace
+    c.index.result.now
+    c.args.from c.length.result c.len-width.result c.words_of_row-count.result c.index.ensures
+    c.requires.from c.length.ensures.instants (search rules)
+    (c.words_of_row-count.ensures ∙ ap words_of_row (search rules)) in
+    omega (arith, rest.numbers_fit, rest.numbers_first, c.set.inside.numbers.small)
+
+pub overflow_mul-numbers-2 : goal.overflow_mul-numbers-2
+overflow_mul-numbers-2 c =
+    let rest =
+    finds_rest c.args.set.now c.set.inside.signature c.set.inside.names c.set.inside.numbers.items
+    c.set.inside.words.items
+    c.set.inside.row_ends.items c.set.inside.columns.integers.items
+    c.set.inside.columns.truths.items
+    c.set.inside.columns.places.items c.args.k c.set.view_is c.set.invariant c.requires.trace
+    c.index.result.now
+    c.args.from c.length.result c.len-width.result c.words_of_row-count.result c.index.ensures
+    c.requires.from c.length.ensures.instants (search rules)
+    (c.words_of_row-count.ensures ∙ ap words_of_row (search rules)) in
+    omega (arith, rest.numbers_fit, c.set.inside.numbers.small)
+
+pub offset_bounds-as_slice-first : goal.offset_bounds-as_slice-first
+offset_bounds-as_slice-first c =
+    let rest =
+    finds_rest c.args.set.now c.set.inside.signature c.set.inside.names c.set.inside.numbers.items
+    c.set.inside.words.items
+    c.set.inside.row_ends.items c.set.inside.columns.integers.items
+    c.set.inside.columns.truths.items
+    c.set.inside.columns.places.items c.args.k c.set.view_is c.set.invariant c.requires.trace
+    c.index.result.now
+    c.args.from c.length.result c.len-width.result c.words_of_row-count.result c.index.ensures
+    c.requires.from c.length.ensures.instants (search rules)
+    (c.words_of_row-count.ensures ∙ ap words_of_row (search rules)) in
+    omega (arith, rest.numbers_fit, rest.numbers_first, c.set.inside.numbers.small)
+
+pub slice_bounds-numbers-end : goal.slice_bounds-numbers-end
+slice_bounds-numbers-end c =
+    let rest =
+    finds_rest c.args.set.now c.set.inside.signature c.set.inside.names c.set.inside.numbers.items
+    c.set.inside.words.items
+    c.set.inside.row_ends.items c.set.inside.columns.integers.items
+    c.set.inside.columns.truths.items
+    c.set.inside.columns.places.items c.args.k c.set.view_is c.set.invariant c.requires.trace
+    c.index.result.now
+    c.args.from c.length.result c.len-width.result c.words_of_row-count.result c.index.ensures
+    c.requires.from c.length.ensures.instants (search rules)
+    (c.words_of_row-count.ensures ∙ ap words_of_row (search rules)) in
+    omega (arith, rest.numbers_fit, rest.numbers_first)
+
+pub overflow_mul-words : goal.overflow_mul-words
+overflow_mul-words c =
+    let rest =
+    finds_rest c.args.set.now c.set.inside.signature c.set.inside.names c.set.inside.numbers.items
+    c.set.inside.words.items
+    c.set.inside.row_ends.items c.set.inside.columns.integers.items
+    c.set.inside.columns.truths.items
+    c.set.inside.columns.places.items c.args.k c.set.view_is c.set.invariant c.requires.trace
+    c.index.result.now
+    c.args.from c.length.result c.len-width.result c.words_of_row-count.result c.index.ensures
+    c.requires.from c.length.ensures.instants (search rules)
+    (c.words_of_row-count.ensures ∙ ap words_of_row (search rules)) in
+    omega (arith, rest.words_fit, rest.words_first, c.set.inside.words.small)
+
+pub overflow_mul-words-2 : goal.overflow_mul-words-2
+overflow_mul-words-2 c =
+    let rest =
+    finds_rest c.args.set.now c.set.inside.signature c.set.inside.names c.set.inside.numbers.items
+    c.set.inside.words.items
+    c.set.inside.row_ends.items c.set.inside.columns.integers.items
+    c.set.inside.columns.truths.items
+    c.set.inside.columns.places.items c.args.k c.set.view_is c.set.invariant c.requires.trace
+    c.index.result.now
+    c.args.from c.length.result c.len-width.result c.words_of_row-count.result c.index.ensures
+    c.requires.from c.length.ensures.instants (search rules)
+    (c.words_of_row-count.ensures ∙ ap words_of_row (search rules)) in
+    omega (arith, rest.words_fit, c.set.inside.words.small)
+
+pub offset_bounds-as_slice-first-2 : goal.offset_bounds-as_slice-first-2
+offset_bounds-as_slice-first-2 c =
+    let rest =
+    finds_rest c.args.set.now c.set.inside.signature c.set.inside.names c.set.inside.numbers.items
+    c.set.inside.words.items
+    c.set.inside.row_ends.items c.set.inside.columns.integers.items
+    c.set.inside.columns.truths.items
+    c.set.inside.columns.places.items c.args.k c.set.view_is c.set.invariant c.requires.trace
+    c.index.result.now
+    c.args.from c.length.result c.len-width.result c.words_of_row-count.result c.index.ensures
+    c.requires.from c.length.ensures.instants (search rules)
+    (c.words_of_row-count.ensures ∙ ap words_of_row (search rules)) in
+    omega (arith, rest.words_fit, rest.words_first, c.set.inside.words.small)
+
+pub slice_bounds-words-end : goal.slice_bounds-words-end
+slice_bounds-words-end c =
+    let rest =
+    finds_rest c.args.set.now c.set.inside.signature c.set.inside.names c.set.inside.numbers.items
+    c.set.inside.words.items
+    c.set.inside.row_ends.items c.set.inside.columns.integers.items
+    c.set.inside.columns.truths.items
+    c.set.inside.columns.places.items c.args.k c.set.view_is c.set.invariant c.requires.trace
+    c.index.result.now
+    c.args.from c.length.result c.len-width.result c.words_of_row-count.result c.index.ensures
+    c.requires.from c.length.ensures.instants (search rules)
+    (c.words_of_row-count.ensures ∙ ap words_of_row (search rules)) in
+    omega (arith, rest.words_fit, rest.words_first)
+
+rows_are : (c : goal.After-self-1) → c.index_mut.result.now
+    ≡ last_place c.self.inside.row_ends.items
+rows_are c = read_last c.self.inside.row_ends.items c.len-last.result c.index_mut.result.now
+    c.self.invariant.parts.rows.ledger (search rules) c.index_mut.ensures.value
+
+pub overflow_add-index_mut : goal.overflow_add-index_mut
+overflow_add-index_mut c =
+    let rows : c.index_mut.result.now ≡ last_place c.self.inside.row_ends.items =
+    read_last c.self.inside.row_ends.items c.len-last.result c.index_mut.result.now
+    c.self.invariant.parts.rows.ledger (search rules) c.index_mut.ensures.value in
+    let s = c.self.inside in
+    omega (
+      arith,
+      rows,
+      c.length.ensures.instants,
+      length-drop c.args.from (trace_at c.args.set.now.traces c.args.k).1,
+      rows_fit_for c.args.self.now s.signature s.names
+          (cells_of s.signature s.numbers.items s.words.items s.row_ends.items) s.row_ends.items
+          (length (rows_from c.args.set.now.traces c.args.k c.args.from)) c.self.view_is
+          c.self.invariant.parts c.requires.room,
+    )
+
+at_end : (c : goal.After-self-1) → (c.len-last.result - 1) + 1 ≡ length c.self.inside.row_ends.items
+at_end c =
+    let count : c.len-last.result ≡ length c.self.inside.row_ends.items = search rules in
+    omega (arith, c.self.invariant.parts.rows.ledger.not_empty)
+
+numbers_are : (c : goal.After-self-1) → c.extend_from_slice.new.self.items
+    ≡ c.self.inside.numbers.items
+    ++ take ((c.index.result.now + c.args.from + (c.length.result - c.args.from))
+    * c.len-width.result - (c.index.result.now + c.args.from) * c.len-width.result)
+    (drop ((c.index.result.now + c.args.from) * c.len-width.result) c.as_slice.result.now)
+numbers_are c = c.in_ok-extend_from_slice.ensures.items
+
+words_are : (c : goal.After-self-1) → c.extend_from_slice-2.new.self.items
+    ≡ c.self.inside.words.items
+    ++ take ((c.index.result.now + c.args.from + (c.length.result - c.args.from))
+    * c.words_of_row-count.result
+    - (c.index.result.now + c.args.from) * c.words_of_row-count.result)
+    (drop ((c.index.result.now + c.args.from) * c.words_of_row-count.result)
+    c.as_slice-2.result.now)
+words_are c =
+    let room : is_ok c.extend_from_slice-2.result ≡ true =
+    c.extend_from_slice-2.ensures.succeeds (omega (arith, c.in_ok-reserve.ensures.ok)) in
+    rw (← c.in_ok-reserve.ensures.items) (rw room at c.extend_from_slice-2.ensures.items)
+
+changed :
+    (c : goal.After-self-1) →
+    Changed c.self.inside.signature c.self.inside.names
+    (c.self.inside.numbers.items
+    ++ take ((c.index.result.now + c.args.from + (c.length.result - c.args.from))
+    * c.len-width.result - (c.index.result.now + c.args.from) * c.len-width.result)
+    (drop ((c.index.result.now + c.args.from) * c.len-width.result) c.as_slice.result.now))
+    (c.self.inside.words.items
+    ++ take ((c.index.result.now + c.args.from + (c.length.result - c.args.from))
+    * c.words_of_row-count.result
+    - (c.index.result.now + c.args.from) * c.words_of_row-count.result)
+    (drop ((c.index.result.now + c.args.from) * c.words_of_row-count.result)
+    c.as_slice-2.result.now))
+    (set c.self.inside.row_ends.items (c.len-last.result - 1)
+    (last_place c.self.inside.row_ends.items + (c.length.result - c.args.from)))
+    c.self.inside.columns.integers.items c.self.inside.columns.truths.items
+    c.self.inside.columns.places.items
+    (record {
+      signature = c.args.self.now.signature;
+      traces =
+          with_rows c.args.self.now.traces
+          (rows_from c.args.set.now.traces c.args.k c.args.from);
+    })
+changed c =
+    set_grown c.args.set.now c.set.inside.signature c.set.inside.names c.set.inside.numbers.items
+    c.set.inside.words.items
+    c.set.inside.row_ends.items c.set.inside.columns.integers.items
+    c.set.inside.columns.truths.items
+    c.set.inside.columns.places.items c.args.k c.set.view_is c.set.invariant c.requires.trace
+    c.index.result.now
+    c.args.from c.length.result c.len-width.result c.words_of_row-count.result c.index.ensures
+    c.requires.from c.length.ensures.instants (search rules)
+    (c.words_of_row-count.ensures ∙ ap words_of_row (search rules))
+    c.args.self.now c.self.inside.signature c.self.inside.names c.self.inside.numbers.items
+    c.self.inside.words.items
+    c.self.inside.row_ends.items c.self.inside.columns.integers.items
+    c.self.inside.columns.truths.items
+    c.self.inside.columns.places.items
+    (c.len-last.result - 1) c.self.view_is c.self.invariant c.requires.signature c.requires.started
+    (at_end c) c.as_slice.result.now c.as_slice-2.result.now c.as_slice.ensures.value
+    c.as_slice-2.ensures.value c.requires.instants c.requires.room
+
+pub invariant_of-self-2 : goal.invariant_of-self-2
+invariant_of-self-2 c = rw (numbers_are c, words_are c, rows_are c) (changed c).is
+
+pub returns-clause-ok : goal.returns-clause-ok
+returns-clause-ok c = rw (numbers_are c, words_are c, rows_are c) (changed c).view

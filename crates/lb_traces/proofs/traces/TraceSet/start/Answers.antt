@@ -1,0 +1,150 @@
+-- The names, the integers, the words and the places have grown by one trace of one row.
+use Rattle.std.proofs.Common.{arith, rules, ◌≡◌, ◌<◌, ◌++◌, ◌∷◌, [], length, ◌+◌, ap, ap₂, ◌∙◌, sym}
+use Rattle.std.proofs.Common.{subst, is_ok, true}
+use Rattle.lb_traces.specs.Traces.{Recording, with_trace}
+use Rattle.lb_traces.specs.Ledger.{last_place}
+use Rattle.lb_traces.specs.Packed.{cells_of, numbers_in, HasPushed}
+use Rattle.lb_traces.proofs.Ledgers.{read_last}
+use Rattle.lb_traces.proofs.StoredRows.{length-stored}
+use Rattle.lb_traces.proofs.Storing.{rows_fit_of}
+use Rattle.lb_traces.proofs.AddedRows.{Changed, set_started, integers_in, truths_in, alone_in}
+use Rattle.lb_traces.proofs.traces.TraceSet.start.Goals as goal
+
+pub push-requires-clause-room : goal.push-requires-clause-room
+push-requires-clause-room c =
+    let count : _ = subst (λ (r : Recording). length r.traces < 1000000) (sym c.self.view_is)
+    c.requires.count in
+    let s = c.self.inside in
+    omega (
+      arith,
+      count,
+      length-stored (length s.signature) s.names
+          (cells_of s.signature s.numbers.items s.words.items s.row_ends.items) s.row_ends.items,
+    )
+
+rows_are : (c : goal.After-push-arg-2-1) → c.index-rows.result.now
+    ≡ last_place c.self.inside.row_ends.items
+rows_are c =
+    let items : c.reserve-2.new.self.items ≡ c.self.inside.row_ends.items =
+    c.in_ok-reserve-2.ensures.items in
+    let count : c.len-3.result ≡ length c.reserve-2.new.self.items = search rules in
+    read_last c.self.inside.row_ends.items c.len-3.result c.index-rows.result.now
+    c.self.invariant.parts.rows.ledger (count ∙ ap length items) (rw items at c.index-rows.ensures)
+
+pub overflow_add-rows : goal.overflow_add-rows
+overflow_add-rows c =
+    let s = c.self.inside in
+    omega (
+      arith,
+      rows_are c,
+      rows_fit_of c.args.self.now s.signature s.names
+          (cells_of s.signature s.numbers.items s.words.items s.row_ends.items) s.row_ends.items
+          c.self.view_is c.self.invariant.parts c.requires.room,
+    )
+
+names_are : (c : goal.After-push-2) → c.push.new.self ≡ c.self.inside.names ++ c.args.name.now ∷ []
+names_are c = c.in_ok-push.ensures.ok
+
+numbers_are : (c : goal.After-push-2) → c.push_numbers.new.numbers.items
+    ≡ c.self.inside.numbers.items ++ numbers_in c.args.row.now c.self.inside.columns.integers.items
+numbers_are c =
+    c.push_numbers.ensures
+    ∙ ap₂ (λ a b. a ++ numbers_in c.args.row.now b) c.in_ok-reserve.ensures.items
+    c.as_slice.ensures.value
+
+ends_are : (c : goal.After-push-2) → c.push-2.new.self.items ≡ c.self.inside.row_ends.items
+    ++ (last_place c.self.inside.row_ends.items + 1) ∷ []
+ends_are c =
+    let items : c.reserve-2.new.self.items ≡ c.self.inside.row_ends.items =
+    c.in_ok-reserve-2.ensures.items in
+    let room : is_ok c.push-2.result ≡ true = c.push-2.ensures.succeeds
+    (omega (arith, c.in_ok-reserve-2.ensures.ok)) in
+    let count : c.len-3.result ≡ length c.reserve-2.new.self.items = search rules in
+    let rows : c.index-rows.result.now ≡ last_place c.self.inside.row_ends.items =
+    read_last c.self.inside.row_ends.items c.len-3.result c.index-rows.result.now
+    c.self.invariant.parts.rows.ledger (count ∙ ap length items)
+    (rw items at c.index-rows.ensures) in
+    (rw room at c.push-2.ensures.items)
+    ∙ ap (λ ends. ends ++ (c.index-rows.result.now + 1) ∷ []) items
+    ∙ ap (λ n. c.self.inside.row_ends.items ++ (n + 1) ∷ []) rows
+
+pub push_numbers-requires-clause-room : goal.push_numbers-requires-clause-room
+push_numbers-requires-clause-room c =
+    let long : c.len.result ≡ length c.self.inside.columns.integers.items = search rules in
+    omega (arith, c.in_ok-reserve.ensures.ok, long, ap length c.as_slice.ensures.value)
+
+pub push_numbers-requires-clause-columns : goal.push_numbers-requires-clause-columns
+push_numbers-requires-clause-columns c =
+    rw c.as_slice.ensures.value
+    (integers_in c.args.self.now c.self.inside.signature c.self.inside.names
+    c.self.inside.numbers.items c.self.inside.words.items
+    c.self.inside.row_ends.items c.self.inside.columns.integers.items
+    c.self.inside.columns.truths.items
+    c.self.inside.columns.places.items
+    c.args.row.now c.self.view_is c.self.invariant c.requires.row)
+
+pub push_numbers-requires-clause-alone : goal.push_numbers-requires-clause-alone
+push_numbers-requires-clause-alone c =
+    rw c.as_slice.ensures.value
+    (alone_in c.args.self.now c.self.inside.signature c.self.inside.names
+    c.self.inside.numbers.items c.self.inside.words.items
+    c.self.inside.row_ends.items c.self.inside.columns.integers.items
+    c.self.inside.columns.truths.items
+    c.self.inside.columns.places.items
+    c.args.row.now c.self.view_is c.self.invariant c.requires.row)
+
+pub push_words-requires-clause-room : goal.push_words-requires-clause-room
+push_words-requires-clause-room c =
+    omega (
+      arith,
+      c.in_ok-reserve-3.ensures.ok,
+      c.words_of_row.ensures,
+      ap length c.as_slice-2.ensures.value,
+    )
+
+pub push_words-requires-clause-columns : goal.push_words-requires-clause-columns
+push_words-requires-clause-columns c =
+    rw c.as_slice-2.ensures.value
+    (truths_in c.args.self.now c.self.inside.signature c.self.inside.names
+    c.self.inside.numbers.items c.self.inside.words.items
+    c.self.inside.row_ends.items c.self.inside.columns.integers.items
+    c.self.inside.columns.truths.items
+    c.self.inside.columns.places.items
+    c.args.row.now c.self.view_is c.self.invariant c.requires.row)
+
+words_are : (c : goal.After-push-2) → HasPushed c.self.inside.words.items c.args.row.now
+    c.self.inside.columns.truths.items c.push_words.new.words.items
+words_are c =
+    subst
+    (λ ws. HasPushed ws c.args.row.now c.self.inside.columns.truths.items
+    c.push_words.new.words.items)
+    c.in_ok-reserve-3.ensures.items
+    (rw (← c.as_slice-2.ensures.value) c.push_words.ensures)
+
+changed :
+    (c : goal.After-push-2) →
+    Changed c.self.inside.signature (c.self.inside.names ++ c.args.name.now ∷ [])
+    (c.self.inside.numbers.items
+    ++ numbers_in c.args.row.now c.self.inside.columns.integers.items)
+    c.push_words.new.words.items
+    (c.self.inside.row_ends.items ++ (last_place c.self.inside.row_ends.items + 1) ∷ [])
+    c.self.inside.columns.integers.items c.self.inside.columns.truths.items
+    c.self.inside.columns.places.items
+    (record {
+      signature = c.args.self.now.signature;
+      traces = with_trace c.args.self.now.traces c.args.name.now c.args.row.now;
+    })
+changed c =
+    set_started c.args.self.now c.self.inside.signature c.self.inside.names
+    c.self.inside.numbers.items c.self.inside.words.items
+    c.self.inside.row_ends.items c.self.inside.columns.integers.items
+    c.self.inside.columns.truths.items
+    c.self.inside.columns.places.items
+    c.args.name.now c.args.row.now c.push_words.new.words.items c.self.view_is c.self.invariant
+    c.requires.name c.requires.fresh c.requires.row c.requires.count c.requires.room (words_are c)
+
+pub invariant_of-self-2 : goal.invariant_of-self-2
+invariant_of-self-2 c = rw (names_are c, numbers_are c, ends_are c) (changed c).is
+
+pub returns-clause-ok : goal.returns-clause-ok
+returns-clause-ok c = rw (names_are c, numbers_are c, ends_are c) (changed c).view

@@ -1,0 +1,48 @@
+-- One integer more in each turn, or all of them at once.
+use Rattle.std.proofs.Common.{◌++◌, ◌∷◌, [], ℕ, pos, get_or, length, take, ap, sym, ◌∙◌, arith}
+use Rattle.std.proofs.Common.{rules, w32, to_z, of_z}
+use Rattle.std.proofs.lemmas.Int.{to_z-of_z}
+use Rattle.std.proofs.lemmas.List.{append-nil, append_assoc, map_push, take_more}
+use Rattle.std.proofs.lemmas.List.{get_or_default}
+use mir.Val.{SFits}
+use Rattle.lb_traces.specs.Packed.{numbers_in}
+use Rattle.lb_traces.proofs.traces.push_numbers.Goals as goal
+
+pub loop-w-init : goal.loop-w-init
+loop-w-init c = record {
+  pushed = sym (append-nil c.args.numbers.now.items);
+  room = omega (arith, c.requires.room);
+}
+
+pub push_reserved-requires : goal.push_reserved-requires
+push_reserved-requires c = omega (arith, c.loop-w.invariant.room, c.loop-w-test.true)
+
+pub loop-w-preserved : goal.loop-w-preserved
+loop-w-preserved c =
+    let old = c.args.numbers.now.items in
+    let row = c.args.row.now in
+    let columns = c.args.columns.now in
+    let w = c.loop-w.w in
+    let fits : SFits w32 c.cell_in.result = search rules in
+    let cell = to_z w32 (of_z w32 c.cell_in.result) in
+    let column = get_or_default columns w (length row) 0 c.loop-w-test.true in
+    record {
+      pushed =
+          c.push_reserved.ensures.items
+          ∙ ap (λ xs. xs ++ cell ∷ []) c.loop-w.invariant.pushed
+          ∙ append_assoc old (numbers_in row (take w columns)) (cell ∷ [])
+          ∙ ap (λ v. old ++ (numbers_in row (take w columns) ++ v ∷ []))
+          (to_z-of_z w32 c.cell_in.result fits ∙ c.cell_in.ensures
+          ∙ ap (λ j. get_or row j (pos 0)) column)
+          ∙ ap (λ xs. old ++ xs)
+          (sym (map_push (λ (j : ℕ). get_or row j (pos 0)) (take w columns) (get_or columns w 0)))
+          ∙ ap (λ xs. old ++ numbers_in row xs) (sym (take_more columns w 0 c.loop-w-test.true));
+      room =
+          omega (
+            arith,
+            c.loop-w.invariant.room,
+            c.loop-w-test.true,
+            c.push_reserved.ensures.len,
+            c.push_reserved.ensures.capacity,
+          );
+    }

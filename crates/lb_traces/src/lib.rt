@@ -1,0 +1,8 @@
+//! Recorded traces as flat rows: what a program runs on.
+#![tactic(auto)]
+
+mod names;
+mod row_columns;
+mod traces;
+
+pub use traces::{TraceRows, TraceSet, is_trace_name};

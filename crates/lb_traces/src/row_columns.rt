@@ -1,0 +1,47 @@
+//! The columns of a signature, apart by their kinds.
+
+ghost use Rattle.std.specs.Prelude.{IfOk};
+ghost use Rattle.lb_static.specs.Signature.{kinds_of};
+ghost use Rattle.lb_traces.specs.Packed.{AreColumns};
+
+use lb_static::Signature;
+use lb_syntax::Kind;
+use std::alloc::{AllocError, Global};
+
+/// The columns of a signature.
+#[derive(Drop)]
+pub(crate) struct RowColumns {
+    /// The columns that hold integers, in the order of the signature.
+    pub(crate) integers: Vec<u32>,
+    /// Those that hold Booleans.
+    pub(crate) truths: Vec<u32>,
+    /// For each column its number among those of its kind.
+    pub(crate) places: Vec<u32>,
+}
+
+/// The columns of a signature, by their kinds.
+pub(crate) fn row_columns(alloc: Global, signature: &Signature) -> Result<RowColumns, AllocError>
+    ensures { IfOk result (λ c. AreColumns (kinds_of signature.now) c.integers.items c.truths.items
+        c.places.items) }
+{
+    let mut integers: Vec<u32> = Vec::new(alloc);
+    let mut truths: Vec<u32> = Vec::new(alloc);
+    let mut places = Vec::new(alloc);
+    for j in 0..signature.len() {
+        match signature.kind(j) {
+            Kind::Bool => {
+                places.push(truths.len() as u32)?;
+                truths.push(j)?;
+            }
+            Kind::Int => {
+                places.push(integers.len() as u32)?;
+                integers.push(j)?;
+            }
+        }
+    }
+    Ok(RowColumns {
+        integers,
+        truths,
+        places,
+    })
+}
