@@ -146,9 +146,9 @@ def wide_map(n):
 def wide_results(n):
     "a call that gives many arrays of 490 dimensions"
     lefts = ",".join(names(n))
-    body = "".join(f"{name}=A;" for name in names(n))
-    return function(f"A:{WIDE}", f"returns({lefts}:{WIDE})", body) + main_node(
-        f"A=A;({lefts})=F(A);", f"var A,{lefts}:{WIDE};"
+    body = f"var A:{WIDE};let A=A;" + "".join(f"{name}=A;" for name in names(n))
+    return f"function F(B:int)returns({lefts}:{WIDE});{body}tel " + main_node(
+        f"({lefts})=F(x);", f"var {lefts}:{WIDE};"
     )
 
 

@@ -1,11 +1,12 @@
 -- Where a term stands, from where its one, two or three operands stand.
 use Rattle.std.proofs.Common.{◌≡◌, ℕ, ◌⊎◌, inl, inr, Bool, Box, Global, refl}
 use Rattle.lb_static.specs.declared.resolved.StaticId.{StaticId}
-use Rattle.lb_static.specs.declared.resolved.Term.{Term, Literal, Truth, Value}
-use Rattle.lb_check.specs.TermClocks.{Context, both, unary_clock_set, pair_clock_set, infer_clock}
+use Rattle.lb_static.specs.TermForms.{IsPair}
+use Rattle.lb_static.specs.declared.resolved.Term.{Term, Literal, Truth, Value, If}
+use Rattle.lb_check.specs.TermClocks.{Context, both, unary_clock_set, infer_clock}
 use Rattle.lb_check.specs.declared.clock_set.ClockSet.{ClockSet}
 use Rattle.lb_check.specs.declared.clock_set.ClockSet.TheVariants.{AnyClock}
-use Rattle.lb_check.proofs.TypeParts.{IsPair, IsSingle}
+use Rattle.lb_check.proofs.TypeParts.{IsSingle}
 
 -- a term in which nothing determines a clock
 abbrev pub IsFree : Term → Type 0
@@ -31,12 +32,16 @@ single_stands ctx t e s (inr (inr (inr (inr (inr (inl (n, is))))))) h = rw (is, 
 single_stands ctx t e s (inr (inr (inr (inr (inr (inr (inl (i, is)))))))) h = rw (is, h) refl
 single_stands ctx t e s (inr (inr (inr (inr (inr (inr (inr (i, j, is)))))))) h = rw (is, h) refl
 
-pub pair_stands : (ctx : Context) (t : Term) (a b : Box Term Global) (r s : ClockSet) → IsPair t a b
-    → r ≡ infer_clock ctx a.value → s ≡ infer_clock ctx b.value →
-    pair_clock_set ctx t (both r s) ≡ infer_clock ctx t
+pub pair_stands : (ctx : Context) (t : Term) (a b : Box Term Global) → IsPair t a b →
+    both (infer_clock ctx a.value) (infer_clock ctx b.value) ≡ infer_clock ctx t
 unfolding infer_clock
-pair_stands ctx t a b r s (inl (op, is)) e f = rw (is, e, f) refl
-pair_stands ctx t a b r s (inr (inl is)) e f = rw (is, e, f) refl
-pair_stands ctx t a b r s (inr (inr (inl is))) e f = rw (is, e, f) refl
-pair_stands ctx t a b r s (inr (inr (inr (inl is)))) e f = rw (is, e, f) refl
-pair_stands ctx t a b r s (inr (inr (inr (inr (c, is))))) e f = rw (is, e, f) refl
+pair_stands ctx t a b (inl (op, is)) = rw is refl
+pair_stands ctx t a b (inr (inl is)) = rw is refl
+pair_stands ctx t a b (inr (inr (inl is))) = rw is refl
+pair_stands ctx t a b (inr (inr (inr is))) = rw is refl
+
+pub choice_stands : (ctx : Context) (t : Term) (c a b : Box Term Global) → t ≡ If c a b →
+    both (infer_clock ctx c.value) (both (infer_clock ctx a.value) (infer_clock ctx b.value))
+    ≡ infer_clock ctx t
+unfolding infer_clock
+choice_stands ctx t c a b is = rw is refl

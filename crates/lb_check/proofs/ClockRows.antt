@@ -1,8 +1,9 @@
 -- A row of terms in a tree is the list in the vector, and so are its operands.
-use Rattle.std.proofs.Common.{◌≡◌, ◌⊎◌, inl, inr, List, Vec, Global, ap, ◌∙◌}
+use Rattle.std.proofs.Common.{◌≡◌, inl, inr, List, Vec, Global, ap, ◌∙◌}
 use Rattle.lb_syntax.specs.Lists.{holds}
 use Rattle.lb_syntax.specs.declared.tree.ArrayIterator.{ArrayIterator}
 use Rattle.lb_syntax.specs.declared.tree.BinaryOperator.{BinaryOperator}
+use Rattle.lb_static.specs.TermForms.{IsRow}
 use Rattle.lb_static.specs.declared.resolved.CallId.{CallId}
 use Rattle.lb_static.specs.declared.resolved.StaticId.{StaticId}
 use Rattle.lb_static.specs.declared.resolved.VariableId.{VariableId}
@@ -11,7 +12,7 @@ use Rattle.lb_static.specs.declared.resolved.Term.{IterateSymbol}
 use Rattle.lb_static.specs.declared.resolved.Term.{items-the_row-Term}
 use Rattle.lb_static.specs.declared.resolved.Term.{items_hidden-the_row-Term-0}
 use Rattle.lb_check.specs.TermClocks.{Context, is_call_clocked, is_equation_clocked, operands_in}
-use Rattle.lb_check.specs.TermClocks.{operands_of, row_clock_set, infer_clock, together}
+use Rattle.lb_check.specs.TermClocks.{operands_of, row_clock_set, infer_clock}
 use Rattle.lb_check.proofs.TypeRows.{row_in}
 use Rattle.lb_check.proofs.TermClockSets.{operands_items}
 
@@ -63,30 +64,15 @@ stands_symbol ctx it op n es =
     ap (row_clock_set ctx (IterateSymbol it op n es))
     (same_operands ctx (IterateSymbol it op n es) es (items_hidden-the_row-Term-0 es))
 
--- a row of operands that stand together
-abbrev pub IsPlainRow : Term → Vec Term Global → Type 0
-IsPlainRow t es =
-    (t ≡ Array es) ⊎ ((t ≡ AtMostOne es) ⊎ ((t ≡ Nor es)
-    ⊎ ((it : ArrayIterator) × (op : BinaryOperator) × (n : StaticId)
-    × (t ≡ IterateSymbol it op n es))))
-
-pub stands_together : (ctx : Context) (t : Term) (es : Vec Term Global) → IsPlainRow t es →
-    infer_clock ctx t ≡ together (operands_of ctx es.items)
-stands_together ctx t es (inl e) = rw e (stands_array ctx es)
-stands_together ctx t es (inr (inl e)) = rw e (stands_at_most_one ctx es)
-stands_together ctx t es (inr (inr (inl e))) = rw e (stands_nor ctx es)
-stands_together ctx t es (inr (inr (inr (it, op, n, e)))) = rw e (stands_symbol ctx it op n es)
-
--- a row of operands of what is called
-abbrev pub IsCallRow : Term → Vec Term Global → Type 0
-IsCallRow t es =
-    ((c : CallId) × (t ≡ Call c es)) ⊎ ((it : ArrayIterator) × (c : CallId)
-    × (t ≡ IterateNode it c es))
-
-pub stands_called : (ctx : Context) (t : Term) (es : Vec Term Global) → IsCallRow t es →
+pub stands_row : (ctx : Context) (t : Term) (es : Vec Term Global) → IsRow t es →
     infer_clock ctx t ≡ row_clock_set ctx t (operands_of ctx es.items)
-stands_called ctx t es (inl (c, e)) = rw e (stands_call ctx c es)
-stands_called ctx t es (inr (it, c, e)) = rw e (stands_node ctx it c es)
+stands_row ctx t es (inl e) = rw e (stands_array ctx es)
+stands_row ctx t es (inr (inl e)) = rw e (stands_at_most_one ctx es)
+stands_row ctx t es (inr (inr (inl e))) = rw e (stands_nor ctx es)
+stands_row ctx t es (inr (inr (inr (inl (c, e))))) = rw e (stands_call ctx c es)
+stands_row ctx t es (inr (inr (inr (inr (inl (it, c, e)))))) = rw e (stands_node ctx it c es)
+stands_row ctx t es (inr (inr (inr (inr (inr (it, op, n, e)))))) =
+    rw e (stands_symbol ctx it op n es)
 
 -- an equation whose right side is a call
 pub equation_call : (ctx : Context) (lefts : List VariableId) (c : CallId) (es : Vec Term Global)

@@ -1,8 +1,8 @@
 -- What is kept of the types of terms gives the type of each.
-use Rattle.std.proofs.Common.{◌≡◌, ℕ, zero, suc, ◌+◌, ◌-◌, ◌<◌, ◌≤◌, min}
-use Rattle.std.proofs.Common.{Some, None, List, [], ◌∷◌, ◌++◌, map, flat_map, take, drop}
+use Rattle.std.proofs.Common.{◌≡◌, ◌≢◌, ℕ, zero, suc, ◌+◌, ◌-◌, ◌<◌, ◌≤◌, min}
+use Rattle.std.proofs.Common.{Option, Vec, Global, Some, None, List, [], ◌∷◌, ◌++◌, map, flat_map, take, drop}
 use Rattle.std.proofs.Common.{length, get_or, reverse, refl, ap, ap₂, sym, ◌∙◌, subst, arith}
-use Rattle.std.specs.Prelude.{slice_get, sum_by}
+use Rattle.std.specs.Prelude.{option_map, slice_get, sum_by}
 use Rattle.std.proofs.lemmas.List.{append_assoc, append-nil, length-append, reverse-append}
 use Rattle.std.proofs.lemmas.List.{reverse-reverse}
 use Rattle.std.proofs.lemmas.List.Sums.{sum_by-cons, sum_by-take-le, sum_by_more}
@@ -16,9 +16,10 @@ use Rattle.lb_static.specs.Parts.{node_parts}
 use Rattle.lb_static.proofs.TypeViews.{product_reverse}
 use Rattle.lb_check.specs.FoundTerms.{HasTypes}
 use Rattle.lb_check.specs.PlacedTypes.{FoundNode, FoundTypes, found_in, sizes_of}
-use Rattle.lb_check.specs.PlacedTypes.{nothing_found, parts_of, size_of, type_among}
-use Rattle.lb_check.specs.PlacedTypes.{with_row, with_term, with_terms, with_types}
-use Rattle.lb_static.specs.StoredTypes.{view_type}
+use Rattle.lb_check.specs.PlacedTypes.{nothing_found, part_size, parts_of, size_of, type_among}
+use Rattle.lb_check.specs.PlacedTypes.{parts_in, stored_size, with_row, with_term, with_terms}
+use Rattle.lb_check.specs.PlacedTypes.{with_types}
+use Rattle.lb_static.specs.StoredTypes.{view_type, view_types}
 use Rattle.lb_check.specs.Streams.{data_type}
 use Rattle.lb_check.specs.TypeRules.{expression_size}
 use Rattle.lb_static.specs.DataTypes.{total}
@@ -92,6 +93,27 @@ all_kept os = node_with (rows_from 0 os) (flat_map sizes_in os)
 
 kept_all : (os : List FoundTypes) → with_terms nothing_found os ≡ all_kept os
 kept_all os = kept nothing_found os
+
+-- how many elements is kept with them
+pub size_kept : (os : List FoundTypes) →
+    size_of (with_terms nothing_found os) ≡ sum_by part_size os
+size_kept os = ap size_of (kept_all os) ∙ by 0 os
+  where
+    by : (n : ℕ) (os : List FoundTypes) →
+        sum_by (λ (t : TermType). t.elements) (rows_from n os) ≡ sum_by part_size os
+    by n [] = refl
+    by n (o ∷ os) =
+        let m = n + length (sizes_in o) in
+        sum_by-cons (λ (t : TermType). t.elements) (row_of n o) (rows_from m os)
+        ∙ ap (λ k. part_size o + k) (by m os) ∙ sym (sum_by-cons part_size o os)
+
+-- and that of parts as the code holds them
+pub parts_counted : (parts : List (Option (Vec stored.DataType Global))) →
+    sum_by stored_size parts ≡ sum_by part_size (parts_in parts)
+parts_counted [] = refl
+parts_counted (p ∷ ps) =
+    sum_by-cons stored_size p ps ∙ ap (λ k. stored_size p + k) (parts_counted ps)
+    ∙ sym (sum_by-cons part_size (option_map view_types p) (parts_in ps))
 
 -- the sizes of a term, where these stand before those of the row
 sizes_there :
@@ -188,6 +210,32 @@ module _ {A : Type 0} (f : A → ℕ) (xs : List A) (i : ℕ) (x : A) (left size
       let less = less_left in
       let part = sum_by-take-le f xs (i + 1) in
       omega (arith, e, less, part)
+
+-- an item alone has as many elements as are left
+pub none_left_by : {A : Type 0} (f : A → ℕ) (xs : List A) (i : ℕ) (x : A) (left : ℕ) →
+    i < length xs → x ≡ get_or xs i x → left ≡ 65537 - sum_by f (take i xs) → left ≤ f x →
+    65536 < sum_by f xs
+none_left_by f xs i x left lt is known many =
+    let more = sum_by_more f xs i x lt in
+    let item = ap f is in
+    let part = sum_by-take-le f xs (i + 1) in
+    omega (arith, known, many, more, item, part)
+
+-- ## The elements of some terms, as far as there are this many
+
+pub none_counted : (many whole : ℕ) → whole ≡ (many - many) + whole
+none_counted many whole = omega arith
+
+module _ (many left size rest whole own later : ℕ) (few : many ≤ 65537) (under : left ≤ many)
+    (known : whole ≡ (many - left) + (own + later)) (counted : size ≡ min own 65537)
+    (next : rest ≡ left - size) where
+  -- there are fewer
+  pub counted_more : rest ≢ 0 → whole ≡ (many - rest) + later
+  counted_more some = omega (arith, few, under, known, counted, next, some)
+
+  -- there are as many
+  pub counted_enough : rest ≡ 0 → many ≤ whole
+  counted_enough none = omega (arith, few, under, known, counted, next, none)
 
 -- ## The expressions of an instance
 

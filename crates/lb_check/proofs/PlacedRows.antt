@@ -1,31 +1,35 @@
 -- What is found of the parts of a term, from what is found of its operands, and of rows of terms
 -- from a place on.
-use Rattle.std.proofs.Common.{◌≡◌, ◌⊎◌, inl, inr, ℕ, ◌+◌, ◌<◌, ◌≤◌, Bool, List, [], ◌∷◌, ◌++◌}
-use Rattle.std.proofs.Common.{length, drop, map, flat_map, get_or, Box, Global, Vec, refl, ap, ap₂}
-use Rattle.std.proofs.Common.{sym, ◌∙◌}
-use Rattle.std.proofs.lemmas.List.{append_assoc, append-nil, drop_all, drop_more, map-append}
+use Rattle.std.proofs.Common.{◌≡◌, ◌⊎◌, inl, inr, ℕ, ◌+◌, ◌<◌, ◌≤◌, List, [], ◌∷◌, ◌++◌}
+use Rattle.std.proofs.Common.{length, take, drop, map, flat_map, get_or, Option, Some, None, Box}
+use Rattle.std.proofs.Common.{Global, Vec, refl, ap, ap₂, sym, ◌∙◌, arith}
+use Rattle.std.specs.Prelude.{slice_get}
+use Rattle.std.proofs.lemmas.List.{append_assoc, append-nil, drop_all, drop_at, drop_more}
+use Rattle.std.proofs.lemmas.List.{map-append, take_at}
+use Rattle.std.proofs.lemmas.Option.{slice_get_cases}
 use Rattle.lb_syntax.specs.Lists.{listed}
 use Rattle.lb_syntax.specs.declared.tree.ArrayIterator.{ArrayIterator}
 use Rattle.lb_syntax.specs.declared.tree.BinaryOperator.{BinaryOperator}
 use Rattle.lb_static.specs.declared.resolved.CallId.{CallId}
 use Rattle.lb_static.specs.declared.resolved.StaticId.{StaticId}
-use Rattle.lb_static.specs.declared.resolved.Term.{Term, Literal, Truth, Variable, Value, Group}
-use Rattle.lb_static.specs.declared.resolved.Term.{If}
-use Rattle.lb_static.specs.declared.resolved.Term.{Array}
-use Rattle.lb_static.specs.declared.resolved.Term.{AtMostOne, Nor, Call, IterateNode, IterateSymbol}
-use Rattle.lb_static.specs.declared.resolved.Term.{Row_of-Term, end_of-Term, more_of-Term}
-use Rattle.lb_static.specs.declared.resolved.Term.{items-the_row-Term, items_hidden-the_row-Term-0}
+use Rattle.lb_static.specs.declared.resolved.Term.{Term, Group, If, Current, Array, AtMostOne, Nor}
+use Rattle.lb_static.specs.declared.resolved.Term.{Call, IterateNode, IterateSymbol, Row_of-Term}
+use Rattle.lb_static.specs.declared.resolved.Term.{end_of-Term, more_of-Term, items-the_row-Term}
+use Rattle.lb_static.specs.declared.resolved.Term.{items_hidden-the_row-Term-0}
 use Rattle.lb_static.specs.declared.resolved.VariableId.{VariableId}
-use Rattle.lb_static.specs.TermForms.{IsSingle, IsPair}
-use Rattle.lb_check.specs.PlacedClocks.{FoundCall, FoundNode, FoundTerm, part, row_term, called}
-use Rattle.lb_check.specs.PlacedClocks.{with_term, with_terms, placed_terms, placed_row}
+use Rattle.lb_static.specs.TermForms.{IsPair}
+use Rattle.lb_check.specs.PlacedClocks.{FoundCall, FoundNode, FoundTerm, IsPlaced, part, row_term}
+use Rattle.lb_check.specs.PlacedClocks.{called, with_term, with_terms, placed_terms, placed_row}
 use Rattle.lb_check.specs.PlacedClocks.{placed_arguments, placed_all, placed_each, placed_side}
 use Rattle.lb_check.specs.PlacedClocks.{placed_call, operand_clock, call_clocks, side_clocks}
-use Rattle.lb_check.specs.PlacedClocks.{nested_call, side_call, iterated_call}
+use Rattle.lb_check.specs.PlacedClocks.{determined_clock, nested_call, side_call, iterated_call}
 use Rattle.lb_check.specs.TermClocks.{Context, infer_clock, operands_in, operands_of, left_clock}
+use Rattle.lb_check.specs.declared.clock_set.Operand.{Operand}
 use Rattle.lb_check.specs.declared.own_clock.Clock.{Clock}
 use Rattle.lb_check.proofs.ClockRows.{same_operands}
 use Rattle.lb_check.proofs.TypeRows.{row_in}
+use Rattle.lb_check.proofs.TypeWalks.{IsLeaf}
+use Rattle.lb_check.proofs.WalkedClocks.{IsPlain, IsPlainRow}
 
 -- ## What is found grows
 
@@ -55,27 +59,6 @@ all_found f (t ∷ ts) =
     all_found (with_term f t) ts
     ∙ ap₂ both_found (append_assoc f.terms (t.clock ∷ []) (clocks_among ts))
     (append_assoc f.calls calls (calls_among ts))
-
-module _ (old noted : FoundNode) (whole : List FoundTerm) (t : FoundTerm)
-    (first : noted ≡ with_term old t) where
-  -- a term, and then its one operand or row
-  pub one_more : (xs : List FoundTerm) → whole ≡ t ∷ xs → with_terms noted xs ≡ with_terms old whole
-  one_more xs e = ap (λ f. with_terms f xs) first ∙ ap (with_terms old) (sym e)
-
-  -- two operands
-  pub two_more :
-      (after : FoundNode) (xs ys : List FoundTerm) → after ≡ with_terms noted xs →
-      whole ≡ t ∷ (xs ++ ys) → with_terms after ys ≡ with_terms old whole
-  two_more after xs ys a e =
-      ap (λ f. with_terms f ys) a ∙ sym (more_terms noted xs ys) ∙ one_more (xs ++ ys) e
-
-  -- and three
-  pub three_more :
-      (after last : FoundNode) (xs ys zs : List FoundTerm) → after ≡ with_terms noted xs →
-      last ≡ with_terms after ys → whole ≡ t ∷ (xs ++ (ys ++ zs)) →
-      with_terms last zs ≡ with_terms old whole
-  three_more after last xs ys zs a b e =
-      ap (λ f. with_terms f zs) b ∙ sym (more_terms after ys zs) ∙ two_more after xs (ys ++ zs) a e
 
 module _ {A : Type 0} (f : A → List FoundTerm) (whole now : FoundNode) (all : List A) (i : ℕ)
     (known : whole ≡ with_terms now (flat_map f (drop i all))) where
@@ -107,41 +90,125 @@ module _ {A B C : Type 0} (f : A → B) (g : C → B) (whole : List B) (done : L
       ∙ ap (λ l. l ++ rest) (sym (map-append g done (y ∷ [])))
       ∙ ap (λ l. map g l ++ rest) (sym e)
 
-module _ (ctx : Context) (whole now : FoundNode) (ks : List Clock) (es : List Term) (i : ℕ)
-    (known : whole ≡ with_terms now (placed_each ctx (drop i ks) (drop i es))) where
-  pub each_more :
-      (more : FoundNode) (k : Clock) (e : Term) → i < length ks → i < length es →
-      k ≡ get_or ks i k → e ≡ get_or es i e → more ≡ with_terms now (placed_terms ctx k e) →
-      whole ≡ with_terms more (placed_each ctx (drop (i + 1) ks) (drop (i + 1) es))
-  each_more more k e less lt at is f =
-      let rest = placed_each ctx (drop (i + 1) ks) (drop (i + 1) es) in
-      known
-      ∙ ap₂ (λ l m. with_terms now (placed_each ctx l m)) (drop_more ks i k less)
-      (drop_more es i e lt)
-      ∙ ap₂ (λ y z. with_terms now (placed_terms ctx y z ++ rest)) (sym at) (sym is)
-      ∙ more_terms now (placed_terms ctx k e) rest ∙ ap (λ g. with_terms g rest) (sym f)
+-- the terms of one more item
+pub flat_next : {A B : Type 0} (f : A → List B) (all : List A) (i : ℕ) (x : A) → i < length all →
+    x ≡ get_or all i x → flat_map f (drop i all) ≡ f x ++ flat_map f (drop (i + 1) all)
+flat_next f all i x lt is =
+    ap (flat_map f) (drop_more all i x lt)
+    ∙ ap (λ y. f y ++ flat_map f (drop (i + 1) all)) (sym is)
 
-  -- no term is left, or no clock
-  pub each_end : length es ≤ i → whole ≡ now
-  each_end le = known ∙ ap (λ l. with_terms now (placed_each ctx (drop i ks) l)) (drop_all i es le)
+-- and of one more argument, which may have no clock
+pub each_next : (ctx : Context) (ks : List Clock) (es : List Term) (i : ℕ) (e : Term) →
+    i < length es → e ≡ get_or es i e →
+    placed_each ctx (drop i ks) (drop i es)
+    ≡ listed (λ k. placed_terms ctx k e) (slice_get ks i)
+    ++ placed_each ctx (drop (i + 1) ks) (drop (i + 1) es)
+each_next ctx ks es i e lt is =
+    by (placed_each ctx (drop (i + 1) ks) (drop (i + 1) es)) refl (slice_get_cases ks i).1
+  where
+    short : (es : List Term) → placed_each ctx [] es ≡ []
+    short [] = refl
+    short (e ∷ es) = refl
 
-  pub each_short : length ks ≤ i → whole ≡ now
-  each_short le =
-      known ∙ ap (λ l. with_terms now (placed_each ctx l (drop i es))) (drop_all i ks le)
-      ∙ ap (with_terms now) (by (drop i es))
-    where
-      by : (es : List Term) → placed_each ctx [] es ≡ []
-      by [] = refl
-      by (e ∷ es) = refl
+    by : (later : List FoundTerm) → placed_each ctx (drop (i + 1) ks) (drop (i + 1) es) ≡ later →
+        ((k : Clock) × (i < length ks) × (slice_get ks i ≡ Some k) × (get_or ks i k ≡ k))
+        ⊎ ((length ks ≤ i) × (slice_get ks i ≡ None)) →
+        placed_each ctx (drop i ks) (drop i es)
+        ≡ listed (λ k. placed_terms ctx k e) (slice_get ks i) ++ later
+    by later h (inl (k, less, at, same)) =
+        ap₂ (placed_each ctx) (drop_more ks i k less) (drop_more es i e lt)
+        ∙ ap₂ (λ y z. placed_terms ctx y z ++ placed_each ctx (drop (i + 1) ks) (drop (i + 1) es))
+        same (sym is)
+        ∙ ap (λ l. placed_terms ctx k e ++ l) h
+        ∙ sym (ap (λ o. listed (λ k. placed_terms ctx k e) o ++ later) at)
+    by later h (inr (le, none)) =
+        ap (λ l. placed_each ctx l (drop i es)) (drop_all i ks le) ∙ short (drop i es)
+        ∙ sym (ap (λ o. listed (λ k. placed_terms ctx k e) o ++ later) none ∙ sym h
+        ∙ ap (λ l. placed_each ctx l (drop (i + 1) es)) (drop_all (i + 1) ks (omega (arith, le)))
+        ∙ short (drop (i + 1) es))
 
--- ## Terms by their forms
+-- ## Terms of which something is known
+
+pub placed_as :
+    (own own' : List Operand) (ts ts' : List FoundTerm) (f g : FoundNode)
+    (known left : List Operand) → own' ≡ own → ts' ≡ ts → IsPlaced own ts f g known left →
+    IsPlaced own' ts' f g known left
+placed_as own own' ts ts' f g known left o t p = λ others is.
+    let r = p others (is ∙ ap (λ l. l ++ others) o) in
+    (r.0, r.1 ∙ ap (with_terms f) (sym t))
+
+-- a term, and then those within it
+pub placed_noted :
+    (own : List Operand) (t : FoundTerm) (ts : List FoundTerm) (f noted g : FoundNode)
+    (known left : List Operand) → noted ≡ with_term f t → IsPlaced own ts noted g known left →
+    IsPlaced own (t ∷ ts) f g known left
+placed_noted own t ts f noted g known left n p = λ others is.
+    let r = p others is in (r.0, r.1 ∙ ap (λ h. with_terms h ts) n)
 
 -- a term without operands
-abbrev pub IsLeaf : Term → Type 0
-IsLeaf t =
-    ((n : ℕ) × (t ≡ Literal n))
-    ⊎ (((b : Bool) × (t ≡ Truth b))
-    ⊎ (((i : StaticId) × (t ≡ Value i)) ⊎ ((x : VariableId) × (t ≡ Variable x))))
+pub placed_leaf :
+    (t : FoundTerm) (f noted : FoundNode) (known : List Operand) → noted ≡ with_term f t →
+    IsPlaced [] (t ∷ []) f noted known known
+placed_leaf t f noted known n = λ others is. (is, n)
+
+pub placed_both :
+    (xs ys : List Operand) (ts us : List FoundTerm) (f g h : FoundNode)
+    (known mid left : List Operand) → IsPlaced xs ts f g known mid → IsPlaced ys us g h mid left →
+    IsPlaced (xs ++ ys) (ts ++ us) f h known left
+placed_both xs ys ts us f g h known mid left p q = λ others is.
+    let r = p (ys ++ others) (is ∙ append_assoc xs ys others) in
+    let s = q others r.0 in
+    (s.0, s.1 ∙ ap (λ k. with_terms k us) r.1 ∙ sym (more_terms f ts us))
+
+-- what is known of the operands themselves, and then of the terms within them
+pub taken_first : (os xs others known : List Operand) (n : ℕ) → length os ≡ n →
+    known ≡ (os ++ xs) ++ others → take n (drop 0 known) ≡ os
+taken_first os xs others known n e is =
+    ap (take n) (is ∙ append_assoc os xs others) ∙ take_at os (xs ++ others) n e
+
+pub left_past : (os xs others known : List Operand) (n : ℕ) → length os ≡ n →
+    known ≡ (os ++ xs) ++ others → drop n known ≡ xs ++ others
+left_past os xs others known n e is =
+    ap (drop n) (is ∙ append_assoc os xs others) ∙ drop_at os (xs ++ others) n e
+
+-- ## Terms from a place on
+
+-- some of these terms are placed, and the rest is left
+abbrev pub AreLeft :
+    (own rest : List Operand) (all later : List FoundTerm) (f now : FoundNode)
+    (known left : List Operand) → Type 0
+AreLeft own rest all later f now known left =
+    (others : List Operand) → known ≡ own ++ others →
+    (left ≡ rest ++ others) × (with_terms f all ≡ with_terms now later)
+
+pub left_start : (own : List Operand) (all : List FoundTerm) (f : FoundNode)
+    (known : List Operand) → AreLeft own own all all f f known known
+left_start own all f known = λ others is. (is, refl)
+
+pub left_more :
+    (own rest xs rest' : List Operand) (all later ts later' : List FoundTerm)
+    (f now more : FoundNode) (known left left' : List Operand) →
+    AreLeft own rest all later f now known left → rest ≡ xs ++ rest' → later ≡ ts ++ later' →
+    IsPlaced xs ts now more left left' → AreLeft own rest' all later' f more known left'
+left_more own rest xs rest' all later ts later' f now more known left left' inv r e p =
+    λ others is.
+    let a = inv others is in
+    let s = p (rest' ++ others)
+    (a.0 ∙ ap (λ l. l ++ others) r ∙ append_assoc xs rest' others) in (
+      s.0,
+      a.1 ∙ ap (with_terms now) e ∙ more_terms now ts later'
+          ∙ ap (λ g. with_terms g later') (sym s.1),
+    )
+
+pub left_end :
+    (own rest : List Operand) (all later : List FoundTerm) (f now : FoundNode)
+    (known left : List Operand) → AreLeft own rest all later f now known left → rest ≡ [] →
+    later ≡ [] → IsPlaced own all f now known left
+left_end own rest all later f now known left inv r e = λ others is.
+    let a = inv others is in
+    (a.0 ∙ ap (λ l. l ++ others) r, sym (a.1 ∙ ap (with_terms now) e))
+
+-- ## Terms by their forms
 
 module _ (ctx : Context) (k : Clock) where
   pub leaf_placed : (t : Term) → IsLeaf t → placed_terms ctx k t ≡ part k ∷ []
@@ -156,17 +223,21 @@ module _ (ctx : Context) (k : Clock) where
   unfolding placed_terms
   group_placed t e is = rw is refl
 
-  pub operand_placed : (t : Term) (e : Box Term Global) → IsSingle t e →
-      placed_terms ctx k t
-      ≡ part k ∷ placed_terms ctx (operand_clock ctx k t (infer_clock ctx e.value)) e.value
+  pub operand_placed : (t : Term) (e : Box Term Global) → IsPlain t e →
+      placed_terms ctx k t ≡ part k ∷ placed_terms ctx (operand_clock ctx k t) e.value
   unfolding placed_terms
   operand_placed t e (inl (op, is)) = rw is refl
   operand_placed t e (inr (inl is)) = rw is refl
-  operand_placed t e (inr (inr (inl is))) = rw is refl
-  operand_placed t e (inr (inr (inr (inl (x, sign, is))))) = rw is refl
-  operand_placed t e (inr (inr (inr (inr (inl (n, is)))))) = rw is refl
-  operand_placed t e (inr (inr (inr (inr (inr (inl (i, is))))))) = rw is refl
-  operand_placed t e (inr (inr (inr (inr (inr (inr (i, j, is))))))) = rw is refl
+  operand_placed t e (inr (inr (inl (x, sign, is)))) = rw is refl
+  operand_placed t e (inr (inr (inr (inl (n, is))))) = rw is refl
+  operand_placed t e (inr (inr (inr (inr (inl (i, is)))))) = rw is refl
+  operand_placed t e (inr (inr (inr (inr (inr (i, j, is)))))) = rw is refl
+
+  pub current_placed : (t : Term) (e : Box Term Global) → t ≡ Current e →
+      placed_terms ctx k t
+      ≡ part k ∷ placed_terms ctx (determined_clock (infer_clock ctx e.value)) e.value
+  unfolding placed_terms
+  current_placed t e is = rw is refl
 
   pub operands_placed : (t : Term) (a b : Box Term Global) → IsPair t a b →
       placed_terms ctx k t
@@ -191,16 +262,6 @@ module _ (ctx : Context) (k : Clock) where
   unfolding placed_terms
   row_items n end_of-Term = refl
   row_items n (more_of-Term e rest) = ap (λ l. placed_terms ctx k e ++ l) (row_items _ rest)
-
-  -- a term with these operands in a row, on its own clock
-  abbrev pub HasRow : Term → Vec Term Global → Type 0
-  HasRow t es =
-      (t ≡ Array es)
-      ⊎ ((t ≡ AtMostOne es)
-      ⊎ ((t ≡ Nor es)
-      ⊎ (((it : ArrayIterator) × (c : CallId) × (t ≡ IterateNode it c es))
-      ⊎ ((it : ArrayIterator) × (op : BinaryOperator) × (n : StaticId)
-      × (t ≡ IterateSymbol it op n es)))))
 
   hidden : (t : Term) (es : Vec Term Global) → items-the_row-Term _ (row_in t).1 ≡ es.items →
       placed_row ctx k (row_in t).1 ≡ placed_all ctx k es.items
@@ -236,7 +297,7 @@ module _ (ctx : Context) (k : Clock) where
   symbol_placed it op n es =
       ap (λ l. part k ∷ l) (hidden (IterateSymbol it op n es) es (items_hidden-the_row-Term-0 es))
 
-  pub row_placed : (t : Term) (es : Vec Term Global) → HasRow t es →
+  pub row_placed : (t : Term) (es : Vec Term Global) → IsPlainRow t es →
       placed_terms ctx k t ≡ row_term k t ∷ placed_all ctx k es.items
   row_placed t es (inl e) =
       ap (placed_terms ctx k) e ∙ array_placed es
@@ -278,6 +339,11 @@ module _ (ctx : Context) where
       (argument_items (call_clocks ctx k c (operands_in ctx row)) _ row
       ∙ ap₂ (λ l es. placed_each ctx (call_clocks ctx k c l) es) os same)
 
+  pub side_group : (lefts : List VariableId) (t : Term) (e : Box Term Global) → t ≡ Group e →
+      placed_side ctx lefts t ≡ placed_side ctx lefts e.value
+  unfolding placed_side
+  side_group lefts t e is = rw is refl
+
   pub side_placed : (lefts : List VariableId) (c : CallId) (es : Vec Term Global) →
       placed_side ctx lefts (Call c es)
       ≡ placed_call ctx lefts c (operands_of ctx es.items) es.items
@@ -291,5 +357,3 @@ module _ (ctx : Context) where
       (ap (λ l. side_call ctx lefts l (ctx.callee c)) os)
       (argument_items (side_clocks ctx lefts c (operands_in ctx row)) _ row
       ∙ ap₂ (λ l es. placed_each ctx (side_clocks ctx lefts c l) es) os same)
-
-pub ruleset each = (each_more, each_end, each_short)

@@ -1,9 +1,9 @@
 -- What a walk over a term adds, from what it adds for the operands of the term.
 use Rattle.std.proofs.Common.{◌≡◌, inl, inr, ℕ, ◌+◌, ◌-◌, ◌<◌, ◌≤◌, List, [], ◌∷◌, ◌++◌, length}
 use Rattle.std.proofs.Common.{map, drop, get_or, Option, Some, None, Box, Vec, Global, refl, ap}
-use Rattle.std.proofs.Common.{sym, subst, ◌∙◌, arith, Result, IfOk, OnOk}
+use Rattle.std.proofs.Common.{sym, subst, ◌∙◌, Result, IfOk, OnOk}
 use Rattle.std.specs.Prelude.{option_map, reverse}
-use Rattle.std.proofs.lemmas.List.{append_assoc, append-nil, drop_all, drop_more, reverse-append}
+use Rattle.std.proofs.lemmas.List.{append_assoc, append-nil, reverse-append}
 use Rattle.std.proofs.lemmas.List.{reverse-reverse}
 use Rattle.lb_syntax.specs.Lists.{◌>>=◌, all_some}
 use Rattle.lb_static.specs.declared.resolved.Term.{Term, Group, If}
@@ -19,6 +19,7 @@ use Rattle.lb_check.specs.TermTypes.{when_both, when_truth}
 use Rattle.lb_check.specs.Types.{common_type, only, singly}
 use Rattle.lb_check.proofs.BrokenRules.{both_found, if_found}
 use Rattle.lb_check.proofs.OneType.{type_is_only}
+use Rattle.lb_check.proofs.TurnedLists.{all_last, further, more_last, none_last}
 use Rattle.lb_check.proofs.TypeParts.{IsPair as IsWidePair, single_none, single_type}
 use Rattle.lb_check.proofs.TypeRows.{results_of_row}
 use Rattle.lb_check.proofs.TypeWalks.{IsLeaf, group_placed, row_placed}
@@ -33,14 +34,6 @@ added before mid after whole xs r m a w =
     a ∙ ap (λ l. l ++ (r ∷ [])) m ∙ append_assoc before (reverse xs) (r ∷ [])
     ∙ ap (λ l. before ++ l) (sym (reverse-append (r ∷ []) xs))
     ∙ ap (λ l. before ++ reverse l) (sym w)
-
--- the parts of an operand, and then those of one before it
-pub further :
-    (before mid after xs ys : List FoundTypes) → mid ≡ before ++ reverse ys →
-    after ≡ mid ++ reverse xs → after ≡ before ++ reverse (xs ++ ys)
-further before mid after xs ys m a =
-    a ∙ ap (λ l. l ++ reverse xs) m ∙ append_assoc before (reverse ys) (reverse xs)
-    ∙ ap (λ l. before ++ l) (sym (reverse-append xs ys))
 
 -- the parts the other way round
 pub parts_turned :
@@ -205,7 +198,7 @@ module _ (ctx : Context) where
 
     pub row_start : (row : Option (List DataType)) → row ≡ Some [] → AreWalked 0 before row
     row_start row e =
-        let none : drop (length all - 0) all ≡ [] = drop_all (length all - 0) all (omega arith) in (
+        let none = none_last all in (
           ap (option_map reverse) e ∙ sym (ap (types_of ctx) none),
           sym (ap (λ es. before ++ reverse (placed_all_types ctx es)) none ∙ append-nil before),
         )
@@ -216,13 +209,8 @@ module _ (ctx : Context) where
         AreWalked seen now row → IsWalked ctx x now more own → next ≡ with_one row own →
         AreWalked (seen + 1) more next
     row_more seen now more row next x own lt is w e n =
-        let at = length all - 1 - seen in
-        let place : length all - (seen + 1) ≡ at = omega arith in
-        let later : at + 1 ≡ length all - seen = omega (arith, lt) in
         let rest = drop (length all - seen) all in
-        let split : drop (length all - (seen + 1)) all ≡ x ∷ rest =
-        ap (λ i. drop i all) place ∙ drop_more all at x (omega (arith, lt))
-        ∙ ap (λ y. y ∷ drop (at + 1) all) (sym is) ∙ ap (λ i. x ∷ drop i all) later in (
+        let split = more_last all seen x lt is in (
           ap (option_map reverse) n
               ∙ longer row own (map (type_of ctx) rest) w.0
               ∙ ap (λ o. all_some (o ∷ map (type_of ctx) rest)) e.0
@@ -236,7 +224,7 @@ module _ (ctx : Context) where
         (given : Option (List DataType)) → length all ≤ seen → AreWalked seen now row →
         given ≡ option_map reverse row → IsRowWalked ctx all before now given
     row_end seen now row given le w g =
-        let none : length all - seen ≡ 0 = omega (arith, le) in (
-          g ∙ w.0 ∙ ap (λ i. types_of ctx (drop i all)) none,
-          w.1 ∙ ap (λ i. before ++ reverse (placed_all_types ctx (drop i all))) none,
+        let whole = all_last all seen le in (
+          g ∙ w.0 ∙ ap (types_of ctx) whole,
+          w.1 ∙ ap (λ es. before ++ reverse (placed_all_types ctx es)) whole,
         )

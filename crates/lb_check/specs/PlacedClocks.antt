@@ -117,11 +117,15 @@ abbrev pub determined_clock : ClockSet → Clock
 determined_clock (OneClock k) = k
 determined_clock s = Base
 
--- the clock of the one operand of a term on clock k, where the operand accepts these
-abbrev pub operand_clock : Context → Clock → Term → ClockSet → Clock
-operand_clock ctx k (Current' p e) s = determined_clock s
-operand_clock ctx k (When' p e x sign) s = ctx.variable x
-operand_clock ctx k t s = k
+-- the clock of the one operand of a term on clock k, if that is not `current`
+abbrev pub operand_clock : Context → Clock → Term → Clock
+operand_clock ctx k (When' p e x sign) = ctx.variable x
+operand_clock ctx k t = k
+
+-- the clock of the operand of `current`, which is the first of these
+abbrev pub current_clock : List Operand → Clock
+current_clock [] = Base
+current_clock (o ∷ os) = determined_clock o.clock_set
 
 -- the clocks of the arguments of a callee that runs on this clock, where these variables of the
 -- caller stand for those of the callee
@@ -166,6 +170,14 @@ iterated_call k = record { runs = k; given = [] }
 abbrev pub row_term : Clock → Term → FoundTerm
 row_term k (IterateNode' it c arity all) = called k (iterated_call k)
 row_term k t = part k
+
+-- these terms are found: what is known of others is left
+abbrev pub IsPlaced :
+    List Operand → List FoundTerm → (before after : FoundNode) → (known left : List Operand) →
+    Type 0
+IsPlaced own found before after known left =
+    (others : List Operand) → known ≡ own ++ others →
+    (left ≡ others) × (after ≡ with_terms before found)
 
 -- ## Terms
 

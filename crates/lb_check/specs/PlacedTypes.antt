@@ -2,7 +2,7 @@
 -- kept of them.
 -- This file mirrors code (src/placed_types.rt, src/found_types.rt); no definition of the language
 -- stands on it.
-use Rattle.std.specs.Prelude.{◌≡◌, ℕ, ◌-◌, ◌<◌, min, Option, Some, None, option_map, List, Vec}
+use Rattle.std.specs.Prelude.{◌≡◌, ℕ, ◌-◌, ◌<◌, ◌≤◌, min, Option, Some, None, option_map, List, Vec}
 use Rattle.std.specs.Prelude.{[], ◌∷◌, ◌++◌, flat_map, length, map, reverse, take, drop, slice_get}
 use Rattle.std.specs.Prelude.{sum_by}
 use Rattle.std.specs.Global.{Global}
@@ -158,6 +158,18 @@ with_term f o = with_types f (either_or o [])
 abbrev pub with_terms : FoundNode → List FoundTypes → FoundNode
 with_terms f [] = f
 with_terms f (o ∷ os) = with_terms (with_term f o) os
+
+-- how many scalar elements a term counts with
+abbrev pub part_size : FoundTypes → ℕ
+part_size o = min (total (either_or o [])) 65537
+
+abbrev pub stored_size : Option (Vec stored.DataType Global) → ℕ
+stored_size part = part_size (option_map view_types part)
+
+-- all terms are kept, or they have this many scalar elements or more
+abbrev pub AreNoted : ℕ → List FoundTypes → Option FoundNode → Type 0
+AreNoted many os None = many ≤ sum_by part_size os
+AreNoted many os (Some f) = f ≡ with_terms nothing_found os
 
 -- all that is kept of a specialization
 abbrev pub found_of : Reached → Table → Specialization → FoundNode

@@ -1,6 +1,6 @@
 -- The clocks that a term accepts, as the code finds it.
--- This file mirrors code (src/term_clock.rt, src/call_clock.rt, src/clock_rules.rt); no definition
--- of the language stands on it.
+-- This file mirrors code (src/term_clock.rt, src/walked_clocks.rt, src/call_clock.rt,
+-- src/clock_rules.rt); no definition of the language stands on it.
 use Rattle.std.specs.Prelude.{ℕ, ◌+◌, ◌-◌, nat_lt, nat_eq, Bool, true, false, ◌&&◌, ◌||◌, not}
 use Rattle.std.specs.Prelude.{Option, Some, None, is_some, option_map, List, [], ◌∷◌, map, take}
 use Rattle.std.specs.Prelude.{drop, length, slice_get, if◌then◌else◌}
@@ -209,11 +209,6 @@ unfoldable mutual
   operands_in ctx end_of-Term = []
   operands_in ctx (more_of-Term e rest) =
       record { clock_set = infer_clock ctx e; variable = variable_of e } ∷ operands_in ctx rest
-
--- where a term may stand whose two operands, or the branches of whose choice, may stand together
-abbrev pub pair_clock_set : Context → Term → ClockSet → ClockSet
-pair_clock_set ctx (If' p c q a r b) s = both (infer_clock ctx c) s
-pair_clock_set ctx t s = s
 
 -- an operand that a term is
 abbrev pub operand_of : Context → Term → Operand

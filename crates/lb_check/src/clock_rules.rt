@@ -20,8 +20,9 @@ use crate::clock::ill_declared_clock;
 use crate::clock_set::ClockSet;
 use crate::own_clock::{Clock, is_same};
 use crate::part::{IllFormed, Part};
-use crate::term_clock::{ClockEnv, infer_clock, operands_of};
+use crate::term_clock::ClockEnv;
 use crate::used_nodes::used_nodes;
+use crate::walked_clocks::{infer_clock, operands_of};
 use lb_static::{CallId, NodeId, Reached, ResolvedStatement, Table, Term, VariableId};
 use std::alloc::{AllocError, Global};
 

@@ -5,7 +5,7 @@ ghost use Rattle.lb_check.specs.PlacedClocks as placed_mirror;
 
 use crate::own_clock::Clock;
 use lb_static::VariableId;
-use std::alloc::AllocError;
+use std::alloc::{AllocError, Global};
 
 /// A variable of a callee, and that of its caller which stands for it.
 #[derive(Clone, Copy)]
@@ -33,6 +33,16 @@ pub struct NodeClocks {
 }
 
 impl NodeClocks {
+    /// Nothing of any term.
+    pub(crate) fn new(alloc: Global) -> NodeClocks
+        ensures { placed_mirror.found_in result ≡ placed_mirror.nothing_found }
+    {
+        NodeClocks {
+            terms: Vec::new(alloc),
+            calls: Vec::new(alloc),
+        }
+    }
+
     /// Notes the clock of a term that is no call.
     pub(crate) fn note(&mut self, clock: Clock) -> Result<(), AllocError>
         ensures { OnOk result (placed_mirror.found_in self.new

@@ -37,6 +37,7 @@ mod type_rules;
 mod types;
 mod used_nodes;
 mod verdict;
+mod walked_clocks;
 mod walked_types;
 
 pub use checked::Checked;

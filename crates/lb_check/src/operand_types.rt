@@ -2,6 +2,7 @@
 
 ghost use Rattle.std.specs.Prelude.{◌≡◌, pos, Some, map, option_map, IfOk};
 ghost use Rattle.lb_syntax.specs.Lists as lists;
+ghost use Rattle.lb_static.specs.DataTypes.{is_type, truth};
 ghost use Rattle.lb_static.specs.StoredTypes.{view_type, view_types};
 ghost use Rattle.lb_check.specs.StoredTypes.{call_types_in};
 ghost use Rattle.lb_check.specs.TermTypes as mirror;
@@ -140,6 +141,17 @@ pub fn joined(
     match (left, right) {
         (Some(left), Some(right)) => array_types::join_type(left, right),
         _ => Ok(None),
+    }
+}
+
+/// Whether there is a type, a scalar `bool`.
+#[tactic(auto, using(crate::proofs::TruthTypes::truth_either))]
+pub fn is_given_truth(data_type: Option<DataType>) -> bool
+    ensures { result ≡ lists.holds (is_type truth) (option_map view_type data_type) }
+{
+    match data_type {
+        Some(data_type) => data_type.is_truth(),
+        None => false,
     }
 }
 

@@ -1,9 +1,11 @@
 //! The clocks on which terms stand and calls run, from those of the statements of a node down.
 
-ghost use Rattle.std.specs.Prelude.{◌≡◌, ◌<◌, IfOk, OnOk, length, map, slice_index_or};
+ghost use Rattle.std.specs.Prelude.{◌≡◌, ◌++◌, IfOk, OnOk, drop, map, slice_get};
+ghost use Rattle.lb_syntax.specs.Lists.{listed};
 ghost use Rattle.lb_check.specs.PlacedClocks as placed_mirror;
 ghost use Rattle.lb_check.specs.StoredClocks.{context_in, given_in};
 ghost use Rattle.lb_check.specs.TermClocks as mirror;
+ghost use Rattle.lb_check.specs.WalkedClocks.{known_among, known_operands};
 
 use crate::call_clock::{Given, base_clock, expected, inputs_of, result_clock};
 use crate::clock_rules::left_clock;
@@ -11,8 +13,9 @@ use crate::clock_set::{ClockSet, Operand};
 use crate::found_clocks::{CallClock, NodeClocks};
 use crate::given_variables::given_variables;
 use crate::own_clock::Clock;
-use crate::term_clock::{ClockEnv, infer_clock, operands_of};
-use lb_static::{CallId, Reached, ResolvedNode, ResolvedStatement, Term, VariableId};
+use crate::term_clock::ClockEnv;
+use crate::walked_clocks::infer;
+use lb_static::{CallId, Reached, ResolvedNode, ResolvedStatement, Term, VariableId, part_of};
 use std::alloc::{AllocError, Global};
 
 /// The clock that a set determines, or the base clock where it determines none.
@@ -25,22 +28,31 @@ fn determined_clock(clock_set: ClockSet) -> Clock
     }
 }
 
-/// The clock of the one operand of a term that stands on this clock.
-fn operand_clock(
-    alloc: Global,
-    env: &ClockEnv,
-    clock: Clock,
-    term: &Term,
-    operand: &Term,
-) -> Result<Clock, AllocError>
-    ensures { IfOk result (λ k. k ≡ placed_mirror.operand_clock (context_in env.now) clock
-        term.now (mirror.infer_clock (context_in env.now) operand.now)) }
+/// The clock of the one operand of a term that stands on this clock and is not `current`.
+fn operand_clock(env: &ClockEnv, clock: Clock, term: &Term) -> Clock
+    ensures { result ≡ placed_mirror.operand_clock (context_in env.now) clock term.now }
 {
     match term {
-        Term::Current(_) => Ok(determined_clock(infer_clock(alloc, env, operand)?)),
-        Term::When(_, x, _) => Ok(env.variable(*x)),
-        _ => Ok(clock),
+        Term::When(_, x, _) => env.variable(*x),
+        _ => clock,
     }
+}
+
+/// The clock of the operand of `current`, which is the first of these.
+fn current_clock(known: &[Operand]) -> Clock
+    ensures { result ≡ placed_mirror.current_clock known.now }
+{
+    match known {
+        [operand, ..] => determined_clock(operand.clock_set),
+        [] => Clock::Base,
+    }
+}
+
+/// What is known past so many operands.
+fn past(known: &[Operand], count: usize) -> &[Operand]
+    ensures { result.now ≡ drop count known.now }
+{
+    &known[count.min(known.len())..]
 }
 
 /// The clocks of the arguments of a callee that runs on this clock.
@@ -202,97 +214,140 @@ fn note_row(
     }
 }
 
-/// The clock at a place.
-fn clock_at(clocks: &[Clock], place: usize) -> Clock
-    requires { place < length clocks.now }
-    ensures { result ≡ slice_index_or clocks.now place result }
-{
-    clocks[place]
-}
-
-/// Notes the clocks of terms that stand on this clock.
+/// Notes the clocks of terms that stand on this clock, and gives what is known of others.
 #[cycle(placing)]
-fn place_all(
+fn place_all<'k>(
     alloc: Global,
     env: &ClockEnv,
     clock: Clock,
     terms: &[Term],
+    known: &'k [Operand],
     placed: &mut NodeClocks,
-) -> Result<(), AllocError>
-    ensures { OnOk result (placed_mirror.found_in placed.new
-        ≡ placed_mirror.with_terms (placed_mirror.found_in placed.old)
-        (placed_mirror.placed_all (context_in env.now) clock terms.now)) }
+) -> Result<&'k [Operand], AllocError>
+    ensures { IfOk result (λ left. placed_mirror.IsPlaced
+        (known_among (context_in env.now) terms.now)
+        (placed_mirror.placed_all (context_in env.now) clock terms.now)
+        (placed_mirror.found_in placed.old) (placed_mirror.found_in placed.new)
+        known.now left.now) }
 {
+    let mut left = known;
     for term in terms {
-        place(alloc, env, clock, term, placed)?;
+        left = place(alloc, env, clock, term, left, placed)?;
     }
-    Ok(())
+    Ok(left)
 }
 
-/// Notes the clocks of terms that stand each on a clock of its own.
+/// The clock at a place, if there is one.
+fn clock_at(clocks: &[Clock], place: usize) -> Option<Clock>
+    ensures { result ≡ slice_get clocks.now place }
+{
+    clocks.get(place).copied()
+}
+
+/// Notes the clocks of an argument that stands on this clock. One without a clock, of which a call
+/// with the right types has none, is noted nowhere.
+#[cycle(placing)]
+fn place_argument<'k>(
+    alloc: Global,
+    env: &ClockEnv,
+    clock: Option<Clock>,
+    term: &Term,
+    known: &'k [Operand],
+    placed: &mut NodeClocks,
+) -> Result<&'k [Operand], AllocError>
+    ensures { IfOk result (λ left. placed_mirror.IsPlaced
+        (known_operands (context_in env.now) term.now)
+        (listed (λ k. placed_mirror.placed_terms (context_in env.now) k term.now) clock)
+        (placed_mirror.found_in placed.old) (placed_mirror.found_in placed.new)
+        known.now left.now) }
+{
+    match clock {
+        Some(clock) => place(alloc, env, clock, term, known, placed),
+        None => {
+            let mut nowhere = NodeClocks::new(alloc);
+            place(alloc, env, Clock::Base, term, known, &mut nowhere)
+        }
+    }
+}
+
+/// Notes the clocks of arguments that stand each on a clock of its own, and gives what is known of
+/// others.
 #[inline(always)]
 #[cycle(placing)]
-#[tactic(auto, using(crate::proofs::PlacedRows::each))]
-fn place_each(
+fn place_each<'k>(
     alloc: Global,
     env: &ClockEnv,
     clocks: &[Clock],
     terms: &[Term],
+    known: &'k [Operand],
     placed: &mut NodeClocks,
-) -> Result<(), AllocError>
-    ensures { OnOk result (placed_mirror.found_in placed.new
-        ≡ placed_mirror.with_terms (placed_mirror.found_in placed.old)
-        (placed_mirror.placed_each (context_in env.now) clocks.now terms.now)) }
+) -> Result<&'k [Operand], AllocError>
+    ensures { IfOk result (λ left. placed_mirror.IsPlaced
+        (known_among (context_in env.now) terms.now)
+        (placed_mirror.placed_each (context_in env.now) clocks.now terms.now)
+        (placed_mirror.found_in placed.old) (placed_mirror.found_in placed.new)
+        known.now left.now) }
 {
-    for i in 0..terms.len() {
-        if clocks.len() <= i {
-            return Ok(());
-        }
-        place(alloc, env, clock_at(clocks, i), &terms[i], placed)?;
+    let mut left = known;
+    for (i, term) in terms.iter().enumerate() {
+        left = place_argument(alloc, env, clock_at(clocks, i), term, left, placed)?;
     }
-    Ok(())
+    Ok(left)
 }
 
-/// Notes the clocks of the parts of a term that stands on this clock, in text order.
+/// Notes the clocks of the parts of a term that stands on this clock, in text order, and gives what
+/// is known of others.
 #[cycle(placing)]
-fn place(
+fn place<'k>(
     alloc: Global,
     env: &ClockEnv,
     clock: Clock,
     term: &Term,
+    known: &'k [Operand],
     placed: &mut NodeClocks,
-) -> Result<(), AllocError>
-    ensures { OnOk result (placed_mirror.found_in placed.new
-        ≡ placed_mirror.with_terms (placed_mirror.found_in placed.old)
-        (placed_mirror.placed_terms (context_in env.now) clock term.now)) }
+) -> Result<&'k [Operand], AllocError>
+    ensures { IfOk result (λ left. placed_mirror.IsPlaced
+        (known_operands (context_in env.now) term.now)
+        (placed_mirror.placed_terms (context_in env.now) clock term.now)
+        (placed_mirror.found_in placed.old) (placed_mirror.found_in placed.new)
+        known.now left.now) }
 {
     match term {
-        Term::Group(e) => place(alloc, env, clock, e, placed),
+        Term::Group(e) => place(alloc, env, clock, e, known, placed),
         Term::Literal(_) | Term::Truth(_) | Term::Value(_) | Term::Variable(_) => {
             placed.note(clock)?;
-            Ok(())
+            Ok(known)
         }
         Term::Unary(_, e)
         | Term::Pre(e)
-        | Term::Current(e)
         | Term::When(e, _, _)
         | Term::Replicate(e, _)
         | Term::Index(e, _)
         | Term::Slice(e, _, _) => {
             placed.note(clock)?;
-            let own = operand_clock(alloc, env, clock, term, e)?;
-            place(alloc, env, own, e, placed)
+            place(
+                alloc,
+                env,
+                operand_clock(env, clock, term),
+                e,
+                known,
+                placed,
+            )
+        }
+        Term::Current(e) => {
+            placed.note(clock)?;
+            place(alloc, env, current_clock(known), e, past(known, 1), placed)
         }
         Term::Binary(_, a, b) | Term::Arrow(a, b) | Term::Fby(a, b) | Term::Join(a, b) => {
             placed.note(clock)?;
-            place(alloc, env, clock, a, placed)?;
-            place(alloc, env, clock, b, placed)
+            let right = place(alloc, env, clock, a, known, placed)?;
+            place(alloc, env, clock, b, right, placed)
         }
         Term::If(c, a, b) => {
             placed.note(clock)?;
-            place(alloc, env, clock, c, placed)?;
-            place(alloc, env, clock, a, placed)?;
-            place(alloc, env, clock, b, placed)
+            let left = place(alloc, env, clock, c, known, placed)?;
+            let right = place(alloc, env, clock, a, left, placed)?;
+            place(alloc, env, clock, b, right, placed)
         }
         Term::Array(terms)
         | Term::AtMostOne(terms)
@@ -300,14 +355,14 @@ fn place(
         | Term::IterateNode(_, _, terms)
         | Term::IterateSymbol(_, _, _, terms) => {
             note_row(alloc, clock, term, placed)?;
-            place_all(alloc, env, clock, terms, placed)
+            place_all(alloc, env, clock, terms, known, placed)
         }
         Term::Call(call, terms) => {
-            let operands = operands_of(alloc, env, terms)?;
-            let found = nested_call(alloc, env, clock, *call, &operands)?;
+            let operands = part_of(known, 0, terms.len());
+            let found = nested_call(alloc, env, clock, *call, operands)?;
             placed.note_call(clock, found)?;
-            let clocks = call_clocks(alloc, env, clock, *call, &operands)?;
-            place_each(alloc, env, &clocks, terms, placed)
+            let clocks = call_clocks(alloc, env, clock, *call, operands)?;
+            place_each(alloc, env, &clocks, terms, past(known, terms.len()), placed)
         }
     }
 }
@@ -319,37 +374,58 @@ fn place_call(
     lefts: &[VariableId],
     call: CallId,
     terms: &[Term],
+    known: &[Operand],
     placed: &mut NodeClocks,
 ) -> Result<(), AllocError>
-    ensures { OnOk result (placed_mirror.found_in placed.new
+    ensures { known.now ≡ mirror.operands_of (context_in env.now) terms.now
+        ++ known_among (context_in env.now) terms.now → OnOk result (placed_mirror.found_in placed.new
         ≡ placed_mirror.with_terms (placed_mirror.found_in placed.old)
         (placed_mirror.placed_call (context_in env.now) lefts.now call
         (mirror.operands_of (context_in env.now) terms.now) terms.now)) }
 {
-    let operands = operands_of(alloc, env, terms)?;
-    let found = side_call(alloc, env, lefts, call, &operands)?;
+    let operands = part_of(known, 0, terms.len());
+    let found = side_call(alloc, env, lefts, call, operands)?;
     placed.note_call(left_clock(env, lefts), found)?;
-    let clocks = side_clocks(alloc, env, lefts, call, &operands)?;
-    place_each(alloc, env, &clocks, terms, placed)
+    let clocks = side_clocks(alloc, env, lefts, call, operands)?;
+    place_each(alloc, env, &clocks, terms, past(known, terms.len()), placed)?;
+    Ok(())
+}
+
+/// Notes the clocks of a term that is a whole side on this clock.
+fn place_whole(
+    alloc: Global,
+    env: &ClockEnv,
+    clock: Clock,
+    term: &Term,
+    known: &[Operand],
+    placed: &mut NodeClocks,
+) -> Result<(), AllocError>
+    ensures { known.now ≡ known_operands (context_in env.now) term.now → OnOk result (placed_mirror.found_in placed.new
+        ≡ placed_mirror.with_terms (placed_mirror.found_in placed.old)
+        (placed_mirror.placed_terms (context_in env.now) clock term.now)) }
+{
+    place(alloc, env, clock, term, known, placed)?;
+    Ok(())
 }
 
 /// Notes the clocks of the right side of an equation.
-#[tactic(auto, unfolding(crate::specs::PlacedClocks::placed_side))]
+#[tactic(auto, using(crate::proofs::WalkedClocks::group_known), unfolding(crate::specs::PlacedClocks::placed_side))]
 fn place_side(
     alloc: Global,
     env: &ClockEnv,
     lefts: &[VariableId],
     right: &Term,
+    known: &[Operand],
     placed: &mut NodeClocks,
 ) -> Result<(), AllocError>
-    ensures { OnOk result (placed_mirror.found_in placed.new
+    ensures { known.now ≡ known_operands (context_in env.now) right.now → OnOk result (placed_mirror.found_in placed.new
         ≡ placed_mirror.with_terms (placed_mirror.found_in placed.old)
         (placed_mirror.placed_side (context_in env.now) lefts.now right.now)) }
 {
     match right {
-        Term::Group(e) => place_side(alloc, env, lefts, e, placed),
-        Term::Call(call, terms) => place_call(alloc, env, lefts, *call, terms, placed),
-        _ => place(alloc, env, left_clock(env, lefts), right, placed),
+        Term::Group(e) => place_side(alloc, env, lefts, e, known, placed),
+        Term::Call(call, terms) => place_call(alloc, env, lefts, *call, terms, known, placed),
+        _ => place_whole(alloc, env, left_clock(env, lefts), right, known, placed),
     }
 }
 
@@ -365,10 +441,14 @@ fn place_statement(
         (placed_mirror.placed_statement (context_in env.now) statement.now)) }
 {
     match statement {
-        ResolvedStatement::Equation(lefts, right) => place_side(alloc, env, lefts, right, placed),
+        ResolvedStatement::Equation(lefts, right) => {
+            let found = infer(alloc, env, right)?;
+            place_side(alloc, env, lefts, right, &found.operands, placed)
+        }
         ResolvedStatement::Assertion(term) => {
-            let clock = determined_clock(infer_clock(alloc, env, term)?);
-            place(alloc, env, clock, term, placed)
+            let found = infer(alloc, env, term)?;
+            let clock = determined_clock(found.clock_set);
+            place_whole(alloc, env, clock, term, &found.operands, placed)
         }
     }
 }
@@ -379,10 +459,7 @@ fn node_clocks(alloc: Global, env: &ClockEnv) -> Result<NodeClocks, AllocError>
         ≡ placed_mirror.with_terms placed_mirror.nothing_found
         (placed_mirror.node_terms env.now.reached.now env.now.node.now)) }
 {
-    let mut placed = NodeClocks {
-        terms: Vec::new(alloc),
-        calls: Vec::new(alloc),
-    };
+    let mut placed = NodeClocks::new(alloc);
     for statement in &env.node.body {
         place_statement(alloc, env, statement, &mut placed)?;
     }

@@ -1,6 +1,6 @@
 //! The types of the terms of each specialization, for the layer above.
 
-ghost use Rattle.std.specs.Prelude.{◌≡◌, option_map, IfOk, OnOk};
+ghost use Rattle.std.specs.Prelude.{◌≡◌, ◌≤◌, min, option_map, sum_by, IfOk, OnOk};
 ghost use Rattle.lb_static.specs.StoredTypes.{view_types};
 ghost use Rattle.lb_check.specs.PlacedTypes as placed_mirror;
 ghost use Rattle.lb_check.specs.StoredTypes.{context_in};
@@ -8,7 +8,7 @@ ghost use Rattle.lb_check.specs.StoredTypes.{context_in};
 use crate::found_types::NodeTypes;
 use crate::type_env::TypeEnv;
 use crate::walked_types::walk;
-use lb_static::{DataType, Reached, ResolvedStatement, Specialization, Table, Term};
+use lb_static::{DataType, Reached, ResolvedStatement, Specialization, Table, Term, element_count};
 use std::alloc::{AllocError, Global};
 
 /// The greatest size of a program.
@@ -54,61 +54,92 @@ fn parts_of(
     Ok(parts)
 }
 
-/// Notes the types of a statement.
-fn place_statement(
+/// How many scalar elements the results of a part have, or 65,537 for more than 65,536.
+fn part_size(part: &Option<Vec<DataType>>) -> u32
+    ensures { result ≡ placed_mirror.stored_size part.now }
+{
+    match part {
+        Some(types) => element_count(types),
+        None => 0,
+    }
+}
+
+/// How many scalar elements some parts have together, or 65,537 for more than 65,536.
+fn parts_size(parts: &[Option<Vec<DataType>>]) -> u32
+    ensures { result ≡ min (sum_by placed_mirror.stored_size parts.now) 65537 }
+{
+    let mut left = MOST + 1;
+    for part in parts {
+        left = left.saturating_sub(part_size(part));
+    }
+    MOST + 1 - left
+}
+
+/// The types of the results of the parts of a statement, in text order.
+fn statement_parts(
     alloc: Global,
     env: &TypeEnv,
     statement: &ResolvedStatement,
-    found: &mut NodeTypes,
-) -> Result<(), AllocError>
-    ensures { OnOk result (placed_mirror.found_in found.new
-        ≡ placed_mirror.with_terms (placed_mirror.found_in found.old)
-        (placed_mirror.statement_types (context_in env.now) statement.now)) }
+) -> Result<Vec<Option<Vec<DataType>>>, AllocError>
+    ensures { IfOk result (λ parts. placed_mirror.parts_in parts.items
+        ≡ placed_mirror.statement_types (context_in env.now) statement.now) }
 {
     let (ResolvedStatement::Equation(_, term) | ResolvedStatement::Assertion(term)) = statement;
-    note_all(&parts_of(alloc, env, term)?, found)
+    parts_of(alloc, env, term)
 }
 
-/// What is found of the terms of a specialization.
-fn node_types(alloc: Global, env: &TypeEnv) -> Result<NodeTypes, AllocError>
-    ensures { IfOk result (λ found. placed_mirror.found_in found
-        ≡ placed_mirror.with_terms placed_mirror.nothing_found
-        (placed_mirror.node_types (context_in env.now) env.now.node.now)) }
+/// What is found of the terms of a specialization, or nothing where they have this many scalar
+/// elements or more: statements behind those that have as many are not looked at.
+fn node_types(alloc: Global, env: &TypeEnv, many: u32) -> Result<Option<NodeTypes>, AllocError>
+    requires { many ≤ 65537 }
+    ensures { IfOk result (λ found. placed_mirror.AreNoted many
+        (placed_mirror.node_types (context_in env.now) env.now.node.now)
+        (option_map placed_mirror.found_in found)) }
 {
     let mut found = NodeTypes {
         terms: Vec::new(alloc),
         sizes: Vec::new(alloc),
     };
+    let mut left = many;
     for statement in &env.node.body {
-        place_statement(alloc, env, statement, &mut found)?;
+        let parts = statement_parts(alloc, env, statement)?;
+        left = left.saturating_sub(parts_size(&parts));
+        if left == 0 {
+            return Ok(None);
+        }
+        note_all(&parts, &mut found)?;
     }
-    Ok(found)
+    Ok(Some(found))
 }
 
-/// What is found of the terms of a specialization of the table.
+/// What is found of the terms of a specialization of the table, or nothing where they have this
+/// many scalar elements or more.
 fn specialization_types(
     alloc: Global,
     reached: &Reached,
     table: &Table,
     specialization: &Specialization,
-) -> Result<NodeTypes, AllocError>
-    ensures { IfOk result (λ found. placed_mirror.found_in found
-        ≡ placed_mirror.found_of reached.now table.now specialization.now) }
+    many: u32,
+) -> Result<Option<NodeTypes>, AllocError>
+    requires { many ≤ 65537 }
+    ensures { IfOk result (λ found. placed_mirror.AreNoted many
+        (placed_mirror.specialization_types reached.now table.now specialization.now)
+        (option_map placed_mirror.found_in found)) }
 {
     match reached.nodes.get(specialization.node.0) {
-        Some(node) => node_types(
-            alloc,
-            &TypeEnv {
+        Some(node) => {
+            let env = TypeEnv {
                 reached,
                 table,
                 node,
                 specialization,
-            },
-        ),
-        None => Ok(NodeTypes {
+            };
+            node_types(alloc, &env, many)
+        }
+        None => Ok(Some(NodeTypes {
             terms: Vec::new(alloc),
             sizes: Vec::new(alloc),
-        }),
+        })),
     }
 }
 
@@ -124,7 +155,9 @@ pub fn placed_types(
     let mut all = Vec::new(alloc);
     let mut left = MOST + 1;
     for specialization in &table.specializations {
-        let found = specialization_types(alloc, reached, table, specialization)?;
+        let Some(found) = specialization_types(alloc, reached, table, specialization, left)? else {
+            return Ok(None);
+        };
         left = left.saturating_sub(found.size());
         if left == 0 {
             return Ok(None);

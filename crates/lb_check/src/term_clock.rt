@@ -1,17 +1,13 @@
-//! The clocks that terms accept (E10).
-//!
-//! What `infer_clock` calls of itself is inlined, so that a level of nesting has one frame on the
-//! stack.
+//! The clocks that a term accepts, from those that its operands accept (E10).
 
-ghost use Rattle.std.specs.Prelude.{◌≡◌, option_map, IfOk};
+ghost use Rattle.std.specs.Prelude.{◌≡◌, option_map};
 ghost use Rattle.lb_check.specs.StoredClocks.{context_in};
 ghost use Rattle.lb_check.specs.TermClocks as mirror;
 
-use crate::call_clock::{call_clock_set, is_base_clocked, variable_of};
+use crate::call_clock::{call_clock_set, is_base_clocked};
 use crate::clock_set::{ClockSet, Operand, together};
 use crate::own_clock::{Clock, declared_clock, parent};
 use lb_static::{CallId, Reached, ResolvedNode, Term, VariableId};
-use std::alloc::{AllocError, Global};
 
 /// A node whose clocks are judged, among the reached nodes.
 #[derive(Clone, Copy)]
@@ -89,92 +85,5 @@ pub fn unary_clock_set(env: &ClockEnv, term: &Term, operand: ClockSet) -> ClockS
         Term::Current(_) => env.raised(operand),
         Term::When(_, x, sign) => env.sampled(*x, *sign, operand),
         _ => operand,
-    }
-}
-
-/// The operands that some terms are.
-#[inline(always)]
-#[cycle(clock_sets)]
-pub fn operands_of(
-    alloc: Global,
-    env: &ClockEnv,
-    terms: &[Term],
-) -> Result<Vec<Operand>, AllocError>
-    ensures { IfOk result (λ operands.
-        operands.items ≡ mirror.operands_of (context_in env.now) terms.now) }
-{
-    let mut operands = Vec::new(alloc);
-    for term in terms {
-        operands.push(Operand {
-            clock_set: infer_clock(alloc, env, term)?,
-            variable: variable_of(term),
-        })?;
-    }
-    Ok(operands)
-}
-
-/// The clocks that all of some terms accept.
-#[inline(always)]
-#[cycle(clock_sets)]
-fn all_together(alloc: Global, env: &ClockEnv, terms: &[Term]) -> Result<ClockSet, AllocError>
-    ensures { IfOk result (λ s.
-        s ≡ mirror.together (mirror.operands_of (context_in env.now) terms.now)) }
-{
-    let mut clock_set = ClockSet::AnyClock;
-    for term in terms {
-        clock_set = clock_set.both(infer_clock(alloc, env, term)?);
-    }
-    Ok(clock_set)
-}
-
-/// Where a term may stand whose two operands, or the branches of whose choice, may stand there
-/// together.
-#[cycle(clock_sets)]
-fn pair_clock_set(
-    alloc: Global,
-    env: &ClockEnv,
-    term: &Term,
-    pair: ClockSet,
-) -> Result<ClockSet, AllocError>
-    ensures { IfOk result (λ s. s ≡ mirror.pair_clock_set (context_in env.now) term.now pair) }
-{
-    match term {
-        Term::If(c, _, _) => Ok(infer_clock(alloc, env, c)?.both(pair)),
-        _ => Ok(pair),
-    }
-}
-
-/// The clocks that a term accepts, such that it and its parts keep the rules of clocks there.
-#[cycle(clock_sets)]
-pub fn infer_clock(alloc: Global, env: &ClockEnv, term: &Term) -> Result<ClockSet, AllocError>
-    ensures { IfOk result (λ s. s ≡ mirror.infer_clock (context_in env.now) term.now) }
-{
-    match term {
-        Term::Literal(_) | Term::Truth(_) | Term::Value(_) => Ok(ClockSet::AnyClock),
-        Term::Variable(x) => Ok(ClockSet::OneClock(env.variable(*x))),
-        Term::Group(e)
-        | Term::Unary(_, e)
-        | Term::Pre(e)
-        | Term::Current(e)
-        | Term::When(e, _, _)
-        | Term::Replicate(e, _)
-        | Term::Index(e, _)
-        | Term::Slice(e, _, _) => Ok(unary_clock_set(env, term, infer_clock(alloc, env, e)?)),
-        Term::Binary(_, a, b)
-        | Term::Arrow(a, b)
-        | Term::Fby(a, b)
-        | Term::Join(a, b)
-        | Term::If(_, a, b) => {
-            let left = infer_clock(alloc, env, a)?;
-            let pair = left.both(infer_clock(alloc, env, b)?);
-            pair_clock_set(alloc, env, term, pair)
-        }
-        Term::Array(terms)
-        | Term::AtMostOne(terms)
-        | Term::Nor(terms)
-        | Term::IterateSymbol(_, _, _, terms) => all_together(alloc, env, terms),
-        Term::Call(_, terms) | Term::IterateNode(_, _, terms) => {
-            Ok(row_clock_set(env, term, &operands_of(alloc, env, terms)?))
-        }
     }
 }

@@ -14,7 +14,7 @@ use crate::type_env::TypeEnv;
 use crate::type_fault::{TypeFault, TypeRule};
 use crate::type_reason::{TypeReason, all_shown, copy_shown, scalar, shown, type_reason};
 use crate::type_rules::IllTyped;
-use crate::types::{one_type, results, row_results, two_types, type_of};
+use crate::types::{MOST_ELEMENTS, one_type, results, row_results, two_types, type_of};
 use lb_static::{DataType, Reached, ResolvedStatement, Table, Term, VariableId};
 use lb_syntax::{Expr, Kind, Statement};
 use std::alloc::{AllocError, Global};
@@ -59,6 +59,46 @@ fn typed_row<'t>(
         }
     }
     Ok(RowTyping::Typed(types))
+}
+
+/// What is found of an operator on truths.
+#[cycle(typings)]
+fn typed_truths<'t>(
+    alloc: Global,
+    env: &TypeEnv,
+    site: Site<'t>,
+    terms: &'t [Term],
+) -> Result<Typing<'t>, AllocError> {
+    let mut are_truths = true;
+    for (place, term) in terms.iter().enumerate() {
+        match typed_term(alloc, env, term, operand_at(site.expr, place))? {
+            Typing::Typed(data_type) => are_truths = are_truths && data_type.is_truth(),
+            untyped => return Ok(untyped),
+        }
+    }
+    let data_type = if are_truths {
+        Some(DataType::scalar(alloc, Kind::Bool))
+    } else {
+        None
+    };
+    Ok(own_typing(data_type, site))
+}
+
+/// What is found of a list that is too long: no type is kept.
+#[cycle(typings)]
+fn long_list<'t>(
+    alloc: Global,
+    env: &TypeEnv,
+    site: Site<'t>,
+    terms: &'t [Term],
+) -> Result<Typing<'t>, AllocError> {
+    for (place, term) in terms.iter().enumerate() {
+        match typed_term(alloc, env, term, operand_at(site.expr, place))? {
+            Typing::Typed(_) => {}
+            untyped => return Ok(untyped),
+        }
+    }
+    Ok(Typing::Untyped(site))
 }
 
 /// What is found of a term with two operands, of which this is found.
@@ -132,9 +172,9 @@ fn typed_term<'t>(
             let right = typed_term(alloc, env, b, operand_at(expr, 2))?;
             Ok(choice_typing(site, condition, left, right))
         }
+        Term::AtMostOne(terms) | Term::Nor(terms) => typed_truths(alloc, env, site, terms),
+        Term::Array(terms) if MOST_ELEMENTS < terms.len() => long_list(alloc, env, site, terms),
         Term::Array(terms)
-        | Term::AtMostOne(terms)
-        | Term::Nor(terms)
         | Term::Call(_, terms)
         | Term::IterateNode(_, _, terms)
         | Term::IterateSymbol(_, _, _, terms) => match typed_row(alloc, env, terms, expr)? {

@@ -2,22 +2,28 @@
 //!
 //! What `type_of` calls is inlined, so that a level of nesting has one frame on the stack.
 
-ghost use Rattle.std.specs.Prelude.{◌≡◌, map, option_map, IfOk};
+ghost use Rattle.std.specs.Prelude.{◌≡◌, ◌∷◌, [], map, option_map, IfOk};
 ghost use Rattle.std.specs.List.{list_all};
+ghost use Rattle.lb_syntax.specs.Lists as lists;
 ghost use Rattle.lb_static.specs.DataTypes.{is_type, truth};
 ghost use Rattle.lb_static.specs.StoredTypes.{view_type, view_types};
 ghost use Rattle.lb_check.specs.StoredTypes.{context_in};
 ghost use Rattle.lb_check.specs.TermTypes as mirror;
+ghost use Rattle.lb_check.specs.TruthTerms.{is_truth_in};
 ghost use Rattle.lb_check.specs.Types.{list_type, singly};
 
 use crate::array_types::{element_type, iterator_types, list_type, part_type, replicate_type};
 use crate::operand_types::{
-    common_type, joined, literal_type, of_operands, one, only, symbol_types, unary_type, when_truth,
+    common_type, is_given_truth, joined, literal_type, of_operands, one, only, symbol_types,
+    unary_type, when_truth,
 };
 use crate::type_env::TypeEnv;
 use lb_static::{CallId, DataType, Term, are_same};
 use lb_syntax::{ArrayIterator, BinaryOperator, Kind};
 use std::alloc::{AllocError, Global};
+
+/// The most elements of a list.
+pub const MOST_ELEMENTS: usize = 4096;
 
 /// The type of an array of operands of these types, as what a row gives.
 fn list_results(alloc: Global, types: &[DataType]) -> Result<Option<Vec<DataType>>, AllocError>
@@ -179,6 +185,41 @@ fn types_of(
     Ok(Some(types))
 }
 
+/// Whether each of some terms is a truth: no type is kept.
+#[inline(always)]
+#[cycle(typing)]
+fn are_all_truths(alloc: Global, env: &TypeEnv, terms: &[Term]) -> Result<bool, AllocError>
+    ensures { IfOk result (λ all.
+        all ≡ list_all (is_truth_in (context_in env.now)) terms.now) }
+{
+    for term in terms {
+        let data_type = type_of(alloc, env, term)?;
+        if !is_given_truth(data_type) {
+            return Ok(false);
+        }
+    }
+    Ok(true)
+}
+
+/// The types of the results of an operator on truths with these operands.
+#[inline(always)]
+#[cycle(typing)]
+fn truths_results(
+    alloc: Global,
+    env: &TypeEnv,
+    operands: &[Term],
+) -> Result<Option<Vec<DataType>>, AllocError>
+    ensures { IfOk result (λ o. option_map view_types o
+        ≡ lists.where_true (list_all (is_truth_in (context_in env.now)) operands.now)
+        (truth ∷ [])) }
+{
+    if are_all_truths(alloc, env, operands)? {
+        one(alloc, DataType::scalar(alloc, Kind::Bool))
+    } else {
+        Ok(None)
+    }
+}
+
 /// The types of the results of a term with these operands in a row.
 #[inline(always)]
 #[cycle(typing)]
@@ -191,9 +232,13 @@ fn operand_results(
     ensures { IfOk result (λ o. option_map view_types o
         ≡ mirror.operand_results (context_in env.now) term.now operands.now) }
 {
-    match types_of(alloc, env, operands)? {
-        Some(types) => row_results(alloc, env, term, &types),
-        None => Ok(None),
+    match term {
+        Term::AtMostOne(_) | Term::Nor(_) => truths_results(alloc, env, operands),
+        Term::Array(_) if MOST_ELEMENTS < operands.len() => Ok(None),
+        _ => match types_of(alloc, env, operands)? {
+            Some(types) => row_results(alloc, env, term, &types),
+            None => Ok(None),
+        },
     }
 }
 
@@ -260,6 +305,7 @@ pub fn type_of(alloc: Global, env: &TypeEnv, term: &Term) -> Result<Option<DataT
         | Term::IterateSymbol(_, _, _, operands) => {
             Ok(only(operand_results(alloc, env, operands, term)?))
         }
+        Term::Array(operands) if MOST_ELEMENTS < operands.len() => Ok(None),
         Term::Array(operands) => match types_of(alloc, env, operands)? {
             Some(types) => list_type(&types),
             None => Ok(None),

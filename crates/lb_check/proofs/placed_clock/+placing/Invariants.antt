@@ -1,17 +1,23 @@
-use Rattle.std.proofs.Common.{◌≡◌, drop}
+use Rattle.std.proofs.Common.{drop}
 use Rattle.lb_check.specs.PlacedClocks as placed_mirror
 use Rattle.lb_check.specs.StoredClocks.{context_in}
+use Rattle.lb_check.specs.WalkedClocks.{known_among}
+use Rattle.lb_check.proofs.PlacedRows.{AreLeft}
 use Rattle.lb_check.proofs.placed_clock.+placing.Given as goal
 
 abbrev pub invariant-place_all-loop-term : goal.invariant-place_all-loop-term
 invariant-place_all-loop-term l =
-    let of = placed_mirror.placed_all (context_in l.env) l.clock in
-    placed_mirror.with_terms (placed_mirror.found_in l.fn.placed) (of l.terms)
-    ≡ placed_mirror.with_terms (placed_mirror.found_in l.placed) (of (drop l.term-index l.terms))
+    let ctx = context_in l.env in
+    let of = placed_mirror.placed_all ctx l.clock in
+    let rest = drop l.term-index l.terms in
+    AreLeft (known_among ctx l.terms) (known_among ctx rest) (of l.terms) (of rest)
+    (placed_mirror.found_in l.fn.placed) (placed_mirror.found_in l.placed) l.fn.known l.left
 
 abbrev pub invariant-place_each-loop-i : goal.invariant-place_each-loop-i
 invariant-place_each-loop-i l =
-    let of = placed_mirror.placed_each (context_in l.env) in
-    placed_mirror.with_terms (placed_mirror.found_in l.fn.placed) (of l.clocks l.terms)
-    ≡ placed_mirror.with_terms (placed_mirror.found_in l.placed)
-    (of (drop l.i l.clocks) (drop l.i l.terms))
+    let ctx = context_in l.env in
+    let of = placed_mirror.placed_each ctx in
+    let rest = drop l.i l.terms in
+    AreLeft (known_among ctx l.terms) (known_among ctx rest) (of l.clocks l.terms)
+    (of (drop l.i l.clocks) rest)
+    (placed_mirror.found_in l.fn.placed) (placed_mirror.found_in l.placed) l.fn.known l.left

@@ -1,33 +1,36 @@
-use Rattle.std.proofs.Common.{◌≡◌, OnOk, refl, ap, ap₂, subst, ◌∙◌}
-use Rattle.lb_check.specs.PlacedClocks.{called, found_in, placed_call, placed_each, side_call}
-use Rattle.lb_check.specs.PlacedClocks.{side_clocks, with_term, with_terms}
+use Rattle.std.proofs.Common.{◌≡◌, [], length, ap, ap₂, sym, ◌∙◌, arith}
+use Rattle.std.proofs.lemmas.List.{append-nil, length-map}
+use Rattle.lb_check.specs.PlacedClocks.{called, found_in, placed_each, side_call, side_clocks}
+use Rattle.lb_check.specs.PlacedClocks.{with_term, with_terms}
 use Rattle.lb_check.specs.StoredClocks.{context_in}
-use Rattle.lb_check.specs.TermClocks.{left_clock, operands_of}
-use Rattle.lb_check.proofs.PlacedRows.{one_more}
+use Rattle.lb_check.specs.TermClocks.{left_clock, operand_of, operands_of}
+use Rattle.lb_check.specs.WalkedClocks.{known_among}
+use Rattle.lb_check.proofs.PlacedRows.{left_past, taken_first}
 use Rattle.lb_check.proofs.placed_clock.place_call.Goals as goal
 
 pub returns : goal.returns
-returns c =
+returns c = λ is.
     let ctx = context_in c.args.env.now in
     let lefts = c.args.lefts.now in
     let es = c.args.terms.now in
     let call = c.args.call in
+    let known = c.args.known.now in
     let os = operands_of ctx es in
+    let own = known_among ctx es in
     let k = left_clock ctx lefts in
     let old = found_in c.args.placed.now in
     let noted = found_in c.note_call.new.self in
-    let own = called k (side_call ctx lefts os (ctx.callee call)) in
-    let operands : c.in_ok-operands.operands.items ≡ os = c.in_ok-operands.ensures in
-    let first : noted ≡ with_term old own =
+    let noting = called k (side_call ctx lefts os (ctx.callee call)) in
+    let all = length-map es (operand_of ctx) in
+    let whole = is ∙ sym (append-nil _) in
+    let operands : c.part_of-operands.result.now ≡ os =
+    c.part_of-operands.ensures ∙ taken_first os own [] known _ (omega (arith, all)) whole in
+    let first : noted ≡ with_term old noting =
     c.in_ok-note_call.ensures
     ∙ ap₂ (λ z f. with_term old (called z f)) c.left_clock.ensures
-    (c.in_ok-found.ensures
-    ∙ ap (λ l. side_call ctx lefts l (ctx.callee call)) (c.deref.ensures.value ∙ operands)) in
-    let ks : c.deref-3.result.now ≡ side_clocks ctx lefts call os =
-    c.deref-3.ensures.value ∙ c.in_ok-clocks.ensures
-    ∙ ap (side_clocks ctx lefts call) (c.deref-2.ensures.value ∙ operands) in
-    subst (λ l. OnOk c.place_each.result (found_in c.place_each.new.placed ≡ l))
-    (ap (λ ls. with_terms noted (placed_each ctx ls es)) ks
-    ∙ one_more old noted (placed_call ctx lefts call os es) own first
-    (placed_each ctx (side_clocks ctx lefts call os) es) refl)
-    c.place_each.ensures
+    (c.in_ok-found.ensures ∙ ap (λ l. side_call ctx lefts l (ctx.callee call)) operands) in
+    let clocks : c.deref.result.now ≡ side_clocks ctx lefts call os =
+    c.deref.ensures.value ∙ c.in_ok-clocks.ensures ∙ ap (side_clocks ctx lefts call) operands in
+    let r = c.in_ok-place_each.ensures []
+    (c.past.ensures ∙ left_past os own [] known _ (omega (arith, all)) whole) in
+    r.1 ∙ ap₂ (λ f l. with_terms f (placed_each ctx l es)) first clocks

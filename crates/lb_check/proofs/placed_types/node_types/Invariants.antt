@@ -1,4 +1,5 @@
-use Rattle.std.proofs.Common.{◌≡◌, flat_map, drop}
+use Rattle.std.proofs.Common.{◌≡◌, ◌+◌, ◌-◌, ◌≤◌, flat_map, drop}
+use Rattle.std.specs.Prelude.{sum_by}
 use Rattle.lb_check.specs.PlacedTypes as placed_mirror
 use Rattle.lb_check.specs.StoredTypes.{context_in}
 use Rattle.lb_check.proofs.placed_types.node_types.Given as goal
@@ -6,7 +7,14 @@ use Rattle.lb_check.proofs.placed_types.node_types.Given as goal
 abbrev pub invariant-loop-statement : goal.invariant-loop-statement
 invariant-loop-statement l =
     let of = placed_mirror.statement_types (context_in l.env) in
-    placed_mirror.with_terms placed_mirror.nothing_found
-    (placed_mirror.node_types (context_in l.env) l.env.node.now)
-    ≡ placed_mirror.with_terms (placed_mirror.found_in l.found)
-    (flat_map of (drop l.statement-index l.statement-items))
+    let all = placed_mirror.node_types (context_in l.env) l.env.node.now in
+    let later = flat_map of (drop l.statement-index l.statement-items) in
+    record {
+      kept :
+          placed_mirror.with_terms placed_mirror.nothing_found all
+          ≡ placed_mirror.with_terms (placed_mirror.found_in l.found) later;
+      under : l.left ≤ l.many;
+      counted :
+          sum_by placed_mirror.part_size all
+          ≡ (l.many - l.left) + sum_by placed_mirror.part_size later;
+    }

@@ -11,7 +11,8 @@ use Rattle.lb_check.specs.TermTypes.{one_type, type_of, when_both, when_truth}
 use Rattle.lb_check.specs.Types.{common_type}
 use Rattle.lb_check.proofs.TypeParts.{pair_type}
 use Rattle.lb_check.proofs.TypeWalks.{choice_placed, leaf_placed, operand_placed, operands_placed}
-use Rattle.lb_check.proofs.WalkedTypes.{choice_one, choice_type, further, leaf_one, pair_one}
+use Rattle.lb_check.proofs.TurnedLists.{further}
+use Rattle.lb_check.proofs.WalkedTypes.{choice_one, choice_type, leaf_one, pair_one}
 use Rattle.lb_check.proofs.WalkedTypes.{returns_group, returns_one, returns_row, row_end}
 use Rattle.lb_check.proofs.WalkedTypes.{row_more, row_start, single_from, single_one, wide_pair}
 use Rattle.lb_check.proofs.walked_types.+walking.Goals as goal
