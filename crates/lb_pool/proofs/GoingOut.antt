@@ -1,35 +1,31 @@
 -- The text of a live report on its way to a sink, and how far it came.
-use Rattle.std.proofs.Common.{◌≡◌, ℕ, ◌+◌, ◌<◌, ◌≤◌, List, [], ◌∷◌, ◌++◌, Option, None, Some}
+use Rattle.std.proofs.Common.{◌≡◌, ℕ, ◌+◌, ◌<◌, ◌≤◌, List, [], ◌∷◌, ◌++◌}
 use Rattle.std.proofs.Common.{take, drop, get_or, refl, sym, ap, subst, ◌∙◌, append_assoc}
 use Rattle.std.proofs.Common.{add-one, append-nil, arith, length, length-append, suc, zero}
 use Rattle.std.specs.Result.{IsErrAnd}
 use Rattle.std.proofs.lemmas.List.{length-take-le, take-append-drop, take_at}
-use Rattle.std.specs.Io.KnownBytes.{Appends}
 use Rattle.lb_check.specs.declared.verdict.Verdict.{Verdict}
 use Rattle.std.specs.Prelude.{IfErr, OnOk, Result, Ok, Err}
 use Rattle.lb_pool.specs.Reports.{line, lines, report_of, total}
 use Rattle.lb_pool.specs.Follows.{Goes, HasBegun, HasCause, IsFollowed, sent_of}
 use Rattle.lb_pool.specs.declared.follow_error.FollowError.{FollowError}
-use Rattle.lb_pool.proofs.SinkBytes.{Appends-more}
+use Rattle.lb_pool.specs.Taken.{Taken, Takes}
+use Rattle.lb_pool.proofs.SinkBytes.{takes_more, takes_no_byte}
 
 -- ## How far a text came
 
-took_nothing : (a : Option (List ℕ)) → Appends a a []
-took_nothing None = tt
-took_nothing (Some s) = sym (append-nil s)
-
 -- a sink was not written to
-pub goes_nowhere : (a : Option (List ℕ)) (text : List ℕ) (n : ℕ) → Goes a a text text n n
+pub goes_nowhere : (a : Taken) (text : List ℕ) (n : ℕ) → Goes a a text text n n
 goes_nowhere a text n = record {
   gone = [];
-  took = took_nothing a;
+  took = takes_no_byte a;
   parts = refl;
   count = omega arith;
 }
 
 -- the first n bytes of a text went out
-pub goes_front : (before after : Option (List ℕ)) (text : List ℕ) (from n : ℕ) → n ≤ length text
-    → Appends before after (take n text)
+pub goes_front : (before after : Taken) (text : List ℕ) (from n : ℕ) → n ≤ length text
+    → Takes before after (take n text)
     → Goes before after text (drop n text) from (from + n)
 goes_front before after text from n within took = record {
   gone = take n text;
@@ -39,12 +35,12 @@ goes_front before after text from n within took = record {
 }
 
 -- what was left goes further
-pub goes_on : (a b c : Option (List ℕ)) (text rest last : List ℕ) (from between to : ℕ)
+pub goes_on : (a b c : Taken) (text rest last : List ℕ) (from between to : ℕ)
     → Goes a b text rest from between → Goes b c rest last between to
     → Goes a c text last from to
 goes_on a b c text rest last from between to first second = record {
   gone = first.gone ++ second.gone;
-  took = Appends-more a b c first.gone second.gone _ first.took second.took refl;
+  took = takes_more a b c first.gone second.gone _ first.took second.took refl;
   parts =
       first.parts
       ∙ ap (λ xs. first.gone ++ xs) second.parts
@@ -54,7 +50,7 @@ goes_on a b c text rest last from between to first second = record {
 }
 
 -- more text to come
-pub goes_more : (a b : Option (List ℕ)) (text rest more : List ℕ) (from to : ℕ)
+pub goes_more : (a b : Taken) (text rest more : List ℕ) (from to : ℕ)
     → Goes a b text rest from to → Goes a b (text ++ more) (rest ++ more) from to
 goes_more a b text rest more from to goes = record {
   gone = goes.gone;
@@ -64,7 +60,7 @@ goes_more a b text rest more from to goes = record {
 }
 
 -- what went out of a text are its first bytes, and those of a text that begins with it
-pub has_begun : (a b : Option (List ℕ)) (text rest : List ℕ) (to : ℕ)
+pub has_begun : (a b : Taken) (text rest : List ℕ) (to : ℕ)
     → Goes a b text rest 0 to → HasBegun text to a b
 has_begun a b text rest to goes =
     let front : take to text ≡ goes.gone =
@@ -72,16 +68,16 @@ has_begun a b text rest to goes =
     record {
       within = let l = ap length goes.parts ∙ length-append goes.gone rest in
           omega (arith, goes.count, l);
-      gone = subst (λ xs. Appends a b xs) (sym front) goes.took;
+      gone = subst (λ xs. Takes a b xs) (sym front) goes.took;
     }
 
 -- all of a text went out
-pub has_gone : (a b : Option (List ℕ)) (text rest : List ℕ) (from to : ℕ)
-    → Goes a b text rest from to → rest ≡ [] → Appends a b text
+pub has_gone : (a b : Taken) (text rest : List ℕ) (from to : ℕ)
+    → Goes a b text rest from to → rest ≡ [] → Takes a b text
 has_gone a b text rest from to goes none =
     let whole : text ≡ goes.gone =
     goes.parts ∙ ap (λ xs. goes.gone ++ xs) none ∙ append-nil goes.gone in
-    subst (λ xs. Appends a b xs) (sym whole) goes.took
+    subst (λ xs. Takes a b xs) (sym whole) goes.took
 
 -- ## Lines
 
@@ -117,7 +113,7 @@ lines_begin (name ∷ names) (v ∷ verdicts) (suc k) =
     )
 
 -- what went out of the lines of the first traces went out of the report
-pub goes_of_report : (a b : Option (List ℕ)) (names : List (List ℕ)) (verdicts : List Verdict)
+pub goes_of_report : (a b : Taken) (names : List (List ℕ)) (verdicts : List Verdict)
     (k : ℕ) (rest : List ℕ) (to : ℕ) → Goes a b (lines names (take k verdicts)) rest 0 to
     → (after : List ℕ) × Goes a b (report_of names verdicts) after 0 to
 goes_of_report a b names verdicts k rest to goes =
@@ -130,7 +126,7 @@ goes_of_report a b names verdicts k rest to goes =
     (rest ++ more, subst Is (sym whole) (goes_more a b first rest more 0 to goes))
 
 -- how much went out and how much is left
-pub goes_length : (a b : Option (List ℕ)) (text rest : List ℕ) (from to : ℕ)
+pub goes_length : (a b : Taken) (text rest : List ℕ) (from to : ℕ)
     → Goes a b text rest from to → to + length rest ≡ from + length text
 goes_length a b text rest from to goes =
     let l = ap length goes.parts ∙ length-append goes.gone rest in
@@ -139,7 +135,7 @@ goes_length a b text rest from to goes =
 -- ## One trace after another
 
 -- the writing stops behind the lines of the first traces
-pub stops_behind : (a b c : Option (List ℕ)) (names : List (List ℕ)) (verdicts : List Verdict)
+pub stops_behind : (a b c : Taken) (names : List (List ℕ)) (verdicts : List Verdict)
     (k : ℕ) (out rest : List ℕ) (from to : ℕ)
     → Goes a b (lines names (take k verdicts)) out 0 from → Goes b c out rest from to
     → (after : List ℕ) × Goes a c (report_of names verdicts) after 0 to
@@ -148,7 +144,7 @@ stops_behind a b c names verdicts k out rest from to before goes =
     (goes_on a b c (lines names (take k verdicts)) out rest 0 from to before goes)
 
 -- the line of one more trace is added
-pub one_more : (a b : Option (List ℕ)) (names : List (List ℕ)) (verdicts : List Verdict)
+pub one_more : (a b : Taken) (names : List (List ℕ)) (verdicts : List Verdict)
     (k : ℕ) (name : List ℕ) (v d : Verdict) (out text : List ℕ) (count to : ℕ)
     → k < length names → k < length verdicts
     → name ≡ get_or names k [] → v ≡ get_or verdicts k d
@@ -186,7 +182,7 @@ caused_before e before between after same cause =
 
 -- the front of a text went out, and then its rest: a report that is whole, or one that stopped
 -- there
-pub is_followed : (a b c : Option (List ℕ)) (text out new : List ℕ) (count to : ℕ)
+pub is_followed : (a b c : Taken) (text out new : List ℕ) (count to : ℕ)
     (fa fb fc : ℕ) (r : Result (Unit {0}) FollowError)
     → Goes a b text out 0 count → fb ≡ fa
     → OnOk r (Goes b c out new count to) → OnOk r (new ≡ []) → OnOk r (fc ≡ fb)

@@ -13,6 +13,7 @@ pub mod Answering
 pub mod FollowKeys
 pub mod RightTraces
 pub mod ReportLines
+pub mod Counts
 pub mod SinkBytes
 pub mod GoingOut
 pub mod RightPosts

@@ -3,7 +3,7 @@ use Rattle.std.proofs.Common.{◌≡◌, ℕ, ◌<◌, List, length, ap, ◌∙�
 use Rattle.std.specs.Prelude.{All}
 use Rattle.lb_flat.specs.Programs.{program_of}
 use Rattle.lb_flat.specs.RightVerdicts.{right_verdicts}
-use Rattle.lb_flat.specs.Traces.{IsRecording, Recording}
+use Rattle.lb_traces.specs.Traces.{IsRecording, Recording}
 use Rattle.lb_flat.specs.declared.flat.Ordered.{Ordered}
 use Rattle.lb_flat.specs.declared.program.FlatProgram.{FlatProgram}
 use Rattle.lb_flat.proofs.RightVerdicts.{length-right_verdicts, ordered_ready}

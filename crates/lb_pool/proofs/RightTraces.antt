@@ -6,7 +6,7 @@ use Rattle.lb_check.specs.declared.verdict.Verdict.TheVariants.{Passed}
 use Rattle.lb_flat.specs.Programs.{program_of}
 use Rattle.lb_flat.specs.RightVerdicts.{right_verdicts}
 use Rattle.lb_flat.specs.Standing.{HasKindsOf, StandsForProgram}
-use Rattle.lb_flat.specs.Traces.{Recording}
+use Rattle.lb_traces.specs.Traces.{Recording}
 use Rattle.lb_flat.specs.declared.program.FlatProgram.{FlatProgram}
 use Rattle.lb_flat.proofs.RightVerdicts.{right_verdict_at}
 use Rattle.lb_pool.specs.Correct.{IsVerdict}

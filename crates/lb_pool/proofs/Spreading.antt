@@ -6,7 +6,7 @@ use Rattle.std.specs.List.{AllZip, Contains, range_with_len}
 use Rattle.std.proofs.lemmas.List.{map-append}
 use Rattle.std.proofs.lemmas.List.Elements.{All-nil, All-append}
 use Rattle.std.proofs.lemmas.List.FromFn.{length-range_with_len, get_or-range_with_len}
-use Rattle.lb_flat.specs.Traces.{Recording}
+use Rattle.lb_traces.specs.Traces.{Recording}
 use Rattle.lb_flat.specs.declared.program.FlatProgram.{FlatProgram}
 use Rattle.lb_pool.specs.Plans.{numbers_in, IsLawful}
 use Rattle.lb_pool.specs.Runs.{IsJudged, AreJudged, IsBatchOf, numbers_of, numbers_drawn}

@@ -5,7 +5,7 @@ use Rattle.lb_check.specs.declared.verdict.Verdict.{Verdict}
 use Rattle.lb_check.specs.declared.verdict.Verdict.TheVariants.{Passed}
 use Rattle.lb_flat.specs.Correct.{IsVerdictOf}
 use Rattle.lb_flat.specs.Programs.{program_of}
-use Rattle.lb_flat.specs.Traces.{Recording}
+use Rattle.lb_traces.specs.Traces.{Recording}
 use Rattle.lb_flat.specs.declared.program.FlatProgram.{FlatProgram}
 
 -- v is the verdict of trace k: that of each program that the flat one stands for, where the traces

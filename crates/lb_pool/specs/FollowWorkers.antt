@@ -4,7 +4,7 @@ use Rattle.std.specs.Prelude.{◌≡◌, ℕ, List, length}
 use Rattle.lb_flat.specs.Programs.{program_of}
 use Rattle.lb_flat.specs.RightVerdicts.{right_verdicts}
 use Rattle.lb_flat.specs.Standing.{HasKindsOf, StandsForProgram}
-use Rattle.lb_flat.specs.Traces.{Recording}
+use Rattle.lb_traces.specs.Traces.{Recording}
 use Rattle.lb_flat.specs.declared.program.FlatProgram.{FlatProgram}
 use Rattle.lb_pool.specs.FollowSeats.{batches_of, right_of}
 use Rattle.lb_pool.specs.declared.follow_board.FollowBoard.{FollowBoard}

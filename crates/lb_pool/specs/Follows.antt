@@ -1,12 +1,12 @@
 -- What a live report does to its sink: the bytes of the report go out, the first ones first.
 -- Source: this project's rule.
-use Rattle.std.specs.Prelude.{◌≡◌, ℕ, ◌+◌, ◌≤◌, List, ◌++◌, Option, Result, Ok, Err, length, take}
-use Rattle.std.specs.Io.KnownBytes.{Appends}
+use Rattle.std.specs.Prelude.{◌≡◌, ℕ, ◌+◌, ◌≤◌, List, ◌++◌, Result, Ok, Err, length, take}
 use Rattle.lb_flat.specs.Programs.{program_of}
 use Rattle.lb_flat.specs.RightVerdicts.{right_verdicts}
-use Rattle.lb_flat.specs.Traces.{Recording, trace_names}
+use Rattle.lb_traces.specs.Traces.{Recording, trace_names}
 use Rattle.lb_flat.specs.declared.program.FlatProgram.{FlatProgram}
 use Rattle.lb_pool.specs.Reports.{report_of}
+use Rattle.lb_pool.specs.Taken.{Taken, Takes}
 use Rattle.lb_pool.specs.declared.follow_error.FollowError.{FollowError}
 use Rattle.lb_pool.specs.declared.follow_error.FollowError.TheVariants.{Memory, Write}
 
@@ -25,23 +25,23 @@ HasCause (Memory count) before after = after ≡ before
 HasCause (Write count) before after = after ≡ before + 1
 
 -- a sink took the first bytes of a text, and `count` tells how many
-pub record HasBegun (text : List ℕ) (count : ℕ) (before after : Option (List ℕ)) : Type 0 where
+pub record HasBegun (text : List ℕ) (count : ℕ) (before after : Taken) : Type 0 where
   pub within : count ≤ length text
-  pub gone : Appends before after (take count text)
+  pub gone : Takes before after (take count text)
 
 -- a text went to a sink: all of it, and the sink did not fail; or it stopped, its first bytes went
 -- out, and the error tells how many and why
-abbrev pub IsFollowed : (text : List ℕ) → (before after : Option (List ℕ))
+abbrev pub IsFollowed : (text : List ℕ) → (before after : Taken)
     → (failures_before failures_after : ℕ) → Result (Unit {0}) FollowError → Type 0
 IsFollowed text before after failures_before failures_after (Ok x) =
-    Appends before after text × (failures_after ≡ failures_before)
+    Takes before after text × (failures_after ≡ failures_before)
 IsFollowed text before after failures_before failures_after (Err e) =
     HasBegun text (sent_of e) before after × HasCause e failures_before failures_after
 
 -- the front of a text went to a sink, and the rest of it did not; `from` bytes of the report had
 -- gone to the sink before, and `to` bytes have then
-pub record Goes (before after : Option (List ℕ)) (text rest : List ℕ) (from to : ℕ) : Type 0 where
+pub record Goes (before after : Taken) (text rest : List ℕ) (from to : ℕ) : Type 0 where
   pub gone : List ℕ
-  pub took : Appends before after gone
+  pub took : Takes before after gone
   pub parts : text ≡ gone ++ rest
   pub count : to ≡ from + length gone

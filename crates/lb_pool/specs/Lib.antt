@@ -13,6 +13,8 @@ pub mod FollowLaw
 pub mod FollowKeys
 pub mod FollowSeats
 pub mod Reports
+pub mod Counts
+pub mod Taken
 pub mod Follows
 pub mod FollowWorkers
 pub mod Postings

@@ -3,7 +3,7 @@
 use Rattle.std.specs.Prelude.{◌≡◌, ℕ, ◌+◌, ◌<◌, ◌≤◌, ◌⊎◌, List, [], length, get_or, flat_map}
 use Rattle.std.specs.List.{range_with_len, AllPairs}
 use Rattle.std.specs.List.Sorted.{IsPermutation}
-use Rattle.lb_flat.specs.Traces.{Traces, trace_at}
+use Rattle.lb_traces.specs.Traces.{Traces, trace_at}
 
 -- the numbers of all batches, batch after batch
 abbrev pub numbers_in : List (List ℕ) → List ℕ

@@ -1,7 +1,7 @@
 -- What workers have done when they come back.
 -- Source: this project's rule.
 use Rattle.std.specs.Prelude.{◌≡◌, ℕ, ◌+◌, ◌||◌, ◌++◌, true, List, min}
-use Rattle.lb_flat.specs.Traces.{Recording}
+use Rattle.lb_traces.specs.Traces.{Recording}
 use Rattle.lb_flat.specs.declared.program.FlatProgram.{FlatProgram}
 use Rattle.lb_pool.specs.Runs.{AreJudged, numbers_of, numbers_drawn}
 use Rattle.lb_pool.specs.Seats.{IsSeatOf, shares_of, told_of, drawn_of}

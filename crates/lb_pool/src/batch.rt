@@ -11,8 +11,8 @@ ghost use Rattle.lb_sim.specs.Correct.{HaveVerdicts};
 
 use crate::plan::Plan;
 use lb_check::Verdict;
-use lb_flat::TraceSet;
 use lb_sim::{BatchRoom, LaneProgram, run_queue_in};
+use lb_traces::TraceSet;
 use std::alloc::{AllocError, Global};
 
 /// A trace and its verdict.

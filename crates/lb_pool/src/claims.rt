@@ -3,7 +3,7 @@
 ghost use Rattle.std.specs.Prelude.{◌≡◌, ℕ, List, ◌+◌, ◌-◌, ◌<◌, ◌≤◌, [], length, get_or, All};
 ghost use Rattle.std.specs.Prelude.{IfOk, OnOk};
 ghost use Rattle.std.specs.Thread.{IsSync};
-ghost use Rattle.lb_flat.specs.Traces.{Recording};
+ghost use Rattle.lb_traces.specs.Traces.{Recording};
 ghost use Rattle.lb_flat.specs.declared.program.FlatProgram.{FlatProgram};
 ghost use Rattle.lb_pool.specs.Plans.{numbers_in};
 ghost use Rattle.lb_pool.specs.Correct.{AreVerdicts};
@@ -16,8 +16,9 @@ use crate::board::{ClaimBoard, ClaimSeat};
 use crate::gate::Gate;
 use crate::plan::Plan;
 use lb_check::Verdict;
-use lb_flat::{Ordered, TraceSet};
+use lb_flat::Ordered;
 use lb_sim::{BatchRoom, LaneProgram, compile};
+use lb_traces::TraceSet;
 use std::alloc::{AllocError, Global};
 use std::thread::{Threads, join};
 

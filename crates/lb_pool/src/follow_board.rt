@@ -24,7 +24,8 @@ use crate::follow_views::{
 use crate::plan::Plan;
 use atomic_table::{Seat, Table};
 use lb_check::Verdict;
-use lb_flat::{Ordered, TraceSet};
+use lb_flat::Ordered;
+use lb_traces::TraceSet;
 use std::alloc::{AllocError, Global};
 use std::snapshot::Snapshot;
 

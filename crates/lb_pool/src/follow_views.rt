@@ -4,7 +4,8 @@
 use crate::views::View;
 use atomic_table::{Join, Play, Split, TableRule};
 use lb_check::Verdict;
-use lb_flat::{Ordered, TraceSet};
+use lb_flat::Ordered;
+use lb_traces::TraceSet;
 use std::collections::LinkedList;
 use std::snapshot::Snapshot;
 

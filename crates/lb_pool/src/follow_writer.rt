@@ -8,7 +8,7 @@
 ghost use Rattle.std.specs.Prelude.{◌≡◌, ◌<◌, ◌≤◌, ◌+◌, ◌*◌, ◌^◌, ◌++◌, ◌∷◌, [], List, ℕ};
 ghost use Rattle.std.specs.Prelude.{IfErr, IfOk, IfSome, OnOk, get_or, length, vec_len};
 ghost use Rattle.lb_check.specs.declared.verdict.Verdict.TheVariants.{Passed};
-ghost use Rattle.lb_flat.specs.Traces.{trace_names};
+ghost use Rattle.lb_traces.specs.Traces.{trace_names};
 ghost use Rattle.lb_pool.specs.FollowSeats.{IsFollowSeatOf, right_of};
 ghost use Rattle.lb_pool.specs.Follows.{Goes, HasCause, IsFollowed, sent_of};
 ghost use Rattle.lb_pool.specs.Reports as spec;
@@ -18,7 +18,7 @@ use crate::follow_error::FollowError;
 use crate::outgoing::{Outgoing, hand_on, send_chunk};
 use crate::sink::Sink;
 use lb_check::Verdict;
-use lb_flat::TraceSet;
+use lb_traces::TraceSet;
 use std::alloc::Global;
 use std::sync::Wait;
 use std::thread::sleep;

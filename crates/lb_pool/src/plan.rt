@@ -15,7 +15,7 @@ ghost use Rattle.std.specs.List.Sorted.{IsPermutation};
 ghost use Rattle.lb_pool.specs.Cuts.{measured};
 ghost use Rattle.lb_pool.specs.Plans.{numbers_in, length_of, IsPlan, IsLawful, IsByLength};
 
-use lb_flat::TraceSet;
+use lb_traces::TraceSet;
 use std::alloc::{AllocError, Global};
 use std::marker::Model;
 

@@ -1,8 +1,8 @@
 //! Where outputs go, and writing a text to its end.
 
-ghost use Rattle.std.specs.Prelude.{◌≡◌, ℕ, List, [], Option, None, ◌+◌, ◌<◌, ◌≤◌, length, take};
+ghost use Rattle.std.specs.Prelude.{◌≡◌, ℕ, [], ◌+◌, ◌<◌, ◌≤◌, length, take};
 ghost use Rattle.std.specs.Prelude.{IfOk, IfErr, OnOk, OnErr};
-ghost use Rattle.std.specs.Io.KnownBytes.{Appends, Keeps};
+ghost use Rattle.lb_pool.specs.Taken.{Taken, Takes, TakesNothing};
 
 use std::io::Write;
 use thiserror::Error;
@@ -14,8 +14,9 @@ pub struct SinkFailed;
 
 /// Where an output goes.
 pub trait Sink {
-    /// The bytes that it has taken, where the sink tells them.
-    ghost taken: { Self → Option (List ℕ) } = { λ _. None };
+    /// What it has taken: how many bytes, as far as a `u64` counts, and which ones where the sink
+    /// tells them.
+    ghost taken: { Self → Taken };
 
     /// How often it has failed.
     ghost failures: { Self → ℕ };
@@ -28,7 +29,7 @@ pub trait Sink {
         // What `Ok` holds.
         ensures within { IfOk result (λ n. n ≤ length bytes.now) }
         ensures next { IfOk result (λ n.
-            Appends (taken self.old) (taken self.new) (take n bytes.now)) }
+            Takes (taken self.old) (taken self.new) (take n bytes.now)) }
         ensures some { IfOk result (λ n. 0 < n → failures self.new ≡ failures self.old) }
         ensures empty { OnOk result (bytes.now ≡ [] → failures self.new ≡ failures self.old) }
 
@@ -36,13 +37,13 @@ pub trait Sink {
         ensures none { IfOk result (λ n.
             n ≡ 0 → 0 < length bytes.now → failures self.new ≡ failures self.old + 1) }
         ensures err { OnErr result (failures self.new ≡ failures self.old + 1) }
-        ensures kept { OnErr result (Keeps (taken self.old) (taken self.new)) };
+        ensures kept { OnErr result (TakesNothing (taken self.old) (taken self.new)) };
 
     /// Hands on what it keeps back, if it keeps anything back.
     fn flush(&mut self) -> Result<(), SinkFailed>
         requires { failures self.old < u64.MAX }
         ensures ok { OnOk result (failures self.new ≡ failures self.old) }
-        ensures kept { Keeps (taken self.old) (taken self.new) }
+        ensures kept { TakesNothing (taken self.old) (taken self.new) }
 
         // Each failure is counted.
         ensures err { OnErr result (failures self.new ≡ failures self.old + 1) }
@@ -59,30 +60,34 @@ pub trait Sink {
 #[derive(Drop)]
 pub struct Writer<W> {
     writer: W,
+    count: u64,
     failures: u64,
 }
 
 impl<W: Write> Writer<W> {
-    /// A sink that has not failed yet.
+    /// A sink that has taken no byte and has not failed yet.
     pub fn new(writer: W) -> Writer<W>
-        ensures taken { ⟦<Writer<W> as Sink>⟧.taken result ≡ W.contents writer }
+        ensures bytes { (⟦<Writer<W> as Sink>⟧.taken result).bytes ≡ W.contents writer }
+        ensures count { (⟦<Writer<W> as Sink>⟧.taken result).count ≡ 0 }
         ensures failures { ⟦<Writer<W> as Sink>⟧.failures result ≡ 0 }
     {
         Writer {
             writer,
+            count: 0,
             failures: 0,
         }
     }
 }
 
 impl<W: Write> Sink for Writer<W> {
-    ghost taken = { λ sink. W.contents sink.writer };
+    ghost taken = { λ sink. record { bytes = W.contents sink.writer; count = sink.count } };
 
     ghost failures = { λ sink. sink.failures };
 
     fn write(&mut self, bytes: &[u8]) -> Result<usize, SinkFailed> {
         match self.writer.write(bytes) {
             Ok(count) => {
+                self.count = self.count.saturating_add(count as u64);
                 if count == 0 && !bytes.is_empty() {
                     self.failures += 1;
                 }
@@ -123,13 +128,13 @@ pub fn send<S: Sink>(sink: &mut S, bytes: &[u8]) -> Result<(), Sent>
     requires { S.failures sink.old < u64.MAX }
 
     // What `Ok` holds: all bytes went out.
-    ensures all { OnOk result (Appends (S.taken sink.old) (S.taken sink.new) bytes.now) }
+    ensures all { OnOk result (Takes (S.taken sink.old) (S.taken sink.new) bytes.now) }
     ensures ok { OnOk result (S.failures sink.new ≡ S.failures sink.old) }
 
     // Else exactly the first `count` went out, and the sink failed.
     ensures within { IfErr result (λ sent. sent.count < length bytes.now) }
     ensures first { IfErr result (λ sent.
-        Appends (S.taken sink.old) (S.taken sink.new) (take sent.count bytes.now)) }
+        Takes (S.taken sink.old) (S.taken sink.new) (take sent.count bytes.now)) }
     ensures failed { OnErr result (S.failures sink.new ≡ S.failures sink.old + 1) }
 {
     let mut count = 0;

@@ -7,12 +7,12 @@
 //! ```
 
 ghost use Rattle.std.specs.Prelude.{◌≡◌, ◌<◌, ◌≤◌, ◌+◌, ◌++◌, [], length, get_or, IfOk, OnOk};
-ghost use Rattle.lb_flat.specs.Traces.{trace_names};
+ghost use Rattle.lb_traces.specs.Traces.{trace_names};
 ghost use Rattle.lb_pool.specs.Reports as spec;
 
 use itoa::{Buffer, Integer};
 use lb_check::Verdict;
-use lb_flat::TraceSet;
+use lb_traces::TraceSet;
 use std::alloc::{AllocError, Global};
 
 /// How many words there are for verdicts.

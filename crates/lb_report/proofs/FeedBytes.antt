@@ -1,11 +1,21 @@
 -- Bytes that a feed gave, read after read.
-use Rattle.std.proofs.Common.{◌≡◌, ℕ, ◌+◌, List, ◌++◌, Option, None, Some, take, drop, sym, ap, ◌∙◌}
-use Rattle.std.proofs.Common.{append_assoc}
+use Rattle.std.proofs.Common.{◌≡◌, ℕ, ◌+◌, ◌<◌, ◌≤◌, List, [], ◌++◌, Option, None, Some, IfSome}
+use Rattle.std.proofs.Common.{take, drop, refl, sym, ap, ◌∙◌, append_assoc, arith, length}
+use Rattle.std.proofs.Common.{length-append}
 use Rattle.std.proofs.Math.Seq.{take-add}
+use Rattle.std.proofs.lemmas.List.{length-take-le}
 use Rattle.std.specs.Io.KnownBytes.{Consumes}
+use Rattle.lb_pool.specs.Counts.{count_more}
+use Rattle.lb_report.specs.Feeds.{IsTooLong}
+use Rattle.lb_report.specs.declared.feed.TheConstants.{INPUT_LIMIT}
+
+-- no read
+pub Consumes-none : (at : Option (List ℕ)) → Consumes at at []
+Consumes-none None = tt
+Consumes-none (Some xs) = refl
 
 -- two reads, one after the other
-Consumes-more : (before between after : Option (List ℕ)) (first second whole : List ℕ)
+pub Consumes-more : (before between after : Option (List ℕ)) (first second whole : List ℕ)
     → Consumes before between first → Consumes between after second → whole ≡ first ++ second
     → Consumes before after whole
 Consumes-more None between after first second whole p q joined = tt
@@ -26,3 +36,22 @@ Consumes-filled before between after old new filled count came front read =
     Consumes-more before between after (take filled old) (take count (drop filled new))
     (take (filled + count) new) came read
     (take-add filled count new ∙ ap (λ bytes. bytes ++ take count (drop filled new)) front)
+
+-- what came is too much
+more_than : (limit : ℕ) (before after : Option (List ℕ)) (bytes : List ℕ) → limit < length bytes
+    → Consumes before after bytes → IfSome before (λ coming. limit < length coming)
+more_than limit None after bytes many came = tt
+more_than limit (Some xs) None bytes many came = absurd came
+more_than limit (Some xs) (Some ys) bytes many came =
+    omega (arith, many, ap length came, length-append bytes ys)
+
+pub too_long : (before after : Option (List ℕ)) (given_before given_after : ℕ) (bytes : List ℕ)
+    (filled : ℕ) → filled ≤ length bytes → INPUT_LIMIT < filled
+    → Consumes before after (take filled bytes) → given_after ≡ count_more given_before filled
+    → IsTooLong before given_before given_after
+too_long before after given_before given_after bytes filled within many came counted = record {
+  counted = record { bytes = filled; many = many; counted = counted };
+  told =
+      more_than INPUT_LIMIT before after (take filled bytes)
+      (omega (arith, many, length-take-le filled bytes within)) came;
+}

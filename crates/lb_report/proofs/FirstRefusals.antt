@@ -24,7 +24,7 @@ use Rattle.lb_static.specs.DataTypes.{signature}
 use Rattle.lb_check.specs.Acceptance.{refusal, check_refusal, IsAccepted, IsFirst}
 use Rattle.lb_check.specs.TypeRules.{is_typed, is_small}
 use Rattle.lb_check.specs.ClockRules.{is_clocked}
-use Rattle.lb_flat.specs.Traces.{Traces}
+use Rattle.lb_traces.specs.Traces.{Traces}
 use Rattle.lb_trace.specs.Refusals.{outcome}
 use Rattle.lb_trace.proofs.Outcomes.{sound_text, refused_text}
 use Rattle.lb_report.specs.Causality.{is_causal, IsDecidedBy}

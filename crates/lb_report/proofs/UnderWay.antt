@@ -1,18 +1,19 @@
 -- What is ready to be run gives the report of the texts.
-use Rattle.std.proofs.Common.{◌≡◌, ◌∙◌, ℕ, List, Option, None, Some, Result, Ok, Err, ap, refl}
+use Rattle.std.proofs.Common.{◌≡◌, ◌∙◌, ℕ, Result, Ok, Err, ap, refl}
 use Rattle.std.proofs.Common.{subst, sym}
-use Rattle.std.specs.Io.KnownBytes.{Keeps}
 use Rattle.lb_syntax.specs.Tokens.{Text}
 use Rattle.lb_static.specs.DataTypes.{signature}
 use Rattle.lb_static.specs.Signature.{kinds_of}
 use Rattle.lb_flat.specs.Programs as flat
 use Rattle.lb_flat.specs.Standing.{HasKindsOf}
 use Rattle.lb_flat.specs.RightVerdicts.{right_verdicts}
-use Rattle.lb_flat.specs.Traces.{Recording, Traces}
+use Rattle.lb_traces.specs.Traces.{Recording, Traces}
 use Rattle.lb_trace.specs.Spelling.{Spells}
 use Rattle.lb_pool.specs.Correct as run
 use Rattle.lb_pool.specs.Follows.{IsFollowed, right_report}
+use Rattle.lb_pool.specs.Taken.{Taken}
 use Rattle.lb_pool.specs.declared.follow_error.FollowError.{FollowError}
+use Rattle.lb_pool.proofs.SinkBytes.{takes_nothing}
 use Rattle.lb_report.specs.AcceptedPrograms.{IsAcceptedProgram}
 use Rattle.lb_report.specs.Bench.{IsRefused, OnlyProgram, program_of}
 use Rattle.lb_report.specs.LiveReports.{IsBenchText, IsFollowAnswer, IsPrepared, IsTurnedAway}
@@ -67,7 +68,7 @@ has_kinds source traces options p set found same =
     ap kinds_of (same ∙ sym found.holds.inputs) ∙ sym found.holds.equations.signature
 
 pub is_under_way : (source traces : Text) (options : Options) (p : Prepared)
-    (before after : Option (List ℕ)) (m n : ℕ) (r : Result (Unit {0}) FollowError)
+    (before after : Taken) (m n : ℕ) (r : Result (Unit {0}) FollowError)
     → IsPrepared source traces options p
     → run.AreVerdicts p.program.ordered.program p.set
     (right_verdicts (flat.program_of p.program.ordered.program) p.set)
@@ -82,17 +83,13 @@ is_under_way source traces options p before after m n r ready right followed =
       followed = followed;
     }
 
-keeps_all : (a : Option (List ℕ)) → Keeps a a
-keeps_all None = tt
-keeps_all (Some s) = refl
-
 -- a sink that was not written to, where the texts are refused
 pub is_turned_away : (source traces : Text) (options : Options) (e : BenchError)
-    (a : Option (List ℕ)) (n : ℕ) → IsRefused source traces options e
+    (a : Taken) (n : ℕ) → IsRefused source traces options e
     → IsTurnedAway source traces options a a n n e
 is_turned_away source traces options e a n refused = record {
   refused = refused;
   first = first_told source traces options e refused;
-  kept = keeps_all a;
+  kept = takes_nothing a;
   never_failed = refl;
 }

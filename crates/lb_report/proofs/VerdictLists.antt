@@ -5,7 +5,7 @@ use Rattle.lb_static.specs.DataTypes.{signature}
 use Rattle.lb_check.specs.declared.verdict.Verdict.{Verdict}
 use Rattle.lb_flat.specs.FlatPrograms.{IsFlatOf}
 use Rattle.lb_flat.specs.Programs.{program_of}
-use Rattle.lb_flat.specs.Traces.{Recording}
+use Rattle.lb_traces.specs.Traces.{Recording}
 use Rattle.lb_flat.specs.declared.program.FlatProgram.{FlatProgram}
 use Rattle.lb_pool.specs.Correct as run
 use Rattle.lb_report.specs.Bench.{AreVerdicts}

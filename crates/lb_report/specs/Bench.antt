@@ -21,7 +21,7 @@ use Rattle.lb_flat.specs.Inputs.{inputs_of}
 use Rattle.lb_flat.specs.Programs.{numbers_of}
 use Rattle.lb_flat.specs.Reading.{IsCertificate}
 use Rattle.lb_flat.specs.SizeFaults.{IsSizeFault}
-use Rattle.lb_flat.specs.Traces.{Recording, Traces, trace_names}
+use Rattle.lb_traces.specs.Traces.{Recording, Traces, trace_names}
 use Rattle.lb_flat.specs.declared.error.FlatError.{FlatError}
 use Rattle.lb_flat.specs.declared.error.FlatError.TheVariants as flat
 use Rattle.lb_flat.specs.declared.error.OrderError.{OrderError}

@@ -15,7 +15,7 @@ use Rattle.lb_syntax.specs.Texts.{BreaksLimit, HasNoTokens, IsTooLong}
 use Rattle.lb_static.specs.Instances.{Program}
 use Rattle.lb_static.specs.DataTypes.{signature}
 use Rattle.lb_check.specs.Acceptance.{IsAccepted, IsFirst, refusal}
-use Rattle.lb_flat.specs.Traces.{Traces}
+use Rattle.lb_traces.specs.Traces.{Traces}
 use Rattle.lb_trace.specs.Refusals.{outcome}
 use Rattle.lb_trace.specs.Spelling.{Spells}
 use Rattle.lb_report.specs.Causality.{is_causal}

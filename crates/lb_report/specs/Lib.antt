@@ -7,3 +7,4 @@ pub mod Correct
 pub mod AcceptedPrograms
 pub mod LiveReports
 pub mod Judging
+pub mod Feeds

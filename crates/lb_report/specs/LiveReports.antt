@@ -1,18 +1,18 @@
 -- What a live report of a source and a trace text comes to.
 -- Source: this project's rule.
-use Rattle.std.specs.Prelude.{◌≡◌, ℕ, List, length, Option, Some, None, Result, Ok, Err}
-use Rattle.std.specs.Io.KnownBytes.{Keeps}
+use Rattle.std.specs.Prelude.{◌≡◌, ℕ, List, length, Some, None, Result, Ok, Err}
 use Rattle.lb_syntax.specs.Tokens.{Text}
 use Rattle.lb_static.specs.Instances.{Program}
 use Rattle.lb_check.specs.Acceptance.{IsAccepted}
 use Rattle.lb_check.specs.declared.verdict.Verdict.{Verdict}
 use Rattle.lb_flat.specs.Programs as flat
 use Rattle.lb_flat.specs.Standing.{HasKindsOf}
-use Rattle.lb_flat.specs.Traces.{Recording, trace_names}
+use Rattle.lb_traces.specs.Traces.{Recording, trace_names}
 use Rattle.lb_trace.specs.Correct.{IsTraceReading}
 use Rattle.lb_pool.specs.Follows.{IsFollowed}
 use Rattle.lb_pool.specs.Plans.{numbers_in}
 use Rattle.lb_pool.specs.Reports.{report_of}
+use Rattle.lb_pool.specs.Taken.{Taken, TakesNothing}
 use Rattle.lb_pool.specs.declared.follow_error.FollowError.{FollowError}
 use Rattle.lb_report.specs.AcceptedPrograms.{IsAcceptedProgram}
 use Rattle.lb_report.specs.Bench.{AreVerdicts, IsOnlyRecording, IsRefused, OnlyProgram}
@@ -42,7 +42,7 @@ IsBenchText source traces options report =
 -- nothing refuses the texts, and their report goes to a sink: all of it, or its first bytes before
 -- it stops
 pub record IsUnderWay
-    (source traces : Text) (options : Options) (before after : Option (List ℕ))
+    (source traces : Text) (options : Options) (before after : Taken)
     (failures_before failures_after : ℕ) (run : Result (Unit {0}) FollowError)
     : Type 0 where
   pub report : List ℕ
@@ -52,16 +52,16 @@ pub record IsUnderWay
 
 -- the texts are refused, and the sink is left as it was
 pub record IsTurnedAway
-    (source traces : Text) (options : Options) (before after : Option (List ℕ))
+    (source traces : Text) (options : Options) (before after : Taken)
     (failures_before failures_after : ℕ) (e : BenchError)
     : Type 0 where
   pub refused : IsRefused source traces options e
   pub first : IsFirstTold source traces options (Some (number_of e))
-  pub kept : Keeps before after
+  pub kept : TakesNothing before after
   pub never_failed : failures_after ≡ failures_before
 
 -- the whole report went out; or the texts are refused; or its first bytes went out
-abbrev pub IsFollowAnswer : (source traces : Text) → Options → (before after : Option (List ℕ))
+abbrev pub IsFollowAnswer : (source traces : Text) → Options → (before after : Taken)
     → (failures_before failures_after : ℕ) → Result (Unit {0}) FollowFault → Type 0
 IsFollowAnswer source traces options before after m n (Ok x) =
     IsUnderWay source traces options before after m n (Ok x)

@@ -3,6 +3,8 @@
 ghost use Rattle.std.specs.Prelude.{◌≡◌, ℕ, List, Option, None, ◌⊎◌, ◌+◌, ◌<◌, ◌≤◌, length, take};
 ghost use Rattle.std.specs.Prelude.{drop, vec_len, IfOk, OnOk, OnErr, IfSome, IsErrOf};
 ghost use Rattle.std.specs.Io.KnownBytes.{Consumes, IsAtEnd};
+ghost use Rattle.lb_pool.specs.Counts.{count_more};
+ghost use Rattle.lb_report.specs.Feeds.{IsTooLong};
 
 use std::alloc::{AllocError, Global};
 use std::io::Read;
@@ -21,6 +23,9 @@ pub trait Feed {
     /// How often it has failed.
     ghost failures: { Self → ℕ };
 
+    /// How many bytes it has given, or `u64.MAX` where they are more.
+    ghost given: { Self → ℕ };
+
     /// Reads the next bytes into the front of the buffer, and answers how many they are. 0 into a
     /// buffer that is not empty is the end.
     fn read(&mut self, buffer: &mut [u8]) -> Result<usize, FeedFailed>
@@ -32,10 +37,12 @@ pub trait Feed {
             Consumes (coming self.old) (coming self.new) (take n buffer.new)) }
         ensures end { IfOk result (λ n.
             n ≡ 0 → 0 < length buffer.new → IsAtEnd (coming self.new)) }
+        ensures counted { IfOk result (λ n. given self.new ≡ count_more (given self.old) n) }
         ensures ok { OnOk result (failures self.new ≡ failures self.old) }
 
-        // Each failure is counted.
-        ensures err { OnErr result (failures self.new ≡ failures self.old + 1) };
+        // Each failure is counted, and gives nothing.
+        ensures err { OnErr result (failures self.new ≡ failures self.old + 1) }
+        ensures kept { OnErr result (given self.new ≡ given self.old) };
 
     /// How often it has failed.
     fn failures(&self) -> u64
@@ -47,17 +54,20 @@ pub trait Feed {
 pub struct Reader<R> {
     reader: R,
     failures: u64,
+    given: u64,
 }
 
 impl<R: Read> Reader<R> {
-    /// A feed that has not failed yet.
+    /// A feed that has not failed yet, and has given nothing.
     pub fn new(reader: R) -> Reader<R>
         ensures coming { ⟦<Reader<R> as Feed>⟧.coming result ≡ R.remaining reader }
         ensures failures { ⟦<Reader<R> as Feed>⟧.failures result ≡ 0 }
+        ensures given { ⟦<Reader<R> as Feed>⟧.given result ≡ 0 }
     {
         Reader {
             reader,
             failures: 0,
+            given: 0,
         }
     }
 }
@@ -67,9 +77,14 @@ impl<R: Read> Feed for Reader<R> {
 
     ghost failures = { λ feed. feed.failures };
 
+    ghost given = { λ feed. feed.given };
+
     fn read(&mut self, buffer: &mut [u8]) -> Result<usize, FeedFailed> {
         match self.reader.read(buffer) {
-            Ok(count) => Ok(count),
+            Ok(count) => {
+                self.given = self.given.saturating_add(count as u64);
+                Ok(count)
+            }
             Err(_) => {
                 self.failures += 1;
                 Err(FeedFailed)
@@ -132,6 +147,8 @@ fn read_piece<F: Feed>(feed: &mut F, bytes: &mut Vec<u8>, filled: usize) -> Resu
     ensures next { IfOk result (λ n.
         Consumes (F.coming feed.old) (F.coming feed.new) (take n (drop filled bytes.new.items))) }
     ensures end { IfOk result (λ n. n ≡ 0 → IsAtEnd (F.coming feed.new)) }
+    ensures counted { IfOk result (λ n.
+        F.given feed.new ≡ count_more (F.given feed.old) n) }
     ensures ok { OnOk result (F.failures feed.new ≡ F.failures feed.old) }
 
     // The feed failed, or it did not and memory ran out.
@@ -154,11 +171,13 @@ pub fn load<F: Feed>(alloc: Global, feed: &mut F) -> Result<Vec<u8>, LoadError>
         IfSome (F.coming feed.old) (λ coming. bytes.items ≡ coming)) }
     ensures end { OnOk result (IsAtEnd (F.coming feed.new)) }
     ensures limit { IfOk result (λ bytes. vec_len bytes ≤ INPUT_LIMIT) }
+    ensures counted { IfOk result (λ bytes.
+        F.given feed.new ≡ count_more (F.given feed.old) (vec_len bytes)) }
     ensures ok { OnOk result (F.failures feed.new ≡ F.failures feed.old) }
 
-    // When a read is refused: the feed failed, or it had too many bytes.
-    ensures read { IsErrOf result LoadError.Read → IfSome (F.coming feed.old) (λ coming.
-        (F.failures feed.old < F.failures feed.new) ⊎ (INPUT_LIMIT < length coming)) }
+    // When a read is refused: the feed failed, or it gave too many bytes.
+    ensures read { IsErrOf result LoadError.Read → (F.failures feed.old < F.failures feed.new)
+        ⊎ IsTooLong (F.coming feed.old) (F.given feed.old) (F.given feed.new) }
 
     // No refusal for want of memory hides a read that failed.
     ensures memory { IsErrOf result LoadError.Memory → F.failures feed.new ≡ F.failures feed.old }

@@ -1,13 +1,14 @@
 -- What is answered on the values of a trace, from what the parts answer.
-use Rattle.std.proofs.Common.{◌≡◌, ◌≢◌, ◌<◌, ℕ, List, Option, None, Some, Result, Err, true, length}
+use Rattle.std.proofs.Common.{◌≡◌, ◌≢◌, ◌<◌, ℕ, List, Result, Err, true, length}
 use Rattle.std.proofs.Common.{refl, subst, sym}
-use Rattle.std.specs.Io.KnownBytes.{Keeps}
 use Rattle.lb_syntax.specs.Correct.{IsOnlyProgram}
 use Rattle.lb_syntax.specs.Tokens.{Text}
 use Rattle.lb_syntax.specs.Tree.{Source}
 use Rattle.lb_flat.specs.Programs as flat
-use Rattle.lb_flat.specs.Traces.{trace_at}
+use Rattle.lb_traces.specs.Traces.{trace_at}
+use Rattle.lb_pool.specs.Taken.{Taken}
 use Rattle.lb_pool.specs.declared.follow_error.FollowError.{FollowError}
+use Rattle.lb_pool.proofs.SinkBytes.{takes_nothing}
 use Rattle.lb_report.specs.Bench.{IsRefused, program_of}
 use Rattle.lb_report.specs.declared.error.BenchError.{BenchError}
 use Rattle.lb_report.specs.declared.error.BenchError.TheVariants.{Memory}
@@ -26,17 +27,13 @@ use Rattle.lb_values.specs.declared.case.Case.{Case}
 use Rattle.lb_values.specs.declared.values.ValuesFault.{ValuesFault}
 use Rattle.lb_values.specs.declared.values.ValuesFault.TheVariants.{Refused}
 
-keeps_all : (a : Option (List ℕ)) → Keeps a a
-keeps_all None = tt
-keeps_all (Some s) = refl
-
-left_as_it_was : (a : Option (List ℕ)) (m : ℕ) → IsLeft a a m m
-left_as_it_was a m = record { kept = keeps_all a; never_failed = refl }
+left_as_it_was : (a : Taken) (m : ℕ) → IsLeft a a m m
+left_as_it_was a m = record { kept = takes_nothing a; never_failed = refl }
 
 module _ (source traces : Text) (options : Options) (asked : ShowOptions) where
   -- the texts are refused
   pub refused_by :
-      (a : Option (List ℕ)) (m : ℕ) (e : BenchError) → IsRefused source traces options e →
+      (a : Taken) (m : ℕ) (e : BenchError) → IsRefused source traces options e →
       IsValuesAnswer source traces options asked a a m m (Err (Refused e))
   refused_by a m e refused =
       (answered source traces options (Err e) tt refused, left_as_it_was a m)
@@ -45,7 +42,7 @@ module _ (source traces : Text) (options : Options) (asked : ShowOptions) where
       (is : IsCase (program_of tree options) traces case) where
     -- what is asked for is not there
     pub unshown :
-        (a : Option (List ℕ)) (m : ℕ) (error : ShowError) (fault : ValuesFault) →
+        (a : Taken) (m : ℕ) (error : ShowError) (fault : ValuesFault) →
         IsFaultOf error fault →
         (error ≡ show.UnknownTrace → (k : ℕ) → k < length case.set.traces →
         (trace_at case.set.traces k).0 ≢ asked.trace.now) →
@@ -75,7 +72,7 @@ module _ (source traces : Text) (options : Options) (asked : ShowOptions) where
 
     -- the values went out, or their first bytes
     pub sent_of :
-        (shown : Show) (before after : Option (List ℕ)) (m n : ℕ)
+        (shown : Show) (before after : Taken) (m n : ℕ)
         (run : Result (Unit {0}) FollowError) →
         (asked.format ≡ Csv → (is_csv shown ≡ true)
         × IsCsvOf (flat.program_of case.program.ordered.program) case.set asked

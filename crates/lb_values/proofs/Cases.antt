@@ -4,7 +4,7 @@ use Rattle.lb_syntax.specs.Tokens.{Text}
 use Rattle.lb_static.specs.DataTypes.{signature}
 use Rattle.lb_static.specs.Instances.{Program}
 use Rattle.lb_static.specs.Signature.{Elements}
-use Rattle.lb_flat.specs.Traces.{Recording, Traces}
+use Rattle.lb_traces.specs.Traces.{Recording, Traces}
 use Rattle.lb_trace.specs.Correct.{IsTraceReading}
 use Rattle.lb_trace.specs.Spelling.{Spells}
 use Rattle.lb_report.specs.Bench.{IsOnlyRecording}

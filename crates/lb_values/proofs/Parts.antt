@@ -1,38 +1,28 @@
 -- A text that goes to a sink part by part.
-use Rattle.std.proofs.Common.{◌≡◌, ◌∙◌, ℕ, List, [], ◌++◌, Bool, true, Option, None, Some, Result}
+use Rattle.std.proofs.Common.{◌≡◌, ◌∙◌, ℕ, List, [], ◌++◌, Bool, true, Result}
 use Rattle.std.proofs.Common.{IfErr, OnOk, Ok, Err}
 use Rattle.std.proofs.Common.{ap, append_assoc, append-nil, arith, length, length-append, refl, sym}
 use Rattle.std.proofs.Common.{drop, subst, take}
 use Rattle.std.proofs.lemmas.List.{take-append-drop, take_at}
-use Rattle.std.specs.Io.KnownBytes.{Appends, Keeps}
 use Rattle.lb_pool.specs.Follows.{HasBegun, HasCause}
+use Rattle.lb_pool.specs.Taken.{Taken, Takes, TakesNothing}
 use Rattle.lb_pool.specs.declared.follow_error.FollowError.{FollowError}
-use Rattle.lb_pool.proofs.SinkBytes.{Appends-more}
+use Rattle.lb_pool.proofs.SinkBytes.{taken_and_kept, takes_more, takes_no_byte, takes_nothing}
 use Rattle.lb_values.specs.Sending.{HasSent, IsText}
 
-took_nothing : (a : Option (List ℕ)) → Appends a a []
-took_nothing None = tt
-took_nothing (Some s) = sym (append-nil s)
-
-took_and_kept : (a b c : Option (List ℕ)) (x : List ℕ) → Appends a b x → Keeps b c → Appends a c x
-took_and_kept None b c x p q = tt
-took_and_kept (Some s) None c x p q = absurd p
-took_and_kept (Some s) (Some t) None x p q = absurd q
-took_and_kept (Some s) (Some t) (Some u) x p q = q ∙ p
-
 -- before the first part
-pub none_sent : (told : Bool) (a : Option (List ℕ)) (first : List ℕ) → HasSent told a a first first
-none_sent told a first = record { gone = []; took = took_nothing a; parts = λ is. refl }
+pub none_sent : (told : Bool) (a : Taken) (first : List ℕ) → HasSent told a a first first
+none_sent told a first = record { gone = []; took = takes_no_byte a; parts = λ is. refl }
 
 -- one part more
 pub part_sent :
-    (told : Bool) (a b c : Option (List ℕ)) (first rest last before part : List ℕ) →
+    (told : Bool) (a b c : Taken) (first rest last before part : List ℕ) →
     HasSent told a b first rest → before ≡ [] →
-    (told ≡ true → before ++ rest ≡ part ++ last) → Appends b c part →
+    (told ≡ true → before ++ rest ≡ part ++ last) → Takes b c part →
     HasSent told a c first last
 part_sent told a b c first rest last before part sent none next took = record {
   gone = sent.gone ++ part;
-  took = Appends-more a b c sent.gone part _ sent.took took refl;
+  took = takes_more a b c sent.gone part _ sent.took took refl;
   parts = λ is.
       sent.parts is
       ∙ ap (λ xs. sent.gone ++ xs) (ap (λ xs. xs ++ rest) (sym none) ∙ next is)
@@ -41,8 +31,8 @@ part_sent told a b c first rest last before part sent none next took = record {
 
 -- all parts
 pub all_sent :
-    (told : Bool) (a b c : Option (List ℕ)) (first rest : List ℕ) (m n : ℕ) →
-    HasSent told a b first rest → (told ≡ true → rest ≡ []) → Keeps b c → n ≡ m →
+    (told : Bool) (a b c : Taken) (first rest : List ℕ) (m n : ℕ) →
+    HasSent told a b first rest → (told ≡ true → rest ≡ []) → TakesNothing b c → n ≡ m →
     IsText told first a c m n (Ok tt)
 all_sent told a b c first rest m n sent none kept same = (
   sent.gone,
@@ -50,11 +40,11 @@ all_sent told a b c first rest m n sent none kept same = (
       sym (append-nil sent.gone)
       ∙ ap (λ xs. sent.gone ++ xs) (sym (none is))
       ∙ sym (sent.parts is),
-  (took_and_kept a b c sent.gone sent.took kept, same),
+  (taken_and_kept a b c sent.gone sent.took kept, same),
 )
 
 begun :
-    (a b c : Option (List ℕ)) (gone rest : List ℕ) → Appends a b gone → Keeps b c →
+    (a b c : Taken) (gone rest : List ℕ) → Takes a b gone → TakesNothing b c →
     HasBegun (gone ++ rest) (length gone) a c
 begun a b c gone rest took kept =
     let front : take (length gone) (gone ++ rest) ≡ gone =
@@ -62,13 +52,13 @@ begun a b c gone rest took kept =
     record {
       within = let l = length-append gone rest in omega (arith, l);
       gone =
-          subst (λ xs. Appends a c xs) (sym front) (took_and_kept a b c gone took kept);
+          subst (λ xs. Takes a c xs) (sym front) (taken_and_kept a b c gone took kept);
     }
 
 -- the first parts
 pub some_sent :
-    (told : Bool) (a b c : Option (List ℕ)) (first rest : List ℕ) (m n : ℕ) (e : FollowError) →
-    HasSent told a b first rest → Keeps b c → HasCause e m n →
+    (told : Bool) (a b c : Taken) (first rest : List ℕ) (m n : ℕ) (e : FollowError) →
+    HasSent told a b first rest → TakesNothing b c → HasCause e m n →
     IsText told first a c m n (Err e)
 some_sent told a b c first rest m n e sent kept cause = (
   sent.gone ++ rest,
@@ -80,31 +70,27 @@ some_sent told a b c first rest m n e sent kept cause = (
   },
 )
 
-keeps_all : (a : Option (List ℕ)) → Keeps a a
-keeps_all None = tt
-keeps_all (Some s) = refl
-
 -- the first parts, and nothing of the next one
 pub parts_sent :
-    (told : Bool) (a b : Option (List ℕ)) (first rest : List ℕ) (m n : ℕ) (e : FollowError) →
+    (told : Bool) (a b : Taken) (first rest : List ℕ) (m n : ℕ) (e : FollowError) →
     HasSent told a b first rest → HasCause e m n → IsText told first a b m n (Err e)
 parts_sent told a b first rest m n e sent cause =
-    some_sent told a b b first rest m n e sent (keeps_all b) cause
+    some_sent told a b b first rest m n e sent (takes_nothing b) cause
 
 -- a part that went out whole
 pub whole_part :
-    (told : Bool) (a c : Option (List ℕ)) (old last cleared part sent : List ℕ) → cleared ≡ [] →
-    (told ≡ true → cleared ++ old ≡ part ++ last) → sent ≡ part → Appends a c sent →
+    (told : Bool) (a c : Taken) (old last cleared part sent : List ℕ) → cleared ≡ [] →
+    (told ≡ true → cleared ++ old ≡ part ++ last) → sent ≡ part → Takes a c sent →
     HasSent told a c old last
 whole_part told a c old last cleared part sent none next same took =
     part_sent told a a c old old last cleared part (none_sent told a old) none next
-    (subst (λ (xs : List ℕ). Appends a c xs) same took)
+    (subst (λ (xs : List ℕ). Takes a c xs) same took)
 
 -- a part of which the first bytes went out
 pub front_part :
-    (told : Bool) (a c : Option (List ℕ)) (old last cleared part sent : List ℕ) (n : ℕ) →
+    (told : Bool) (a c : Taken) (old last cleared part sent : List ℕ) (n : ℕ) →
     cleared ≡ [] → (told ≡ true → cleared ++ old ≡ part ++ last) → sent ≡ part →
-    Appends a c (take n sent) → (rest : List ℕ) × HasSent told a c old rest
+    Takes a c (take n sent) → (rest : List ℕ) × HasSent told a c old rest
 front_part told a c old last cleared part sent n none next same took =
     let parts : part ≡ take n part ++ drop n part = sym (take-append-drop n part) in
     let further : told ≡ true → cleared ++ old ≡ take n part ++ (drop n part ++ last) = λ is.
@@ -114,16 +100,16 @@ front_part told a c old last cleared part sent n none next same took =
       drop n part ++ last,
       part_sent told a a c old old (drop n part ++ last) cleared (take n part)
           (none_sent told a old) none further
-          (subst (λ (xs : List ℕ). Appends a c (take n xs)) same took),
+          (subst (λ (xs : List ℕ). Takes a c (take n xs)) same took),
     )
 
 -- further parts
 pub sent_on :
-    (told told' : Bool) (a b c : Option (List ℕ)) (first rest last : List ℕ) → told' ≡ told →
+    (told told' : Bool) (a b c : Taken) (first rest last : List ℕ) → told' ≡ told →
     HasSent told a b first rest → HasSent told' b c rest last → HasSent told a c first last
 sent_on told told' a b c first rest last same sent further = record {
   gone = sent.gone ++ further.gone;
-  took = Appends-more a b c sent.gone further.gone _ sent.took further.took refl;
+  took = takes_more a b c sent.gone further.gone _ sent.took further.took refl;
   parts = λ is.
       sent.parts is
       ∙ ap (λ xs. sent.gone ++ xs) (further.parts (same ∙ is))
@@ -132,9 +118,9 @@ sent_on told told' a b c first rest last same sent further = record {
 
 -- all parts, and the sink hands them on or fails
 pub finished :
-    (told : Bool) (a b c : Option (List ℕ)) (first rest : List ℕ) (m m' n : ℕ)
+    (told : Bool) (a b c : Taken) (first rest : List ℕ) (m m' n : ℕ)
     (r : Result (Unit {0}) FollowError) → HasSent told a b first rest →
-    (told ≡ true → rest ≡ []) → Keeps b c → m' ≡ m → OnOk r (n ≡ m') →
+    (told ≡ true → rest ≡ []) → TakesNothing b c → m' ≡ m → OnOk r (n ≡ m') →
     IfErr r (λ e. HasCause e m' n) → IsText told first a c m n r
 finished told a b c first rest m m' n (Ok x) sent none kept same ok cause =
     all_sent told a b c first rest m n sent none kept (ok ∙ same)
@@ -144,7 +130,7 @@ finished told a b c first rest m m' n (Err e) sent none kept same ok cause =
 
 -- the first parts, where a later one stopped
 pub stopped :
-    (told : Bool) (a b : Option (List ℕ)) (first rest : List ℕ) (m m' n : ℕ) (e : FollowError) →
+    (told : Bool) (a b : Taken) (first rest : List ℕ) (m m' n : ℕ) (e : FollowError) →
     HasSent told a b first rest → m' ≡ m → HasCause e m' n → IsText told first a b m n (Err e)
 stopped told a b first rest m m' n e sent same cause =
     parts_sent told a b first rest m n e sent

@@ -1,13 +1,13 @@
 -- A text that goes to a sink.
 -- Source: this project's rule.
-use Rattle.std.specs.Prelude.{◌≡◌, ℕ, Bool, true, List, ◌++◌, Option, Result, Ok, Err}
-use Rattle.std.specs.Io.KnownBytes.{Appends}
+use Rattle.std.specs.Prelude.{◌≡◌, ℕ, Bool, true, List, ◌++◌, Result, Ok, Err}
 use Rattle.lb_pool.specs.Follows.{HasBegun, HasCause}
+use Rattle.lb_pool.specs.Taken.{Taken, Takes}
 use Rattle.lb_pool.specs.declared.follow_error.FollowError.{FollowError}
 
 -- a sink took the first bytes of a text, and the rest not
 pub record HasStopped
-    (text : List ℕ) (before after : Option (List ℕ)) (failures_before failures_after : ℕ)
+    (text : List ℕ) (before after : Taken) (failures_before failures_after : ℕ)
     (e : FollowError)
     : Type 0 where
   pub count : ℕ
@@ -16,21 +16,21 @@ pub record HasStopped
 
 -- a text went to a sink: all of it, and the sink did not fail; or its first bytes, and the error
 -- tells why no more
-abbrev pub IsSent : (text : List ℕ) → (before after : Option (List ℕ))
+abbrev pub IsSent : (text : List ℕ) → (before after : Taken)
     → (failures_before failures_after : ℕ) → Result (Unit {0}) FollowError → Type 0
-IsSent text before after m n (Ok x) = Appends before after text × (n ≡ m)
+IsSent text before after m n (Ok x) = Takes before after text × (n ≡ m)
 IsSent text before after m n (Err e) = HasStopped text before after m n e
 
 -- some bytes went to a sink; where the flag is true they are the front of what was left, and `rest`
 -- is left behind them
-pub record HasSent (told : Bool) (before after : Option (List ℕ)) (first rest : List ℕ) : Type 0
+pub record HasSent (told : Bool) (before after : Taken) (first rest : List ℕ) : Type 0
   where
     pub gone : List ℕ
-    pub took : Appends before after gone
+    pub took : Takes before after gone
     pub parts : told ≡ true → first ≡ gone ++ rest
 
 -- a text went to a sink, or its first bytes; where the flag is true it is the one that was left
-abbrev pub IsText : (told : Bool) → (first : List ℕ) → (before after : Option (List ℕ))
+abbrev pub IsText : (told : Bool) → (first : List ℕ) → (before after : Taken)
     → (failures_before failures_after : ℕ) → Result (Unit {0}) FollowError → Type 0
 IsText told first before after m n run =
     (text : List ℕ) × (told ≡ true → text ≡ first) × IsSent text before after m n run

@@ -1,13 +1,13 @@
 -- What is promised of the values of one trace.
 -- Source: this project's rule.
-use Rattle.std.specs.Prelude.{◌≡◌, ◌≢◌, ◌<◌, ℕ, List, Option, Result, Ok, Err, length}
-use Rattle.std.specs.Io.KnownBytes.{Keeps}
+use Rattle.std.specs.Prelude.{◌≡◌, ◌≢◌, ◌<◌, ℕ, List, Result, Ok, Err, length}
 use Rattle.lb_syntax.specs.Tokens.{Text}
 use Rattle.lb_static.specs.Instances.{Program}
 use Rattle.lb_check.specs.Acceptance.{IsAccepted}
 use Rattle.lb_flat.specs.FlatPrograms.{IsFlatOf}
 use Rattle.lb_flat.specs.Judging.{FlatProgram}
-use Rattle.lb_flat.specs.Traces.{Recording, trace_at}
+use Rattle.lb_traces.specs.Traces.{Recording, trace_at}
+use Rattle.lb_pool.specs.Taken.{Taken, TakesNothing}
 use Rattle.lb_pool.specs.declared.follow_error.FollowError.{FollowError}
 use Rattle.lb_report.specs.Bench.{IsOnlyRecording, OnlyProgram}
 use Rattle.lb_report.specs.Correct.{IsBenchAnswer}
@@ -46,7 +46,7 @@ pub record IsNoTrace (P : Program) (traces name : Text) : Type 0 where
 -- the values that are asked for went to a sink, all of them or their first bytes
 pub record AreSent
     (source traces : Text) (options : Options) (asked : ShowOptions)
-    (before after : Option (List ℕ)) (failures_before failures_after : ℕ)
+    (before after : Taken) (failures_before failures_after : ℕ)
     (run : Result (Unit {0}) FollowError)
     : Type 0 where
   pub text : List ℕ
@@ -54,9 +54,9 @@ pub record AreSent
   pub sent : IsSent text before after failures_before failures_after run
 
 -- a sink is as it was
-pub record IsLeft (before after : Option (List ℕ)) (failures_before failures_after : ℕ) : Type 0
+pub record IsLeft (before after : Taken) (failures_before failures_after : ℕ) : Type 0
   where
-    pub kept : Keeps before after
+    pub kept : TakesNothing before after
     pub never_failed : failures_after ≡ failures_before
 
 -- why values are not shown
@@ -77,7 +77,7 @@ IsFault source traces options asked (Stopped e) = ⊥
 -- the values went out; or their first bytes did; or the texts are refused, or what is asked for is
 -- not there, and the sink is as it was
 abbrev pub IsValuesAnswer : (source traces : Text) → Options → ShowOptions
-    → (before after : Option (List ℕ)) → (failures_before failures_after : ℕ)
+    → (before after : Taken) → (failures_before failures_after : ℕ)
     → Result (Unit {0}) ValuesFault → Type 0
 IsValuesAnswer source traces options asked before after m n (Ok x) =
     AreSent source traces options asked before after m n (Ok x)

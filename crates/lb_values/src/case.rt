@@ -8,10 +8,10 @@ ghost use Rattle.lb_report.specs.Bench.{IsRefused, program_of};
 ghost use Rattle.lb_values.specs.Programs.{IsCase};
 
 use crate::program::Program;
-use lb_flat::TraceSet;
 use lb_report::{BenchError, Options};
 use lb_syntax::Source;
 use lb_trace::read_traces;
+use lb_traces::TraceSet;
 use std::alloc::Global;
 
 /// A program and recorded traces of it.

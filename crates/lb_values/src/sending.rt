@@ -1,8 +1,8 @@
 //! Values go to a sink, part by part.
 
 ghost use Rattle.std.specs.Prelude.{◌≡◌, ◌<◌, ℕ, List, [], Ok, true, false, IfErr, IfOk, OnErr, OnOk};
-ghost use Rattle.std.specs.Io.KnownBytes.{Keeps};
 ghost use Rattle.lb_pool.specs.Follows.{HasCause};
+ghost use Rattle.lb_pool.specs.Taken.{TakesNothing};
 ghost use Rattle.lb_show.specs.Shows.{csv_rest, is_csv, parts_left};
 ghost use Rattle.lb_values.specs.Sending.{HasSent, IsText};
 
@@ -47,7 +47,7 @@ fn send_part<S: Sink>(
 /// Hands on what a sink keeps back, once so many bytes went out.
 fn finish<S: Sink>(count: usize, sink: &mut S) -> Result<(), FollowError>
     requires { S.failures sink.old < u64.MAX }
-    ensures kept { Keeps (S.taken sink.old) (S.taken sink.new) }
+    ensures kept { TakesNothing (S.taken sink.old) (S.taken sink.new) }
     ensures ok { OnOk result (S.failures sink.new ≡ S.failures sink.old) }
     ensures cause { IfErr result (λ e. HasCause e (S.failures sink.old) (S.failures sink.new)) }
 {

@@ -1,21 +1,22 @@
 -- The right verdicts are those of an ordered program, and the workers run that program.
-use Rattle.std.proofs.Common.{◌≡◌, ℕ, List, Option, Result, subst, sym}
+use Rattle.std.proofs.Common.{◌≡◌, ℕ, List, Result, subst, sym}
 use Rattle.lb_check.specs.declared.verdict.Verdict.{Verdict}
 use Rattle.lb_flat.specs.Programs.{program_of}
 use Rattle.lb_flat.specs.RightVerdicts.{right_verdicts}
-use Rattle.lb_flat.specs.Traces.{Recording, trace_names}
+use Rattle.lb_traces.specs.Traces.{Recording, trace_names}
 use Rattle.lb_flat.specs.declared.program.FlatProgram.{FlatProgram}
 use Rattle.lb_pool.specs.FollowSeats.{right_of}
 use Rattle.lb_pool.specs.FollowWorkers.{IsBoardFor}
 use Rattle.lb_pool.specs.Follows.{IsFollowed, right_report}
 use Rattle.lb_pool.specs.Reports.{report_of}
+use Rattle.lb_pool.specs.Taken.{Taken}
 use Rattle.lb_pool.specs.declared.follow_error.FollowError.{FollowError}
 use Rattle.lb_pool.proofs.RightPosts.{right_verdicts_of}
 use Rattle.lb_pool.proofs.follow.run_follow.Goals as goal
 
 -- the verdicts of the board are the right ones
 followed_right : (p : FlatProgram) (r : Recording) (right : List Verdict)
-    (before after : Option (List ℕ)) (m n : ℕ) (run : Result (Unit {0}) FollowError)
+    (before after : Taken) (m n : ℕ) (run : Result (Unit {0}) FollowError)
     → right ≡ right_verdicts (program_of p) r
     → IsFollowed (report_of (trace_names r.traces) right) before after m n run
     → IsFollowed (right_report p r) before after m n run

@@ -1,32 +1,29 @@
 -- Each line goes behind those before it; where the writing stops, the first bytes went out.
 use Rattle.std.proofs.Common.{◌≡◌, ℕ, ◌+◌, ◌<◌, List, [], ◌∷◌, ◌++◌, length, take, ap}
-use Rattle.std.proofs.Common.{sym, subst, arith, ◌∙◌, refl, Option, None, Some, append-nil}
-use Rattle.std.specs.Io.KnownBytes.{Appends}
+use Rattle.std.proofs.Common.{sym, subst, arith, ◌∙◌, refl}
 use Rattle.lb_check.specs.declared.verdict.Verdict.{Verdict}
 use Rattle.std.proofs.lemmas.List.{get_or-map, length-map, take_more}
 use Rattle.lb_check.specs.declared.verdict.Verdict.TheVariants.{Passed}
-use Rattle.lb_flat.specs.Traces.{Trace, trace_names}
+use Rattle.lb_traces.specs.Traces.{Trace, trace_names}
 use Rattle.lb_pool.specs.FollowSeats.{right_of}
 use Rattle.lb_pool.specs.Follows.{Goes, sent_of}
 use Rattle.lb_pool.specs.Reports.{lines, report_of}
+use Rattle.lb_pool.specs.Taken.{Taken}
 use Rattle.lb_pool.proofs.GoingOut.{goes_length, goes_on, one_more, passes_on, stops_behind}
+use Rattle.lb_pool.proofs.SinkBytes.{takes_no_byte}
 use Rattle.lb_pool.proofs.follow_writer.write_lines.Goals as goal
 
 lines_of_none : (names : List (List ℕ)) → lines names [] ≡ []
 lines_of_none [] = refl
 lines_of_none (name ∷ names) = refl
 
-nothing : (a : Option (List ℕ)) → Appends a a []
-nothing None = tt
-nothing (Some s) = sym (append-nil s)
-
 -- before the first line nothing went out
-goes_at_first : (a : Option (List ℕ)) (names : List (List ℕ)) (verdicts : List Verdict)
+goes_at_first : (a : Taken) (names : List (List ℕ)) (verdicts : List Verdict)
     (text : List ℕ) (count : ℕ) → text ≡ [] → count ≡ 0
     → Goes a a (lines names (take 0 verdicts)) text 0 count
 goes_at_first a names verdicts text count none zero = record {
   gone = [];
-  took = nothing a;
+  took = takes_no_byte a;
   parts = lines_of_none names ∙ sym none;
   count = omega (arith, zero);
 }

@@ -1,5 +1,5 @@
 use Rattle.std.proofs.Common.{◌≡◌, ◌≤◌, ◌+◌, ◌*◌, length, take}
-use Rattle.lb_flat.specs.Traces.{trace_names}
+use Rattle.lb_traces.specs.Traces.{trace_names}
 use Rattle.lb_pool.specs.FollowSeats.{IsFollowSeatOf, right_of}
 use Rattle.lb_pool.specs.Follows.{Goes}
 use Rattle.lb_pool.specs.Reports.{lines}

@@ -1,6 +1,6 @@
 -- The lines went out but for what was kept back; the last line goes out with that.
 use Rattle.std.proofs.Common.{◌≡◌, ℕ, List, ◌++◌, ap, sym, subst, ◌∙◌}
-use Rattle.lb_flat.specs.Traces.{trace_names}
+use Rattle.lb_traces.specs.Traces.{trace_names}
 use Rattle.lb_pool.specs.FollowSeats.{right_of}
 use Rattle.lb_pool.specs.Follows.{Goes}
 use Rattle.lb_pool.specs.Reports.{lines, report_of, total}

@@ -1,6 +1,6 @@
 -- What the sink took before it failed is the front of the text.
 use Rattle.std.proofs.Common.{◌≡◌, ℕ, List, length, take, drop, ap, subst, arith}
-use Rattle.std.specs.Io.KnownBytes.{Appends}
+use Rattle.lb_pool.specs.Taken.{Takes}
 use Rattle.lb_pool.proofs.GoingOut.{goes_front}
 use Rattle.lb_pool.proofs.outgoing.send_text.Goals as goal
 
@@ -11,7 +11,7 @@ returns-in-Err-clause-first g c =
     let sent : c.as_slice.result.now ≡ text = c.as_slice.ensures.value in
     let taken = g.S.Sink.taken in
     let Took : List ℕ → Type 0 =
-    λ bytes. Appends (taken c.args.sink.now) (taken c.send.new.sink) (take n bytes) in (
+    λ bytes. Takes (taken c.args.sink.now) (taken c.send.new.sink) (take n bytes) in (
       drop n text,
       goes_front (g.S.Sink.taken c.args.sink.now) (g.S.Sink.taken c.send.new.sink) text
           c.args.out.now.count n (omega (arith, c.in-Err.ensures.within, ap length sent))

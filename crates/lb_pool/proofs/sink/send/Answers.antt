@@ -1,5 +1,5 @@
 use Rattle.std.proofs.Common.{◌∙◌}
-use Rattle.lb_pool.proofs.SinkBytes.{Appends-further, further}
+use Rattle.lb_pool.proofs.SinkBytes.{takes_further, further}
 use Rattle.lb_pool.proofs.sink.send.Goals as goal
 
 pub loop-count-preserved : goal.loop-count-preserved
@@ -8,7 +8,7 @@ loop-count-preserved g c =
     let wrote = c.in-Ok.ensures in (
       record {
         within = further c.args.bytes.now _ _ wrote.within c.loop-count-test.true;
-        gone = Appends-further _ _ _ _ _ _ before.0.gone wrote.next;
+        gone = takes_further _ _ _ _ _ _ before.0.gone wrote.next;
       },
       wrote.some c.if-more-gt0.true ∙ before.1,
     )

@@ -1,11 +1,11 @@
-use Rattle.std.proofs.Common.{◌≡◌, ◌≤◌, ◌-◌, ℕ, List, Option, length, take}
-use Rattle.std.specs.Io.KnownBytes.{Appends}
+use Rattle.std.proofs.Common.{◌≡◌, ◌≤◌, ◌-◌, ℕ, List, length, take}
+use Rattle.lb_pool.specs.Taken.{Taken, Takes}
 use Rattle.lb_pool.proofs.sink.send.Given as goal
 
 -- the first bytes went out, and `count` tells how many
-pub record HasGone (first now : Option (List ℕ)) (bytes : List ℕ) (count : ℕ) : Type 0 where
+pub record HasGone (first now : Taken) (bytes : List ℕ) (count : ℕ) : Type 0 where
   pub within : count ≤ length bytes
-  pub gone : Appends first now (take count bytes)
+  pub gone : Takes first now (take count bytes)
 
 abbrev pub invariant-loop-count : goal.invariant-loop-count
 invariant-loop-count g l =

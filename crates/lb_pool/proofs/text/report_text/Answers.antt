@@ -1,6 +1,6 @@
 use Rattle.std.proofs.Common.{◌<◌, [], length, arith, ap, sym, ◌∙◌, ◌++◌, get_or}
 use Rattle.std.proofs.lemmas.List.{get_or-map, length-map}
-use Rattle.lb_flat.specs.Traces.{trace_names, Trace}
+use Rattle.lb_traces.specs.Traces.{trace_names, Trace}
 use Rattle.lb_pool.specs.Reports as spec
 use Rattle.lb_check.specs.declared.verdict.Verdict.TheVariants.{Passed}
 use Rattle.lb_pool.proofs.ReportLines.{lines-drop, whole_after}

@@ -1,5 +1,5 @@
 use Rattle.std.proofs.Common.{◌≡◌, ◌++◌, drop}
-use Rattle.lb_flat.specs.Traces.{trace_names}
+use Rattle.lb_traces.specs.Traces.{trace_names}
 use Rattle.lb_pool.specs.Reports as spec
 use Rattle.lb_pool.proofs.text.report_text.Given as goal
 

@@ -1,7 +1,7 @@
 use Rattle.std.proofs.Common.{◌≡◌, ◌∙◌, length, ap, subst, sym}
 use Rattle.std.proofs.lemmas.Result.{err_from_is_err_and}
 use Rattle.lb_static.specs.DataTypes.{signature}
-use Rattle.lb_flat.specs.Traces.{Traces, trace_names}
+use Rattle.lb_traces.specs.Traces.{Traces, trace_names}
 use Rattle.lb_trace.specs.Correct.{IsTraceReading}
 use Rattle.lb_trace.specs.Errors.{Refuses}
 use Rattle.lb_trace.specs.Spelling.{Spells}

@@ -4,7 +4,7 @@ use Rattle.std.proofs.lemmas.Result.{err_from_is_err_and}
 use Rattle.lb_syntax.specs.SourceView.{view_source}
 use Rattle.lb_static.specs.DataTypes.{signature}
 use Rattle.lb_static.specs.Signature.{Elements}
-use Rattle.lb_flat.specs.Traces.{Traces}
+use Rattle.lb_traces.specs.Traces.{Traces}
 use Rattle.lb_trace.specs.Correct.{IsTraceReading}
 use Rattle.lb_trace.specs.Errors.{Refuses}
 use Rattle.lb_trace.specs.Spelling.{Spells}

@@ -1,0 +1,20 @@
+-- What a sink has taken, and how that grows.
+-- Source: this project's rule.
+use Rattle.std.specs.Prelude.{◌≡◌, ℕ, List, Option, length}
+use Rattle.std.specs.Io.KnownBytes.{Appends, Keeps}
+use Rattle.lb_pool.specs.Counts.{count_more}
+
+-- how many bytes a sink has taken, and which ones where it tells them
+pub record Taken : Type 0 where
+  pub bytes : Option (List ℕ)
+  pub count : ℕ
+
+-- a sink takes a text: its count grows by the length, and its bytes by the text
+pub record Takes (before after : Taken) (text : List ℕ) : Type 0 where
+  pub bytes : Appends before.bytes after.bytes text
+  pub count : after.count ≡ count_more before.count (length text)
+
+-- a sink takes nothing
+pub record TakesNothing (before after : Taken) : Type 0 where
+  pub bytes : Keeps before.bytes after.bytes
+  pub count : after.count ≡ before.count
