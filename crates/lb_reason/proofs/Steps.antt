@@ -14,7 +14,7 @@ use Rattle.lb_flat.specs.Judging.{FlatProgram, row_judged}
 use Rattle.lb_flat.specs.Programs.{numbers_of}
 use Rattle.lb_flat.specs.Run.{Ready, Row, cell}
 use Rattle.lb_flat.specs.Standing.{HasKindsOf, StandsForProgram}
-use Rattle.lb_flat.specs.Traces.{Recording, trace_at}
+use Rattle.lb_traces.specs.Traces.{Recording, trace_at}
 use Rattle.lb_flat.specs.declared.equation.ElementId.{ElementId}
 use Rattle.lb_history.specs.Cells.{cell_of}
 use Rattle.lb_history.specs.Histories.{IsHistoryCell}

@@ -10,7 +10,7 @@ use Rattle.lb_flat.specs.Inputs.{inputs_of}
 use Rattle.lb_flat.specs.Judging.{FlatProgram, named_elements, row_judged, truth_elements}
 use Rattle.lb_flat.specs.Run.{Row, cell}
 use Rattle.lb_flat.specs.Standing.{HasKindsOf, StandsForProgram}
-use Rattle.lb_flat.specs.Traces.{Recording}
+use Rattle.lb_traces.specs.Traces.{Recording}
 use Rattle.lb_history.specs.Cells.{cell_of}
 use Rattle.lb_history.specs.Histories.{IsHistoryCell}
 use Rattle.lb_history.specs.Replaying.{equations_before, row_at}

@@ -1,6 +1,6 @@
 //! Expressions as they stand in the text of a source.
 
-use lb_syntax::{BinaryOperator, Expr, Static};
+use lb_syntax::{BinaryOperator, Expr, Static, UnaryOperator};
 use std::alloc::{AllocError, Global};
 
 /// The most characters of an expression that are told; behind them stands `..`.
@@ -227,6 +227,15 @@ pub(crate) fn joins(op: BinaryOperator) -> bool {
         op,
         BinaryOperator::And | BinaryOperator::Or | BinaryOperator::Implies | BinaryOperator::Xor
     )
+}
+
+/// Whether an expression is a number, perhaps with a sign, or a truth.
+pub(crate) fn is_literal(expr: &Expr) -> bool {
+    match ungrouped(expr) {
+        Expr::Unary(UnaryOperator::Negate, e, _) => matches!(&**e, Expr::Literal(_, _)),
+        Expr::Literal(_, _) | Expr::Truth(_, _) => true,
+        _ => false,
+    }
 }
 
 /// Whether an expression is told by its text: a variable or a number, perhaps with one sign.

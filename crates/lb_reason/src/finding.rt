@@ -13,8 +13,9 @@ ghost use Rattle.lb_reason.specs.Tests.{number, passes};
 use crate::deciding::{Test, chain};
 use crate::moment::Moment;
 use lb_check::Verdict;
-use lb_flat::{ElementId, FlatProgram, Ordered, TraceSet, eval_trace};
+use lb_flat::{ElementId, FlatProgram, Ordered, eval_trace};
 use lb_history::Cell;
+use lb_traces::TraceSet;
 use std::alloc::{AllocError, Global};
 
 /// An element, and what it held.

@@ -3,13 +3,14 @@
 ghost use Rattle.std.specs.Prelude.{◌≡◌, ◌+◌, ◌<◌, ◌≤◌, length, IfOk};
 ghost use Rattle.lb_flat.specs.Inputs.{inputs_of};
 ghost use Rattle.lb_flat.specs.Programs.{flat_equations, program_of};
-ghost use Rattle.lb_flat.specs.Traces.{trace_at};
+ghost use Rattle.lb_traces.specs.Traces.{trace_at};
 ghost use Rattle.lb_history.specs.ReplayParts.{next_in, program_in, recording_in, trace_in};
 ghost use Rattle.lb_history.specs.Replaying.{equations_before};
 ghost use Rattle.lb_history.specs.Replays.{replayed_props};
 
-use lb_flat::{ElementId, Equation, FlatProgram, Ordered, TraceSet};
+use lb_flat::{ElementId, Equation, FlatProgram, Ordered};
 use lb_history::{Cell, Replay};
+use lb_traces::TraceSet;
 use std::alloc::{AllocError, Global};
 
 /// A trace of a program, before so many instants were computed.

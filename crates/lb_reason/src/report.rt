@@ -5,8 +5,9 @@ ghost use Rattle.std.specs.Prelude.{◌≤◌, length};
 use crate::site::Subject;
 use crate::told::{Recorded, put_reason};
 use lb_check::Checked;
-use lb_flat::{Ordered, TraceSet};
+use lb_flat::Ordered;
 use lb_show::{Lines, signals_of};
+use lb_traces::TraceSet;
 use std::alloc::{AllocError, Global};
 
 /// A program and recorded traces of it, with the text that the program is read of.

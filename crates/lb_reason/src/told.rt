@@ -10,16 +10,17 @@
 ghost use Rattle.std.specs.Prelude.{◌<◌, length};
 
 use crate::deciding::given_by;
-use crate::expressions::{is_short, joins, put_expression, sign_of, ungrouped};
+use crate::expressions::{is_literal, is_short, joins, put_expression, sign_of, ungrouped};
 use crate::finding::{Step, find_reason};
 use crate::moment::Moment;
 use crate::page::{parts_of_verdict, push, push_cell, push_number, push_spot};
 use crate::site::{Owner, Placed, Site, Subject};
 use lb_check::Verdict;
-use lb_flat::{ElementId, Operation, Ordered, TraceSet};
+use lb_flat::{ElementId, Operation, Ordered};
 use lb_history::{Cell, Replay};
 use lb_static::Term;
 use lb_syntax::{Expr, UnaryOperator};
+use lb_traces::TraceSet;
 use std::alloc::{AllocError, Global};
 
 /// The most steps that are told of a verdict.
@@ -181,11 +182,7 @@ impl<'p, 'a, 's> Telling<'p, 'a, 's> {
             let Some((operand, element)) = found else {
                 continue;
             };
-            let is_literal = matches!(
-                ungrouped(operand.expr),
-                Expr::Literal(_, _) | Expr::Truth(_, _)
-            );
-            if is_literal || latest == Some(element) {
+            if is_literal(operand.expr) || latest == Some(element) {
                 continue;
             }
             self.say(if is_first { " with " } else { ", " })?;
@@ -446,7 +443,8 @@ impl<'p, 'a, 's> Telling<'p, 'a, 's> {
         self.known.get(place).copied().unwrap_or(Known::Inner)
     }
 
-    /// Tells since when a memory keeps what it holds.
+    /// Tells since when a memory keeps what it holds; nothing where the operand of `current` has a
+    /// value at the instant.
     fn say_since(
         &mut self,
         recorded: Recorded<'a>,
@@ -455,6 +453,9 @@ impl<'p, 'a, 's> Telling<'p, 'a, 's> {
         let (Operation::Previous(_, a) | Operation::Latest(_, a)) = operation else {
             return Ok(());
         };
+        if matches!(operation, Operation::Latest(_, _)) && self.moment.cell(a) != Cell::Absent {
+            return Ok(());
+        }
         let mut replay = Replay::new(self.alloc, recorded.ordered, recorded.set, recorded.k)?;
         let mut since = None;
         for t in 0..self.moment.instant {

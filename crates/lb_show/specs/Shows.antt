@@ -5,7 +5,7 @@ use Rattle.lb_check.specs.declared.verdict.Verdict.{Verdict}
 use Rattle.lb_flat.specs.Correct.{IsVerdictOf}
 use Rattle.lb_flat.specs.Inputs.{inputs_of}
 use Rattle.lb_flat.specs.Judging.{FlatProgram}
-use Rattle.lb_flat.specs.Traces.{Recording, trace_at}
+use Rattle.lb_traces.specs.Traces.{Recording, trace_at}
 use Rattle.lb_show.specs.Csv.{parts_in, rest_in}
 use Rattle.lb_show.specs.CsvTexts.{header, records}
 use Rattle.lb_show.specs.Paintings as painted

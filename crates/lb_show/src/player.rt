@@ -1,12 +1,13 @@
 //! The instants of a trace that are shown.
 
 ghost use Rattle.std.specs.Prelude.{◌≤◌, length};
-ghost use Rattle.lb_flat.specs.Traces.{trace_at};
+ghost use Rattle.lb_traces.specs.Traces.{trace_at};
 ghost use Rattle.lb_history.specs.ReplayParts.{next_in, recording_in, trace_in};
 
 use crate::columns::Column;
-use lb_flat::{Ordered, TraceSet};
+use lb_flat::Ordered;
 use lb_history::{Cell, Replay};
+use lb_traces::TraceSet;
 use std::alloc::{AllocError, Global};
 
 /// A trace that is replayed, from one instant up to another.

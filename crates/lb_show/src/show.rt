@@ -1,7 +1,7 @@
 //! The values of one recorded trace, part by part.
 
 ghost use Rattle.std.specs.Prelude.{◌≡◌, ◌≢◌, ◌<◌, ◌≤◌, ℕ, length, IfSome, IfNone};
-ghost use Rattle.lb_flat.specs.Traces.{trace_at};
+ghost use Rattle.lb_traces.specs.Traces.{trace_at};
 ghost use Rattle.lb_show.specs.Windows.{end_at, first_at};
 
 use crate::columns::Column;
@@ -17,8 +17,9 @@ use crate::vcd::Dump;
 use crate::verdict_line::deciding;
 use crate::write::CHUNK;
 use lb_check::{Checked, Verdict};
-use lb_flat::{FlatProgram, Ordered, TraceSet, eval_trace};
+use lb_flat::{FlatProgram, Ordered, eval_trace};
 use lb_history::Cell;
+use lb_traces::TraceSet;
 use std::alloc::{AllocError, Global};
 
 /// The number of the trace with a name.

@@ -1,5 +1,5 @@
 //! A value change dump, as waveform viewers read it: a scope for each instance, a wire for each
-//! element, and a time step for each instant.
+//! Boolean, 32 bits for each integer, and a time step for each instant.
 //!
 //! Nil and the value of a fault are `x`, and an absent cell is `z`. Beside an element that has the
 //! value of a fault somewhere stands a wire with `!` behind its name, which is true there.
@@ -69,18 +69,18 @@ fn push_value(text: &mut Vec<u8>, kind: Kind, cell: Cell, number: usize) -> Resu
     push(text, "\n")
 }
 
-/// Adds the declaration of a wire.
+/// Adds the declaration of an element. With a range behind it no viewer takes the index of an
+/// array's element for a range.
 fn push_wire(text: &mut Vec<u8>, label: &str, kind: Kind, number: usize) -> Result<(), AllocError> {
-    push(
-        text,
-        match kind {
-            Kind::Bool => "$var wire 1 ",
-            Kind::Int => "$var wire 32 ",
-        },
-    )?;
+    let (form, range) = match kind {
+        Kind::Bool => ("$var wire 1 ", ""),
+        Kind::Int => ("$var integer 32 ", " [31:0]"),
+    };
+    push(text, form)?;
     push_identifier(text, number)?;
     push(text, " ")?;
     push(text, label)?;
+    push(text, range)?;
     push(text, " $end\n")
 }
 

@@ -1,5 +1,5 @@
 use Rattle.std.proofs.Common.{ℕ, ◌<◌, ◌≢◌}
-use Rattle.lb_flat.specs.Traces.{trace_at}
+use Rattle.lb_traces.specs.Traces.{trace_at}
 use Rattle.lb_show.proofs.show.trace_named.Given as goal
 
 abbrev pub invariant-loop-k : goal.invariant-loop-k

@@ -1,7 +1,7 @@
 use Rattle.std.proofs.Common.{◌≡◌, ◌∙◌, ℕ, ap, ap₂, length}
 use Rattle.lb_flat.specs.Inputs.{inputs_of}
 use Rattle.lb_flat.specs.Programs.{program_of}
-use Rattle.lb_flat.specs.Traces.{trace_at}
+use Rattle.lb_traces.specs.Traces.{trace_at}
 use Rattle.lb_show.specs.Players.{inputs_played, next_played, program_played}
 use Rattle.lb_show.specs.Shown.{names_of, numbers_of}
 use Rattle.lb_show.specs.Verdicts.{deciding}
