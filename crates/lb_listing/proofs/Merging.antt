@@ -1,5 +1,6 @@
 -- The report on the traces of several reports.
-use Rattle.std.proofs.Common.{◌≡◌, ◌≢◌, ℕ, ◌+◌, ◌<◌, ◌≤◌, ◌^◌, List, [], ◌∷◌, ◌++◌, length, map, take, get_or}
+use Rattle.std.proofs.Common.{◌≡◌, ◌≢◌, ℕ, ◌+◌, ◌<◌, ◌≤◌, ◌^◌, List, [], ◌∷◌, ◌++◌}
+use Rattle.std.proofs.Common.{length, map, take, get_or}
 use Rattle.std.proofs.Common.{sym, ◌∙◌, ap, subst, refl, append_assoc, flat_map, arith}
 use Rattle.std.specs.List.{All, AllPairs, AllZip}
 use Rattle.std.proofs.lemmas.Grind.{flat_map-append}
@@ -15,12 +16,19 @@ use Rattle.lb_listing.proofs.Listed.{All-later, begins_with, length_verdicts, no
 
 -- no report
 pub joined_none : AreJoined [] [] []
-joined_none = record { lists = []; each = tt; all = refl; lawful = λ k d h. absurd (omega arith); lines = refl }
+joined_none = record {
+  lists = [];
+  each = tt;
+  all = refl;
+  lawful = λ k d h. absurd (omega arith);
+  lines = refl;
+}
 
 pub lines-append : (xs ys : List Line) → lines_of (xs ++ ys) ≡ lines_of xs ++ lines_of ys
 lines-append [] ys = refl
 lines-append (x ∷ xs) ys =
-    ap (λ text. spelled x ++ text) (lines-append xs ys) ∙ sym (append_assoc (spelled x) (lines_of xs) (lines_of ys))
+    ap (λ text. spelled x ++ text) (lines-append xs ys)
+    ∙ sym (append_assoc (spelled x) (lines_of xs) (lines_of ys))
 
 zip_more : {A B : Type 0} (R : A → B → Type 0) (xs : List A) (ys : List B) (x : A) (y : B)
     → AllZip R xs ys → R x y → AllZip R (xs ++ x ∷ []) (ys ++ y ∷ [])

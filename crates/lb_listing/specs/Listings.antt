@@ -6,7 +6,7 @@ use Rattle.std.specs.List.{All, AllPairs}
 use Rattle.std.specs.Map.{lookup}
 use Rattle.std.specs.Str.{bytes_eq}
 use Rattle.lb_check.specs.declared.verdict.Verdict.{Verdict}
-use Rattle.lb_flat.specs.Traces.{IsTraceName}
+use Rattle.lb_traces.specs.Traces.{IsTraceName}
 use Rattle.lb_pool.specs.Reports.{instant, instant_of, line, lines, place_of, report_of, total}
 use Rattle.lb_pool.specs.Reports.{word}
 use Rattle.lb_pool.specs.Reports.{words}

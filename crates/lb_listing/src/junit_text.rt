@@ -211,8 +211,8 @@ fn junit_named(
 }
 
 /// A report as JUnit XML: one suite of this name, and a case for each trace. A fault, what is
-/// undefined and a false property are failures; a broken assumption is a case that was skipped. What
-/// is said beside the report is the `system-err` of the suite.
+/// undefined and a false property are failures; a broken assumption is a case that was skipped.
+/// What is said beside the report is the `system-err` of the suite.
 ///
 /// ```text
 /// <testcase classname='main' name='stuck'><failure type='false' message='false 7'/></testcase>

@@ -8,7 +8,7 @@ ghost use Rattle.lb_listing.specs.Plain.{is_plain};
 
 use crate::entry::Entry;
 use lb_check::Verdict;
-use lb_flat::is_trace_name;
+use lb_traces::is_trace_name;
 use std::str;
 
 /// One more than the last instant of the longest trace.

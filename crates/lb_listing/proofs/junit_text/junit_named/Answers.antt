@@ -39,4 +39,5 @@ returns c =
     c.in_ok-push_testcases.ensures)
     c.in_ok-push_remarks.ensures)
     c.in_ok-extend_from_slice.ensures.items in
-    grew ∙ ap (λ (text : List ℕ). text ++ ((((x1 ++ x2) ++ x3) ++ x4) ++ x5)) c.new-text.ensures.items
+    grew
+    ∙ ap (λ (text : List ℕ). text ++ ((((x1 ++ x2) ++ x3) ++ x4) ++ x5)) c.new-text.ensures.items
