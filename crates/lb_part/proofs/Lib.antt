@@ -1,0 +1,6 @@
+pub mod FirstRecords
+pub mod FoundCuts
+pub mod LoadedParts
+pub mod ReadRanges
+pub mod Slashes
+pub mod WindowNames

@@ -1,0 +1,9 @@
+pub mod Borders
+pub mod CutParts
+pub mod HeadLines
+pub mod MergedParts
+pub mod PartTraces
+pub mod RecordPlaces
+pub mod ReportLines
+pub mod SpelledStretches
+pub mod TraceCuts

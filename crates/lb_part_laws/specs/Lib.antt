@@ -1,0 +1,3 @@
+pub mod PartTexts
+pub mod Reported
+pub mod Stretches

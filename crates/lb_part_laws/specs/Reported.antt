@@ -1,0 +1,17 @@
+-- Reports on several texts.
+-- Source: this project's rule.
+use Rattle.std.specs.Prelude.{List, ℕ, map}
+use Rattle.std.specs.List.{AllZip}
+use Rattle.lb_syntax.specs.Tokens.{Text}
+use Rattle.lb_pool.specs.declared.text.Report.{Report}
+use Rattle.lb_report.specs.Bench.{IsBenchReport}
+use Rattle.lb_report.specs.declared.options.Options.{Options}
+
+-- a report on each text, with one source and one set of options
+abbrev pub AreReportsOn : (source : Text) → Options → (texts : List Text) → List Report → Type 0
+AreReportsOn source options texts reports =
+    AllZip (λ text report. IsBenchReport source text options report) texts reports
+
+-- the texts of some reports
+abbrev pub texts_in : List Report → List (List ℕ)
+texts_in reports = map (λ report. report.text.items) reports

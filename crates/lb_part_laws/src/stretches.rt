@@ -1,0 +1,18 @@
+//! Stretches of a trace text.
+
+ghost use Rattle.std.specs.Prelude.{◌≡◌, ◌++◌, ℕ, List, false};
+ghost use Rattle.lb_static.specs.Signature.{Elements};
+ghost use Rattle.lb_traces.specs.Traces.{Traces};
+ghost use Rattle.lb_trace.specs.Plain.{has_quote};
+ghost use Rattle.lb_trace.specs.Spelling.{Spells};
+ghost use Rattle.lb_part_laws.specs.Stretches.{AreSpelled, AreStretches, IsHead};
+
+/// Where a text without quotes spells traces, and is cut where traces begin, each stretch spells
+/// traces behind the head of the text, and the text spells these, stretch by stretch. This is a
+/// law, and computes nothing.
+pub fn stretches_of_a_text_spell_its_traces()
+    ensures { (elements : Elements) → (head body : List ℕ) → (stretches : List (List ℕ))
+        → (traces : Traces) → IsHead head → has_quote (head ++ body) ≡ false
+        → AreStretches body stretches → Spells elements (head ++ body) traces
+        → AreSpelled elements head stretches traces }
+{}
