@@ -15,9 +15,19 @@ const MOST_INSTANTS: u64 = 1_000_000;
 
 const MOST_CELLS: u64 = 67_108_864;
 
-/// Puts how to mend it.
-fn put_mend(page: &mut String) -> Result<(), AllocError> {
-    page.push_str("help: split the traces into several files, and run each\n")
+/// A limit that a record can go past.
+#[derive(Clone, Copy)]
+enum Limit {
+    /// The instants of one trace.
+    Instants,
+    /// The cells of all records, with how many there are.
+    Cells(u64),
+    Traces,
+}
+
+/// Puts how to mend a text that is too long, or has too many traces or cells.
+fn put_parts(page: &mut String) -> Result<(), AllocError> {
+    page.push_str("help: `--part 1/16` judges the first of 16 parts of a file of traces\n")
 }
 
 /// How many instants its trace has up to and with a record.
@@ -26,28 +36,46 @@ fn instants(alloc: Global, text: &[u8], record: &Cursor) -> Result<u64, AllocErr
     Ok(instant_of(text, record, name.as_slice()).saturating_add(1))
 }
 
-/// Puts which limit a record goes past.
-fn put_limit(
-    page: &mut String,
+/// Which limit a record goes past.
+fn limit_of(
     alloc: Global,
     text: &[u8],
     record: &Cursor,
     columns: u64,
-) -> Result<(), AllocError> {
+) -> Result<Limit, AllocError> {
     let cells = record.records.saturating_mul(columns);
     if instants(alloc, text, record)? > MOST_INSTANTS {
-        return write!(
-            page,
-            "this is instant {MOST_INSTANTS} of its trace; at most {MOST_INSTANTS} are read\n"
-        );
+        return Ok(Limit::Instants);
     }
     if cells > MOST_CELLS {
-        return write!(
+        return Ok(Limit::Cells(cells));
+    }
+    Ok(Limit::Traces)
+}
+
+/// Puts which limit a record goes past.
+fn put_limit(page: &mut String, limit: Limit) -> Result<(), AllocError> {
+    match limit {
+        Limit::Instants => write!(
+            page,
+            "this is instant {MOST_INSTANTS} of its trace; at most {MOST_INSTANTS} are read\n"
+        ),
+        Limit::Cells(cells) => write!(
             page,
             "up to here there are {cells} cells; at most {MOST_CELLS} are read\n"
-        );
+        ),
+        Limit::Traces => page.push_str("this is trace 1000001; at most 1000000 are read\n"),
     }
-    page.push_str("this is trace 1000001; at most 1000000 are read\n")
+}
+
+/// Puts how to keep within a limit.
+fn put_mend(page: &mut String, limit: Limit) -> Result<(), AllocError> {
+    match limit {
+        Limit::Instants => {
+            page.push_str("help: split the traces into several files, and run each\n")
+        }
+        Limit::Cells(_) | Limit::Traces => put_parts(page),
+    }
 }
 
 /// Explains E18 for the length of a text, or for the record with a number.
@@ -75,7 +103,7 @@ fn explain_long(page: &mut String, text: &Text<'_>) -> Result<(), AllocError> {
         page,
         "the text of the traces has {length} bytes; at most {MOST_BYTES} are read\n"
     )?;
-    put_mend(page)
+    put_parts(page)
 }
 
 /// Explains a record that goes past a limit.
@@ -92,7 +120,8 @@ fn explain_record(
     let columns = width(bytes, header.at).saturating_sub(1).max(1) as u64;
     let place = stretch_of(text, &record, record.at, record.at);
     put_place(page, text, &place, "error")?;
-    put_limit(page, alloc, bytes, &record, columns)?;
-    put_mend(page)?;
+    let limit = limit_of(alloc, bytes, &record, columns)?;
+    put_limit(page, limit)?;
+    put_mend(page, limit)?;
     put_record(page, alloc, bytes, &record)
 }
