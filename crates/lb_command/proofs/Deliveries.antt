@@ -1,7 +1,7 @@
 -- Answers of which not all went out.
 use Rattle.std.proofs.Common.{◌≡◌, ◌∙◌, ◌≤◌, ℕ, List, Option, None, ap, length, subst, take}
-use Rattle.std.specs.Io.KnownBytes.{Appends}
 use Rattle.clap.specs.Words.{Text}
+use Rattle.lb_pool.specs.Taken.{Takes}
 use Rattle.lb_command.specs.Outcomes.{IsDelivered, IsTold, refusal_status, text_of}
 use Rattle.lb_command.specs.Outcomes.IsDelivered.{broken}
 use Rattle.lb_command.specs.Lines.{line}
@@ -13,7 +13,7 @@ use Rattle.lb_command.specs.declared.answer.Answer.{Answer}
 pub broken_by : (words : List Text) (answer : Answer) (warnings : List ℕ) (status : ℕ)
     (output errors : Change) (r : Refusal) (count : ℕ) → r.number ≡ 19 → r.position ≡ None
     → count ≤ length (text_of answer)
-    → Appends output.before output.after (take count (text_of answer))
+    → Takes output.before output.after (take count (text_of answer))
     → status ≡ refusal_status r.number
     → HasFailed output → IsTold words errors (line r.number r.position)
     → IsDelivered words answer warnings status output errors

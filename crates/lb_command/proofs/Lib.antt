@@ -1,6 +1,7 @@
 pub mod Streams
 pub mod Inputs
 pub mod Outcomes
+pub mod PartWords
 pub mod Words
 pub mod Living
 pub mod Deliveries
@@ -8,3 +9,6 @@ pub mod Columns
 pub mod Judgements
 pub mod Remarks
 pub mod Showings
+pub mod Reported
+pub mod Concluding
+pub mod Ranges

@@ -8,7 +8,7 @@ use Rattle.lb_report.specs.declared.feed.LoadError.TheVariants as load
 use Rattle.lb_report.specs.declared.options.Options.{Options}
 use Rattle.lb_pool.specs.declared.text.Report.{Report}
 use Rattle.lb_command.specs.Outcomes.{AreIn, AreTexts, HasRead, IsOutcomeOn, IsUnread, load_number}
-use Rattle.lb_command.specs.Outcomes.{source_in, traces_in}
+use Rattle.lb_command.specs.Outcomes.{TellsOfInput, source_in, traces_in}
 use Rattle.lb_command.specs.Outcomes.IsRefusedOn.{judged, unread}
 use Rattle.lb_command.specs.Streams.{Input, NeverFailed}
 use Rattle.lb_command.specs.declared.answer.Warned.{Warned}
@@ -70,3 +70,11 @@ pub passed_on : {T : Type 0} (r : Result T Refusal) (first : Refusal) (P : Refus
     → IsErrAnd r (λ refusal. refusal ≡ first) → P first → IfErr r P
 passed_on (Ok x) first P same p = tt
 passed_on (Err e) first P same p = subst P (sym same) p
+
+-- a refusal that a `?` passes on, with what it tells of the input
+pub passed_read : {T : Type 0} (HasFile : Type 0) (i : Input) (r : Result T Refusal)
+    (first : Refusal) → IsErrAnd r (λ refusal. refusal ≡ first) → TellsOfInput HasFile i first
+    → HasRead HasFile i r
+passed_read HasFile i (Ok x) first same tells = absurd same
+passed_read HasFile i (Err e) first same tells =
+    subst (λ (refusal : Refusal). TellsOfInput HasFile i refusal) (sym same) tells

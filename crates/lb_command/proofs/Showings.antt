@@ -80,7 +80,7 @@ module _ (source traces : Text) (task : Task) (asked : ShowOptions) (output : Ch
   unshown_of T values.UnknownTrace (Stopped cause) are told answer = absurd told
   unshown_of T (values.UnknownVariable place) (Stopped cause) are told answer = absurd told
 
--- of the texts of a task
+-- what a run says of the values of two texts that a task has, it says of the task
 pub showing_on :
     {T : Type 0} (task : Task) (i : Input) (output : Change) (source traces : Text)
     (r : Result T ShowingFault) → AreTexts task i.coming source traces → NeverFailed i →
@@ -92,7 +92,8 @@ showing_on task i output source traces (Err (Stopped e)) texts never shown =
 showing_on task i output source traces (Err (Refused refusal)) texts never shown =
     inr (record { source = source; traces = traces; texts = texts; shown = shown; read = never })
 
--- the same of the two texts that are in some texts
+-- two texts are those that a value of `Texts` holds: what a run says of the values of the first, it
+-- says of the values of the second
 pub showing_in :
     {T : Type 0} (t : Texts) (source traces : Text) (task : Task) (output : Change)
     (r : Result T ShowingFault) → source ≡ source_in t → traces ≡ traces_in t →

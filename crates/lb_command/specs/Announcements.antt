@@ -6,7 +6,7 @@ use Rattle.lb_command.specs.Streams.{Change, IsUntouched, TookOrFailed}
 use Rattle.lb_command.specs.Words.{IsRequest}
 use Rattle.lb_command.specs.declared.request.Aim.{Aim}
 use Rattle.lb_command.specs.declared.request.Aim.TheVariants.{Report, LiveReport, OneTrace, Check}
-use Rattle.lb_command.specs.declared.request.Aim.TheVariants.{Header}
+use Rattle.lb_command.specs.declared.request.Aim.TheVariants.{Header, Merge}
 use Rattle.lb_command.specs.declared.request.Request.{Request}
 use Rattle.lb_command.specs.declared.request.Request.TheVariants.{Help, Version, Run}
 use Rattle.lb_command.specs.declared.request.Task.{Task}
@@ -22,6 +22,7 @@ reads_traces LiveReport = true
 reads_traces OneTrace = true
 reads_traces Check = false
 reads_traces Header = false
+reads_traces Merge = false
 
 -- a task reads a source at a path and then the traces from standard input
 abbrev pub awaits_traces : Task → Bool

@@ -1,11 +1,13 @@
 -- How a run of the program ends.
 -- Source: this project's rule.
-use Rattle.std.specs.Prelude.{◌≡◌, ◌⊎◌, ℕ, List, []}
+use Rattle.std.specs.Prelude.{◌≡◌, ◌⊎◌, ◌++◌, ℕ, List, [], Option, Result, Ok, Err, string_bytes}
 use Rattle.lb_pool.specs.declared.text.Report.{Report}
 use Rattle.clap.specs.Words.{Text}
+use Rattle.lb_command.specs.Conclusions.{IsBaselineRefused, IsConcluded}
 use Rattle.lb_command.specs.Judging.{IsJudgingRun}
 use Rattle.lb_command.specs.Lines.{line}
 use Rattle.lb_command.specs.Live.{IsLiveRun}
+use Rattle.lb_command.specs.Merging.{IsMergeRun}
 use Rattle.lb_command.specs.Outcomes.{AreTexts, HasPath, IsDelivered, IsRefusedOn, IsReportOn}
 use Rattle.lb_command.specs.Outcomes.{IsTold, TellsOfInput, refusal_status}
 use Rattle.lb_command.specs.Showing.{IsShowingRun}
@@ -14,24 +16,47 @@ use Rattle.lb_command.specs.Warnings.{AreRemarks}
 use Rattle.lb_command.specs.Words.{AsksForHelp, AsksForVersion, IsAsked, IsUnlawful}
 use Rattle.lb_command.specs.declared.answer.Answer.{Answer}
 use Rattle.lb_command.specs.declared.answer.Answer.TheVariants.{OfTraces, OfSource, Help, Version}
+use Rattle.lb_command.specs.declared.answer.Warned.{Warned}
 use Rattle.lb_command.specs.declared.refusal.Refusal.{Refusal}
 use Rattle.lb_command.specs.declared.request.Aim.{Aim}
 use Rattle.lb_command.specs.declared.request.Aim.TheVariants as aim
 use Rattle.lb_command.specs.declared.request.Task.{Task}
 
--- a run of a task whose report is written at once: no read of the input failed, and the report is
--- delivered; or the input or the texts are refused, the output is as it was, and the refusal is
--- told
+-- what goes out of the report on the texts of a task, and what is said beside it: first what its
+-- terms ask for, then the remarks
+pub record IsToldOn (words : List Text) (task : Task) (known : Option Text) (told : Warned Report)
+    : Type 0 where
+  pub report : Report
+  pub notes : List ℕ
+  pub remarks : List ℕ
+  pub reported : IsReportOn (AreTexts task known) task.options report
+  pub remarked : AreRemarks words task.options remarks
+  pub concluded : IsConcluded task.terms (string_bytes task.options.node) report remarks told.value
+      notes
+  pub said : told.warnings.items ≡ notes ++ remarks
+
+-- the same, or a refusal
+abbrev pub IsToldOutcome : (words : List Text) → Task → (known : Option Text)
+    → Result (Warned Report) Refusal → Type 0
+IsToldOutcome words task known (Ok told) = IsToldOn words task known told
+IsToldOutcome words task known (Err refusal) =
+    IsRefusedOn (AreTexts task known) task.options refusal
+
+-- a run of a task whose report is written at once: no read of the input failed, and what its terms
+-- ask for of the report is delivered; or the input or the texts are refused, or what the terms name
+-- is no report; then the output is as it was, and the refusal is told
 pub data IsWholeRun
     (words : List Text) (task : Task) (i : Input) (status : ℕ) (output errors : Change)
     : Type 0 where
-  answered : (report : Report) → (remarks : List ℕ)
-      → IsReportOn (AreTexts task i.coming) task.options report → NeverFailed i
-      → AreRemarks words task.options remarks
-      → IsDelivered words (OfTraces report) remarks status output errors
+  answered : (told : Warned Report) → IsToldOn words task i.coming told → NeverFailed i
+      → IsDelivered words (OfTraces told.value) told.warnings.items status output errors
       → IsWholeRun words task i status output errors
   refused : (refusal : Refusal) → IsRefusedOn (AreTexts task i.coming) task.options refusal
       → TellsOfInput (HasPath task) i refusal
+      → status ≡ refusal_status refusal.number → IsUntouched output
+      → IsTold words errors (line refusal.number refusal.position)
+      → IsWholeRun words task i status output errors
+  no_baseline : (refusal : Refusal) → IsBaselineRefused task.terms refusal → NeverFailed i
       → status ≡ refusal_status refusal.number → IsUntouched output
       → IsTold words errors (line refusal.number refusal.position)
       → IsWholeRun words task i status output errors
@@ -45,6 +70,8 @@ IsRunFor aim.LiveReport words task i status output errors =
     IsLiveRun words task i status output errors
 IsRunFor aim.OneTrace words task i status output errors =
     IsShowingRun words task i status output errors
+IsRunFor aim.Merge words task i status output errors =
+    NeverFailed i × IsMergeRun words task status output errors
 IsRunFor _ words task i status output errors = IsJudgingRun words task i status output errors
 
 abbrev pub IsTaskRun : (words : List Text) → Task → Input → (status : ℕ)

@@ -1,10 +1,13 @@
 pub mod WordValues
 pub mod ValuesWords
+pub mod Terms
 pub mod Words
 pub mod Lines
 pub mod Streams
 pub mod Warnings
 pub mod Outcomes
+pub mod Conclusions
+pub mod Merging
 pub mod Judging
 pub mod Live
 pub mod Showing

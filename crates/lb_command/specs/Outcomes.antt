@@ -3,7 +3,6 @@
 use Rattle.std.specs.Prelude.{◌≡◌, ◌≢◌, ℕ, ◌==◌, ◌||◌, ◌⊎◌, if◌then◌else◌, IfSome, List, Option}
 use Rattle.std.specs.Prelude.{Some, None, Result, Ok, Err, string_bytes, codes, [], ◌++◌, false}
 use Rattle.std.specs.Prelude.{◌≤◌, length, take}
-use Rattle.std.specs.Io.KnownBytes.{Appends}
 use Rattle.std.specs.Borrow.{Bor}
 use Rattle.lb_report.specs.Bench.{IsBenchReport}
 use Rattle.lb_report.specs.Cases.{parts_of}
@@ -13,6 +12,7 @@ use Rattle.lb_report.specs.declared.error.BenchError.{BenchError}
 use Rattle.lb_report.specs.declared.feed.LoadError.{LoadError}
 use Rattle.lb_report.specs.declared.feed.LoadError.TheVariants as load
 use Rattle.lb_report.specs.declared.options.Options.{Options}
+use Rattle.lb_pool.specs.Taken.{Takes}
 use Rattle.lb_pool.specs.declared.text.Report.{Report}
 use Rattle.clap.specs.Words.{Text}
 use Rattle.lb_command.specs.Lines.{line}
@@ -166,14 +166,15 @@ pub record IsTold (words : List Text) (errors : Change) (text : List ℕ) : Type
   pub unasked : asks_to_explain words ≡ false → further ≡ []
   pub told : TookOrFailed errors (text ++ further)
 
--- an answer went out whole, the status is its own, and the warnings went to the errors; or the
--- output failed, which is E19, after the first bytes of the answer went out, so many of them
+-- what became of an answer. Whole: the output took all of it, the status is its own, and the
+-- warnings went to the errors. Broken: the output took the first `count` bytes and failed, and the
+-- refusal is E19
 pub data IsDelivered
     (words : List Text) (answer : Answer) (warnings : List ℕ) (status : ℕ) (output errors : Change)
     : Type 0 where
   whole : status ≡ status_of answer → Took output (text_of answer) → IsWarned errors warnings
       → IsDelivered words answer warnings status output errors
   broken : (count : ℕ) → count ≤ length (text_of answer)
-      → Appends output.before output.after (take count (text_of answer))
+      → Takes output.before output.after (take count (text_of answer))
       → status ≡ refusal_status 19 → HasFailed output → IsTold words errors (line 19 None)
       → IsDelivered words answer warnings status output errors

@@ -80,7 +80,8 @@ IsShowing source traces task output (Err (Stopped e)) =
 IsShowing source traces task output (Err (Refused refusal)) =
     AreUnshown source traces task output refusal
 
--- the same of the two texts of a task, and no read of the input failed
+-- a task has two texts, no read of the input failed, and the values of these texts were written, or
+-- not, as the result of the run says
 pub record IsShowingOf
     {T : Type 0} (task : Task) (i : Input) (output : Change) (run : Result T ShowingFault)
     : Type 0 where

@@ -1,18 +1,17 @@
 -- What a run does to its input, to the sink of its output and to that of its errors.
 -- Source: this project's rule.
-use Rattle.std.specs.Prelude.{◌≡◌, ℕ, ◌<◌, ◌⊎◌, IfSome, List, Option, length}
-use Rattle.std.specs.Io.KnownBytes.{Appends, Keeps}
-use Rattle.lb_report.specs.declared.feed.TheConstants.{INPUT_LIMIT}
+use Rattle.std.specs.Prelude.{◌≡◌, ℕ, ◌<◌, ◌⊎◌, List, Option}
+use Rattle.lb_pool.specs.Taken.{Taken, Takes, TakesNothing}
+use Rattle.lb_report.specs.Feeds.{IsTooLong}
 
--- the bytes that a sink has taken, where it tells them, and how often it has failed, before and
--- after
+-- what a sink has taken, and how often it has failed, before and after
 pub record Change : Type 0 where
-  pub before : Option (List ℕ)
-  pub after : Option (List ℕ)
+  pub before : Taken
+  pub after : Taken
   pub failures_before : ℕ
   pub failures_after : ℕ
 
-abbrev pub change : (before after : Option (List ℕ)) → (failures_before failures_after : ℕ) → Change
+abbrev pub change : (before after : Taken) → (failures_before failures_after : ℕ) → Change
 change before after failures_before failures_after = record {
   before = before;
   after = after;
@@ -22,12 +21,12 @@ change before after failures_before failures_after = record {
 
 -- the sink took the whole text, and did not fail
 pub record Took (c : Change) (text : List ℕ) : Type 0 where
-  pub all : Appends c.before c.after text
+  pub all : Takes c.before c.after text
   pub never_failed : c.failures_after ≡ c.failures_before
 
 -- the sink took nothing, and did not fail
 pub record IsUntouched (c : Change) : Type 0 where
-  pub kept : Keeps c.before c.after
+  pub kept : TakesNothing c.before c.after
   pub never_failed : c.failures_after ≡ c.failures_before
 
 abbrev pub HasFailed : Change → Type 0
@@ -37,16 +36,21 @@ HasFailed c = c.failures_before < c.failures_after
 abbrev pub TookOrFailed : Change → List ℕ → Type 0
 TookOrFailed c text = Took c text ⊎ HasFailed c
 
--- the bytes that an input has still to give before a run, where it tells them, and how often it has
--- failed, before and after
+-- the bytes that an input has still to give before a run, where it tells them; how many it has
+-- given, and how often it has failed, before and after
 pub record Input : Type 0 where
   pub coming : Option (List ℕ)
+  pub given_before : ℕ
+  pub given_after : ℕ
   pub failures_before : ℕ
   pub failures_after : ℕ
 
-abbrev pub input : (coming : Option (List ℕ)) → (failures_before failures_after : ℕ) → Input
-input coming failures_before failures_after = record {
+abbrev pub input : (coming : Option (List ℕ)) → (given_before given_after : ℕ)
+    → (failures_before failures_after : ℕ) → Input
+input coming given_before given_after failures_before failures_after = record {
   coming = coming;
+  given_before = given_before;
+  given_after = given_after;
   failures_before = failures_before;
   failures_after = failures_after;
 }
@@ -54,7 +58,7 @@ input coming failures_before failures_after = record {
 abbrev pub NeverFailed : Input → Type 0
 NeverFailed i = i.failures_after ≡ i.failures_before
 
--- a read of the input failed, or, where it tells its bytes, they are more than are read
+-- a read of the input failed, or it gave more bytes than are read
 abbrev pub IsUnreadable : Input → Type 0
 IsUnreadable i = (i.failures_before < i.failures_after)
-    ⊎ IfSome i.coming (λ bytes. INPUT_LIMIT < length bytes)
+    ⊎ IsTooLong i.coming i.given_before i.given_after

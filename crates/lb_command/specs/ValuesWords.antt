@@ -1,6 +1,7 @@
 -- The options that ask for the values of one trace, and what they ask for.
 -- Source: this project's rule.
 use Rattle.std.specs.Prelude.{◌≡◌, Option, None, Some, List, codes, bytes_eq, if◌then◌else◌}
+use Rattle.std.specs.Prelude.{Bool, is_some}
 use Rattle.std.specs.Prelude.{[], option_map, unwrap_or}
 use Rattle.clap.specs.Words.{App, Row, Text, first_of, with_rule}
 use Rattle.lb_show.specs.declared.options.Format.{Format}
@@ -10,8 +11,7 @@ use Rattle.lb_command.specs.declared.values_request.Values.{Values}
 
 abbrev pub with_trace : App → App
 with_trace app =
-    with_rule (with_rule app (named (codes "show")))
-    (by_default (codes "table") (named (codes "format")))
+    with_rule (with_rule app (named (codes "show"))) (named (codes "format"))
 
 abbrev pub with_choice : App → App
 with_choice app =
@@ -32,9 +32,16 @@ format_named name =
     else (if bytes_eq name (codes "vcd") then Some Vcd
     else (if bytes_eq name (codes "svg") then Some Svg else None)))
 
--- the format that the values of the words name
+-- the words name a trace whose values are shown
+abbrev pub names_trace : List Row → Bool
+names_trace rows = is_some (first_of (codes "show") rows)
+
+-- the format of the values; it is read where values are shown, and else the format of a report is
 abbrev pub format_in : List Row → Option Format
-format_in rows = format_named (unwrap_or (first_of (codes "format") rows) (codes "table"))
+format_in rows =
+    if names_trace rows
+    then format_named (unwrap_or (first_of (codes "format") rows) (codes "table"))
+    else Some Table
 
 -- the values that the words ask for
 pub record AreValues (rows : List Row) (values : Values) : Type 0 where

@@ -3,6 +3,7 @@
 use Rattle.std.specs.Prelude.{◌≡◌, ℕ, ◌≤◌, Bool, false, Option, None, Some, List, [], ◌∷◌, codes}
 use Rattle.std.specs.Prelude.{bytes_eq, unwrap_or}
 use Rattle.std.specs.Str.Parse.{IsNumeral, digits_value}
+use Rattle.clap.specs.Lexer.{usize_max}
 use Rattle.clap.specs.Words.{Row, Rule, Text, first_of, new_rule}
 use Rattle.clap.specs.declared.builder.action.ArgAction.TheVariants.{SetTrue}
 
@@ -16,6 +17,11 @@ placed name = record (new_rule name) { value_names = 1 }
 -- with a value that stands for none
 abbrev pub by_default : Text → Rule → Rule
 by_default value rule = record rule { defaults = value ∷ [] }
+
+-- an option with one value or more
+abbrev pub several : Text → Rule
+several name =
+    record (named name) { range = Some record { start_inclusive = 1; end_inclusive = usize_max } }
 
 -- an option without a value
 abbrev pub switch : Text → Rule

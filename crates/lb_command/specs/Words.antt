@@ -2,18 +2,24 @@
 -- Source: this project's rule; what words make of a command line is what the library `clap` says.
 use Rattle.std.specs.Prelude.{◌≡◌, ◌≢◌, ℕ, List, [], codes, unwrap_or, option_map}
 use Rattle.std.specs.Prelude.{Bool, true, false, if◌then◌else◌, ◌<◌, ◌||◌, is_some}
-use Rattle.std.specs.Prelude.{None, Some, string_bytes, bytes_eq}
+use Rattle.std.specs.Prelude.{Option, None, Some, IsSome, map, string_bytes, bytes_eq}
 use Rattle.std.specs.List.{list_any}
 use Rattle.clap.specs.Words.{App, IsAmong, Kinds, Row, Rule, Text, fault_of, first_of, matches_of}
-use Rattle.clap.specs.Words.{new_app, with_rule}
+use Rattle.clap.specs.Words.{all_of, new_app, with_rule}
 use Rattle.clap.specs.declared.error.kind.ErrorKind.{ErrorKind}
 use Rattle.clap.specs.declared.error.kind.ErrorKind.TheVariants.{DisplayHelp}
+use Rattle.lb_part.specs.Parts.{IsPartIn}
+use Rattle.lb_part.specs.declared.part.Part.{Part}
 use Rattle.lb_report.specs.declared.options.Options.{Options}
-use Rattle.lb_command.specs.ValuesWords.{AreValues, format_in, with_values}
-use Rattle.lb_command.specs.WordValues.{HasNumber, by_default, has_switch, named, placed, switch}
+use Rattle.lb_command.specs.Terms.{IsTerms, are_usual}
+use Rattle.lb_command.specs.Terms as terms
+use Rattle.lb_command.specs.ValuesWords.{AreValues, format_in, names_trace, with_values}
+use Rattle.lb_command.specs.WordValues.{HasNumber, by_default, has_switch, named, placed, several}
+use Rattle.lb_command.specs.WordValues.{switch}
+use Rattle.lb_command.specs.declared.terms.Terms.{Terms}
 use Rattle.lb_command.specs.declared.request.Aim.{Aim}
 use Rattle.lb_command.specs.declared.request.Aim.TheVariants.{Report, LiveReport, OneTrace, Check}
-use Rattle.lb_command.specs.declared.request.Aim.TheVariants.{Header}
+use Rattle.lb_command.specs.declared.request.Aim.TheVariants.{Header, Merge}
 use Rattle.lb_command.specs.declared.request.Request.{Request}
 use Rattle.lb_command.specs.declared.request.Request.TheVariants.{Help, Version, Run}
 use Rattle.lb_command.specs.declared.request.Task.{Task}
@@ -54,13 +60,24 @@ with_version app = with_rule app version_switch
 abbrev pub with_modes : App → App
 with_modes app = with_version (with_judging (with_explanations app))
 
+abbrev pub with_terms : App → App
+with_terms app =
+    with_rule (with_rule app (switch (codes "strict"))) (named (codes "baseline"))
+
+abbrev pub with_parts : App → App
+with_parts app = with_rule app (named (codes "part"))
+
+abbrev pub with_merging : App → App
+with_merging app = with_rule app (several (codes "merge"))
+
 abbrev pub with_inputs : App → App
 with_inputs app = with_rule (with_rule app (placed (codes "source"))) (placed (codes "traces"))
 
 -- the command line that the program knows
 unfoldable pub command_line : App
 command_line =
-    with_inputs (with_modes (with_values (with_spread (with_nodes (new_app (codes "lbench"))))))
+    with_inputs (with_merging (with_parts (with_terms (with_modes (with_values (with_spread
+    (with_nodes (new_app (codes "lbench")))))))))
 
 -- what the parser makes of the words, and the kinds of error that it has for them
 unfoldable pub values_of : List Text → List Row
@@ -88,16 +105,36 @@ pub record IsOptions (rows : List Row) (options : Options) : Type 0 where
 -- what the run that the values ask for is to give
 abbrev pub aim_of : List Row → Aim
 aim_of rows =
-    if has_switch (codes "header") rows then Header
+    if is_some (first_of (codes "merge") rows) then Merge
+    else (if has_switch (codes "header") rows then Header
     else (if has_switch (codes "check") rows then Check
-    else (if is_some (first_of (codes "show") rows) then OneTrace
-    else (if has_switch (codes "follow") rows then LiveReport else Report)))
+    else (if names_trace rows then OneTrace
+    else (if has_switch (codes "follow") rows then LiveReport else Report))))
 
--- the run that the values ask for; a live report has a worker
+-- the reports that the values name
+abbrev pub reports_of : List Row → List Text
+reports_of rows = unwrap_or (all_of (codes "merge") rows) []
+
+-- the part of the traces that the values name
+abbrev pub IsPartOf : List Row → Option Part → Type 0
+IsPartOf rows part = IsPartIn (first_of (codes "part") rows) part
+
+-- a part is one of a file of traces
+abbrev pub HasFile : List Row → Option Part → Type 0
+HasFile rows part = IsSome part → IsSome (first_of (codes "traces") rows)
+
+-- the run that the values ask for; a live report has a worker, and the usual terms; what merges
+-- reports has no source; and a part has a file of traces
 pub record IsTask (rows : List Row) (task : Task) : Type 0 where
   pub options : IsOptions rows task.options
   pub aim : task.aim ≡ aim_of rows
+  pub terms : IsTerms rows task.terms
   pub worker : task.aim ≡ LiveReport → 0 < task.options.workers
+  pub usual : task.aim ≡ LiveReport → are_usual task.terms ≡ true
+  pub reports : map (λ s. s.now) task.reports.items ≡ reports_of rows
+  pub no_source : task.aim ≡ Merge → task.source ≡ None
+  pub part : IsPartOf rows task.part
+  pub has_file : HasFile rows task.part
   pub source : option_map (λ s. s.now) task.source ≡ first_of (codes "source") rows
   pub traces : option_map (λ s. s.now) task.traces ≡ first_of (codes "traces") rows
   pub values : AreValues rows task.values
@@ -130,13 +167,23 @@ IsRequestOf rows Version = has_switch (codes "version") rows ≡ true
 IsRequestOf rows (Run task) =
     (has_switch (codes "version") rows ≡ false) × IsTask rows task
 
--- a value is no number in its range or no format, or a live report is to have no worker
+-- a value is no number in its range or no format, or a live report is to have no worker, or other
+-- terms than the usual ones, or what merges reports is to have a source, or a value names no part,
+-- or a part of what is no file
 pub data IsWrongValue (rows : List Row) : Type 0 where
   workers : ((n : ℕ) → HasNumber rows (codes "workers") (codes "1") 0 64 n → ⊥) → IsWrongValue rows
   batch : ((n : ℕ) → HasNumber rows (codes "batch") (codes "64") 1 64 n → ⊥) → IsWrongValue rows
   no_worker : aim_of rows ≡ LiveReport
       → HasNumber rows (codes "workers") (codes "1") 0 64 0 → IsWrongValue rows
   format : format_in rows ≡ None → IsWrongValue rows
+  report_format : terms.format_in rows ≡ None → IsWrongValue rows
+  unusual : (given : Terms) → aim_of rows ≡ LiveReport → IsTerms rows given
+      → are_usual given ≡ false → IsWrongValue rows
+  merged_source : aim_of rows ≡ Merge → IsSome (first_of (codes "source") rows)
+      → IsWrongValue rows
+  no_part : ((part : Option Part) → IsPartOf rows part → ⊥) → IsWrongValue rows
+  part_of_input : IsSome (first_of (codes "part") rows) → first_of (codes "traces") rows ≡ None
+      → IsWrongValue rows
   last : ((n : ℕ) → HasNumber rows (codes "last") (codes "0") 0 1000000000 n → ⊥)
       → IsWrongValue rows
 

@@ -21,7 +21,7 @@ fn awaits_traces(task: &Task<'_>) -> bool
     match task.aim {
         Aim::Report | Aim::LiveReport | Aim::OneTrace => task.source.is_some()
             && task.traces.is_none(),
-        Aim::Check | Aim::Header => false,
+        Aim::Check | Aim::Header | Aim::Merge => false,
     }
 }
 

@@ -1,6 +1,7 @@
 //! Why the words, an input or the output failed.
 
 use crate::refusal::{Unknown, Unread};
+use lb_part::Part;
 use std::alloc::{AllocError, Global};
 
 /// An option of the command line.
@@ -12,7 +13,7 @@ struct Known {
 }
 
 /// The options of the command line.
-const OPTIONS: [Known; 17] = [
+const OPTIONS: [Known; 21] = [
     Known {
         name: "--node",
         values: "the name of a node",
@@ -43,7 +44,7 @@ const OPTIONS: [Known; 17] = [
     },
     Known {
         name: "--format",
-        values: "table, csv, vcd or svg",
+        values: "lines or junit, and with `--show` table, csv, vcd or svg",
     },
     Known {
         name: "--last",
@@ -64,6 +65,22 @@ const OPTIONS: [Known; 17] = [
     Known {
         name: "--explain-all",
         values: "",
+    },
+    Known {
+        name: "--strict",
+        values: "",
+    },
+    Known {
+        name: "--baseline",
+        values: "the path of an earlier report",
+    },
+    Known {
+        name: "--part",
+        values: "a number, `/` and a number of parts up to 65536, as 3/16",
+    },
+    Known {
+        name: "--merge",
+        values: "the paths of reports",
     },
     Known {
         name: "--check",
@@ -103,13 +120,19 @@ fn option_of(name: &str) -> Option<Known> {
     None
 }
 
+/// Whether a value is the name of a format.
+fn is_format(value: &str) -> bool {
+    matches!(value, "lines" | "junit" | "table" | "csv" | "vcd" | "svg")
+}
+
 /// Whether a value is lawful for an option.
 fn is_value(name: &str, value: &str) -> bool {
     let (least, most) = match name {
         "--workers" => (0, 64),
         "--batch" => (1, 64),
         "--last" => (0, 1_000_000_000),
-        "--format" => return matches!(value, "table" | "csv" | "vcd" | "svg"),
+        "--format" => return is_format(value),
+        "--part" => return Part::named(value).is_some(),
         _ => return true,
     };
     match value.parse::<u32>() {
@@ -139,8 +162,22 @@ fn put_options(page: &mut String) -> Result<(), AllocError> {
 #[derive(Drop)]
 struct Seen {
     paths: usize,
+    /// Whether the last option takes all words up to the next one.
+    is_list: bool,
     /// The options that were given.
     options: Vec<Known>,
+}
+
+/// Notes a word that is no option; what is wrong where it is a third path.
+fn note_path<'w>(seen: &mut Seen, word: &'w str) -> Option<Wrong<'w>> {
+    if seen.is_list {
+        return None;
+    }
+    seen.paths = seen.paths.saturating_add(1);
+    if seen.paths > 2 {
+        return Some(Wrong::ThirdPath(word));
+    }
+    None
 }
 
 /// A word that is no part of a lawful command line.
@@ -225,6 +262,11 @@ fn wrong_option<'w>(word: &'w str, next: Option<&'w str>) -> Option<Wrong<'w>> {
     Some(Wrong::WrongValue(known, value))
 }
 
+/// Whether an option takes all words up to the next option.
+fn takes_words(word: &str) -> bool {
+    word == "--merge"
+}
+
 /// Whether an option takes the word after it.
 fn takes_next(word: &str) -> bool {
     match option_of(word) {
@@ -260,6 +302,7 @@ fn note_option<'w>(seen: &mut Seen, word: &'w str) -> Result<Option<Wrong<'w>>, 
 fn first_wrong<'w>(alloc: Global, words: &'w [String]) -> Result<Option<Wrong<'w>>, AllocError> {
     let mut seen = Seen {
         paths: 0,
+        is_list: false,
         options: Vec::new(alloc),
     };
     let mut is_value = true;
@@ -270,9 +313,8 @@ fn first_wrong<'w>(alloc: Global, words: &'w [String]) -> Result<Option<Wrong<'w
             continue;
         }
         if !word.starts_with('-') || word.len() == 1 {
-            seen.paths = seen.paths.saturating_add(1);
-            if seen.paths > 2 {
-                return Ok(Some(Wrong::ThirdPath(word)));
+            if let Some(wrong) = note_path(&mut seen, word) {
+                return Ok(Some(wrong));
             }
             continue;
         }
@@ -287,17 +329,24 @@ fn first_wrong<'w>(alloc: Global, words: &'w [String]) -> Result<Option<Wrong<'w
             return Ok(Some(wrong));
         }
         is_value = takes_next(word);
+        seen.is_list = takes_words(word);
     }
     Ok(None)
 }
 
+/// What is known where each word is lawful, and not all of them together.
+const TOGETHER: &str = "these words do not go together\n\
+    help: `--follow` takes a worker, and no `--strict`, `--baseline` or `--format junit`\n\
+    help: `--format` takes lines or junit, and with `--show` table, csv, vcd or svg\n\
+    help: `--merge` takes no source, and `--part` a file of traces\n";
+
 /// Explains E20: the first word that the command line does not take.
 pub fn explain_words(alloc: Global, words: &[String]) -> Result<Vec<u8>, AllocError> {
-    let Some(wrong) = first_wrong(alloc, words)? else {
-        return Ok(Vec::new(alloc));
-    };
     let mut page = page_of(alloc)?;
-    put_wrong(&mut page, &wrong)?;
+    match first_wrong(alloc, words)? {
+        Some(wrong) => put_wrong(&mut page, &wrong)?,
+        None => page.push_str(TOGETHER)?,
+    }
     page.as_bytes().to_vec(alloc)
 }
 
@@ -327,6 +376,27 @@ pub fn explain_output(
         None => write!(page, "the output failed after {sent} bytes")?,
     }
     page.push_str("; what went out is not the whole report\n")?;
+    page.as_bytes().to_vec(alloc)
+}
+
+/// Explains E20 of a file that is no report: its path, and the first line that shows it.
+pub fn explain_no_report(alloc: Global, path: &str, line: usize) -> Result<Vec<u8>, AllocError> {
+    let mut page = String::from_str(alloc, path)?;
+    write!(page, ":{line}:1: error: this line goes on no report\n")?;
+    page.push_str(
+        "help: a report has a line for each trace, no trace twice, and ends with a line ",
+    )?;
+    page.push_str("that counts them all\n")?;
+    page.as_bytes().to_vec(alloc)
+}
+
+/// Explains E17 of a report that is merged: its path, and the line of the trace.
+pub fn explain_twice(alloc: Global, path: &str, line: usize) -> Result<Vec<u8>, AllocError> {
+    let mut page = String::from_str(alloc, path)?;
+    write!(
+        page,
+        ":{line}:1: error: this trace is in an earlier report too\n"
+    )?;
     page.as_bytes().to_vec(alloc)
 }
 

@@ -11,7 +11,8 @@
 //! ```
 //! What is underlined here is painted; no other byte changes.
 
-ghost use Rattle.std.specs.Prelude.{◌≡◌};
+ghost use Rattle.std.specs.Prelude.{◌≡◌, None};
+ghost use Rattle.lb_pool.specs.Counts.{count_more};
 
 use lb_report::{Sink, SinkFailed, send};
 use std::alloc::{AllocError, Global};
@@ -86,36 +87,62 @@ fn paint(alloc: Global, text: &str) -> Result<String, AllocError> {
     Ok(page)
 }
 
+/// These bytes in colour, where they are UTF-8 and there is memory for it.
+fn in_colour(alloc: Global, bytes: &[u8]) -> Option<String> {
+    let Ok(text) = str::from_utf8(bytes) else {
+        return None;
+    };
+    paint(alloc, text).ok()
+}
+
 /// A sink that hands on what it is given in colour. What is not UTF-8 stays plain, and all does
-/// where memory ran out.
+/// where memory ran out. It counts the bytes that it is given, without those of the colours.
 #[derive(Drop)]
 pub struct Painted<S> {
     sink: S,
     alloc: Global,
+    count: u64,
 }
 
 impl<S: Sink> Painted<S> {
     /// A sink that hands on to this one.
     pub fn new(alloc: Global, sink: S) -> Painted<S>
-        ensures { ⟦<Painted<S> as Sink>⟧.failures result ≡ S.failures sink }
+        ensures count { (⟦<Painted<S> as Sink>⟧.taken result).count ≡ 0 }
+        ensures failures { ⟦<Painted<S> as Sink>⟧.failures result ≡ S.failures sink }
     {
-        Painted { sink, alloc }
+        Painted {
+            sink,
+            alloc,
+            count: 0,
+        }
+    }
+
+    /// Counts bytes that went out, and answers how many they are.
+    fn count_on(&mut self, bytes: usize) -> usize
+        ensures same { result ≡ bytes }
+        ensures sink { self.new.sink ≡ self.old.sink }
+        ensures count { self.new.count ≡ count_more self.old.count bytes }
+    {
+        self.count = self.count.saturating_add(bytes as u64);
+        bytes
     }
 }
 
 impl<S: Sink> Sink for Painted<S> {
+    ghost taken = { λ painted. record { bytes = None; count = painted.count } };
+
     ghost failures = { λ painted. S.failures painted.sink };
 
     fn write(&mut self, bytes: &[u8]) -> Result<usize, SinkFailed> {
-        let Ok(text) = str::from_utf8(bytes) else {
-            return self.sink.write(bytes);
-        };
-        let Ok(page) = paint(self.alloc, text) else {
-            return self.sink.write(bytes);
-        };
-        match send(&mut self.sink, page.as_bytes()) {
-            Ok(()) => Ok(bytes.len()),
-            Err(_) => Err(SinkFailed),
+        match in_colour(self.alloc, bytes) {
+            Some(page) => match send(&mut self.sink, page.as_bytes()) {
+                Ok(()) => Ok(self.count_on(bytes.len())),
+                Err(_) => Err(SinkFailed),
+            },
+            None => match self.sink.write(bytes) {
+                Ok(count) => Ok(self.count_on(count)),
+                Err(failed) => Err(failed),
+            },
         }
     }
 

@@ -2,7 +2,7 @@
 
 ghost use Rattle.std.specs.Prelude.{◌≡◌, ◌+◌, ◌<◌, ◌≤◌, IfErr, OnErr, OnOk, length};
 ghost use Rattle.std.specs.Prelude.{map, string_bytes, take};
-ghost use Rattle.std.specs.Io.KnownBytes.{Appends};
+ghost use Rattle.lb_pool.specs.Taken.{Takes};
 ghost use Rattle.lb_command.specs.Outcomes as spec;
 ghost use Rattle.lb_command.specs.Streams.{change};
 ghost use Rattle.lb_command.specs.Warnings.{IsWarned};
@@ -16,12 +16,12 @@ use std::rt::Runtime;
 /// Writes a text to its end, and hands it on.
 fn put<S: Sink>(sink: &mut S, text: &[u8]) -> Result<(), Sent>
     requires { S.failures sink.old < u64.MAX }
-    ensures all { OnOk result (Appends (S.taken sink.old) (S.taken sink.new) text.now) }
+    ensures all { OnOk result (Takes (S.taken sink.old) (S.taken sink.new) text.now) }
     ensures ok { OnOk result (S.failures sink.new ≡ S.failures sink.old) }
     ensures failed { OnErr result (S.failures sink.old < S.failures sink.new) }
     ensures within { IfErr result (λ sent. sent.count ≤ length text.now) }
     ensures first { IfErr result (λ sent.
-        Appends (S.taken sink.old) (S.taken sink.new) (take sent.count text.now)) }
+        Takes (S.taken sink.old) (S.taken sink.new) (take sent.count text.now)) }
 {
     send(sink, text)?;
     match sink.flush() {
@@ -68,7 +68,7 @@ where
         }
         Err(sent) => {
             let refusal = Refusal::unsent(sent.count, Some(answer.text().len()));
-            tell(rt.alloc(), words, &refusal, errors)
+            tell(rt.alloc(), words, None, &refusal, errors)
         }
     }
 }

@@ -7,10 +7,12 @@ ghost use Rattle.lb_command.specs.Streams.{change};
 ghost use Rattle.lb_command.specs.Warnings.{AreRemarks, AreWarnings};
 ghost use Rattle.lb_command.specs.Words.{asks_to_explain};
 
-use crate::causes::{explain_input, explain_name, explain_output, explain_words};
+use crate::causes::{
+    explain_input, explain_name, explain_no_report, explain_output, explain_twice, explain_words,
+};
 use crate::line::send_lines;
 use crate::refusal::{Cause, Refusal, Texts};
-use crate::request::{Request, Task, read_words};
+use crate::request::Task;
 use lb_explain::{Text, explain, wiring_warnings};
 use lb_report::{BenchError, Report, Sink, split_case};
 use lb_values::explain_report;
@@ -80,23 +82,21 @@ fn explain_texts(
     }
 }
 
-/// Explains what the bench says of the texts that these words name.
-fn explain_judged(
+/// The lines that explain a refusal of these words, which ask for a task where they can be read;
+/// none where nothing more is known.
+fn explanation(
     alloc: Global,
     words: &[String],
-    error: &BenchError,
-    texts: &Texts,
+    task: Option<&Task<'_>>,
+    refusal: &Refusal,
 ) -> Result<Vec<u8>, AllocError> {
-    match read_words(alloc, words) {
-        Ok(Request::Run(task)) => explain_texts(alloc, &task, error, texts),
-        _ => Ok(Vec::new(alloc)),
-    }
-}
-
-/// The lines that explain a refusal of these words; none where nothing more is known.
-fn explanation(alloc: Global, words: &[String], refusal: &Refusal) -> Result<Vec<u8>, AllocError> {
     match &refusal.cause {
-        Some(Cause::Judged { error, texts }) => explain_judged(alloc, words, error, texts),
+        Some(Cause::Judged { error, texts }) => match task {
+            Some(task) => explain_texts(alloc, task, error, texts),
+            None => Ok(Vec::new(alloc)),
+        },
+        Some(Cause::NoReport { path, line }) => explain_no_report(alloc, path.as_str(), *line),
+        Some(Cause::Twice { path, line }) => explain_twice(alloc, path.as_str(), *line),
         Some(Cause::Unsent { sent, all }) => explain_output(alloc, *sent, *all),
         Some(Cause::Unread(unread)) => explain_input(alloc, Some(unread)),
         Some(Cause::Unknown(unknown)) => explain_name(alloc, unknown),
@@ -109,13 +109,13 @@ fn explanation(alloc: Global, words: &[String], refusal: &Refusal) -> Result<Vec
 }
 
 /// The same; none where memory ran out either.
-fn lines_of(alloc: Global, words: &[String], refusal: &Refusal) -> Vec<u8>
+fn lines_of(alloc: Global, words: &[String], task: Option<&Task<'_>>, refusal: &Refusal) -> Vec<u8>
     ensures { asks_to_explain (map string_bytes words.now) ≡ false → result.items ≡ [] }
 {
     if !asks_to_explain(words) {
         return Vec::new(alloc);
     }
-    match explanation(alloc, words, refusal) {
+    match explanation(alloc, words, task, refusal) {
         Ok(lines) => lines,
         Err(_) => Vec::new(alloc),
     }
@@ -195,7 +195,13 @@ pub fn remarks_of(
 /// Writes the line of a refusal to standard error, and behind it the lines that explain it where
 /// the words ask for them, and answers its exit status. Where standard error fails too, the status
 /// alone tells of the refusal.
-pub fn tell<E: Sink>(alloc: Global, words: &[String], refusal: &Refusal, errors: &mut E) -> u8
+pub fn tell<E: Sink>(
+    alloc: Global,
+    words: &[String],
+    task: Option<&Task<'_>>,
+    refusal: &Refusal,
+    errors: &mut E,
+) -> u8
     requires { E.failures errors.old < u64.MAX }
     ensures status { result ≡ refusal_status refusal.now.number }
     ensures told { IsTold (map string_bytes words.now)
@@ -203,7 +209,7 @@ pub fn tell<E: Sink>(alloc: Global, words: &[String], refusal: &Refusal, errors:
         (E.failures errors.old) (E.failures errors.new))
         (spec.line refusal.now.number refusal.now.position) }
 {
-    let further = lines_of(alloc, words, refusal);
+    let further = lines_of(alloc, words, task, refusal);
     let _ = send_lines(errors, refusal, further.as_slice());
     refusal.status()
 }

@@ -79,7 +79,8 @@ where
     requires { F.failures reader.old < u64.MAX }
     ensures outcome { spec.IsOutcome task.now (F.coming reader.old) result }
     ensures read { HasRead (HasPath task.now)
-        (input (F.coming reader.old) (F.failures reader.old) (F.failures reader.new)) result }
+        (input (F.coming reader.old) (F.given reader.old) (F.given reader.new)
+        (F.failures reader.old) (F.failures reader.new)) result }
     ensures warned { IfOk result (λ found.
         AreWarnings (map string_bytes words.now) task.now.options found.warnings.items) }
 {
@@ -106,7 +107,8 @@ where
     requires writer { W.failures writer.old < u64.MAX }
     requires errors { E.failures errors.old < u64.MAX }
     ensures { spec.IsJudgingRun (map string_bytes words.now) task.now
-        (input (F.coming reader.old) (F.failures reader.old) (F.failures reader.new)) result
+        (input (F.coming reader.old) (F.given reader.old) (F.given reader.new)
+        (F.failures reader.old) (F.failures reader.new)) result
         (change (W.taken writer.old) (W.taken writer.new)
         (W.failures writer.old) (W.failures writer.new))
         (change (E.taken errors.old) (E.taken errors.new)
@@ -118,6 +120,6 @@ where
             let answer = Answer::OfSource(value);
             deliver(rt, words, &answer, warnings.as_slice(), writer, errors)
         }
-        Err(refusal) => tell(rt.alloc(), words, &refusal, errors),
+        Err(refusal) => tell(rt.alloc(), words, Some(task), &refusal, errors),
     }
 }

@@ -1,7 +1,7 @@
 //! The line that tells of a refusal.
 
 ghost use Rattle.std.specs.Prelude.{◌≡◌, ◌<◌, ◌++◌, OnOk, OnErr, decimal};
-ghost use Rattle.std.specs.Io.KnownBytes.{Appends};
+ghost use Rattle.lb_pool.specs.Taken.{Takes};
 ghost use Rattle.lb_report.specs.Refusals.{word_of};
 ghost use Rattle.lb_command.specs.Outcomes.{refusal_status};
 ghost use Rattle.lb_command.specs.Lines as spec;
@@ -14,7 +14,7 @@ use lb_report::{Sent, Sink, send, word};
 /// Writes a number in decimal.
 fn send_number<S: Sink>(sink: &mut S, n: u32) -> Result<(), Sent>
     requires { S.failures sink.old < u64.MAX }
-    ensures all { OnOk result (Appends (S.taken sink.old) (S.taken sink.new) (decimal n)) }
+    ensures all { OnOk result (Takes (S.taken sink.old) (S.taken sink.new) (decimal n)) }
     ensures ok { OnOk result (S.failures sink.new ≡ S.failures sink.old) }
     ensures failed { OnErr result (S.failures sink.old < S.failures sink.new) }
 {
@@ -25,7 +25,7 @@ fn send_number<S: Sink>(sink: &mut S, n: u32) -> Result<(), Sent>
 fn send_word<S: Sink>(sink: &mut S, number: u8) -> Result<(), Sent>
     requires number { number < 22 }
     requires failures { S.failures sink.old < u64.MAX }
-    ensures all { OnOk result (Appends (S.taken sink.old) (S.taken sink.new) (word_of number)) }
+    ensures all { OnOk result (Takes (S.taken sink.old) (S.taken sink.new) (word_of number)) }
     ensures ok { OnOk result (S.failures sink.new ≡ S.failures sink.old) }
     ensures failed { OnErr result (S.failures sink.old < S.failures sink.new) }
 {
@@ -35,7 +35,7 @@ fn send_word<S: Sink>(sink: &mut S, number: u8) -> Result<(), Sent>
 /// Writes a line and a column.
 fn send_place<S: Sink>(sink: &mut S, line: u32, column: u32) -> Result<(), Sent>
     requires { S.failures sink.old < u64.MAX }
-    ensures all { OnOk result (Appends (S.taken sink.old) (S.taken sink.new)
+    ensures all { OnOk result (Takes (S.taken sink.old) (S.taken sink.new)
         (spec.place_at line column)) }
     ensures ok { OnOk result (S.failures sink.new ≡ S.failures sink.old) }
     ensures failed { OnErr result (S.failures sink.old < S.failures sink.new) }
@@ -48,10 +48,10 @@ fn send_place<S: Sink>(sink: &mut S, line: u32, column: u32) -> Result<(), Sent>
 }
 
 /// Writes the place of a refusal, if it has one.
-#[tactic(auto, using(crate::proofs::Streams::takes_nothing))]
+#[tactic(auto, using(lb_pool::proofs::SinkBytes::takes_no_byte))]
 fn send_position<S: Sink>(sink: &mut S, position: Option<(u32, u32)>) -> Result<(), Sent>
     requires { S.failures sink.old < u64.MAX }
-    ensures all { OnOk result (Appends (S.taken sink.old) (S.taken sink.new)
+    ensures all { OnOk result (Takes (S.taken sink.old) (S.taken sink.new)
         (spec.place position)) }
     ensures ok { OnOk result (S.failures sink.new ≡ S.failures sink.old) }
     ensures failed { OnErr result (S.failures sink.old < S.failures sink.new) }
@@ -65,7 +65,7 @@ fn send_position<S: Sink>(sink: &mut S, position: Option<(u32, u32)>) -> Result<
 /// Writes the line of a refusal.
 fn send_line<S: Sink>(sink: &mut S, refusal: &Refusal) -> Result<(), Sent>
     requires { S.failures sink.old < u64.MAX }
-    ensures all { OnOk result (Appends (S.taken sink.old) (S.taken sink.new)
+    ensures all { OnOk result (Takes (S.taken sink.old) (S.taken sink.new)
         (spec.line refusal.now.number refusal.now.position)) }
     ensures ok { OnOk result (S.failures sink.new ≡ S.failures sink.old) }
     ensures failed { OnErr result (S.failures sink.old < S.failures sink.new) }
@@ -82,7 +82,7 @@ fn send_line<S: Sink>(sink: &mut S, refusal: &Refusal) -> Result<(), Sent>
 /// Writes the line of a refusal and further lines.
 pub fn send_lines<S: Sink>(sink: &mut S, refusal: &Refusal, further: &[u8]) -> Result<(), Sent>
     requires { S.failures sink.old < u64.MAX }
-    ensures all { OnOk result (Appends (S.taken sink.old) (S.taken sink.new)
+    ensures all { OnOk result (Takes (S.taken sink.old) (S.taken sink.new)
         (spec.line refusal.now.number refusal.now.position ++ further.now)) }
     ensures ok { OnOk result (S.failures sink.new ≡ S.failures sink.old) }
     ensures failed { OnErr result (S.failures sink.old < S.failures sink.new) }

@@ -137,7 +137,8 @@ where
     requires writer { W.failures writer.old < u64.MAX }
     ensures live { IsLiveOn (spec.AreTexts task.now (F.coming reader.old))
         (spec.HasPath task.now) task.now.options
-        (input (F.coming reader.old) (F.failures reader.old) (F.failures reader.new))
+        (input (F.coming reader.old) (F.given reader.old) (F.given reader.new)
+        (F.failures reader.old) (F.failures reader.new))
         (change (W.taken writer.old) (W.taken writer.new)
         (W.failures writer.old) (W.failures writer.new)) result }
     ensures warned { IfOk result (λ warnings.
@@ -175,7 +176,8 @@ where
     requires writer { W.failures writer.old < u64.MAX }
     requires errors { E.failures errors.old < u64.MAX }
     ensures { IsLiveRun (map string_bytes words.now) task.now
-        (input (F.coming reader.old) (F.failures reader.old) (F.failures reader.new)) result
+        (input (F.coming reader.old) (F.given reader.old) (F.given reader.new)
+        (F.failures reader.old) (F.failures reader.new)) result
         (change (W.taken writer.old) (W.taken writer.new)
         (W.failures writer.old) (W.failures writer.new))
         (change (E.taken errors.old) (E.taken errors.new)
@@ -187,8 +189,14 @@ where
             0
         }
         Err(fault) => match fault {
-            LiveFault::Refused(refusal) => tell(rt.alloc(), words, &refusal, errors),
-            LiveFault::Stopped(cause) => tell(rt.alloc(), words, &Refusal::from(cause), errors),
+            LiveFault::Refused(refusal) => tell(rt.alloc(), words, Some(task), &refusal, errors),
+            LiveFault::Stopped(cause) => tell(
+                rt.alloc(),
+                words,
+                Some(task),
+                &Refusal::from(cause),
+                errors,
+            ),
         },
     }
 }

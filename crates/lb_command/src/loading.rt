@@ -6,10 +6,12 @@ ghost use Rattle.lb_command.specs.Streams.{input};
 
 use crate::refusal::{Refusal, Texts};
 use crate::request::Task;
+use lb_part::{FileRanges, Part, PartError, load_part};
 use lb_report::{Feed, Reader, load};
 use std::alloc::Global;
-use std::fs::File;
+use std::fs::{File, OpenFile};
 use std::io::{self, Read};
+use std::os::unix::fs::FileExt;
 use std::rt::Runtime;
 
 /// What a report is on.
@@ -28,6 +30,12 @@ pub enum Loaded<'a, F> {
 /// What is known of a file that was opened and could not be read to its end.
 const UNREAD: &str = "it is a folder, a read failed, or it is longer than 1100000000 bytes";
 
+/// What is known of a file of which no part could be read.
+const NO_FILE: &str = "it is no regular file, or a read failed";
+
+/// What is known of a file that has no parts.
+const QUOTED: &str = "a text with quotes has no parts; leave `--part` out";
+
 /// The bytes of an input. The errors are E0 and E21.
 #[tactic(auto, using(crate::proofs::Outcomes::load_unread))]
 fn load_input<F: Feed>(alloc: Global, feed: &mut F) -> Result<Vec<u8>, Refusal>
@@ -35,7 +43,8 @@ fn load_input<F: Feed>(alloc: Global, feed: &mut F) -> Result<Vec<u8>, Refusal>
     ensures ok { IfOk result (λ bytes. spec.IsInput (F.coming feed.old) bytes.items) }
     ensures err { IfErr result spec.IsUnread }
     ensures read { spec.HasRead ⊥
-        (input (F.coming feed.old) (F.failures feed.old) (F.failures feed.new)) result }
+        (input (F.coming feed.old) (F.given feed.old) (F.given feed.new)
+        (F.failures feed.old) (F.failures feed.new)) result }
 {
     Ok(load(alloc, feed)?)
 }
@@ -71,12 +80,29 @@ fn open_file<R: Runtime + AllocGlobal>(rt: &R, path: &str) -> Result<R::File, Re
 }
 
 /// The bytes of the file at a path. The errors are E0 and E21.
-fn load_file<R: Runtime + AllocGlobal>(rt: &R, path: &str) -> Result<Vec<u8>, Refusal>
+pub fn load_file<R: Runtime + AllocGlobal>(rt: &R, path: &str) -> Result<Vec<u8>, Refusal>
     ensures { IfErr result spec.IsUnread }
 {
     match open_file(rt, path) {
         Ok(mut file) => load_open(rt.alloc(), path, &mut file),
         Err(refusal) => Err(refusal),
+    }
+}
+
+/// A part of the file of traces at a path, which is open. The errors are E0 and E21.
+fn load_part_of<F: OpenFile + FileExt>(
+    alloc: Global,
+    path: &str,
+    file: &F,
+    part: Part,
+) -> Result<Vec<u8>, Refusal>
+    ensures { IfErr result spec.IsUnread }
+{
+    match load_part(alloc, &FileRanges::new(file), part) {
+        Ok(traces) => Ok(traces),
+        Err(PartError::Memory) => Err(Refusal::MEMORY),
+        Err(PartError::Read) => Err(Refusal::unread(alloc, path, NO_FILE)),
+        Err(PartError::Quote) => Err(Refusal::unread(alloc, path, QUOTED)),
     }
 }
 
@@ -90,12 +116,14 @@ pub fn load_texts<'a, R, F>(
 ) -> Result<Loaded<'a, R::File>, Refusal>
 where
     R: Runtime + AllocGlobal,
+    R::File: FileExt,
     F: Feed,
     requires { F.failures reader.old < u64.MAX }
     ensures ok { IfOk result (spec.IsLoaded task.now (F.coming reader.old)) }
     ensures err { IfErr result spec.IsUnread }
     ensures read { spec.HasRead (spec.HasPath task.now)
-        (input (F.coming reader.old) (F.failures reader.old) (F.failures reader.new)) result }
+        (input (F.coming reader.old) (F.given reader.old) (F.given reader.new)
+        (F.failures reader.old) (F.failures reader.new)) result }
 {
     let Some(path) = task.source else {
         let case = load_input(rt.alloc(), reader)?;
@@ -109,7 +137,11 @@ where
         }
         Some(path) => {
             let file = open_file(rt, path)?;
-            Ok(Loaded::Open { source, path, file })
+            let Some(part) = task.part else {
+                return Ok(Loaded::Open { source, path, file });
+            };
+            let traces = load_part_of(rt.alloc(), path, &file, part)?;
+            Ok(Loaded::Texts(Texts::Two { source, traces }))
         }
     }
 }
@@ -125,7 +157,8 @@ where
         spec.IsSource task.now (F.coming reader.old) (spec.source_in texts)) }
     ensures err { IfErr result spec.IsUnread }
     ensures read { spec.HasRead (spec.HasPath task.now)
-        (input (F.coming reader.old) (F.failures reader.old) (F.failures reader.new)) result }
+        (input (F.coming reader.old) (F.given reader.old) (F.given reader.new)
+        (F.failures reader.old) (F.failures reader.new)) result }
 {
     let alloc = rt.alloc();
     let Some(path) = task.source else {

@@ -2,9 +2,10 @@
 
 ghost use Rattle.std.specs.Prelude.{◌≡◌, IfOk, false};
 ghost use Rattle.clap.specs.Words.{app_of, rule_of};
+ghost use Rattle.lb_command.specs.WordValues as given;
 ghost use Rattle.lb_command.specs.Words as spec;
 
-use crate::request::switch_argument;
+use crate::request::{named_argument, switch_argument};
 use clap::{Arg, Command};
 use std::alloc::{AllocError, Global};
 
@@ -51,4 +52,38 @@ pub fn with_modes<'a>(alloc: Global, command: Command<'a>) -> Result<Command<'a>
     let command = with_explanations(alloc, command)?;
     let command = with_judging(alloc, command)?;
     with_version(alloc, command)
+}
+
+/// Adds the options that tell what a run is measured by.
+pub fn with_terms<'a>(alloc: Global, command: Command<'a>) -> Result<Command<'a>, AllocError>
+    ensures { IfOk result (λ c. app_of c ≡ spec.with_terms (app_of command.entry)) }
+{
+    let help = "fails also where a trace broke an assumption, and where there is none";
+    let command = command.arg(switch_argument(alloc, "strict", help))?;
+    let help = "an earlier report; fails only where a trace that passed in it, or is new, fails";
+    command.arg(named_argument(alloc, "baseline", "FILE", help))
+}
+
+/// Adds the option that names a part of the traces.
+pub fn with_parts<'a>(alloc: Global, command: Command<'a>) -> Result<Command<'a>, AllocError>
+    ensures { IfOk result (λ c. app_of c ≡ spec.with_parts (app_of command.entry)) }
+{
+    let help = "judges the K-th of N parts of the traces";
+    command.arg(named_argument(alloc, "part", "K/N", help))
+}
+
+/// An option with one value or more.
+fn several_argument<'a>(alloc: Global, name: &'a str, value: &'a str, help: &'a str) -> Arg<'a>
+    ensures rule { rule_of result ≡ given.several name.entry.now }
+    ensures global { result.global ≡ false }
+{
+    named_argument(alloc, name, value, help).num_args(1..)
+}
+
+/// Adds the option that makes one report of several.
+pub fn with_merging<'a>(alloc: Global, command: Command<'a>) -> Result<Command<'a>, AllocError>
+    ensures { IfOk result (λ c. app_of c ≡ spec.with_merging (app_of command.entry)) }
+{
+    let help = "joins reports to one, and reads no source and no traces";
+    command.arg(several_argument(alloc, "merge", "FILE", help))
 }

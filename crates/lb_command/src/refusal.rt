@@ -54,6 +54,10 @@ pub enum Cause {
     Judged { error: BenchError, texts: Texts },
     /// A file could not be read.
     Unread(Unread),
+    /// A file is no report; the first of its lines that shows it, counted from 1.
+    NoReport { path: String, line: usize },
+    /// A trace of a report is in an earlier one too; its line, counted from 1.
+    Twice { path: String, line: usize },
     /// The output failed: how many bytes went out, and of how many, where that is known.
     Unsent { sent: usize, all: Option<usize> },
     /// Nothing has a name that is asked for.
@@ -66,6 +70,11 @@ pub struct Unknown {
     /// Whether it is that of a trace, and not of a variable.
     pub is_trace: bool,
     pub name: String,
+}
+
+/// The number of a line, or of the last one that can be told.
+fn line_number(line: usize) -> u32 {
+    u32::try_from(line).unwrap_or(u32::MAX)
 }
 
 /// Why the program prints no report: the number of a refusal, 0 to 21, and for E1 to E3 the line
@@ -170,6 +179,34 @@ impl Refusal {
             position: None,
             cause: match String::from_str(alloc, name) {
                 Ok(name) => Some(Cause::Unknown(Unknown { is_trace, name })),
+                Err(_) => None,
+            },
+        }
+    }
+
+    /// E20: the file at this path is no report, as this line shows, counted from 1.
+    pub fn no_report(alloc: Global, path: &str, line: usize) -> Refusal
+        ensures { result.number ≡ 20 }
+    {
+        Refusal {
+            number: 20,
+            position: Some((line_number(line), 1)),
+            cause: match String::from_str(alloc, path) {
+                Ok(path) => Some(Cause::NoReport { path, line }),
+                Err(_) => None,
+            },
+        }
+    }
+
+    /// E17: a trace in this line of the report at this path is in an earlier one too.
+    pub fn twice(alloc: Global, path: &str, line: usize) -> Refusal
+        ensures { result.number ≡ 17 }
+    {
+        Refusal {
+            number: 17,
+            position: Some((line_number(line), 1)),
+            cause: match String::from_str(alloc, path) {
+                Ok(path) => Some(Cause::Twice { path, line }),
                 Err(_) => None,
             },
         }

@@ -1,17 +1,22 @@
 //! What the words of the command line ask for.
 
-ghost use Rattle.std.specs.Prelude.{◌≡◌, ◌≢◌, ◌≤◌, ◌==◌, ◌⊎◌, ℕ, true, false};
+ghost use Rattle.std.specs.Prelude.{◌≡◌, ◌≢◌, ◌<◌, ◌≤◌, ◌==◌, ◌⊎◌, ℕ, Option, true, false};
 ghost use Rattle.std.specs.Prelude.{IfOk, IfErr, OnOk, OnErr};
-ghost use Rattle.std.specs.Prelude.{[], codes, is_some, map, option_map, slice_index, string_bytes};
+ghost use Rattle.std.specs.Prelude.{[], IsSome, None, map, option_map, slice_index, string_bytes};
 ghost use Rattle.clap.specs.Words.{IsAmong, app_of, first_of, found_of, kind_of, rows_of, rule_of};
+ghost use Rattle.lb_part.specs.Parts.{IsPartIn};
+ghost use Rattle.lb_command.specs.Terms.{are_usual};
+ghost use Rattle.lb_command.specs.ValuesWords.{names_trace};
 ghost use Rattle.lb_command.specs.WordValues as given;
 ghost use Rattle.lb_command.specs.Words as spec;
 
-use crate::modes::with_modes;
+use crate::modes::{with_merging, with_modes, with_parts, with_terms};
 use crate::refusal::Refusal;
+use crate::terms::{Terms, terms_of};
 use crate::values_request::{Values, values_of, with_values};
 use clap::error::ErrorKind;
 use clap::{Arg, ArgAction, ArgMatches, Command, Error};
+use lb_part::Part;
 use lb_report::Options;
 use std::alloc::{AllocError, Global};
 
@@ -39,6 +44,8 @@ pub enum Aim {
     Check,
     /// The header that the traces must have, if the source is accepted. No traces are read.
     Header,
+    /// One report in place of several. Neither a source nor traces are read.
+    Merge,
 }
 
 impl Aim {
@@ -52,18 +59,34 @@ impl Aim {
             _ => false,
         }
     }
+
+    /// Whether reports are merged.
+    fn is_merge(&self) -> bool
+        ensures merge { result ≡ true → self.now ≡ Aim.Merge }
+        ensures other { result ≡ false → self.now ≢ Aim.Merge }
+    {
+        match self {
+            Aim::Merge => true,
+            _ => false,
+        }
+    }
 }
 
-/// A run: its options, what it is to give, and the paths of its inputs. What has no path comes from
-/// standard input.
+/// A run: its options, what it is to give, its terms, and the paths of its inputs. What has no path
+/// comes from standard input.
 #[derive(Drop)]
 pub struct Task<'a> {
     pub options: Options,
     pub aim: Aim,
+    pub terms: Terms<'a>,
     pub source: Option<&'a str>,
     pub traces: Option<&'a str>,
     /// The values that are shown, where those of one trace are asked for.
     pub values: Values<'a>,
+    /// The paths of the reports that are merged.
+    pub reports: Vec<&'a str>,
+    /// The part of the traces that is judged; all where there is none.
+    pub part: Option<Part>,
 }
 
 /// An option with a value: what help calls the value, and what the option is for.
@@ -155,6 +178,9 @@ fn command_line<'a>(alloc: Global) -> Result<Command<'a>, AllocError>
     let command = with_spread(alloc, command)?;
     let command = with_values(alloc, command)?;
     let command = with_modes(alloc, command)?;
+    let command = with_terms(alloc, command)?;
+    let command = with_parts(alloc, command)?;
+    let command = with_merging(alloc, command)?;
     with_inputs(alloc, command)
 }
 
@@ -235,8 +261,8 @@ fn options(alloc: Global, matches: &ArgMatches<'_>) -> Result<Options, Refusal>
 }
 
 /// Whether the words name a trace whose values are shown.
-fn names_trace(matches: &ArgMatches<'_>) -> bool
-    ensures { result ≡ is_some (first_of (codes "show") (rows_of (found_of matches.now))) }
+pub fn names_trace(matches: &ArgMatches<'_>) -> bool
+    ensures { result ≡ names_trace (rows_of (found_of matches.now)) }
 {
     text_of(matches, "show").is_some()
 }
@@ -246,7 +272,9 @@ fn names_trace(matches: &ArgMatches<'_>) -> bool
 fn aim_of(matches: &ArgMatches<'_>) -> Aim
     ensures { result ≡ spec.aim_of (rows_of (found_of matches.now)) }
 {
-    if is_given(matches, "header") {
+    if text_of(matches, "merge").is_some() {
+        Aim::Merge
+    } else if is_given(matches, "header") {
         Aim::Header
     } else if is_given(matches, "check") {
         Aim::Check
@@ -259,25 +287,144 @@ fn aim_of(matches: &ArgMatches<'_>) -> Aim
     }
 }
 
-/// The run that the words ask for. A live report takes a worker at least.
+/// Some paths.
+fn copied<'a>(alloc: Global, paths: &[&'a str]) -> Result<Vec<&'a str>, AllocError>
+    ensures { IfOk result (λ copy. copy.items ≡ paths.now) }
+{
+    let mut copy = Vec::new(alloc);
+    copy.extend_from_slice(paths)?;
+    Ok(copy)
+}
+
+/// The reports that the words name.
+fn reports_of<'a>(alloc: Global, matches: &ArgMatches<'a>) -> Result<Vec<&'a str>, AllocError>
+    ensures { IfOk result (λ paths. map (λ s. s.now) paths.items
+        ≡ spec.reports_of (rows_of (found_of matches.now))) }
+{
+    match matches.get_strs("merge") {
+        Some(paths) => copied(alloc, paths),
+        None => Ok(Vec::new(alloc)),
+    }
+}
+
+/// Whether a live report is to have no worker.
+fn lacks_worker(aim: Aim, workers: u32) -> bool
+    ensures stray { result ≡ true → (aim ≡ Aim.LiveReport) × (workers ≡ 0) }
+    ensures none { result ≡ false → aim ≡ Aim.LiveReport → 0 < workers }
+{
+    workers == 0 && aim.is_live()
+}
+
+/// Whether a live report is to have other terms than the usual ones.
+fn is_unusual(aim: Aim, terms: &Terms<'_>) -> bool
+    ensures stray { result ≡ true → (aim ≡ Aim.LiveReport) × (are_usual terms.now ≡ false) }
+    ensures none { result ≡ false → aim ≡ Aim.LiveReport → are_usual terms.now ≡ true }
+{
+    !terms.are_usual() && aim.is_live()
+}
+
+/// The part that a text names, if it names one.
+fn part_in(text: Option<&str>) -> Result<Option<Part>, Refusal>
+    ensures ok { IfOk result (IsPartIn (option_map (λ s. s.now) text.entry)) }
+    ensures err { IfErr result (λ refusal. (refusal.number ≡ 20)
+        × ((part : Option Part) → IsPartIn (option_map (λ s. s.now) text.entry) part → ⊥)) }
+{
+    match text {
+        None => Ok(None),
+        Some(text) => match Part::named(text) {
+            Some(part) => Ok(Some(part)),
+            None => Err(Refusal::USAGE),
+        },
+    }
+}
+
+/// The part of the traces that the words name, if they name one.
+fn part_of(matches: &ArgMatches<'_>) -> Result<Option<Part>, Refusal>
+    ensures ok { IfOk result (spec.IsPartOf (rows_of (found_of matches.now))) }
+    ensures err { IfErr result (λ refusal. (refusal.number ≡ 20)
+        × ((part : Option Part) → spec.IsPartOf (rows_of (found_of matches.now)) part → ⊥)) }
+{
+    part_in(text_of(matches, "part"))
+}
+
+/// Whether a part is asked for, and no file of traces is named.
+fn is_stray_part(part: Option<Part>, traces: Option<&str>) -> bool
+    ensures stray { result ≡ true → IsSome part × (traces.entry ≡ None) }
+    ensures placed { result ≡ false → IsSome part → IsSome traces.entry }
+{
+    part.is_some() && traces.is_none()
+}
+
+/// The part of the file of traces that the words name, if they name one.
+fn part_of_file(matches: &ArgMatches<'_>) -> Result<Option<Part>, Refusal>
+    ensures part { IfOk result (spec.IsPartOf (rows_of (found_of matches.now))) }
+    ensures file { IfOk result (spec.HasFile (rows_of (found_of matches.now))) }
+    ensures err { IfErr result (λ refusal. (refusal.number ≡ 20)
+        × spec.IsWrongValue (rows_of (found_of matches.now))) }
+{
+    let part = part_of(matches)?;
+    if is_stray_part(part, text_of(matches, "traces")) {
+        return Err(Refusal::USAGE);
+    }
+    Ok(part)
+}
+
+/// Whether reports are merged and a source is given.
+fn is_stray_source(aim: Aim, source: Option<&str>) -> bool
+    ensures stray { result ≡ true → (aim ≡ Aim.Merge) × IsSome source.entry }
+    ensures none { result ≡ false → aim ≡ Aim.Merge → source.entry ≡ None }
+{
+    aim.is_merge() && source.is_some()
+}
+
+/// The run that the words ask for, with these options.
+fn task_with<'a>(
+    alloc: Global,
+    matches: &ArgMatches<'a>,
+    options: Options,
+) -> Result<Task<'a>, Refusal>
+    requires { spec.IsOptions (rows_of (found_of matches.now)) options }
+    ensures ok { IfOk result (spec.IsTask (rows_of (found_of matches.now))) }
+    ensures err { IfErr result (λ refusal. (refusal.number ≡ 0)
+        ⊎ ((refusal.number ≡ 20) × spec.IsWrongValue (rows_of (found_of matches.now)))) }
+{
+    let aim = aim_of(matches);
+    if lacks_worker(aim, options.workers) {
+        return Err(Refusal::USAGE);
+    }
+    let terms = terms_of(matches)?;
+    if is_unusual(aim, &terms) {
+        return Err(Refusal::USAGE);
+    }
+    if is_stray_source(aim, text_of(matches, "source")) {
+        return Err(Refusal::USAGE);
+    }
+    let part = part_of_file(matches)?;
+    let values = values_of(matches)?;
+    let reports = reports_of(alloc, matches)?;
+    Ok(Task {
+        options,
+        aim,
+        terms,
+        source: text_of(matches, "source"),
+        traces: text_of(matches, "traces"),
+        values,
+        reports,
+        part,
+    })
+}
+
+/// The run that the words ask for. A live report takes a worker at least, and the usual terms; what
+/// merges reports has no source; a part is one of a file.
 fn read_task<'a>(alloc: Global, matches: &ArgMatches<'a>) -> Result<Task<'a>, Refusal>
     ensures ok { IfOk result (spec.IsTask (rows_of (found_of matches.now))) }
     ensures err { IfErr result (λ refusal. (refusal.number ≡ 0)
         ⊎ ((refusal.number ≡ 20) × spec.IsWrongValue (rows_of (found_of matches.now)))) }
 {
-    let options = options(alloc, matches)?;
-    let aim = aim_of(matches);
-    if options.workers == 0 && aim.is_live() {
-        return Err(Refusal::USAGE);
+    match options(alloc, matches) {
+        Ok(options) => task_with(alloc, matches, options),
+        Err(refusal) => Err(refusal),
     }
-    let values = values_of(matches)?;
-    Ok(Task {
-        options,
-        aim,
-        source: text_of(matches, "source"),
-        traces: text_of(matches, "traces"),
-        values,
-    })
 }
 
 /// The help text, if the error of a command line is that it asks for help.

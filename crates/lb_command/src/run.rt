@@ -1,23 +1,29 @@
 //! A run of the program, on any streams.
 
-ghost use Rattle.std.specs.Prelude.{◌≡◌, ◌≢◌, ◌<◌, ◌⊎◌, IfErr, IfOk, map, string_bytes};
-ghost use Rattle.lb_command.specs.Correct.{IsRun, IsTaskRun, IsWholeRun};
+ghost use Rattle.std.specs.Prelude.{◌≡◌, ◌≢◌, ◌<◌, ◌⊎◌, ◌++◌, ℕ, List, IfErr, IfOk, IsSome, map};
+ghost use Rattle.std.specs.Prelude.{string_bytes};
+ghost use Rattle.lb_listing.specs.Listings.{Line, Lists};
+ghost use Rattle.lb_command.specs.Conclusions.{IsBaseline, IsConcluded};
+ghost use Rattle.lb_command.specs.Correct.{IsRun, IsTaskRun, IsToldOutcome, IsWholeRun};
 ghost use Rattle.lb_command.specs.Outcomes as spec;
 ghost use Rattle.lb_command.specs.Streams.{change, input};
 ghost use Rattle.lb_command.specs.Warnings.{AreRemarks};
 ghost use Rattle.lb_command.specs.declared.request.Aim.TheVariants.{LiveReport};
 
 use crate::answer::{Answer, Warned};
+use crate::conclusion::{conclude, load_baseline, read_baseline};
 use crate::delivery::deliver;
 use crate::explanation::{asks_to_explain, remarks_of, tell};
 use crate::judging::run_judging;
 use crate::live::run_live;
 use crate::loading::{Loaded, load_open, load_texts};
+use crate::merging::run_merge;
 use crate::refusal::{Refusal, Texts};
 use crate::request::{Aim, Request, Task, read_words};
 use crate::showing::run_showing;
+use lb_listing::Listing;
 use lb_report::{Feed, Report, Sink, bench, bench_file};
-use std::alloc::Global;
+use std::alloc::{AllocError, Global};
 use std::io::Read;
 use std::os::unix::fs::FileExt;
 use std::rt::Runtime;
@@ -101,7 +107,8 @@ where
     ensures outcome { spec.IsOutcomeOn (spec.AreTexts task.now (F.coming reader.old))
         task.now.options result }
     ensures read { spec.HasRead (spec.HasPath task.now)
-        (input (F.coming reader.old) (F.failures reader.old) (F.failures reader.new)) result }
+        (input (F.coming reader.old) (F.given reader.old) (F.given reader.new)
+        (F.failures reader.old) (F.failures reader.new)) result }
     ensures warned { IfOk result (λ found.
         AreRemarks (map string_bytes words.now) task.now.options found.warnings.items) }
 {
@@ -116,7 +123,134 @@ where
     }
 }
 
-/// Runs a task whose report is written at once, and answers the exit status.
+/// What goes out of a report that was found, and what is said beside it: first what its terms ask
+/// for, then the remarks.
+fn conclude_found(
+    alloc: Global,
+    task: &Task<'_>,
+    found: Warned<Report>,
+    baseline: Option<&Listing<'_>>,
+) -> Result<Warned<Report>, AllocError>
+    requires lists { (traces : List Line) × Lists found.value.text.items traces }
+    requires baseline { IsBaseline task.now.terms baseline }
+    ensures { IfOk result (λ told. (notes : List ℕ)
+        × IsConcluded task.now.terms (string_bytes task.now.options.node) found.value
+        found.warnings.items told.value notes
+        × (told.warnings.items ≡ notes ++ found.warnings.items)) }
+{
+    let Warned { value, warnings } = found;
+    let node = task.options.node.as_str();
+    let mut told = conclude(
+        alloc,
+        &task.terms,
+        node,
+        warnings.as_slice(),
+        value,
+        baseline,
+    )?;
+    told.notes.extend_from_slice(warnings.as_slice())?;
+    Ok(told.into_warned())
+}
+
+/// What goes out of the report of a task. What the terms name as an earlier report is `baseline`.
+fn told_report<R, F>(
+    rt: &R,
+    words: &[String],
+    task: &Task<'_>,
+    baseline: Option<&Listing<'_>>,
+    reader: &mut F,
+) -> Result<Warned<Report>, Refusal>
+where
+    R: Runtime + AllocGlobal + Threads + Sync,
+    R::File: FileExt + Sync,
+    F: Feed,
+    requires baseline { IsBaseline task.now.terms baseline }
+    requires reader { F.failures reader.old < u64.MAX }
+    ensures outcome { IsToldOutcome (map string_bytes words.now) task.now (F.coming reader.old)
+        result }
+    ensures read { spec.HasRead (spec.HasPath task.now)
+        (input (F.coming reader.old) (F.given reader.old) (F.given reader.new)
+        (F.failures reader.old) (F.failures reader.new)) result }
+{
+    let found = report(rt, words, task, reader)?;
+    Ok(conclude_found(rt.alloc(), task, found, baseline)?)
+}
+
+/// Runs a task whose report is written at once, and answers the exit status. What the terms name as
+/// an earlier report is `baseline`.
+fn run_measured<R, F, W, E>(
+    rt: &R,
+    words: &[String],
+    task: &Task<'_>,
+    baseline: Option<&Listing<'_>>,
+    reader: &mut F,
+    writer: &mut W,
+    errors: &mut E,
+) -> u8
+where
+    R: Runtime + AllocGlobal + Threads + Sync,
+    R::File: FileExt + Sync,
+    F: Feed,
+    W: Sink,
+    E: Sink,
+    requires baseline { IsBaseline task.now.terms baseline }
+    requires reader { F.failures reader.old < u64.MAX }
+    requires writer { W.failures writer.old < u64.MAX }
+    requires errors { E.failures errors.old < u64.MAX }
+    ensures { IsWholeRun (map string_bytes words.now) task.now
+        (input (F.coming reader.old) (F.given reader.old) (F.given reader.new)
+        (F.failures reader.old) (F.failures reader.new)) result
+        (change (W.taken writer.old) (W.taken writer.new)
+        (W.failures writer.old) (W.failures writer.new))
+        (change (E.taken errors.old) (E.taken errors.new)
+        (E.failures errors.old) (E.failures errors.new)) }
+{
+    match told_report(rt, words, task, baseline, reader) {
+        Ok(told) => {
+            let Warned { value, warnings } = told;
+            let answer = Answer::OfTraces(value);
+            deliver(rt, words, &answer, warnings.as_slice(), writer, errors)
+        }
+        Err(refusal) => tell(rt.alloc(), words, Some(task), &refusal, errors),
+    }
+}
+
+/// The same of a task whose terms name an earlier report, which is this text.
+fn run_compared<R, F, W, E>(
+    rt: &R,
+    words: &[String],
+    task: &Task<'_>,
+    earlier: &[u8],
+    reader: &mut F,
+    writer: &mut W,
+    errors: &mut E,
+) -> u8
+where
+    R: Runtime + AllocGlobal + Threads + Sync,
+    R::File: FileExt + Sync,
+    F: Feed,
+    W: Sink,
+    E: Sink,
+    requires baseline { IsSome task.now.terms.baseline }
+    requires reader { F.failures reader.old < u64.MAX }
+    requires writer { W.failures writer.old < u64.MAX }
+    requires errors { E.failures errors.old < u64.MAX }
+    ensures { IsWholeRun (map string_bytes words.now) task.now
+        (input (F.coming reader.old) (F.given reader.old) (F.given reader.new)
+        (F.failures reader.old) (F.failures reader.new)) result
+        (change (W.taken writer.old) (W.taken writer.new)
+        (W.failures writer.old) (W.failures writer.new))
+        (change (E.taken errors.old) (E.taken errors.new)
+        (E.failures errors.old) (E.failures errors.new)) }
+{
+    match read_baseline(rt.alloc(), &task.terms, earlier) {
+        Ok(before) => run_measured(rt, words, task, Some(&before), reader, writer, errors),
+        Err(refusal) => tell(rt.alloc(), words, Some(task), &refusal, errors),
+    }
+}
+
+/// Runs a task whose report is written at once, and answers the exit status. An earlier report is
+/// read before anything else.
 fn run_whole<R, F, W, E>(
     rt: &R,
     words: &[String],
@@ -135,19 +269,19 @@ where
     requires writer { W.failures writer.old < u64.MAX }
     requires errors { E.failures errors.old < u64.MAX }
     ensures { IsWholeRun (map string_bytes words.now) task.now
-        (input (F.coming reader.old) (F.failures reader.old) (F.failures reader.new)) result
+        (input (F.coming reader.old) (F.given reader.old) (F.given reader.new)
+        (F.failures reader.old) (F.failures reader.new)) result
         (change (W.taken writer.old) (W.taken writer.new)
         (W.failures writer.old) (W.failures writer.new))
         (change (E.taken errors.old) (E.taken errors.new)
         (E.failures errors.old) (E.failures errors.new)) }
 {
-    match report(rt, words, task, reader) {
-        Ok(found) => {
-            let Warned { value, warnings } = found;
-            let answer = Answer::OfTraces(value);
-            deliver(rt, words, &answer, warnings.as_slice(), writer, errors)
-        }
-        Err(refusal) => tell(rt.alloc(), words, &refusal, errors),
+    match load_baseline(rt, &task.terms) {
+        Ok(earlier) => match earlier {
+            None => run_measured(rt, words, task, None, reader, writer, errors),
+            Some(text) => { run_compared(rt, words, task, text.as_slice(), reader, writer, errors) }
+        },
+        Err(refusal) => tell(rt.alloc(), words, Some(task), &refusal, errors),
     }
 }
 
@@ -171,7 +305,8 @@ where
     requires writer { W.failures writer.old < u64.MAX }
     requires errors { E.failures errors.old < u64.MAX }
     ensures { IsTaskRun (map string_bytes words.now) task.now
-        (input (F.coming reader.old) (F.failures reader.old) (F.failures reader.new)) result
+        (input (F.coming reader.old) (F.given reader.old) (F.given reader.new)
+        (F.failures reader.old) (F.failures reader.new)) result
         (change (W.taken writer.old) (W.taken writer.new)
         (W.failures writer.old) (W.failures writer.new))
         (change (E.taken errors.old) (E.taken errors.new)
@@ -183,6 +318,7 @@ where
         Aim::OneTrace => run_showing(rt, words, task, reader, writer, errors),
         Aim::Check => run_judging(rt, words, task, reader, writer, errors),
         Aim::Header => run_judging(rt, words, task, reader, writer, errors),
+        Aim::Merge => run_merge(rt, words, task, writer, errors),
     }
 }
 
@@ -190,12 +326,14 @@ where
 ///
 /// | Status | When |
 /// |---|---|
-/// | 0 | a report in which no trace has a fault, is undefined or false |
+/// | 0 | a report in which no trace fails |
 /// | 0 | with `--follow`: the whole report went out |
 /// | 0 | with `--show`: the values went out |
 /// | 0 | with `--check` and `--header`: the source is accepted |
 /// | 0 | `--help`, `--version` |
-/// | 1 | a report in which some trace has a fault, is undefined or false |
+/// | 1 | a report in which some trace fails: it has a fault, is undefined or false; with `--strict`
+///        also one that broke an assumption, and a report on no trace; with `--baseline` only one
+///        that passed in the earlier report, or is new |
 /// | 2 | refused: E1 to E18, E20 |
 /// | 3 | E0, E19, E21 |
 pub fn command<R, F, W, E>(
@@ -215,7 +353,8 @@ where
     requires writer { W.failures writer.old < u64.MAX }
     requires errors { E.failures errors.old < u64.MAX }
     ensures { IsRun (map string_bytes words.now)
-        (input (F.coming reader.old) (F.failures reader.old) (F.failures reader.new)) result
+        (input (F.coming reader.old) (F.given reader.old) (F.given reader.new)
+        (F.failures reader.old) (F.failures reader.new)) result
         (change (W.taken writer.old) (W.taken writer.new)
         (W.failures writer.old) (W.failures writer.new))
         (change (E.taken errors.old) (E.taken errors.new)
@@ -227,6 +366,6 @@ where
             Request::Version => deliver(rt, words, &Answer::Version, &[], writer, errors),
             Request::Run(task) => run_task(rt, words, &task, reader, writer, errors),
         },
-        Err(refusal) => tell(rt.alloc(), words, &refusal, errors),
+        Err(refusal) => tell(rt.alloc(), words, None, &refusal, errors),
     }
 }

@@ -116,13 +116,15 @@ fn show_texts<W: Sink>(
 fn load_both<R, F>(rt: &R, task: &Task<'_>, reader: &mut F) -> Result<Texts, Refusal>
 where
     R: Runtime + AllocGlobal,
+    R::File: FileExt,
     F: Feed,
     requires { F.failures reader.old < u64.MAX }
     ensures ok { IfOk result (λ texts. spec.AreTexts task.now (F.coming reader.old)
         (spec.source_in texts) (spec.traces_in texts)) }
     ensures err { IfErr result spec.IsUnread }
     ensures read { spec.HasRead (spec.HasPath task.now)
-        (input (F.coming reader.old) (F.failures reader.old) (F.failures reader.new)) result }
+        (input (F.coming reader.old) (F.given reader.old) (F.given reader.new)
+        (F.failures reader.old) (F.failures reader.new)) result }
 {
     match load_texts(rt, task, reader) {
         Ok(loaded) => match loaded {
@@ -152,12 +154,14 @@ fn show_task<R, F, W>(
 ) -> Result<Vec<u8>, ShowingFault>
 where
     R: Runtime + AllocGlobal,
+    R::File: FileExt,
     F: Feed,
     W: Sink,
     requires reader { F.failures reader.old < u64.MAX }
     requires writer { W.failures writer.old < u64.MAX }
     ensures shown { IsShowingOn task.now
-        (input (F.coming reader.old) (F.failures reader.old) (F.failures reader.new))
+        (input (F.coming reader.old) (F.given reader.old) (F.given reader.new)
+        (F.failures reader.old) (F.failures reader.new))
         (change (W.taken writer.old) (W.taken writer.new)
         (W.failures writer.old) (W.failures writer.new)) result }
     ensures warned { IfOk result (λ warnings.
@@ -181,6 +185,7 @@ pub fn run_showing<R, F, W, E>(
 ) -> u8
 where
     R: Runtime + AllocGlobal,
+    R::File: FileExt,
     F: Feed,
     W: Sink,
     E: Sink,
@@ -188,7 +193,8 @@ where
     requires writer { W.failures writer.old < u64.MAX }
     requires errors { E.failures errors.old < u64.MAX }
     ensures { IsShowingRun (map string_bytes words.now) task.now
-        (input (F.coming reader.old) (F.failures reader.old) (F.failures reader.new)) result
+        (input (F.coming reader.old) (F.given reader.old) (F.given reader.new)
+        (F.failures reader.old) (F.failures reader.new)) result
         (change (W.taken writer.old) (W.taken writer.new)
         (W.failures writer.old) (W.failures writer.new))
         (change (E.taken errors.old) (E.taken errors.new)
@@ -200,8 +206,14 @@ where
             0
         }
         Err(fault) => match fault {
-            ShowingFault::Refused(refusal) => tell(rt.alloc(), words, &refusal, errors),
-            ShowingFault::Stopped(cause) => tell(rt.alloc(), words, &Refusal::from(cause), errors),
+            ShowingFault::Refused(refusal) => tell(rt.alloc(), words, Some(task), &refusal, errors),
+            ShowingFault::Stopped(cause) => tell(
+                rt.alloc(),
+                words,
+                Some(task),
+                &Refusal::from(cause),
+                errors,
+            ),
         },
     }
 }

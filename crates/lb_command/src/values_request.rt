@@ -6,7 +6,7 @@ ghost use Rattle.lb_command.specs.ValuesWords as spec;
 ghost use Rattle.lb_command.specs.Words.{IsWrongValue};
 
 use crate::refusal::Refusal;
-use crate::request::{is_given, named_argument, number_of, switch_argument, text_of};
+use crate::request::{is_given, named_argument, names_trace, number_of, switch_argument, text_of};
 use clap::{ArgMatches, Command};
 use lb_values::Format;
 use std::alloc::{AllocError, Global};
@@ -34,9 +34,8 @@ fn with_trace<'a>(alloc: Global, command: Command<'a>) -> Result<Command<'a>, Al
 {
     let help = "writes the values of one trace in place of the report";
     let command = command.arg(named_argument(alloc, "show", "TRACE", help))?;
-    let help = "how they are written: table, csv, vcd or svg";
-    let format = named_argument(alloc, "format", "FORMAT", help);
-    command.arg(format.default_value("table"))
+    let help = "how it is written: lines or junit; with --show: table, csv, vcd or svg";
+    command.arg(named_argument(alloc, "format", "FORMAT", help))
 }
 
 /// Adds the options that choose among the values.
@@ -84,13 +83,16 @@ fn format_named(name: &str) -> Option<Format>
     }
 }
 
-/// The format that the words give.
+/// The format of the values that the words give.
 fn format_of(matches: &ArgMatches<'_>) -> Result<Format, Refusal>
     ensures ok { IfOk result (λ format.
         spec.format_in (rows_of (found_of matches.now)) ≡ Some format) }
     ensures usage { IfErr result (λ refusal. refusal.number ≡ 20) }
     ensures err { OnErr result (spec.format_in (rows_of (found_of matches.now)) ≡ None) }
 {
+    if !names_trace(matches) {
+        return Ok(Format::Table);
+    }
     match format_named(text_of(matches, "format").unwrap_or("table")) {
         Some(format) => Ok(format),
         None => Err(Refusal::USAGE),

@@ -1,9 +1,9 @@
 use Rattle.std.proofs.Common.{map, refl, subst}
 use Rattle.std.specs.Prelude.{string_bytes}
+use Rattle.lb_pool.proofs.SinkBytes.{takes_nothing}
 use Rattle.lb_command.specs.Words.{IsRequest}
 use Rattle.lb_command.specs.declared.request.Request.{Request}
 use Rattle.lb_command.specs.declared.request.Request.TheVariants.{Help, Version, Run}
-use Rattle.lb_command.proofs.Streams.{keeps_all}
 use Rattle.lb_command.proofs.announcement.announce.Goals as goal
 
 pub returns-in-Help-clause-ok : goal.returns-in-Help-clause-ok
@@ -12,7 +12,7 @@ returns-in-Help-clause-ok g c =
     record {
       request = Help c.in-Help._text;
       asked = subst Is c.in-Help.is c.in-Ok.ensures.ok;
-      noted = record { kept = keeps_all _; never_failed = refl };
+      noted = record { kept = takes_nothing _; never_failed = refl };
     }
 
 pub returns-in-Version-clause-ok : goal.returns-in-Version-clause-ok
@@ -21,7 +21,7 @@ returns-in-Version-clause-ok g c =
     record {
       request = Version;
       asked = subst Is c.in-Version.is c.in-Ok.ensures.ok;
-      noted = record { kept = keeps_all _; never_failed = refl };
+      noted = record { kept = takes_nothing _; never_failed = refl };
     }
 
 pub returns-in-Run-clause-ok : goal.returns-in-Run-clause-ok

@@ -1,8 +1,8 @@
 use Rattle.std.proofs.Common.{Bool, List, ℕ, refl, subst, sym, ◌∙◌}
+use Rattle.lb_pool.proofs.SinkBytes.{takes_nothing}
 use Rattle.lb_command.specs.Announcements.{IsNotedBy}
 use Rattle.lb_command.specs.Streams.{change}
 use Rattle.lb_command.specs.Warnings.{IsWarned}
-use Rattle.lb_command.proofs.Streams.{keeps_all}
 use Rattle.lb_command.proofs.announcement.note.Goals as goal
 
 pub returns-then-awaits_traces-clause-noted : goal.returns-then-awaits_traces-clause-noted
@@ -20,4 +20,4 @@ returns-else-awaits_traces-clause-noted g c =
     (g.E.Sink.failures c.args.errors.now) (g.E.Sink.failures c.args.errors.now) in
     let Is : Bool → Type 0 = λ b. IsNotedBy b errors in
     subst Is (sym c.if-awaits_traces.false ∙ c.awaits_traces.ensures)
-    (record { kept = keeps_all _; never_failed = refl })
+    (record { kept = takes_nothing _; never_failed = refl })

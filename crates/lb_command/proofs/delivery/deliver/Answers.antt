@@ -1,5 +1,5 @@
 use Rattle.std.proofs.Common.{◌≤◌, List, ℕ, length, subst, take}
-use Rattle.std.specs.Io.KnownBytes.{Appends}
+use Rattle.lb_pool.specs.Taken.{Takes}
 use Rattle.lb_command.specs.Outcomes.IsDelivered.{whole}
 use Rattle.lb_command.proofs.Deliveries.{broken_by}
 use Rattle.lb_command.proofs.delivery.deliver.Goals as goal
@@ -7,7 +7,7 @@ use Rattle.lb_command.proofs.delivery.deliver.Goals as goal
 pub returns-in-Ok : goal.returns-in-Ok
 returns-in-Ok g c =
     let taken = g.W.Sink.taken in
-    let Took : List ℕ → Type 0 = Appends (taken c.args.writer.now) (taken c.put.new.sink) in
+    let Took : List ℕ → Type 0 = Takes (taken c.args.writer.now) (taken c.put.new.sink) in
     let took = subst Took c.text.ensures c.in-Ok.ensures.all in
     whole c.status.ensures (record { all = took; never_failed = c.in-Ok.ensures.ok })
     c.warn.ensures.warned
@@ -19,7 +19,7 @@ returns-in-Err g c =
     let sent = c.in-Err.sent in
     let Within : List ℕ → Type 0 = λ bytes. sent.count ≤ length bytes in
     let First : List ℕ → Type 0 = λ bytes.
-    Appends (taken c.args.writer.now) (taken c.put.new.sink) (take sent.count bytes) in
+    Takes (taken c.args.writer.now) (taken c.put.new.sink) (take sent.count bytes) in
     broken_by _ _ _ _ _ _ c.unsent-refusal.result sent.count is.number is.position
     (subst Within c.text.ensures c.in-Err.ensures.within)
     (subst First c.text.ensures c.in-Err.ensures.first) c.tell.ensures.status

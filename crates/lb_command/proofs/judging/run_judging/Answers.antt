@@ -1,9 +1,9 @@
 use Rattle.std.proofs.Common.{List, ℕ, map, refl, subst, sym}
 use Rattle.std.specs.Prelude.{string_bytes}
+use Rattle.lb_pool.proofs.SinkBytes.{takes_nothing}
 use Rattle.lb_command.specs.Judging.IsJudgingRun.{answered, refused}
 use Rattle.lb_command.specs.Warnings.{AreWarnings}
 use Rattle.lb_command.specs.declared.answer.Answer.TheVariants.{OfSource}
-use Rattle.lb_command.proofs.Streams.{keeps_all}
 use Rattle.lb_command.proofs.judging.run_judging.Goals as goal
 
 pub returns-in-Ok : goal.returns-in-Ok
@@ -17,5 +17,5 @@ returns-in-Ok g c =
 pub returns-in-Err : goal.returns-in-Err
 returns-in-Err g c =
     refused c.in-Err.refusal c.in-Err.ensures.outcome c.in-Err.ensures.read
-    c.tell.ensures.status (record { kept = keeps_all _; never_failed = refl })
+    c.tell.ensures.status (record { kept = takes_nothing _; never_failed = refl })
     c.tell.ensures.told

@@ -1,6 +1,6 @@
 use Rattle.std.proofs.Common.{refl}
+use Rattle.lb_pool.proofs.SinkBytes.{takes_nothing}
 use Rattle.lb_command.proofs.Living.{live_of, tells_of_file, unread_with}
-use Rattle.lb_command.proofs.Streams.{keeps_all}
 use Rattle.lb_command.proofs.live.follow_loaded.Goals as goal
 
 pub returns-in-Ok-clause-live : goal.returns-in-Ok-clause-live
@@ -12,4 +12,4 @@ pub returns-in-Err-clause-live : goal.returns-in-Err-clause-live
 returns-in-Err-clause-live g c = λ i never.
     unread_with (λ source traces. Unit {0}) (Unit {0}) _ i _ c.in-Err.refusal c.in-Err.ensures
     (tells_of_file i c.in-Err.refusal never)
-    (record { kept = keeps_all _; never_failed = refl })
+    (record { kept = takes_nothing _; never_failed = refl })

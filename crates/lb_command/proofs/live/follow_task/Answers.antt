@@ -1,8 +1,8 @@
 use Rattle.std.proofs.Common.{refl, subst}
 use Rattle.clap.specs.Words.{Text}
+use Rattle.lb_pool.proofs.SinkBytes.{takes_nothing}
 use Rattle.lb_command.specs.Outcomes.{AreTexts, HasPath, IsLoaded}
 use Rattle.lb_command.proofs.Living.{live_of, live_on, unread_with}
-use Rattle.lb_command.proofs.Streams.{keeps_all}
 use Rattle.lb_command.proofs.live.follow_task.Goals as goal
 
 pub returns-in-Texts-clause-live : goal.returns-in-Texts-clause-live
@@ -25,4 +25,4 @@ pub returns-in-Err-clause-live : goal.returns-in-Err-clause-live
 returns-in-Err-clause-live g c =
     unread_with (AreTexts c.args.task.now (g.F.Feed.coming c.args.reader.now))
     (HasPath c.args.task.now) _ _ _ c.in-Err.refusal c.in-Err.ensures.err c.in-Err.ensures.read
-    (record { kept = keeps_all _; never_failed = refl })
+    (record { kept = takes_nothing _; never_failed = refl })

@@ -27,8 +27,8 @@ returns-in-Refused g c =
     let Is : LiveFault → Type 0 = λ fault.
     IsLiveOn {T = Vec ℕ Global} (AreTexts c.args.task.now known) (HasPath c.args.task.now)
     c.args.task.now.options
-    (input known (g.F.Feed.failures c.args.reader.now)
-    (g.F.Feed.failures c.follow_task.new.reader))
+    (input known (g.F.Feed.given c.args.reader.now) (g.F.Feed.given c.follow_task.new.reader)
+    (g.F.Feed.failures c.args.reader.now) (g.F.Feed.failures c.follow_task.new.reader))
     (change (taken writer) (taken after) (failures writer) (failures after)) (Err fault) in
     refused c.in-Refused.refusal (subst Is c.in-Refused.is c.in-Err.ensures.live)
     c.tell.ensures.status c.tell.ensures.told
@@ -43,8 +43,8 @@ returns-in-Stopped g c =
     let Is : LiveFault → Type 0 = λ fault.
     IsLiveOn {T = Vec ℕ Global} (AreTexts c.args.task.now known) (HasPath c.args.task.now)
     c.args.task.now.options
-    (input known (g.F.Feed.failures c.args.reader.now)
-    (g.F.Feed.failures c.follow_task.new.reader))
+    (input known (g.F.Feed.given c.args.reader.now) (g.F.Feed.given c.follow_task.new.reader)
+    (g.F.Feed.failures c.args.reader.now) (g.F.Feed.failures c.follow_task.new.reader))
     (change (taken writer) (taken after) (failures writer) (failures after)) (Err fault) in
     let gives = c.from.ensures in
     let number = c.from.result.number in

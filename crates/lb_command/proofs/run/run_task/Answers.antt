@@ -1,4 +1,4 @@
-use Rattle.std.proofs.Common.{map, subst, sym}
+use Rattle.std.proofs.Common.{map, refl, subst, sym}
 use Rattle.std.specs.Prelude.{string_bytes}
 use Rattle.lb_command.specs.Correct.{IsRunFor}
 use Rattle.lb_command.specs.Streams.{change, input}
@@ -11,7 +11,8 @@ returns-in-Report g c =
     let new = c.run_whole.new in
     let Is : Aim → Type 0 = λ aim.
     IsRunFor aim (map string_bytes args.words.now) args.task.now
-    (input (g.F.Feed.coming args.reader.now) (g.F.Feed.failures args.reader.now)
+    (input (g.F.Feed.coming args.reader.now) (g.F.Feed.given args.reader.now)
+    (g.F.Feed.given new.reader) (g.F.Feed.failures args.reader.now)
     (g.F.Feed.failures new.reader)) c.run_whole.result
     (change (g.W.Sink.taken args.writer.now) (g.W.Sink.taken new.writer)
     (g.W.Sink.failures args.writer.now) (g.W.Sink.failures new.writer))
@@ -25,7 +26,8 @@ returns-in-LiveReport g c =
     let new = c.run_live.new in
     let Is : Aim → Type 0 = λ aim.
     IsRunFor aim (map string_bytes args.words.now) args.task.now
-    (input (g.F.Feed.coming args.reader.now) (g.F.Feed.failures args.reader.now)
+    (input (g.F.Feed.coming args.reader.now) (g.F.Feed.given args.reader.now)
+    (g.F.Feed.given new.reader) (g.F.Feed.failures args.reader.now)
     (g.F.Feed.failures new.reader)) c.run_live.result
     (change (g.W.Sink.taken args.writer.now) (g.W.Sink.taken new.writer)
     (g.W.Sink.failures args.writer.now) (g.W.Sink.failures new.writer))
@@ -39,7 +41,8 @@ returns-in-OneTrace g c =
     let new = c.run_showing.new in
     let Is : Aim → Type 0 = λ aim.
     IsRunFor aim (map string_bytes args.words.now) args.task.now
-    (input (g.F.Feed.coming args.reader.now) (g.F.Feed.failures args.reader.now)
+    (input (g.F.Feed.coming args.reader.now) (g.F.Feed.given args.reader.now)
+    (g.F.Feed.given new.reader) (g.F.Feed.failures args.reader.now)
     (g.F.Feed.failures new.reader)) c.run_showing.result
     (change (g.W.Sink.taken args.writer.now) (g.W.Sink.taken new.writer)
     (g.W.Sink.failures args.writer.now) (g.W.Sink.failures new.writer))
@@ -53,7 +56,8 @@ returns-in-Check g c =
     let new = c.run_judging.new in
     let Is : Aim → Type 0 = λ aim.
     IsRunFor aim (map string_bytes args.words.now) args.task.now
-    (input (g.F.Feed.coming args.reader.now) (g.F.Feed.failures args.reader.now)
+    (input (g.F.Feed.coming args.reader.now) (g.F.Feed.given args.reader.now)
+    (g.F.Feed.given new.reader) (g.F.Feed.failures args.reader.now)
     (g.F.Feed.failures new.reader)) c.run_judging.result
     (change (g.W.Sink.taken args.writer.now) (g.W.Sink.taken new.writer)
     (g.W.Sink.failures args.writer.now) (g.W.Sink.failures new.writer))
@@ -67,10 +71,26 @@ returns-in-Header g c =
     let new = c.run_judging-in-Header.new in
     let Is : Aim → Type 0 = λ aim.
     IsRunFor aim (map string_bytes args.words.now) args.task.now
-    (input (g.F.Feed.coming args.reader.now) (g.F.Feed.failures args.reader.now)
+    (input (g.F.Feed.coming args.reader.now) (g.F.Feed.given args.reader.now)
+    (g.F.Feed.given new.reader) (g.F.Feed.failures args.reader.now)
     (g.F.Feed.failures new.reader)) c.run_judging-in-Header.result
     (change (g.W.Sink.taken args.writer.now) (g.W.Sink.taken new.writer)
     (g.W.Sink.failures args.writer.now) (g.W.Sink.failures new.writer))
     (change (g.E.Sink.taken args.errors.now) (g.E.Sink.taken new.errors)
     (g.E.Sink.failures args.errors.now) (g.E.Sink.failures new.errors)) in
     subst Is (sym c.in-Header.is) c.run_judging-in-Header.ensures
+
+pub returns-in-Merge : goal.returns-in-Merge
+returns-in-Merge g c =
+    let args = c.args in
+    let new = c.run_merge.new in
+    let Is : Aim → Type 0 = λ aim.
+    IsRunFor aim (map string_bytes args.words.now) args.task.now
+    (input (g.F.Feed.coming args.reader.now) (g.F.Feed.given args.reader.now)
+    (g.F.Feed.given args.reader.now) (g.F.Feed.failures args.reader.now)
+    (g.F.Feed.failures args.reader.now)) c.run_merge.result
+    (change (g.W.Sink.taken args.writer.now) (g.W.Sink.taken new.writer)
+    (g.W.Sink.failures args.writer.now) (g.W.Sink.failures new.writer))
+    (change (g.E.Sink.taken args.errors.now) (g.E.Sink.taken new.errors)
+    (g.E.Sink.failures args.errors.now) (g.E.Sink.failures new.errors)) in
+    subst Is (sym c.in-Merge.is) (refl, c.run_merge.ensures)

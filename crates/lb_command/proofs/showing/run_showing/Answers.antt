@@ -26,8 +26,8 @@ returns-in-Refused g c =
     let known = g.F.Feed.coming c.args.reader.now in
     let Is : ShowingFault → Type 0 = λ fault.
     IsShowingOn {T = Vec ℕ Global} c.args.task.now
-    (input known (g.F.Feed.failures c.args.reader.now)
-    (g.F.Feed.failures c.show_task.new.reader))
+    (input known (g.F.Feed.given c.args.reader.now) (g.F.Feed.given c.show_task.new.reader)
+    (g.F.Feed.failures c.args.reader.now) (g.F.Feed.failures c.show_task.new.reader))
     (change (taken writer) (taken after) (failures writer) (failures after)) (Err fault) in
     refused c.in-Refused.refusal (subst Is c.in-Refused.is c.in-Err.ensures.shown)
     c.tell.ensures.status c.tell.ensures.told
@@ -41,8 +41,8 @@ returns-in-Stopped g c =
     let known = g.F.Feed.coming c.args.reader.now in
     let Is : ShowingFault → Type 0 = λ fault.
     IsShowingOn {T = Vec ℕ Global} c.args.task.now
-    (input known (g.F.Feed.failures c.args.reader.now)
-    (g.F.Feed.failures c.show_task.new.reader))
+    (input known (g.F.Feed.given c.args.reader.now) (g.F.Feed.given c.show_task.new.reader)
+    (g.F.Feed.failures c.args.reader.now) (g.F.Feed.failures c.show_task.new.reader))
     (change (taken writer) (taken after) (failures writer) (failures after)) (Err fault) in
     let gives = c.from.ensures in
     let number = c.from.result.number in

@@ -1,6 +1,6 @@
 use Rattle.std.proofs.Common.{Global, Vec, ℕ, inl, refl}
+use Rattle.lb_pool.proofs.SinkBytes.{takes_nothing}
 use Rattle.lb_command.proofs.Showings.{showing_on}
-use Rattle.lb_command.proofs.Streams.{keeps_all}
 use Rattle.lb_command.proofs.showing.show_task.Goals as goal
 
 pub returns-in-Ok-clause-shown : goal.returns-in-Ok-clause-shown
@@ -13,5 +13,5 @@ returns-in-Err-clause-shown g c =
     inl (record {
       unread = c.in-Err.ensures.err;
       tells = c.in-Err.ensures.read;
-      untouched = record { kept = keeps_all _; never_failed = refl };
+      untouched = record { kept = takes_nothing _; never_failed = refl };
     })

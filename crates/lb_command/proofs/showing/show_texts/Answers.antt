@@ -1,13 +1,13 @@
 use Rattle.std.proofs.Common.{Err, Global, Ok, Vec, ℕ, refl}
+use Rattle.lb_pool.proofs.SinkBytes.{takes_nothing}
 use Rattle.lb_command.specs.Streams.{change}
 use Rattle.lb_command.proofs.Showings.{out_of_memory, showing_in, shown_of, unshown_of}
-use Rattle.lb_command.proofs.Streams.{keeps_all}
 use Rattle.lb_command.proofs.showing.show_texts.Goals as goal
 
 pub returns-in_default-clause-shown : goal.returns-in_default-clause-shown
 returns-in_default-clause-shown g c =
     out_of_memory (Vec ℕ Global) _ _ c.args.task.now _ _ refl
-    (record { kept = keeps_all _; never_failed = refl })
+    (record { kept = takes_nothing _; never_failed = refl })
 
 pub returns-in-Ok-show_values-clause-shown : goal.returns-in-Ok-show_values-clause-shown
 returns-in-Ok-show_values-clause-shown g c =

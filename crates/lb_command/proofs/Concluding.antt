@@ -1,0 +1,38 @@
+-- What goes out of a report, by the terms of its run.
+use Rattle.std.proofs.Common.{◌≡◌, ◌∙◌, ℕ, List, [], Option, Some, None, sym, subst}
+use Rattle.std.proofs.Common.{true, false, ◌⊎◌, inl, inr}
+use Rattle.std.specs.Prelude.{IsSome, is_some}
+use Rattle.std.specs.Option.{MatchOption}
+use Rattle.std.specs.Borrow.{Bor}
+use Rattle.clap.specs.Words.{Text}
+use Rattle.lb_listing.specs.Listings.{Line, Lists}
+use Rattle.lb_command.specs.Conclusions.{HasStatus, IsBaselineRefused, IsCompared}
+use Rattle.lb_command.specs.Conclusions.{IsComparedToFile, IsMeasured, IsNoBaseline}
+use Rattle.lb_command.specs.declared.refusal.Refusal.{Refusal}
+use Rattle.lb_command.specs.declared.terms.Terms.{Terms}
+
+at_some : {T : Type 0} (o : Option T) (P Q : Type 0) → IsSome o → Q → MatchOption o P (λ x. Q)
+at_some None P Q some q = let no : false ≡ true = some in cc
+at_some (Some x) P Q some q = q
+
+pub measured : (terms : Terms) (traces : List Line) (status : ℕ) (notes : Text)
+    → terms.baseline ≡ None → IsMeasured terms.measure traces status notes
+    → HasStatus terms traces status notes
+measured terms traces status notes none is =
+    let Told : Option (Bor (List ℕ)) → Type 0 = λ baseline.
+    MatchOption baseline (IsMeasured terms.measure traces status notes)
+    (λ path. IsComparedToFile terms.measure traces status notes) in
+    subst Told (sym none) is
+
+pub compared : (terms : Terms) (traces : List Line) (status : ℕ) (notes : Text)
+    → IsSome terms.baseline → IsComparedToFile terms.measure traces status notes
+    → HasStatus terms traces status notes
+compared terms traces status notes some is =
+    at_some terms.baseline (IsMeasured terms.measure traces status notes)
+    (IsComparedToFile terms.measure traces status notes) some is
+
+-- memory ran out, or the earlier report is none
+pub no_earlier : (terms : Terms) (refusal : Refusal)
+    → (refusal.number ≡ 0) ⊎ IsNoBaseline terms refusal → IsBaselineRefused terms refusal
+no_earlier terms refusal (inl memory) = inl (inl memory)
+no_earlier terms refusal (inr none) = inr none

@@ -1,0 +1,10 @@
+use Rattle.std.proofs.Common.{refl}
+use Rattle.lb_command.specs.Correct.IsWholeRun.{no_baseline}
+use Rattle.lb_command.proofs.Concluding.{no_earlier}
+use Rattle.lb_pool.proofs.SinkBytes.{takes_nothing}
+use Rattle.lb_command.proofs.run.run_compared.Goals as goal
+
+pub returns-in-Err : goal.returns-in-Err
+returns-in-Err g c =
+    no_baseline c.in-Err.refusal (no_earlier _ _ c.in-Err.ensures.err) refl c.tell.ensures.status
+    (record { kept = takes_nothing _; never_failed = refl }) c.tell.ensures.told

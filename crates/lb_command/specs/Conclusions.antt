@@ -1,0 +1,87 @@
+-- What goes out of a report, by the terms of its run.
+-- Source: this project's rule.
+use Rattle.std.specs.Prelude.{◌≡◌, ◌⊎◌, ℕ, List, [], Option, Some, None, IsSome, true}
+use Rattle.std.specs.Borrow.{Bor}
+use Rattle.std.specs.Option.{MatchOption}
+use Rattle.clap.specs.Words.{Text}
+use Rattle.lb_pool.specs.declared.text.Report.{Report}
+use Rattle.lb_listing.specs.Compared as compared
+use Rattle.lb_listing.specs.Indexed.{IsIndexed, listed}
+use Rattle.lb_listing.specs.Junit.{junit_of}
+use Rattle.lb_listing.specs.Listings as listing
+use Rattle.lb_listing.specs.Verdicts as verdicts
+use Rattle.lb_listing.specs.declared.listing.Listing.{Listing}
+use Rattle.lb_listing.specs.declared.status.Measure.{Measure}
+use Rattle.lb_command.specs.Terms.{are_usual}
+use Rattle.lb_command.specs.declared.refusal.Refusal.{Refusal}
+use Rattle.lb_command.specs.declared.terms.Format.{Format}
+use Rattle.lb_command.specs.declared.terms.Format.TheVariants.{Lines, Junit}
+use Rattle.lb_command.specs.declared.terms.Terms.{Terms}
+
+-- the traces of a report in a format; a suite has the name of the node under test, and what is
+-- said beside the report
+abbrev pub written : Format → (node remarks : Text) → List listing.Line → Text
+written Lines node remarks traces = listing.report traces
+written Junit node remarks traces = junit_of node traces remarks
+
+-- the status of a run, and what is said beside its report: by its verdicts alone
+pub record IsMeasured (measure : Measure) (traces : List listing.Line) (status : ℕ)
+    (notes : Text) : Type 0 where
+  pub status_is : status ≡ verdicts.status_of measure traces
+  pub nothing_said : notes ≡ []
+
+-- the same, by how its verdicts differ from those of an earlier report
+pub record IsCompared (measure : Measure) (before traces : List listing.Line) (status : ℕ)
+    (notes : Text) : Type 0 where
+  pub status_is : status ≡ compared.status_of measure before traces
+  pub differences : notes ≡ compared.text_of before traces
+
+-- the same, where no contract says what the file of the earlier report holds: it is a report
+pub record IsComparedToFile (measure : Measure) (traces : List listing.Line) (status : ℕ)
+    (notes : Text) : Type 0 where
+  pub text : Text
+  pub before : List listing.Line
+  pub lists : listing.Lists text before
+  pub compared : IsCompared measure before traces status notes
+
+abbrev pub HasStatus : Terms → (traces : List listing.Line) → (status : ℕ) → (notes : Text)
+    → Type 0
+HasStatus terms traces status notes =
+    MatchOption terms.baseline (IsMeasured terms.measure traces status notes)
+    (λ path. IsComparedToFile terms.measure traces status notes)
+
+-- what goes out of a report that lists these traces, and what is said beside it
+pub record IsTold (terms : Terms) (node remarks : Text) (traces : List listing.Line)
+    (shown : Report) (notes : Text) : Type 0 where
+  pub text : shown.text.items ≡ written terms.format node remarks traces
+  pub measured : HasStatus terms traces shown.status notes
+
+-- what goes out of a report: the report itself, where the terms ask for nothing else; or what they
+-- ask for, of the traces that it lists
+pub data IsConcluded (terms : Terms) (node : Text) (report : Report) (remarks : Text)
+    (shown : Report) (notes : Text) : Type 0 where
+  as_it_is : are_usual terms ≡ true → shown ≡ report → notes ≡ []
+      → IsConcluded terms node report remarks shown notes
+  told : (traces : List listing.Line) → listing.Lists report.text.items traces
+      → IsTold terms node remarks traces shown notes
+      → IsConcluded terms node report remarks shown notes
+
+-- the earlier report of a run, as it was read, if its terms name one
+abbrev pub IsBaseline : Terms → Option (Bor Listing) → Type 0
+IsBaseline terms None = terms.baseline ≡ None
+IsBaseline terms (Some before) =
+    IsSome terms.baseline × IsIndexed before.now
+    × ((text : Text) × listing.Lists text (listed before.now))
+
+-- what the terms name is no report
+pub record IsNoBaseline (terms : Terms) (refusal : Refusal) : Type 0 where
+  pub usage : refusal.number ≡ 20
+  pub named : IsSome terms.baseline
+  pub text : Text
+  pub line : ℕ
+  pub fault : listing.IsFault text line
+
+-- the earlier report could not be read, or memory ran out, or it is no report
+abbrev pub IsBaselineRefused : Terms → Refusal → Type 0
+IsBaselineRefused terms refusal =
+    ((refusal.number ≡ 0) ⊎ (refusal.number ≡ 21)) ⊎ IsNoBaseline terms refusal

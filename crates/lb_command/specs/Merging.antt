@@ -1,0 +1,55 @@
+-- A run that makes one report of several.
+-- Source: this project's rule.
+use Rattle.std.specs.Prelude.{◌≡◌, ◌⊎◌, ◌<◌, ℕ, List, [], string_bytes, get_or, length}
+use Rattle.clap.specs.Words.{Text}
+use Rattle.lb_pool.specs.declared.text.Report.{Report}
+use Rattle.lb_listing.specs.Listings.{IsFault, Line, Lists}
+use Rattle.lb_listing.specs.Merged.{HaveTwice, IsMerged}
+use Rattle.lb_command.specs.Conclusions.{IsBaselineRefused, IsTold}
+use Rattle.lb_command.specs.Lines.{line}
+use Rattle.lb_command.specs.Outcomes.{IsDelivered, IsUnread, refusal_status}
+use Rattle.lb_command.specs.Outcomes as outcomes
+use Rattle.lb_command.specs.Streams.{Change, IsUntouched}
+use Rattle.lb_command.specs.declared.answer.Answer.TheVariants.{OfTraces}
+use Rattle.lb_command.specs.declared.refusal.Refusal.{Refusal}
+use Rattle.lb_command.specs.declared.request.Task.{Task}
+
+-- one of the texts is no report
+pub record IsNoReport (texts : List Text) (refusal : Refusal) : Type 0 where
+  pub usage : refusal.number ≡ 20
+  pub file : ℕ
+  pub within : file < length texts
+  pub number : ℕ
+  pub fault : IsFault (get_or texts file []) number
+
+-- why texts are not merged: memory ran out, one is no report, or two traces have one name
+abbrev pub AreNotMerged : (texts : List Text) → Refusal → Type 0
+AreNotMerged texts refusal = (refusal.number ≡ 0)
+    ⊎ (IsNoReport texts refusal ⊎ ((refusal.number ≡ 17) × HaveTwice texts))
+
+-- the same, where no contract says what the files hold; or a file could not be read
+pub data IsMergeRefused (refusal : Refusal) : Type 0 where
+  unread : IsUnread refusal → IsMergeRefused refusal
+  unmerged : (texts : List Text) → AreNotMerged texts refusal → IsMergeRefused refusal
+
+-- what goes out of the reports in some files, and what is said beside it: what the terms ask for,
+-- of the one report that they make
+pub record IsMergeTold (task : Task) (shown : Report) (notes : Text) : Type 0 where
+  pub texts : List Text
+  pub report : Text
+  pub merged : IsMerged texts report
+  pub traces : List Line
+  pub lists : Lists report traces
+  pub told : IsTold task.terms (string_bytes task.options.node) [] traces shown notes
+
+-- a run of a task that merges reports: what its terms ask for of the one report is delivered; or a
+-- file could not be read, or the files do not make one report, and the refusal is told
+pub data IsMergeRun (words : List Text) (task : Task) (status : ℕ) (output errors : Change)
+    : Type 0 where
+  answered : (shown : Report) → (notes : Text) → IsMergeTold task shown notes
+      → IsDelivered words (OfTraces shown) notes status output errors
+      → IsMergeRun words task status output errors
+  refused : (refusal : Refusal) → IsMergeRefused refusal ⊎ IsBaselineRefused task.terms refusal
+      → status ≡ refusal_status refusal.number → IsUntouched output
+      → outcomes.IsTold words errors (line refusal.number refusal.position)
+      → IsMergeRun words task status output errors

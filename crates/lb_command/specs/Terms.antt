@@ -1,0 +1,49 @@
+-- What a run is measured by, and how its report is written.
+-- Source: this project's rule.
+use Rattle.std.specs.Prelude.{◌≡◌, ℕ, Bool, true, false, ◌&&◌, not, is_some, if◌then◌else◌, codes}
+use Rattle.std.specs.Prelude.{List, [], Option, Some, None, unwrap_or, option_map, bytes_eq}
+use Rattle.clap.specs.Words.{Row, Text, first_of}
+use Rattle.lb_command.specs.ValuesWords.{names_trace}
+use Rattle.lb_command.specs.WordValues.{has_switch}
+use Rattle.lb_command.specs.declared.terms.Format.{Format}
+use Rattle.lb_command.specs.declared.terms.Format.TheVariants.{Lines, Junit}
+use Rattle.lb_command.specs.declared.terms.Terms.{Terms}
+use Rattle.lb_listing.specs.declared.status.Measure.{Measure}
+use Rattle.lb_listing.specs.declared.status.Measure.TheVariants.{Lenient, Strict}
+
+-- ## What the words give
+
+abbrev pub measure_of : List Row → Measure
+measure_of rows = if has_switch (codes "strict") rows then Strict else Lenient
+
+-- the format with a name
+abbrev pub format_named : Text → Option Format
+format_named name =
+    if bytes_eq name (codes "lines") then Some Lines
+    else (if bytes_eq name (codes "junit") then Some Junit else None)
+
+-- the format of the report; it is read where a report is written, and else that of values is
+abbrev pub format_in : List Row → Option Format
+format_in rows =
+    if names_trace rows then Some Lines
+    else format_named (unwrap_or (first_of (codes "format") rows) (codes "lines"))
+
+pub record IsTerms (rows : List Row) (terms : Terms) : Type 0 where
+  pub measure : terms.measure ≡ measure_of rows
+  pub baseline : option_map (λ s. s.now) terms.baseline ≡ first_of (codes "baseline") rows
+  pub format : format_in rows ≡ Some terms.format
+
+-- ## What they ask for
+
+abbrev pub is_lenient : Measure → Bool
+is_lenient Lenient = true
+is_lenient Strict = false
+
+abbrev pub is_lines : Format → Bool
+is_lines Lines = true
+is_lines Junit = false
+
+-- a run with these terms is asked for nothing but its report
+abbrev pub are_usual : Terms → Bool
+are_usual terms =
+    is_lenient terms.measure && is_lines terms.format && not (is_some terms.baseline)

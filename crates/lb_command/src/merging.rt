@@ -1,0 +1,189 @@
+//! A run that makes one report of several.
+
+ghost use Rattle.std.specs.Prelude.{◌≡◌, ◌<◌, ℕ, List, IfErr, IfOk, IsSome, map, string_bytes};
+ghost use Rattle.lb_command.specs.Conclusions.{IsBaseline};
+ghost use Rattle.lb_command.specs.Merging as spec;
+ghost use Rattle.lb_command.specs.Outcomes.{IsUnread};
+ghost use Rattle.lb_command.specs.Streams.{change};
+ghost use Rattle.lb_listing.specs.Merged.{IsMerged, texts_of};
+
+use crate::answer::{Answer, Warned};
+use crate::conclusion::{conclude_text, load_baseline, read_baseline};
+use crate::delivery::deliver;
+use crate::explanation::tell;
+use crate::loading::load_file;
+use crate::refusal::Refusal;
+use crate::request::Task;
+use lb_listing::{Listing, MergeError, merge};
+use lb_report::{Report, Sink};
+use std::alloc::{AllocError, Global};
+use std::rt::Runtime;
+
+/// Adds a text.
+fn keep(texts: &mut Vec<Vec<u8>>, text: Vec<u8>) -> Result<(), AllocError> {
+    texts.push(text)?;
+    Ok(())
+}
+
+/// The reports at some paths. The errors are E0 and E21.
+fn load_reports<R: Runtime + AllocGlobal>(rt: &R, paths: &[&str]) -> Result<Vec<Vec<u8>>, Refusal>
+    ensures { IfErr result IsUnread }
+{
+    let mut texts = Vec::new(rt.alloc());
+    for path in paths {
+        let text = load_file(rt, path)?;
+        keep(&mut texts, text)?;
+    }
+    Ok(texts)
+}
+
+/// The path of a file with a number.
+fn path_of<'a>(paths: &[&'a str], file: usize) -> &'a str {
+    match paths.get(file) {
+        Some(path) => path,
+        None => "-",
+    }
+}
+
+/// One report in place of several. The errors are E0, E17 and E20.
+fn merge_texts(alloc: Global, paths: &[&str], texts: &[Vec<u8>]) -> Result<Vec<u8>, Refusal>
+    ensures ok { IfOk result (λ text. IsMerged (texts_of texts.now) text.items) }
+    ensures err { IfErr result (spec.AreNotMerged (texts_of texts.now)) }
+{
+    match merge(alloc, texts) {
+        Ok(text) => Ok(text),
+        Err(MergeError::Memory(_)) => Err(Refusal::MEMORY),
+        Err(MergeError::Fault { file, line }) => {
+            Err(Refusal::no_report(alloc, path_of(paths, file), line))
+        }
+        Err(MergeError::Twice { file, line }) => {
+            Err(Refusal::twice(alloc, path_of(paths, file), line))
+        }
+    }
+}
+
+/// One report in place of those at some paths. The errors are E0, E17, E20 and E21.
+fn merge_files<R: Runtime + AllocGlobal>(rt: &R, paths: &[&str]) -> Result<Vec<u8>, Refusal>
+    ensures ok { IfOk result (λ text. (texts : List (List ℕ)) × IsMerged texts text.items) }
+    ensures err { IfErr result spec.IsMergeRefused }
+{
+    let texts = load_reports(rt, paths)?;
+    match merge_texts(rt.alloc(), paths, texts.as_slice()) {
+        Ok(text) => Ok(text),
+        Err(refusal) => Err(refusal),
+    }
+}
+
+/// What goes out of the reports that a task names.
+fn conclude_merge<R: Runtime + AllocGlobal>(
+    rt: &R,
+    task: &Task<'_>,
+    baseline: Option<&Listing<'_>>,
+) -> Result<Warned<Report>, Refusal>
+    requires { IsBaseline task.now.terms baseline }
+    ensures ok { IfOk result (λ told. spec.IsMergeTold task.now told.value told.warnings.items) }
+    ensures err { IfErr result spec.IsMergeRefused }
+{
+    let report = merge_files(rt, task.reports.as_slice())?;
+    let node = task.options.node.as_str();
+    let told = conclude_text(
+        rt.alloc(),
+        &task.terms,
+        node,
+        &[],
+        report.as_slice(),
+        baseline,
+    )?;
+    Ok(told.into_warned())
+}
+
+/// Runs a task that merges reports, and answers the exit status. What the terms name as an earlier
+/// report is `baseline`.
+fn run_measured<R, W, E>(
+    rt: &R,
+    words: &[String],
+    task: &Task<'_>,
+    baseline: Option<&Listing<'_>>,
+    writer: &mut W,
+    errors: &mut E,
+) -> u8
+where
+    R: Runtime + AllocGlobal,
+    W: Sink,
+    E: Sink,
+    requires baseline { IsBaseline task.now.terms baseline }
+    requires writer { W.failures writer.old < u64.MAX }
+    requires errors { E.failures errors.old < u64.MAX }
+    ensures { spec.IsMergeRun (map string_bytes words.now) task.now result
+        (change (W.taken writer.old) (W.taken writer.new)
+        (W.failures writer.old) (W.failures writer.new))
+        (change (E.taken errors.old) (E.taken errors.new)
+        (E.failures errors.old) (E.failures errors.new)) }
+{
+    match conclude_merge(rt, task, baseline) {
+        Ok(told) => {
+            let Warned { value, warnings } = told;
+            let answer = Answer::OfTraces(value);
+            deliver(rt, words, &answer, warnings.as_slice(), writer, errors)
+        }
+        Err(refusal) => tell(rt.alloc(), words, Some(task), &refusal, errors),
+    }
+}
+
+/// The same of a task whose terms name an earlier report, which is this text.
+fn run_compared<R, W, E>(
+    rt: &R,
+    words: &[String],
+    task: &Task<'_>,
+    earlier: &[u8],
+    writer: &mut W,
+    errors: &mut E,
+) -> u8
+where
+    R: Runtime + AllocGlobal,
+    W: Sink,
+    E: Sink,
+    requires baseline { IsSome task.now.terms.baseline }
+    requires writer { W.failures writer.old < u64.MAX }
+    requires errors { E.failures errors.old < u64.MAX }
+    ensures { spec.IsMergeRun (map string_bytes words.now) task.now result
+        (change (W.taken writer.old) (W.taken writer.new)
+        (W.failures writer.old) (W.failures writer.new))
+        (change (E.taken errors.old) (E.taken errors.new)
+        (E.failures errors.old) (E.failures errors.new)) }
+{
+    match read_baseline(rt.alloc(), &task.terms, earlier) {
+        Ok(before) => run_measured(rt, words, task, Some(&before), writer, errors),
+        Err(refusal) => tell(rt.alloc(), words, Some(task), &refusal, errors),
+    }
+}
+
+/// Runs a task that merges reports, and answers the exit status. An earlier report is read before
+/// them.
+pub fn run_merge<R, W, E>(
+    rt: &R,
+    words: &[String],
+    task: &Task<'_>,
+    writer: &mut W,
+    errors: &mut E,
+) -> u8
+where
+    R: Runtime + AllocGlobal,
+    W: Sink,
+    E: Sink,
+    requires writer { W.failures writer.old < u64.MAX }
+    requires errors { E.failures errors.old < u64.MAX }
+    ensures { spec.IsMergeRun (map string_bytes words.now) task.now result
+        (change (W.taken writer.old) (W.taken writer.new)
+        (W.failures writer.old) (W.failures writer.new))
+        (change (E.taken errors.old) (E.taken errors.new)
+        (E.failures errors.old) (E.failures errors.new)) }
+{
+    match load_baseline(rt, &task.terms) {
+        Ok(earlier) => match earlier {
+            None => run_measured(rt, words, task, None, writer, errors),
+            Some(text) => run_compared(rt, words, task, text.as_slice(), writer, errors),
+        },
+        Err(refusal) => tell(rt.alloc(), words, Some(task), &refusal, errors),
+    }
+}

@@ -1,0 +1,94 @@
+//! What a run is measured by, and how its report is written.
+
+ghost use Rattle.std.specs.Prelude.{◌≡◌, IfErr, IfOk, None, OnErr, Some, option_map};
+ghost use Rattle.clap.specs.Words.{first_of, found_of, rows_of};
+ghost use Rattle.lb_command.specs.Terms as spec;
+
+use crate::refusal::Refusal;
+use crate::request::{is_given, names_trace, text_of};
+use clap::ArgMatches;
+use lb_listing::Measure;
+
+/// How a report is written.
+#[derive(Clone, Copy)]
+pub enum Format {
+    /// A line for each trace, and a last line that counts.
+    Lines,
+    /// JUnit XML.
+    Junit,
+}
+
+/// What a run is measured by, and how its report is written.
+#[derive(Clone, Copy)]
+pub struct Terms<'a> {
+    pub measure: Measure,
+    /// The path of an earlier report.
+    pub baseline: Option<&'a str>,
+    pub format: Format,
+}
+
+impl Terms<'_> {
+    /// Whether these are the terms of a run that is asked for nothing else.
+    pub fn are_usual(&self) -> bool
+        ensures { result ≡ spec.are_usual self.now }
+    {
+        match (self.measure, self.format) {
+            (Measure::Lenient, Format::Lines) => self.baseline.is_none(),
+            _ => false,
+        }
+    }
+}
+
+/// What a run is measured by.
+fn measure_of(matches: &ArgMatches<'_>) -> Measure
+    ensures { result ≡ spec.measure_of (rows_of (found_of matches.now)) }
+{
+    if is_given(matches, "strict") {
+        Measure::Strict
+    } else {
+        Measure::Lenient
+    }
+}
+
+/// The format with a name.
+fn format_named(name: &str) -> Option<Format>
+    ensures { result ≡ spec.format_named name.now }
+{
+    if name == "lines" {
+        Some(Format::Lines)
+    } else if name == "junit" {
+        Some(Format::Junit)
+    } else {
+        None
+    }
+}
+
+/// The format of the report that the words give.
+fn format_of(matches: &ArgMatches<'_>) -> Result<Format, Refusal>
+    ensures ok { IfOk result (λ format.
+        spec.format_in (rows_of (found_of matches.now)) ≡ Some format) }
+    ensures usage { IfErr result (λ refusal. refusal.number ≡ 20) }
+    ensures err { OnErr result (spec.format_in (rows_of (found_of matches.now)) ≡ None) }
+{
+    if names_trace(matches) {
+        return Ok(Format::Lines);
+    }
+    match format_named(text_of(matches, "format").unwrap_or("lines")) {
+        Some(format) => Ok(format),
+        None => Err(Refusal::USAGE),
+    }
+}
+
+/// The terms that the words give.
+pub fn terms_of<'a>(matches: &ArgMatches<'a>) -> Result<Terms<'a>, Refusal>
+    ensures ok { IfOk result (spec.IsTerms (rows_of (found_of matches.now))) }
+    ensures usage { IfErr result (λ refusal. refusal.number ≡ 20) }
+    ensures err { OnErr result (spec.format_in (rows_of (found_of matches.now)) ≡ None) }
+{
+    let format = format_of(matches)?;
+    Ok(Terms {
+        measure: measure_of(matches),
+        baseline: text_of(matches, "baseline"),
+        format,
+    })
+}
