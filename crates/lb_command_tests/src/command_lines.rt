@@ -17,84 +17,76 @@ pub fn words_of(alloc: Global, line: &str) -> Result<Vec<String>, AllocError> {
     Ok(words)
 }
 
-/// Runs a command line on an input, and gives its status. What it prints goes behind what stands in
-/// the output and the errors.
-pub fn run_line<R: Runtime + AllocGlobal + Threads + Wait + Sync>(
-    rt: &R,
-    line: &str,
-    input: &str,
-    output: &mut Vec<u8>,
-    errors: &mut Vec<u8>,
-) -> Result<u8, AllocError>
-where
-    R::File: FileExt + Sync,
-{
-    let words = words_of(rt.alloc(), line)?;
-    Ok(command(
-        rt,
-        words.as_slice(),
-        &mut Reader::new(input.as_bytes()),
-        &mut Writer::new(output),
-        &mut Writer::new(errors),
-    ))
+/// A run of the program: what it printed, and its status.
+#[derive(Drop)]
+pub struct Run {
+    pub output: Vec<u8>,
+    pub errors: Vec<u8>,
+    pub status: u8,
 }
 
-/// What is printed as an error, and the status, where the first line has the words and the others
-/// are the input.
-pub fn push_told<R: Runtime + AllocGlobal + Threads + Wait + Sync>(
-    rt: &R,
-    asked: &str,
-    said: &mut String,
-) -> Result<(), AllocError>
-where
-    R::File: FileExt + Sync,
-{
-    let (line, input) = asked.split_once('\n').unwrap_or((asked, ""));
-    let mut output: Vec<u8> = Vec::new(rt.alloc());
-    let mut errors: Vec<u8> = Vec::new(rt.alloc());
-    let status = run_line(rt, line, input, &mut output, &mut errors)?;
-    let printed = std::str::from_utf8(errors.as_slice()).unwrap_or("no text");
-    write!(said, "{printed}status {status}")
+/// Bytes that were printed.
+fn text(bytes: &[u8]) -> &str {
+    std::str::from_utf8(bytes).unwrap_or("no text")
 }
 
-/// What is printed as an error, the status, and whether there is output, where the first line has
-/// the words and the others are the input.
-pub fn push_answer<R: Runtime + AllocGlobal + Threads + Wait + Sync>(
-    rt: &R,
-    asked: &str,
-    said: &mut String,
-) -> Result<(), AllocError>
-where
-    R::File: FileExt + Sync,
-{
-    let (line, input) = asked.split_once('\n').unwrap_or((asked, ""));
-    let mut output: Vec<u8> = Vec::new(rt.alloc());
-    let mut errors: Vec<u8> = Vec::new(rt.alloc());
-    let status = run_line(rt, line, input, &mut output, &mut errors)?;
-    let printed = std::str::from_utf8(errors.as_slice()).unwrap_or("no text");
-    let output = if output.is_empty() {
-        ""
-    } else {
-        " with output"
-    };
-    write!(said, "{printed}status {status}{output}")
-}
+impl Run {
+    /// A run of a command line on an input.
+    pub fn on<R: Runtime + AllocGlobal + Threads + Wait + Sync>(
+        rt: &R,
+        line: &str,
+        input: &str,
+    ) -> Result<Self, AllocError>
+    where
+        R::File: FileExt + Sync,
+    {
+        let words = words_of(rt.alloc(), line)?;
+        let mut output: Vec<u8> = Vec::new(rt.alloc());
+        let mut errors: Vec<u8> = Vec::new(rt.alloc());
+        let status = command(
+            rt,
+            words.as_slice(),
+            &mut Reader::new(input.as_bytes()),
+            &mut Writer::new(&mut output),
+            &mut Writer::new(&mut errors),
+        );
+        Ok(Run {
+            output,
+            errors,
+            status,
+        })
+    }
 
-/// What is printed as output and then as an error, and the status, where the first line has the
-/// words and the others are the input.
-pub fn push_printed<R: Runtime + AllocGlobal + Threads + Wait + Sync>(
-    rt: &R,
-    asked: &str,
-    said: &mut String,
-) -> Result<(), AllocError>
-where
-    R::File: FileExt + Sync,
-{
-    let (line, input) = asked.split_once('\n').unwrap_or((asked, ""));
-    let mut output: Vec<u8> = Vec::new(rt.alloc());
-    let mut errors: Vec<u8> = Vec::new(rt.alloc());
-    let status = run_line(rt, line, input, &mut output, &mut errors)?;
-    let printed = std::str::from_utf8(output.as_slice()).unwrap_or("no text");
-    let told = std::str::from_utf8(errors.as_slice()).unwrap_or("no text");
-    write!(said, "{printed}{told}status {status}")
+    /// A run of what is asked: the first line has the words, and the others are the input.
+    pub fn new<R: Runtime + AllocGlobal + Threads + Wait + Sync>(
+        rt: &R,
+        asked: &str,
+    ) -> Result<Self, AllocError>
+    where
+        R::File: FileExt + Sync,
+    {
+        let (line, input) = asked.split_once('\n').unwrap_or((asked, ""));
+        Run::on(rt, line, input)
+    }
+
+    /// What is printed as an error, and the status.
+    pub fn push_errors(&self, said: &mut String) -> Result<(), AllocError> {
+        let errors = text(self.errors.as_slice());
+        write!(said, "{errors}status {}", self.status)
+    }
+
+    /// What is printed as an error, the status, and whether there is output.
+    pub fn push_answer(&self, said: &mut String) -> Result<(), AllocError> {
+        self.push_errors(said)?;
+        if self.output.is_empty() {
+            return Ok(());
+        }
+        said.push_str(" with output")
+    }
+
+    /// What is printed as output and then as an error, and the status.
+    pub fn push_printed(&self, said: &mut String) -> Result<(), AllocError> {
+        said.push_str(text(self.output.as_slice()))?;
+        self.push_errors(said)
+    }
 }

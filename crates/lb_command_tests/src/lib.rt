@@ -1,9 +1,9 @@
 //! Tests of the command line, as users meet it: what is printed, what `--explain` tells of each
 //! refusal and verdict, what `--show` shows, and the exit status. There is nothing else here.
 //!
-//! Most go over a table of text: the words, what stands in standard input, and what is wanted of the
-//! run, taken apart when the test runs, so that a further row costs no proof. What is wanted was
-//! written by hand.
+//! Most go over a table of text: the words, what stands in standard input, and what is wanted of
+//! the run, taken apart when the test runs, so that a further row costs no proof. What is wanted
+//! was written by hand, but for random programs.
 #![tactic(auto)]
 
 #[cfg(test)]
@@ -11,11 +11,19 @@ mod command_lines;
 #[cfg(test)]
 mod commands;
 #[cfg(test)]
+mod controllers;
+#[cfg(test)]
+mod formats;
+#[cfg(test)]
 mod helps;
 #[cfg(test)]
 mod outputs;
 #[cfg(test)]
+mod program_helps;
+#[cfg(test)]
 mod programs;
+#[cfg(test)]
+mod random_values;
 #[cfg(test)]
 mod reasons;
 #[cfg(test)]

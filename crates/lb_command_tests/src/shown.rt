@@ -124,10 +124,10 @@ three,1,0,2147483647
 $comment two fault 1 $end
 $timescale 1 us $end
 $scope module main $end
-$var wire 32 ! q $end
+$var integer 32 ! q [31:0] $end
 $var wire 1 $ q! $end
 $var wire 1 \" ok $end
-$var wire 32 # last $end
+$var integer 32 # last [31:0] $end
 $upscope $end
 $enddefinitions $end
 #0
@@ -297,11 +297,11 @@ u,1,1,0
 $comment t fault 2 $end
 $timescale 1 us $end
 $scope module main $end
-$var wire 32 ! slow $end
-$var wire 32 # c[1] $end
+$var integer 32 ! slow [31:0] $end
+$var integer 32 # c[1] [31:0] $end
 $upscope $end
 $scope module safe $end
-$var wire 32 \" bad $end
+$var integer 32 \" bad [31:0] $end
 $var wire 1 % bad! $end
 $upscope $end
 $enddefinitions $end
@@ -506,7 +506,7 @@ v,3
 v,4
 =>
 refused: E20 usage
-lbench: error: `pdf` is no value of `--format`, which takes table, csv, vcd or svg
+lbench: error: `pdf` is no value of `--format`, which takes lines or junit, and with `--show` table, csv, vcd or svg
 status 2
 ----
 lbench --show v --last -1

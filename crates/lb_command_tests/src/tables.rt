@@ -3,7 +3,11 @@
 //! A row has the words of a command line in its first line, then the input, and after a mark what
 //! is wanted. `{3 a}` in a row stands for `aaa`, and `{1..2 x@ @, }` for `x1 1, x2 2, `.
 
-use crate::{command_lines, commands, helps, programs, reasons, shown, texts};
+use crate::command_lines::Run;
+use crate::{
+    commands, controllers, formats, helps, program_helps, programs, random_values, reasons, shown,
+    texts,
+};
 use std::alloc::AllocError;
 use std::os::unix::fs::FileExt;
 use std::rt::Runtime;
@@ -30,11 +34,19 @@ const PROGRAMS: Table = (Asks::Errors, " => ", programs::PROGRAMS);
 
 const HELPS: Table = (Asks::Errors, " => ", helps::HELPS);
 
+const PROGRAM_HELPS: Table = (Asks::Errors, " => ", program_helps::PROGRAM_HELPS);
+
 const RUNS: Table = (Asks::Answers, " => ", commands::RUNS);
 
 const SHOWN: Table = (Asks::Prints, "\n=>\n", shown::SHOWN);
 
+const FORMATS: Table = (Asks::Prints, "\n=>\n", formats::FORMATS);
+
+const RANDOM_VALUES: Table = (Asks::Prints, "\n=>\n", random_values::RANDOM_VALUES);
+
 const REASONS: Table = (Asks::Prints, "\n=>\n", reasons::REASONS);
+
+const CONTROLLERS: Table = (Asks::Prints, "\n=>\n", controllers::CONTROLLERS);
 
 /// A turn with a number in place of each `@`.
 fn push_numbered(row: &mut String, number: u32, turn: &str) -> Result<(), AllocError> {
@@ -101,10 +113,11 @@ fn push_answer<R: Runtime + AllocGlobal + Threads + Wait + Sync>(
 where
     R::File: FileExt + Sync,
 {
+    let run = Run::new(rt, asked)?;
     match asks {
-        Asks::Errors => command_lines::push_told(rt, asked, said),
-        Asks::Answers => command_lines::push_answer(rt, asked, said),
-        Asks::Prints => command_lines::push_printed(rt, asked, said),
+        Asks::Errors => run.push_errors(said),
+        Asks::Answers => run.push_answer(said),
+        Asks::Prints => run.push_printed(said),
     }
 }
 
@@ -186,6 +199,13 @@ fn explained_mistakes(rt: HostRuntime) -> Result<(), AllocError> {
 }
 
 #[test]
+fn explained_program_mistakes(rt: HostRuntime) -> Result<(), AllocError> {
+    let wrong = first_wrong(&rt, PROGRAM_HELPS)?;
+    assert!(rt; wrong.is_empty(), "{wrong}");
+    Ok(())
+}
+
+#[test]
 fn runs(rt: HostRuntime) -> Result<(), AllocError> {
     let wrong = first_wrong(&rt, RUNS)?;
     assert!(rt; wrong.is_empty(), "{wrong}");
@@ -200,8 +220,29 @@ fn shown_values(rt: HostRuntime) -> Result<(), AllocError> {
 }
 
 #[test]
+fn shown_formats(rt: HostRuntime) -> Result<(), AllocError> {
+    let wrong = first_wrong(&rt, FORMATS)?;
+    assert!(rt; wrong.is_empty(), "{wrong}");
+    Ok(())
+}
+
+#[test]
+fn values_of_random_programs(rt: HostRuntime) -> Result<(), AllocError> {
+    let wrong = first_wrong(&rt, RANDOM_VALUES)?;
+    assert!(rt; wrong.is_empty(), "{wrong}");
+    Ok(())
+}
+
+#[test]
 fn explained_reports(rt: HostRuntime) -> Result<(), AllocError> {
     let wrong = first_wrong(&rt, REASONS)?;
+    assert!(rt; wrong.is_empty(), "{wrong}");
+    Ok(())
+}
+
+#[test]
+fn explained_controllers(rt: HostRuntime) -> Result<(), AllocError> {
+    let wrong = first_wrong(&rt, CONTROLLERS)?;
     assert!(rt; wrong.is_empty(), "{wrong}");
     Ok(())
 }

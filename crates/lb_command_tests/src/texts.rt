@@ -526,6 +526,18 @@ help: split the traces into several files, and run each
 in trace `a/b`, instant 1000000, record 1000001
 status 2
 ----
+lbench --explain
+node main() returns (ok: bool);
+let ok = true; tel
+%traces
+trace
+{1..1000002 a@
+} => refused: E18 limit
+-:1000005:1: error: this is trace 1000001; at most 1000000 are read
+help: `--part 1/16` judges the first of 16 parts of a file of traces
+in trace `a1000001`, instant 0, record 1000001
+status 2
+----
 lbench --explain --workers 65 => refused: E20 usage
 lbench: error: `65` is no value of `--workers`, which takes a number from 0 to 64
 status 2
