@@ -14,16 +14,17 @@ _lbench() {
             return
             ;;
         --format)
-            COMPREPLY=($(compgen -W 'table csv vcd svg' -- "$word"))
+            COMPREPLY=($(compgen -W 'lines junit table csv vcd svg' -- "$word"))
             return
             ;;
-        --node | --observe | --show | --last | --vars)
+        --node | --observe | --show | --last | --vars | --part)
             return
             ;;
     esac
     if [[ $word == -* ]]; then
         COMPREPLY=($(compgen -W '--node --observe --workers --batch --by-length --follow
             --show --format --last --vars --all --explain --explain-all --check --header
+            --strict --baseline --part --merge
             --version --help' -- "$word"))
         return
     fi
