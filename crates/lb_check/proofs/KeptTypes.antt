@@ -1,6 +1,7 @@
 -- What is kept of the types of terms gives the type of each.
 use Rattle.std.proofs.Common.{◌≡◌, ◌≢◌, ℕ, zero, suc, ◌+◌, ◌-◌, ◌<◌, ◌≤◌, min}
-use Rattle.std.proofs.Common.{Option, Vec, Global, Some, None, List, [], ◌∷◌, ◌++◌, map, flat_map, take, drop}
+use Rattle.std.proofs.Common.{Option, Vec, Global, Some, None, List, [], ◌∷◌, ◌++◌, map, flat_map}
+use Rattle.std.proofs.Common.{take, drop}
 use Rattle.std.proofs.Common.{length, get_or, reverse, refl, ap, ap₂, sym, ◌∙◌, subst, arith}
 use Rattle.std.specs.Prelude.{option_map, slice_get, sum_by}
 use Rattle.std.proofs.lemmas.List.{append_assoc, append-nil, length-append, reverse-append}
@@ -17,14 +18,11 @@ use Rattle.lb_static.proofs.TypeViews.{product_reverse}
 use Rattle.lb_check.specs.FoundTerms.{HasTypes}
 use Rattle.lb_check.specs.PlacedTypes.{FoundNode, FoundTypes, found_in, sizes_of}
 use Rattle.lb_check.specs.PlacedTypes.{nothing_found, part_size, parts_of, size_of, type_among}
-use Rattle.lb_check.specs.PlacedTypes.{parts_in, stored_size, with_row, with_term, with_terms}
-use Rattle.lb_check.specs.PlacedTypes.{with_types}
-use Rattle.lb_static.specs.StoredTypes.{view_type, view_types}
+use Rattle.lb_check.specs.PlacedTypes.{with_term, with_terms}
 use Rattle.lb_check.specs.Streams.{data_type}
 use Rattle.lb_check.specs.TypeRules.{expression_size}
 use Rattle.lb_static.specs.DataTypes.{total}
 use Rattle.lb_check.specs.Types.{data_types, only}
-use Rattle.lb_static.specs.declared.data_type.DataType as stored
 use Rattle.lb_check.specs.declared.found_types.NodeTypes.{NodeTypes}
 use Rattle.lb_check.specs.declared.found_types.TermType.{TermType}
 
@@ -107,14 +105,6 @@ size_kept os = ap size_of (kept_all os) ∙ by 0 os
         sum_by-cons (λ (t : TermType). t.elements) (row_of n o) (rows_from m os)
         ∙ ap (λ k. part_size o + k) (by m os) ∙ sym (sum_by-cons part_size o os)
 
--- and that of parts as the code holds them
-pub parts_counted : (parts : List (Option (Vec stored.DataType Global))) →
-    sum_by stored_size parts ≡ sum_by part_size (parts_in parts)
-parts_counted [] = refl
-parts_counted (p ∷ ps) =
-    sum_by-cons stored_size p ps ∙ ap (λ k. stored_size p + k) (parts_counted ps)
-    ∙ sym (sum_by-cons part_size (option_map view_types p) (parts_in ps))
-
 -- the sizes of a term, where these stand before those of the row
 sizes_there :
     (before : List ℕ) (os : List FoundTypes) (i : ℕ) (o : FoundTypes) → slice_get os i ≡ Some o →
@@ -150,47 +140,6 @@ parts_kept f os i o is e =
     ap (λ l. min (product (take (length l - 1) l)) 65537) (sizes_kept f os i o is e)
     ∙ ap (λ k. min k 65537) (inner_product ns)
 
--- ## One more term
-
-module _ (f : FoundNode) (ts : List stored.DataType) (n : ℕ)
-    (counted : n ≡ min (total (map view_type ts)) 65537) where
-  abbrev Notes : Kind → List ℕ → List stored.DataType → Type 0
-  Notes kind ls ts =
-      n ≡ min (total (map view_type ts)) 65537 → with_row f kind ls n
-      ≡ with_types f (map view_type ts)
-
-  -- a term with one result
-  pub one_noted :
-      (t : stored.DataType) (ls : List ℕ) → 1 ≤ length ts → length ts < 2 → t ≡ get_or ts 0 t →
-      ls ≡ t.sizes.items → with_row f t.kind ls n ≡ with_types f (map view_type ts)
-  one_noted t ls some few is own = by ts some few is counted
-    where
-      by : (ts : List stored.DataType) → 1 ≤ length ts → length ts < 2 → t ≡ get_or ts 0 t →
-          Notes t.kind ls ts
-      by [] some few is e = absurd (omega (arith, some))
-      by (s ∷ []) some few is e =
-          ap₂ (λ (u : stored.DataType) (ms : List ℕ). with_row f u.kind ms n) is
-          (own ∙ ap (λ (u : stored.DataType). u.sizes.items) is
-          ∙ sym (reverse-reverse s.sizes.items))
-          ∙ ap (with_row f s.kind (reverse (reverse s.sizes.items))) e
-      by (s ∷ (u ∷ ts)) some few is e = absurd (omega (arith, few))
-
-  -- a term with none, or with several
-  pub none_noted : length ts < 1 → with_row f Int_kind [] n ≡ with_types f (map view_type ts)
-  none_noted few = by ts few counted
-    where
-      by : (ts : List stored.DataType) → length ts < 1 → Notes Int_kind [] ts
-      by [] few e = ap (with_row f Int_kind []) e
-      by (s ∷ ts) few e = absurd (omega (arith, few))
-
-  pub several_noted : 2 ≤ length ts → with_row f Int_kind [] n ≡ with_types f (map view_type ts)
-  several_noted many = by ts many counted
-    where
-      by : (ts : List stored.DataType) → 2 ≤ length ts → Notes Int_kind [] ts
-      by [] many e = absurd (omega (arith, many))
-      by (s ∷ []) many e = absurd (omega (arith, many))
-      by (s ∷ (u ∷ ts)) many e = ap (with_row f Int_kind []) e
-
 -- ## What is left to 65,537
 
 module _ {A : Type 0} (f : A → ℕ) (xs : List A) (i : ℕ) (x : A) (left size rest : ℕ)
@@ -220,22 +169,6 @@ none_left_by f xs i x left lt is known many =
     let item = ap f is in
     let part = sum_by-take-le f xs (i + 1) in
     omega (arith, known, many, more, item, part)
-
--- ## The elements of some terms, as far as there are this many
-
-pub none_counted : (many whole : ℕ) → whole ≡ (many - many) + whole
-none_counted many whole = omega arith
-
-module _ (many left size rest whole own later : ℕ) (few : many ≤ 65537) (under : left ≤ many)
-    (known : whole ≡ (many - left) + (own + later)) (counted : size ≡ min own 65537)
-    (next : rest ≡ left - size) where
-  -- there are fewer
-  pub counted_more : rest ≢ 0 → whole ≡ (many - rest) + later
-  counted_more some = omega (arith, few, under, known, counted, next, some)
-
-  -- there are as many
-  pub counted_enough : rest ≡ 0 → many ≤ whole
-  counted_enough none = omega (arith, few, under, known, counted, next, none)
 
 -- ## The expressions of an instance
 

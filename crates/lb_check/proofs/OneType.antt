@@ -1,21 +1,22 @@
 -- The one type of a term is that of its results, and so an equation of one variable is judged by
 -- types alone, with no list of them.
-use Rattle.std.proofs.Common.{◌≡◌, Bool, List, [], ◌∷◌, Option, Some, None, inl, Vec, Global, refl}
-use Rattle.std.proofs.Common.{ap, sym, ◌∙◌}
+use Rattle.std.proofs.Common.{◌≡◌, ◌≢◌, false, List, [], ◌∷◌, length, Option, Some}
+use Rattle.std.proofs.Common.{None, inl, Vec, Global, refl, ap, sym, ◌∙◌}
+use Rattle.std.specs.Prelude.{option_map}
 use Rattle.std.proofs.Math.Bool.{and-true, and-false}
-use Rattle.lb_syntax.specs.Lists.{◌>>=◌, all_some, holds}
+use Rattle.lb_syntax.specs.Lists.{◌>>=◌, all_some}
 use Rattle.lb_static.specs.declared.resolved.Term.{Term, Array, Literal, Value, Truth}
 use Rattle.lb_static.specs.declared.resolved.Term.{Variable, Group'}
 use Rattle.lb_static.specs.declared.resolved.Term.{Unary', Binary', If', Arrow', Fby', Pre'}
 use Rattle.lb_static.specs.declared.resolved.Term.{Current', When', Replicate', Index', Slice'}
 use Rattle.lb_static.specs.declared.resolved.Term.{Join', Array', AtMostOne', Nor', Call'}
 use Rattle.lb_static.specs.declared.resolved.Term.{IterateNode', IterateSymbol'}
-use Rattle.lb_static.specs.declared.resolved.VariableId.{VariableId}
 use Rattle.lb_static.specs.DataTypes.{DataType, is_type}
 use Rattle.lb_check.specs.Types.{list_type, only, singly}
-use Rattle.lb_check.specs.TermTypes.{Context, type_of, types_of, results, row_results, are_equal}
-use Rattle.lb_check.specs.TermTypes.{is_equation_typed}
-use Rattle.lb_check.proofs.TypeRows.{type_of_row}
+use Rattle.lb_check.specs.TermSignatures.{are_one}
+use Rattle.lb_check.specs.TermTypes.{Context, type_of, types_of, results, row_results}
+use Rattle.lb_check.specs.TermTypes.{are_equal}
+use Rattle.lb_check.proofs.TypeRows.{results_of_row}
 
 -- the one type of one type
 pub only_singly : (o : Option DataType) → (singly o >>= only) ≡ o
@@ -49,23 +50,24 @@ type_is_only ctx (Index' p e i) = sym (only_singly (type_of ctx (Index' p e i)))
 type_is_only ctx (Slice' p e i j) = sym (only_singly (type_of ctx (Slice' p e i j)))
 type_is_only ctx (Join' p a q b) = sym (only_singly (type_of ctx (Join' p a q b)))
 
--- the type of an array, from the types of its elements
-pub type_array_list :
-    (ctx : Context) (t : Term) (es : Vec Term Global) → t ≡ Array es →
-    type_of ctx t ≡ (types_of ctx es.items >>= λ ts. singly (list_type ts) >>= only)
-type_array_list ctx t es is =
-    ap (type_of ctx) is ∙ type_of_row ctx (Array es) es (inl refl)
-    ∙ by (types_of ctx es.items)
+-- the results of an array, and its type, from the types of its elements
+pub list_results : (ctx : Context) (t : Term) (es : Vec Term Global) → t ≡ Array es →
+    results ctx t ≡ singly (types_of ctx es.items >>= list_type)
+list_results ctx t es is =
+    ap (results ctx) is ∙ results_of_row ctx (Array es) es (inl refl) ∙ by (types_of ctx es.items)
   where
     by : (o : Option (List DataType)) →
-        (o >>= row_results ctx (Array es) >>= only) ≡ (o >>= λ ts. singly (list_type ts) >>= only)
+        (o >>= row_results ctx (Array es)) ≡ singly (o >>= list_type)
     by (Some ts) = refl
     by None = refl
 
--- whether there are two types, and they are one
-abbrev pub are_one : Option DataType → Option DataType → Bool
-are_one o p = holds (λ s. holds (λ t. is_type s t) p) o
+pub list_type_is : (ctx : Context) (t : Term) (es : Vec Term Global) → t ≡ Array es →
+    type_of ctx t ≡ (types_of ctx es.items >>= list_type)
+list_type_is ctx t es is =
+    type_is_only ctx t ∙ ap (λ o. o >>= only) (list_results ctx t es is)
+    ∙ only_singly (types_of ctx es.items >>= list_type)
 
+-- whether results are this one, from the type of what has them
 equal_one :
     (o : Option (List DataType)) (v : Option DataType) →
     are_equal o (all_some (v ∷ [])) ≡ are_one (o >>= only) v
@@ -77,12 +79,28 @@ equal_one (Some (s ∷ [])) (Some t) = and-true (is_type s t)
 equal_one (Some (s ∷ u ∷ us)) None = refl
 equal_one (Some (s ∷ u ∷ us)) (Some t) = and-false (is_type s t)
 
--- an equation of one variable, where types are found for both sides or not
-pub equation_of_one :
-    (ctx : Context) (x : VariableId) (e : Term) (o v : Option DataType) →
-    o ≡ type_of ctx e → v ≡ ctx.variable x →
-    are_one o v ≡ is_equation_typed ctx (x ∷ []) e
-equation_of_one ctx x e o v ho hv =
-    ap (λ o. are_one o v) (ho ∙ type_is_only ctx e)
-    ∙ sym (equal_one (results ctx e) v)
-    ∙ ap (λ v. are_equal (results ctx e) (all_some (v ∷ []))) hv
+pub results_are_one : (ctx : Context) (e : Term) (o v : Option DataType) → o ≡ type_of ctx e →
+    are_one o v ≡ are_equal (results ctx e) (all_some (v ∷ []))
+results_are_one ctx e o v is =
+    ap (λ o. are_one o v) (is ∙ type_is_only ctx e) ∙ sym (equal_one (results ctx e) v)
+
+-- there is one result, and another number of these
+pub single_apart : (o : Option DataType) (vs : List (Option DataType)) → length vs ≢ 1 →
+    false ≡ are_equal (singly o) (all_some vs)
+single_apart None vs apart = refl
+single_apart (Some s) [] apart = refl
+single_apart (Some s) (None ∷ vs) apart = refl
+single_apart (Some s) (Some t ∷ []) apart = absurd (apart refl)
+single_apart (Some s) (Some t ∷ (None ∷ vs)) apart = refl
+single_apart (Some s) (Some t ∷ (Some u ∷ vs)) apart = by (all_some vs)
+  where
+    by : (o : Option (List DataType)) →
+        false ≡ are_equal (Some (s ∷ [])) (option_map (λ l. t ∷ l) (option_map (λ l. u ∷ l) o))
+    by None = refl
+    by (Some l) = sym (and-false (is_type s t))
+
+-- there is one result, and one of these
+pub single_met : (o v : Option DataType) →
+    are_one o v ≡ are_equal (singly o) (all_some (v ∷ []))
+single_met o v =
+    ap (λ p. are_one p v) (sym (only_singly o)) ∙ sym (equal_one (singly o) v)

@@ -1,15 +1,14 @@
 -- The type of a term from those of its one, two or three operands.
 use Rattle.std.proofs.Common.{◌≡◌, ℕ, ◌⊎◌, inl, inr, Bool, true, false, Option, Some, None, Box}
 use Rattle.std.proofs.Common.{Global, refl, ap, ◌∙◌}
-use Rattle.lb_syntax.specs.declared.tree.BinaryOperator.{BinaryOperator}
 use Rattle.lb_syntax.specs.declared.tree.UnaryOperator.{UnaryOperator}
 use Rattle.lb_syntax.specs.Lists.{◌>>=◌, where_true}
 use Rattle.lb_static.specs.declared.resolved.StaticId.{StaticId}
 use Rattle.lb_static.specs.declared.resolved.VariableId.{VariableId}
 use Rattle.lb_static.specs.declared.resolved.Term.{Term, Group, Unary, Pre, Current, When}
-use Rattle.lb_static.specs.declared.resolved.Term.{Replicate, Index, Slice, Binary, Arrow, Fby}
-use Rattle.lb_static.specs.declared.resolved.Term.{Join, If}
+use Rattle.lb_static.specs.declared.resolved.Term.{Replicate, Index, Slice}
 use Rattle.lb_static.specs.DataTypes.{DataType, is_type, truth}
+use Rattle.lb_static.specs.TermForms.{IsPair}
 use Rattle.lb_check.specs.Types.{array_of, index_type, slice_type}
 use Rattle.lb_check.specs.TermTypes.{Context, one_type, two_types, type_of, when_truth}
 
@@ -71,18 +70,11 @@ single_none ctx t e (inr (inr (inr (inr (inr (inr (inr (i, j, is)))))))) h =
     ap (type_of ctx) is ∙ ap (λ o. ctx.count i >>= λ i. ctx.count j >>= λ j. o >>= slice_type i j)
     h ∙ no_slice (ctx.count i) (ctx.count j)
 
--- a term with these two operands, or with these branches of a choice
-abbrev pub IsPair : Term → Box Term Global → Box Term Global → Type 0
-IsPair t a b =
-    ((op : BinaryOperator) × (t ≡ Binary op a b)) ⊎ ((t ≡ Arrow a b) ⊎ ((t ≡ Fby a b)
-    ⊎ ((t ≡ Join a b) ⊎ ((c : Box Term Global) × (t ≡ If c a b)))))
-
 pub pair_type : (ctx : Context) (t : Term) (a b : Box Term Global) (o p : Option DataType) →
     IsPair t a b
-    → o ≡ type_of ctx a.value → p ≡ type_of ctx b.value → two_types ctx t o p ≡ type_of ctx t
+    → o ≡ type_of ctx a.value → p ≡ type_of ctx b.value → two_types t o p ≡ type_of ctx t
 unfolding type_of
 pair_type ctx t a b o p (inl (op, is)) e f = rw (is, e, f) refl
 pair_type ctx t a b o p (inr (inl is)) e f = rw (is, e, f) refl
 pair_type ctx t a b o p (inr (inr (inl is))) e f = rw (is, e, f) refl
-pair_type ctx t a b o p (inr (inr (inr (inl is)))) e f = rw (is, e, f) refl
-pair_type ctx t a b o p (inr (inr (inr (inr (c, is))))) e f = rw (is, e, f) refl
+pair_type ctx t a b o p (inr (inr (inr is))) e f = rw (is, e, f) refl

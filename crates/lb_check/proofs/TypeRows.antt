@@ -15,7 +15,6 @@ use Rattle.lb_static.specs.declared.resolved.Term.{end_of-Term, more_of-Term, it
 use Rattle.lb_static.specs.declared.resolved.Term.{items_hidden-the_row-Term-0}
 use Rattle.lb_static.specs.DataTypes.{DataType}
 use Rattle.lb_static.specs.TermForms.{IsRow}
-use Rattle.lb_check.specs.Types.{only}
 use Rattle.lb_check.specs.TermTypes.{Context, type_of, types_in, types_of, results, row_results}
 
 pub types_items : (ctx : Context) (n : _) (row : Row_of-Term n) →
@@ -46,29 +45,12 @@ row_in (IterateNode' _ _ _ row) = (_, row)
 row_in (IterateSymbol' _ _ _ _ row) = (_, row)
 row_in _ = (_, end_of-Term)
 
-pub type_array : (ctx : Context) (es : Vec Term Global)
-    → type_of ctx (Array es) ≡ (types_of ctx es.items >>= row_results ctx (Array es) >>= only)
-unfolding type_of results
-type_array ctx es =
-    let row = row_in (Array es) in
-    ap (λ o. o >>= row_results ctx (Array es) >>= only)
-    (types_items ctx row.0 row.1 ∙ ap (types_of ctx) (items_hidden-the_row-Term-0 es))
-
 pub results_array : (ctx : Context) (es : Vec Term Global)
     → results ctx (Array es) ≡ (types_of ctx es.items >>= row_results ctx (Array es))
 unfolding type_of results
 results_array ctx es =
     let row = row_in (Array es) in
     ap (λ o. o >>= row_results ctx (Array es))
-    (types_items ctx row.0 row.1 ∙ ap (types_of ctx) (items_hidden-the_row-Term-0 es))
-
-pub type_at_most_one : (ctx : Context) (es : Vec Term Global)
-    → type_of ctx (AtMostOne es) ≡
-    (types_of ctx es.items >>= row_results ctx (AtMostOne es) >>= only)
-unfolding type_of results
-type_at_most_one ctx es =
-    let row = row_in (AtMostOne es) in
-    ap (λ o. o >>= row_results ctx (AtMostOne es) >>= only)
     (types_items ctx row.0 row.1 ∙ ap (types_of ctx) (items_hidden-the_row-Term-0 es))
 
 pub results_at_most_one : (ctx : Context) (es : Vec Term Global)
@@ -79,14 +61,6 @@ results_at_most_one ctx es =
     ap (λ o. o >>= row_results ctx (AtMostOne es))
     (types_items ctx row.0 row.1 ∙ ap (types_of ctx) (items_hidden-the_row-Term-0 es))
 
-pub type_nor : (ctx : Context) (es : Vec Term Global)
-    → type_of ctx (Nor es) ≡ (types_of ctx es.items >>= row_results ctx (Nor es) >>= only)
-unfolding type_of results
-type_nor ctx es =
-    let row = row_in (Nor es) in
-    ap (λ o. o >>= row_results ctx (Nor es) >>= only)
-    (types_items ctx row.0 row.1 ∙ ap (types_of ctx) (items_hidden-the_row-Term-0 es))
-
 pub results_nor : (ctx : Context) (es : Vec Term Global)
     → results ctx (Nor es) ≡ (types_of ctx es.items >>= row_results ctx (Nor es))
 unfolding type_of results
@@ -95,29 +69,12 @@ results_nor ctx es =
     ap (λ o. o >>= row_results ctx (Nor es))
     (types_items ctx row.0 row.1 ∙ ap (types_of ctx) (items_hidden-the_row-Term-0 es))
 
-pub type_call : (ctx : Context) (c : CallId) (es : Vec Term Global)
-    → type_of ctx (Call c es) ≡ (types_of ctx es.items >>= row_results ctx (Call c es) >>= only)
-unfolding type_of results
-type_call ctx c es =
-    let row = row_in (Call c es) in
-    ap (λ o. o >>= row_results ctx (Call c es) >>= only)
-    (types_items ctx row.0 row.1 ∙ ap (types_of ctx) (items_hidden-the_row-Term-0 es))
-
 pub results_call : (ctx : Context) (c : CallId) (es : Vec Term Global)
     → results ctx (Call c es) ≡ (types_of ctx es.items >>= row_results ctx (Call c es))
 unfolding type_of results
 results_call ctx c es =
     let row = row_in (Call c es) in
     ap (λ o. o >>= row_results ctx (Call c es))
-    (types_items ctx row.0 row.1 ∙ ap (types_of ctx) (items_hidden-the_row-Term-0 es))
-
-pub type_node : (ctx : Context) (it : ArrayIterator) (c : CallId) (es : Vec Term Global)
-    → type_of ctx (IterateNode it c es) ≡
-    (types_of ctx es.items >>= row_results ctx (IterateNode it c es) >>= only)
-unfolding type_of results
-type_node ctx it c es =
-    let row = row_in (IterateNode it c es) in
-    ap (λ o. o >>= row_results ctx (IterateNode it c es) >>= only)
     (types_items ctx row.0 row.1 ∙ ap (types_of ctx) (items_hidden-the_row-Term-0 es))
 
 pub results_node : (ctx : Context) (it : ArrayIterator) (c : CallId) (es : Vec Term Global)
@@ -129,16 +86,6 @@ results_node ctx it c es =
     ap (λ o. o >>= row_results ctx (IterateNode it c es))
     (types_items ctx row.0 row.1 ∙ ap (types_of ctx) (items_hidden-the_row-Term-0 es))
 
-pub type_symbol : (ctx : Context) (it : ArrayIterator) (op : BinaryOperator) (n : StaticId)
-    (es : Vec Term Global)
-    → type_of ctx (IterateSymbol it op n es) ≡
-    (types_of ctx es.items >>= row_results ctx (IterateSymbol it op n es) >>= only)
-unfolding type_of results
-type_symbol ctx it op n es =
-    let row = row_in (IterateSymbol it op n es) in
-    ap (λ o. o >>= row_results ctx (IterateSymbol it op n es) >>= only)
-    (types_items ctx row.0 row.1 ∙ ap (types_of ctx) (items_hidden-the_row-Term-0 es))
-
 pub results_symbol : (ctx : Context) (it : ArrayIterator) (op : BinaryOperator) (n : StaticId)
     (es : Vec Term Global)
     → results ctx (IterateSymbol it op n es) ≡
@@ -148,16 +95,6 @@ results_symbol ctx it op n es =
     let row = row_in (IterateSymbol it op n es) in
     ap (λ o. o >>= row_results ctx (IterateSymbol it op n es))
     (types_items ctx row.0 row.1 ∙ ap (types_of ctx) (items_hidden-the_row-Term-0 es))
-
-pub type_of_row : (ctx : Context) (t : Term) (es : Vec Term Global) → IsRow t es
-    → type_of ctx t ≡ (types_of ctx es.items >>= row_results ctx t >>= only)
-type_of_row ctx t es (inl e) = rw e (type_array ctx es)
-type_of_row ctx t es (inr (inl e)) = rw e (type_at_most_one ctx es)
-type_of_row ctx t es (inr (inr (inl e))) = rw e (type_nor ctx es)
-type_of_row ctx t es (inr (inr (inr (inl (c, e))))) = rw e (type_call ctx c es)
-type_of_row ctx t es (inr (inr (inr (inr (inl (it, c, e)))))) = rw e (type_node ctx it c es)
-type_of_row ctx t es (inr (inr (inr (inr (inr (it, op, n, e)))))) =
-    rw e (type_symbol ctx it op n es)
 
 pub results_of_row : (ctx : Context) (t : Term) (es : Vec Term Global) → IsRow t es
     → results ctx t ≡ (types_of ctx es.items >>= row_results ctx t)

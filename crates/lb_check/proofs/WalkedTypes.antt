@@ -1,56 +1,47 @@
--- What a walk over a term adds, from what it adds for the operands of the term.
+-- What a walk over a term notes, from what it notes for the operands of the term.
 use Rattle.std.proofs.Common.{◌≡◌, inl, inr, ℕ, ◌+◌, ◌-◌, ◌<◌, ◌≤◌, List, [], ◌∷◌, ◌++◌, length}
 use Rattle.std.proofs.Common.{map, drop, get_or, Option, Some, None, Box, Vec, Global, refl, ap}
-use Rattle.std.proofs.Common.{sym, subst, ◌∙◌, Result, IfOk, OnOk}
-use Rattle.std.specs.Prelude.{option_map, reverse}
-use Rattle.std.proofs.lemmas.List.{append_assoc, append-nil, reverse-append}
-use Rattle.std.proofs.lemmas.List.{reverse-reverse}
+use Rattle.std.proofs.Common.{sym, subst, ◌∙◌, arith, Result, IfOk, OnOk}
+use Rattle.std.specs.Prelude.{option_map}
+use Rattle.std.proofs.lemmas.List.{length-drop, length-map}
 use Rattle.lb_syntax.specs.Lists.{◌>>=◌, all_some}
-use Rattle.lb_static.specs.declared.resolved.Term.{Term, Group, If}
+use Rattle.lb_static.specs.declared.resolved.CallId.{CallId}
+use Rattle.lb_static.specs.declared.resolved.Term.{Term, Array, Group, If}
 use Rattle.lb_static.specs.DataTypes.{DataType}
-use Rattle.lb_static.specs.StoredTypes.{view_type, view_types}
+use Rattle.lb_static.specs.StoredTypes.{view_type}
 use Rattle.lb_static.specs.declared.data_type.DataType as stored
-use Rattle.lb_static.specs.TermForms.{IsSingle, IsPair, IsRow}
-use Rattle.lb_static.proofs.Options.{map_reverse}
-use Rattle.lb_check.specs.PlacedTypes.{FoundTypes, IsWalked, IsRowWalked, parts_in, placed_types}
-use Rattle.lb_check.specs.PlacedTypes.{placed_all_types, with_one}
-use Rattle.lb_check.specs.TermTypes.{Context, one_type, results, row_results, type_of, types_of}
+use Rattle.lb_static.specs.TermForms.{IsSingle, IsPair}
+use Rattle.lb_check.specs.PlacedTypes.{FoundTypes, IsWalked, Kept, kept, noted, placed_types}
+use Rattle.lb_check.specs.PlacedTypes.{placed_all_types}
+use Rattle.lb_check.specs.TermSignatures.{Signature, evaluated, given_of, list_of}
+use Rattle.lb_check.specs.TermTypes.{Context, leaf_type, one_type, results, type_of, types_of}
 use Rattle.lb_check.specs.TermTypes.{when_both, when_truth}
-use Rattle.lb_check.specs.Types.{common_type, only, singly}
+use Rattle.lb_check.specs.Types.{common_type, list_type, only, singly}
 use Rattle.lb_check.proofs.BrokenRules.{both_found, if_found}
-use Rattle.lb_check.proofs.OneType.{type_is_only}
-use Rattle.lb_check.proofs.TurnedLists.{all_last, further, more_last, none_last}
-use Rattle.lb_check.proofs.TypeParts.{IsPair as IsWidePair, single_none, single_type}
-use Rattle.lb_check.proofs.TypeRows.{results_of_row}
+use Rattle.lb_check.proofs.OneType.{list_results, list_type_is, type_is_only}
+use Rattle.lb_check.proofs.PartSizes.{kept_both}
+use Rattle.lb_check.proofs.SignatureRows.{list_is}
+use Rattle.lb_check.proofs.TermSignatures.{IsGiven, results_given}
+use Rattle.lb_check.proofs.TurnedLists.{all_last, more_last, none_last}
+use Rattle.lb_check.proofs.TypeParts.{single_none, single_type}
 use Rattle.lb_check.proofs.TypeWalks.{IsLeaf, group_placed, row_placed}
 
--- ## Lists that grow at the end
-
--- the parts of an operand, and then the term
-added :
-    (before mid after whole xs : List FoundTypes) (r : FoundTypes) → mid ≡ before ++ reverse xs →
-    after ≡ mid ++ (r ∷ []) → whole ≡ r ∷ xs → after ≡ before ++ reverse whole
-added before mid after whole xs r m a w =
-    a ∙ ap (λ l. l ++ (r ∷ [])) m ∙ append_assoc before (reverse xs) (r ∷ [])
-    ∙ ap (λ l. before ++ l) (sym (reverse-append (r ∷ []) xs))
-    ∙ ap (λ l. before ++ reverse l) (sym w)
-
--- the parts the other way round
-pub parts_turned :
-    (parts : List (Option (Vec stored.DataType Global))) (xs : List FoundTypes) →
-    parts_in parts ≡ reverse xs → parts_in (reverse parts) ≡ xs
-parts_turned parts xs e =
-    map_reverse (option_map view_types) parts ∙ ap reverse e ∙ reverse-reverse xs
-
--- ## Terms of one result
-
-pub wide_pair : (t : Term) (a b : Box Term Global) → IsPair t a b → IsWidePair t a b
-wide_pair t a b (inl e) = inl e
-wide_pair t a b (inr (inl e)) = inr (inl e)
-wide_pair t a b (inr (inr (inl e))) = inr (inr (inl e))
-wide_pair t a b (inr (inr (inr e))) = inr (inr (inr (inl e)))
+-- some parts, and then those that stand before them
+pub further : (before mid after : Kept) (xs ys : List FoundTypes) → mid ≡ kept before ys →
+    after ≡ kept mid xs → after ≡ kept before (xs ++ ys)
+further before mid after xs ys m a =
+    a ∙ ap (λ k. kept k xs) m ∙ sym (kept_both before xs ys)
 
 module _ (ctx : Context) where
+  -- ## Terms of one result
+
+  pub leaf_is : (t : Term) → IsLeaf t → leaf_type ctx t ≡ type_of ctx t
+  unfolding type_of
+  leaf_is t (inl (n, e)) = rw e refl
+  leaf_is t (inr (inl (b, e))) = rw e refl
+  leaf_is t (inr (inr (inl (i, e)))) = rw e refl
+  leaf_is t (inr (inr (inr (x, e)))) = rw e refl
+
   pub leaf_one : (t : Term) → IsLeaf t → results ctx t ≡ singly (type_of ctx t)
   unfolding results
   leaf_one t (inl (n, e)) = rw e refl
@@ -82,6 +73,10 @@ module _ (ctx : Context) where
   unfolding results
   choice_one t c a b is = rw is refl
 
+  pub list_one : (t : Term) (es : Vec Term Global) → t ≡ Array es →
+      results ctx t ≡ singly (type_of ctx t)
+  list_one t es is = list_results ctx t es is ∙ ap singly (sym (list_type_is ctx t es is))
+
   group_type : (t : Term) (e : Box Term Global) → t ≡ Group e →
       type_of ctx t ≡ type_of ctx e.value
   unfolding type_of
@@ -96,7 +91,7 @@ module _ (ctx : Context) where
       by None h = sym (single_none ctx t e (inr is) h)
       by (Some s) h = single_type ctx t e s (inr is) h
 
-  -- and from those of a condition and two branches
+  -- from those of a condition and two branches
   pub choice_type : (t : Term) (c a b : Box Term Global) → t ≡ If c a b →
       when_truth (type_of ctx c.value)
       (when_both (type_of ctx a.value) (type_of ctx b.value) common_type)
@@ -104,68 +99,63 @@ module _ (ctx : Context) where
   unfolding type_of
   choice_type t c a b is = rw is refl
 
-  -- ## What is added for a term
+  -- and from those of the elements of a list
+  pub list_from : (t : Term) (es : Vec Term Global) → t ≡ Array es →
+      list_of (map (type_of ctx) es.items) ≡ type_of ctx t
+  list_from t es is =
+      sym (list_is (map (type_of ctx) es.items)) ∙ sym (list_type_is ctx t es is)
 
-  module _ (before mid after : List FoundTypes) where
-    pub walked_group : (t : Term) (e : Box Term Global) (own : Option DataType) → t ≡ Group e →
+  -- ## What is noted for a term
+
+  module _ (before mid after : Kept) where
+    walked_group : (t : Term) (e : Box Term Global) (own : Option DataType) → t ≡ Group e →
         IsWalked ctx e.value before after own → IsWalked ctx t before after own
     walked_group t e own is w = (
       w.0 ∙ sym (group_type t e is),
-      w.1 ∙ ap (λ l. before ++ reverse l) (sym (group_placed ctx t e is)),
+      w.1 ∙ ap (kept before) (sym (group_placed ctx t e is)),
     )
 
-    -- a term of one result, after the parts of its operands
-    pub walked_one :
-        (t : Term) (xs : List FoundTypes) (own again : Option DataType) →
-        placed_types ctx t ≡ results ctx t ∷ xs → results ctx t ≡ singly (type_of ctx t) →
-        own ≡ type_of ctx t → again ≡ own → mid ≡ before ++ reverse xs →
-        after ≡ mid ++ (singly own ∷ []) → IsWalked ctx t before after again
-    walked_one t xs own again whole single is same m a = (
-      same ∙ is,
-      added before mid after (placed_types ctx t) xs (results ctx t) m
-          (a ∙ ap (λ r. mid ++ (r ∷ [])) (ap singly is ∙ sym single)) whole,
-    )
+    -- a term, after the parts of its operands
+    noted_after : (t : Term) (xs : List FoundTypes) (r : FoundTypes) →
+        placed_types ctx t ≡ results ctx t ∷ xs → r ≡ results ctx t → mid ≡ kept before xs →
+        after ≡ noted mid r → after ≡ kept before (placed_types ctx t)
+    noted_after t xs r whole is m a =
+        a ∙ ap (λ k. noted k r) m ∙ ap (noted (kept before xs)) is
+        ∙ ap (kept before) (sym whole)
 
-    -- a term with a row of operands, after their parts
-    pub walked_row :
-        (t : Term) (es : Vec Term Global) (row rs : Option (List DataType))
-        (again : Option DataType) → IsRow t es →
-        IsRowWalked ctx es.items before mid row → rs ≡ (row >>= row_results ctx t) →
-        again ≡ (rs >>= only) → after ≡ mid ++ (rs ∷ []) → IsWalked ctx t before after again
-    walked_row t es row rs again is w found one a =
-        let own = results ctx t in
-        let parts = placed_all_types ctx es.items in
-        let same : rs ≡ own =
-        found ∙ ap (λ o. o >>= row_results ctx t) w.0 ∙ sym (results_of_row ctx t es is) in (
-          one ∙ ap (λ r. r >>= only) same ∙ sym (type_is_only ctx t),
-          added before mid after (placed_types ctx t) parts own
-              w.1 (a ∙ ap (λ r. mid ++ (r ∷ [])) same) (row_placed ctx t es is),
-        )
-
-    -- the same, where a call adds the term
+    -- a term of one result, where a call notes it
     pub returns_one :
         {E : Type 0} (r : Result (Option stored.DataType) E)
         (t : Term) (xs : List FoundTypes) (own : Option DataType) →
         placed_types ctx t ≡ results ctx t ∷ xs → results ctx t ≡ singly (type_of ctx t) →
-        own ≡ type_of ctx t → mid ≡ before ++ reverse xs →
-        IfOk r (λ o. option_map view_type o ≡ own) → OnOk r (after ≡ mid ++ (singly own ∷ [])) →
+        own ≡ type_of ctx t → mid ≡ kept before xs →
+        IfOk r (λ o. option_map view_type o ≡ own) → OnOk r (after ≡ noted mid (singly own)) →
         IfOk r (λ o. IsWalked ctx t before after (option_map view_type o))
     returns_one r t xs own whole single is m same a =
-        both_found r (λ o. option_map view_type o ≡ own) (λ o. after ≡ mid ++ (singly own ∷ []))
+        both_found r (λ o. option_map view_type o ≡ own) (λ o. after ≡ noted mid (singly own))
         (λ o. IsWalked ctx t before after (option_map view_type o)) same a
-        (λ o s e. walked_one t xs own (option_map view_type o) whole single is s m e)
+        (λ o s e. (s ∙ is, noted_after t xs (singly own) whole (ap singly is ∙ sym single) m e))
 
-    pub returns_row :
-        {E : Type 0} (r : Result (Option stored.DataType) E)
-        (t : Term) (es : Vec Term Global) (row rs : Option (List DataType)) → IsRow t es →
-        IsRowWalked ctx es.items before mid row → rs ≡ (row >>= row_results ctx t) →
-        IfOk r (λ o. option_map view_type o ≡ (rs >>= only)) →
-        OnOk r (after ≡ mid ++ (rs ∷ [])) →
+    -- a term with a row of operands, a list apart
+    pub returns_given :
+        {E : Type 0} (called : CallId → Signature) (r : Result (Option stored.DataType) E)
+        (t : Term) (es : Vec Term Global) (given : Option (List (Option DataType))) →
+        ((c : CallId) → ctx.call c ≡ evaluated (called c)) → IsGiven t es →
+        given ≡ given_of called ctx t (map (type_of ctx) es.items) →
+        mid ≡ kept before (placed_all_types ctx es.items) →
+        IfOk r (λ o. option_map view_type o ≡ (given >>= all_some >>= only)) →
+        OnOk r (after ≡ noted mid (given >>= all_some)) →
         IfOk r (λ o. IsWalked ctx t before after (option_map view_type o))
-    returns_row r t es row rs is w found one a =
-        both_found r (λ o. option_map view_type o ≡ (rs >>= only)) (λ o. after ≡ mid ++ (rs ∷ []))
+    returns_given called r t es given law is g m one a =
+        let all = given >>= all_some in
+        let same : all ≡ results ctx t =
+        ap (λ o. o >>= all_some) g ∙ sym (results_given called ctx law t es is) in
+        both_found r (λ o. option_map view_type o ≡ (all >>= only)) (λ o. after ≡ noted mid all)
         (λ o. IsWalked ctx t before after (option_map view_type o)) one a
-        (λ o s e. walked_row t es row rs (option_map view_type o) is w found s e)
+        (λ o s e. (
+          s ∙ ap (λ r. r >>= only) same ∙ sym (type_is_only ctx t),
+          noted_after t (placed_all_types ctx es.items) all (row_placed ctx t es (inr is)) same m e,
+        ))
 
     pub returns_group :
         {E : Type 0} (r : Result (Option stored.DataType) E) (t d : Term) (e : Box Term Global) →
@@ -180,51 +170,44 @@ module _ (ctx : Context) where
 
   -- ## Rows
 
-  -- the types of a row, the last one first, with one more
-  longer : (row : Option (List DataType)) (own : Option DataType) (os : List (Option DataType)) →
-      option_map reverse row ≡ all_some os →
-      option_map reverse (with_one row own) ≡ all_some (own ∷ os)
-  longer None None os e = refl
-  longer None (Some t) os e = ap (option_map (λ ts. t ∷ ts)) e
-  longer (Some ts) None os e = refl
-  longer (Some ts) (Some t) os e =
-      ap Some (reverse-append ts (t ∷ [])) ∙ ap (option_map (λ ts. t ∷ ts)) e
+  module _ (all : List Term) where
+    -- the types of the last so many terms
+    abbrev pub later : ℕ → List (Option DataType)
+    later seen = map (type_of ctx) (drop (length all - seen) all)
 
-  module _ (all : List Term) (before : List FoundTypes) where
-    -- the last so many terms are walked
-    abbrev pub AreWalked : ℕ → List FoundTypes → Option (List DataType) → Type 0
-    AreWalked seen now row =
-        IsRowWalked ctx (drop (length all - seen) all) before now (option_map reverse row)
+    pub later_none : later 0 ≡ []
+    later_none = ap (map (type_of ctx)) (none_last all)
 
-    pub row_start : (row : Option (List DataType)) → row ≡ Some [] → AreWalked 0 before row
-    row_start row e =
-        let none = none_last all in (
-          ap (option_map reverse) e ∙ sym (ap (types_of ctx) none),
-          sym (ap (λ es. before ++ reverse (placed_all_types ctx es)) none ∙ append-nil before),
-        )
+    pub later_more : (seen : ℕ) (x : Term) → seen < length all →
+        x ≡ get_or all (length all - 1 - seen) x → later (seen + 1) ≡ type_of ctx x ∷ later seen
+    later_more seen x lt is = ap (map (type_of ctx)) (more_last all seen x lt is)
 
-    pub row_more :
-        (seen : ℕ) (now more : List FoundTypes) (row next : Option (List DataType)) (x : Term)
-        (own : Option DataType) → seen < length all → x ≡ get_or all (length all - 1 - seen) x →
-        AreWalked seen now row → IsWalked ctx x now more own → next ≡ with_one row own →
-        AreWalked (seen + 1) more next
-    row_more seen now more row next x own lt is w e n =
-        let rest = drop (length all - seen) all in
-        let split = more_last all seen x lt is in (
-          ap (option_map reverse) n
-              ∙ longer row own (map (type_of ctx) rest) w.0
-              ∙ ap (λ o. all_some (o ∷ map (type_of ctx) rest)) e.0
-              ∙ sym (ap (types_of ctx) split),
-          further before now more (placed_types ctx x) (placed_all_types ctx rest) w.1 e.1
-              ∙ sym (ap (λ es. before ++ reverse (placed_all_types ctx es)) split),
-        )
+    pub later_all : (seen : ℕ) → length all ≤ seen → later seen ≡ map (type_of ctx) all
+    later_all seen le = ap (map (type_of ctx)) (all_last all seen le)
 
-    pub row_end :
-        (seen : ℕ) (now : List FoundTypes) (row : Option (List DataType))
-        (given : Option (List DataType)) → length all ≤ seen → AreWalked seen now row →
-        given ≡ option_map reverse row → IsRowWalked ctx all before now given
-    row_end seen now row given le w g =
-        let whole = all_last all seen le in (
-          g ∙ w.0 ∙ ap (types_of ctx) whole,
-          w.1 ∙ ap (λ es. before ++ reverse (placed_all_types ctx es)) whole,
-        )
+    pub later_length : (seen : ℕ) → seen ≤ length all → length (later seen) ≡ seen
+    later_length seen le =
+        let kept = length-map (drop (length all - seen) all) (type_of ctx) in
+        let rest = length-drop (length all - seen) all in
+        omega (arith, kept, rest, le)
+
+    -- the parts of the last so many terms are noted
+    module _ (before : Kept) where
+      abbrev pub AreNoted : ℕ → Kept → Type 0
+      AreNoted seen now = now ≡ kept before (placed_all_types ctx (drop (length all - seen) all))
+
+      pub noted_none : AreNoted 0 before
+      noted_none = sym (ap (λ es. kept before (placed_all_types ctx es)) (none_last all))
+
+      pub noted_more : (seen : ℕ) (now more : Kept) (x : Term) → seen < length all →
+          x ≡ get_or all (length all - 1 - seen) x → AreNoted seen now →
+          more ≡ kept now (placed_types ctx x) → AreNoted (seen + 1) more
+      noted_more seen now more x lt is w e =
+          let rest = drop (length all - seen) all in
+          further before now more (placed_types ctx x) (placed_all_types ctx rest) w e
+          ∙ sym (ap (λ es. kept before (placed_all_types ctx es)) (more_last all seen x lt is))
+
+      pub noted_all : (seen : ℕ) (now : Kept) → length all ≤ seen → AreNoted seen now →
+          now ≡ kept before (placed_all_types ctx all)
+      noted_all seen now le w =
+          w ∙ ap (λ es. kept before (placed_all_types ctx es)) (all_last all seen le)

@@ -1,10 +1,10 @@
 -- The types of the results of each part of a term, as a walk over the term finds them, and what is
 -- kept of them.
--- This file mirrors code (src/placed_types.rt, src/found_types.rt); no definition of the language
--- stands on it.
-use Rattle.std.specs.Prelude.{◌≡◌, ℕ, ◌-◌, ◌<◌, ◌≤◌, min, Option, Some, None, option_map, List, Vec}
-use Rattle.std.specs.Prelude.{[], ◌∷◌, ◌++◌, flat_map, length, map, reverse, take, drop, slice_get}
-use Rattle.std.specs.Prelude.{sum_by}
+-- This file mirrors code (src/types.rt, src/part_types.rt, src/placed_types.rt and
+-- src/found_types.rt); no definition of the language stands on it.
+use Rattle.std.specs.Prelude.{◌≡◌, ℕ, ◌-◌, ◌<◌, ◌≤◌, Bool, false, min, nat_eq, Option, Some, None}
+use Rattle.std.specs.Prelude.{List, Vec, [], ◌∷◌, ◌++◌, flat_map, length, map, reverse, take, drop}
+use Rattle.std.specs.Prelude.{slice_get, sum_by, if◌then◌else◌}
 use Rattle.std.specs.Global.{Global}
 use Rattle.lb_syntax.specs.Lists.{either_or, listed}
 use Rattle.lb_syntax.specs.declared.tree.Kind.{Kind}
@@ -12,8 +12,7 @@ use Rattle.lb_static.specs.declared.reach.Reached.{Reached}
 use Rattle.lb_static.specs.declared.table.Specialization.{Specialization}
 use Rattle.lb_static.specs.declared.table.Table.{Table}
 use Rattle.lb_static.specs.DataTypes.{DataType, int, product, total}
-use Rattle.lb_static.specs.StoredTypes.{view_types}
-use Rattle.lb_static.specs.declared.data_type.DataType as stored
+use Rattle.lb_static.specs.StoredTypes.{view_type}
 use Rattle.lb_static.specs.declared.resolved.ResolvedNode.{ResolvedNode}
 use Rattle.lb_static.specs.declared.resolved.ResolvedStatement.{ResolvedStatement}
 use Rattle.lb_static.specs.declared.resolved.ResolvedStatement.TheVariants as statement
@@ -23,10 +22,12 @@ use Rattle.lb_static.specs.declared.resolved.Term.{Current', When', Replicate', 
 use Rattle.lb_static.specs.declared.resolved.Term.{Join', Array', AtMostOne', Nor', Call'}
 use Rattle.lb_static.specs.declared.resolved.Term.{IterateNode', IterateSymbol', Row_of-Term}
 use Rattle.lb_static.specs.declared.resolved.Term.{end_of-Term, more_of-Term}
-use Rattle.lb_check.specs.TermTypes.{Context, context_of, results, type_of, types_of}
+use Rattle.lb_check.specs.TermTypes.{Context, context_of, results, type_of}
 use Rattle.lb_check.specs.Types.{only}
 use Rattle.lb_check.specs.declared.found_types.NodeTypes.{NodeTypes}
 use Rattle.lb_check.specs.declared.found_types.TermType.{TermType}
+use Rattle.lb_check.specs.declared.part_types.PartType.{PartType}
+use Rattle.lb_check.specs.declared.part_types.PartTypes.{PartTypes}
 
 -- what is found of one term: the types of its results, or none where a rule of types is broken
 abbrev pub FoundTypes : Type 0
@@ -94,27 +95,68 @@ specialization_types r t s =
 
 -- ## What a walk over a term finds
 
--- the types of the results of parts, as the walk holds them
-abbrev pub parts_in : List (Option (Vec stored.DataType Global)) → List FoundTypes
-parts_in parts = map (option_map view_types) parts
+-- the one type of a term, or `int`
+abbrev pub type_among : List DataType → DataType
+type_among ts = either_or (only ts) int
 
--- the parts of a term are added against the order of the text, and its type is known
-abbrev pub IsWalked :
-    Context → Term → (before after : List FoundTypes) → Option DataType → Type 0
+-- how many scalar elements a term counts with
+abbrev pub part_size : FoundTypes → ℕ
+part_size o = min (total (either_or o [])) 65537
+
+-- what is kept of a term
+pub record FoundPart : Type 0 where
+  pub data_type : DataType
+  pub elements : ℕ
+
+abbrev pub found_part : FoundTypes → FoundPart
+found_part o = record { data_type = type_among (either_or o []); elements = part_size o }
+
+-- how many scalar elements there may be before they are too many, and what is kept of terms:
+-- nothing where there are too many
+pub record Kept : Type 0 where
+  pub left : ℕ
+  pub found : List FoundPart
+
+abbrev pub part_in : PartType → FoundPart
+part_in p = record { data_type = view_type p.data_type; elements = p.elements }
+
+abbrev pub kept_in : PartTypes → Kept
+kept_in k = record { left = k.left; found = map part_in k.found.items }
+
+-- one more term
+abbrev pub noted_part : Kept → FoundPart → Kept
+noted_part k p = record {
+  left = k.left - p.elements;
+  found = if nat_eq (k.left - p.elements) 0 then [] else (k.found ++ (p ∷ []));
+}
+
+abbrev pub noted : Kept → FoundTypes → Kept
+noted k o = noted_part k (found_part o)
+
+-- more terms, the last one first
+abbrev pub kept : Kept → List FoundTypes → Kept
+kept k [] = k
+kept k (o ∷ os) = noted (kept k os) o
+
+-- a term counts with so many elements, where it is counted
+abbrev pub IsCounted : (left n size : ℕ) → Type 0
+IsCounted left n size = 0 < left → n ≡ size
+
+-- the parts of a term are noted against the order of the text, and its type is known
+abbrev pub IsWalked : Context → Term → (before after : Kept) → Option DataType → Type 0
 IsWalked ctx e before after own =
-    (own ≡ type_of ctx e) × (after ≡ before ++ reverse (placed_types ctx e))
+    (own ≡ type_of ctx e) × (after ≡ kept before (placed_types ctx e))
 
--- and those of terms in a row
+-- those of terms in a row are, and what follows from their types is known
 abbrev pub IsRowWalked :
-    Context → List Term → (before after : List FoundTypes) → Option (List DataType) → Type 0
-IsRowWalked ctx es before after row =
-    (row ≡ types_of ctx es) × (after ≡ before ++ reverse (placed_all_types ctx es))
+    {A : Type 0} → Context → List Term → (before after : Kept) → A →
+    (List (Option DataType) → A) → Type 0
+IsRowWalked ctx es before after given of =
+    (given ≡ of (map (type_of ctx) es)) × (after ≡ kept before (placed_all_types ctx es))
 
--- one more type of a row
-abbrev pub with_one : Option (List DataType) → Option DataType → Option (List DataType)
-with_one None own = None
-with_one (Some row) None = None
-with_one (Some row) (Some own) = Some (row ++ own ∷ [])
+-- the last so many operands of a row are some, do not fit, and no part is kept any more
+abbrev pub IsDecided : (seen : ℕ) (fit : Bool) (left : ℕ) → Type 0
+IsDecided seen fit left = (0 < seen) × (fit ≡ false) × (left ≡ 0)
 
 -- ## What is kept of types
 
@@ -143,9 +185,13 @@ with_row f kind ns n = record {
   sizes = f.sizes ++ ns;
 }
 
--- the one type of a term, or `int`
-abbrev pub type_among : List DataType → DataType
-type_among ts = either_or (only ts) int
+-- one more term, of which this is kept
+abbrev pub with_part : FoundNode → FoundPart → FoundNode
+with_part f p = with_row f p.data_type.kind (reverse p.data_type.sizes) p.elements
+
+abbrev pub with_parts : FoundNode → List FoundPart → FoundNode
+with_parts f [] = f
+with_parts f (p ∷ ps) = with_parts (with_part f p) ps
 
 -- one more term, whose results have these types
 abbrev pub with_types : FoundNode → List DataType → FoundNode
@@ -159,12 +205,10 @@ abbrev pub with_terms : FoundNode → List FoundTypes → FoundNode
 with_terms f [] = f
 with_terms f (o ∷ os) = with_terms (with_term f o) os
 
--- how many scalar elements a term counts with
-abbrev pub part_size : FoundTypes → ℕ
-part_size o = min (total (either_or o [])) 65537
-
-abbrev pub stored_size : Option (Vec stored.DataType Global) → ℕ
-stored_size part = part_size (option_map view_types part)
+-- all that is kept is moved to what is found, in text order
+abbrev pub AreMoved : (before after : Kept) → (found more : FoundNode) → Type 0
+AreMoved before after found more =
+    (after ≡ record before { found = [] }) × (more ≡ with_parts found (reverse before.found))
 
 -- all terms are kept, or they have this many scalar elements or more
 abbrev pub AreNoted : ℕ → List FoundTypes → Option FoundNode → Type 0

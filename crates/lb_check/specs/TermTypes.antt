@@ -170,20 +170,23 @@ unfoldable mutual
   types_in ctx (more_of-Term e rest) =
       type_of ctx e >>= λ t. types_in ctx rest >>= λ ts. Some (t ∷ ts)
 
--- the type of a term whose two operands, or the branches of whose choice, have these types
-abbrev pub two_types : Context → Term → Option DataType → Option DataType → Option DataType
-two_types ctx (Binary' op p a q b) l r = when_both l r (binary_type op)
-two_types ctx (Join' p a q b) l r = when_both l r join_type
-two_types ctx (If' p c q a r b) l s = when_truth (type_of ctx c) (when_both l s common_type)
-two_types ctx e l r = when_both l r common_type
+-- the type of a term without operands
+abbrev pub leaf_type : Context → Term → Option DataType
+leaf_type ctx (Literal n) = constant_type (Some (pos n))
+leaf_type ctx (Truth b) = Some truth
+leaf_type ctx (Variable x) = ctx.variable x
+leaf_type ctx (Value i) = ctx.constant i
+leaf_type ctx t = None
+
+-- the type of a term whose two operands have these types
+abbrev pub two_types : Term → Option DataType → Option DataType → Option DataType
+two_types (Binary' op p a q b) l r = when_both l r (binary_type op)
+two_types (Join' p a q b) l r = when_both l r join_type
+two_types e l r = when_both l r common_type
 
 -- those of a list of terms
 abbrev pub types_of : Context → List Term → Option (List DataType)
 types_of ctx es = all_some (map (type_of ctx) es)
-
--- the types of the results of a term with these operands in a row
-abbrev pub operand_results : Context → Term → List Term → Option (List DataType)
-operand_results ctx e es = types_of ctx es >>= row_results ctx e
 
 -- the types of the results of a right side
 unfoldable pub results : Context → Term → Option (List DataType)

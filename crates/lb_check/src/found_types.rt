@@ -1,10 +1,9 @@
 //! What is found of the terms of a specialization when its types are judged.
 
-ghost use Rattle.std.specs.Prelude.{◌≡◌, map, min, sum_by, OnOk};
-ghost use Rattle.lb_static.specs.StoredTypes.{view_type};
+ghost use Rattle.std.specs.Prelude.{◌≡◌, min, sum_by, OnOk};
 ghost use Rattle.lb_check.specs.PlacedTypes as placed_mirror;
 
-use lb_static::{DataType, element_count, part_of, size_product};
+use lb_static::{part_of, size_product};
 use lb_syntax::Kind;
 use std::alloc::{AllocError, Global};
 
@@ -35,7 +34,12 @@ pub struct NodeTypes {
 
 impl NodeTypes {
     /// Notes the kind of a term, its sizes and how many scalar elements it has.
-    fn note_type(&mut self, kind: Kind, sizes: &[u64], elements: u32) -> Result<(), AllocError>
+    pub(crate) fn note(
+        &mut self,
+        kind: Kind,
+        sizes: &[u64],
+        elements: u32,
+    ) -> Result<(), AllocError>
         ensures { OnOk result (placed_mirror.found_in self.new
             ≡ placed_mirror.with_row (placed_mirror.found_in self.old) kind sizes.now elements) }
     {
@@ -47,20 +51,6 @@ impl NodeTypes {
         })?;
         self.sizes.extend_from_slice(sizes)?;
         Ok(())
-    }
-
-    /// Notes a term whose results have these types.
-    pub(crate) fn note(&mut self, types: &[DataType]) -> Result<(), AllocError>
-        ensures { OnOk result (placed_mirror.found_in self.new
-            ≡ placed_mirror.with_types (placed_mirror.found_in self.old)
-            (map view_type types.now)) }
-    {
-        let elements = element_count(types);
-        match types {
-            [] => self.note_type(Kind::Int, &[], elements),
-            [only] => self.note_type(only.kind, &only.sizes, elements),
-            _ => self.note_type(Kind::Int, &[], elements),
-        }
     }
 
     /// How many scalar elements all terms have together, or 65,537 for more than 65,536.

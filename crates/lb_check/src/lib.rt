@@ -4,7 +4,6 @@
 mod array_types;
 mod call_clock;
 mod call_reason;
-mod call_types;
 mod cause;
 mod checked;
 mod checker;
@@ -24,9 +23,11 @@ mod given_variables;
 mod operand_types;
 mod own_clock;
 mod part;
+mod part_types;
 mod placed_clock;
 mod placed_types;
 mod shared;
+mod signature;
 mod sites;
 mod term_clock;
 mod type_cause;
@@ -38,7 +39,6 @@ mod types;
 mod used_nodes;
 mod verdict;
 mod walked_clocks;
-mod walked_types;
 
 pub use checked::Checked;
 pub use checker::check;

@@ -1,15 +1,13 @@
 //! The types of what operators give.
 
-ghost use Rattle.std.specs.Prelude.{◌≡◌, pos, Some, map, option_map, IfOk};
+ghost use Rattle.std.specs.Prelude.{◌≡◌, pos, Some, option_map, IfOk};
 ghost use Rattle.lb_syntax.specs.Lists as lists;
-ghost use Rattle.lb_static.specs.DataTypes.{is_type, truth};
-ghost use Rattle.lb_static.specs.StoredTypes.{view_type, view_types};
-ghost use Rattle.lb_check.specs.StoredTypes.{call_types_in};
+ghost use Rattle.lb_static.specs.StoredTypes.{view_type};
+ghost use Rattle.lb_check.specs.TermSignatures as signatures;
 ghost use Rattle.lb_check.specs.TermTypes as mirror;
 ghost use Rattle.lb_check.specs.Types as types;
 
 use crate::array_types;
-use crate::call_types::CallTypes;
 use lb_static::DataType;
 use lb_syntax::{BinaryOperator, Kind, UnaryOperator};
 use std::alloc::{AllocError, Global};
@@ -144,17 +142,6 @@ pub fn joined(
     }
 }
 
-/// Whether there is a type, a scalar `bool`.
-#[tactic(auto, using(crate::proofs::TruthTypes::truth_either))]
-pub fn is_given_truth(data_type: Option<DataType>) -> bool
-    ensures { result ≡ lists.holds (is_type truth) (option_map view_type data_type) }
-{
-    match data_type {
-        Some(data_type) => data_type.is_truth(),
-        None => false,
-    }
-}
-
 /// What is given under a condition, if that is a truth.
 #[inline(always)]
 pub fn when_truth(condition: Option<DataType>, given: Option<DataType>) -> Option<DataType>
@@ -164,44 +151,13 @@ pub fn when_truth(condition: Option<DataType>, given: Option<DataType>) -> Optio
     if condition?.is_truth() { given } else { None }
 }
 
-/// The types of what an iterated data operator takes and gives.
-pub fn symbol_types(alloc: Global, op: BinaryOperator) -> Result<Option<CallTypes>, AllocError>
-    ensures { IfOk result (λ o. option_map call_types_in o ≡ types.symbol_types op) }
+/// Whether there are two types, and they are one.
+pub fn are_one(left: &Option<DataType>, right: &Option<DataType>) -> bool
+    ensures { result ≡ signatures.are_one (option_map view_type left.now)
+        (option_map view_type right.now) }
 {
-    let kind = match op {
-        BinaryOperator::Plus
-        | BinaryOperator::Minus
-        | BinaryOperator::Times
-        | BinaryOperator::Divide
-        | BinaryOperator::Modulo => Kind::Int,
-        BinaryOperator::Or | BinaryOperator::Xor | BinaryOperator::And | BinaryOperator::Implies =>
-            Kind::Bool,
-        _ => return Ok(None),
-    };
-    let mut inputs = Vec::new(alloc);
-    inputs.push(DataType::scalar(alloc, kind))?;
-    inputs.push(DataType::scalar(alloc, kind))?;
-    let mut outputs = Vec::new(alloc);
-    outputs.push(DataType::scalar(alloc, kind))?;
-    Ok(Some(CallTypes { inputs, outputs }))
-}
-
-/// One type.
-pub fn one(alloc: Global, data_type: DataType) -> Result<Option<Vec<DataType>>, AllocError>
-    ensures { IfOk result (λ o.
-        option_map view_types o ≡ types.singly (option_map view_type (Some data_type))) }
-{
-    let mut results = Vec::new(alloc);
-    results.push(data_type)?;
-    Ok(Some(results))
-}
-
-/// The type, where there is one and no more.
-pub fn only(results: Option<Vec<DataType>>) -> Option<DataType>
-    ensures { option_map view_type result
-        ≡ lists.◌>>=◌ (option_map view_types results) types.only }
-{
-    let mut all = results?;
-    let last = all.pop()?;
-    if all.is_empty() { Some(last) } else { None }
+    match (left, right) {
+        (Some(left), Some(right)) => left.equals(right),
+        _ => false,
+    }
 }

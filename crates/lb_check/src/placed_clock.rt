@@ -378,8 +378,9 @@ fn place_call(
     placed: &mut NodeClocks,
 ) -> Result<(), AllocError>
     ensures { known.now ≡ mirror.operands_of (context_in env.now) terms.now
-        ++ known_among (context_in env.now) terms.now → OnOk result (placed_mirror.found_in placed.new
-        ≡ placed_mirror.with_terms (placed_mirror.found_in placed.old)
+        ++ known_among (context_in env.now) terms.now →
+        OnOk result (placed_mirror.found_in placed.new ≡ placed_mirror.with_terms
+        (placed_mirror.found_in placed.old)
         (placed_mirror.placed_call (context_in env.now) lefts.now call
         (mirror.operands_of (context_in env.now) terms.now) terms.now)) }
 {
@@ -400,8 +401,9 @@ fn place_whole(
     known: &[Operand],
     placed: &mut NodeClocks,
 ) -> Result<(), AllocError>
-    ensures { known.now ≡ known_operands (context_in env.now) term.now → OnOk result (placed_mirror.found_in placed.new
-        ≡ placed_mirror.with_terms (placed_mirror.found_in placed.old)
+    ensures { known.now ≡ known_operands (context_in env.now) term.now →
+        OnOk result (placed_mirror.found_in placed.new ≡ placed_mirror.with_terms
+        (placed_mirror.found_in placed.old)
         (placed_mirror.placed_terms (context_in env.now) clock term.now)) }
 {
     place(alloc, env, clock, term, known, placed)?;
@@ -409,7 +411,7 @@ fn place_whole(
 }
 
 /// Notes the clocks of the right side of an equation.
-#[tactic(auto, using(crate::proofs::WalkedClocks::group_known), unfolding(crate::specs::PlacedClocks::placed_side))]
+#[tactic(auto, unfolding(crate::specs::PlacedClocks::placed_side))]
 fn place_side(
     alloc: Global,
     env: &ClockEnv,
@@ -418,8 +420,9 @@ fn place_side(
     known: &[Operand],
     placed: &mut NodeClocks,
 ) -> Result<(), AllocError>
-    ensures { known.now ≡ known_operands (context_in env.now) right.now → OnOk result (placed_mirror.found_in placed.new
-        ≡ placed_mirror.with_terms (placed_mirror.found_in placed.old)
+    ensures { known.now ≡ known_operands (context_in env.now) right.now →
+        OnOk result (placed_mirror.found_in placed.new ≡ placed_mirror.with_terms
+        (placed_mirror.found_in placed.old)
         (placed_mirror.placed_side (context_in env.now) lefts.now right.now)) }
 {
     match right {

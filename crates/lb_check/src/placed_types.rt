@@ -1,91 +1,45 @@
 //! The types of the terms of each specialization, for the layer above.
 
-ghost use Rattle.std.specs.Prelude.{◌≡◌, ◌≤◌, min, option_map, sum_by, IfOk, OnOk};
-ghost use Rattle.lb_static.specs.StoredTypes.{view_types};
+ghost use Rattle.std.specs.Prelude.{◌≡◌, ◌≤◌, option_map, IfOk, OnOk};
 ghost use Rattle.lb_check.specs.PlacedTypes as placed_mirror;
 ghost use Rattle.lb_check.specs.StoredTypes.{context_in};
 
 use crate::found_types::NodeTypes;
+use crate::part_types::PartTypes;
 use crate::type_env::TypeEnv;
-use crate::walked_types::walk;
-use lb_static::{DataType, Reached, ResolvedStatement, Specialization, Table, Term, element_count};
+use crate::types::walk;
+use lb_static::{Reached, ResolvedStatement, Specialization, Table};
 use std::alloc::{AllocError, Global};
 
 /// The greatest size of a program.
 const MOST: u32 = 65536;
 
-/// Notes what is found of a part of a term.
-fn note_part(part: &Option<Vec<DataType>>, found: &mut NodeTypes) -> Result<(), AllocError>
-    ensures { OnOk result (placed_mirror.found_in found.new
-        ≡ placed_mirror.with_term (placed_mirror.found_in found.old)
-        (option_map view_types part.now)) }
-{
-    match part {
-        Some(types) => found.note(types),
-        None => found.note(&[]),
-    }
-}
-
-/// Notes what is found of the parts of a term.
-fn note_all(parts: &[Option<Vec<DataType>>], found: &mut NodeTypes) -> Result<(), AllocError>
-    ensures { OnOk result (placed_mirror.found_in found.new
-        ≡ placed_mirror.with_terms (placed_mirror.found_in found.old)
-        (placed_mirror.parts_in parts.now)) }
-{
-    for part in parts {
-        note_part(part, found)?;
-    }
-    Ok(())
-}
-
-/// The types of the results of the parts of a term, in text order.
-#[tactic(auto, using(crate::proofs::WalkedTypes::parts_turned))]
-fn parts_of(
-    alloc: Global,
-    env: &TypeEnv,
-    term: &Term,
-) -> Result<Vec<Option<Vec<DataType>>>, AllocError>
-    ensures { IfOk result (λ parts. placed_mirror.parts_in parts.items
-        ≡ placed_mirror.placed_types (context_in env.now) term.now) }
-{
-    let mut parts = Vec::new(alloc);
-    walk(alloc, env, term, &mut parts)?;
-    parts.reverse();
-    Ok(parts)
-}
-
-/// How many scalar elements the results of a part have, or 65,537 for more than 65,536.
-fn part_size(part: &Option<Vec<DataType>>) -> u32
-    ensures { result ≡ placed_mirror.stored_size part.now }
-{
-    match part {
-        Some(types) => element_count(types),
-        None => 0,
-    }
-}
-
-/// How many scalar elements some parts have together, or 65,537 for more than 65,536.
-fn parts_size(parts: &[Option<Vec<DataType>>]) -> u32
-    ensures { result ≡ min (sum_by placed_mirror.stored_size parts.now) 65537 }
-{
-    let mut left = MOST + 1;
-    for part in parts {
-        left = left.saturating_sub(part_size(part));
-    }
-    MOST + 1 - left
-}
-
-/// The types of the results of the parts of a statement, in text order.
-fn statement_parts(
+/// Notes the parts of a statement against the order of the text.
+fn walk_statement(
     alloc: Global,
     env: &TypeEnv,
     statement: &ResolvedStatement,
-) -> Result<Vec<Option<Vec<DataType>>>, AllocError>
-    ensures { IfOk result (λ parts. placed_mirror.parts_in parts.items
-        ≡ placed_mirror.statement_types (context_in env.now) statement.now) }
+    parts: &mut PartTypes,
+) -> Result<(), AllocError>
+    ensures { OnOk result (placed_mirror.kept_in parts.new
+        ≡ placed_mirror.kept (placed_mirror.kept_in parts.old)
+        (placed_mirror.statement_types (context_in env.now) statement.now)) }
 {
     let (ResolvedStatement::Equation(_, term) | ResolvedStatement::Assertion(term)) = statement;
-    parts_of(alloc, env, term)
+    walk(alloc, env, term, parts)?;
+    Ok(())
+}
+
+/// Moves all parts to what is found of a specialization, in text order.
+fn move_all(parts: &mut PartTypes, found: &mut NodeTypes) -> Result<(), AllocError>
+    ensures { OnOk result (placed_mirror.AreMoved (placed_mirror.kept_in parts.old)
+        (placed_mirror.kept_in parts.new) (placed_mirror.found_in found.old)
+        (placed_mirror.found_in found.new)) }
+{
+    while let Some(part) = parts.found.pop() {
+        found.note(part.data_type.kind, &part.data_type.sizes, part.elements)?;
+    }
+    Ok(())
 }
 
 /// What is found of the terms of a specialization, or nothing where they have this many scalar
@@ -100,14 +54,16 @@ fn node_types(alloc: Global, env: &TypeEnv, many: u32) -> Result<Option<NodeType
         terms: Vec::new(alloc),
         sizes: Vec::new(alloc),
     };
-    let mut left = many;
+    let mut parts = PartTypes {
+        left: many,
+        found: Vec::new(alloc),
+    };
     for statement in &env.node.body {
-        let parts = statement_parts(alloc, env, statement)?;
-        left = left.saturating_sub(parts_size(&parts));
-        if left == 0 {
+        walk_statement(alloc, env, statement, &mut parts)?;
+        if parts.left == 0 {
             return Ok(None);
         }
-        note_all(&parts, &mut found)?;
+        move_all(&mut parts, &mut found)?;
     }
     Ok(Some(found))
 }

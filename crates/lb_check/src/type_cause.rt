@@ -7,14 +7,17 @@ ghost use Rattle.lb_syntax.specs.Lists.{listed};
 ghost use Rattle.lb_static.specs.ReachedNodes.{tree_at};
 
 use crate::cause::{clock_offset, name_of, part_offset, path_to_specialization};
-use crate::operand_types::{common_type, only, when_truth};
+use crate::operand_types::{common_type, when_truth};
 use crate::part::Part;
+use crate::signature::{array_type, only_given, signature_of};
 use crate::sites::{Site, left_offset, operand_at, right_side, ungrouped};
 use crate::type_env::TypeEnv;
 use crate::type_fault::{TypeFault, TypeRule};
 use crate::type_reason::{TypeReason, all_shown, copy_shown, scalar, shown, type_reason};
 use crate::type_rules::IllTyped;
-use crate::types::{MOST_ELEMENTS, one_type, results, row_results, two_types, type_of};
+use crate::types::{
+    fits_too, given_where, has_arity, like_later, one_type, results, two_types, type_of,
+};
 use lb_static::{DataType, Reached, ResolvedStatement, Table, Term, VariableId};
 use lb_syntax::{Expr, Kind, Statement};
 use std::alloc::{AllocError, Global};
@@ -28,13 +31,6 @@ enum Typing<'t> {
     Untyped(Site<'t>),
 }
 
-/// What is found of terms in a row.
-#[derive(Drop)]
-enum RowTyping<'t> {
-    Typed(Vec<DataType>),
-    Untyped(Site<'t>),
-}
-
 /// What is found of a term of which each operand has a type.
 fn own_typing<'t>(data_type: Option<DataType>, site: Site<'t>) -> Typing<'t> {
     match data_type {
@@ -43,62 +39,45 @@ fn own_typing<'t>(data_type: Option<DataType>, site: Site<'t>) -> Typing<'t> {
     }
 }
 
-/// What is found of some terms, which stand in a row in an expression.
+/// What is found of a term with these operands in a row, a list apart.
 #[cycle(typings)]
 fn typed_row<'t>(
     alloc: Global,
     env: &TypeEnv,
+    site: Site<'t>,
     terms: &'t [Term],
-    expr: &'t Expr,
-) -> Result<RowTyping<'t>, AllocError> {
-    let mut types = Vec::new(alloc);
+) -> Result<Typing<'t>, AllocError> {
+    let signature = signature_of(alloc, env, site.term, terms.len())?;
+    let mut fits = has_arity(&signature, terms.len());
     for (place, term) in terms.iter().enumerate() {
-        match typed_term(alloc, env, term, operand_at(expr, place))? {
-            Typing::Typed(data_type) => types.push(data_type)?,
-            Typing::Untyped(site) => return Ok(RowTyping::Untyped(site)),
+        match typed_term(alloc, env, term, operand_at(site.expr, place))? {
+            Typing::Typed(data_type) => {
+                fits = fits_too(alloc, fits, &signature.takes, place, &Some(data_type))?;
+            }
+            untyped => return Ok(untyped),
         }
     }
-    Ok(RowTyping::Typed(types))
+    let own = only_given(alloc, &given_where(fits, signature.gives))?;
+    Ok(own_typing(own, site))
 }
 
-/// What is found of an operator on truths.
+/// What is found of a list of these elements.
 #[cycle(typings)]
-fn typed_truths<'t>(
+fn typed_list<'t>(
     alloc: Global,
     env: &TypeEnv,
     site: Site<'t>,
     terms: &'t [Term],
 ) -> Result<Typing<'t>, AllocError> {
-    let mut are_truths = true;
+    let mut element = None;
     for (place, term) in terms.iter().enumerate() {
         match typed_term(alloc, env, term, operand_at(site.expr, place))? {
-            Typing::Typed(data_type) => are_truths = are_truths && data_type.is_truth(),
+            Typing::Typed(data_type) => element = like_later(place, Some(data_type), element),
             untyped => return Ok(untyped),
         }
     }
-    let data_type = if are_truths {
-        Some(DataType::scalar(alloc, Kind::Bool))
-    } else {
-        None
-    };
-    Ok(own_typing(data_type, site))
-}
-
-/// What is found of a list that is too long: no type is kept.
-#[cycle(typings)]
-fn long_list<'t>(
-    alloc: Global,
-    env: &TypeEnv,
-    site: Site<'t>,
-    terms: &'t [Term],
-) -> Result<Typing<'t>, AllocError> {
-    for (place, term) in terms.iter().enumerate() {
-        match typed_term(alloc, env, term, operand_at(site.expr, place))? {
-            Typing::Typed(_) => {}
-            untyped => return Ok(untyped),
-        }
-    }
-    Ok(Typing::Untyped(site))
+    let own = array_type(terms.len() as u64, element)?;
+    Ok(own_typing(own, site))
 }
 
 /// What is found of a term with two operands, of which this is found.
@@ -111,7 +90,7 @@ fn pair_typing<'t>(
 ) -> Result<Typing<'t>, AllocError> {
     match (left, right) {
         (Typing::Typed(left), Typing::Typed(right)) => {
-            let own = two_types(alloc, env, site.term, Some(left), Some(right))?;
+            let own = two_types(alloc, site.term, Some(left), Some(right))?;
             Ok(own_typing(own, site))
         }
         (Typing::Untyped(inner), _) => Ok(Typing::Untyped(inner)),
@@ -172,17 +151,12 @@ fn typed_term<'t>(
             let right = typed_term(alloc, env, b, operand_at(expr, 2))?;
             Ok(choice_typing(site, condition, left, right))
         }
-        Term::AtMostOne(terms) | Term::Nor(terms) => typed_truths(alloc, env, site, terms),
-        Term::Array(terms) if MOST_ELEMENTS < terms.len() => long_list(alloc, env, site, terms),
-        Term::Array(terms)
+        Term::Array(terms) => typed_list(alloc, env, site, terms),
+        Term::AtMostOne(terms)
+        | Term::Nor(terms)
         | Term::Call(_, terms)
         | Term::IterateNode(_, _, terms)
-        | Term::IterateSymbol(_, _, _, terms) => match typed_row(alloc, env, terms, expr)? {
-            RowTyping::Typed(types) => {
-                Ok(own_typing(only(row_results(alloc, env, term, &types)?), site))
-            }
-            RowTyping::Untyped(site) => Ok(Typing::Untyped(site)),
-        },
+        | Term::IterateSymbol(_, _, _, terms) => typed_row(alloc, env, site, terms),
     }
 }
 

@@ -2,14 +2,13 @@
 
 ghost use Rattle.std.specs.Prelude.{◌≡◌, option_map, IfOk};
 ghost use Rattle.lb_static.specs.StoredTypes.{view_type};
-ghost use Rattle.lb_check.specs.StoredTypes.{call_types_in, context_in};
+ghost use Rattle.lb_check.specs.StoredTypes.{context_in};
 ghost use Rattle.lb_check.specs.TermTypes as mirror;
 
-use crate::call_types::CallTypes;
 use crate::operand_types::constant_type;
 use lb_static::{
     CallId, CallSite, DataType, Reached, ResolvedNode, Specialization, StaticId, StaticInt, Table,
-    VariableId, data_types, part_of,
+    VariableId,
 };
 use std::alloc::{AllocError, Global};
 
@@ -43,41 +42,6 @@ fn repeats_of(statics: &[StaticInt], site: CallSite) -> Option<u64>
     match site.count {
         Some(i) => count_at(statics, i),
         None => Some(0),
-    }
-}
-
-/// The types of the inputs and of the outputs of a node under these static values.
-fn call_types_of(
-    alloc: Global,
-    statics: &[StaticInt],
-    node: &ResolvedNode,
-) -> Result<Option<CallTypes>, AllocError>
-    ensures { IfOk result (λ o.
-        option_map call_types_in o ≡ mirror.call_types_of statics.now node.now) }
-{
-    let inputs = part_of(&node.variables, 0, node.inputs);
-    let Some(inputs) = data_types(alloc, inputs, statics)? else {
-        return Ok(None);
-    };
-    let outputs = part_of(&node.variables, node.inputs, node.outputs);
-    let Some(outputs) = data_types(alloc, outputs, statics)? else {
-        return Ok(None);
-    };
-    Ok(Some(CallTypes { inputs, outputs }))
-}
-
-/// The types of the inputs and of the outputs of a specialization.
-fn callee_types(
-    alloc: Global,
-    reached: &Reached,
-    callee: &Specialization,
-) -> Result<Option<CallTypes>, AllocError>
-    ensures { IfOk result (λ o.
-        option_map call_types_in o ≡ mirror.callee_types reached.now callee.now) }
-{
-    match reached.nodes.get(callee.node.0) {
-        Some(node) => call_types_of(alloc, &callee.statics, node),
-        None => Ok(None),
     }
 }
 
@@ -117,17 +81,5 @@ impl TypeEnv<'_, '_> {
     {
         let site = *self.node.calls.get(c.0)?;
         repeats_of(&self.specialization.statics, site)
-    }
-
-    /// The types of the inputs and of the outputs of what is called.
-    #[tactic(auto, unfolding(crate::specs::TermTypes::context_of))]
-    pub fn call(&self, alloc: Global, c: CallId) -> Result<Option<CallTypes>, AllocError>
-        ensures { IfOk result (λ o.
-            option_map call_types_in o ≡ (context_in self.now).call c) }
-    {
-        match self.table.called(self.specialization, c) {
-            Some(callee) => callee_types(alloc, self.reached, callee),
-            None => Ok(None),
-        }
     }
 }

@@ -10,57 +10,61 @@ ghost use Rattle.lb_check.specs.BrokenRules.{IsBroken};
 ghost use Rattle.lb_check.specs.FoundParts.{IsIllTypedAt, IsTypedPart};
 ghost use Rattle.lb_check.specs.JudgedPrograms.{IsJudged};
 ghost use Rattle.lb_check.specs.TypeRules.{is_typed};
-ghost use Rattle.lb_static.specs.StoredTypes.{view_types};
+ghost use Rattle.lb_static.specs.StoredTypes.{view_type};
 ghost use Rattle.lb_check.specs.SharedTypes.{AreJudgedParts, AreSettled};
 ghost use Rattle.lb_check.specs.StoredTypes.{context_in};
+ghost use Rattle.lb_check.specs.TermSignatures.{are_met, row_in};
 ghost use Rattle.lb_check.specs.TermTypes as mirror;
+ghost use Rattle.lb_check.specs.Types.{singly};
 
+use crate::operand_types::are_one;
 use crate::part::Part;
 use crate::shared::{SharedPart, settled_statements, shared_parts};
+use crate::signature::{TypeRow, is_wanted};
 use crate::type_env::TypeEnv;
-use crate::types::{results, type_of};
+use crate::types::{SideTypes, side_types, type_of};
 use lb_static::{
-    DataType, NodeId, Reached, ResolvedStatement, Specialization, Table, Term, Variable,
-    VariableId, are_same,
+    DataType, NodeId, Reached, ResolvedStatement, Specialization, Table, Term, Variable, VariableId,
 };
 use std::alloc::{AllocError, Global};
 
-/// The types of variables.
-fn left_types(
+/// Whether variables have the types that are given. Those of both are made one at a time.
+fn have_types(
     alloc: Global,
     env: &TypeEnv,
-    lefts: &[VariableId],
-) -> Result<Option<Vec<DataType>>, AllocError>
-    ensures { IfOk result (λ o.
-        option_map view_types o ≡ mirror.left_types (context_in env.now) lefts.now) }
+    variables: &[VariableId],
+    given: &TypeRow,
+) -> Result<bool, AllocError>
+    ensures { IfOk result (λ same. same ≡ are_met (row_in given.now)
+        (map (context_in env.now).variable variables.now)) }
 {
-    let mut types = Vec::new(alloc);
-    for left in lefts {
-        match env.variable(alloc, *left)? {
-            Some(data_type) => types.push(data_type)?,
-            None => return Ok(None),
+    if variables.len() != given.len() {
+        return Ok(false);
+    }
+    for (i, variable) in variables.iter().enumerate() {
+        let declared = env.variable(alloc, *variable)?;
+        if !is_wanted(alloc, given, i, &declared)? {
+            return Ok(false);
         }
     }
-    Ok(Some(types))
+    Ok(true)
 }
 
-/// Whether the left variable of an equation has the type of its right side.
-fn is_variable_equal(
+/// Whether there is one variable, of this type.
+fn has_type(
     alloc: Global,
     env: &TypeEnv,
-    left: VariableId,
-    right: &Term,
+    variables: &[VariableId],
+    given: &Option<DataType>,
 ) -> Result<bool, AllocError>
-    ensures { IfOk result (λ kept. kept
-        ≡ mirror.is_equation_typed (context_in env.now) (left ∷ []) right.now) }
+    ensures { IfOk result (λ same. same ≡ mirror.are_equal (singly (option_map view_type given.now))
+        (mirror.left_types (context_in env.now) variables.now)) }
 {
-    match type_of(alloc, env, right)? {
-        Some(given) => match env.variable(alloc, left)? {
-            Some(declared) => Ok(given.equals(&declared)),
-            None => Ok(false),
-        },
-        None => Ok(false),
+    if variables.len() != 1 {
+        return Ok(false);
     }
+    let declared = env.variable(alloc, variables[0])?;
+    Ok(are_one(given, &declared))
 }
 
 /// Whether the left variables of an equation have the types of the results of its right side.
@@ -73,15 +77,10 @@ fn is_equation_typed(
     ensures { IfOk result (λ kept. kept
         ≡ mirror.is_equation_typed (context_in env.now) lefts.now right.now) }
 {
-    if let [left] = lefts {
-        return is_variable_equal(alloc, env, *left, right);
-    }
-    let Some(rights) = results(alloc, env, right)? else {
-        return Ok(false);
-    };
-    match left_types(alloc, env, lefts)? {
-        Some(lefts) => Ok(are_same(&rights, &lefts)),
-        None => Ok(false),
+    match side_types(alloc, env, right)? {
+        SideTypes::Single(given) => has_type(alloc, env, lefts, &given),
+        SideTypes::Several(Some(given)) => have_types(alloc, env, lefts, &given),
+        SideTypes::Several(None) => Ok(false),
     }
 }
 
@@ -89,8 +88,8 @@ fn is_equation_typed(
 fn is_one_truth(alloc: Global, env: &TypeEnv, term: &Term) -> Result<bool, AllocError>
     ensures { IfOk result (λ kept. kept ≡ mirror.is_one_truth (context_in env.now) term.now) }
 {
-    match results(alloc, env, term)? {
-        Some(types) => Ok(lb_static::is_one_truth(&types)),
+    match type_of(alloc, env, term)? {
+        Some(data_type) => Ok(data_type.is_truth()),
         None => Ok(false),
     }
 }

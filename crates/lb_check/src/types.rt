@@ -1,150 +1,41 @@
-//! The types of terms (E9).
-//!
-//! What `type_of` calls is inlined, so that a level of nesting has one frame on the stack.
+//! The types of terms (E9), each found once from those of its operands.
 
-ghost use Rattle.std.specs.Prelude.{◌≡◌, ◌∷◌, [], map, option_map, IfOk};
-ghost use Rattle.std.specs.List.{list_all};
+ghost use Rattle.std.specs.Prelude.{◌≡◌, ◌↔◌, ◌&&◌, map, option_map};
+ghost use Rattle.std.specs.Prelude.{IfOk, IsTrue, OnOk};
 ghost use Rattle.lb_syntax.specs.Lists as lists;
-ghost use Rattle.lb_static.specs.DataTypes.{is_type, truth};
-ghost use Rattle.lb_static.specs.StoredTypes.{view_type, view_types};
+ghost use Rattle.lb_static.specs.StoredTypes.{view_type};
+ghost use Rattle.lb_check.specs.PlacedTypes as placed_mirror;
 ghost use Rattle.lb_check.specs.StoredTypes.{context_in};
+ghost use Rattle.lb_check.specs.TermSignatures as signatures;
 ghost use Rattle.lb_check.specs.TermTypes as mirror;
-ghost use Rattle.lb_check.specs.TruthTerms.{is_truth_in};
-ghost use Rattle.lb_check.specs.Types.{list_type, singly};
+ghost use Rattle.lb_check.specs.Types as types;
 
-use crate::array_types::{element_type, iterator_types, list_type, part_type, replicate_type};
+use crate::array_types::{element_type, is_array, part_type, replicate_type};
 use crate::operand_types::{
-    common_type, is_given_truth, joined, literal_type, of_operands, one, only, symbol_types,
-    unary_type, when_truth,
+    common_type, joined, literal_type, of_operands, unary_type, when_truth,
 };
+use crate::part_types::PartTypes;
+use crate::signature::{Signature, TypeRow, array_type, is_wanted, signature_of};
 use crate::type_env::TypeEnv;
-use lb_static::{CallId, DataType, Term, are_same};
-use lb_syntax::{ArrayIterator, BinaryOperator, Kind};
+use lb_static::{DataType, Term};
+use lb_syntax::Kind;
 use std::alloc::{AllocError, Global};
 
-/// The most elements of a list.
-pub const MOST_ELEMENTS: usize = 4096;
-
-/// The type of an array of operands of these types, as what a row gives.
-fn list_results(alloc: Global, types: &[DataType]) -> Result<Option<Vec<DataType>>, AllocError>
+/// The type of a term without operands.
+fn leaf_type(alloc: Global, env: &TypeEnv, term: &Term) -> Result<Option<DataType>, AllocError>
     ensures { IfOk result (λ o.
-        option_map view_types o ≡ singly (list_type (map view_type types.now))) }
-{
-    match list_type(types)? {
-        Some(data_type) => one(alloc, data_type),
-        None => Ok(None),
-    }
-}
-
-/// Whether each of some types is `bool`.
-#[tactic(auto, using(crate::proofs::TypeLists::are_next))]
-fn all_truths(all: &[DataType]) -> bool
-    ensures { result ≡ list_all (is_type truth) (map view_type all.now) }
-{
-    for one in all {
-        if !one.is_truth() {
-            return false;
-        }
-    }
-    true
-}
-
-/// The type of an operator on truths, where its operands are truths.
-fn truth_results(alloc: Global, types: &[DataType]) -> Result<Option<Vec<DataType>>, AllocError>
-    ensures { IfOk result (λ o.
-        option_map view_types o ≡ mirror.truth_results (map view_type types.now)) }
-{
-    if all_truths(types) {
-        one(alloc, DataType::scalar(alloc, Kind::Bool))
-    } else {
-        Ok(None)
-    }
-}
-
-/// The types of the results of a call, where its operands have the types of the inputs.
-fn call_results(
-    alloc: Global,
-    env: &TypeEnv,
-    call: CallId,
-    types: &[DataType],
-) -> Result<Option<Vec<DataType>>, AllocError>
-    ensures { IfOk result (λ o. option_map view_types o
-        ≡ mirror.call_results (context_in env.now) call (map view_type types.now)) }
-{
-    match env.call(alloc, call)? {
-        Some(callee) if are_same(&callee.inputs, types) => Ok(Some(callee.outputs)),
-        _ => Ok(None),
-    }
-}
-
-/// The types of the results of an iterated node.
-fn node_results(
-    alloc: Global,
-    env: &TypeEnv,
-    iterator: ArrayIterator,
-    call: CallId,
-    types: &[DataType],
-) -> Result<Option<Vec<DataType>>, AllocError>
-    ensures { IfOk result (λ o. option_map view_types o
-        ≡ mirror.node_results (context_in env.now) iterator call (map view_type types.now)) }
-{
-    let Some(length) = env.repeats(call) else {
-        return Ok(None);
-    };
-    match env.call(alloc, call)? {
-        Some(callee) => iterator_types(alloc, iterator, length, &callee, types),
-        None => Ok(None),
-    }
-}
-
-/// The types of the results of an iterated data operator.
-fn symbol_results(
-    alloc: Global,
-    iterator: ArrayIterator,
-    op: BinaryOperator,
-    count: Option<u64>,
-    types: &[DataType],
-) -> Result<Option<Vec<DataType>>, AllocError>
-    ensures { IfOk result (λ o. option_map view_types o
-        ≡ mirror.symbol_results iterator op count (map view_type types.now)) }
-{
-    let Some(length) = count else {
-        return Ok(None);
-    };
-    match symbol_types(alloc, op)? {
-        Some(signature) => iterator_types(alloc, iterator, length, &signature, types),
-        None => Ok(None),
-    }
-}
-
-/// The types of the results of a term whose operands, in a row, have these types.
-pub fn row_results(
-    alloc: Global,
-    env: &TypeEnv,
-    term: &Term,
-    types: &[DataType],
-) -> Result<Option<Vec<DataType>>, AllocError>
-    ensures { IfOk result (λ o. option_map view_types o
-        ≡ mirror.row_results (context_in env.now) term.now (map view_type types.now)) }
+        option_map view_type o ≡ mirror.leaf_type (context_in env.now) term.now) }
 {
     match term {
-        Term::Array(_) => list_results(alloc, types),
-        Term::AtMostOne(_) | Term::Nor(_) => truth_results(alloc, types),
-        Term::Call(call, _) => call_results(alloc, env, *call, types),
-        Term::IterateNode(iterator, call, _) => node_results(alloc, env, *iterator, *call, types),
-        Term::IterateSymbol(iterator, op, count, _) => symbol_results(
-            alloc,
-            *iterator,
-            *op,
-            env.count(*count),
-            types,
-        ),
+        Term::Literal(n) => Ok(literal_type(alloc, *n)),
+        Term::Value(i) => Ok(env.constant(alloc, *i)),
+        Term::Truth(_) => Ok(Some(DataType::scalar(alloc, Kind::Bool))),
+        Term::Variable(x) => env.variable(alloc, *x),
         _ => Ok(None),
     }
 }
 
 /// The type of a term with one operand of this type.
-#[inline(always)]
 pub fn one_type(
     alloc: Global,
     env: &TypeEnv,
@@ -164,20 +55,269 @@ pub fn one_type(
     }
 }
 
-/// The types of terms.
-#[inline(always)]
-#[cycle(typing)]
-fn types_of(
+/// The type of a term with one operand of this type, if it has one.
+fn single_type(
+    alloc: Global,
+    env: &TypeEnv,
+    term: &Term,
+    operand: Option<DataType>,
+) -> Result<Option<DataType>, AllocError>
+    ensures { IfOk result (λ o. option_map view_type o
+        ≡ lists.◌>>=◌ (option_map view_type operand)
+        (mirror.one_type (context_in env.now) term.now)) }
+{
+    match operand {
+        Some(operand) => one_type(alloc, env, term, operand),
+        None => Ok(None),
+    }
+}
+
+/// The type of a term whose two operands have these types.
+pub fn two_types(
+    alloc: Global,
+    term: &Term,
+    left: Option<DataType>,
+    right: Option<DataType>,
+) -> Result<Option<DataType>, AllocError>
+    ensures { IfOk result (λ o. option_map view_type o
+        ≡ mirror.two_types term.now (option_map view_type left) (option_map view_type right)) }
+{
+    match term {
+        Term::Binary(op, _, _) => Ok(of_operands(alloc, *op, left, right)),
+        Term::Join(_, _) => joined(left, right),
+        _ => Ok(common_type(left, right)),
+    }
+}
+
+/// Notes a term with one result, and gives its type again.
+fn note_one(
+    alloc: Global,
+    own: Option<DataType>,
+    parts: &mut PartTypes,
+) -> Result<Option<DataType>, AllocError>
+    ensures same { IfOk result (λ o. option_map view_type o ≡ option_map view_type own) }
+    ensures noted { OnOk result (placed_mirror.kept_in parts.new
+        ≡ placed_mirror.noted (placed_mirror.kept_in parts.old)
+        (types.singly (option_map view_type own))) }
+{
+    parts.note_one(alloc, &own)?;
+    Ok(own)
+}
+
+/// The type of the elements of a list, of which this is known from the later ones.
+pub fn like_later(seen: usize, own: Option<DataType>, later: Option<DataType>) -> Option<DataType>
+    ensures { option_map view_type result ≡ signatures.like_later seen
+        (option_map view_type own) (option_map view_type later) }
+{
+    if seen == 0 {
+        own
+    } else {
+        common_type(own, later)
+    }
+}
+
+/// Whether an operand has the type that is wanted at its place, and those after it have theirs.
+pub fn fits_too(
+    alloc: Global,
+    fits: bool,
+    wanted: &TypeRow,
+    place: usize,
+    own: &Option<DataType>,
+) -> Result<bool, AllocError>
+    ensures { IfOk result (λ b. b ≡ (fits && signatures.are_one
+        (signatures.type_at (signatures.row_in wanted.now) place)
+        (option_map view_type own.now))) }
+{
+    if fits {
+        is_wanted(alloc, wanted, place, own)
+    } else {
+        Ok(false)
+    }
+}
+
+/// Whether so many operands may be given.
+pub fn has_arity(signature: &Signature, count: usize) -> bool
+    ensures { result ≡ signatures.has_arity (signatures.signature_in signature.now) count }
+{
+    signature.stands && signature.takes.len() == count
+}
+
+/// What is given, where the operands fit.
+pub fn given_where<'a>(fits: bool, given: TypeRow<'a>) -> Option<TypeRow<'a>>
+    ensures { option_map signatures.row_in result
+        ≡ lists.where_true fits (signatures.row_in given.entry) }
+{
+    if fits { Some(given) } else { None }
+}
+
+/// Whether the last operands of a row, so many of them, decide about the row: they do not fit, and
+/// no part is kept any more.
+fn is_decided(seen: usize, fit: bool, parts: &PartTypes) -> bool
+    ensures { IsTrue result ↔ placed_mirror.IsDecided seen fit parts.now.left }
+{
+    seen > 0 && !fit && parts.left == 0
+}
+
+/// Notes the parts of the elements of a list, the last one first, and gives the type of the list.
+#[cycle(walking)]
+fn walk_list(
     alloc: Global,
     env: &TypeEnv,
     terms: &[Term],
-) -> Result<Option<Vec<DataType>>, AllocError>
-    ensures { IfOk result (λ o.
-        option_map view_types o ≡ mirror.types_of (context_in env.now) terms.now) }
+    parts: &mut PartTypes,
+) -> Result<Option<DataType>, AllocError>
+    ensures { IfOk result (λ o. placed_mirror.IsRowWalked (context_in env.now) terms.now
+        (placed_mirror.kept_in parts.old) (placed_mirror.kept_in parts.new)
+        (option_map view_type o) signatures.list_of) }
 {
+    let size = terms.len() as u64;
+    let mut element = None;
+    for seen in 0..terms.len() {
+        if is_decided(seen, is_array(size, &element), parts) {
+            return Ok(None);
+        }
+        let own = walk(alloc, env, &terms[terms.len() - 1 - seen], parts)?;
+        element = like_later(seen, own, element);
+    }
+    array_type(size, element)
+}
+
+/// Notes the parts of the operands of a term in a row, the last one first, and gives what the term
+/// gives.
+#[cycle(walking)]
+fn walk_row<'a>(
+    alloc: Global,
+    env: &TypeEnv<'a, '_>,
+    terms: &[Term],
+    term: &Term,
+    parts: &mut PartTypes,
+) -> Result<Option<TypeRow<'a>>, AllocError>
+    ensures { IfOk result (λ o. placed_mirror.IsRowWalked (context_in env.now) terms.now
+        (placed_mirror.kept_in parts.old) (placed_mirror.kept_in parts.new)
+        (option_map signatures.row_in o)
+        (signatures.given_of (signatures.calls_in env.now) (context_in env.now) term.now)) }
+{
+    let signature = signature_of(alloc, env, term, terms.len())?;
+    let mut fits = has_arity(&signature, terms.len());
+    for seen in 0..terms.len() {
+        if is_decided(seen, fits, parts) {
+            return Ok(None);
+        }
+        let place = terms.len() - 1 - seen;
+        let own = walk(alloc, env, &terms[place], parts)?;
+        fits = fits_too(alloc, fits, &signature.takes, place, &own)?;
+    }
+    Ok(given_where(fits, signature.gives))
+}
+
+/// Notes the parts of a term against the order of the text, each after its operands, and gives the
+/// one type of the term, or none where a rule of types is broken.
+#[cycle(walking)]
+pub fn walk(
+    alloc: Global,
+    env: &TypeEnv,
+    term: &Term,
+    parts: &mut PartTypes,
+) -> Result<Option<DataType>, AllocError>
+    ensures { IfOk result (λ o. placed_mirror.IsWalked (context_in env.now) term.now
+        (placed_mirror.kept_in parts.old) (placed_mirror.kept_in parts.new)
+        (option_map view_type o)) }
+{
+    match term {
+        Term::Group(e) => walk(alloc, env, e, parts),
+        Term::Literal(_) | Term::Truth(_) | Term::Value(_) | Term::Variable(_) => {
+            let own = leaf_type(alloc, env, term)?;
+            note_one(alloc, own, parts)
+        }
+        Term::Unary(_, e)
+        | Term::Pre(e)
+        | Term::Current(e)
+        | Term::When(e, _, _)
+        | Term::Replicate(e, _)
+        | Term::Index(e, _)
+        | Term::Slice(e, _, _) => {
+            let operand = walk(alloc, env, e, parts)?;
+            let own = single_type(alloc, env, term, operand)?;
+            note_one(alloc, own, parts)
+        }
+        Term::Binary(_, a, b) | Term::Arrow(a, b) | Term::Fby(a, b) | Term::Join(a, b) => {
+            let right = walk(alloc, env, b, parts)?;
+            let left = walk(alloc, env, a, parts)?;
+            let own = two_types(alloc, term, left, right)?;
+            note_one(alloc, own, parts)
+        }
+        Term::If(c, a, b) => {
+            let right = walk(alloc, env, b, parts)?;
+            let left = walk(alloc, env, a, parts)?;
+            let condition = walk(alloc, env, c, parts)?;
+            let own = when_truth(condition, common_type(left, right));
+            note_one(alloc, own, parts)
+        }
+        Term::Array(terms) => {
+            let own = walk_list(alloc, env, terms, parts)?;
+            note_one(alloc, own, parts)
+        }
+        Term::AtMostOne(terms)
+        | Term::Nor(terms)
+        | Term::Call(_, terms)
+        | Term::IterateNode(_, _, terms)
+        | Term::IterateSymbol(_, _, _, terms) => {
+            let given = walk_row(alloc, env, terms, term, parts)?;
+            parts.note_given(alloc, &given)
+        }
+    }
+}
+
+/// The one type of a term, or none where a rule of types is broken.
+pub fn type_of(alloc: Global, env: &TypeEnv, term: &Term) -> Result<Option<DataType>, AllocError>
+    ensures { IfOk result (λ o.
+        option_map view_type o ≡ mirror.type_of (context_in env.now) term.now) }
+{
+    walk(alloc, env, term, &mut PartTypes::none(alloc))
+}
+
+/// What a right side gives.
+#[derive(Drop)]
+pub enum SideTypes<'a> {
+    /// One result of this type, if it has one.
+    Single(Option<DataType>),
+    /// What a term with a row of operands gives, if they fit.
+    Several(Option<TypeRow<'a>>),
+}
+
+/// What a right side gives: a call or an iterator may have several results.
+#[tactic(auto, unfolding(crate::specs::TermTypes::results))]
+pub fn side_types<'a>(
+    alloc: Global,
+    env: &TypeEnv<'a, '_>,
+    term: &Term,
+) -> Result<SideTypes<'a>, AllocError>
+    ensures { IfOk result (λ given. signatures.results_in given
+        ≡ mirror.results (context_in env.now) term.now) }
+{
+    match term {
+        Term::Group(e) => side_types(alloc, env, e),
+        Term::AtMostOne(terms)
+        | Term::Nor(terms)
+        | Term::Call(_, terms)
+        | Term::IterateNode(_, _, terms)
+        | Term::IterateSymbol(_, _, _, terms) => {
+            let given = walk_row(alloc, env, terms, term, &mut PartTypes::none(alloc))?;
+            Ok(SideTypes::Several(given))
+        }
+        Term::Array(terms) => {
+            let own = walk_list(alloc, env, terms, &mut PartTypes::none(alloc))?;
+            Ok(SideTypes::Single(own))
+        }
+        _ => Ok(SideTypes::Single(type_of(alloc, env, term)?)),
+    }
+}
+
+/// The types of a row, if all are there.
+fn row_types(alloc: Global, row: &TypeRow) -> Result<Option<Vec<DataType>>, AllocError> {
     let mut types = Vec::new(alloc);
-    for term in terms {
-        match type_of(alloc, env, term)? {
+    for place in 0..row.len() {
+        match row.get(alloc, place)? {
             Some(data_type) => types.push(data_type)?,
             None => return Ok(None),
         }
@@ -185,156 +325,19 @@ fn types_of(
     Ok(Some(types))
 }
 
-/// Whether each of some terms is a truth: no type is kept.
-#[inline(always)]
-#[cycle(typing)]
-fn are_all_truths(alloc: Global, env: &TypeEnv, terms: &[Term]) -> Result<bool, AllocError>
-    ensures { IfOk result (λ all.
-        all ≡ list_all (is_truth_in (context_in env.now)) terms.now) }
-{
-    for term in terms {
-        let data_type = type_of(alloc, env, term)?;
-        if !is_given_truth(data_type) {
-            return Ok(false);
-        }
-    }
-    Ok(true)
-}
-
-/// The types of the results of an operator on truths with these operands.
-#[inline(always)]
-#[cycle(typing)]
-fn truths_results(
-    alloc: Global,
-    env: &TypeEnv,
-    operands: &[Term],
-) -> Result<Option<Vec<DataType>>, AllocError>
-    ensures { IfOk result (λ o. option_map view_types o
-        ≡ lists.where_true (list_all (is_truth_in (context_in env.now)) operands.now)
-        (truth ∷ [])) }
-{
-    if are_all_truths(alloc, env, operands)? {
-        one(alloc, DataType::scalar(alloc, Kind::Bool))
-    } else {
-        Ok(None)
-    }
-}
-
-/// The types of the results of a term with these operands in a row.
-#[inline(always)]
-#[cycle(typing)]
-fn operand_results(
-    alloc: Global,
-    env: &TypeEnv,
-    operands: &[Term],
-    term: &Term,
-) -> Result<Option<Vec<DataType>>, AllocError>
-    ensures { IfOk result (λ o. option_map view_types o
-        ≡ mirror.operand_results (context_in env.now) term.now operands.now) }
-{
-    match term {
-        Term::AtMostOne(_) | Term::Nor(_) => truths_results(alloc, env, operands),
-        Term::Array(_) if MOST_ELEMENTS < operands.len() => Ok(None),
-        _ => match types_of(alloc, env, operands)? {
-            Some(types) => row_results(alloc, env, term, &types),
-            None => Ok(None),
-        },
-    }
-}
-
-/// The type of a term whose two operands, or the branches of whose choice, have these types.
-#[inline(always)]
-#[cycle(typing)]
-pub fn two_types(
-    alloc: Global,
-    env: &TypeEnv,
-    term: &Term,
-    left: Option<DataType>,
-    right: Option<DataType>,
-) -> Result<Option<DataType>, AllocError>
-    ensures { IfOk result (λ o. option_map view_type o
-        ≡ mirror.two_types (context_in env.now) term.now (option_map view_type left)
-        (option_map view_type right)) }
-{
-    match term {
-        Term::Binary(op, _, _) => Ok(of_operands(alloc, *op, left, right)),
-        Term::Join(_, _) => joined(left, right),
-        Term::If(c, _, _) => {
-            let chosen = common_type(left, right);
-            Ok(when_truth(type_of(alloc, env, c)?, chosen))
-        }
-        _ => Ok(common_type(left, right)),
-    }
-}
-
-/// The one type of a term, or none where a rule of types is broken.
-#[cycle(typing)]
-pub fn type_of(alloc: Global, env: &TypeEnv, term: &Term) -> Result<Option<DataType>, AllocError>
-    ensures { IfOk result (λ o.
-        option_map view_type o ≡ mirror.type_of (context_in env.now) term.now) }
-{
-    match term {
-        Term::Literal(n) => Ok(literal_type(alloc, *n)),
-        Term::Value(i) => Ok(env.constant(alloc, *i)),
-        Term::Truth(_) => Ok(Some(DataType::scalar(alloc, Kind::Bool))),
-        Term::Variable(x) => env.variable(alloc, *x),
-        Term::Group(e)
-        | Term::Unary(_, e)
-        | Term::Pre(e)
-        | Term::Current(e)
-        | Term::When(e, _, _)
-        | Term::Replicate(e, _)
-        | Term::Index(e, _)
-        | Term::Slice(e, _, _) => match type_of(alloc, env, e)? {
-            Some(operand) => one_type(alloc, env, term, operand),
-            None => Ok(None),
-        },
-        Term::Binary(_, a, b)
-        | Term::Arrow(a, b)
-        | Term::Fby(a, b)
-        | Term::Join(a, b)
-        | Term::If(_, a, b) => {
-            let left = type_of(alloc, env, a)?;
-            let right = type_of(alloc, env, b)?;
-            two_types(alloc, env, term, left, right)
-        }
-        Term::AtMostOne(operands)
-        | Term::Nor(operands)
-        | Term::Call(_, operands)
-        | Term::IterateNode(_, _, operands)
-        | Term::IterateSymbol(_, _, _, operands) => {
-            Ok(only(operand_results(alloc, env, operands, term)?))
-        }
-        Term::Array(operands) if MOST_ELEMENTS < operands.len() => Ok(None),
-        Term::Array(operands) => match types_of(alloc, env, operands)? {
-            Some(types) => list_type(&types),
-            None => Ok(None),
-        },
-    }
-}
-
-/// The types of the results of a right side, or none where a rule of types is broken: a call or an
-/// iterator may have several.
-#[tactic(auto, unfolding(crate::specs::TermTypes::results))]
+/// The types of the results of a right side, to be told, or none where a rule of types is broken.
 pub fn results(
     alloc: Global,
     env: &TypeEnv,
     term: &Term,
-) -> Result<Option<Vec<DataType>>, AllocError>
-    ensures { IfOk result (λ o.
-        option_map view_types o ≡ mirror.results (context_in env.now) term.now) }
-{
-    match term {
-        Term::Group(e) => results(alloc, env, e),
-        Term::Array(operands)
-        | Term::AtMostOne(operands)
-        | Term::Nor(operands)
-        | Term::Call(_, operands)
-        | Term::IterateNode(_, _, operands)
-        | Term::IterateSymbol(_, _, _, operands) => operand_results(alloc, env, operands, term),
-        _ => match type_of(alloc, env, term)? {
-            Some(data_type) => one(alloc, data_type),
-            None => Ok(None),
-        },
+) -> Result<Option<Vec<DataType>>, AllocError> {
+    match side_types(alloc, env, term)? {
+        SideTypes::Single(Some(data_type)) => {
+            let mut types = Vec::new(alloc);
+            types.push(data_type)?;
+            Ok(Some(types))
+        }
+        SideTypes::Several(Some(given)) => row_types(alloc, &given),
+        _ => Ok(None),
     }
 }

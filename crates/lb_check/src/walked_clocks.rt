@@ -1,5 +1,5 @@
-//! The clocks that a term accepts (E10), found from the operands up, and with them what the operands
-//! of each `current` and of each call in it are.
+//! The clocks that a term accepts (E10), found from the operands up, and with them what the
+//! operands of each `current` and of each call in it are.
 //!
 //! What `walk` calls of itself is inlined, so that a level of nesting has one frame on the stack.
 

@@ -317,7 +317,8 @@ place-returns-in_ok-note_row-in-Array t c =
     c.place_all.ensures
     (λ left p. placed_as own (known_operands ctx term) (row_term k term ∷ found)
     (placed_terms ctx k term) old new known left.now
-    (row_known ctx term es c.in-Array.is ∙ sym (ap (known_among ctx) c.deref-in-Array.ensures.value))
+    (row_known ctx term es c.in-Array.is
+    ∙ sym (ap (known_among ctx) c.deref-in-Array.ensures.value))
     (row_placed ctx k term es c.in-Array.is
     ∙ sym (ap (λ l. row_term k term ∷ placed_all ctx k l) c.deref-in-Array.ensures.value))
     (placed_noted own (row_term k term) found old noted new known left.now

@@ -1,4 +1,4 @@
-use Rattle.std.proofs.Common.{◌≡◌, ◌+◌, ◌-◌, ◌≤◌, flat_map, drop}
+use Rattle.std.proofs.Common.{◌≡◌, ◌+◌, ◌-◌, ◌≤◌, [], flat_map, drop}
 use Rattle.std.specs.Prelude.{sum_by}
 use Rattle.lb_check.specs.PlacedTypes as placed_mirror
 use Rattle.lb_check.specs.StoredTypes.{context_in}
@@ -13,8 +13,9 @@ invariant-loop-statement l =
       kept :
           placed_mirror.with_terms placed_mirror.nothing_found all
           ≡ placed_mirror.with_terms (placed_mirror.found_in l.found) later;
-      under : l.left ≤ l.many;
+      moved : (placed_mirror.kept_in l.parts).found ≡ [];
+      under : l.parts.left ≤ l.many;
       counted :
           sum_by placed_mirror.part_size all
-          ≡ (l.many - l.left) + sum_by placed_mirror.part_size later;
+          ≡ (l.many - l.parts.left) + sum_by placed_mirror.part_size later;
     }

@@ -1,0 +1,15 @@
+use Rattle.std.proofs.Common.{◌≡◌, ◌≤◌, drop}
+use Rattle.lb_syntax.specs.Lists.{all_some}
+use Rattle.lb_check.specs.PlacedTypes.{part_size}
+use Rattle.lb_check.specs.TermSignatures.{row_in}
+use Rattle.lb_check.proofs.PartSizes.{counted_from}
+use Rattle.lb_check.proofs.part_types.given_size.Given as goal
+
+abbrev pub invariant-loop-place : goal.invariant-loop-place
+invariant-loop-place l =
+    record {
+      counted :
+          part_size (all_some (row_in l.given))
+          ≡ counted_from l.count (all_some (drop l.place (row_in l.given)));
+      within : l.count ≤ 65537;
+    }

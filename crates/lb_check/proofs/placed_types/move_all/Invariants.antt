@@ -1,0 +1,16 @@
+use Rattle.std.proofs.Common.{◌≡◌, length, map}
+use Rattle.std.specs.Prelude.{reverse}
+use Rattle.lb_check.specs.PlacedTypes.{found_in, part_in, with_parts}
+use Rattle.lb_check.proofs.placed_types.move_all.Given as goal
+
+abbrev pub invariant-loop-part : goal.invariant-loop-part
+invariant-loop-part l =
+    record {
+      left : l.parts.left ≡ l.fn.parts.left;
+      moved :
+          with_parts (found_in l.fn.found) (reverse (map part_in l.fn.parts.found.items))
+          ≡ with_parts (found_in l.found) (reverse (map part_in l.parts.found.items));
+    }
+
+abbrev pub decreases-loop-part : goal.decreases-loop-part
+decreases-loop-part l = length l.parts.found.items

@@ -1,0 +1,15 @@
+use Rattle.std.proofs.Common.{◌≡◌, IfOk, subst, sym, ◌∙◌}
+use Rattle.std.specs.Prelude.{option_map}
+use Rattle.lb_static.specs.StoredTypes.{view_type}
+use Rattle.lb_check.specs.TermSignatures.{row_in}
+use Rattle.lb_check.proofs.SignatureRows.{one_given, several_given}
+use Rattle.lb_check.proofs.signature.only_type.Goals as goal
+
+pub returns-then-len-eq1 : goal.returns-then-len-eq1
+returns-then-len-eq1 c =
+    subst (λ t. IfOk c.get.result (λ o. option_map view_type o ≡ t))
+    (one_given (row_in c.args.row.now) (sym c.len.ensures ∙ c.if-len-eq1.true)) c.get.ensures
+
+pub returns-else-len-eq1 : goal.returns-else-len-eq1
+returns-else-len-eq1 c =
+    several_given (row_in c.args.row.now) (λ e. c.if-len-eq1.false (c.len.ensures ∙ e))

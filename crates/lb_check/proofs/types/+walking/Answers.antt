@@ -1,0 +1,313 @@
+-- What is noted for a term, by its forms.
+use Rattle.std.proofs.Common.{◌≡◌, ◌+◌, ◌++◌, ◌-◌, [], ◌∷◌, length, map, drop, inl, refl, ap, sym}
+use Rattle.std.proofs.Common.{subst, ◌∙◌, arith}
+use Rattle.std.specs.Prelude.{◌&&◌, option_map}
+use Rattle.std.proofs.lemmas.List.{length-map}
+use Rattle.lb_syntax.specs.Lists.{◌>>=◌, where_true}
+use Rattle.lb_static.specs.StoredTypes.{view_type}
+use Rattle.lb_check.specs.PlacedTypes.{IsRowWalked, IsWalked, kept_in, placed_all_types}
+use Rattle.lb_check.specs.PlacedTypes.{placed_types}
+use Rattle.lb_check.specs.StoredTypes.{context_in}
+use Rattle.lb_check.specs.TermSignatures.{are_met, are_one, arrays, calls_in, common, given_of}
+use Rattle.lb_check.specs.TermSignatures.{has_arity, like_later, list_of, outcome, row_in}
+use Rattle.lb_check.specs.TermSignatures.{signature, signature_in, type_at}
+use Rattle.lb_check.specs.TermTypes.{one_type, type_of, when_both, when_truth}
+use Rattle.lb_check.specs.Types.{common_type}
+use Rattle.lb_check.proofs.BrokenRules.{if_found}
+use Rattle.lb_check.proofs.DecidedRows.{list_decided, row_decided}
+use Rattle.lb_check.proofs.SignatureRows.{calls_are, fits_end, fits_more, fits_start, like_next}
+use Rattle.lb_check.proofs.TypeParts.{pair_type}
+use Rattle.lb_check.proofs.TypeWalks.{choice_placed, leaf_placed, operand_placed, operands_placed}
+use Rattle.lb_check.proofs.TypeWalks.{row_placed}
+use Rattle.lb_check.proofs.WalkedTypes.{choice_one, choice_type, further, later, later_all}
+use Rattle.lb_check.proofs.WalkedTypes.{later_length, later_more, later_none, leaf_is, leaf_one}
+use Rattle.lb_check.proofs.WalkedTypes.{list_from, list_one, noted_all, noted_more, noted_none}
+use Rattle.lb_check.proofs.WalkedTypes.{pair_one, returns_given, returns_group, returns_one}
+use Rattle.lb_check.proofs.WalkedTypes.{single_from, single_one}
+use Rattle.lb_check.proofs.types.+walking.Goals as goal
+
+-- ## The elements of a list
+
+pub walk_list-loop-seen-init : goal.walk_list-loop-seen-init
+walk_list-loop-seen-init t c =
+    let ctx = context_in c.args.env.now in
+    let all = c.args.terms.now in
+    record {
+      element = sym (ap common (later_none ctx all));
+      noted = noted_none ctx all (kept_in c.args.parts.now);
+    }
+
+pub walk_list-loop-seen-preserved : goal.walk_list-loop-seen-preserved
+walk_list-loop-seen-preserved t c =
+    let ctx = context_in c.args.env.now in
+    let all = c.args.terms.now in
+    let l = c.loop-seen in
+    let x = c.index-terms-terms.result in
+    let lt = c.loop-seen-test.true in
+    let own = option_map view_type c.in_ok-own.own in
+    record {
+      element =
+          c.like_later-element.ensures
+          ∙ ap (like_later l.seen own) l.invariant.element
+          ∙ ap (λ o. like_later l.seen o (common (later ctx all l.seen))) c.in_ok-own.ensures.0
+          ∙ like_next (type_of ctx x) (later ctx all l.seen) l.seen
+          (later_length ctx all l.seen (omega (arith, lt)))
+          ∙ sym (ap common (later_more ctx all l.seen x lt c.index-terms-terms.is));
+      noted =
+          noted_more ctx all (kept_in c.args.parts.now) l.seen (kept_in l.parts)
+          (kept_in c.walk.new.parts) x lt c.index-terms-terms.is l.invariant.noted
+          c.in_ok-own.ensures.1;
+    }
+
+pub walk_list-returns-then-is_decided : goal.walk_list-returns-then-is_decided
+walk_list-returns-then-is_decided t c =
+    let l = c.loop-seen in
+    let d = c.is_decided.ensures.0 c.if-is_decided.true in
+    list_decided (context_in c.args.env.now) c.args.terms.now l.seen (kept_in c.args.parts.now)
+    (kept_in l.parts) c.loop-seen-test.true l.invariant.noted (option_map view_type l.element)
+    l.invariant.element (d.0, sym c.is_array.ensures ∙ d.1, d.2)
+
+pub walk_list-returns : goal.walk_list-returns
+walk_list-returns t c =
+    let ctx = context_in c.args.env.now in
+    let all = c.args.terms.now in
+    let l = c.loop-seen in
+    let le = c.loop-seen-test.false in
+    let types = map (type_of ctx) all in
+    let element = l.invariant.element ∙ ap common (later_all ctx all l.seen le) in
+    let many = length-map all (type_of ctx) in
+    if_found c.array_type.result
+    (λ o. option_map view_type o ≡ arrays (length all) (option_map view_type l.element))
+    (λ o. IsRowWalked ctx all (kept_in c.args.parts.now) (kept_in l.parts)
+    (option_map view_type o) list_of) c.array_type.ensures
+    (λ o v. (
+      v ∙ ap (arrays (length all)) element ∙ ap (λ n. arrays n (common types)) (sym many),
+      noted_all ctx all (kept_in c.args.parts.now) l.seen (kept_in l.parts) le l.invariant.noted,
+    ))
+
+-- ## Operands in a row
+
+pub walk_row-loop-seen-init : goal.walk_row-loop-seen-init
+walk_row-loop-seen-init t c =
+    let ctx = context_in c.args.env.now in
+    let all = c.args.terms.now in
+    let s = signature_in c.in_ok-signature.signature in
+    let n = length all in
+    let none : n - 0 ≡ n = omega arith in
+    record {
+      fits =
+          c.has_arity-fits.ensures ∙ fits_start s n
+          ∙ ap (λ l. has_arity s n && are_met (drop n s.takes) l) (sym (later_none ctx all))
+          ∙ ap (λ k. has_arity s n && are_met (drop k s.takes) (later ctx all 0)) (sym none);
+      noted = noted_none ctx all (kept_in c.args.parts.now);
+    }
+
+pub walk_row-loop-seen-preserved : goal.walk_row-loop-seen-preserved
+walk_row-loop-seen-preserved t c =
+    let ctx = context_in c.args.env.now in
+    let all = c.args.terms.now in
+    let l = c.loop-seen in
+    let s = signature_in c.in_ok-signature.signature in
+    let n = length all in
+    let x = c.index-terms-place.result in
+    let lt = c.loop-seen-test.true in
+    let at = n - 1 - l.seen in
+    let later_ones = later ctx all l.seen in
+    let before : n - l.seen ≡ at + 1 = omega (arith, lt) in
+    let after : at ≡ n - (l.seen + 1) = omega (arith, lt) in
+    record {
+      fits =
+          c.in_ok-fits.ensures
+          ∙ ap (λ b. b && are_one (type_at s.takes at) (option_map view_type c.in_ok-own.own))
+          l.invariant.fits
+          ∙ ap (λ o. (has_arity s n && are_met (drop (n - l.seen) s.takes) later_ones)
+          && are_one (type_at s.takes at) o) c.in_ok-own.ensures.0
+          ∙ ap (λ k. (has_arity s n && are_met (drop k s.takes) later_ones)
+          && are_one (type_at s.takes at) (type_of ctx x)) before
+          ∙ fits_more s n at (type_of ctx x) later_ones (omega (arith, lt))
+          ∙ ap (λ k. has_arity s n && are_met (drop k s.takes) (type_of ctx x ∷ later_ones)) after
+          ∙ ap (λ os. has_arity s n && are_met (drop (n - (l.seen + 1)) s.takes) os)
+          (sym (later_more ctx all l.seen x lt c.index-terms-place.is));
+      noted =
+          noted_more ctx all (kept_in c.args.parts.now) l.seen (kept_in l.parts)
+          (kept_in c.walk.new.parts) x lt c.index-terms-place.is l.invariant.noted
+          c.in_ok-own.ensures.1;
+    }
+
+pub walk_row-returns-then-is_decided : goal.walk_row-returns-then-is_decided
+walk_row-returns-then-is_decided t c =
+    let ctx = context_in c.args.env.now in
+    let all = c.args.terms.now in
+    let l = c.loop-seen in
+    let s = signature_in c.in_ok-signature.signature in
+    let types = map (type_of ctx) all in
+    let d = c.is_decided.ensures.0 c.if-is_decided.true in
+    let w =
+    row_decided ctx all l.seen (kept_in c.args.parts.now) (kept_in l.parts) c.loop-seen-test.true
+    l.invariant.noted s l.fits l.invariant.fits d in (
+      w.0 ∙ ap (λ u. outcome u types) c.in_ok-signature.ensures
+          ∙ ap (λ k. outcome (signature (calls_in c.args.env.now) ctx c.args.term.now k) types)
+          (sym (length-map all (type_of ctx))),
+      w.1,
+    )
+
+pub walk_row-returns : goal.walk_row-returns
+walk_row-returns t c =
+    let ctx = context_in c.args.env.now in
+    let all = c.args.terms.now in
+    let l = c.loop-seen in
+    let le = c.loop-seen-test.false in
+    let s = signature_in c.in_ok-signature.signature in
+    let n = length all in
+    let types = map (type_of ctx) all in
+    let many = length-map all (type_of ctx) in
+    let none : n - l.seen ≡ 0 = omega (arith, le) in
+    let fits : l.fits ≡ (s.stands && are_met s.takes types) =
+    l.invariant.fits
+    ∙ ap (λ k. has_arity s n && are_met (drop k s.takes) (later ctx all l.seen)) none
+    ∙ ap (λ os. has_arity s n && are_met s.takes os) (later_all ctx all l.seen le)
+    ∙ fits_end s n types many in (
+      c.given_where.ensures ∙ ap (λ b. where_true b s.gives) fits
+          ∙ ap (λ u. outcome u types) c.in_ok-signature.ensures
+          ∙ ap (λ k. outcome (signature (calls_in c.args.env.now) ctx c.args.term.now k) types)
+          (sym many),
+      noted_all ctx all (kept_in c.args.parts.now) l.seen (kept_in l.parts) le l.invariant.noted,
+    )
+
+-- ## Terms
+
+pub walk-returns-in-Group : goal.walk-returns-in-Group
+walk-returns-in-Group t c =
+    let before = kept_in c.args.parts.now in
+    returns_group (context_in c.args.env.now) before before (kept_in c.walk.new.parts)
+    c.walk.result c.args.term.now c.deref.result.now c.in-Group.e c.in-Group.is c.deref.ensures
+    c.walk.ensures
+
+pub walk-returns-in_ok-own-in-Literal : goal.walk-returns-in_ok-own-in-Literal
+walk-returns-in_ok-own-in-Literal t c =
+    let ctx = context_in c.args.env.now in
+    let term = c.args.term.now in
+    let before = kept_in c.args.parts.now in
+    returns_one ctx before before (kept_in c.note_one-in-Literal.new.parts)
+    c.note_one-in-Literal.result term [] (option_map view_type c.in_ok-own-in-Literal.own)
+    (leaf_placed ctx term c.in-Literal.is) (leaf_one ctx term c.in-Literal.is)
+    (c.in_ok-own-in-Literal.ensures ∙ leaf_is ctx term c.in-Literal.is) refl
+    c.note_one-in-Literal.ensures.same c.note_one-in-Literal.ensures.noted
+
+pub walk-returns-in_ok-own-in-Unary : goal.walk-returns-in_ok-own-in-Unary
+walk-returns-in_ok-own-in-Unary t c =
+    let ctx = context_in c.args.env.now in
+    let term = c.args.term.now in
+    let e = c.in-Unary.e in
+    let before = kept_in c.args.parts.now in
+    let mid = kept_in c.walk-in-Unary.new.parts in
+    let operand = option_map view_type c.in_ok-operand-in-Unary.operand in
+    let w : IsWalked ctx e.value before mid operand =
+    subst (λ x. IsWalked ctx x before mid operand) c.deref-in-Unary.ensures
+    c.in_ok-operand-in-Unary.ensures in
+    returns_one ctx before mid (kept_in c.note_one-in-Unary.new.parts)
+    c.note_one-in-Unary.result term (placed_types ctx e.value)
+    (option_map view_type c.in_ok-own-in-Unary.own) (operand_placed ctx term e c.in-Unary.is)
+    (single_one ctx term e c.in-Unary.is)
+    (c.in_ok-own-in-Unary.ensures ∙ ap (λ o. o >>= one_type ctx term) w.0
+    ∙ single_from ctx term e c.in-Unary.is)
+    w.1 c.note_one-in-Unary.ensures.same c.note_one-in-Unary.ensures.noted
+
+pub walk-returns-in_ok-own-in-Binary : goal.walk-returns-in_ok-own-in-Binary
+walk-returns-in_ok-own-in-Binary t c =
+    let ctx = context_in c.args.env.now in
+    let term = c.args.term.now in
+    let a = c.in-Binary.a in
+    let b = c.in-Binary.b in
+    let before = kept_in c.args.parts.now in
+    let first = kept_in c.walk-in-Binary.new.parts in
+    let second = kept_in c.walk-in-Binary-2.new.parts in
+    let right = option_map view_type c.in_ok-right-in-Binary.right in
+    let left = option_map view_type c.in_ok-left-in-Binary.left in
+    let wb : IsWalked ctx b.value before first right =
+    subst (λ x. IsWalked ctx x before first right) c.deref-in-Binary.ensures
+    c.in_ok-right-in-Binary.ensures in
+    let wa : IsWalked ctx a.value first second left =
+    subst (λ x. IsWalked ctx x first second left) c.deref-in-Binary-2.ensures
+    c.in_ok-left-in-Binary.ensures in
+    returns_one ctx before second (kept_in c.note_one-in-Binary.new.parts)
+    c.note_one-in-Binary.result term (placed_types ctx a.value ++ placed_types ctx b.value)
+    (option_map view_type c.in_ok-own-in-Binary.own) (operands_placed ctx term a b c.in-Binary.is)
+    (pair_one ctx term a b c.in-Binary.is)
+    (c.in_ok-own-in-Binary.ensures
+    ∙ pair_type ctx term a b left right c.in-Binary.is wa.0 wb.0)
+    (further before first second (placed_types ctx a.value) (placed_types ctx b.value) wb.1 wa.1)
+    c.note_one-in-Binary.ensures.same c.note_one-in-Binary.ensures.noted
+
+pub walk-returns-in_ok-condition-in-If : goal.walk-returns-in_ok-condition-in-If
+walk-returns-in_ok-condition-in-If t c =
+    let ctx = context_in c.args.env.now in
+    let term = c.args.term.now in
+    let i = c.in-If in
+    let before = kept_in c.args.parts.now in
+    let first = kept_in c.walk-in-If.new.parts in
+    let second = kept_in c.walk-in-If-2.new.parts in
+    let third = kept_in c.walk-in-If-3.new.parts in
+    let right = option_map view_type c.in_ok-right-in-If.right in
+    let left = option_map view_type c.in_ok-left-in-If.left in
+    let condition = option_map view_type c.in_ok-condition-in-If.condition in
+    let wb : IsWalked ctx i.b.value before first right =
+    subst (λ x. IsWalked ctx x before first right) c.deref-in-If.ensures
+    c.in_ok-right-in-If.ensures in
+    let wa : IsWalked ctx i.a.value first second left =
+    subst (λ x. IsWalked ctx x first second left) c.deref-in-If-2.ensures
+    c.in_ok-left-in-If.ensures in
+    let wc : IsWalked ctx i.c.value second third condition =
+    subst (λ x. IsWalked ctx x second third condition) c.deref-in-If-3.ensures
+    c.in_ok-condition-in-If.ensures in
+    returns_one ctx before third (kept_in c.note_one.new.parts)
+    c.note_one.result term
+    (placed_types ctx i.c.value ++ (placed_types ctx i.a.value ++ placed_types ctx i.b.value))
+    (option_map view_type c.when_truth-own.result) (choice_placed ctx term i.c i.a i.b i.is)
+    (choice_one ctx term i.c i.a i.b i.is)
+    (c.when_truth-own.ensures ∙ ap (when_truth condition) c.common_type.ensures
+    ∙ ap (λ o. when_truth o (when_both left right common_type)) wc.0
+    ∙ ap (λ o. when_truth (type_of ctx i.c.value) (when_both o right common_type)) wa.0
+    ∙ ap (λ o. when_truth (type_of ctx i.c.value) (when_both (type_of ctx i.a.value) o common_type))
+    wb.0
+    ∙ choice_type ctx term i.c i.a i.b i.is)
+    (further before second third (placed_types ctx i.c.value)
+    (placed_types ctx i.a.value ++ placed_types ctx i.b.value)
+    (further before first second (placed_types ctx i.a.value) (placed_types ctx i.b.value) wb.1
+    wa.1)
+    wc.1)
+    c.note_one.ensures.same c.note_one.ensures.noted
+
+pub walk-returns-in_ok-own-in-Array : goal.walk-returns-in_ok-own-in-Array
+walk-returns-in_ok-own-in-Array t c =
+    let ctx = context_in c.args.env.now in
+    let term = c.args.term.now in
+    let es = c.in-Array.terms in
+    let before = kept_in c.args.parts.now in
+    let mid = kept_in c.walk_list.new.parts in
+    let own = option_map view_type c.in_ok-own-in-Array.own in
+    let w : IsRowWalked ctx es.items before mid own list_of =
+    subst (λ l. IsRowWalked ctx l before mid own list_of) c.deref-in-Array.ensures.value
+    c.in_ok-own-in-Array.ensures in
+    returns_one ctx before mid (kept_in c.note_one-in-Array.new.parts)
+    c.note_one-in-Array.result term (placed_all_types ctx es.items) own
+    (row_placed ctx term es (inl c.in-Array.is)) (list_one ctx term es c.in-Array.is)
+    (w.0 ∙ list_from ctx term es c.in-Array.is) w.1
+    c.note_one-in-Array.ensures.same c.note_one-in-Array.ensures.noted
+
+pub walk-returns-in_ok-given-in-AtMostOne : goal.walk-returns-in_ok-given-in-AtMostOne
+walk-returns-in_ok-given-in-AtMostOne t c =
+    let env = c.args.env.now in
+    let ctx = context_in env in
+    let term = c.args.term.now in
+    let es = c.in-AtMostOne.terms in
+    let before = kept_in c.args.parts.now in
+    let mid = kept_in c.walk_row.new.parts in
+    let given = option_map row_in c.in_ok-given-in-AtMostOne.given in
+    let of = given_of (calls_in env) ctx term in
+    let w : IsRowWalked ctx es.items before mid given of =
+    subst (λ l. IsRowWalked ctx l before mid given of) c.deref-in-AtMostOne.ensures.value
+    c.in_ok-given-in-AtMostOne.ensures in
+    returns_given ctx before mid (kept_in c.note_given.new.self) (calls_in env)
+    c.note_given.result term es given (calls_are env) c.in-AtMostOne.is w.0 w.1
+    c.note_given.ensures.one c.note_given.ensures.noted

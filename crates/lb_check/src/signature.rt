@@ -1,0 +1,382 @@
+//! What a term with a row of operands takes and gives. Each type is made when it is asked for, and
+//! none is kept.
+//!
+//! ```text
+//! map<<f, 3>>(x, y)    takes int^3 and bool^3, gives int^3
+//! where f              takes int and bool,     gives int
+//! ```
+
+ghost use Rattle.std.specs.Prelude.{◌≡◌, ◌&&◌, length, map, option_map, IfOk};
+ghost use Rattle.lb_syntax.specs.Lists as lists;
+ghost use Rattle.lb_syntax.specs.Lists.{all_some};
+ghost use Rattle.lb_static.specs.StoredTypes.{declared_type, view_type};
+ghost use Rattle.lb_check.specs.StoredTypes.{context_in};
+ghost use Rattle.lb_check.specs.TermSignatures as mirror;
+ghost use Rattle.lb_check.specs.Types as types;
+
+use crate::array_types::array_of;
+use crate::operand_types::are_one;
+use crate::type_env::TypeEnv;
+use lb_static::{CallId, DataType, ResolvedNode, StaticInt, Term, Variable, part_of};
+use lb_syntax::{ArrayIterator, BinaryOperator, Kind};
+use std::alloc::{AllocError, Global};
+
+/// Types in a row.
+#[derive(Clone, Copy)]
+pub enum Elements<'a> {
+    /// So many scalars of one kind.
+    Scalars(Kind, usize),
+    /// Those of variables, by the values of the static expressions of their node.
+    Declared(&'a [Variable], &'a [StaticInt]),
+}
+
+/// Which types of a row stand for arrays of so many of them.
+#[derive(Clone, Copy)]
+pub enum Arrays {
+    No,
+    All(u64),
+    /// All but the first.
+    Rest(u64),
+}
+
+/// Types in a row, or arrays of them.
+#[derive(Clone, Copy)]
+pub struct TypeRow<'a> {
+    pub elements: Elements<'a>,
+    pub arrays: Arrays,
+}
+
+/// What is called takes and gives.
+#[derive(Clone, Copy)]
+pub struct Called<'a> {
+    pub takes: Elements<'a>,
+    pub gives: Elements<'a>,
+    /// Whether it is there, and may be called or iterated.
+    pub stands: bool,
+}
+
+/// What a term takes and gives.
+#[derive(Clone, Copy)]
+pub struct Signature<'a> {
+    pub takes: TypeRow<'a>,
+    pub gives: TypeRow<'a>,
+    /// Whether it is there, and may be called or iterated.
+    pub stands: bool,
+}
+
+/// A scalar, if there are so many at its place.
+fn scalar_at(alloc: Global, kind: Kind, count: usize, place: usize) -> Option<DataType>
+    ensures { option_map view_type result
+        ≡ mirror.type_at (mirror.elements_in (Elements.Scalars kind count)) place }
+{
+    if place < count {
+        Some(DataType::scalar(alloc, kind))
+    } else {
+        None
+    }
+}
+
+/// The type of the variable at a place, if there is one.
+fn declared_at(
+    alloc: Global,
+    variables: &[Variable],
+    statics: &[StaticInt],
+    place: usize,
+) -> Result<Option<DataType>, AllocError>
+    ensures { IfOk result (λ o. option_map view_type o
+        ≡ mirror.type_at (map (declared_type statics.now) variables.now) place) }
+{
+    match variables.get(place) {
+        Some(variable) => DataType::of(alloc, variable, statics),
+        None => Ok(None),
+    }
+}
+
+impl Elements<'_> {
+    /// How many types there are.
+    fn len(&self) -> usize
+        ensures { result ≡ length (mirror.elements_in self.now) }
+    {
+        match self {
+            Elements::Scalars(_, count) => *count,
+            Elements::Declared(variables, _) => variables.len(),
+        }
+    }
+
+    /// The type at a place, if there is one.
+    fn get(&self, alloc: Global, place: usize) -> Result<Option<DataType>, AllocError>
+        ensures { IfOk result (λ o.
+            option_map view_type o ≡ mirror.type_at (mirror.elements_in self.now) place) }
+    {
+        match self {
+            Elements::Scalars(kind, count) => Ok(scalar_at(alloc, *kind, *count, place)),
+            Elements::Declared(variables, statics) => {
+                declared_at(alloc, variables, statics, place)
+            }
+        }
+    }
+}
+
+/// An array of so many elements of this type, if there is one.
+pub fn array_type(size: u64, element: Option<DataType>) -> Result<Option<DataType>, AllocError>
+    ensures { IfOk result (λ o.
+        option_map view_type o ≡ mirror.arrays size (option_map view_type element)) }
+{
+    match element {
+        Some(element) => array_of(size, element),
+        None => Ok(None),
+    }
+}
+
+impl TypeRow<'_> {
+    /// How many types there are.
+    pub fn len(&self) -> usize
+        ensures { result ≡ length (mirror.row_in self.now) }
+    {
+        self.elements.len()
+    }
+
+    /// The type at a place, if there is one.
+    pub fn get(&self, alloc: Global, place: usize) -> Result<Option<DataType>, AllocError>
+        ensures { IfOk result (λ o.
+            option_map view_type o ≡ mirror.type_at (mirror.row_in self.now) place) }
+    {
+        let element = self.elements.get(alloc, place)?;
+        match self.arrays {
+            Arrays::No => Ok(element),
+            Arrays::All(size) => array_type(size, element),
+            Arrays::Rest(size) => {
+                if place == 0 {
+                    Ok(element)
+                } else {
+                    array_type(size, element)
+                }
+            }
+        }
+    }
+}
+
+/// Scalars of one kind, so many that are taken and one that is given.
+fn scalars<'a>(kind: Kind, count: usize, stands: bool) -> Called<'a>
+    ensures { mirror.called_in result ≡ mirror.scalars kind count stands }
+{
+    Called {
+        takes: Elements::Scalars(kind, count),
+        gives: Elements::Scalars(kind, 1),
+        stands,
+    }
+}
+
+/// What is not there takes and gives nothing.
+fn nothing<'a>() -> Called<'a>
+    ensures { mirror.called_in result ≡ mirror.nothing }
+{
+    Called {
+        takes: Elements::Scalars(Kind::Int, 0),
+        gives: Elements::Scalars(Kind::Int, 0),
+        stands: false,
+    }
+}
+
+/// The inputs and the outputs of a node under these static values.
+fn declared<'a>(node: &'a ResolvedNode, statics: &'a [StaticInt]) -> Called<'a>
+    ensures { mirror.called_in result ≡ mirror.declared_signature statics.now node.now }
+{
+    Called {
+        takes: Elements::Declared(part_of(&node.variables, 0, node.inputs), statics),
+        gives: Elements::Declared(part_of(&node.variables, node.inputs, node.outputs), statics),
+        stands: true,
+    }
+}
+
+/// The inputs and the outputs of what is called.
+fn callee<'a>(env: &TypeEnv<'a, '_>, call: CallId) -> Called<'a>
+    ensures { mirror.called_in result ≡ mirror.calls_in env.now call }
+{
+    match env.table.called(env.specialization, call) {
+        Some(callee) => match env.reached.nodes.get(callee.node.0) {
+            Some(node) => declared(node, &callee.statics),
+            None => nothing(),
+        },
+        None => nothing(),
+    }
+}
+
+/// What an iterated data operator takes and gives.
+fn symbol<'a>(op: BinaryOperator) -> Called<'a>
+    ensures { mirror.called_in result ≡ mirror.symbol_signature op }
+{
+    match op {
+        BinaryOperator::Plus
+        | BinaryOperator::Minus
+        | BinaryOperator::Times
+        | BinaryOperator::Divide
+        | BinaryOperator::Modulo => scalars(Kind::Int, 2, true),
+        BinaryOperator::Or | BinaryOperator::Xor | BinaryOperator::And | BinaryOperator::Implies =>
+            scalars(Kind::Bool, 2, true),
+        _ => scalars(Kind::Bool, 2, false),
+    }
+}
+
+/// What is called once.
+fn plain<'a>(called: &Called<'a>) -> Signature<'a>
+    ensures { mirror.signature_in result ≡ mirror.called_in called.now }
+{
+    Signature {
+        takes: TypeRow {
+            elements: called.takes,
+            arrays: Arrays::No,
+        },
+        gives: TypeRow {
+            elements: called.gives,
+            arrays: Arrays::No,
+        },
+        stands: called.stands,
+    }
+}
+
+/// What is called for each element of arrays of so many.
+fn mapped<'a>(size: u64, called: &Called<'a>) -> Signature<'a>
+    ensures { mirror.signature_in result
+        ≡ mirror.iterated_by ArrayIterator.Map size (mirror.called_in called.now) }
+{
+    Signature {
+        takes: TypeRow {
+            elements: called.takes,
+            arrays: Arrays::All(size),
+        },
+        gives: TypeRow {
+            elements: called.gives,
+            arrays: Arrays::All(size),
+        },
+        stands: called.stands,
+    }
+}
+
+/// Whether the first type that is given is the first that is taken.
+fn is_accumulated(alloc: Global, called: &Called) -> Result<bool, AllocError>
+    ensures { IfOk result (λ b. b ≡ mirror.is_accumulated (mirror.called_in called.now)) }
+{
+    let taken = called.takes.get(alloc, 0)?;
+    let given = called.gives.get(alloc, 0)?;
+    Ok(are_one(&taken, &given))
+}
+
+/// What is called with an accumulator, and gives it alone.
+fn reduced<'a>(alloc: Global, size: u64, called: &Called<'a>) -> Result<Signature<'a>, AllocError>
+    ensures { IfOk result (λ s. mirror.signature_in s
+        ≡ mirror.iterated_by ArrayIterator.Red size (mirror.called_in called.now)) }
+{
+    let is_accumulated = is_accumulated(alloc, called)?;
+    Ok(Signature {
+        takes: TypeRow {
+            elements: called.takes,
+            arrays: Arrays::Rest(size),
+        },
+        gives: TypeRow {
+            elements: called.gives,
+            arrays: Arrays::No,
+        },
+        stands: called.stands && (called.gives.len() == 1 && is_accumulated),
+    })
+}
+
+/// What is called with an accumulator alone, and gives it and more.
+fn filled<'a>(alloc: Global, size: u64, called: &Called<'a>) -> Result<Signature<'a>, AllocError>
+    ensures { IfOk result (λ s. mirror.signature_in s
+        ≡ mirror.iterated_by ArrayIterator.Fill size (mirror.called_in called.now)) }
+{
+    let is_accumulated = is_accumulated(alloc, called)?;
+    Ok(Signature {
+        takes: TypeRow {
+            elements: called.takes,
+            arrays: Arrays::No,
+        },
+        gives: TypeRow {
+            elements: called.gives,
+            arrays: Arrays::Rest(size),
+        },
+        stands: called.stands
+            && (called.takes.len() == 1 && (1 < called.gives.len() && is_accumulated)),
+    })
+}
+
+/// What is iterated so often, if that is known.
+fn iterated<'a>(
+    alloc: Global,
+    iterator: ArrayIterator,
+    size: Option<u64>,
+    called: &Called<'a>,
+) -> Result<Signature<'a>, AllocError>
+    ensures { IfOk result (λ s. mirror.signature_in s
+        ≡ mirror.iterated iterator size (mirror.called_in called.now)) }
+{
+    let Some(size) = size else {
+        return Ok(plain(&nothing()));
+    };
+    match iterator {
+        ArrayIterator::Map => Ok(mapped(size, called)),
+        ArrayIterator::Red => reduced(alloc, size, called),
+        ArrayIterator::Fill => filled(alloc, size, called),
+    }
+}
+
+/// What a term with so many operands in a row takes and gives, a list apart.
+pub fn signature_of<'a>(
+    alloc: Global,
+    env: &TypeEnv<'a, '_>,
+    term: &Term,
+    count: usize,
+) -> Result<Signature<'a>, AllocError>
+    ensures { IfOk result (λ s. mirror.signature_in s
+        ≡ mirror.signature (mirror.calls_in env.now) (context_in env.now) term.now count) }
+{
+    match term {
+        Term::AtMostOne(_) | Term::Nor(_) => Ok(plain(&scalars(Kind::Bool, count, true))),
+        Term::Call(call, _) => Ok(plain(&callee(env, *call))),
+        Term::IterateNode(iterator, call, _) => {
+            iterated(alloc, *iterator, env.repeats(*call), &callee(env, *call))
+        }
+        Term::IterateSymbol(iterator, op, size, _) => {
+            iterated(alloc, *iterator, env.count(*size), &symbol(*op))
+        }
+        _ => Ok(plain(&nothing())),
+    }
+}
+
+/// Whether a type, if there is one, is the one that is wanted at a place.
+pub fn is_wanted(
+    alloc: Global,
+    wanted: &TypeRow,
+    place: usize,
+    given: &Option<DataType>,
+) -> Result<bool, AllocError>
+    ensures { IfOk result (λ b. b ≡ mirror.are_one
+        (mirror.type_at (mirror.row_in wanted.now) place) (option_map view_type given.now)) }
+{
+    let wanted = wanted.get(alloc, place)?;
+    Ok(are_one(&wanted, given))
+}
+
+/// The type of a row of one.
+fn only_type(alloc: Global, row: &TypeRow) -> Result<Option<DataType>, AllocError>
+    ensures { IfOk result (λ o. option_map view_type o
+        ≡ lists.◌>>=◌ (all_some (mirror.row_in row.now)) types.only) }
+{
+    if row.len() == 1 {
+        row.get(alloc, 0)
+    } else {
+        Ok(None)
+    }
+}
+
+/// The one type that is given, where there is one and no more.
+pub fn only_given(alloc: Global, given: &Option<TypeRow>) -> Result<Option<DataType>, AllocError>
+    ensures { IfOk result (λ o. option_map view_type o ≡ lists.◌>>=◌ (lists.◌>>=◌
+        (option_map mirror.row_in given.now) all_some) types.only) }
+{
+    match given {
+        Some(row) => only_type(alloc, row),
+        None => Ok(None),
+    }
+}
