@@ -3,10 +3,7 @@
 use Rattle.std.proofs.Common.{◌≡◌, ◌⊎◌, inl, inr, true, false, ℤ, pos, Option, Some, None}
 use Rattle.std.proofs.Common.{option_map, List, refl, sym, ap, ◌∙◌}
 use Rattle.lb_syntax.specs.declared.tree.BinaryOperator.{BinaryOperator}
-use Rattle.lb_syntax.specs.declared.tree.BinaryOperator.TheVariants.{Or, Xor, And, Implies, Equal}
-use Rattle.lb_syntax.specs.declared.tree.BinaryOperator.TheVariants.{Unequal, Less, AtMost, Greater}
-use Rattle.lb_syntax.specs.declared.tree.BinaryOperator.TheVariants.{AtLeast, Plus, Minus, Times}
-use Rattle.lb_syntax.specs.declared.tree.BinaryOperator.TheVariants.{Divide, Modulo}
+use Rattle.lb_syntax.specs.declared.tree.BinaryOperator.TheVariants.{Or, Xor, And, Implies}
 use Rattle.lb_syntax.specs.declared.tree.Kind.TheVariants.{Int, Bool as Truth_kind}
 use Rattle.lb_syntax.specs.Lists.{Every, either_or, holds}
 use Rattle.lb_syntax.specs.Tree.{Symbol, Expr, Literal, Variable, Iterate}
@@ -17,8 +14,8 @@ use Rattle.lb_static.specs.Instantiation.{static_refusal}
 use Rattle.lb_check.specs.Acceptance.{check_refusal}
 use Rattle.lb_check.specs.Occurrences.{node_occurrences}
 use Rattle.lb_check.specs.Scalars.{or_fault}
-use Rattle.lb_check.specs.Types.{data_types, constant_type, singly, operator_types}
-use Rattle.lb_check.specs.Types.{is_arithmetic, is_logical}
+use Rattle.lb_check.specs.Types.{data_types, constant_type, singly, operator_types, is_arithmetic}
+use Rattle.lb_check.specs.Types.{is_logical}
 use Rattle.lb_check.proofs.Every.{Every-map}
 use Rattle.lb_check.proofs.TypedOccurrences.{HasTypes, occurrences_typed}
 use Rattle.lb_flat.proofs.NumberedFits.{IsScalarAt, AreScalars}
@@ -36,17 +33,7 @@ logical_kind Or e = refl
 logical_kind Xor e = refl
 logical_kind And e = refl
 logical_kind Implies e = refl
-logical_kind Equal e = absurd cc
-logical_kind Unequal e = absurd cc
-logical_kind Less e = absurd cc
-logical_kind AtMost e = absurd cc
-logical_kind Greater e = absurd cc
-logical_kind AtLeast e = absurd cc
-logical_kind Plus e = absurd cc
-logical_kind Minus e = absurd cc
-logical_kind Times e = absurd cc
-logical_kind Divide e = absurd cc
-logical_kind Modulo e = absurd cc
+logical_kind _ e = absurd cc
 
 symbol_kind :
     (op : BinaryOperator) (t : DataType) (u : DataType) →

@@ -7,13 +7,10 @@ use Rattle.std.specs.Str.{bytes_eq}
 use Rattle.std.proofs.lemmas.Slice.Eq.{bytes_eq-Decides}
 use Rattle.std.proofs.lemmas.Option.{same_Some}
 use Rattle.lb_syntax.specs.Lists.{Every, In, all_some, either_or, listed}
-use Rattle.lb_syntax.specs.Tree.{Name, Static, Expr, Literal, Truth, Variable, Group}
-use Rattle.lb_syntax.specs.Tree.{Unary, Binary, If, Arrow, Fby, Pre, Current, When, Replicate}
-use Rattle.lb_syntax.specs.Tree.{Index, Slice, Join, Array, AtMostOne, Nor, Call, Iterate, Exprs}
-use Rattle.lb_syntax.specs.Tree.{Nil, Cons, Declaration}
+use Rattle.lb_syntax.specs.Tree.{Name, Static, Expr, Variable, Group, Call, Exprs, Nil, Cons}
+use Rattle.lb_syntax.specs.Tree.{Declaration}
 use Rattle.lb_syntax.proofs.TruthValues.{and_first, and_second}
-use Rattle.lb_static.specs.DataTypes.{DataType, is_type, are_types, variables}
-use Rattle.lb_static.specs.DataTypes.{variable_type, width}
+use Rattle.lb_static.specs.DataTypes.{DataType, is_type, are_types, variables, variable_type, width}
 use Rattle.lb_static.specs.Instances.{Program, Instance, Child, name_value}
 use Rattle.lb_static.specs.StaticValues.{named}
 use Rattle.lb_check.specs.Clocks.{Clock, as_variable, given_inputs, given_outputs, ungrouped}
@@ -72,26 +69,7 @@ module _ (Y : Layout) (P : Program) (here : Instance) where
       (emit Y P here k n s e).found ≡ (emit Y P here k n s (ungrouped e)).found
   unfolding emit
   grouped_found k n s (Group a) = grouped_found k n s a
-  grouped_found k n s (Literal m) = refl
-  grouped_found k n s (Truth b) = refl
-  grouped_found k n s (Variable x) = refl
-  grouped_found k n s (Unary op a) = refl
-  grouped_found k n s (Binary op a b) = refl
-  grouped_found k n s (If c a b) = refl
-  grouped_found k n s (Arrow a b) = refl
-  grouped_found k n s (Fby a b) = refl
-  grouped_found k n s (Pre a) = refl
-  grouped_found k n s (Current a) = refl
-  grouped_found k n s (When a x sign) = refl
-  grouped_found k n s (Replicate a m) = refl
-  grouped_found k n s (Index a i) = refl
-  grouped_found k n s (Slice a i j) = refl
-  grouped_found k n s (Join a b) = refl
-  grouped_found k n s (Array es) = refl
-  grouped_found k n s (AtMostOne es) = refl
-  grouped_found k n s (Nor es) = refl
-  grouped_found k n s (Call f statics es) = refl
-  grouped_found k n s (Iterate it op m es) = refl
+  grouped_found k n s _ = refl
 
   -- ## Types of variables
 

@@ -1,30 +1,23 @@
 -- The copies that an instance emits: of each call in its text those into the inputs of what is
 -- called, and of each equation those into its left variables.
-use Rattle.std.proofs.Common.{ℕ, ◌+◌, false, pos, List, []}
-use Rattle.std.proofs.Common.{◌∷◌, ◌++◌, map, flat_map, zip}
-use Rattle.std.proofs.Common.{subst}
-use Rattle.lb_syntax.specs.Lists.{Every, In, zip2, joined}
-use Rattle.lb_syntax.specs.Tree.{Node_named, Symbol, Expr, Literal, Truth, Variable, Group}
-use Rattle.lb_syntax.specs.Tree.{Unary, Binary, If, Arrow, Fby, Pre, Current, When, Replicate}
-use Rattle.lb_syntax.specs.Tree.{Index, Slice, Join, Array, AtMostOne, Nor, Call, Iterate, Exprs}
-use Rattle.lb_syntax.specs.Tree.{Nil, Cons, Statement, Equation, Assertion}
-use Rattle.lb_static.specs.DataTypes.{variables}
+use Rattle.std.proofs.Common.{ℕ, ◌+◌, List, [], ◌∷◌, ◌++◌, flat_map, zip, subst}
+use Rattle.lb_syntax.specs.Lists.{Every, In}
+use Rattle.lb_syntax.specs.Tree.{Node_named, Symbol, Expr, Literal, Truth, Variable, Group, Unary}
+use Rattle.lb_syntax.specs.Tree.{Binary, If, Arrow, Fby, Pre, Current, When, Replicate, Index}
+use Rattle.lb_syntax.specs.Tree.{Slice, Join, Array, AtMostOne, Nor, Call, Iterate, Exprs, Nil}
+use Rattle.lb_syntax.specs.Tree.{Cons, Statement, Equation, Assertion}
 use Rattle.lb_static.specs.Instances.{Program, Instance, Child, node_named}
-use Rattle.lb_static.specs.StaticValues.{named}
-use Rattle.lb_check.specs.Scalars.{Integer, Boolean, first_value}
-use Rattle.lb_check.specs.Clocks.{Clock, On, declared_clock, clock_of, clock_or}
+use Rattle.lb_check.specs.Clocks.{Clock, On, declared_clock}
 use Rattle.lb_check.specs.Occurrences.{Occurrence, at, call_count, call_clocks, occurrences}
 use Rattle.lb_check.specs.Occurrences.{occurrences_in, occurrences_each, statement_clock}
 use Rattle.lb_check.specs.Occurrences.{right_sides, statements, node_occurrences}
 use Rattle.lb_check.specs.Streams.{number, outputs_of, iterated}
 use Rattle.lb_check.proofs.Every.{Every-append, Every-first, Every-second}
-use Rattle.lb_flat.specs.Flat.{Operation, Constant, ApplyUnary, ApplyBinary, FirstThen}
-use Rattle.lb_flat.specs.Flat.{Previous, Latest, Sample, FlatEquation}
+use Rattle.lb_flat.specs.Flat.{Operation, FlatEquation}
 use Rattle.lb_flat.specs.Layouts.{Layout, flat_clock}
-use Rattle.lb_flat.specs.Emit.{State, Emitted, add, keep, assert, joins}
-use Rattle.lb_flat.specs.Emit.{chosen_by}
-use Rattle.lb_flat.specs.Emit.{targets, copied, call_copies, iterator_copies, emit}
-use Rattle.lb_flat.specs.Emit.{emit_all, emit_each, emit_body, emit_instances}
+use Rattle.lb_flat.specs.Emit.{State, Emitted, add, keep, assert, joins, targets, copied}
+use Rattle.lb_flat.specs.Emit.{call_copies, iterator_copies, emit, emit_all, emit_each, emit_body}
+use Rattle.lb_flat.specs.Emit.{emit_instances}
 use Rattle.lb_flat.proofs.EmittedCopies.{add_copies, keep_copies, nor_copies, at_most_one_copies}
 use Rattle.lb_flat.proofs.EmittedCopies.{symbol_copies, name_copies}
 use Rattle.lb_flat.proofs.Bodies.{occurrences_of, assert_copies}
@@ -90,6 +83,16 @@ module _ (Y : Layout) (P : Program) (cs : List FlatEquation) where
     before_keep : (x : Emitted) → Within (keep x).state.copies → Within x.state.copies
     before_keep x h = subst Within (keep_copies x) h
 
+    -- two operands, one after another
+    two_copies :
+        (k : Clock) (n : ℕ) (s : State) (a b : Expr) →
+        (let x = emit Y P here k n s a in
+        (Within x.state.copies → AreThere s (occurrences P here.node k n a)) →
+        AreThere x.state (occurrences P here.node k (n + call_count a) b) →
+        AreThere s
+        (occurrences P here.node k n a ++ occurrences P here.node k (n + call_count a) b))
+    two_copies k n s a b f h = both s _ _ _ f h
+
     mutual
       unfolding emit
 
@@ -97,118 +100,45 @@ module _ (Y : Layout) (P : Program) (cs : List FlatEquation) where
           (k : Clock) (n : ℕ) (s : State) (e : Expr) →
           Within (emit Y P here k n s e).state.copies →
           AreThere s (occurrences P here.node k n e)
-      copies_there k n s (Literal m) h =
-          next s (at k n (Literal m)) [] tt
-          (nothing s (before_add k s (Constant (Integer (pos m)) ∷ []) h))
-      copies_there k n s (Truth b) h =
-          next s (at k n (Truth b)) [] tt
-          (nothing s (before_add k s (Constant (Boolean b) ∷ []) h))
+      copies_there k n s (Literal m) h = next _ _ _ tt (nothing s (before_add k s _ h))
+      copies_there k n s (Truth b) h = next _ _ _ tt (nothing s (before_add k s _ h))
       copies_there k n s (Variable x) h =
-          next s (at k n (Variable x)) [] tt
-          (nothing s
-          (subst Within
-          (name_copies Y P here k s x (named (λ d. d.name) x (variables here.node))) h))
+          next _ _ _ tt (nothing s (subst Within (name_copies Y P here k s x _) h))
       copies_there k n s (Group a) h = copies_there k n s a h
       copies_there k n s (Unary op a) h =
-          let x = emit Y P here k n s a in
-          next s (at k n (Unary op a)) (occurrences P here.node k n a) tt
-          (copies_there k n s a (before_add k x.state (map (ApplyUnary op) x.found) h))
+          next _ _ _ tt (copies_there k n s a (before_add k _ _ h))
       copies_there k n s (Binary op a b) h =
-          let m = n + call_count a in
-          let x = emit Y P here k n s a in
-          let y = emit Y P here k m x.state b in
-          let oa = occurrences P here.node k n a in
-          let ob = occurrences P here.node k m b in
-          next s (at k n (Binary op a b)) (oa ++ ob) tt
-          (both s x.state oa ob (copies_there k n s a)
-          (copies_there k m x.state b
-          (before_add k y.state (zip2 (ApplyBinary op) x.found y.found) h)))
+          next _ _ _ tt (two_copies k n s a b (copies_there k n s a)
+          (copies_there k _ _ b (before_add k _ _ h)))
       copies_there k n s (If c a b) h =
           let na = n + call_count c in
-          let nb = na + call_count a in
           let z = emit Y P here k n s c in
-          let x = emit Y P here k na z.state a in
-          let y = emit Y P here k nb x.state b in
-          let oc = occurrences P here.node k n c in
-          let oa = occurrences P here.node k na a in
-          let ob = occurrences P here.node k nb b in
-          next s (at k n (If c a b)) (oc ++ (oa ++ ob)) tt
-          (both s z.state oc (oa ++ ob) (copies_there k n s c)
-          (both z.state x.state oa ob (copies_there k na z.state a)
-          (copies_there k nb x.state b
-          (before_add k y.state (chosen_by z.found x.found y.found) h))))
+          next _ _ _ tt (both s z.state _ _ (copies_there k n s c)
+          (two_copies k na z.state a b (copies_there k na z.state a)
+          (copies_there k _ _ b (before_add k _ _ h))))
       copies_there k n s (Arrow a b) h =
-          let m = n + call_count a in
-          let x = emit Y P here k n s a in
-          let y = emit Y P here k m x.state b in
-          let oa = occurrences P here.node k n a in
-          let ob = occurrences P here.node k m b in
-          next s (at k n (Arrow a b)) (oa ++ ob) tt
-          (both s x.state oa ob (copies_there k n s a)
-          (copies_there k m x.state b
-          (before_add k y.state (zip2 (FirstThen false) x.found y.found) h)))
+          next _ _ _ tt (two_copies k n s a b (copies_there k n s a)
+          (copies_there k _ _ b (before_add k _ _ h)))
       copies_there k n s (Fby a b) h =
-          let m = n + call_count a in
-          let x = emit Y P here k n s a in
-          let w = emit Y P here k m x.state b in
-          let y = keep w in
-          let ops = map (Previous first_value) y.found in
-          let z = add (flat_clock Y here.path k) y.state ops in
-          let oa = occurrences P here.node k n a in
-          let ob = occurrences P here.node k m b in
-          next s (at k n (Fby a b)) (oa ++ ob) tt
-          (both s x.state oa ob (copies_there k n s a)
-          (copies_there k m x.state b
-          (before_keep w
-          (before_add k y.state ops
-          (before_add k z.state (zip2 (FirstThen false) x.found z.found) h)))))
+          next _ _ _ tt (two_copies k n s a b (copies_there k n s a)
+          (copies_there k _ _ b (before_keep _ (before_add k _ _ (before_add k _ _ h)))))
       copies_there k n s (Pre a) h =
-          let w = emit Y P here k n s a in
-          let x = keep w in
-          next s (at k n (Pre a)) (occurrences P here.node k n a) tt
-          (copies_there k n s a
-          (before_keep w (before_add k x.state (map (Previous first_value) x.found) h)))
+          next _ _ _ tt (copies_there k n s a (before_keep _ (before_add k _ _ h)))
       copies_there k n s (When a x sign) h =
           let own = declared_clock here.node x in
-          let z = emit Y P here own n s a in
-          next s (at k n (When a x sign)) (occurrences P here.node own n a) tt
-          (copies_there own n s a (before_add (On own x sign) z.state (map Sample z.found) h))
+          next _ _ _ tt (copies_there own n s a (before_add (On own x sign) _ _ h))
       copies_there k n s (Current a) h =
-          let own = clock_or (clock_of P here.node a) in
-          let w = emit Y P here own n s a in
-          let x = keep w in
-          next s (at k n (Current a)) (occurrences P here.node own n a) tt
-          (copies_there own n s a
-          (before_keep w (before_add k x.state (map (Latest first_value) x.found) h)))
-      copies_there k n s (Replicate a m) h =
-          next s (at k n (Replicate a m)) (occurrences P here.node k n a) tt
-          (copies_there k n s a h)
-      copies_there k n s (Index a i) h =
-          next s (at k n (Index a i)) (occurrences P here.node k n a) tt (copies_there k n s a h)
-      copies_there k n s (Slice a i j) h =
-          next s (at k n (Slice a i j)) (occurrences P here.node k n a) tt
-          (copies_there k n s a h)
+          next _ _ _ tt (copies_there _ n s a (before_keep _ (before_add k _ _ h)))
+      copies_there k n s (Replicate a m) h = next _ _ _ tt (copies_there k n s a h)
+      copies_there k n s (Index a i) h = next _ _ _ tt (copies_there k n s a h)
+      copies_there k n s (Slice a i j) h = next _ _ _ tt (copies_there k n s a h)
       copies_there k n s (Join a b) h =
-          let m = n + call_count a in
-          let x = emit Y P here k n s a in
-          let oa = occurrences P here.node k n a in
-          let ob = occurrences P here.node k m b in
-          next s (at k n (Join a b)) (oa ++ ob) tt
-          (both s x.state oa ob (copies_there k n s a) (copies_there k m x.state b h))
-      copies_there k n s (Array es) h =
-          next s (at k n (Array es)) (occurrences_in P here.node k n es) tt
-          (row_copies k n s es h)
+          next _ _ _ tt (two_copies k n s a b (copies_there k n s a) (copies_there k _ _ b h))
+      copies_there k n s (Array es) h = next _ _ _ tt (row_copies k n s es h)
       copies_there k n s (AtMostOne es) h =
-          let r = emit_all Y P here k n s es in
-          next s (at k n (AtMostOne es)) (occurrences_in P here.node k n es) tt
-          (row_copies k n s es
-          (subst Within
-          (at_most_one_copies (flat_clock Y here.path k) r.state (joined r.found)) h))
+          next _ _ _ tt (row_copies k n s es (subst Within (at_most_one_copies _ _ _) h))
       copies_there k n s (Nor es) h =
-          let r = emit_all Y P here k n s es in
-          next s (at k n (Nor es)) (occurrences_in P here.node k n es) tt
-          (row_copies k n s es
-          (subst Within (nor_copies (flat_clock Y here.path k) r.state (joined r.found)) h))
+          next _ _ _ tt (row_copies k n s es (subst Within (nor_copies _ _ _) h))
       copies_there k n s (Call f statics es) h =
           let child = Child here.path n 0 in
           let callee = node_named P f in
@@ -232,10 +162,8 @@ module _ (Y : Layout) (P : Program) (cs : List FlatEquation) where
           (s, Every-second (λ q. In q cs) r.state.copies qs all)
           (row_copies k (n + 1) s es (Every-first (λ q. In q cs) r.state.copies qs all))
       copies_there k n s (Iterate it (Symbol op) m es) h =
-          let r = emit_all Y P here k n s es in
-          next s (at k n (Iterate it (Symbol op) m es)) (occurrences_in P here.node k n es) tt
-          (row_copies k n s es
-          (subst Within (symbol_copies (flat_clock Y here.path k) op r.state it r.found) h))
+          next _ _ _ tt
+          (row_copies k n s es (subst Within (symbol_copies _ op _ it _) h))
 
       row_copies :
           (k : Clock) (n : ℕ) (s : State) (es : Exprs) →
@@ -243,10 +171,7 @@ module _ (Y : Layout) (P : Program) (cs : List FlatEquation) where
           AreThere s (occurrences_in P here.node k n es)
       row_copies k n s Nil h = nothing s h
       row_copies k n s (Cons e es) h =
-          let m = n + call_count e in
-          let x = emit Y P here k n s e in
-          both s x.state (occurrences P here.node k n e) (occurrences_in P here.node k m es)
-          (copies_there k n s e) (row_copies k m x.state es h)
+          both s _ _ _ (copies_there k n s e) (row_copies k _ _ es h)
 
       each_copies :
           (ks : List Clock) (n : ℕ) (s : State) (es : Exprs) →
@@ -255,10 +180,7 @@ module _ (Y : Layout) (P : Program) (cs : List FlatEquation) where
       each_copies ks n s Nil h = nothing s h
       each_copies [] n s (Cons e es) h = nothing s h
       each_copies (k ∷ ks) n s (Cons e es) h =
-          let m = n + call_count e in
-          let x = emit Y P here k n s e in
-          both s x.state (occurrences P here.node k n e) (occurrences_each P here.node ks m es)
-          (copies_there k n s e) (each_copies ks m x.state es h)
+          both s _ _ _ (copies_there k n s e) (each_copies ks _ _ es h)
 
     -- ## Statements
 

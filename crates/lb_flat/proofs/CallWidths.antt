@@ -49,10 +49,6 @@ fed_by_types Map m ins outs args ts e =
     let b = bound (where_true (are_types wanted.value args) outs) _ ts wanted.gives in
     let t = truly (are_types wanted.value args) outs b.value b.is in
     sym (are_counts wanted.value args t.holds) ∙ arrays_wide m ins wanted.value wanted.is
-fed_by_types Red m [] outs args ts e = cc
-fed_by_types Red m (a ∷ ins) [] args ts e = cc
-fed_by_types Red m (a ∷ ins) (u ∷ (v ∷ us)) args ts e = cc
-fed_by_types Red m (a ∷ ins) (u ∷ []) [] ts e = cc
 fed_by_types Red m (a ∷ ins) (u ∷ []) (t ∷ args) ts e =
     let wanted = bound (all_some (map (array_of m) ins)) _ ts e in
     let arrays = are_types wanted.value args in
@@ -62,16 +58,11 @@ fed_by_types Red m (a ∷ ins) (u ∷ []) (t ∷ args) ts e =
       sym (are_counts wanted.value args (and_second (is_type a t) arrays inner))
           ∙ arrays_wide m ins wanted.value wanted.is,
     )
-fed_by_types Fill m [] outs args ts e = cc
-fed_by_types Fill m (a ∷ (b ∷ ins)) outs args ts e = cc
-fed_by_types Fill m (a ∷ []) [] args ts e = cc
-fed_by_types Fill m (a ∷ []) (u ∷ []) args ts e = cc
-fed_by_types Fill m (a ∷ []) (u ∷ (v ∷ us)) [] ts e = cc
-fed_by_types Fill m (a ∷ []) (u ∷ (v ∷ us)) (t ∷ (s ∷ args)) ts e = cc
 fed_by_types Fill m (a ∷ []) (u ∷ (v ∷ us)) (t ∷ []) ts e =
     let arrays = bound (all_some (map (array_of m) (v ∷ us))) _ ts e in
     let fit = truly (is_type a u && is_type a t) (u ∷ arrays.value) ts arrays.gives in
     sym (same_count a t (and_second (is_type a u) (is_type a t) fit.holds))
+fed_by_types _ m _ _ _ ts e = cc
 
 no_types : (P : Program) (c : Instance) (t : DataType) (ts : List DataType) →
     all_some (map (variable_type P c) []) ≡ Some (t ∷ ts) → ⊥
@@ -85,13 +76,9 @@ pub accumulator_by_types :
 accumulator_by_types P c Map m ds ins outs args ts e o = tt
 accumulator_by_types P c Red m (d ∷ ds) ins outs args ts e o = tt
 accumulator_by_types P c Fill m (d ∷ ds) ins outs args ts e o = tt
-accumulator_by_types P c Red m [] [] outs args ts e o = cc
-accumulator_by_types P c Red m [] (a ∷ ins) [] args ts e o = cc
 accumulator_by_types P c Red m [] (a ∷ ins) (u ∷ us) args ts e o = absurd (no_types P c u us o)
-accumulator_by_types P c Fill m [] [] outs args ts e o = cc
-accumulator_by_types P c Fill m [] (a ∷ (b ∷ ins)) outs args ts e o = cc
-accumulator_by_types P c Fill m [] (a ∷ []) [] args ts e o = cc
 accumulator_by_types P c Fill m [] (a ∷ []) (u ∷ us) args ts e o = absurd (no_types P c u us o)
+accumulator_by_types P c _ m _ _ _ args ts e o = cc
 
 module _ (Y : Layout) (P : Program) (H : History) (here : Instance)
     (same : (p : Path) (x : Name) → length (Y.places p x) ≡ length (H.columns p x))

@@ -1,8 +1,8 @@
 -- The copies of all instances are the definitions of left variables and of the inputs of what is
 -- called: each copy is one of them, and each of them has its copy.
-use Rattle.std.proofs.Common.{◌≡◌, ◌⊎◌, inl, inr, ℕ, ◌+◌, true, pos, Option}
-use Rattle.std.proofs.Common.{Some, None, List, [], ◌∷◌, ◌++◌, map, length, flat_map, zip, refl}
-use Rattle.std.proofs.Common.{sym, ap, ◌∙◌, subst, arith}
+use Rattle.std.proofs.Common.{◌≡◌, ◌⊎◌, inl, inr, ℕ, ◌+◌, true, pos, Option, Some, None, List, []}
+use Rattle.std.proofs.Common.{◌∷◌, ◌++◌, map, length, flat_map, zip, refl, sym, ap, ◌∙◌, subst}
+use Rattle.std.proofs.Common.{arith}
 use Rattle.std.specs.List.{list_all}
 use Rattle.std.proofs.lemmas.List.{append-nil, length-map, append_assoc}
 use Rattle.std.proofs.lemmas.Option.{same_Some}
@@ -10,13 +10,12 @@ use Rattle.std.proofs.lemmas.Grind.{flat_map-append}
 use Rattle.lb_syntax.specs.declared.tree.ArrayIterator.{ArrayIterator}
 use Rattle.lb_syntax.specs.declared.tree.ArrayIterator.TheVariants.{Map, Red, Fill}
 use Rattle.lb_syntax.specs.Lists.{Every, In, all_some, where_true}
-use Rattle.lb_syntax.specs.Tree.{Name, Node_named, Symbol, Expr, Literal, Truth, Variable}
-use Rattle.lb_syntax.specs.Tree.{Group, Unary, Binary, If, Arrow, Fby, Pre, Current, When}
-use Rattle.lb_syntax.specs.Tree.{Replicate, Index, Slice, Join, Array, AtMostOne, Nor, Call}
-use Rattle.lb_syntax.specs.Tree.{Iterate, Statement, Equation, Assertion}
+use Rattle.lb_syntax.specs.Tree.{Name, Node_named, Symbol, Expr, Literal, Truth, Variable, Group}
+use Rattle.lb_syntax.specs.Tree.{Unary, Binary, If, Arrow, Fby, Pre, Current, When, Replicate}
+use Rattle.lb_syntax.specs.Tree.{Index, Slice, Join, Array, AtMostOne, Nor, Call, Iterate}
+use Rattle.lb_syntax.specs.Tree.{Statement, Equation, Assertion}
 use Rattle.lb_syntax.proofs.TruthValues.{and_first, and_second}
-use Rattle.lb_static.specs.Instances.{Program, Instance, Path, Child, static_count}
-use Rattle.lb_static.specs.Instances.{node_named}
+use Rattle.lb_static.specs.Instances.{Program, Instance, Path, Child, static_count, node_named}
 use Rattle.lb_static.specs.DataTypes.{DataType, are_types}
 use Rattle.lb_static.specs.Instantiation.{are_same}
 use Rattle.lb_static.proofs.Options.{length-all_some}
@@ -49,6 +48,7 @@ use Rattle.lb_flat.proofs.Widths.{called, placed, AreVariablesWide}
 use Rattle.lb_flat.proofs.LinkSymbols.{iterated_pairs, joins_found, red_out}
 use Rattle.lb_flat.proofs.LinkWords.{Pairs, pairs-append, AllMeet, AreLinks, Link, variable_links}
 use Rattle.lb_flat.proofs.LinkTerms.{AreNumbered, IsKnown, outputs_numbered, each_output, linked}
+use Rattle.lb_flat.proofs.LinkTerms.{term_before}
 use Rattle.lb_flat.proofs.CopiedDefinitions.{AreMatched, matched-none, matched-append}
 use Rattle.lb_flat.proofs.CopiedDefinitions.{matched-moved, matched-pairs, IsDefinedBy}
 use Rattle.lb_flat.proofs.CopiedCalls.{IsPassed, ArePassed, called_by, Defines, calls_defined}
@@ -268,25 +268,7 @@ module _ (Y : Layout) (P : Program) (H : History)
         (λ i lt x. outputs_numbered Y P H same IsAt Under Left here f statics n i (callee i)
         (there.at n i) refl (p.0.linkable.1 i lt (callee i) (there.at n i)) x)
         p.0.linkable.0 it outs))
-    call_links k n s (Literal m) c p = absurd cc
-    call_links k n s (Truth b) c p = absurd cc
-    call_links k n s (Variable x) c p = absurd cc
-    call_links k n s (Unary op a) c p = absurd cc
-    call_links k n s (Binary op a b) c p = absurd cc
-    call_links k n s (If z a b) c p = absurd cc
-    call_links k n s (Arrow a b) c p = absurd cc
-    call_links k n s (Fby a b) c p = absurd cc
-    call_links k n s (Pre a) c p = absurd cc
-    call_links k n s (Current a) c p = absurd cc
-    call_links k n s (When a x sign) c p = absurd cc
-    call_links k n s (Replicate a m) c p = absurd cc
-    call_links k n s (Index a i) c p = absurd cc
-    call_links k n s (Slice a i j) c p = absurd cc
-    call_links k n s (Join a b) c p = absurd cc
-    call_links k n s (Array es) c p = absurd cc
-    call_links k n s (AtMostOne es) c p = absurd cc
-    call_links k n s (Nor es) c p = absurd cc
-    call_links k n s (Iterate it (Symbol op) m es) c p = absurd cc
+    call_links k n s _ c p = absurd cc
 
     -- ## Left variables
 
@@ -342,7 +324,7 @@ module _ (Y : Layout) (P : Program) (H : History)
         (needs P here n e)
         (Every-append (Serves (flat_clock Y here.path k)) (targets Y here.node here.path x) []
         (own_clock x (Y.places here.path x)) tt)
-        (lefts_paired (x ∷ [])) l.links
+        (lefts_paired (x ∷ [])) l
     equation_paired n s (x ∷ (y ∷ lefts)) e typed p h =
         let k = declared_clock here.node x in
         let ts = flat_map (targets Y here.node here.path) (x ∷ (y ∷ lefts)) in
@@ -471,8 +453,8 @@ module _ (Y : Layout) (P : Program) (H : History)
         (Every-second (IsKnown Y P H same IsAt Under Left here) oa ob p)
         (passed_second oa ob g) h in
         let met = subst (AllMeet IsAt Under Left) (assert_equations x) r.before in
-        let l = linked Y P H same IsAt Under Left here wide numbered k n s e pa met in
-        joined_body s x.state (assert x) _ oa ob [] [] (equations_of m rest) l.before
+        let kept = term_before Y P H same IsAt Under Left here k n s e met in
+        joined_body s x.state (assert x) _ oa ob [] [] (equations_of m rest) kept
         (calls_defined Y P H same IsAt Under Left here wide numbered k n s e pa
         (passed_first oa ob g) met)
         (assert_copies x ∙ sym (append-nil x.state.copies)) (matched-none Defined) r
@@ -490,9 +472,9 @@ module _ (Y : Layout) (P : Program) (H : History)
         (Every-second (IsKnown Y P H same IsAt Under Left here) oa ob p)
         (passed_second oa ob g) h in
         let met = subst (AllMeet IsAt Under Left) (joins_equations x.state qs []) r.before in
-        let l = linked Y P H same IsAt Under Left here wide numbered k n s e pa met in
+        let kept = term_before Y P H same IsAt Under Left here k n s e met in
         let own = equation_definitions P here (Equation lefts e) (at k n e) in
-        joined_body s x.state t _ oa ob qs own (equations_of m rest) l.before
+        joined_body s x.state t _ oa ob qs own (equations_of m rest) kept
         (calls_defined Y P H same IsAt Under Left here wide numbered k n s e pa
         (passed_first oa ob g) met)
         (joins_copies x.state qs [])

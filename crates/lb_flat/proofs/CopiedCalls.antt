@@ -1,12 +1,12 @@
 -- The copies that an expression emits are the definitions of the inputs of what it calls, in
 -- whatever order: each copy is one of them, and each of them has its copy.
-use Rattle.std.proofs.Common.{◌≡◌, ℕ, zero, suc, ◌+◌, ◌<◌, ◌≤◌, false, Option, Some, None, List, []}
-use Rattle.std.proofs.Common.{◌∷◌, ◌++◌, map, length, flat_map, refl, sym, ap, ◌∙◌, subst, arith}
+use Rattle.std.proofs.Common.{◌≡◌, ℕ, zero, suc, ◌+◌, ◌<◌, ◌≤◌, Option, Some, None, List, [], ◌∷◌}
+use Rattle.std.proofs.Common.{◌++◌, map, length, flat_map, refl, sym, ap, ◌∙◌, subst, arith}
 use Rattle.std.specs.List.{range_with_len}
 use Rattle.std.proofs.lemmas.List.{append-nil, append_assoc}
 use Rattle.std.proofs.lemmas.Grind.{flat_map-append}
 use Rattle.lb_syntax.specs.declared.tree.ArrayIterator.{ArrayIterator}
-use Rattle.lb_syntax.specs.Lists.{Every, zip2, joined, listed}
+use Rattle.lb_syntax.specs.Lists.{Every, joined, listed}
 use Rattle.lb_syntax.specs.Tree.{Name, Static, Node_named, Symbol, Expr, Literal, Truth, Variable}
 use Rattle.lb_syntax.specs.Tree.{Group, Unary, Binary, If, Arrow, Fby, Pre, Current, When}
 use Rattle.lb_syntax.specs.Tree.{Replicate, Index, Slice, Join, Array, AtMostOne, Nor, Call}
@@ -16,9 +16,8 @@ use Rattle.lb_static.specs.Instances.{Program, Instance, Path, Child, call_site,
 use Rattle.lb_static.specs.Instances.{static_count, node_named}
 use Rattle.lb_static.specs.DataTypes.{DataType, variables}
 use Rattle.lb_check.specs.Types.{all_types, operator_types}
-use Rattle.lb_check.specs.Scalars.{Stream, first_value}
-use Rattle.lb_check.specs.Clocks.{Clock, On, Given, base_clock, outer, given_inputs, clock_of}
-use Rattle.lb_check.specs.Clocks.{clock_or, declared_clock}
+use Rattle.lb_check.specs.Scalars.{Stream}
+use Rattle.lb_check.specs.Clocks.{Clock, Given, base_clock, outer, given_inputs, declared_clock}
 use Rattle.lb_check.specs.Needs.{Element, Definition, elements, itself, needs, all_needs}
 use Rattle.lb_check.specs.Needs.{defined_as, input_definitions, output_elements, call_definitions}
 use Rattle.lb_check.specs.Occurrences.{Occurrence, at, call_count, call_clocks, occurrences}
@@ -27,8 +26,7 @@ use Rattle.lb_check.specs.Solutions.{iterator_inputs}
 use Rattle.lb_check.specs.Streams.{History, number, outputs_of, all_streams, argument_streams}
 use Rattle.lb_check.specs.Streams.{iterated}
 use Rattle.lb_check.proofs.OperandTypes.{first_of_all}
-use Rattle.lb_flat.specs.Flat.{FlatClock, FlatEquation, Operation, FirstThen, Previous, Latest}
-use Rattle.lb_flat.specs.Flat.{Sample}
+use Rattle.lb_flat.specs.Flat.{FlatClock, FlatEquation, Operation}
 use Rattle.lb_flat.specs.Layouts.{Layout, flat_clock}
 use Rattle.lb_flat.specs.Emit.{State, Emitted, received, call_copies, iterator_copies, add, keep}
 use Rattle.lb_flat.specs.Emit.{emit_name, emit, emit_all, emit_each}
@@ -39,15 +37,15 @@ use Rattle.lb_flat.proofs.TypeFacts.{bound}
 use Rattle.lb_flat.proofs.Widths.{called, placed, AreVariablesWide, IsOccurrenceWide}
 use Rattle.lb_flat.proofs.PlacedCalls.{call_as_wide, iterator_as_wide}
 use Rattle.lb_flat.proofs.TypedParts.{IsTypedAt}
+use Rattle.lb_flat.proofs.EmissionSteps.{IsAdding, nor_step, at_most_one_step, symbol_step}
 use Rattle.lb_flat.proofs.EmittedCopies.{add_copies, keep_copies, nor_copies, at_most_one_copies}
 use Rattle.lb_flat.proofs.EmittedCopies.{symbol_copies}
 use Rattle.lb_flat.proofs.FoundWidths.{length-inputs, as_many, all_as_many}
 use Rattle.lb_flat.proofs.GivenCalls.{clocks_enough}
-use Rattle.lb_flat.proofs.LinkSymbols.{keep_equations, symbol_before}
+use Rattle.lb_flat.proofs.LinkSymbols.{keep_equations}
 use Rattle.lb_flat.proofs.LinkWords.{Pairs, pairs-append, AllMeet, AreLinks, variable_links, added}
-use Rattle.lb_flat.proofs.LinkWords.{nor_gives, at_most_one_gives}
 use Rattle.lb_flat.proofs.LinkTerms.{AreNumbered, IsKnown, outputs_numbered, linked, all_linked}
-use Rattle.lb_flat.proofs.LinkTerms.{each_before}
+use Rattle.lb_flat.proofs.LinkTerms.{earlier, term_before, all_before, each_before}
 use Rattle.lb_flat.proofs.CopiedDefinitions.{AreMatched, matched-none, matched-append}
 use Rattle.lb_flat.proofs.CopiedDefinitions.{matched-crossed, matched-pairs, IsDefinedBy}
 use Rattle.lb_flat.proofs.CopiedDefinitions.{AreDeclared, AreFed, received_paired, fed_of}
@@ -163,14 +161,6 @@ module _ (Y : Layout) (P : Program) (H : History)
   behind : (os os' : List Occurrence) → ArePassed (os ++ os') → ArePassed os'
   behind os os' h = Every-second IsGivenTo os os' h
 
-  term_linked :
-      (k : Clock) (n : ℕ) (s : State) (e : Expr) → Parts (occurrences P here.node k n e) →
-      Met (emit Y P here k n s e).state →
-      Met s × Links k (emit Y P here k n s e).found (needs P here n e)
-  term_linked k n s e p h =
-      let l = linked Y P H same IsAt Under Left here variables_wide numbered k n s e p h in
-      (l.before, l.links)
-
   -- ## One call
 
   each_fed :
@@ -198,11 +188,11 @@ module _ (Y : Layout) (P : Program) (H : History)
       let oa = occurrences P here.node k n e in
       let ob = occurrences_each P here.node ks m es in
       let f = first_of_all P here e es us is in
-      let kept = each_before Y P H same IsAt Under Left here variables_wide numbered ks m x.state es
-      (aft oa ob parts) h in
-      let l = term_linked k n s e (fore oa ob parts) kept in (
+      let kept = each_before Y P H same IsAt Under Left here ks m x.state es h in
+      let l = linked Y P H same IsAt Under Left here variables_wide numbered k n s e
+      (fore oa ob parts) kept in (
         (
-          subst (λ l. AreLinks IsAt Under Left l x.found (needs P here n e)) (sym c.0) l.1,
+          subst (λ l. AreLinks IsAt Under Left l x.found (needs P here n e)) (sym c.0) l,
           same p d.name ∙ (w.0 ∙ sym (as_many Y P H here same k n s e)),
         ),
         each_fed p callee given b ds m x.state es f.rest f.others
@@ -325,6 +315,33 @@ module _ (Y : Layout) (P : Program) (H : History)
   kept_met : (x : Emitted) → Met (keep x).state → Met x.state
   kept_met x h = subst (AllMeet IsAt Under Left) (keep_equations x) h
 
+  abbrev Earlier : State → State → Type 0
+  Earlier s t = Met t → Met s
+
+  adding : IsAdding Earlier
+  adding = let e = earlier Y P H same IsAt Under Left here in e.adding
+
+  -- two operands, one after another
+  two_defined :
+      (k : Clock) (n : ℕ) (s : State) (a b : Expr) →
+      (let m = n + call_count a in
+      let x = emit Y P here k n s a in
+      let y = emit Y P here k m x.state b in
+      let oa = occurrences P here.node k n a in
+      let ob = occurrences P here.node k m b in
+      (Parts oa → ArePassed oa → Met x.state → Defines s x.state (called_by oa)) →
+      (Parts ob → ArePassed ob → Met y.state → Defines x.state y.state (called_by ob)) →
+      Parts (oa ++ ob) → ArePassed (oa ++ ob) → Met y.state →
+      Defines s y.state (called_by (oa ++ ob)))
+  two_defined k n s a b left right p g h =
+      let m = n + call_count a in
+      let x = emit Y P here k n s a in
+      let oa = occurrences P here.node k n a in
+      let ob = occurrences P here.node k m b in
+      let first = term_before Y P H same IsAt Under Left here k m x.state b h in
+      defines_two s x.state _ oa ob (left (fore oa ob p) (before oa ob g) first)
+      (right (aft oa ob p) (behind oa ob g) h)
+
   mutual
     unfolding emit
 
@@ -339,120 +356,59 @@ module _ (Y : Layout) (P : Program) (H : History)
         name_defines k s x (named (λ d. d.name) x (variables here.node))
     calls_defined k n s (Group a) p g h = calls_defined k n s a p g h
     calls_defined k n s (Unary op a) p g h =
-        let x = emit Y P here k n s a in
-        defines_after s x.state _ (called_by (occurrences P here.node k n a))
-        (calls_defined k n s a p.1 g.1 (added_met (flat k) x.state _ h))
-        (add_copies (flat k) x.state _)
+        defines_after s _ _ _ (calls_defined k n s a p.1 g.1 (added_met _ _ _ h))
+        (add_copies _ _ _)
     calls_defined k n s (Binary op a b) p g h =
-        let m = n + call_count a in
-        let x = emit Y P here k n s a in
-        let y = emit Y P here k m x.state b in
-        let oa = occurrences P here.node k n a in
-        let ob = occurrences P here.node k m b in
-        let met = added_met (flat k) y.state _ h in
-        let first = (term_linked k m x.state b (aft oa ob p.1) met).0 in
-        defines_after s y.state _ (called_by (oa ++ ob))
-        (defines_two s x.state y.state oa ob
-        (calls_defined k n s a (fore oa ob p.1) (before oa ob g.1) first)
-        (calls_defined k m x.state b (aft oa ob p.1) (behind oa ob g.1) met))
-        (add_copies (flat k) y.state _)
+        defines_after s _ _ _
+        (two_defined k n s a b (calls_defined k n s a) (calls_defined k _ _ b) p.1 g.1
+        (added_met _ _ _ h)) (add_copies _ _ _)
     calls_defined k n s (If c a b) p g h =
         let na = n + call_count c in
-        let nb = na + call_count a in
         let z = emit Y P here k n s c in
-        let x = emit Y P here k na z.state a in
-        let y = emit Y P here k nb x.state b in
         let oc = occurrences P here.node k n c in
-        let oa = occurrences P here.node k na a in
-        let ob = occurrences P here.node k nb b in
-        let p' = aft oc (oa ++ ob) p.1 in
-        let g' = behind oc (oa ++ ob) g.1 in
-        let met = added_met (flat k) y.state _ h in
-        let second = (term_linked k nb x.state b (aft oa ob p') met).0 in
-        let first = (term_linked k na z.state a (fore oa ob p') second).0 in
-        defines_after s y.state _ (called_by (oc ++ (oa ++ ob)))
-        (defines_two s z.state y.state oc (oa ++ ob)
-        (calls_defined k n s c (fore oc (oa ++ ob) p.1) (before oc (oa ++ ob) g.1) first)
-        (defines_two z.state x.state y.state oa ob
-        (calls_defined k na z.state a (fore oa ob p') (before oa ob g') second)
-        (calls_defined k nb x.state b (aft oa ob p') (behind oa ob g') met)))
-        (add_copies (flat k) y.state _)
+        let ob = occurrences P here.node k na a
+        ++ occurrences P here.node k (na + call_count a) b in
+        let x = emit Y P here k na z.state a in
+        let met = added_met _ _ _ h in
+        let second = term_before Y P H same IsAt Under Left here k _ x.state b met in
+        let first = term_before Y P H same IsAt Under Left here k na z.state a second in
+        defines_after s _ _ _
+        (defines_two s z.state _ oc ob
+        (calls_defined k n s c (fore oc ob p.1) (before oc ob g.1) first)
+        (two_defined k na z.state a b (calls_defined k na z.state a) (calls_defined k _ _ b)
+        (aft oc ob p.1) (behind oc ob g.1) met)) (add_copies _ _ _)
     calls_defined k n s (Arrow a b) p g h =
-        let m = n + call_count a in
-        let x = emit Y P here k n s a in
-        let y = emit Y P here k m x.state b in
-        let oa = occurrences P here.node k n a in
-        let ob = occurrences P here.node k m b in
-        let met = added_met (flat k) y.state _ h in
-        let first = (term_linked k m x.state b (aft oa ob p.1) met).0 in
-        defines_after s y.state _ (called_by (oa ++ ob))
-        (defines_two s x.state y.state oa ob
-        (calls_defined k n s a (fore oa ob p.1) (before oa ob g.1) first)
-        (calls_defined k m x.state b (aft oa ob p.1) (behind oa ob g.1) met))
-        (add_copies (flat k) y.state _)
+        defines_after s _ _ _
+        (two_defined k n s a b (calls_defined k n s a) (calls_defined k _ _ b) p.1 g.1
+        (added_met _ _ _ h)) (add_copies _ _ _)
     calls_defined k n s (Fby a b) p g h =
-        let m = n + call_count a in
-        let x = emit Y P here k n s a in
-        let y = emit Y P here k m x.state b in
-        let memory = map (Previous first_value) (keep y).found in
-        let z = add (flat k) (keep y).state memory in
-        let oa = occurrences P here.node k n a in
-        let ob = occurrences P here.node k m b in
-        let met = kept_met y (added_met (flat k) (keep y).state memory
-        (added_met (flat k) z.state (zip2 (FirstThen false) x.found z.found) h)) in
-        let first = (term_linked k m x.state b (aft oa ob p.1) met).0 in
-        defines_after s y.state _ (called_by (oa ++ ob))
-        (defines_two s x.state y.state oa ob
-        (calls_defined k n s a (fore oa ob p.1) (before oa ob g.1) first)
-        (calls_defined k m x.state b (aft oa ob p.1) (behind oa ob g.1) met))
-        (add_copies (flat k) z.state (zip2 (FirstThen false) x.found z.found)
-        ∙ (add_copies (flat k) (keep y).state memory ∙ keep_copies y))
+        defines_after s _ _ _
+        (two_defined k n s a b (calls_defined k n s a) (calls_defined k _ _ b) p.1 g.1
+        (kept_met _ (added_met _ _ _ (added_met _ _ _ h))))
+        (add_copies _ _ _ ∙ (add_copies _ _ _ ∙ keep_copies _))
     calls_defined k n s (Pre a) p g h =
-        let x = emit Y P here k n s a in
-        let memory = map (Previous first_value) (keep x).found in
-        defines_after s x.state _ (called_by (occurrences P here.node k n a))
-        (calls_defined k n s a p.1 g.1 (kept_met x (added_met (flat k) (keep x).state memory h)))
-        (add_copies (flat k) (keep x).state memory ∙ keep_copies x)
+        defines_after s _ _ _ (calls_defined k n s a p.1 g.1 (kept_met _ (added_met _ _ _ h)))
+        (add_copies _ _ _ ∙ keep_copies _)
     calls_defined k n s (When a y sign) p g h =
-        let own = declared_clock here.node y in
-        let x = emit Y P here own n s a in
-        defines_after s x.state _ (called_by (occurrences P here.node own n a))
-        (calls_defined own n s a p.1 g.1
-        (added_met (flat (On own y sign)) x.state (map Sample x.found) h))
-        (add_copies (flat (On own y sign)) x.state (map Sample x.found))
+        defines_after s _ _ _ (calls_defined _ n s a p.1 g.1 (added_met _ _ _ h))
+        (add_copies _ _ _)
     calls_defined k n s (Current a) p g h =
-        let own = clock_or (clock_of P here.node a) in
-        let x = emit Y P here own n s a in
-        let memory = map (Latest first_value) (keep x).found in
-        defines_after s x.state _ (called_by (occurrences P here.node own n a))
-        (calls_defined own n s a p.1 g.1 (kept_met x (added_met (flat k) (keep x).state memory h)))
-        (add_copies (flat k) (keep x).state memory ∙ keep_copies x)
+        defines_after s _ _ _ (calls_defined _ n s a p.1 g.1 (kept_met _ (added_met _ _ _ h)))
+        (add_copies _ _ _ ∙ keep_copies _)
     calls_defined k n s (Replicate a m) p g h = calls_defined k n s a p.1 g.1 h
     calls_defined k n s (Index a i) p g h = calls_defined k n s a p.1 g.1 h
     calls_defined k n s (Slice a i j) p g h = calls_defined k n s a p.1 g.1 h
     calls_defined k n s (Join a b) p g h =
-        let m = n + call_count a in
-        let x = emit Y P here k n s a in
-        let y = emit Y P here k m x.state b in
-        let oa = occurrences P here.node k n a in
-        let ob = occurrences P here.node k m b in
-        let first = (term_linked k m x.state b (aft oa ob p.1) h).0 in
-        defines_two s x.state y.state oa ob
-        (calls_defined k n s a (fore oa ob p.1) (before oa ob g.1) first)
-        (calls_defined k m x.state b (aft oa ob p.1) (behind oa ob g.1) h)
+        two_defined k n s a b (calls_defined k n s a) (calls_defined k _ _ b) p.1 g.1 h
     calls_defined k n s (Array es) p g h = all_defined k n s es p.1 g.1 h
     calls_defined k n s (AtMostOne es) p g h =
-        let r = emit_all Y P here k n s es in
-        let one = at_most_one_gives IsAt Under Left (flat k) r.state (joined r.found) h in
-        defines_after s r.state _ (called_by (occurrences_in P here.node k n es))
-        (all_defined k n s es p.1 g.1 one.before)
-        (at_most_one_copies (flat k) r.state (joined r.found))
+        defines_after s _ _ _
+        (all_defined k n s es p.1 g.1 (at_most_one_step Earlier adding _ _ _ h))
+        (at_most_one_copies _ _ _)
     calls_defined k n s (Nor es) p g h =
-        let r = emit_all Y P here k n s es in
-        let one = nor_gives IsAt Under Left (flat k) r.state (joined r.found) h in
-        defines_after s r.state _ (called_by (occurrences_in P here.node k n es))
-        (all_defined k n s es p.1 g.1 one.before)
-        (nor_copies (flat k) r.state (joined r.found))
+        defines_after s _ _ _
+        (all_defined k n s es p.1 g.1 (nor_step Earlier adding _ _ _ h))
+        (nor_copies _ _ _)
     calls_defined k n s (Call f statics es) p g h =
         let ks = call_clocks k (node_named P f) es in
         let r = emit_each Y P here ks (n + 1) s es in
@@ -476,13 +432,11 @@ module _ (Y : Layout) (P : Program) (H : History)
         (call_definitions P here n (Iterate it (Node_named f statics) m es))
         (called_by (occurrences_in P here.node k (n + 1) es))
         (all_defined k (n + 1) s es p.1 g.1 met) (joins_copies r.state copies is)
-        (iterator_matched k n s it f statics m es p.0 g.0 l.links)
+        (iterator_matched k n s it f statics m es p.0 g.0 l)
     calls_defined k n s (Iterate it (Symbol op) m es) p g h =
-        let r = emit_all Y P here k n s es in
-        defines_after s r.state _ (called_by (occurrences_in P here.node k n es))
-        (all_defined k n s es p.1 g.1
-        (symbol_before IsAt Under Left (flat k) op r.state it r.found h))
-        (symbol_copies (flat k) op r.state it r.found)
+        defines_after s _ _ _
+        (all_defined k n s es p.1 g.1 (symbol_step Earlier adding _ op _ it _ h))
+        (symbol_copies _ op _ it _)
 
     all_defined :
         (k : Clock) (n : ℕ) (s : State) (es : Exprs) → Parts (occurrences_in P here.node k n es) →
@@ -494,10 +448,8 @@ module _ (Y : Layout) (P : Program) (H : History)
         let x = emit Y P here k n s e in
         let oa = occurrences P here.node k n e in
         let ob = occurrences_in P here.node k m es in
-        let l = all_linked Y P H same IsAt Under Left here variables_wide numbered k m x.state es
-        (aft oa ob p) h in
-        defines_two s x.state _ oa ob
-        (calls_defined k n s e (fore oa ob p) (before oa ob g) l.before)
+        let first = all_before Y P H same IsAt Under Left here k m x.state es h in
+        defines_two s x.state _ oa ob (calls_defined k n s e (fore oa ob p) (before oa ob g) first)
         (all_defined k m x.state es (aft oa ob p) (behind oa ob g) h)
 
     each_defined :
@@ -514,8 +466,6 @@ module _ (Y : Layout) (P : Program) (H : History)
         let x = emit Y P here k n s e in
         let oa = occurrences P here.node k n e in
         let ob = occurrences_each P here.node ks m es in
-        let kept = each_before Y P H same IsAt Under Left here variables_wide numbered ks m x.state
-        es (aft oa ob p) h in
-        defines_two s x.state _ oa ob
-        (calls_defined k n s e (fore oa ob p) (before oa ob g) kept)
+        let first = each_before Y P H same IsAt Under Left here ks m x.state es h in
+        defines_two s x.state _ oa ob (calls_defined k n s e (fore oa ob p) (before oa ob g) first)
         (each_defined ks m x.state es (aft oa ob p) (behind oa ob g) h)

@@ -1,7 +1,7 @@
 -- The copies that an expression emits are the definitions of the inputs of what it calls: each copy
 -- is one of them, and each of them has its copy.
-use Rattle.std.proofs.Common.{◌≡◌, inl, inr, ℕ, zero, suc, ◌*◌, ◌/◌, ◌<◌, List, [], ◌∷◌, ◌++◌}
-use Rattle.std.proofs.Common.{map, length, take, drop, flat_map, refl, sym, ap, ◌∙◌, subst, arith}
+use Rattle.std.proofs.Common.{◌≡◌, inl, inr, ℕ, zero, suc, ◌*◌, ◌/◌, ◌<◌, List, [], ◌∷◌, ◌++◌, map}
+use Rattle.std.proofs.Common.{length, take, drop, flat_map, refl, sym, ap, ◌∙◌, subst, arith}
 use Rattle.lb_syntax.specs.declared.tree.ArrayIterator.{ArrayIterator}
 use Rattle.lb_syntax.specs.declared.tree.ArrayIterator.TheVariants.{Map, Red, Fill}
 use Rattle.lb_syntax.specs.Lists.{Every, In, part, joined}
@@ -236,12 +236,9 @@ module _ (Y : Layout) (P : Program) (H : History)
           Pairs Linked (iterator_inputs f n it outs iss i) (iterator_inputs g n it outs ysss i)
       inputs_linked Map outs iss ysss i lt l = parts_linked n i iss ysss l
       inputs_linked Red outs [] [] i lt l = tt
-      inputs_linked Red outs [] (ys ∷ ysss) i lt l = absurd l
-      inputs_linked Red outs (is ∷ iss) [] i lt l = absurd l
       inputs_linked Red outs (is ∷ iss) (yss ∷ ysss) i lt l =
           (accumulated_linked outs is yss i lt l.0, parts_linked n i iss ysss l.1)
       inputs_linked Fill outs [] [] i lt l = tt
-      inputs_linked Fill outs [] (ys ∷ ysss) i lt l = absurd l
-      inputs_linked Fill outs (is ∷ iss) [] i lt l = absurd l
       inputs_linked Fill outs (is ∷ iss) (yss ∷ ysss) i lt l =
           (accumulated_linked outs is yss i lt l.0, tt)
+      inputs_linked _ outs _ _ i lt l = absurd l

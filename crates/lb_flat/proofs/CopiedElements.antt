@@ -5,20 +5,14 @@ use Rattle.std.proofs.Common.{map, length, flat_map, sym, subst, arith}
 use Rattle.std.specs.List.{range_with_len}
 use Rattle.lb_syntax.specs.declared.tree.ArrayIterator.{ArrayIterator}
 use Rattle.lb_syntax.specs.Lists.{Every}
-use Rattle.lb_syntax.specs.Tree.{Name, Node_named, Symbol, Expr, Literal, Truth, Variable, Group}
-use Rattle.lb_syntax.specs.Tree.{Unary, Binary, If, Arrow, Fby, Pre, Current, When, Replicate}
-use Rattle.lb_syntax.specs.Tree.{Index, Slice, Join, Array, AtMostOne, Nor, Call, Iterate, Exprs}
-use Rattle.lb_syntax.specs.Tree.{Nil, Cons, Declaration, Node, Statement, Equation, Assertion}
-use Rattle.lb_static.specs.Instances.{Program, Instance, Path, Root, Observer, Child, node_named}
-use Rattle.lb_static.specs.Instances.{instance_at, instances}
-use Rattle.lb_check.specs.Clocks.{Clock, declared_clock}
-use Rattle.lb_check.specs.Occurrences.{call_count, call_clocks, statement_clock}
+use Rattle.lb_syntax.specs.Tree.{Name, Declaration, Node}
+use Rattle.lb_static.specs.Instances.{Program, Instance, Path, Root, Observer, Child, instance_at}
+use Rattle.lb_static.specs.Instances.{instances}
+use Rattle.lb_check.specs.Clocks.{declared_clock}
 use Rattle.lb_check.specs.Solutions.{iterator_inputs}
-use Rattle.lb_check.specs.Streams.{number}
 use Rattle.lb_flat.specs.Emit.{State, Target, assert, joins, copied, targets, received, call_copies}
-use Rattle.lb_flat.specs.Emit.{iterator_copies, emit, emit_all, emit_each, emit_body}
-use Rattle.lb_flat.specs.Emit.{emit_instances, from_inputs, input_targets, given_inputs, observed}
-use Rattle.lb_flat.specs.Emit.{observed_places, before_instances, expanded}
+use Rattle.lb_flat.specs.Emit.{iterator_copies, emit_instances, from_inputs, input_targets}
+use Rattle.lb_flat.specs.Emit.{given_inputs, observed, observed_places, before_instances, expanded}
 use Rattle.lb_flat.specs.Flat.{FlatEquation}
 use Rattle.lb_flat.specs.Layouts.{Layout, flat_clock}
 use Rattle.lb_flat.proofs.Bodies.{IsLaidOut, assert_copies, all_closed}
@@ -26,8 +20,8 @@ use Rattle.lb_flat.proofs.Closing.{Closed, Below}
 use Rattle.lb_flat.proofs.Emission.{joins_copies}
 use Rattle.lb_flat.proofs.Filling.{Fresh}
 use Rattle.lb_flat.proofs.Lists.{Every-map, Every-append, Every-pieces}
-use Rattle.lb_flat.proofs.EmittedCopies.{add_copies, keep_copies, nor_copies, at_most_one_copies}
-use Rattle.lb_flat.proofs.EmittedCopies.{symbol_copies, name_copies}
+use Rattle.lb_flat.proofs.EmittedCopies.{add_copies, keep_copies}
+use Rattle.lb_flat.proofs.EmissionSteps.{IsStep, AreJoined, instances_step}
 
 -- ## Copies
 
@@ -94,93 +88,34 @@ module _ (V : ℕ) (Y : Layout) (P : Program)
       on (s.copies ++ qs) _ (joins_copies s qs is)
       (Every-append (λ q. q.element < V) s.copies qs h new)
 
-  module _ (here : Instance) where
-    mutual
-      unfolding emit
+  abbrev Lows : State → State → Type 0
+  Lows s t = AllBelow s.copies → AllBelow t.copies
 
-      copies_below : (k : Clock) (n : ℕ) (s : State) (e : Expr) → AllBelow s.copies →
-          AllBelow (emit Y P here k n s e).state.copies
-      copies_below k n s (Literal m) h = on _ _ (add_copies _ s _) h
-      copies_below k n s (Truth b) h = on _ _ (add_copies _ s _) h
-      copies_below k n s (Variable x) h = on _ _ (name_copies Y P here k s x _) h
-      copies_below k n s (Group a) h = copies_below k n s a h
-      copies_below k n s (Unary op a) h = on _ _ (add_copies _ _ _) (copies_below k n s a h)
-      copies_below k n s (Binary op a b) h =
-          on _ _ (add_copies _ _ _) (copies_below k _ _ b (copies_below k n s a h))
-      copies_below k n s (If c a b) h =
-          on _ _ (add_copies _ _ _)
-          (copies_below k _ _ b (copies_below k _ _ a (copies_below k n s c h)))
-      copies_below k n s (Arrow a b) h =
-          on _ _ (add_copies _ _ _) (copies_below k _ _ b (copies_below k n s a h))
-      copies_below k n s (Fby a b) h =
-          on _ _ (add_copies _ _ _) (on _ _ (add_copies _ _ _) (on _ _ (keep_copies _)
-          (copies_below k _ _ b (copies_below k n s a h))))
-      copies_below k n s (Pre a) h =
-          on _ _ (add_copies _ _ _) (on _ _ (keep_copies _) (copies_below k n s a h))
-      copies_below k n s (Current a) h =
-          on _ _ (add_copies _ _ _) (on _ _ (keep_copies _) (copies_below _ n s a h))
-      copies_below k n s (When a x sign) h =
-          on _ _ (add_copies _ _ _) (copies_below _ n s a h)
-      copies_below k n s (Replicate a m) h = copies_below k n s a h
-      copies_below k n s (Index a m) h = copies_below k n s a h
-      copies_below k n s (Slice a m l) h = copies_below k n s a h
-      copies_below k n s (Join a b) h = copies_below k _ _ b (copies_below k n s a h)
-      copies_below k n s (Array es) h = all_below k n s es h
-      copies_below k n s (AtMostOne es) h =
-          on _ _ (at_most_one_copies _ _ _) (all_below k n s es h)
-      copies_below k n s (Nor es) h = on _ _ (nor_copies _ _ _) (all_below k n s es h)
-      copies_below k n s (Call f statics es) h =
-          let r = emit_each Y P here (call_clocks k (node_named P f) es) (n + 1) s es in
-          joins_below r.state (call_copies Y (Child here.path n 0) (node_named P f) r.found) _
-          (call_below (Child here.path n 0) (node_named P f) r.found)
-          (each_below (call_clocks k (node_named P f) es) (n + 1) s es h)
-      copies_below k n s (Iterate it (Node_named f statics) m es) h =
-          let r = emit_all Y P here k (n + 1) s es in
-          joins_below r.state
-          (iterator_copies Y here.path n it (number P here m) (node_named P f) r.found) _
-          (iterator_below here.path n it (number P here m) (node_named P f) r.found)
-          (all_below k (n + 1) s es h)
-      copies_below k n s (Iterate it (Symbol op) m es) h =
-          on _ _ (symbol_copies _ op _ it _) (all_below k n s es h)
+  lowering : IsStep AllBelow Lows
+  lowering = record {
+    adding = record {
+      none = λ s h. h;
+      both = λ s t u a b h. b (a h);
+      adds = λ k s os h. on _ _ (add_copies k s os) h;
+    };
+    keeps = λ x h. on _ _ (keep_copies x) h;
+    joining = λ s qs is new h. joins_below s qs is new h;
+  }
 
-      all_below : (k : Clock) (n : ℕ) (s : State) (es : Exprs) → AllBelow s.copies →
-          AllBelow (emit_all Y P here k n s es).state.copies
-      all_below k n s Nil h = h
-      all_below k n s (Cons e es) h = all_below k _ _ es (copies_below k n s e h)
-
-      each_below : (ks : List Clock) (n : ℕ) (s : State) (es : Exprs) → AllBelow s.copies →
-          AllBelow (emit_each Y P here ks n s es).state.copies
-      each_below ks n s Nil h = h
-      each_below [] n s (Cons e es) h = h
-      each_below (k ∷ ks) n s (Cons e es) h = each_below ks _ _ es (copies_below k n s e h)
-
-    body_below : (n : ℕ) (s : State) (body : List Statement) → AllBelow s.copies →
-        AllBelow (emit_body Y P here n s body).copies
-    unfolding emit_body
-    body_below n s [] h = h
-    body_below n s (Equation lefts e ∷ rest) h =
-        let k = statement_clock P here.node (Equation lefts e) in
-        let x = emit Y P here k n s e in
-        let ts = flat_map (targets Y here.node here.path) lefts in
-        body_below (n + call_count e) (joins x.state (copied ts x.found) []).state rest
-        (joins_below x.state (copied ts x.found) []
-        (copied_below ts x.found
-        (Every-pieces Low (targets Y here.node here.path)
-        (targets_below here.node here.path) lefts))
-        (copies_below k n s e h))
-    body_below n s (Assertion e ∷ rest) h =
-        let k = statement_clock P here.node (Assertion e) in
-        let x = emit Y P here k n s e in
-        body_below (n + call_count e) (assert x) rest
-        (on x.state.copies (assert x).copies (assert_copies x) (copies_below k n s e h))
+  joined_below : AreJoined AllBelow Y
+  joined_below = record {
+    calls = call_below;
+    iterators = iterator_below;
+    lefts = λ here xs is.
+        copied_below (flat_map (targets Y here.node here.path) xs) is
+        (Every-pieces Low (targets Y here.node here.path) (targets_below here.node here.path) xs);
+  }
 
   instances_below : (s : State) (is : List Instance) → AllBelow s.copies →
       AllBelow (emit_instances Y P s is).copies
-  unfolding emit_instances
-  instances_below s [] h = h
-  instances_below s (here ∷ is) h =
-      instances_below (emit_body Y P here 0 s here.node.body) is
-      (body_below here 0 s here.node.body h)
+  instances_below =
+      instances_step AllBelow Lows lowering Y joined_below P
+      (λ x h. on x.state.copies (assert x).copies (assert_copies x) h)
 
   -- ## The trace and the observer
 

@@ -1,12 +1,10 @@
 -- The size that is counted of a program that is too large is over the limit, and no more than its
 -- size.
 use Rattle.std.proofs.Common.{◌≡◌, ℕ, ◌+◌, ◌<◌, ◌≤◌, false, min, Option, None, Some, Vec, Global}
-use Rattle.std.proofs.Common.{List, [], ◌∷◌, ◌-◌, ◌^◌, max, length, take, get_or, refl, sym, ◌∙◌}
-use Rattle.std.proofs.Common.{subst, arith}
+use Rattle.std.proofs.Common.{List, [], ◌∷◌, ◌-◌, ◌^◌, max, length, take, refl, ◌∙◌, subst, arith}
 use Rattle.std.specs.Prelude.{nat_le, sum_by}
 use Rattle.std.proofs.lemmas.Bool.Decides.{nat_tests}
 use Rattle.std.proofs.lemmas.List.{take_all}
-use Rattle.std.proofs.lemmas.List.Sums.{sum_by_more}
 use Rattle.lb_static.specs.Elaborated.{elaborated_program}
 use Rattle.lb_static.specs.Instances.{Program}
 use Rattle.lb_static.specs.InstanceTable.{IsTable}
@@ -30,11 +28,6 @@ use Rattle.lb_flat.proofs.TableSizes.{counted_within, variables_within}
 pub nothing_counted : Counts 0 0
 nothing_counted = record { no_more = omega arith; as_many = omega arith }
 
--- what is counted as far as 65,537
-pub counted_so_far : (n total : ℕ) → n ≡ min total 65537 → Counts n total
-counted_so_far n total e =
-    record { no_more = omega (arith, e); as_many = omega (arith, e) }
-
 -- one count more, as far as numbers go
 pub both_counted :
     (m n next a b : ℕ) → Counts m a → Counts n b → next ≡ min (m + n) (2 ^ 64 - 1) →
@@ -45,13 +38,6 @@ both_counted m n next a b p q e = record {
 }
 
 module _ {A : Type 0} (f : A → ℕ) where
-  pub one_counted :
-      (xs : List A) (i : ℕ) (d : A) (m n next : ℕ) → i < length xs →
-      Counts m (sum_by f (take i xs)) → Counts n (f (get_or xs i d)) →
-      next ≡ min (m + n) (2 ^ 64 - 1) → Counts next (sum_by f (take (i + 1) xs))
-  one_counted xs i d m n next lt p q e =
-      subst (Counts next) (sym (sum_by_more f xs i d lt)) (both_counted m n next _ _ p q e)
-
   pub all_counted :
       (xs : List A) (i m : ℕ) → length xs ≤ i → Counts m (sum_by f (take i xs)) →
       Counts m (sum_by f xs)

@@ -1,8 +1,8 @@
 -- In a node that defines each output and local once, and no input, the left variables are its
 -- outputs and locals, each once.
-use Rattle.std.proofs.Common.{◌≡◌, ◌⊎◌, inl, inr, ℕ, zero, suc, ◌+◌, ◌≤◌, Bool, true, false}
-use Rattle.std.proofs.Common.{cond, nat_eq, Option, Some, None, List, [], ◌∷◌, ◌++◌, map, flat_map}
-use Rattle.std.proofs.Common.{refl, sym, ap, ◌∙◌, subst, arith}
+use Rattle.std.proofs.Common.{◌≡◌, ◌⊎◌, inl, inr, ℕ, zero, suc, ◌+◌, ◌≤◌, Bool, true, false, cond}
+use Rattle.std.proofs.Common.{nat_eq, Option, Some, List, [], ◌∷◌, ◌++◌, map, flat_map, refl, sym}
+use Rattle.std.proofs.Common.{ap, ◌∙◌, subst, arith}
 use Rattle.std.specs.Prelude.{not, count_by}
 use Rattle.std.specs.List.{list_all}
 use Rattle.std.specs.Str.{bytes_eq}
@@ -92,10 +92,8 @@ module _ (P : Program) (here : Instance) where
 
   second_there : (o p : Option (List DataType)) → are_same P o p ≡ true →
       (ts : List DataType) × (p ≡ Some ts)
-  second_there None None e = absurd cc
-  second_there None (Some ts) e = absurd cc
-  second_there (Some ss) None e = absurd cc
   second_there (Some ss) (Some ts) e = (ts, refl)
+  second_there _ _ e = absurd cc
 
   -- the left variables of typed statements are variables
   pub lefts_known :

@@ -1,8 +1,8 @@
 -- The words of the code that expands resolved terms which copy the operands of a call and put its
 -- outputs on the stack.
 use Rattle.std.proofs.Common.{◌≡◌, ◌<◌, ◌≤◌, ℕ, zero, suc, ◌+◌, ◌*◌, ◌-◌, List, [], ◌∷◌, ◌++◌}
-use Rattle.std.proofs.Common.{length, take, drop, get_or, min, arith, refl, sym, ap, ap₂}
-use Rattle.std.proofs.Common.{subst, ◌∙◌}
+use Rattle.std.proofs.Common.{length, take, drop, get_or, min, arith, refl, sym, ap, ap₂, subst}
+use Rattle.std.proofs.Common.{◌∙◌}
 use Rattle.std.specs.Prelude.{Bool, true, false, nat_le, flat_map, Option, Some, None}
 use Rattle.std.specs.List.{range_with_len}
 use Rattle.std.proofs.lemmas.Bool.Decides.{nat_tests}
@@ -185,6 +185,32 @@ skipped at n all le =
     ∙ ap (λ m. drop (min n m) (drop at all)) (sym (length-drop at all))
     ∙ drop_min n (drop at all)
 
+-- the targets of the items of a list, one after the other
+module _ {A : Type 0} (f : A → List Target) where
+  pub items_step :
+      (s t whole : State) (x : A) (xs ys : List A) (n at to : ℕ) (all : List ℕ) → ys ≡ x ∷ xs →
+      length (f x) ≡ n → at ≤ length all →
+      with_copies s (copied (flat_map f ys) (drop at all)) ≡ whole →
+      t ≡ with_copies s (copied (f x) (drop at all)) → to ≡ at + min n (length all - at) →
+      with_copies t (copied (flat_map f xs) (drop to all)) ≡ whole
+  items_step s t whole x xs ys n at to all is count within h et place =
+      let one = copied (f x) (drop at all) in
+      let us = flat_map f xs in
+      let rest : drop to all ≡ drop (length (f x)) (drop at all) =
+      ap (λ n. drop n all) place ∙ skipped at n all within
+      ∙ ap (λ n. drop n (drop at all)) (sym count) in
+      copying_more s t whole one (copied us (drop to all)) (copied (flat_map f ys) (drop at all))
+      et
+      (ap (λ (ys : List A). copied (flat_map f ys) (drop at all)) is
+      ∙ copied_append (f x) us (drop at all)
+      ∙ ap (λ (is : List ℕ). one ++ copied us is) (sym rest)) h
+
+  pub items_end :
+      (s whole : State) (ys : List A) (js : List ℕ) → ys ≡ [] →
+      with_copies s (copied (flat_map f ys) js) ≡ whole → s ≡ whole
+  items_end s whole ys js is h =
+      copying_ends s whole _ (ap (λ (ys : List A). copied (flat_map f ys) js) is) h
+
 module _ (ctx : Context) (c : ℕ) where
   -- the elements of an input as targets
   pub child_copied :
@@ -227,21 +253,12 @@ module _ (ctx : Context) (c : ℕ) where
       with_copies t (copied (flat_map (input_targets ctx c 0)
       (drop (x + 1) (range_with_len 0 inputs))) (drop to all)) ≡ whole
   input_step s t whole x inputs at to all lt within h et place =
-      let f = input_targets ctx c 0 in
-      let ts = f x in
-      let us = flat_map f (drop (x + 1) (range_with_len 0 inputs)) in
       let zero_x : 0 + x ≡ x = omega arith in
-      let rest : drop to all ≡ drop (length ts) (drop at all) =
-      skipped_one 0 x at to all within place in
-      let split : copied (flat_map f (drop x (range_with_len 0 inputs))) (drop at all)
-      ≡ copied ts (drop at all) ++ copied us (drop to all) =
-      ap (λ (is : List ℕ). copied (flat_map f is) (drop at all))
+      items_step (input_targets ctx c 0) s t whole x (drop (x + 1) (range_with_len 0 inputs))
+      (drop x (range_with_len 0 inputs)) (length (ctx.child c 0 x)) at to all
       (range_rest 0 inputs x lt
       ∙ ap (λ y. y ∷ drop (x + 1) (range_with_len 0 inputs)) zero_x)
-      ∙ copied_append ts us (drop at all)
-      ∙ ap (λ (is : List ℕ). copied ts (drop at all) ++ copied us is) (sym rest) in
-      copying_more s t whole (copied ts (drop at all)) (copied us (drop to all))
-      (copied (flat_map f (drop x (range_with_len 0 inputs))) (drop at all)) et split h
+      (target_count 0 x) within h et place
 
   pub input_ends :
       (s whole : State) (x inputs at : ℕ) (all : List ℕ) → inputs ≤ x →

@@ -47,65 +47,39 @@ mutual
   place_grows ctx at s (Variable x) = one_later at
   place_grows ctx at s (Value i) = one_later at
   place_grows ctx at s (Group' p e) = place_grows ctx at s e
-  place_grows ctx at s (Unary' op p a) =
-      after_one at (emit_term ctx (next_term at) s a).place (place_grows ctx (next_term at) s a)
-  place_grows ctx at s (Pre' p a) =
-      after_one at (emit_term ctx (next_term at) s a).place (place_grows ctx (next_term at) s a)
-  place_grows ctx at s (Current' p a) =
-      after_one at (emit_term ctx (next_term at) s a).place (place_grows ctx (next_term at) s a)
-  place_grows ctx at s (When' p a c sign) =
-      after_one at (emit_term ctx (next_term at) s a).place (place_grows ctx (next_term at) s a)
-  place_grows ctx at s (Replicate' p a n) =
-      after_one at (emit_term ctx (next_term at) s a).place (place_grows ctx (next_term at) s a)
-  place_grows ctx at s (Index' p a i) =
-      after_one at (emit_term ctx (next_term at) s a).place (place_grows ctx (next_term at) s a)
-  place_grows ctx at s (Slice' p a i j) =
-      after_one at (emit_term ctx (next_term at) s a).place (place_grows ctx (next_term at) s a)
+  place_grows ctx at s (Unary' op p a) = after_one at _ (place_grows ctx _ s a)
+  place_grows ctx at s (Pre' p a) = after_one at _ (place_grows ctx _ s a)
+  place_grows ctx at s (Current' p a) = after_one at _ (place_grows ctx _ s a)
+  place_grows ctx at s (When' p a c sign) = after_one at _ (place_grows ctx _ s a)
+  place_grows ctx at s (Replicate' p a n) = after_one at _ (place_grows ctx _ s a)
+  place_grows ctx at s (Index' p a i) = after_one at _ (place_grows ctx _ s a)
+  place_grows ctx at s (Slice' p a i j) = after_one at _ (place_grows ctx _ s a)
   place_grows ctx at s (Binary' op p a q b) =
-      let x = emit_term ctx (next_term at) s a in
-      let y = emit_term ctx x.place x.emitted.state b in
-      after_two at x.place y.place (place_grows ctx (next_term at) s a)
-      (place_grows ctx x.place x.emitted.state b)
+      after_two at _ _ (place_grows ctx _ s a) (place_grows ctx _ _ b)
   place_grows ctx at s (Arrow' p a q b) =
-      let x = emit_term ctx (next_term at) s a in
-      let y = emit_term ctx x.place x.emitted.state b in
-      after_two at x.place y.place (place_grows ctx (next_term at) s a)
-      (place_grows ctx x.place x.emitted.state b)
+      after_two at _ _ (place_grows ctx _ s a) (place_grows ctx _ _ b)
   place_grows ctx at s (Fby' p a q b) =
-      let x = emit_term ctx (next_term at) s a in
-      let y = emit_term ctx x.place x.emitted.state b in
-      after_two at x.place y.place (place_grows ctx (next_term at) s a)
-      (place_grows ctx x.place x.emitted.state b)
+      after_two at _ _ (place_grows ctx _ s a) (place_grows ctx _ _ b)
   place_grows ctx at s (Join' p a q b) =
-      let x = emit_term ctx (next_term at) s a in
-      let y = emit_term ctx x.place x.emitted.state b in
-      after_two at x.place y.place (place_grows ctx (next_term at) s a)
-      (place_grows ctx x.place x.emitted.state b)
+      after_two at _ _ (place_grows ctx _ s a) (place_grows ctx _ _ b)
   place_grows ctx at s (If' p c q a r b) =
       let z = emit_term ctx (next_term at) s c in
       let x = emit_term ctx z.place z.emitted.state a in
-      let y = emit_term ctx x.place x.emitted.state b in
-      after_two at z.place y.place (place_grows ctx (next_term at) s c)
-      (then_later z.place x.place y.place (place_grows ctx z.place z.emitted.state a)
-      (place_grows ctx x.place x.emitted.state b))
+      after_two at z.place _ (place_grows ctx _ s c)
+      (then_later z.place x.place _ (place_grows ctx _ z.emitted.state a)
+      (place_grows ctx _ x.emitted.state b))
   place_grows ctx at s (Array' arity all) =
-      then_later at (next_term at) (emit_row ctx (next_term at) s all).place (one_later at)
-      (row_later ctx (next_term at) s all)
+      then_later at _ _ (one_later at) (row_later ctx _ s all)
   place_grows ctx at s (AtMostOne' arity all) =
-      then_later at (next_term at) (emit_row ctx (next_term at) s all).place (one_later at)
-      (row_later ctx (next_term at) s all)
+      then_later at _ _ (one_later at) (row_later ctx _ s all)
   place_grows ctx at s (Nor' arity all) =
-      then_later at (next_term at) (emit_row ctx (next_term at) s all).place (one_later at)
-      (row_later ctx (next_term at) s all)
+      then_later at _ _ (one_later at) (row_later ctx _ s all)
   place_grows ctx at s (Call' c arity all) =
-      then_later at (next_call at) (emit_row ctx (next_call at) s all).place (call_later at)
-      (row_later ctx (next_call at) s all)
+      then_later at _ _ (call_later at) (row_later ctx _ s all)
   place_grows ctx at s (IterateNode' it c arity all) =
-      then_later at (next_call at) (emit_row ctx (next_call at) s all).place (call_later at)
-      (row_later ctx (next_call at) s all)
+      then_later at _ _ (call_later at) (row_later ctx _ s all)
   place_grows ctx at s (IterateSymbol' it op n arity all) =
-      then_later at (next_term at) (emit_row ctx (next_term at) s all).place (one_later at)
-      (row_later ctx (next_term at) s all)
+      then_later at _ _ (one_later at) (row_later ctx _ s all)
 
   pub row_later : {m : _} (ctx : Context) (at : Cursor) (s : State) (row : Row_of-Term m) →
       IsNotAfter at (emit_row ctx at s row).place

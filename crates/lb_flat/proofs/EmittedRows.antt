@@ -3,14 +3,8 @@
 use Rattle.std.proofs.Common.{◌≡◌, ◌<◌, ℕ, ◌+◌, List, [], ◌++◌, length, drop, get_or, Vec, Box}
 use Rattle.std.proofs.Common.{Global, refl, sym, ap, ◌∙◌, inl, inr}
 use Rattle.std.proofs.lemmas.List.{drop_more, append_assoc, append-nil}
-use Rattle.lb_syntax.specs.declared.tree.ArrayIterator.{ArrayIterator}
-use Rattle.lb_syntax.specs.declared.tree.BinaryOperator.{BinaryOperator}
-use Rattle.lb_static.specs.declared.resolved.CallId.{CallId}
-use Rattle.lb_static.specs.declared.resolved.StaticId.{StaticId}
-use Rattle.lb_static.specs.declared.resolved.Term.{Term, If}
-use Rattle.lb_static.specs.declared.resolved.Term.{Array, AtMostOne, Nor, Call, IterateNode}
-use Rattle.lb_static.specs.declared.resolved.Term.{IterateSymbol}
-use Rattle.lb_static.specs.declared.resolved.Term.{Row_of-Term}
+use Rattle.lb_static.specs.declared.resolved.Term.{Term, If, Array, AtMostOne, Nor, Call}
+use Rattle.lb_static.specs.declared.resolved.Term.{IterateNode, IterateSymbol, Row_of-Term}
 use Rattle.lb_static.specs.declared.resolved.Term.{end_of-Term, more_of-Term, items-the_row-Term}
 use Rattle.lb_static.specs.declared.resolved.Term.{items_hidden-the_row-Term-0}
 use Rattle.lb_flat.specs.Emit.{State, Emitted, gives}
@@ -86,58 +80,23 @@ whole_row ctx at s t es =
     let r = emit_list ctx (row_place at t) s es.items in
     placed r.place (with_all ctx at t r.emitted)
 
-emitted_array : (ctx : Context) (at : Cursor) (s : State) (es : Vec Term Global) →
-    emit_term ctx at s (Array es) ≡ whole_row ctx at s (Array es) es
-unfolding emit_term
-emitted_array ctx at s es =
-    row_is ctx at (next_term at) s (Array es) es (items_hidden-the_row-Term-0 es)
-
-emitted_at_most_one : (ctx : Context) (at : Cursor) (s : State) (es : Vec Term Global) →
-    emit_term ctx at s (AtMostOne es) ≡ whole_row ctx at s (AtMostOne es) es
-unfolding emit_term
-emitted_at_most_one ctx at s es =
-    row_is ctx at (next_term at) s (AtMostOne es) es (items_hidden-the_row-Term-0 es)
-
-emitted_nor : (ctx : Context) (at : Cursor) (s : State) (es : Vec Term Global) →
-    emit_term ctx at s (Nor es) ≡ whole_row ctx at s (Nor es) es
-unfolding emit_term
-emitted_nor ctx at s es =
-    row_is ctx at (next_term at) s (Nor es) es (items_hidden-the_row-Term-0 es)
-
-emitted_call : (ctx : Context) (at : Cursor) (s : State) (c : CallId) (es : Vec Term Global) →
-    emit_term ctx at s (Call c es) ≡ whole_row ctx at s (Call c es) es
-unfolding emit_term
-emitted_call ctx at s c es =
-    row_is ctx at (next_call at) s (Call c es) es (items_hidden-the_row-Term-0 es)
-
-emitted_node :
-    (ctx : Context) (at : Cursor) (s : State) (it : ArrayIterator) (c : CallId)
-    (es : Vec Term Global) →
-    emit_term ctx at s (IterateNode it c es) ≡ whole_row ctx at s (IterateNode it c es) es
-unfolding emit_term
-emitted_node ctx at s it c es =
-    row_is ctx at (next_call at) s (IterateNode it c es) es (items_hidden-the_row-Term-0 es)
-
-emitted_symbol :
-    (ctx : Context) (at : Cursor) (s : State) (it : ArrayIterator) (op : BinaryOperator)
-    (n : StaticId) (es : Vec Term Global) →
-    emit_term ctx at s (IterateSymbol it op n es)
-    ≡ whole_row ctx at s (IterateSymbol it op n es) es
-unfolding emit_term
-emitted_symbol ctx at s it op n es =
-    row_is ctx at (next_term at) s (IterateSymbol it op n es) es (items_hidden-the_row-Term-0 es)
-
 row_form :
     (ctx : Context) (at : Cursor) (s : State) (t : Term) (es : Vec Term Global) → IsRow t es →
     emit_term ctx at s t ≡ whole_row ctx at s t es
-row_form ctx at s t es (inl e) = rw e (emitted_array ctx at s es)
-row_form ctx at s t es (inr (inl e)) = rw e (emitted_at_most_one ctx at s es)
-row_form ctx at s t es (inr (inr (inl e))) = rw e (emitted_nor ctx at s es)
-row_form ctx at s t es (inr (inr (inr (inl (c, e))))) = rw e (emitted_call ctx at s c es)
+unfolding emit_term
+row_form ctx at s t es (inl e) =
+    rw e (row_is ctx at (next_term at) s (Array es) es (items_hidden-the_row-Term-0 es))
+row_form ctx at s t es (inr (inl e)) =
+    rw e (row_is ctx at (next_term at) s (AtMostOne es) es (items_hidden-the_row-Term-0 es))
+row_form ctx at s t es (inr (inr (inl e))) =
+    rw e (row_is ctx at (next_term at) s (Nor es) es (items_hidden-the_row-Term-0 es))
+row_form ctx at s t es (inr (inr (inr (inl (c, e))))) =
+    rw e (row_is ctx at (next_call at) s (Call c es) es (items_hidden-the_row-Term-0 es))
 row_form ctx at s t es (inr (inr (inr (inr (inl (it, c, e)))))) =
-    rw e (emitted_node ctx at s it c es)
+    rw e (row_is ctx at (next_call at) s (IterateNode it c es) es (items_hidden-the_row-Term-0 es))
 row_form ctx at s t es (inr (inr (inr (inr (inr (it, op, n, e)))))) =
-    rw e (emitted_symbol ctx at s it op n es)
+    rw e (row_is ctx at (next_term at) s (IterateSymbol it op n es) es
+    (items_hidden-the_row-Term-0 es))
 
 pub emitted_all :
     (ctx : Context) (at : Cursor) (s : State) (t : Term) (es : Vec Term Global) (xs : List Term)

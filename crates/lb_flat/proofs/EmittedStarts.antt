@@ -23,8 +23,7 @@ use Rattle.lb_flat.specs.Flat.{FlatClock, FlatEquation}
 use Rattle.lb_flat.specs.Frames.{targets_of, with_copies}
 use Rattle.lb_flat.specs.TermEmissions.{onto}
 use Rattle.lb_flat.specs.TableClocks.{node_at}
-use Rattle.lb_flat.proofs.EmittedCalls.{range_last, range_rest, range_done, copying_more}
-use Rattle.lb_flat.proofs.EmittedCalls.{copying_ends, copied_append, skipped}
+use Rattle.lb_flat.proofs.EmittedCalls.{range_last, range_rest, range_done, items_step, items_end}
 
 -- ## Inputs of the trace
 
@@ -135,30 +134,19 @@ module _ (ctx : Context) where
       with_copies t (copied (flat_map (variable_targets ctx)
       (drop (x + 1) (range_with_len 0 inputs))) (drop to all)) ≡ whole
   parameter_step s t whole x inputs at to all lt within h et place =
-      let f = variable_targets ctx in
-      let ts = f x in
-      let us = flat_map f (drop (x + 1) (range_with_len 0 inputs)) in
       let zero_x : 0 + x ≡ x = omega arith in
-      let rest : drop to all ≡ drop (length ts) (drop at all) =
-      ap (λ n. drop n all) place ∙ skipped at (length (ctx.places x)) all within
-      ∙ ap (λ n. drop n (drop at all)) (sym (target_count x)) in
-      let split : copied (flat_map f (drop x (range_with_len 0 inputs))) (drop at all)
-      ≡ copied ts (drop at all) ++ copied us (drop to all) =
-      ap (λ (is : List ℕ). copied (flat_map f is) (drop at all))
+      items_step (variable_targets ctx) s t whole x (drop (x + 1) (range_with_len 0 inputs))
+      (drop x (range_with_len 0 inputs)) (length (ctx.places x)) at to all
       (range_rest 0 inputs x lt
       ∙ ap (λ y. y ∷ drop (x + 1) (range_with_len 0 inputs)) zero_x)
-      ∙ copied_append ts us (drop at all)
-      ∙ ap (λ (is : List ℕ). copied ts (drop at all) ++ copied us is) (sym rest) in
-      copying_more s t whole (copied ts (drop at all)) (copied us (drop to all))
-      (copied (flat_map f (drop x (range_with_len 0 inputs))) (drop at all)) et split h
+      (target_count x) within h et place
 
   pub parameter_ends :
       (s whole : State) (x inputs at : ℕ) (all : List ℕ) → inputs ≤ x →
       with_copies s (copied (flat_map (variable_targets ctx) (drop x (range_with_len 0 inputs)))
       (drop at all)) ≡ whole → s ≡ whole
   parameter_ends s whole x inputs at all le h =
-      copying_ends s whole _ (ap (λ (is : List ℕ).
-      copied (flat_map (variable_targets ctx) is) (drop at all)) (range_done 0 inputs x le)) h
+      items_end (variable_targets ctx) s whole _ (drop at all) (range_done 0 inputs x le) h
 
 -- ## What the observer receives
 

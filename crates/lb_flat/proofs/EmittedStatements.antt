@@ -1,7 +1,7 @@
 -- The code that expands resolved statements: left variables are copies of what their term left on
 -- the stack.
-use Rattle.std.proofs.Common.{◌≡◌, ◌<◌, ◌≤◌, ℕ, ◌+◌, ◌-◌, ◌^◌, List, ◌∷◌, ◌++◌, length}
-use Rattle.std.proofs.Common.{take, drop, get_or, min, refl, sym, ap, ap₂, subst, ◌∙◌}
+use Rattle.std.proofs.Common.{◌≡◌, ◌<◌, ◌≤◌, ℕ, ◌+◌, ◌-◌, ◌^◌, List, ◌∷◌, length, take, drop}
+use Rattle.std.proofs.Common.{get_or, min, refl, sym, ap, ap₂, subst, ◌∙◌}
 use Rattle.std.specs.Prelude.{flat_map}
 use Rattle.std.proofs.Math.Seq.{take-append_seam}
 use Rattle.std.proofs.lemmas.List.{drop_more, drop_all, length-map}
@@ -14,7 +14,7 @@ use Rattle.lb_flat.specs.EmitTerms.{Context, Cursor, PlacedEmitted, PlacedState,
 use Rattle.lb_flat.specs.EmitTerms.{left_targets, emit_term, emit_statement}
 use Rattle.lb_flat.specs.Frames.{HasPlaces, HasRoom, placed_state, stacked, with_copies}
 use Rattle.lb_flat.specs.TermEmissions.{above, with_asserted}
-use Rattle.lb_flat.proofs.EmittedCalls.{copying_more, copying_ends, copied_append, skipped}
+use Rattle.lb_flat.proofs.EmittedCalls.{items_step, items_end}
 use Rattle.lb_flat.proofs.EmittedWalks.{above_onto, place_in, emitted_in}
 
 module _ (ctx : Context) where
@@ -28,30 +28,18 @@ module _ (ctx : Context) where
       with_copies t (copied (flat_map (left_targets ctx) (drop (i + 1) lefts)) (drop to all))
       ≡ whole
   left_step s t whole lefts i at to x d all lt is within h et place =
-      let f = left_targets ctx in
-      let ts = f x in
-      let us = flat_map f (drop (i + 1) lefts) in
-      let count : length ts ≡ length (ctx.places x.0) =
-      length-map (ctx.places x.0) (λ p. record { place = p; clock = ctx.declared x.0 }) in
-      let rest : drop to all ≡ drop (length ts) (drop at all) =
-      ap (λ n. drop n all) place ∙ skipped at (length (ctx.places x.0)) all within
-      ∙ ap (λ n. drop n (drop at all)) (sym count) in
-      let split : copied (flat_map f (drop i lefts)) (drop at all)
-      ≡ copied ts (drop at all) ++ copied us (drop to all) =
-      ap (λ (xs : List VariableId). copied (flat_map f xs) (drop at all))
+      items_step (left_targets ctx) s t whole x (drop (i + 1) lefts) (drop i lefts)
+      (length (ctx.places x.0)) at to all
       (drop_more lefts i d lt ∙ ap (λ (x : VariableId). x ∷ drop (i + 1) lefts) (sym is))
-      ∙ copied_append ts us (drop at all)
-      ∙ ap (λ (is : List ℕ). copied ts (drop at all) ++ copied us is) (sym rest) in
-      copying_more s t whole (copied ts (drop at all)) (copied us (drop to all))
-      (copied (flat_map f (drop i lefts)) (drop at all)) et split h
+      (length-map (ctx.places x.0) (λ p. record { place = p; clock = ctx.declared x.0 })) within
+      h et place
 
   pub left_ends :
       (s whole : State) (lefts : List VariableId) (i at : ℕ) (all : List ℕ) → length lefts ≤ i →
       with_copies s (copied (flat_map (left_targets ctx) (drop i lefts)) (drop at all)) ≡ whole →
       s ≡ whole
   left_ends s whole lefts i at all le h =
-      copying_ends s whole _ (ap (λ (xs : List VariableId).
-      copied (flat_map (left_targets ctx) xs) (drop at all)) (drop_all i lefts le)) h
+      items_end (left_targets ctx) s whole _ (drop at all) (drop_all i lefts le) h
 
   -- the room of a statement is that of its term
   equation_is :

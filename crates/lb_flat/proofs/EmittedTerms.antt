@@ -121,28 +121,9 @@ module _ (Y : Layout) (P : Program) (H : History) (here : Instance) (texts : Tex
   parts_of :
       (k : Clock) (m t : ℕ) (e : Expr) → AreTermsAt t (on k m e) → (q : ℕ) (qs : List ℕ) →
       (data_type P here e).sizes ≡ q ∷ qs → 0 < q → ctx.parts t ≡ part_count P here e
-  parts_of k m t (tree.Literal v) h = h.0.parts
-  parts_of k m t (tree.Truth b) h = h.0.parts
-  parts_of k m t (tree.Variable x) h = h.0.parts
   parts_of k m t (tree.Group a) h = parts_of k m t a h
-  parts_of k m t (tree.Unary op a) h = h.0.parts
-  parts_of k m t (tree.Binary op a b) h = h.0.parts
-  parts_of k m t (tree.If c a b) h = h.0.parts
-  parts_of k m t (tree.Arrow a b) h = h.0.parts
-  parts_of k m t (tree.Fby a b) h = h.0.parts
-  parts_of k m t (tree.Pre a) h = h.0.parts
-  parts_of k m t (tree.Current a) h = h.0.parts
-  parts_of k m t (tree.When a x sign) h = h.0.parts
-  parts_of k m t (tree.Replicate a c) h = h.0.parts
-  parts_of k m t (tree.Index a i) h = h.0.parts
-  parts_of k m t (tree.Slice a i j) h = h.0.parts
-  parts_of k m t (tree.Join a b) h = h.0.parts
-  parts_of k m t (tree.Array es) h = h.0.parts
-  parts_of k m t (tree.AtMostOne es) h = h.0.parts
-  parts_of k m t (tree.Nor es) h = h.0.parts
-  parts_of k m t (tree.Call f statics es) h = h.0.parts
-  parts_of k m t (tree.Iterate it (tree.Node_named f statics) c es) h = h.0.parts
   parts_of k m t (tree.Iterate it (tree.Symbol op) c es) h = h.0.parts
+  parts_of k m t _ h = h.0.parts
 
   typed_as : (e : Expr) (t : DataType) → data_types P here e ≡ Some (t ∷ []) →
       (data_type P here e).sizes ≡ t.sizes
@@ -197,10 +178,7 @@ module _ (Y : Layout) (P : Program) (H : History) (here : Instance) (texts : Tex
       (k : Clock) (at : Cursor) (s : Static) → Stands k at (named_value s) →
       (ts : List DataType) × (data_types P here (named_value s) ≡ Some ts)
   value_typed k at (tree.Named x) h = (h.0.types, h.0.typed)
-  value_typed k at (tree.Whole m) h = (h.0.types, h.0.typed)
-  value_typed k at (tree.Negated s) h = (h.0.types, h.0.typed)
-  value_typed k at (tree.Combined op s t) h = (h.0.types, h.0.typed)
-  value_typed k at (tree.Grouped s) h = (h.0.types, h.0.typed)
+  value_typed k at _ h = (h.0.types, h.0.typed)
 
   value_is :
       (k : Clock) (at : Cursor) (s : State) (i : StaticId) (v : IsValue P here ctx texts i) →

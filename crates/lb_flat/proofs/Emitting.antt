@@ -46,15 +46,7 @@ reads_below n m (Sample a) h le = more_below m a.0 [] (omega arith) (none_below 
 pub keeps_below : (n m : ℕ) (o : Operation) → AreBelow n o → n ≤ m
     → Below m (keeps (operation_of o))
 keeps_below n m (Previous v a) h le = more_below m a.0 [] (omega arith) (none_below m)
-keeps_below n m (Input j) h le = none_below m
-keeps_below n m (Constant v) h le = none_below m
-keeps_below n m (Copy a) h le = none_below m
-keeps_below n m (ApplyUnary op a) h le = none_below m
-keeps_below n m (ApplyBinary op a b) h le = none_below m
-keeps_below n m (Choose c a b) h le = none_below m
-keeps_below n m (FirstThen started a b) h le = none_below m
-keeps_below n m (Latest v a) h le = none_below m
-keeps_below n m (Sample a) h le = none_below m
+keeps_below n m _ h le = none_below m
 
 pub below_later : (n m : ℕ) (is : List ℕ) → Below n is → n ≤ m → Below m is
 below_later n m is h le = All-weaker (λ i. i < n) (λ i. i < m) (λ i lt. omega arith) is h

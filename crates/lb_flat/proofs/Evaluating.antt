@@ -4,8 +4,7 @@ use Rattle.std.proofs.Common.{refl, sym, ap, ap₂, ◌∙◌, subst, add-one}
 use Rattle.std.proofs.Math.Seq.{drop-cons}
 use Rattle.std.proofs.lemmas.List.{length-map}
 use Rattle.lb_check.specs.declared.verdict.Verdict.{Verdict}
-use Rattle.lb_check.specs.declared.verdict.Verdict.TheVariants.{Passed, Fault, Undefined, Assertion}
-use Rattle.lb_check.specs.declared.verdict.Verdict.TheVariants.{False}
+use Rattle.lb_check.specs.declared.verdict.Verdict.TheVariants.{Passed}
 use Rattle.lb_check.specs.Solutions.{Inputs}
 use Rattle.lb_check.specs.Verdicts.{or_later}
 use Rattle.lb_flat.specs.declared.cell.Cell.{Cell}
@@ -39,10 +38,7 @@ pub record IsEvaluating (f : FlatProgram) (X : Inputs) (clocks : List Clock)
 
 later_is : (v w : Verdict) → v ≢ Passed → or_later v w ≡ v
 later_is Passed w n = absurd (n refl)
-later_is (Fault t) w n = refl
-later_is (Undefined t) w n = refl
-later_is (Assertion t) w n = refl
-later_is (False t) w n = refl
+later_is _ w n = refl
 
 module _ (f : FlatProgram) (X : Inputs) (clocks : List Clock) (inputs : List InputPlace)
     (memories : List ℕ) (steps : List Equation) (before : List Cell) (t : ℕ)

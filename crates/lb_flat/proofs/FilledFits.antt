@@ -1,9 +1,8 @@
 -- Streams that are filled in along equations whose clocks and kinds fit are present exactly at the
 -- instants of their clocks, with scalars of their kinds.
-use Rattle.std.proofs.Common.{◌≡◌, ℕ, suc, ◌+◌, ◌<◌, Bool, true, false, ◌&&◌, inl, inr, Some, None}
-use Rattle.std.proofs.Common.{is_some, List, [], ◌∷◌, ◌++◌, map, length, replicate, refl, sym, ap}
-use Rattle.std.proofs.Common.{ap₂, ◌∙◌, subst, arith}
-use Rattle.std.proofs.lemmas.Bool.{cases_lt}
+use Rattle.std.proofs.Common.{◌≡◌, ℕ, suc, ◌+◌, ◌<◌, Bool, true, false, ◌&&◌, Some, None, is_some}
+use Rattle.std.proofs.Common.{List, [], ◌∷◌, map, length, replicate, refl, sym, ap, ap₂, ◌∙◌, subst}
+use Rattle.std.proofs.Common.{arith}
 use Rattle.lb_syntax.specs.declared.tree.Kind.{Kind}
 use Rattle.lb_syntax.specs.Lists.{Every, zip2, tail_of}
 use Rattle.lb_syntax.proofs.TruthValues.{and_second}
@@ -14,13 +13,13 @@ use Rattle.lb_check.specs.Solutions.{Inputs, column_of, fits, is_row}
 use Rattle.lb_flat.specs.Flat.{FlatClock, Operation, Input, Constant, Copy, ApplyUnary, ApplyBinary}
 use Rattle.lb_flat.specs.Flat.{Choose, FirstThen, Previous, Latest, Sample, FlatEquation, column}
 use Rattle.lb_flat.specs.Flat.{instants, operate, Holds, AreLong}
-use Rattle.lb_flat.specs.Run.{clock_reads, reads, keeps}
+use Rattle.lb_flat.specs.Run.{reads, keeps}
 use Rattle.lb_flat.specs.FlatSolutions.{IsCellFit}
 use Rattle.lb_flat.proofs.Columns.{choice_step, latest_step, column_long, instants_long}
 use Rattle.lb_flat.proofs.FilledKinds.{StreamOf, fits_of, operate_of}
-use Rattle.lb_flat.proofs.Filling.{Fresh}
+use Rattle.lb_flat.proofs.Filling.{Fresh, below_reads, below_keeps, below_next}
 use Rattle.lb_flat.proofs.Fitting.{KindFits, all_given}
-use Rattle.lb_flat.proofs.Lists.{Every-map, Every-both, Every-first, Every-second}
+use Rattle.lb_flat.proofs.Lists.{Every-map, Every-both}
 use Rattle.lb_flat.proofs.OnClock.{OperandsFit, ClockFits, held_present, one_present, two_present}
 use Rattle.lb_flat.proofs.OnClock.{choice_present, kept_present}
 
@@ -44,14 +43,10 @@ ends b bs cs p q = let e : b ∷ bs ≡ [] = p ∙ sym q in absurd cc
 pub fits_present : (kind : Kind) (bs : List Bool) (xs : Stream) → fits kind bs xs ≡ true →
     presence_of xs ≡ bs
 fits_present kind [] [] e = refl
-fits_present kind [] (x ∷ xs) e = cc
-fits_present kind (true ∷ bs) [] e = cc
-fits_present kind (false ∷ bs) [] e = cc
-fits_present kind (true ∷ bs) (None ∷ xs) e = cc
-fits_present kind (false ∷ bs) (Some v ∷ xs) e = cc
 fits_present kind (true ∷ bs) (Some v ∷ xs) e =
     ap (λ cs. true ∷ cs) (fits_present kind bs xs (and_second _ (fits kind bs xs) e))
 fits_present kind (false ∷ bs) (None ∷ xs) e = ap (λ cs. false ∷ cs) (fits_present kind bs xs e)
+fits_present kind _ _ e = cc
 
 own_fits : (kind : Kind) (xs : Stream) → StreamOf kind xs → fits kind (presence_of xs) xs ≡ true
 own_fits kind [] h = refl
@@ -199,12 +194,6 @@ module _ (inputs : List Kind) (K : ℕ → FlatClock) (N : ℕ → Kind) (X : In
   element_of : (i : ℕ) → ElementFits i → StreamOf (N i) (column X F i)
   element_of i h = fits_of (N i) (instants X F (K i)) (column X F i) h
 
-  each_below :
-      (n : ℕ) (is : List ℕ) → ((i : ℕ) → i < n → ElementFits i) → Every (λ i. i < n) is →
-      Every ElementFits is
-  each_below n [] below h = tt
-  each_below n (i ∷ is) below h = (below i h.0, each_below n is below h.1)
-
   -- an equation of which all that it names fits
   equation_fits :
       (q : FlatEquation) → Holds X F q → ClockFits (length inputs) K q → KindFits inputs N q →
@@ -229,34 +218,10 @@ module _ (inputs : List Kind) (K : ℕ → FlatClock) (N : ℕ → Kind) (X : In
       ((i : ℕ) → i < n → ElementFits i) → (i : ℕ) → i < n + length qs → ElementFits i
   fresh_fits n [] fresh holds clocks kinds below i lt = below i (omega arith)
   fresh_fits n (q ∷ qs) fresh holds clocks kinds below i lt =
-      fresh_fits (suc n) qs fresh.1 holds.1 clocks.1 kinds.1 next i (omega arith)
-    where
-      others : Every (λ i. i < n) (reads q.operation ++ keeps q.operation)
-      others =
-          Every-second (λ i. i < n) (clock_reads q.clock) (reads q.operation ++ keeps q.operation)
-          fresh.0.names_below
-
-      of_reads : Every ElementFits (reads q.operation)
-      of_reads =
-          each_below n (reads q.operation) below
-          (Every-first (λ i. i < n) (reads q.operation) (keeps q.operation) others)
-
-      of_keeps : Every ElementFits (keeps q.operation)
-      of_keeps =
-          each_below n (keeps q.operation) below
-          (Every-second (λ i. i < n) (reads q.operation) (keeps q.operation) others)
-
-      new : ElementFits q.element
-      new = equation_fits q holds.0 clocks.0 kinds.0 of_reads of_keeps
-
-      next : (i : ℕ) → i < suc n → ElementFits i
-      next i lt =
-          elim (cases_lt i n) [
-            | inl less ↦ below i less
-            | inr le ↦
-                let same : n ≡ i = omega arith in
-                subst ElementFits (fresh.0.element ∙ same) new
-          ]
+      let new = equation_fits q holds.0 clocks.0 kinds.0
+      (below_reads ElementFits n q fresh.0 below) (below_keeps ElementFits n q fresh.0 below) in
+      fresh_fits (suc n) qs fresh.1 holds.1 clocks.1 kinds.1
+      (below_next ElementFits n q fresh.0 below new) i (omega arith)
 
 -- where the elements fit their clocks and kinds, equations that are on those clocks do
 pub cells_fit :

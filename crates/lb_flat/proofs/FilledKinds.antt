@@ -1,8 +1,7 @@
 -- Streams that are filled in along equations whose kinds fit hold scalars of their kinds; so the
 -- operands that have to be truth values are.
-use Rattle.std.proofs.Common.{◌≡◌, ℕ, suc, ◌<◌, Bool, true, false, ℤ, inl, inr, Some, None, List}
-use Rattle.std.proofs.Common.{[], ◌∷◌, ◌++◌, sym, ◌∙◌, slice_get, subst, arith}
-use Rattle.std.proofs.lemmas.Bool.{cases_lt}
+use Rattle.std.proofs.Common.{◌≡◌, ℕ, suc, ◌<◌, Bool, true, false, ℤ, Some, None, List, [], ◌∷◌}
+use Rattle.std.proofs.Common.{sym, slice_get, subst}
 use Rattle.lb_syntax.specs.declared.tree.Kind.{Kind}
 use Rattle.lb_syntax.specs.declared.tree.Kind.TheVariants.{Bool as Truth}
 use Rattle.lb_syntax.specs.declared.tree.BinaryOperator.TheVariants.{Or, And}
@@ -16,12 +15,11 @@ use Rattle.lb_check.specs.Solutions.{Inputs, column_of, fits, is_row}
 use Rattle.lb_flat.specs.Flat.{FlatClock, Operation, Input, Constant, Copy, ApplyUnary, ApplyBinary}
 use Rattle.lb_flat.specs.Flat.{Choose, FirstThen, Previous, Latest, Sample, FlatEquation, column}
 use Rattle.lb_flat.specs.Flat.{instants, operate, Holds}
-use Rattle.lb_flat.specs.Run.{clock_reads, reads, keeps}
-use Rattle.lb_flat.proofs.Lists.{Every-first, Every-second}
+use Rattle.lb_flat.specs.Run.{reads, keeps}
 use Rattle.lb_flat.proofs.Counting.{IsTruth}
 use Rattle.lb_flat.proofs.Adding.{HasTruths}
 use Rattle.lb_flat.proofs.Columns.{choice_step, latest_step}
-use Rattle.lb_flat.proofs.Filling.{Fresh}
+use Rattle.lb_flat.proofs.Filling.{Fresh, below_reads, below_keeps, below_next}
 use Rattle.lb_flat.proofs.ScalarKinds.{IsOf, unary_of, binary_of}
 use Rattle.lb_flat.proofs.Fitting.{OperandKinds, KindFits, CellOf, held_of, kept_of, newest_of}
 use Rattle.lb_flat.proofs.Fitting.{one_of, two_of, chosen_cell_of, given_kind}
@@ -72,11 +70,9 @@ module _ (kind : Kind) where
   first_then_of :
       (xs ys : Stream) → StreamOf kind xs → StreamOf kind ys →
       StreamOf kind (first_then xs ys)
-  first_then_of [] ys h g = tt
-  first_then_of (None ∷ xs) [] h g = tt
-  first_then_of (Some v ∷ xs) [] h g = tt
   first_then_of (None ∷ xs) (y ∷ ys) h g = (tt, first_then_of xs ys h.1 g.1)
   first_then_of (Some v ∷ xs) (y ∷ ys) h g = (h.0, g.1)
+  first_then_of _ _ h g = tt
 
   latest_of :
       (v : Scalar) (bs : List Bool) (xs : Stream) → IsOf kind v → StreamOf kind xs →
@@ -114,13 +110,11 @@ module _ (kind : Kind) where
   pub fits_of :
       (bs : List Bool) (xs : Stream) → fits kind bs xs ≡ true → StreamOf kind xs
   fits_of bs [] e = tt
-  fits_of [] (x ∷ xs) e = cc
-  fits_of (true ∷ bs) (None ∷ xs) e = cc
   fits_of (false ∷ bs) (None ∷ xs) e = (tt, fits_of bs xs e)
-  fits_of (false ∷ bs) (Some v ∷ xs) e = cc
   fits_of (true ∷ bs) (Some v ∷ xs) e =
       let v_is = is_of_kind kind v in let rest = fits kind bs xs in
       (and_first v_is rest e, fits_of bs xs (and_second v_is rest e))
+  fits_of _ _ e = cc
 
 -- ## Equations
 
@@ -191,12 +185,6 @@ module _ (inputs : List Kind) (N : ℕ → Kind) (X : Inputs)
 
   -- ## Along the equations
 
-  each_of :
-      (n : ℕ) (is : List ℕ) → ((i : ℕ) → i < n → ElementOf i) → Every (λ i. i < n) is →
-      Every ElementOf is
-  each_of n [] below h = tt
-  each_of n (i ∷ is) below h = (below i h.0, each_of n is below h.1)
-
   -- where the elements below the first equation hold scalars of their kinds, the operands that have
   -- to be truth values are
   pub fresh_truths :
@@ -204,36 +192,12 @@ module _ (inputs : List Kind) (N : ℕ → Kind) (X : Inputs)
       Every (KindFits inputs N) qs → ((i : ℕ) → i < n → ElementOf i) →
       Every (λ q. HasTruths X F q.operation) qs
   fresh_truths n [] fresh holds fit below = tt
-  fresh_truths n (q ∷ qs) fresh holds fit below = (
-    operand_truths (N q.element) q.operation fit.0 of_reads,
-    fresh_truths (suc n) qs fresh.1 holds.1 fit.1 next,
-  )
-    where
-      others : Every (λ i. i < n) (reads q.operation ++ keeps q.operation)
-      others =
-          Every-second (λ i. i < n) (clock_reads q.clock) (reads q.operation ++ keeps q.operation)
-          fresh.0.names_below
-
-      of_reads : Every ElementOf (reads q.operation)
-      of_reads =
-          each_of n (reads q.operation) below
-          (Every-first (λ i. i < n) (reads q.operation) (keeps q.operation) others)
-
-      of_keeps : Every ElementOf (keeps q.operation)
-      of_keeps =
-          each_of n (keeps q.operation) below
-          (Every-second (λ i. i < n) (reads q.operation) (keeps q.operation) others)
-
-      new : ElementOf q.element
-      new =
-          subst (StreamOf (N q.element)) (sym holds.0)
-          (operate_of q.clock (N q.element) q.operation fit.0 of_reads of_keeps)
-
-      next : (i : ℕ) → i < suc n → ElementOf i
-      next i lt =
-          elim (cases_lt i n) [
-            | inl less ↦ below i less
-            | inr le ↦
-                let same : n ≡ i = omega arith in
-                subst ElementOf (fresh.0.element ∙ same) new
-          ]
+  fresh_truths n (q ∷ qs) fresh holds fit below =
+      let read = below_reads ElementOf n q fresh.0 below in
+      let new = subst (StreamOf (N q.element)) (sym holds.0)
+      (operate_of q.clock (N q.element) q.operation fit.0 read
+      (below_keeps ElementOf n q fresh.0 below)) in (
+        operand_truths (N q.element) q.operation fit.0 read,
+        fresh_truths (suc n) qs fresh.1 holds.1 fit.1
+            (below_next ElementOf n q fresh.0 below new),
+      )

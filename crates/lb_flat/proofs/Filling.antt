@@ -1,6 +1,8 @@
 -- Equations that each name only what stands before them have streams, whatever those before are.
 use Rattle.std.proofs.Common.{◌≡◌, ℕ, zero, suc, ◌+◌, ◌<◌, true, false, ◌&&◌, List, [], ◌∷◌, ◌++◌}
-use Rattle.std.proofs.Common.{length, refl, sym, ap, ap₂, ◌∙◌, arith, length-append}
+use Rattle.std.proofs.Common.{length, refl, sym, ap, ap₂, ◌∙◌, arith, length-append, inl, inr}
+use Rattle.std.proofs.Common.{subst}
+use Rattle.std.proofs.lemmas.Bool.{cases_lt}
 use Rattle.lb_syntax.specs.Lists.{Every, zip2}
 use Rattle.lb_check.specs.Scalars.{Stream, two_scalars, one_scalar}
 use Rattle.lb_check.specs.Streams.{constantly, along, along_two, choice, previous, first_then}
@@ -26,6 +28,38 @@ pub record IsFresh (n : ℕ) (q : FlatEquation) : Type 0 where
 abbrev pub Fresh : ℕ → List FlatEquation → Type 0
 Fresh n [] = Unit {0}
 Fresh n (q ∷ qs) = IsFresh n q × Fresh (suc n) qs
+
+-- what holds below a fresh equation holds of all that it names, and, where it holds of its element,
+-- of the elements as far as that
+module _ (G : ℕ → Type 0) (n : ℕ) (q : FlatEquation) (fresh : IsFresh n q)
+    (below : (i : ℕ) → i < n → G i) where
+  each_below : (is : List ℕ) → Every (λ i. i < n) is → Every G is
+  each_below [] h = tt
+  each_below (i ∷ is) h = (below i h.0, each_below is h.1)
+
+  operands_below : Every (λ i. i < n) (reads q.operation ++ keeps q.operation)
+  operands_below =
+      Every-second (λ i. i < n) (clock_reads q.clock) (reads q.operation ++ keeps q.operation)
+      fresh.names_below
+
+  pub below_reads : Every G (reads q.operation)
+  below_reads =
+      each_below (reads q.operation)
+      (Every-first (λ i. i < n) (reads q.operation) (keeps q.operation) operands_below)
+
+  pub below_keeps : Every G (keeps q.operation)
+  below_keeps =
+      each_below (keeps q.operation)
+      (Every-second (λ i. i < n) (reads q.operation) (keeps q.operation) operands_below)
+
+  pub below_next : G q.element → (i : ℕ) → i < suc n → G i
+  below_next new i lt =
+      elim (cases_lt i n) [
+        | inl less ↦ below i less
+        | inr le ↦
+            let same : n ≡ i = omega arith in
+            subst G (fresh.element ∙ same) new
+      ]
 
 -- the streams of all elements, from those of the first ones
 abbrev pub filled_in : Inputs → List Stream → List FlatEquation → List Stream

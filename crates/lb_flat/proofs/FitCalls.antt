@@ -81,11 +81,9 @@ module _ (S : Sorts) (Y : Layout) (P : Program) where
 
     -- arguments each on a clock of its own, of the kinds of these types
     abbrev pub AreArguments : List Clock → List DataType → List (List ℕ) → Type 0
-    AreArguments [] ts iss = Unit {0}
-    AreArguments (k ∷ ks) [] iss = Unit {0}
-    AreArguments (k ∷ ks) (t ∷ ts) [] = Unit {0}
     AreArguments (k ∷ ks) (t ∷ ts) (is ∷ iss) =
         AreOn S (flat_clock Y here.path k) t.kind is × AreArguments ks ts iss
+    AreArguments _ _ _ = Unit {0}
 
     -- arguments on one clock, of the kinds of these types
     abbrev pub AllOn : Clock → List DataType → List (List ℕ) → Type 0
@@ -513,31 +511,19 @@ module _ (S : Sorts) (Y : Layout) (P : Program) where
               let b = bound (where_true (are_types wanted.value args) outs) _ ts wanted.gives in
               let h = truly (are_types wanted.value args) outs b.value b.is in
               gathered_found c number ds b.value t own (o ∙ ap Some h.same) (b.gives ∙ ap Some one)
-          instances_found c Red number ds [] outs args ts t positive own o e one = cc
-          instances_found c Red number ds (a ∷ ins) [] args ts t positive own o e one = cc
-          instances_found c Red number ds (a ∷ ins) (u ∷ (v ∷ us)) args ts t positive own o e one =
-              cc
-          instances_found c Red number ds (a ∷ ins) (u ∷ []) [] ts t positive own o e one = cc
           instances_found c Red number ds (a ∷ ins) (u ∷ []) (i ∷ args) ts t positive own o e one =
               let wanted = bound (all_some (map (array_of number) ins)) _ ts e in
               let h = truly _ (u ∷ []) ts wanted.gives in
               let same : u ≡ t = heads_same _ _ _ _ (h.same ∙ one) in
               as_kind _ u.kind t.kind (last_of outputs m ds)
               (ap (λ (v : DataType). v.kind) same) (last_found c ds u [] positive own o)
-          instances_found c Fill number ds [] outs args ts t positive own o e one = cc
-          instances_found c Fill number ds (a ∷ (b ∷ ins)) outs args ts t positive own o e one = cc
-          instances_found c Fill number ds (a ∷ []) [] args ts t positive own o e one = cc
-          instances_found c Fill number ds (a ∷ []) (u ∷ []) args ts t positive own o e one = cc
-          instances_found c Fill number ds (a ∷ []) (u ∷ (v ∷ us)) [] ts t positive own o e one = cc
-          instances_found c Fill number ds (a ∷ []) (u ∷ (v ∷ us)) (i ∷ (j ∷ args)) ts t positive
-              own o e one =
-              cc
           instances_found c Fill number ds (a ∷ []) (u ∷ (v ∷ us)) (i ∷ []) ts t positive own o e
               one =
               let arrays = bound (all_some (map (array_of number) (v ∷ us))) _ ts e in
               let g = each (array_of number v) (map (array_of number) us) arrays.value arrays.is in
               let h = truly _ (u ∷ arrays.value) ts arrays.gives in
               nothing_same g.first g.rest (sym (tails_same _ _ _ _ (h.same ∙ one)) ∙ g.all)
+          instances_found c _ number ds _ _ _ ts t positive own o e one = cc
 
           -- what an iterator with one result gives
           pub iterator_found :

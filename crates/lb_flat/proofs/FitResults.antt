@@ -1,8 +1,8 @@
 -- The left variables of an equation are copies that fit, also where its right side is a call or an
 -- iterated node with several results.
-use Rattle.std.proofs.Common.{◌≡◌, ℕ, ◌+◌, ◌*◌, ◌<◌, true, false, pos, Some, IfSome, List, []}
-use Rattle.std.proofs.Common.{◌∷◌, ◌++◌, map, length, flat_map, zip, refl, sym, ap, ◌∙◌, subst}
-use Rattle.std.proofs.Common.{subst₂, arith}
+use Rattle.std.proofs.Common.{◌≡◌, ℕ, ◌+◌, ◌*◌, ◌<◌, true, false, pos, Some, IfSome, List, [], ◌∷◌}
+use Rattle.std.proofs.Common.{◌++◌, map, length, flat_map, zip, refl, sym, ap, ◌∙◌, subst, subst₂}
+use Rattle.std.proofs.Common.{arith}
 use Rattle.std.specs.List.{range_with_len}
 use Rattle.std.specs.Str.{bytes_eq}
 use Rattle.std.proofs.lemmas.List.{length-map, append-nil}
@@ -22,8 +22,8 @@ use Rattle.lb_static.specs.DataTypes.{DataType, int, truth, is_type, are_types, 
 use Rattle.lb_static.specs.DataTypes.{variable_type, element_count}
 use Rattle.lb_check.specs.Types.{data_types, all_types, singly, name_data_type, from_one}
 use Rattle.lb_check.specs.Types.{from_truths, unary_type, binary_type, common_type, array_of}
-use Rattle.lb_check.specs.Types.{index_type, slice_type, join_type, list_type}
-use Rattle.lb_check.specs.Types.{operator_types, iterator_types}
+use Rattle.lb_check.specs.Types.{index_type, slice_type, join_type, list_type, operator_types}
+use Rattle.lb_check.specs.Types.{iterator_types}
 use Rattle.lb_check.specs.TypeRules.{type_of_name}
 use Rattle.lb_check.specs.Clocks.{Clock, declared_clock, ungrouped}
 use Rattle.lb_check.specs.Needs.{is_site}
@@ -174,14 +174,11 @@ module _ (S : Sorts) (Y : Layout) (P : Program) (here : Instance)
   -- results of types for left variables, each on the clock of its variable
   abbrev pub AreResults : List Name → List DataType → List (List ℕ) → Type 0
   AreResults [] [] [] = Unit {0}
-  AreResults [] [] (is ∷ iss) = ⊥
-  AreResults [] (t ∷ ts) iss = ⊥
-  AreResults (x ∷ xs) [] iss = ⊥
-  AreResults (x ∷ xs) (t ∷ ts) [] = ⊥
   AreResults (x ∷ xs) (t ∷ ts) (is ∷ iss) =
       (length is ≡ element_count t)
       × AreOn S (flat_clock Y here.path (declared_clock here.node x)) t.kind is
       × AreResults xs ts iss
+  AreResults _ _ _ = ⊥
 
   -- left variables that have the types of results are copies of them
   pub results_fit :

@@ -1,21 +1,19 @@
 -- The equations of an expression fit, and its elements are on its clock and of the kind of its
 -- type.
-use Rattle.std.proofs.Common.{◌≡◌, ℕ, ◌+◌, Bool, true, false, ◌&&◌, ◌||◌, not, cond, ℤ, pos}
-use Rattle.std.proofs.Common.{◌⊎◌, inl, inr, Option, Some, None, IfSome, option_map, List, [], ◌∷◌}
-use Rattle.std.proofs.Common.{◌++◌, map, refl, sym, ap, ◌∙◌, subst, subst₂}
+use Rattle.std.proofs.Common.{◌≡◌, ℕ, ◌+◌, Bool, true, false, ◌&&◌, ◌||◌, not, cond, ℤ, pos, ◌⊎◌}
+use Rattle.std.proofs.Common.{inl, inr, Option, Some, None, IfSome, option_map, List, [], ◌∷◌, ◌++◌}
+use Rattle.std.proofs.Common.{map, refl, sym, ap, ◌∙◌, subst, subst₂}
 use Rattle.std.specs.Str.{bytes_eq}
 use Rattle.std.proofs.lemmas.Slice.Eq.{bytes_eq-Decides}
 use Rattle.std.proofs.lemmas.Option.{same_Some}
 use Rattle.lb_syntax.specs.declared.tree.BinaryOperator.{BinaryOperator}
-use Rattle.lb_syntax.specs.declared.tree.BinaryOperator.TheVariants.{Or, Xor, And, Implies, Equal}
-use Rattle.lb_syntax.specs.declared.tree.BinaryOperator.TheVariants.{Unequal, Less, AtMost, Greater}
-use Rattle.lb_syntax.specs.declared.tree.BinaryOperator.TheVariants.{AtLeast, Plus, Minus, Times}
-use Rattle.lb_syntax.specs.declared.tree.BinaryOperator.TheVariants.{Divide, Modulo}
+use Rattle.lb_syntax.specs.declared.tree.BinaryOperator.TheVariants.{Plus, Minus, Times, Divide}
+use Rattle.lb_syntax.specs.declared.tree.BinaryOperator.TheVariants.{Modulo}
 use Rattle.lb_syntax.specs.declared.tree.ArrayIterator.{ArrayIterator}
 use Rattle.lb_syntax.specs.declared.tree.ArrayIterator.TheVariants.{Map, Red, Fill}
 use Rattle.lb_syntax.specs.declared.tree.Kind.{Kind}
 use Rattle.lb_syntax.specs.declared.tree.Kind.TheVariants.{Int, Bool as Truth_kind}
-use Rattle.lb_syntax.specs.Lists.{◌>>=◌, Every, joined, all_some, either_or, where_true}
+use Rattle.lb_syntax.specs.Lists.{Every, joined, all_some, either_or, where_true}
 use Rattle.lb_syntax.specs.Tree.{Name, Node_named, Symbol, Expr, Literal, Truth, Variable, Group}
 use Rattle.lb_syntax.specs.Tree.{Unary, Binary, If, Arrow, Fby, Pre, Current, When, Replicate}
 use Rattle.lb_syntax.specs.Tree.{Index, Slice, Join, Array, AtMostOne, Nor, Call, Iterate, Exprs}
@@ -27,7 +25,7 @@ use Rattle.lb_static.specs.Instances.{Program, Instance, static_count, node_name
 use Rattle.lb_static.specs.DataTypes.{DataType, int, truth, is_type, are_types, variables}
 use Rattle.lb_static.specs.DataTypes.{variable_type}
 use Rattle.lb_static.specs.Parts.{among, variable_names}
-use Rattle.lb_check.specs.Types.{data_types, all_types, only, singly, name_data_type, from_one}
+use Rattle.lb_check.specs.Types.{data_types, all_types, singly, name_data_type, from_one}
 use Rattle.lb_check.specs.Types.{from_truths, unary_type, binary_type, common_type, array_of}
 use Rattle.lb_check.specs.Types.{index_type, slice_type, join_type, list_type, is_arithmetic}
 use Rattle.lb_check.specs.Types.{is_logical, constant_type, operator_types, iterator_types}
@@ -38,7 +36,7 @@ use Rattle.lb_check.specs.Occurrences.{Occurrence, call_count, call_clocks, occu
 use Rattle.lb_check.specs.Occurrences.{occurrences_in, occurrences_each}
 use Rattle.lb_check.specs.Streams.{number}
 use Rattle.lb_check.proofs.ClockTests.{clock_same}
-use Rattle.lb_check.proofs.OperandTypes.{truly}
+use Rattle.lb_check.proofs.OperandTypes.{first_of_all, truly}
 use Rattle.lb_flat.specs.Flat.{FlatClock, Where, Constant, ApplyUnary, ApplyBinary, FirstThen}
 use Rattle.lb_flat.specs.Flat.{Previous, Latest, Sample, FlatEquation}
 use Rattle.lb_flat.specs.Layouts.{Layout, where_signed, flat_clock}
@@ -48,7 +46,7 @@ use Rattle.lb_flat.proofs.Lists.{Every-append, Every-first, Every-second, Every-
 use Rattle.lb_flat.proofs.Lists.{Every-copies, Every-joined}
 use Rattle.lb_flat.proofs.Emission.{joins_equations}
 use Rattle.lb_flat.proofs.ScalarKinds.{IsOf, nil_of, binary_kind}
-use Rattle.lb_flat.proofs.TypeFacts.{bound, single, alone, one, two, from_true, Symbolic, constant}
+use Rattle.lb_flat.proofs.TypeFacts.{bound, alone, one, two, from_true, Symbolic, constant}
 use Rattle.lb_flat.proofs.TypeFacts.{symbolic}
 use Rattle.lb_flat.proofs.OutputWidths.{found_in, each}
 use Rattle.lb_flat.proofs.TypedBodies.{found_passes}
@@ -66,30 +64,6 @@ use Rattle.lb_flat.proofs.FitPlaces.{IsVariableOn, AreVariablesOn, IsSet}
 use Rattle.lb_flat.proofs.FitCalls.{AreArguments, AllOn, call_fit, call_found, iterator_fit}
 use Rattle.lb_flat.proofs.FitCalls.{iterator_found}
 
--- the types of the first of some expressions, and of the others
-record First (P : Program) (here : Instance) (e : Expr) (es : Exprs) (ts : List DataType) :
-    Type 0 where
-  first : DataType
-  rest : List DataType
-  is : data_types P here e ≡ Some (first ∷ [])
-  others : all_types P here es ≡ Some rest
-  all : ts ≡ first ∷ rest
-
-first_typed :
-    (P : Program) (here : Instance) (e : Expr) (es : Exprs) (ts : List DataType) →
-    all_types P here (Cons e es) ≡ Some ts → First P here e es ts
-first_typed P here e es ts h =
-    let c = bound (data_types P here e >>= only) _ ts h in
-    let a = bound (data_types P here e) only c.value c.is in
-    let d = bound (all_types P here es) _ ts c.gives in
-    record {
-      first = c.value;
-      rest = d.value;
-      is = a.is ∙ ap Some (single a.value c.value a.gives);
-      others = d.is;
-      all = sym (same_Some _ _ d.gives);
-    }
-
 arithmetic_kind :
     (op : BinaryOperator) → is_arithmetic op ≡ true → binary_kind op Int Int ≡ Some Int
 arithmetic_kind Plus e = refl
@@ -97,16 +71,7 @@ arithmetic_kind Minus e = refl
 arithmetic_kind Times e = refl
 arithmetic_kind Divide e = refl
 arithmetic_kind Modulo e = refl
-arithmetic_kind Equal e = cc
-arithmetic_kind Unequal e = cc
-arithmetic_kind Less e = cc
-arithmetic_kind AtMost e = cc
-arithmetic_kind Greater e = cc
-arithmetic_kind AtLeast e = cc
-arithmetic_kind Or e = cc
-arithmetic_kind Xor e = cc
-arithmetic_kind And e = cc
-arithmetic_kind Implies e = cc
+arithmetic_kind _ e = cc
 
 no_arithmetic : (op : BinaryOperator) → is_logical op ≡ true → is_arithmetic op ≡ false
 no_arithmetic Plus e = absurd cc
@@ -114,16 +79,7 @@ no_arithmetic Minus e = absurd cc
 no_arithmetic Times e = absurd cc
 no_arithmetic Divide e = absurd cc
 no_arithmetic Modulo e = absurd cc
-no_arithmetic Equal e = refl
-no_arithmetic Unequal e = refl
-no_arithmetic Less e = refl
-no_arithmetic AtMost e = refl
-no_arithmetic Greater e = refl
-no_arithmetic AtLeast e = refl
-no_arithmetic Or e = refl
-no_arithmetic Xor e = refl
-no_arithmetic And e = refl
-no_arithmetic Implies e = refl
+no_arithmetic _ e = refl
 
 -- a symbol gives the kind that it takes
 symbol_kind :
@@ -607,7 +563,7 @@ module _ (S : Sorts) (Y : Layout) (P : Program) (here : Instance)
     fits_all k n s (Cons e es) ts is w h =
         let m = n + call_count e in
         let oa = parts k n e in let ob = occurrences_in P here.node k m es in
-        let i = first_typed P here e es ts is in
+        let i = first_of_all P here e es ts is in
         let r = fits_all k m _ es i.rest i.others (aft oa ob w) h in
         let x = fits_term k n s e (i.first ∷ []) i.is (fore oa ob w) r.grown.before in
         record {
@@ -628,7 +584,7 @@ module _ (S : Sorts) (Y : Layout) (P : Program) (here : Instance)
     fits_each (k ∷ ks) n s (Cons e es) ts is w h =
         let m = n + call_count e in
         let oa = parts k n e in let ob = occurrences_each P here.node ks m es in
-        let i = first_typed P here e es ts is in
+        let i = first_of_all P here e es ts is in
         let r = fits_each ks m _ es i.rest i.others (aft oa ob w) h in
         let x = fits_term k n s e (i.first ∷ []) i.is (fore oa ob w) r.grown.before in
         record {

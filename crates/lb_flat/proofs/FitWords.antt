@@ -4,10 +4,7 @@ use Rattle.std.proofs.Common.{sym, ap, ap₂, ◌∙◌, subst}
 use Rattle.lb_syntax.specs.declared.tree.UnaryOperator.{UnaryOperator}
 use Rattle.lb_syntax.specs.declared.tree.UnaryOperator.TheVariants.{Not, Negate}
 use Rattle.lb_syntax.specs.declared.tree.BinaryOperator.{BinaryOperator}
-use Rattle.lb_syntax.specs.declared.tree.BinaryOperator.TheVariants.{Or, Xor, And, Implies, Equal}
-use Rattle.lb_syntax.specs.declared.tree.BinaryOperator.TheVariants.{Unequal, Less, AtMost, Greater}
-use Rattle.lb_syntax.specs.declared.tree.BinaryOperator.TheVariants.{AtLeast, Plus, Minus, Times}
-use Rattle.lb_syntax.specs.declared.tree.BinaryOperator.TheVariants.{Divide, Modulo}
+use Rattle.lb_syntax.specs.declared.tree.BinaryOperator.TheVariants.{Or, And, Plus}
 use Rattle.lb_syntax.specs.declared.tree.ArrayIterator.{ArrayIterator}
 use Rattle.lb_syntax.specs.declared.tree.ArrayIterator.TheVariants.{Map, Red}
 use Rattle.lb_syntax.specs.declared.tree.Kind.{Kind}
@@ -35,38 +32,12 @@ pub record Sorts : Type 0 where
 integers_result :
     (op : BinaryOperator) (r : Kind) → binary_kind op Int Int ≡ Some r → binary_result op ≡ r
 integers_result Plus r e = cc
-integers_result Minus r e = cc
-integers_result Times r e = cc
-integers_result Divide r e = cc
-integers_result Modulo r e = cc
-integers_result Equal r e = cc
-integers_result Unequal r e = cc
-integers_result Less r e = cc
-integers_result AtMost r e = cc
-integers_result Greater r e = cc
-integers_result AtLeast r e = cc
-integers_result Or r e = cc
-integers_result Xor r e = cc
-integers_result And r e = cc
-integers_result Implies r e = cc
+integers_result _ r e = cc
 
 truths_result :
     (op : BinaryOperator) (r : Kind) → binary_kind op Truth Truth ≡ Some r → binary_result op ≡ r
 truths_result Or r e = cc
-truths_result Xor r e = cc
-truths_result And r e = cc
-truths_result Implies r e = cc
-truths_result Equal r e = cc
-truths_result Unequal r e = cc
-truths_result Less r e = cc
-truths_result AtMost r e = cc
-truths_result Greater r e = cc
-truths_result AtLeast r e = cc
-truths_result Plus r e = cc
-truths_result Minus r e = cc
-truths_result Times r e = cc
-truths_result Divide r e = cc
-truths_result Modulo r e = cc
+truths_result _ r e = cc
 
 -- an operator gives the one kind that it has
 pub binary_gives :

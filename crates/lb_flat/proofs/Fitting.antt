@@ -61,10 +61,8 @@ two_of k l r f (Some v) (Some w) e h g = e v w h g
 pub chosen_cell_of :
     (kind : Kind) (c x y : Cell) → CellOf kind x → CellOf kind y →
     CellOf kind (chosen_cell c x y)
-chosen_cell_of kind None x y h g = tt
-chosen_cell_of kind (Some c) None y h g = tt
-chosen_cell_of kind (Some c) (Some v) None h g = tt
 chosen_cell_of kind (Some c) (Some v) (Some w) h g = chosen_of kind c v w h g
+chosen_cell_of kind _ _ _ h g = tt
 
 -- ## A row of the trace
 
@@ -161,18 +159,11 @@ module _ (inputs : List Kind) (N : ℕ → Kind) (given : List Scalar) (row : Ro
   kind_advanced :
       (kind : Kind) (o : Operation) → ((i : ℕ) → IsOfKind i) → OperandKinds inputs N kind o →
       OperandKinds inputs N kind (remembered row o)
-  kind_advanced kind (Input j) all f = f
-  kind_advanced kind (Constant v) all f = f
-  kind_advanced kind (Copy a) all f = f
-  kind_advanced kind (ApplyUnary op a) all f = f
-  kind_advanced kind (ApplyBinary op a b) all f = f
-  kind_advanced kind (Choose c a b) all f = f
-  kind_advanced kind (FirstThen started a b) all f = f
   kind_advanced kind (Previous v a) all f =
       (newest_of kind v (cell row a) f.0 (of kind a f.1 (all a)), f.1)
   kind_advanced kind (Latest v a) all f =
       (newest_of kind v (cell row a) f.0 (of kind a f.1 (all a)), f.1)
-  kind_advanced kind (Sample a) all f = f
+  kind_advanced kind _ all f = f
 
   kinds_advanced :
       (Q : List FlatEquation) → ((i : ℕ) → IsOfKind i) → Every (KindFits inputs N) Q →
@@ -187,15 +178,7 @@ operands_advanced :
     (inputs : ℕ) (K : ℕ → FlatClock) (row : Row) (k : FlatClock) (o : Operation) →
     OperandsFit inputs K k o → OperandsFit inputs K k (remembered row o)
 operands_advanced inputs K row k (Input j) f = f
-operands_advanced inputs K row k (Constant v) f = f
-operands_advanced inputs K row k (Copy a) f = f
-operands_advanced inputs K row k (ApplyUnary op a) f = f
-operands_advanced inputs K row k (ApplyBinary op a b) f = f
-operands_advanced inputs K row k (Choose c a b) f = f
-operands_advanced inputs K row k (FirstThen started a b) f = f
-operands_advanced inputs K row k (Previous v a) f = f
-operands_advanced inputs K row k (Latest v a) f = f
-operands_advanced inputs K row k (Sample a) f = f
+operands_advanced inputs K row k _ f = f
 
 clocks_advanced :
     (inputs : ℕ) (K : ℕ → FlatClock) (row : Row) (Q : List FlatEquation) →

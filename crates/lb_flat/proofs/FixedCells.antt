@@ -4,9 +4,8 @@ use Rattle.std.proofs.Common.{map, length, set, refl, sym, ap, ap₂, ◌∙◌,
 use Rattle.std.specs.List.{filter}
 use Rattle.lb_syntax.specs.Lists.{Every}
 use Rattle.lb_check.specs.Scalars.{Scalar}
-use Rattle.lb_flat.specs.Flat.{FlatClock, Always, Where, Operation, Input, Constant, Copy}
-use Rattle.lb_flat.specs.Flat.{ApplyUnary, ApplyBinary, Choose, FirstThen, Previous, Latest, Sample}
-use Rattle.lb_flat.specs.Flat.{FlatEquation}
+use Rattle.lb_flat.specs.Flat.{Where, FlatClock, Always, Operation, Input, Constant, FirstThen}
+use Rattle.lb_flat.specs.Flat.{Previous, Latest, FlatEquation}
 use Rattle.lb_flat.specs.Prepared.{is_input, is_fixed, is_step, has_memory, fixed_in, steps_in}
 use Rattle.lb_flat.specs.Prepared.{on_base, inputs_in, memory_places, HoldsFixed, AreFixed}
 use Rattle.lb_flat.specs.Run.{Row, cell, now, filled, remembered, advanced, Ready, row_of}
@@ -24,15 +23,7 @@ pub record IsInput (o : Operation) : Type 0 where
 
 pub input_is : (o : Operation) → is_input o ≡ true → IsInput o
 input_is (Input j) e = record { number = j; is = refl }
-input_is (Constant v) e = absurd (cc)
-input_is (Copy a) e = absurd (cc)
-input_is (ApplyUnary op a) e = absurd (cc)
-input_is (ApplyBinary op a b) e = absurd (cc)
-input_is (Choose c a b) e = absurd (cc)
-input_is (FirstThen started a b) e = absurd (cc)
-input_is (Previous v a) e = absurd (cc)
-input_is (Latest v a) e = absurd (cc)
-input_is (Sample a) e = absurd (cc)
+input_is _ e = absurd (cc)
 
 -- a constant on the base clock
 pub record IsFixed (k : FlatClock) (o : Operation) : Type 0 where
@@ -43,15 +34,7 @@ pub record IsFixed (k : FlatClock) (o : Operation) : Type 0 where
 pub fixed_is : (k : FlatClock) (o : Operation) → is_fixed k o ≡ true → IsFixed k o
 fixed_is Always (Constant v) e = record { value = v; clock = refl; is = refl }
 fixed_is (Where k i sign) (Constant v) e = absurd (cc)
-fixed_is k (Input j) e = absurd (cc)
-fixed_is k (Copy a) e = absurd (cc)
-fixed_is k (ApplyUnary op a) e = absurd (cc)
-fixed_is k (ApplyBinary op a b) e = absurd (cc)
-fixed_is k (Choose c a b) e = absurd (cc)
-fixed_is k (FirstThen started a b) e = absurd (cc)
-fixed_is k (Previous v a) e = absurd (cc)
-fixed_is k (Latest v a) e = absurd (cc)
-fixed_is k (Sample a) e = absurd (cc)
+fixed_is k _ e = absurd (cc)
 
 module _ (given : List Scalar) where
   input_now :
@@ -75,16 +58,7 @@ module _ (given : List Scalar) where
       (r : Row) (k : FlatClock) (o : Operation) → is_input o ≡ false →
       now given r k o ≡ now [] r k o
   no_input_now r k (Input j) e = absurd (cc)
-  no_input_now r k (Constant v) e = refl
-  no_input_now r k (Copy a) e = refl
-  no_input_now r k (ApplyUnary op a) e = refl
-  no_input_now r k (ApplyBinary op a b) e = refl
-  no_input_now r k (Choose c a b) e = refl
-  no_input_now r k (FirstThen true a b) e = refl
-  no_input_now r k (FirstThen false a b) e = refl
-  no_input_now r k (Previous v a) e = refl
-  no_input_now r k (Latest v a) e = refl
-  no_input_now r k (Sample a) e = refl
+  no_input_now r k _ e = refl
 
 fixed_left : (a b : Bool) → not (a || b) ≡ false → a ≡ false → b ≡ true
 fixed_left true b e f = absurd (cc)
@@ -195,51 +169,21 @@ constants_set size Q row ready le =
 module _ (row : Row) where
   input_same : (o : Operation) → is_input (remembered row o) ≡ is_input o
   input_same (Input j) = refl
-  input_same (Constant v) = refl
-  input_same (Copy a) = refl
-  input_same (ApplyUnary op a) = refl
-  input_same (ApplyBinary op a b) = refl
-  input_same (Choose c a b) = refl
-  input_same (FirstThen started a b) = refl
-  input_same (Previous v a) = refl
-  input_same (Latest v a) = refl
-  input_same (Sample a) = refl
+  input_same _ = refl
 
   fixed_same : (k : FlatClock) (o : Operation) → is_fixed k (remembered row o) ≡ is_fixed k o
   fixed_same k (Input j) = refl
-  fixed_same k (Constant v) = refl
-  fixed_same k (Copy a) = refl
-  fixed_same k (ApplyUnary op a) = refl
-  fixed_same k (ApplyBinary op a b) = refl
-  fixed_same k (Choose c a b) = refl
-  fixed_same k (FirstThen started a b) = refl
-  fixed_same k (Previous v a) = refl
-  fixed_same k (Latest v a) = refl
-  fixed_same k (Sample a) = refl
+  fixed_same k _ = refl
 
   memory_same : (o : Operation) → has_memory (remembered row o) ≡ has_memory o
   memory_same (Input j) = refl
-  memory_same (Constant v) = refl
-  memory_same (Copy a) = refl
-  memory_same (ApplyUnary op a) = refl
-  memory_same (ApplyBinary op a b) = refl
-  memory_same (Choose c a b) = refl
-  memory_same (FirstThen started a b) = refl
-  memory_same (Previous v a) = refl
-  memory_same (Latest v a) = refl
-  memory_same (Sample a) = refl
+  memory_same _ = refl
 
   pub no_memory : (o : Operation) → has_memory o ≡ false → remembered row o ≡ o
-  no_memory (Input j) e = refl
-  no_memory (Constant v) e = refl
-  no_memory (Copy a) e = refl
-  no_memory (ApplyUnary op a) e = refl
-  no_memory (ApplyBinary op a b) e = refl
-  no_memory (Choose c a b) e = refl
   no_memory (FirstThen started a b) e = absurd (cc)
   no_memory (Previous v a) e = absurd (cc)
   no_memory (Latest v a) e = absurd (cc)
-  no_memory (Sample a) e = refl
+  no_memory _ e = refl
 
   step_same : (q : FlatEquation) → is_step (advanced row q) ≡ is_step q
   step_same q =

@@ -1,8 +1,8 @@
 -- Expansion finds as many elements for an expression as the expression has streams in a history
 -- that has a stream for each element of a variable.
 use Rattle.std.proofs.Common.{◌≡◌, ℕ, zero, suc, ◌+◌, ◌-◌, ◌*◌, ◌/◌, false, Option, Some, None}
-use Rattle.std.proofs.Common.{option_map, List, [], ◌∷◌, map, length, take, drop}
-use Rattle.std.proofs.Common.{flat_map, refl, sym, ap, ap₂, ◌∙◌, arith, length-append}
+use Rattle.std.proofs.Common.{option_map, List, [], ◌∷◌, map, length, take, drop, flat_map, refl}
+use Rattle.std.proofs.Common.{sym, ap, ap₂, ◌∙◌, arith, length-append}
 use Rattle.std.specs.List.{range_with_len}
 use Rattle.std.proofs.lemmas.List.{length-map}
 use Rattle.lb_syntax.specs.declared.tree.UnaryOperator.TheVariants.{Not}
@@ -41,13 +41,10 @@ length-zip :
     (us : List D) (vs : List E) → length xs ≡ length us → length ys ≡ length vs →
     length (zip2 f xs ys) ≡ length (zip2 g us vs)
 length-zip f g [] ys [] vs p q = refl
-length-zip f g [] ys (u ∷ us) vs p q = absurd (omega arith)
-length-zip f g (x ∷ xs) ys [] vs p q = absurd (omega arith)
 length-zip f g (x ∷ xs) [] (u ∷ us) [] p q = refl
-length-zip f g (x ∷ xs) [] (u ∷ us) (v ∷ vs) p q = absurd (omega arith)
-length-zip f g (x ∷ xs) (y ∷ ys) (u ∷ us) [] p q = absurd (omega arith)
 length-zip f g (x ∷ xs) (y ∷ ys) (u ∷ us) (v ∷ vs) p q =
     ap suc (length-zip f g xs ys us vs (omega arith) (omega arith))
+length-zip f g _ _ _ _ p q = absurd (omega arith)
 
 module _ {A B : Type 0} where
   length-copied : (n : ℕ) (xs : List A) (ys : List B) → length xs ≡ length ys →
@@ -133,16 +130,13 @@ module _ {A B : Type 0} where
         ≡ map length (iterator_inputs g n it outs yss i)
     length-inputs n Map outs xss yss i e = length-parts n i xss yss e
     length-inputs n Red outs [] [] i e = refl
-    length-inputs n Red outs [] (ys ∷ yss) i e = absurd cc
-    length-inputs n Red outs (xs ∷ xss) [] i e = absurd cc
     length-inputs n Red outs (xs ∷ xss) (ys ∷ yss) i e =
         ap₂ (λ a b. a ∷ b) (length-accumulated outs xs ys i (heads_same _ _ _ _ e))
         (length-parts n i xss yss (tails_same _ _ _ _ e))
     length-inputs n Fill outs [] [] i e = refl
-    length-inputs n Fill outs [] (ys ∷ yss) i e = absurd cc
-    length-inputs n Fill outs (xs ∷ xss) [] i e = absurd cc
     length-inputs n Fill outs (xs ∷ xss) (ys ∷ yss) i e =
         ap (λ a. a ∷ []) (length-accumulated outs xs ys i (heads_same _ _ _ _ e))
+    length-inputs n _ outs _ _ i e = absurd cc
 
 -- ## The small words of expansion
 
@@ -189,36 +183,21 @@ symbol_count :
     (xss : List (List ℕ)) (yss : List (List Stream)) → map length xss ≡ map length yss →
     length (emit_symbol k op s it xss).found ≡ length (symbols it op yss)
 symbol_count k op s Map [] [] e = refl
-symbol_count k op s Map [] (v ∷ yss) e = absurd cc
-symbol_count k op s Map (x ∷ xss) [] e = absurd cc
 symbol_count k op s Map (x ∷ []) (v ∷ []) e = refl
-symbol_count k op s Map (x ∷ []) (v ∷ (w ∷ yss)) e = absurd cc
-symbol_count k op s Map (x ∷ (y ∷ xss)) (v ∷ []) e = absurd cc
 symbol_count k op s Map (x ∷ (y ∷ [])) (v ∷ (w ∷ [])) e =
     add_count k s (zip2 (ApplyBinary op) x y)
     ∙ length-zip (ApplyBinary op) _ x y v w (heads_same _ _ _ _ e)
     (heads_same _ _ _ _ (tails_same _ _ _ _ e))
-symbol_count k op s Map (x ∷ (y ∷ [])) (v ∷ (w ∷ (z ∷ yss))) e = absurd cc
-symbol_count k op s Map (x ∷ (y ∷ (z ∷ xss))) (v ∷ (w ∷ [])) e = absurd cc
 symbol_count k op s Map (x ∷ (y ∷ (z ∷ xss))) (v ∷ (w ∷ (u ∷ yss))) e = refl
 symbol_count k op s Red [] [] e = refl
-symbol_count k op s Red [] (v ∷ yss) e = absurd cc
-symbol_count k op s Red (x ∷ xss) [] e = absurd cc
-symbol_count k op s Red (x ∷ []) (v ∷ (w ∷ yss)) e = absurd cc
-symbol_count k op s Red (x ∷ (y ∷ xss)) (v ∷ []) e = absurd cc
 symbol_count k op s Red ([] ∷ xss) ([] ∷ yss) e = refl
-symbol_count k op s Red ([] ∷ xss) ((v ∷ vs) ∷ yss) e = absurd cc
-symbol_count k op s Red ((i ∷ is) ∷ xss) ([] ∷ yss) e = absurd cc
 symbol_count k op s Red ((i ∷ []) ∷ []) ((v ∷ []) ∷ []) e = refl
-symbol_count k op s Red ((i ∷ []) ∷ xss) ((v ∷ (w ∷ vs)) ∷ yss) e = absurd cc
-symbol_count k op s Red ((i ∷ (j ∷ is)) ∷ xss) ((v ∷ []) ∷ yss) e = absurd cc
 symbol_count k op s Red ((i ∷ (j ∷ is)) ∷ xss) ((v ∷ (w ∷ vs)) ∷ yss) e = refl
 symbol_count k op s Red ((i ∷ []) ∷ (y ∷ [])) ((v ∷ []) ∷ (w ∷ [])) e =
     chained_one k op s i y
-symbol_count k op s Red ((i ∷ []) ∷ (y ∷ [])) ((v ∷ []) ∷ (w ∷ (z ∷ yss))) e = absurd cc
-symbol_count k op s Red ((i ∷ []) ∷ (y ∷ (z ∷ xss))) ((v ∷ []) ∷ (w ∷ [])) e = absurd cc
 symbol_count k op s Red ((i ∷ []) ∷ (y ∷ (z ∷ xss))) ((v ∷ []) ∷ (w ∷ (u ∷ yss))) e = refl
 symbol_count k op s Fill xss yss e = refl
+symbol_count k op s _ _ _ e = absurd cc
 
 joins_count : (s : State) (qs : List _) (is : List ℕ) → length (joins s qs is).found ≡ length is
 unfolding joins

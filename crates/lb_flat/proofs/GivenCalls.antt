@@ -6,7 +6,7 @@ use Rattle.std.proofs.Common.{arith}
 use Rattle.std.specs.List.{range_with_len}
 use Rattle.std.proofs.lemmas.List.{map-append, length-map}
 use Rattle.lb_syntax.specs.declared.tree.ArrayIterator.{ArrayIterator}
-use Rattle.lb_syntax.specs.Lists.{Every, joined, some_of, listed}
+use Rattle.lb_syntax.specs.Lists.{Every, some_of, listed}
 use Rattle.lb_syntax.specs.Tree.{Name, Static, Node_named, Symbol, Expr, Literal, Truth, Variable}
 use Rattle.lb_syntax.specs.Tree.{Group, Unary, Binary, If, Arrow, Fby, Pre, Current, When}
 use Rattle.lb_syntax.specs.Tree.{Replicate, Index, Slice, Join, Array, AtMostOne, Nor, Call}
@@ -20,7 +20,7 @@ use Rattle.lb_static.specs.DataTypes.{DataType, variables, variable_type, are_ty
 use Rattle.lb_static.proofs.Options.{length-all_some}
 use Rattle.lb_check.specs.Types.{data_types, all_types, operator_types}
 use Rattle.lb_check.specs.Scalars.{Stream}
-use Rattle.lb_check.specs.Clocks.{Clock, On, clock_of, clock_or, declared_clock, argument_clocks}
+use Rattle.lb_check.specs.Clocks.{Clock, declared_clock, argument_clocks}
 use Rattle.lb_check.specs.Occurrences.{Occurrence, call_count, call_clocks, occurrences}
 use Rattle.lb_check.specs.Occurrences.{occurrences_in, occurrences_each}
 use Rattle.lb_check.specs.Streams.{History, all_streams, number}
@@ -30,7 +30,7 @@ use Rattle.lb_check.proofs.OperandTypes.{first_of_all, truly}
 use Rattle.lb_flat.specs.Flat.{FlatClock, FlatEquation}
 use Rattle.lb_flat.specs.Layouts.{Layout, flat_clock}
 use Rattle.lb_flat.specs.Emit.{State, Target, targets, copied, received, call_copies}
-use Rattle.lb_flat.specs.Emit.{iterator_copies, add, keep, emit_name, emit, emit_all, emit_each}
+use Rattle.lb_flat.specs.Emit.{iterator_copies, emit_name, emit, emit_all, emit_each}
 use Rattle.lb_flat.proofs.Lists.{map-pieces, Every-first, Every-second, Every-of_range}
 use Rattle.lb_flat.proofs.Placing.{AreAsWide}
 use Rattle.lb_flat.proofs.Emission.{joins_copies}
@@ -292,6 +292,22 @@ module _ (Y : Layout) (P : Program) (H : History) (here : Instance)
   name_adds k s x None = adds_none s _ (add_copies (flat_clock Y here.path k) s _)
   name_adds k s x (Some d) = adds_none s s refl
 
+  -- two operands, one after another
+  two_added :
+      (k : Clock) (n : ℕ) (s : State) (a b : Expr) →
+      (let m = n + call_count a in
+      let x = emit Y P here k n s a in
+      let y = emit Y P here k m x.state b in
+      let oa = occurrences P here.node k n a in
+      let ob = occurrences P here.node k m b in
+      (Parts oa → Adds s x.state (numbered_sites n (sites a))) →
+      (Parts ob → Adds x.state y.state (numbered_sites m (sites b))) → Parts (oa ++ ob) →
+      Adds s y.state (numbered_sites n (sites a ++ sites b)))
+  two_added k n s a b left right h =
+      let oa = occurrences P here.node k n a in
+      let ob = occurrences P here.node k (n + call_count a) b in
+      adds_two s _ _ n (sites a) (sites b) (left (fore oa ob h)) (right (aft oa ob h))
+
   mutual
     unfolding emit
 
@@ -304,99 +320,44 @@ module _ (Y : Layout) (P : Program) (H : History) (here : Instance)
     calls_added k n s (Variable x) h = name_adds k s x (named (λ d. d.name) x (variables here.node))
     calls_added k n s (Group a) h = calls_added k n s a h
     calls_added k n s (Unary op a) h =
-        let x = emit Y P here k n s a in
-        adds_after s x.state _ (numbered_sites n (sites a)) (calls_added k n s a h.1)
-        (add_copies (flat_clock Y here.path k) x.state _)
+        adds_after s _ _ _ (calls_added k n s a h.1) (add_copies _ _ _)
     calls_added k n s (Binary op a b) h =
-        let x = emit Y P here k n s a in
-        let y = emit Y P here k (n + call_count a) x.state b in
-        adds_after s y.state _ (numbered_sites n (sites a ++ sites b))
-        (adds_two s (emit Y P here k n s a).state y.state n (sites a) (sites b)
-        (calls_added k n s a
-        (fore (occurrences P here.node k n a) (occurrences P here.node k (n + call_count a) b) h.1))
-        (calls_added k (n + call_count a) (emit Y P here k n s a).state b
-        (aft (occurrences P here.node k n a) (occurrences P here.node k (n + call_count a) b) h.1)))
-        (add_copies (flat_clock Y here.path k) y.state _)
+        adds_after s _ _ _
+        (two_added k n s a b (calls_added k n s a) (calls_added k _ _ b) h.1) (add_copies _ _ _)
     calls_added k n s (If c a b) h =
         let m = n + call_count c in
         let z = emit Y P here k n s c in
-        let x = emit Y P here k m z.state a in
-        let y = emit Y P here k (m + call_count a) x.state b in
         let oc = occurrences P here.node k n c in
         let branches = occurrences P here.node k m a
         ++ occurrences P here.node k (m + call_count a) b in
-        adds_after s y.state _ (numbered_sites n (sites c ++ (sites a ++ sites b)))
-        (adds_two s z.state y.state n (sites c) (sites a ++ sites b)
+        adds_after s _ _ _
+        (adds_two s z.state _ n (sites c) (sites a ++ sites b)
         (calls_added k n s c (fore oc branches h.1))
-        (adds_two z.state x.state y.state m (sites a) (sites b)
-        (calls_added k m z.state a
-        (fore (occurrences P here.node k m a) (occurrences P here.node k (m + call_count a) b)
-        (aft oc branches h.1)))
-        (calls_added k (m + call_count a) x.state b
-        (aft (occurrences P here.node k m a) (occurrences P here.node k (m + call_count a) b)
-        (aft oc branches h.1)))))
-        (add_copies (flat_clock Y here.path k) y.state _)
+        (two_added k m z.state a b (calls_added k m z.state a) (calls_added k _ _ b)
+        (aft oc branches h.1))) (add_copies _ _ _)
     calls_added k n s (Arrow a b) h =
-        let x = emit Y P here k n s a in
-        let y = emit Y P here k (n + call_count a) x.state b in
-        adds_after s y.state _ (numbered_sites n (sites a ++ sites b))
-        (adds_two s (emit Y P here k n s a).state y.state n (sites a) (sites b)
-        (calls_added k n s a
-        (fore (occurrences P here.node k n a) (occurrences P here.node k (n + call_count a) b) h.1))
-        (calls_added k (n + call_count a) (emit Y P here k n s a).state b
-        (aft (occurrences P here.node k n a) (occurrences P here.node k (n + call_count a) b) h.1)))
-        (add_copies (flat_clock Y here.path k) y.state _)
+        adds_after s _ _ _
+        (two_added k n s a b (calls_added k n s a) (calls_added k _ _ b) h.1) (add_copies _ _ _)
     calls_added k n s (Fby a b) h =
-        let x = emit Y P here k n s a in
-        let y = emit Y P here k (n + call_count a) x.state b in
-        let z = add (flat_clock Y here.path k) (keep y).state (map _ (keep y).found) in
-        adds_after s y.state _ (numbered_sites n (sites a ++ sites b))
-        (adds_two s (emit Y P here k n s a).state y.state n (sites a) (sites b)
-        (calls_added k n s a
-        (fore (occurrences P here.node k n a) (occurrences P here.node k (n + call_count a) b) h.1))
-        (calls_added k (n + call_count a) (emit Y P here k n s a).state b
-        (aft (occurrences P here.node k n a) (occurrences P here.node k (n + call_count a) b) h.1)))
-        (add_copies (flat_clock Y here.path k) z.state _
-        ∙ (add_copies (flat_clock Y here.path k) (keep y).state _ ∙ keep_copies y))
+        adds_after s _ _ _
+        (two_added k n s a b (calls_added k n s a) (calls_added k _ _ b) h.1)
+        (add_copies _ _ _ ∙ (add_copies _ _ _ ∙ keep_copies _))
     calls_added k n s (Pre a) h =
-        let x = emit Y P here k n s a in
-        adds_after s x.state _ (numbered_sites n (sites a)) (calls_added k n s a h.1)
-        (add_copies (flat_clock Y here.path k) (keep x).state _ ∙ keep_copies x)
+        adds_after s _ _ _ (calls_added k n s a h.1) (add_copies _ _ _ ∙ keep_copies _)
     calls_added k n s (When a y sign) h =
-        let own = declared_clock here.node y in
-        let x = emit Y P here own n s a in
-        adds_after s x.state _ (numbered_sites n (sites a)) (calls_added own n s a h.1)
-        (add_copies (flat_clock Y here.path (On own y sign)) x.state _)
+        adds_after s _ _ _ (calls_added _ n s a h.1) (add_copies _ _ _)
     calls_added k n s (Current a) h =
-        let own = clock_or (clock_of P here.node a) in
-        let x = emit Y P here own n s a in
-        adds_after s x.state _ (numbered_sites n (sites a)) (calls_added own n s a h.1)
-        (add_copies (flat_clock Y here.path k) (keep x).state _ ∙ keep_copies x)
-    calls_added k n s (Replicate a m) h =
-        adds_after s (emit Y P here k n s a).state _ (numbered_sites n (sites a))
-        (calls_added k n s a h.1) refl
-    calls_added k n s (Index a j) h =
-        adds_after s (emit Y P here k n s a).state _ (numbered_sites n (sites a))
-        (calls_added k n s a h.1) refl
-    calls_added k n s (Slice a j l) h =
-        adds_after s (emit Y P here k n s a).state _ (numbered_sites n (sites a))
-        (calls_added k n s a h.1) refl
+        adds_after s _ _ _ (calls_added _ n s a h.1) (add_copies _ _ _ ∙ keep_copies _)
+    calls_added k n s (Replicate a m) h = calls_added k n s a h.1
+    calls_added k n s (Index a j) h = calls_added k n s a h.1
+    calls_added k n s (Slice a j l) h = calls_added k n s a h.1
     calls_added k n s (Join a b) h =
-        let y = emit Y P here k (n + call_count a) (emit Y P here k n s a).state b in
-        adds_two s (emit Y P here k n s a).state y.state n (sites a) (sites b)
-        (calls_added k n s a
-        (fore (occurrences P here.node k n a) (occurrences P here.node k (n + call_count a) b) h.1))
-        (calls_added k (n + call_count a) (emit Y P here k n s a).state b
-        (aft (occurrences P here.node k n a) (occurrences P here.node k (n + call_count a) b) h.1))
+        two_added k n s a b (calls_added k n s a) (calls_added k _ _ b) h.1
     calls_added k n s (Array es) h = all_added k n s es h.1
     calls_added k n s (AtMostOne es) h =
-        let r = emit_all Y P here k n s es in
-        adds_after s r.state _ (numbered_sites n (sites_in es)) (all_added k n s es h.1)
-        (at_most_one_copies (flat_clock Y here.path k) r.state (joined r.found))
+        adds_after s _ _ _ (all_added k n s es h.1) (at_most_one_copies _ _ _)
     calls_added k n s (Nor es) h =
-        let r = emit_all Y P here k n s es in
-        adds_after s r.state _ (numbered_sites n (sites_in es)) (all_added k n s es h.1)
-        (nor_copies (flat_clock Y here.path k) r.state (joined r.found))
+        adds_after s _ _ _ (all_added k n s es h.1) (nor_copies _ _ _)
     calls_added k n s (Call f statics es) h =
         let ks = call_clocks k (node_named P f) es in
         let r = emit_each Y P here ks (n + 1) s es in
@@ -412,9 +373,7 @@ module _ (Y : Layout) (P : Program) (H : History) (here : Instance)
         (all_added k (n + 1) s es h.1) (joins_copies r.state _ _)
         (iterator_gives k n s it f statics m es h.0)
     calls_added k n s (Iterate it (Symbol op) m es) h =
-        let r = emit_all Y P here k n s es in
-        adds_after s r.state _ (numbered_sites n (sites_in es)) (all_added k n s es h.1)
-        (symbol_copies (flat_clock Y here.path k) op r.state it r.found)
+        adds_after s _ _ _ (all_added k n s es h.1) (symbol_copies _ op _ it _)
 
     all_added :
         (k : Clock) (n : ℕ) (s : State) (es : Exprs) → Parts (occurrences_in P here.node k n es) →

@@ -15,14 +15,11 @@ pub record Reduced (outs ts : List DataType) : Type 0 where
 pub red_of :
     (n : ℕ) (ins outs args ts : List DataType) → red_types n ins outs args ≡ Some ts →
     Reduced outs ts
-red_of n [] outs args ts e = cc
-red_of n (a ∷ ins) [] args ts e = cc
-red_of n (a ∷ ins) (o ∷ (p ∷ outs)) args ts e = cc
-red_of n (a ∷ ins) (o ∷ []) [] ts e = cc
 red_of n (a ∷ ins) (o ∷ []) (i ∷ args) ts e =
     let w = bound (all_some (map (array_of n) ins)) _ ts e in
     let h = truly _ (o ∷ []) ts w.gives in
     record { out = o; outs_is = refl; ts_is = sym h.same }
+red_of n _ _ _ ts e = cc
 
 -- those of what `fill` gives are that of the first output, and arrays of the others
 pub record Filled (n : ℕ) (outs ts : List DataType) : Type 0 where

@@ -50,6 +50,8 @@ pub mod Certificates
 pub mod NeedsOfReads
 pub mod Tables
 pub mod Emitting
+pub mod EmissionSteps
+pub mod TermSteps
 pub mod EmittedNumbers
 pub mod EmittedStacks
 pub mod EmittedChains

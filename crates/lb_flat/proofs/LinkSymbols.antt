@@ -82,14 +82,11 @@ symbol_out op types e =
 
 pub red_out :
     (n : ℕ) (ins outs args ts : List DataType) → red_types n ins outs args ≡ Some ts → ts ≡ outs
-red_out n [] outs args ts e = absurd cc
-red_out n (a ∷ ins) [] args ts e = absurd cc
-red_out n (a ∷ ins) (o ∷ (p ∷ outs)) args ts e = absurd cc
-red_out n (a ∷ ins) (o ∷ []) [] ts e = absurd cc
 red_out n (a ∷ ins) (o ∷ []) (i ∷ args) ts e =
     let w = bound (all_some (map (array_of n) ins)) _ ts e in
     let h = truly _ (o ∷ []) ts w.gives in
     sym h.same
+red_out n _ _ _ ts e = absurd cc
 
 -- ## Clocks
 
@@ -107,10 +104,8 @@ module _ (IsAt : Element → ℕ → Type 0) (Under : ℕ → ℕ → Type 0) (L
       (ysss : List (List (List Element))) → Pairs (AreLinks IsAt Under Left k) found ysss →
       AllMeet IsAt Under Left (emit_symbol k op s Map found).state.equations →
       AreLinks IsAt Under Left k (emit_symbol k op s Map found).found (symbol_needs Map ysss)
-  map_linked k op s [] [] l h = tt
   map_linked k op s [] (ys ∷ ysss) l h = absurd l
   map_linked k op s (x ∷ found) [] l h = absurd l
-  map_linked k op s (x ∷ []) (ys ∷ []) l h = tt
   map_linked k op s (x ∷ []) (ys ∷ (zs ∷ ysss)) l h = absurd l.1
   map_linked k op s (x ∷ (x' ∷ found)) (ys ∷ []) l h = absurd l.1
   map_linked k op s (x ∷ (x' ∷ [])) (ys ∷ (zs ∷ [])) l h =
@@ -118,29 +113,7 @@ module _ (IsAt : Element → ℕ → Type 0) (Under : ℕ → ℕ → Type 0) (L
       each_two IsAt Under Left k (ApplyBinary op) (λ i j. refl) _ x x' ys zs n.new l.0 l.1.0
   map_linked k op s (x ∷ (x' ∷ [])) (ys ∷ (zs ∷ (ws ∷ ysss))) l h = absurd l.1.1
   map_linked k op s (x ∷ (x' ∷ (u ∷ found))) (ys ∷ (zs ∷ [])) l h = absurd l.1.1
-  map_linked k op s (x ∷ (x' ∷ (u ∷ found))) (ys ∷ (zs ∷ (ws ∷ ysss))) l h = tt
-
-  pub map_before :
-      (k : FlatClock) (op : BinaryOperator) (s : State) (found : List (List ℕ)) →
-      AllMeet IsAt Under Left (emit_symbol k op s Map found).state.equations →
-      AllMeet IsAt Under Left s.equations
-  map_before k op s [] h = h
-  map_before k op s (x ∷ []) h = h
-  map_before k op s (x ∷ (y ∷ [])) h =
-      let n = added IsAt Under Left k s (zip2 (ApplyBinary op) x y) h in n.before
-  map_before k op s (x ∷ (y ∷ (z ∷ found))) h = h
-
-  pub red_before :
-      (k : FlatClock) (op : BinaryOperator) (s : State) (found : List (List ℕ)) →
-      AllMeet IsAt Under Left (emit_symbol k op s Red found).state.equations →
-      AllMeet IsAt Under Left s.equations
-  red_before k op s [] h = h
-  red_before k op s ([] ∷ found) h = h
-  red_before k op s ((i ∷ (j ∷ is)) ∷ found) h = h
-  red_before k op s ((i ∷ []) ∷ []) h = h
-  red_before k op s ((i ∷ []) ∷ (ys ∷ [])) h =
-      let g = chained_gives IsAt Under Left k op s i ys h in g.before
-  red_before k op s ((i ∷ []) ∷ (ys ∷ (zs ∷ found))) h = h
+  map_linked k op s _ _ l h = tt
 
   -- where something is found at all
   pub red_linked :
@@ -169,13 +142,3 @@ module _ (IsAt : Element → ℕ → Type 0) (Under : ℕ → ℕ → Type 0) (L
             (two_links IsAt Under Left k (i ∷ []) x (joined (y ∷ [])) (joined zs) first others),
         tt,
       )
-
-  -- the equations before an iterated symbol
-  pub symbol_before :
-      (k : FlatClock) (op : BinaryOperator) (s : State) (it : ArrayIterator)
-      (found : List (List ℕ)) →
-      AllMeet IsAt Under Left (emit_symbol k op s it found).state.equations →
-      AllMeet IsAt Under Left s.equations
-  symbol_before k op s Map found h = map_before k op s found h
-  symbol_before k op s Red found h = red_before k op s found h
-  symbol_before k op s Fill found h = h

@@ -1,8 +1,8 @@
 -- The found elements of an expression come from the elements of the variables that it needs,
 -- element by element, or are left by what its clock reads.
-use Rattle.std.proofs.Common.{◌≡◌, ℕ, suc, ◌+◌, ◌-◌, ◌*◌, ◌<◌, true, false, pos, Option}
-use Rattle.std.proofs.Common.{Some, None, List, [], ◌∷◌, ◌++◌, map, length, flat_map, refl, sym, ap}
-use Rattle.std.proofs.Common.{◌∙◌, subst, arith}
+use Rattle.std.proofs.Common.{◌≡◌, ℕ, suc, ◌+◌, ◌-◌, ◌*◌, ◌<◌, true, false, pos, Option, Some, None}
+use Rattle.std.proofs.Common.{List, [], ◌∷◌, ◌++◌, map, length, flat_map, refl, sym, ap, ◌∙◌, subst}
+use Rattle.std.proofs.Common.{arith}
 use Rattle.std.specs.List.{list_all}
 use Rattle.std.specs.Str.{bytes_eq}
 use Rattle.std.proofs.lemmas.Slice.Eq.{bytes_eq-Decides}
@@ -30,7 +30,7 @@ use Rattle.lb_check.specs.Clocks.{Clock, On, clock_of, clock_or, declared_clock}
 use Rattle.lb_check.specs.Needs.{Element, elements, elements_named, itself, both, needs, all_needs}
 use Rattle.lb_check.specs.Needs.{output_elements, waits_for}
 use Rattle.lb_check.specs.Occurrences.{Occurrence, at, call_count, call_clocks, occurrences}
-use Rattle.lb_check.specs.Occurrences.{occurrences_in, occurrences_each}
+use Rattle.lb_check.specs.Occurrences.{occurrences_in}
 use Rattle.lb_check.specs.Streams.{History, number, part_count, outputs_of, iterated}
 use Rattle.lb_check.proofs.OperandTypes.{first_of_all}
 use Rattle.lb_flat.specs.Flat.{FlatClock, Operation, Constant, ApplyUnary, ApplyBinary, FirstThen}
@@ -43,16 +43,17 @@ use Rattle.lb_flat.specs.Emit.{emit_all, emit_each}
 use Rattle.lb_flat.proofs.Lists.{Every-append, Every-take, Every-drop, Every-copies, Every-joined}
 use Rattle.lb_flat.proofs.Lists.{Every-first, Every-second}
 use Rattle.lb_flat.proofs.Emission.{joins_equations}
+use Rattle.lb_flat.proofs.EmissionSteps.{IsStep, Any, any_joined, symbol_step, emit_step, all_step}
+use Rattle.lb_flat.proofs.EmissionSteps.{each_step}
 use Rattle.lb_flat.proofs.TypeFacts.{elements_in, bound, one, two, from_true, alike, truth_is}
 use Rattle.lb_flat.proofs.Widths.{called, placed, AreVariablesWide, IsOccurrenceWide, wide}
 use Rattle.lb_flat.proofs.TypedParts.{IsTypedAt}
 use Rattle.lb_flat.proofs.FoundWidths.{as_many, add_count}
 use Rattle.lb_flat.proofs.LinkSymbols.{iterated_pairs, keep_found, keep_equations, joins_found}
-use Rattle.lb_flat.proofs.LinkSymbols.{symbol_out, red_out, signed_wider, map_linked, map_before}
-use Rattle.lb_flat.proofs.LinkSymbols.{red_before, red_linked}
+use Rattle.lb_flat.proofs.LinkSymbols.{symbol_out, red_out, signed_wider, map_linked, red_linked}
 use Rattle.lb_flat.proofs.LinkWords.{Pairs, pairs-append, pairs-take, pairs-drop, pairs-copies}
-use Rattle.lb_flat.proofs.LinkWords.{pairs-joined, AllMeet, AreLinks, Link, New, Waits, Gives}
-use Rattle.lb_flat.proofs.LinkWords.{step, all_links, variable_links, added, each_one, each_two}
+use Rattle.lb_flat.proofs.LinkWords.{pairs-joined, AllMeet, AreLinks, Link, New, Waits, Gives, step}
+use Rattle.lb_flat.proofs.LinkWords.{all_links, variable_links, added, each_one, each_two}
 use Rattle.lb_flat.proofs.LinkWords.{each_choice, each_first, memories, each_memory, each_constant}
 use Rattle.lb_flat.proofs.LinkWords.{each_latest, each_sample, pushed, chained_gives, nor_gives}
 use Rattle.lb_flat.proofs.LinkWords.{at_most_one_gives, passed}
@@ -121,15 +122,36 @@ module _ (Y : Layout) (P : Program) (H : History)
   pub aft : (os os' : List Occurrence) → Parts (os ++ os') → Parts os'
   aft os os' h = Every-second IsKnown os os' h
 
-  pub record Linked (s : State) (r : Emitted) (k : FlatClock) (yss : List (List Element)) :
-      Type 0 where
-    pub before : AllMeet IsAt Under Left s.equations
-    pub links : AreLinks IsAt Under Left k r.found yss
+  -- the equations of a state meet, and those before what is emitted where those after it do
+  abbrev pub Met : State → Type 0
+  Met s = AllMeet IsAt Under Left s.equations
 
-  pub record LinkedAll (s : State) (r : EmittedAll) (k : FlatClock)
-      (ysss : List (List (List Element))) : Type 0 where
-    pub before : AllMeet IsAt Under Left s.equations
-    pub links : Pairs (AreLinks IsAt Under Left k) r.found ysss
+  abbrev pub Earlier : State → State → Type 0
+  Earlier s t = Met t → Met s
+
+  pub earlier : IsStep Any Earlier
+  earlier = record {
+    adding = record {
+      none = λ s h. h;
+      both = λ s t u a b h. a (b h);
+      adds = λ k s os h. let n = added IsAt Under Left k s os h in n.before;
+    };
+    keeps = λ x h. subst (AllMeet IsAt Under Left) (keep_equations x) h;
+    joining = λ s qs is q h. subst (AllMeet IsAt Under Left) (joins_equations s qs is) h;
+  }
+
+  pub term_before :
+      (k : Clock) (n : ℕ) (s : State) (e : Expr) → Met (emit Y P here k n s e).state → Met s
+  term_before = emit_step Any Earlier earlier Y (any_joined Y) P here
+
+  pub all_before :
+      (k : Clock) (n : ℕ) (s : State) (es : Exprs) → Met (emit_all Y P here k n s es).state → Met s
+  all_before = all_step Any Earlier earlier Y (any_joined Y) P here
+
+  pub each_before :
+      (ks : List Clock) (n : ℕ) (s : State) (es : Exprs) →
+      Met (emit_each Y P here ks n s es).state → Met s
+  each_before = each_step Any Earlier earlier Y (any_joined Y) P here
 
   -- ## Clocks that are passed
 
@@ -145,31 +167,29 @@ module _ (Y : Layout) (P : Program) (H : History)
       elements_named P here x ≡ elements P here d
   named_elements x d e = ap (listed (elements P here)) e
 
+  constant_linked :
+      (k : FlatClock) (s : State) (o : Operation) → reads o ≡ [] →
+      AllMeet IsAt Under Left (add k s (o ∷ [])).state.equations →
+      AreLinks IsAt Under Left k (add k s (o ∷ [])).found ([] ∷ [])
+  constant_linked k s o e h =
+      let n = added IsAt Under Left k s (o ∷ []) h in
+      each_constant IsAt Under Left k o e _ n.new
+
   pub name_linked :
       (k : Clock) (s : State) (x : Name) (o : Option Declaration) →
       named (λ d. d.name) x (variables here.node) ≡ o → AreNumbered here →
       AllMeet IsAt Under Left (emit_name Y P here k s x o).state.equations →
-      Linked s (emit_name Y P here k s x o) (flat k)
+      AreLinks IsAt Under Left (flat k) (emit_name Y P here k s x o).found
       (either_or (o >>= λ d. Some (itself (elements P here d))) ([] ∷ []))
   name_linked k s x None e numbered h =
-      let v = or_fault (name_value P here x) in
-      let n = added IsAt Under Left (flat k) s (Constant v ∷ []) h in
-      record {
-        before = n.before;
-        links = each_constant IsAt Under Left (flat k) (Constant v) refl _ n.new;
-      }
+      constant_linked (flat k) s (Constant (or_fault (name_value P here x))) refl h
   name_linked k s x (Some d) e numbered h =
       let test = λ (d : Declaration). bytes_eq d.name x in
       let name = (bytes_eq-Decides d.name x).0 (found_passes test (variables here.node) d e) in
-      record {
-        before = h;
-        links = variable_links IsAt Under Left (flat k) (Y.places here.path d.name)
-            (elements P here d)
-            (subst (λ y. Pairs (λ i y. IsAt y i) (Y.places here.path y) (elements P here d))
-            (sym name)
-            (subst (Pairs (λ i y. IsAt y i) (Y.places here.path x)) (named_elements x d e)
-            (numbered x)));
-      }
+      variable_links IsAt Under Left (flat k) (Y.places here.path d.name) (elements P here d)
+      (subst (λ y. Pairs (λ i y. IsAt y i) (Y.places here.path y) (elements P here d)) (sym name)
+      (subst (Pairs (λ i y. IsAt y i) (Y.places here.path x)) (named_elements x d e)
+      (numbered x)))
 
   -- the outputs of an instance that is called
   pub outputs_numbered :
@@ -243,17 +263,9 @@ module _ (Y : Layout) (P : Program) (H : History)
       (found : List (List ℕ)) →
       AllMeet IsAt Under Left (emit_symbol (flat k) op s it found).state.equations →
       Every (RunOn k) found → RunOn k (emit_symbol (flat k) op s it found).found
-  symbol_runs k op s Map [] h r = tt
-  symbol_runs k op s Map (x ∷ []) h r = tt
   symbol_runs k op s Map (x ∷ (y ∷ [])) h r = added_runs k s (zip2 (ApplyBinary op) x y) h
-  symbol_runs k op s Map (x ∷ (y ∷ (z ∷ found))) h r = tt
-  symbol_runs k op s Red [] h r = tt
-  symbol_runs k op s Red ([] ∷ found) h r = tt
-  symbol_runs k op s Red ((i ∷ (j ∷ is)) ∷ found) h r = tt
-  symbol_runs k op s Red ((i ∷ []) ∷ []) h r = tt
   symbol_runs k op s Red ((i ∷ []) ∷ (ys ∷ [])) h r = chained_runs k op s i ys h r.0
-  symbol_runs k op s Red ((i ∷ []) ∷ (ys ∷ (zs ∷ found))) h r = tt
-  symbol_runs k op s Fill found h r = tt
+  symbol_runs k op s _ _ h r = tt
 
   pub negated_runs :
       (k : Clock) (x : Emitted) →
@@ -263,71 +275,46 @@ module _ (Y : Layout) (P : Program) (H : History)
 
   -- ## Forms with one operand, and with two
 
-  pub one_linked :
-      (k : FlatClock) (s : State) (x : Emitted) (yss : List (List Element)) (f : ℕ → Operation) →
-      ((i : ℕ) → reads (f i) ≡ i ∷ []) →
-      (AllMeet IsAt Under Left x.state.equations → Linked s x k yss) →
-      AllMeet IsAt Under Left (add k x.state (map f x.found)).state.equations →
-      Linked s (add k x.state (map f x.found)) k yss
-  one_linked k s x yss f e part h =
+  one_linked :
+      (k : FlatClock) (x : Emitted) (yss : List (List Element)) (f : ℕ → Operation) →
+      ((i : ℕ) → reads (f i) ≡ i ∷ []) → (Met x.state → AreLinks IsAt Under Left k x.found yss) →
+      Met (add k x.state (map f x.found)).state →
+      AreLinks IsAt Under Left k (add k x.state (map f x.found)).found yss
+  one_linked k x yss f e part h =
       let n = added IsAt Under Left k x.state (map f x.found) h in
-      let a = part n.before in
-      record {
-        before = a.before;
-        links = each_one IsAt Under Left k f e _ x.found yss n.new a.links;
-      }
+      each_one IsAt Under Left k f e _ x.found yss n.new (part n.before)
 
-  pub two_linked :
-      (k : FlatClock) (s : State) (x y : Emitted) (yss zss : List (List Element))
-      (f : ℕ → ℕ → Operation) → ((i j : ℕ) → reads (f i j) ≡ i ∷ j ∷ []) →
-      (AllMeet IsAt Under Left x.state.equations → Linked s x k yss) →
-      (AllMeet IsAt Under Left y.state.equations → Linked x.state y k zss) →
-      AllMeet IsAt Under Left (add k y.state (zip2 f x.found y.found)).state.equations →
-      Linked s (add k y.state (zip2 f x.found y.found)) k (both yss zss)
-  two_linked k s x y yss zss f e left right h =
+  two_linked :
+      (k : FlatClock) (x y : Emitted) (yss zss : List (List Element)) (f : ℕ → ℕ → Operation) →
+      ((i j : ℕ) → reads (f i j) ≡ i ∷ j ∷ []) → Earlier x.state y.state →
+      (Met x.state → AreLinks IsAt Under Left k x.found yss) →
+      (Met y.state → AreLinks IsAt Under Left k y.found zss) →
+      Met (add k y.state (zip2 f x.found y.found)).state →
+      AreLinks IsAt Under Left k (add k y.state (zip2 f x.found y.found)).found (both yss zss)
+  two_linked k x y yss zss f e before left right h =
       let n = added IsAt Under Left k y.state (zip2 f x.found y.found) h in
-      let b = right n.before in
-      let a = left b.before in
-      record {
-        before = a.before;
-        links = each_two IsAt Under Left k f e _ x.found y.found yss zss n.new a.links b.links;
-      }
+      each_two IsAt Under Left k f e _ x.found y.found yss zss n.new (left (before n.before))
+      (right n.before)
 
-  pub keep_linked :
-      (s : State) (x : Emitted) (k : FlatClock) (yss : List (List Element)) →
-      (AllMeet IsAt Under Left x.state.equations → Linked s x k yss) →
-      AllMeet IsAt Under Left (keep x).state.equations → Linked s (keep x) k yss
+  keep_linked :
+      (x : Emitted) (k : FlatClock) (yss : List (List Element)) →
+      AreLinks IsAt Under Left k x.found yss → AreLinks IsAt Under Left k (keep x).found yss
   unfolding keep
-  keep_linked s x k yss part h =
-      let a = part h in record { before = a.before; links = a.links }
-
-  pub constant_linked :
-      (k : FlatClock) (s : State) (o : Operation) → reads o ≡ [] →
-      AllMeet IsAt Under Left (add k s (o ∷ [])).state.equations →
-      Linked s (add k s (o ∷ [])) k ([] ∷ [])
-  constant_linked k s o e h =
-      let n = added IsAt Under Left k s (o ∷ []) h in
-      record { before = n.before; links = each_constant IsAt Under Left k o e _ n.new }
+  keep_linked x k yss l = l
 
   -- one element of all elements of some expressions
-  pub gathered_linked :
-      (k : FlatClock) (s : State) (x : EmittedAll) (r : Emitted)
-      (ysss : List (List (List Element))) →
-      (AllMeet IsAt Under Left x.state.equations → LinkedAll s x k ysss) →
+  gathered_linked :
+      (k : FlatClock) (x : EmittedAll) (r : Emitted) (ysss : List (List (List Element))) →
+      (Met x.state → Pairs (AreLinks IsAt Under Left k) x.found ysss) →
       Gives IsAt Under Left k x.state r (joined x.found) →
-      Linked s r k (joined (joined ysss) ∷ [])
-  gathered_linked k s x r ysss part g =
-      let a = part g.before in
+      AreLinks IsAt Under Left k r.found (joined (joined ysss) ∷ [])
+  gathered_linked k x r ysss part g =
       let all = all_links IsAt Under Left k (joined x.found) (joined ysss)
-      (pairs-joined (Link IsAt Under Left k) x.found ysss a.links) in
-      record {
-        before = a.before;
-        links = subst (λ is. AreLinks IsAt Under Left k is (joined (joined ysss) ∷ []))
-            (sym g.is_found) (
-              step IsAt Under Left k g.element (joined x.found) (joined (joined ysss)) g.comes all,
-              tt,
-            );
-      }
+      (pairs-joined (Link IsAt Under Left k) x.found ysss (part g.before)) in
+      subst (λ is. AreLinks IsAt Under Left k is (joined (joined ysss) ∷ [])) (sym g.is_found) (
+        step IsAt Under Left k g.element (joined x.found) (joined (joined ysss)) g.comes all,
+        tt,
+      )
 
   module _ (variables_wide : AreVariablesWide P H here here) (numbered : AreNumbered here) where
     -- as many elements as the types say
@@ -397,8 +384,8 @@ module _ (Y : Layout) (P : Program) (H : History)
       -- the found elements come from what the expression needs
       pub linked :
           (k : Clock) (n : ℕ) (s : State) (e : Expr) → Parts (occurrences P here.node k n e) →
-          AllMeet IsAt Under Left (emit Y P here k n s e).state.equations →
-          Linked s (emit Y P here k n s e) (flat k) (needs P here n e)
+          Met (emit Y P here k n s e).state →
+          AreLinks IsAt Under Left (flat k) (emit Y P here k n s e).found (needs P here n e)
       linked k n s (Literal m) p h =
           constant_linked (flat k) s (Constant (Integer (pos m))) refl h
       linked k n s (Truth b) p h = constant_linked (flat k) s (Constant (Boolean b)) refl h
@@ -406,16 +393,16 @@ module _ (Y : Layout) (P : Program) (H : History)
           name_linked k s x (named (λ d. d.name) x (variables here.node)) refl numbered h
       linked k n s (Group a) p h = linked k n s a p h
       linked k n s (Unary op a) p h =
-          one_linked (flat k) s (emit Y P here k n s a) (needs P here n a) (ApplyUnary op)
+          one_linked (flat k) (emit Y P here k n s a) (needs P here n a) (ApplyUnary op)
           (λ i. refl) (linked k n s a p.1) h
       linked k n s (Binary op a b) p h =
           let m = n + call_count a in
           let oa = occurrences P here.node k n a in
           let ob = occurrences P here.node k m b in
           let x = emit Y P here k n s a in
-          two_linked (flat k) s x (emit Y P here k m x.state b) (needs P here n a)
-          (needs P here m b) (ApplyBinary op) (λ i j. refl) (linked k n s a (fore oa ob p.1))
-          (linked k m x.state b (aft oa ob p.1)) h
+          two_linked (flat k) x (emit Y P here k m x.state b) (needs P here n a)
+          (needs P here m b) (ApplyBinary op) (λ i j. refl) (term_before k m x.state b)
+          (linked k n s a (fore oa ob p.1)) (linked k m x.state b (aft oa ob p.1)) h
       linked k n s (If c a b) p h =
           let na = n + call_count c in
           let nb = na + call_count a in
@@ -426,23 +413,20 @@ module _ (Y : Layout) (P : Program) (H : History)
           let x = emit Y P here k na z.state a in
           let y = emit Y P here k nb x.state b in
           let new = added IsAt Under Left (flat k) y.state (chosen_by z.found x.found y.found) h in
-          let lb = linked k nb x.state b (aft oa ob (aft oc (oa ++ ob) p.1)) new.before in
-          let la = linked k na z.state a (fore oa ob (aft oc (oa ++ ob) p.1)) lb.before in
-          let lc = linked k n s c (fore oc (oa ++ ob) p.1) la.before in
-          record {
-            before = lc.before;
-            links = each_choice IsAt Under Left (flat k) z.found _ x.found y.found
-                (needs P here n c) (needs P here na a) (needs P here nb b)
-                (condition_one k n s c a b p.0.typed) new.new lc.links la.links lb.links;
-          }
+          let met = term_before k nb x.state b new.before in
+          each_choice IsAt Under Left (flat k) z.found _ x.found y.found (needs P here n c)
+          (needs P here na a) (needs P here nb b) (condition_one k n s c a b p.0.typed) new.new
+          (linked k n s c (fore oc (oa ++ ob) p.1) (term_before k na z.state a met))
+          (linked k na z.state a (fore oa ob (aft oc (oa ++ ob) p.1)) met)
+          (linked k nb x.state b (aft oa ob (aft oc (oa ++ ob) p.1)) new.before)
       linked k n s (Arrow a b) p h =
           let m = n + call_count a in
           let oa = occurrences P here.node k n a in
           let ob = occurrences P here.node k m b in
           let x = emit Y P here k n s a in
-          two_linked (flat k) s x (emit Y P here k m x.state b) (needs P here n a)
-          (needs P here m b) (FirstThen false) (λ i j. refl) (linked k n s a (fore oa ob p.1))
-          (linked k m x.state b (aft oa ob p.1)) h
+          two_linked (flat k) x (emit Y P here k m x.state b) (needs P here n a)
+          (needs P here m b) (FirstThen false) (λ i j. refl) (term_before k m x.state b)
+          (linked k n s a (fore oa ob p.1)) (linked k m x.state b (aft oa ob p.1)) h
       linked k n s (Fby a b) p h =
           let m = n + call_count a in
           let oa = occurrences P here.node k n a in
@@ -454,109 +438,71 @@ module _ (Y : Layout) (P : Program) (H : History)
           let new = added IsAt Under Left (flat k) z.state (zip2 (FirstThen false) x.found z.found)
           h in
           let memory = added IsAt Under Left (flat k) (keep y).state before new.before in
-          let lb = keep_linked x.state y (flat k) (needs P here m b)
-          (linked k m x.state b (aft oa ob p.1)) memory.before in
-          let la = linked k n s a (fore oa ob p.1) lb.before in
+          let met = term_before k m x.state b (earlier.keeps y memory.before) in
           let many : length x.found ≡ length z.found =
           sides_same k n s x.state a b p.0.typed
           ∙ sym (add_count (flat k) (keep y).state before
           ∙ (length-map (keep y).found (Previous first_value) ∙ ap length (keep_found y))) in
-          record {
-            before = la.before;
-            links = each_first IsAt Under Left (flat k) (FirstThen false) (λ i j. refl) _ x.found
-                z.found (needs P here n a) many new.new la.links
-                (memories IsAt Under Left (flat k) (Previous first_value) (λ i. refl) z.found
-                (keep y).found memory.new);
-          }
+          each_first IsAt Under Left (flat k) (FirstThen false) (λ i j. refl) _ x.found z.found
+          (needs P here n a) many new.new (linked k n s a (fore oa ob p.1) met)
+          (memories IsAt Under Left (flat k) (Previous first_value) (λ i. refl) z.found
+          (keep y).found memory.new)
       linked k n s (Pre a) p h =
           let x = emit Y P here k n s a in
           let new = added IsAt Under Left (flat k) (keep x).state
           (map (Previous first_value) (keep x).found) h in
-          let la = keep_linked s x (flat k) (needs P here n a) (linked k n s a p.1) new.before in
-          record {
-            before = la.before;
-            links = each_memory IsAt Under Left (flat k) (Previous first_value) (λ i. refl) (flat k)
-                _ (keep x).found (needs P here n a) new.new la.links;
-          }
+          each_memory IsAt Under Left (flat k) (Previous first_value) (λ i. refl) (flat k) _
+          (keep x).found (needs P here n a) new.new
+          (keep_linked x (flat k) _ (linked k n s a p.1 (earlier.keeps x new.before)))
       linked k n s (When a y sign) p h =
           let own = declared_clock here.node y in
           let x = emit Y P here own n s a in
           let new = added IsAt Under Left (flat (On own y sign)) x.state (map Sample x.found) h in
-          let la = linked own n s a p.1 new.before in
-          record {
-            before = la.before;
-            links = each_sample IsAt Under Left Sample (λ i. refl) (flat k) (flat (On own y sign))
-                (flat own) (waits_for P here (On own y sign))
-                (awaited k (On own y sign) p.0.linkable)
-                (signed_wider Left (flat own) sign (Y.signs here.path y)) _ x.found
-                (needs P here n a) new.new la.links;
-          }
+          each_sample IsAt Under Left Sample (λ i. refl) (flat k) (flat (On own y sign)) (flat own)
+          (waits_for P here (On own y sign)) (awaited k (On own y sign) p.0.linkable)
+          (signed_wider Left (flat own) sign (Y.signs here.path y)) _ x.found (needs P here n a)
+          new.new (linked own n s a p.1 new.before)
       linked k n s (Current a) p h =
           let own = clock_or (clock_of P here.node a) in
           let x = emit Y P here own n s a in
           let new = added IsAt Under Left (flat k) (keep x).state
           (map (Latest first_value) (keep x).found) h in
-          let la = keep_linked s x (flat own) (needs P here n a) (linked own n s a p.1) new.before
-          in
-          let kept : AllMeet IsAt Under Left x.state.equations =
-          subst (AllMeet IsAt Under Left) (keep_equations x) new.before in
+          let kept = earlier.keeps x new.before in
           let i = one (data_types P here a) Some p.0.typed.types p.0.typed.are in
           let run = runs own n s a i.data_type i.is p.1 kept in
-          record {
-            before = la.before;
-            links = each_latest IsAt Under Left (flat k) (Latest first_value) (λ i. refl) (flat own)
-                (waits_for P here own) (awaited k own p.0.linkable) _ (keep x).found
-                (needs P here n a) new.new la.links
-                (subst (RunOn own) (sym (keep_found x)) run);
-          }
+          each_latest IsAt Under Left (flat k) (Latest first_value) (λ i. refl) (flat own)
+          (waits_for P here own) (awaited k own p.0.linkable) _ (keep x).found (needs P here n a)
+          new.new (keep_linked x (flat own) _ (linked own n s a p.1 kept))
+          (subst (RunOn own) (sym (keep_found x)) run)
       linked k n s (Replicate a m) p h =
-          let l = linked k n s a p.1 h in
-          record {
-            before = l.before;
-            links = pairs-copies (Link IsAt Under Left (flat k)) (number P here m) _ _ l.links;
-          }
+          pairs-copies (Link IsAt Under Left (flat k)) (number P here m) _ _ (linked k n s a p.1 h)
       linked k n s (Index a i) p h =
-          let l = linked k n s a p.1 h in
-          record {
-            before = l.before;
-            links = pairs-take (Link IsAt Under Left (flat k)) (part_count P here a) _ _
-                (pairs-drop (Link IsAt Under Left (flat k)) (part_count P here a * number P here i)
-                _ _ l.links);
-          }
+          pairs-take (Link IsAt Under Left (flat k)) (part_count P here a) _ _
+          (pairs-drop (Link IsAt Under Left (flat k)) (part_count P here a * number P here i) _ _
+          (linked k n s a p.1 h))
       linked k n s (Slice a i j) p h =
-          let l = linked k n s a p.1 h in
-          record {
-            before = l.before;
-            links = pairs-take (Link IsAt Under Left (flat k))
-                (part_count P here a * (suc (number P here j) - number P here i)) _ _
-                (pairs-drop (Link IsAt Under Left (flat k)) (part_count P here a * number P here i)
-                _ _ l.links);
-          }
+          pairs-take (Link IsAt Under Left (flat k))
+          (part_count P here a * (suc (number P here j) - number P here i)) _ _
+          (pairs-drop (Link IsAt Under Left (flat k)) (part_count P here a * number P here i) _ _
+          (linked k n s a p.1 h))
       linked k n s (Join a b) p h =
           let m = n + call_count a in
           let oa = occurrences P here.node k n a in
           let ob = occurrences P here.node k m b in
           let x = emit Y P here k n s a in
-          let lb = linked k m x.state b (aft oa ob p.1) h in
-          let la = linked k n s a (fore oa ob p.1) lb.before in
-          record {
-            before = la.before;
-            links = pairs-append (Link IsAt Under Left (flat k)) _ _ _ _ la.links lb.links;
-          }
+          pairs-append (Link IsAt Under Left (flat k)) _ _ _ _
+          (linked k n s a (fore oa ob p.1) (term_before k m x.state b h))
+          (linked k m x.state b (aft oa ob p.1) h)
       linked k n s (Array es) p h =
-          let l = all_linked k n s es p.1 h in
-          record {
-            before = l.before;
-            links = pairs-joined (Link IsAt Under Left (flat k)) _ _ l.links;
-          }
+          pairs-joined (Link IsAt Under Left (flat k)) _ _ (all_linked k n s es p.1 h)
       linked k n s (AtMostOne es) p h =
           let x = emit_all Y P here k n s es in
           let g = at_most_one_gives IsAt Under Left (flat k) x.state (joined x.found) h in
-          gathered_linked (flat k) s x _ (all_needs P here n es) (all_linked k n s es p.1) g
+          gathered_linked (flat k) x _ (all_needs P here n es) (all_linked k n s es p.1) g
       linked k n s (Nor es) p h =
           let x = emit_all Y P here k n s es in
           let g = nor_gives IsAt Under Left (flat k) x.state (joined x.found) h in
-          gathered_linked (flat k) s x _ (all_needs P here n es) (all_linked k n s es p.1) g
+          gathered_linked (flat k) x _ (all_needs P here n es) (all_linked k n s es p.1) g
       linked k n s (Call f statics es) p h =
           let t = p.0.typed in
           let o = bound (operator_types P here (Node_named f statics)) _ t.types t.are in
@@ -571,14 +517,9 @@ module _ (Y : Layout) (P : Program) (H : History)
           let copies = call_copies Y (Child here.path n 0) (node_named P f) r.found in
           let is = flat_map (λ o. Y.places (Child here.path n 0) o.name) outs in
           let ys = flat_map (λ o. output_elements P here f statics n 0 o.name) outs in
-          record {
-            before = each_before ks (n + 1) s es p.1
-                (subst (AllMeet IsAt Under Left) (joins_equations r.state copies is) h);
-            links = subst (λ js. AreLinks IsAt Under Left (flat k) js (itself ys))
-                (sym (joins_found r.state copies is))
-                (variable_links IsAt Under Left (flat k) is ys
-                (each_output f statics n output outs));
-          }
+          subst (λ js. AreLinks IsAt Under Left (flat k) js (itself ys))
+          (sym (joins_found r.state copies is))
+          (variable_links IsAt Under Left (flat k) is ys (each_output f statics n output outs))
       linked k n s (Iterate it (Node_named f statics) m es) p h =
           let t = p.0.typed in
           let size = bound (static_count P here m) _ t.types t.are in
@@ -591,71 +532,40 @@ module _ (Y : Layout) (P : Program) (H : History)
           let copies = iterator_copies Y here.path n it count (node_named P f) r.found in
           let is = iterated (λ i x. Y.places (Child here.path n i) x) count it outs in
           let ys = iterated (output_elements P here f statics n) count it outs in
-          let l = all_linked k (n + 1) s es p.1
-          (subst (AllMeet IsAt Under Left) (joins_equations r.state copies is) h) in
           let callee : ℕ → Instance = λ i. record c.callee { path = Child here.path n i } in
-          record {
-            before = l.before;
-            links = subst (λ js. AreLinks IsAt Under Left (flat k) js (itself ys))
-                (sym (joins_found r.state copies is))
-                (variable_links IsAt Under Left (flat k) is ys
-                (iterated_pairs (λ i y. IsAt y i) (λ i x. Y.places (Child here.path n i) x)
-                (output_elements P here f statics n) count
-                (λ i lt x. outputs_numbered f statics n i (callee i) (there.at n i) refl
-                (p.0.linkable.1 i lt (callee i) (there.at n i)) x) p.0.linkable.0 it outs));
-          }
+          subst (λ js. AreLinks IsAt Under Left (flat k) js (itself ys))
+          (sym (joins_found r.state copies is))
+          (variable_links IsAt Under Left (flat k) is ys
+          (iterated_pairs (λ i y. IsAt y i) (λ i x. Y.places (Child here.path n i) x)
+          (output_elements P here f statics n) count
+          (λ i lt x. outputs_numbered f statics n i (callee i) (there.at n i) refl
+          (p.0.linkable.1 i lt (callee i) (there.at n i)) x) p.0.linkable.0 it outs))
       linked k n s (Iterate Map (Symbol op) m es) p h =
           let r = emit_all Y P here k n s es in
-          let met = map_before IsAt Under Left (flat k) op r.state r.found h in
-          let l = all_linked k n s es p.1 met in
-          record {
-            before = l.before;
-            links = map_linked IsAt Under Left (flat k) op r.state r.found (all_needs P here n es)
-                l.links h;
-          }
+          let met = symbol_step Earlier earlier.adding (flat k) op r.state Map r.found h in
+          map_linked IsAt Under Left (flat k) op r.state r.found (all_needs P here n es)
+          (all_linked k n s es p.1 met) h
       linked k n s (Iterate Red (Symbol op) m es) p h =
           let r = emit_all Y P here k n s es in
-          let met = red_before IsAt Under Left (flat k) op r.state r.found h in
-          let l = all_linked k n s es p.1 met in
-          record {
-            before = l.before;
-            links = red_linked IsAt Under Left (flat k) op r.state r.found (all_needs P here n es)
-                l.links (red_some k n s op m es p.0.typed) h;
-          }
-      linked k n s (Iterate Fill (Symbol op) m es) p h =
-          let l = all_linked k n s es p.1 h in
-          record { before = l.before; links = tt }
+          let met = symbol_step Earlier earlier.adding (flat k) op r.state Red r.found h in
+          red_linked IsAt Under Left (flat k) op r.state r.found (all_needs P here n es)
+          (all_linked k n s es p.1 met) (red_some k n s op m es p.0.typed) h
+      linked k n s (Iterate Fill (Symbol op) m es) p h = tt
 
       pub all_linked :
           (k : Clock) (n : ℕ) (s : State) (es : Exprs) →
-          Parts (occurrences_in P here.node k n es) →
-          AllMeet IsAt Under Left (emit_all Y P here k n s es).state.equations →
-          LinkedAll s (emit_all Y P here k n s es) (flat k) (all_needs P here n es)
-      all_linked k n s Nil p h = record { before = h; links = tt }
+          Parts (occurrences_in P here.node k n es) → Met (emit_all Y P here k n s es).state →
+          Pairs (AreLinks IsAt Under Left (flat k)) (emit_all Y P here k n s es).found
+          (all_needs P here n es)
+      all_linked k n s Nil p h = tt
       all_linked k n s (Cons e es) p h =
           let m = n + call_count e in
           let oa = occurrences P here.node k n e in
           let ob = occurrences_in P here.node k m es in
-          let x = emit Y P here k n s e in
-          let lb = all_linked k m x.state es (aft oa ob p) h in
-          let la = linked k n s e (fore oa ob p) lb.before in
-          record { before = la.before; links = (la.links, lb.links) }
-
-      pub each_before :
-          (ks : List Clock) (n : ℕ) (s : State) (es : Exprs) →
-          Parts (occurrences_each P here.node ks n es) →
-          AllMeet IsAt Under Left (emit_each Y P here ks n s es).state.equations →
-          AllMeet IsAt Under Left s.equations
-      each_before ks n s Nil p h = h
-      each_before [] n s (Cons e es) p h = h
-      each_before (k ∷ ks) n s (Cons e es) p h =
-          let m = n + call_count e in
-          let oa = occurrences P here.node k n e in
-          let ob = occurrences_each P here.node ks m es in
-          let x = emit Y P here k n s e in
-          let later = each_before ks m x.state es (aft oa ob p) h in
-          let l = linked k n s e (fore oa ob p) later in
-          l.before
+          let x = emit Y P here k n s e in (
+            linked k n s e (fore oa ob p) (all_before k m x.state es h),
+            all_linked k m x.state es (aft oa ob p) h,
+          )
 
       -- and they have the clock on which it stands, where it has one result
       pub runs :
@@ -716,9 +626,8 @@ module _ (Y : Layout) (P : Program) (H : History)
           let ob = occurrences P here.node k m b in
           let x = emit Y P here k n s a in
           let i = two (data_types P here a) (data_types P here b) join_type (t ∷ []) is in
-          let lb = linked k m x.state b (aft oa ob p.1) h in
           Every-append (IsRunAt k) x.found (emit Y P here k m x.state b).found
-          (runs k n s a i.first i.is_first (fore oa ob p.1) lb.before)
+          (runs k n s a i.first i.is_first (fore oa ob p.1) (term_before k m x.state b h))
           (runs k m x.state b i.second i.is_second (aft oa ob p.1) h)
       runs k n s (Array es) t is p h =
           let b = bound (all_types P here es) _ (t ∷ []) is in
@@ -745,14 +654,14 @@ module _ (Y : Layout) (P : Program) (H : History)
           let o = bound (operator_types P here (Symbol op)) _ (t ∷ []) c.gives in
           let a = bound (all_types P here es) _ (t ∷ []) o.gives in
           let x = emit_all Y P here k n s es in
-          let met = map_before IsAt Under Left (flat k) op x.state x.found h in
+          let met = symbol_step Earlier earlier.adding (flat k) op x.state Map x.found h in
           symbol_runs k op x.state Map x.found h (all_runs k n s es a.value a.is p.1 met)
       runs k n s (Iterate Red (Symbol op) m es) t is p h =
           let c = bound (static_count P here m) _ (t ∷ []) is in
           let o = bound (operator_types P here (Symbol op)) _ (t ∷ []) c.gives in
           let a = bound (all_types P here es) _ (t ∷ []) o.gives in
           let x = emit_all Y P here k n s es in
-          let met = red_before IsAt Under Left (flat k) op x.state x.found h in
+          let met = symbol_step Earlier earlier.adding (flat k) op x.state Red x.found h in
           symbol_runs k op x.state Red x.found h (all_runs k n s es a.value a.is p.1 met)
       runs k n s (Iterate Fill (Symbol op) m es) t is p h = tt
 
@@ -767,8 +676,7 @@ module _ (Y : Layout) (P : Program) (H : History)
           let oa = occurrences P here.node k n e in
           let ob = occurrences_in P here.node k m es in
           let x = emit Y P here k n s e in
-          let f = first_of_all P here e es ts is in
-          let lb = all_linked k m x.state es (aft oa ob p) h in (
-            runs k n s e f.first f.is (fore oa ob p) lb.before,
+          let f = first_of_all P here e es ts is in (
+            runs k n s e f.first f.is (fore oa ob p) (all_before k m x.state es h),
             all_runs k m x.state es f.rest f.others (aft oa ob p) h,
           )

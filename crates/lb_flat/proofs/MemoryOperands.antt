@@ -6,34 +6,27 @@ use Rattle.std.specs.List.{list_any}
 use Rattle.std.proofs.lemmas.List.{map-append}
 use Rattle.std.proofs.lemmas.List.Folds.{list_any-append}
 use Rattle.std.proofs.Math.Bool.{or_assoc}
-use Rattle.lb_syntax.specs.declared.tree.UnaryOperator.TheVariants.{Not}
-use Rattle.lb_syntax.specs.declared.tree.BinaryOperator.{BinaryOperator}
-use Rattle.lb_syntax.specs.declared.tree.BinaryOperator.TheVariants.{Or, And}
-use Rattle.lb_syntax.specs.declared.tree.ArrayIterator.{ArrayIterator}
-use Rattle.lb_syntax.specs.declared.tree.ArrayIterator.TheVariants.{Map, Red}
-use Rattle.lb_syntax.specs.Lists.{Every, some_of, zip2, joined}
-use Rattle.lb_syntax.specs.Tree.{Name, Node_named, Symbol, Expr, Literal, Truth, Variable, Group}
-use Rattle.lb_syntax.specs.Tree.{Unary, Binary, If, Arrow, Fby, Pre, Current, When, Replicate}
-use Rattle.lb_syntax.specs.Tree.{Index, Slice, Join, Array, AtMostOne, Nor, Call, Iterate, Exprs}
-use Rattle.lb_syntax.specs.Tree.{Nil, Cons, Declaration}
+use Rattle.lb_syntax.specs.Lists.{Every, some_of}
+use Rattle.lb_syntax.specs.Tree.{Node_named, Symbol, Expr, Literal, Truth, Variable, Group, Unary}
+use Rattle.lb_syntax.specs.Tree.{Binary, If, Arrow, Fby, Pre, Current, When, Replicate, Index}
+use Rattle.lb_syntax.specs.Tree.{Slice, Join, Array, AtMostOne, Nor, Call, Iterate, Exprs, Nil}
+use Rattle.lb_syntax.specs.Tree.{Cons}
 use Rattle.lb_syntax.proofs.TruthValues.{or_nothing}
 use Rattle.lb_static.specs.Instances.{Program, Instance, node_named}
-use Rattle.lb_check.specs.Scalars.{Stream, Boolean, first_value}
+use Rattle.lb_check.specs.Scalars.{Stream, first_value}
 use Rattle.lb_check.specs.Clocks.{Clock}
 use Rattle.lb_check.specs.Occurrences.{Occurrence, call_count, occurrences, occurrences_in}
 use Rattle.lb_check.specs.Occurrences.{occurrences_each, call_clocks}
 use Rattle.lb_check.specs.Streams.{History}
 use Rattle.lb_check.specs.Solutions.{Inputs, streams_at}
 use Rattle.lb_check.specs.Verdicts.{memory_operand}
-use Rattle.lb_flat.specs.Flat.{FlatClock, Operation, Constant, ApplyUnary, ApplyBinary, FirstThen}
-use Rattle.lb_flat.specs.Flat.{Previous, Latest, Sample, FlatEquation, column, AreLong}
+use Rattle.lb_flat.specs.Flat.{FlatClock, Operation, Previous, FlatEquation, column, AreLong}
 use Rattle.lb_flat.specs.Layouts.{Layout, flat_clock}
-use Rattle.lb_flat.specs.Emit.{State, Emitted, add, push, chained, twice, emit_nor}
-use Rattle.lb_flat.specs.Emit.{emit_at_most_one, keep, joins, chosen_by, emit_symbol, emit_name}
-use Rattle.lb_flat.specs.Emit.{emit, emit_all, emit_each}
+use Rattle.lb_flat.specs.Emit.{State, Emitted, add, keep, joins, emit, emit_all, emit_each}
+use Rattle.lb_flat.proofs.EmissionSteps.{IsAdding, IsStep, Any, any_joined, nor_step}
+use Rattle.lb_flat.proofs.EmissionSteps.{at_most_one_step, symbol_step, name_step, emit_step}
 use Rattle.lb_flat.proofs.Lists.{Every-first, Every-second}
-use Rattle.lb_flat.proofs.Adding.{columns, AllMet, add_sound, nor_sound, at_most_one_sound}
-use Rattle.lb_flat.proofs.Adding.{symbol_sound}
+use Rattle.lb_flat.proofs.Adding.{columns, AllMet, add_sound}
 use Rattle.lb_flat.proofs.Placing.{Agrees, IsPlaced}
 use Rattle.lb_flat.proofs.Emission.{joins_equations, sound, sound_all, sound_each}
 use Rattle.lb_flat.proofs.LinkSymbols.{keep_equations}
@@ -56,52 +49,17 @@ add_kept : (k : FlatClock) (s : State) (os : List Operation)
 unfolding add
 add_kept k s os = refl
 
-chained_kept :
-    (k : FlatClock) (op : BinaryOperator) (s : State) (init : ℕ) (ys : List ℕ) →
-    (chained k op s init ys).state.memory_operands ≡ s.memory_operands
-unfolding chained
-chained_kept k op s init [] = refl
-chained_kept k op s init (y ∷ ys) =
-    chained_kept k op (push k s (ApplyBinary op init y)) s.next ys
+abbrev SameKept : State → State → Type 0
+SameKept s t = t.memory_operands ≡ s.memory_operands
 
-twice_kept :
-    (k : FlatClock) (s : State) (any two : ℕ) (xs : List ℕ) →
-    (twice k s any two xs).state.memory_operands ≡ s.memory_operands
-unfolding twice
-twice_kept k s any two [] = refl
-twice_kept k s any two (x ∷ xs) =
-    let t = push k s (ApplyBinary And any x) in
-    let u = push k t (ApplyBinary Or two s.next) in
-    twice_kept k (push k u (ApplyBinary Or any x)) u.next t.next xs
-
-nor_kept : (k : FlatClock) (s : State) (is : List ℕ)
-    → (emit_nor k s is).state.memory_operands ≡ s.memory_operands
-nor_kept k s is =
-    let t = push k s (Constant (Boolean false)) in
-    let r = chained k Or t s.next is in
-    add_kept k r.state (map (ApplyUnary Not) r.found) ∙ chained_kept k Or t s.next is
-
-at_most_one_kept :
-    (k : FlatClock) (s : State) (is : List ℕ)
-    → (emit_at_most_one k s is).state.memory_operands ≡ s.memory_operands
-at_most_one_kept k s is =
-    let t = push k s (Constant (Boolean false)) in
-    let r = twice k t s.next s.next is in
-    add_kept k r.state (map (ApplyUnary Not) r.found) ∙ twice_kept k t s.next s.next is
+keeping : IsAdding SameKept
+keeping = record { none = λ s. refl; both = λ s t u a b. b ∙ a; adds = add_kept }
 
 pub joins_kept :
     (s : State) (qs : List FlatEquation) (is : List ℕ)
     → (joins s qs is).state.memory_operands ≡ s.memory_operands
 unfolding joins
 joins_kept s qs is = refl
-
-symbol_kept :
-    (k : FlatClock) (op : BinaryOperator) (s : State) (it : ArrayIterator)
-    (found : List (List ℕ)) → (emit_symbol k op s it found).state.memory_operands
-    ≡ s.memory_operands
-symbol_kept k op s Map (xs ∷ (ys ∷ [])) = add_kept k s (zip2 (ApplyBinary op) xs ys)
-symbol_kept k op s Red ((init ∷ []) ∷ (ys ∷ [])) = chained_kept k op s init ys
-symbol_kept k op s it found = refl
 
 keep_kept : (x : Emitted) → (keep x).state.memory_operands ≡ x.state.memory_operands ++ x.found
 unfolding keep
@@ -200,15 +158,27 @@ module _ (Y : Layout) (P : Program) (X : Inputs) (H : History) (F : List Stream)
         (sym (list_any-append test xss (operands os)) ∙ ap (list_any test) (sym q));
   }
 
-  name_kept :
-      (k : Clock) (s : State) (x : Name) (d : Option Declaration) →
-      (emit_name Y P here k s x d).state.memory_operands ≡ s.memory_operands
-  name_kept k s x (Some d) = refl
-  name_kept k s x None = add_kept _ s _
-
   unkept :
       (x : Emitted) → AllMet X F (keep x).state.equations → AllMet X F x.state.equations
   unkept x h = subst (AllMet X F) (keep_equations x) h
+
+  abbrev Earlier : State → State → Type 0
+  Earlier s t = AllMet X F t.equations → AllMet X F s.equations
+
+  earlier : IsStep Any Earlier
+  earlier = record {
+    adding = record {
+      none = λ s h. h;
+      both = λ s t u a b h. a (b h);
+      adds = λ k s os h. let r = add_sound X F k s os h in r.before;
+    };
+    keeps = unkept;
+    joining = λ s qs is q h. subst (AllMet X F) (joins_equations s qs is) h;
+  }
+
+  -- the equations before some operators hold
+  added : (k : FlatClock) (s : State) (os : List Operation) → Earlier s (add k s os).state
+  added = earlier.adding.adds
 
   -- ## Expressions
 
@@ -227,27 +197,20 @@ module _ (Y : Layout) (P : Program) (X : Inputs) (H : History) (F : List Stream)
   -- two operands, one after another
   keeps_both :
       (k : Clock) (n : ℕ) (s : State) (a b : Expr) →
-      (AllPlaced (occurrences P here.node k n a) →
-      AllMet X F (emit Y P here k n s a).state.equations →
-      Keeps s (emit Y P here k n s a).state (occurrences P here.node k n a)) →
-      (AllPlaced (occurrences P here.node k (n + call_count a) b) →
-      AllMet X F
-      (emit Y P here k (n + call_count a) (emit Y P here k n s a).state b).state.equations →
-      Keeps (emit Y P here k n s a).state
-      (emit Y P here k (n + call_count a) (emit Y P here k n s a).state b).state
-      (occurrences P here.node k (n + call_count a) b)) →
-      AllPlaced
-      (occurrences P here.node k n a ++ occurrences P here.node k (n + call_count a) b) →
-      AllMet X F
-      (emit Y P here k (n + call_count a) (emit Y P here k n s a).state b).state.equations →
-      Keeps s (emit Y P here k (n + call_count a) (emit Y P here k n s a).state b).state
-      (occurrences P here.node k n a ++ occurrences P here.node k (n + call_count a) b)
+      (let m = n + call_count a in
+      let x = emit Y P here k n s a in
+      let y = emit Y P here k m x.state b in
+      (AllPlaced (parts k n a) → AllMet X F x.state.equations → Keeps s x.state (parts k n a)) →
+      (AllPlaced (parts k m b) → AllMet X F y.state.equations →
+      Keeps x.state y.state (parts k m b)) →
+      AllPlaced (parts k n a ++ parts k m b) → AllMet X F y.state.equations →
+      Keeps s y.state (parts k n a ++ parts k m b))
   keeps_both k n s a b left right w h =
       let m = n + call_count a in
-      let oa = parts k n a in let ob = parts k m b in
       let x = emit Y P here k n s a in
-      let sb = sound Y P X H F long agrees here k m x.state b (aft oa ob w) h in
-      keeps_two s x.state _ oa ob (left (fore oa ob w) sb.before) (right (aft oa ob w) h)
+      let first = emit_step Any Earlier earlier Y (any_joined Y) P here k m x.state b h in
+      keeps_two s x.state _ (parts k n a) (parts k m b) (left (fore _ (parts k m b) w) first)
+      (right (aft (parts k n a) _ w) h)
 
   mutual
     unfolding emit
@@ -258,81 +221,59 @@ module _ (Y : Layout) (P : Program) (X : Inputs) (H : History) (F : List Stream)
         Keeps s (emit Y P here k n s e).state (occurrences P here.node k n e)
     keeps k n s (Literal m) w h = keeps_nothing s _ _ refl (add_kept _ s _)
     keeps k n s (Truth b) w h = keeps_nothing s _ _ refl (add_kept _ s _)
-    keeps k n s (Variable x) w h = keeps_nothing s _ _ refl (name_kept k s x _)
+    keeps k n s (Variable x) w h =
+        keeps_nothing s _ _ refl (name_step SameKept keeping Y P here k s x _)
     keeps k n s (Group a) w h = keeps k n s a w h
     keeps k n s (Unary op a) w h =
-        let x = emit Y P here k n s a in
-        let r = add_sound X F (flat_clock Y here.path k) x.state (map (ApplyUnary op) x.found) h in
-        keeps_quiet s x.state _ _ _ refl (keeps k n s a w.1 r.before) (add_kept _ x.state _)
+        keeps_quiet s _ _ _ _ refl (keeps k n s a w.1 (added _ _ _ h)) (add_kept _ _ _)
     keeps k n s (Binary op a b) w h =
-        let m = n + call_count a in
-        let x = emit Y P here k n s a in let y = emit Y P here k m x.state b in
-        let new = zip2 (ApplyBinary op) x.found y.found in
-        let r = add_sound X F (flat_clock Y here.path k) y.state new h in
-        keeps_quiet s y.state _ _ _ refl
-        (keeps_both k n s a b (keeps k n s a) (keeps k m x.state b) w.1 r.before)
-        (add_kept _ y.state _)
+        keeps_quiet s _ _ _ _ refl
+        (keeps_both k n s a b (keeps k n s a) (keeps k _ _ b) w.1 (added _ _ _ h))
+        (add_kept _ _ _)
     keeps k n s (If c a b) w h =
-        let na = n + call_count c in let nb = na + call_count a in
-        let oc = parts k n c in let oa = parts k na a in let ob = parts k nb b in
+        let na = n + call_count c in
+        let oc = parts k n c in
+        let ob = parts k na a ++ parts k (na + call_count a) b in
         let z = emit Y P here k n s c in
         let x = emit Y P here k na z.state a in
-        let y = emit Y P here k nb x.state b in
-        let new = chosen_by z.found x.found y.found in
-        let r = add_sound X F (flat_clock Y here.path k) y.state new h in
-        let branches = aft oc (oa ++ ob) w.1 in
-        let sb = sound Y P X H F long agrees here k nb x.state b (aft oa ob branches) r.before in
-        let sa = sound Y P X H F long agrees here k na z.state a (fore oa ob branches) sb.before in
-        keeps_quiet s y.state _ _ _ refl
-        (keeps_two s z.state y.state oc (oa ++ ob)
-        (keeps k n s c (fore oc (oa ++ ob) w.1) sa.before)
-        (keeps_both k na z.state a b (keeps k na z.state a) (keeps k nb _ b) branches r.before))
-        (add_kept _ y.state _)
+        let met = added _ _ _ h in
+        let second = emit_step Any Earlier earlier Y (any_joined Y) P here k _ x.state b met in
+        let first = emit_step Any Earlier earlier Y (any_joined Y) P here k na z.state a second in
+        keeps_quiet s _ _ _ _ refl
+        (keeps_two s z.state _ oc ob (keeps k n s c (fore oc ob w.1) first)
+        (keeps_both k na z.state a b (keeps k na z.state a) (keeps k _ _ b) (aft oc ob w.1) met))
+        (add_kept _ _ _)
     keeps k n s (Arrow a b) w h =
-        let m = n + call_count a in
-        let x = emit Y P here k n s a in let y = emit Y P here k m x.state b in
-        let new = zip2 (FirstThen false) x.found y.found in
-        let r = add_sound X F (flat_clock Y here.path k) y.state new h in
-        keeps_quiet s y.state _ _ _ refl
-        (keeps_both k n s a b (keeps k n s a) (keeps k m x.state b) w.1 r.before)
-        (add_kept _ y.state _)
+        keeps_quiet s _ _ _ _ refl
+        (keeps_both k n s a b (keeps k n s a) (keeps k _ _ b) w.1 (added _ _ _ h))
+        (add_kept _ _ _)
     keeps k n s (Fby a b) w h =
         let m = n + call_count a in
-        let own = flat_clock Y here.path k in
-        let oa = parts k n a in let ob = parts k m b in
-        let x = emit Y P here k n s a in let y = emit Y P here k m x.state b in
+        let x = emit Y P here k n s a in
+        let y = emit Y P here k m x.state b in
+        let met = unkept y (added _ _ _ (added _ _ _ h)) in
+        let sb = sound Y P X H F long agrees here k m x.state b (aft (parts k n a) _ w.1) met in
         let before = map (Previous first_value) (keep y).found in
-        let z = add own (keep y).state before in
-        let r = add_sound X F own z.state (zip2 (FirstThen false) x.found z.found) h in
-        let q = add_sound X F own (keep y).state before r.before in
-        let hy = unkept y q.before in
-        let sb = sound Y P X H F long agrees here k m x.state b (aft oa ob w.1) hy in
+        let z = add (flat_clock Y here.path k) (keep y).state before in
         keeps_on s z.state _ _
         (keeps_on s (keep y).state _ _
-        (keeps_own s y _ _ (oa ++ ob) refl sb.found
-        (keeps_both k n s a b (keeps k n s a) (keeps k m x.state b) w.1 hy))
-        (add_kept _ (keep y).state _))
-        (add_kept _ z.state _)
+        (keeps_own s y _ _ (parts k n a ++ parts k m b) refl sb.found
+        (keeps_both k n s a b (keeps k n s a) (keeps k m x.state b) w.1 met))
+        (add_kept _ _ _)) (add_kept _ _ _)
     keeps k n s (Pre a) w h =
         let x = emit Y P here k n s a in
-        let new = map (Previous first_value) (keep x).found in
-        let r = add_sound X F (flat_clock Y here.path k) (keep x).state new h in
-        let hx = unkept x r.before in
-        let sa = sound Y P X H F long agrees here k n s a w.1 hx in
+        let met = unkept x (added _ _ _ h) in
+        let sa = sound Y P X H F long agrees here k n s a w.1 met in
         keeps_on s (keep x).state _ _
-        (keeps_own s x _ _ _ refl sa.found (keeps k n s a w.1 hx)) (add_kept _ (keep x).state _)
+        (keeps_own s x _ _ _ refl sa.found (keeps k n s a w.1 met)) (add_kept _ _ _)
     keeps k n s (Current a) w h =
         let x = emit Y P here _ n s a in
-        let new = map (Latest first_value) (keep x).found in
-        let r = add_sound X F (flat_clock Y here.path k) (keep x).state new h in
-        let hx = unkept x r.before in
-        let sa = sound Y P X H F long agrees here _ n s a w.1 hx in
+        let met = unkept x (added _ _ _ h) in
+        let sa = sound Y P X H F long agrees here _ n s a w.1 met in
         keeps_on s (keep x).state _ _
-        (keeps_own s x _ _ _ refl sa.found (keeps _ n s a w.1 hx)) (add_kept _ (keep x).state _)
+        (keeps_own s x _ _ _ refl sa.found (keeps _ n s a w.1 met)) (add_kept _ _ _)
     keeps k n s (When a x sign) w h =
-        let z = emit Y P here _ n s a in
-        let r = add_sound X F _ z.state (map Sample z.found) h in
-        keeps_quiet s z.state _ _ _ refl (keeps _ n s a w.1 r.before) (add_kept _ z.state _)
+        keeps_quiet s _ _ _ _ refl (keeps _ n s a w.1 (added _ _ _ h)) (add_kept _ _ _)
     keeps k n s (Replicate a m) w h = keeps_quiet s _ _ _ _ refl (keeps k n s a w.1 h) refl
     keeps k n s (Index a i) w h = keeps_quiet s _ _ _ _ refl (keeps k n s a w.1 h) refl
     keeps k n s (Slice a i j) w h = keeps_quiet s _ _ _ _ refl (keeps k n s a w.1 h) refl
@@ -340,32 +281,24 @@ module _ (Y : Layout) (P : Program) (X : Inputs) (H : History) (F : List Stream)
         keeps_quiet s _ _ _ _ refl (keeps_both k n s a b (keeps k n s a) (keeps k _ _ b) w.1 h) refl
     keeps k n s (Array es) w h = keeps_quiet s _ _ _ _ refl (keeps_all k n s es w.1 h) refl
     keeps k n s (AtMostOne es) w h =
-        let own = flat_clock Y here.path k in
-        let r = emit_all Y P here k n s es in
-        let a = at_most_one_sound X F long own r.state (joined r.found) h in
-        keeps_quiet s r.state _ _ _ refl (keeps_all k n s es w.1 a.before)
-        (at_most_one_kept _ r.state _)
+        keeps_quiet s _ _ _ _ refl
+        (keeps_all k n s es w.1 (at_most_one_step Earlier earlier.adding _ _ _ h))
+        (at_most_one_step SameKept keeping _ _ _)
     keeps k n s (Nor es) w h =
-        let own = flat_clock Y here.path k in
-        let r = emit_all Y P here k n s es in
-        let a = nor_sound X F long own r.state (joined r.found) h in
-        keeps_quiet s r.state _ _ _ refl (keeps_all k n s es w.1 a.before) (nor_kept _ r.state _)
+        keeps_quiet s _ _ _ _ refl
+        (keeps_all k n s es w.1 (nor_step Earlier earlier.adding _ _ _ h))
+        (nor_step SameKept keeping _ _ _)
     keeps k n s (Call f statics es) w h =
         let ks = call_clocks k (node_named P f) es in
-        let r = emit_each Y P here ks (n + 1) s es in
-        let before = subst (AllMet X F) (joins_equations r.state _ _) h in
-        keeps_quiet s r.state _ _ _ refl (keeps_each ks (n + 1) s es w.1 before)
-        (joins_kept r.state _ _)
+        keeps_quiet s _ _ _ _ refl
+        (keeps_each ks (n + 1) s es w.1 (earlier.joining _ _ _ tt h)) (joins_kept _ _ _)
     keeps k n s (Iterate it (Node_named f statics) m es) w h =
-        let r = emit_all Y P here k (n + 1) s es in
-        let before = subst (AllMet X F) (joins_equations r.state _ _) h in
-        keeps_quiet s r.state _ _ _ refl (keeps_all k (n + 1) s es w.1 before)
-        (joins_kept r.state _ _)
+        keeps_quiet s _ _ _ _ refl
+        (keeps_all k (n + 1) s es w.1 (earlier.joining _ _ _ tt h)) (joins_kept _ _ _)
     keeps k n s (Iterate it (Symbol op) m es) w h =
-        let r = emit_all Y P here k n s es in
-        let a = symbol_sound X F (flat_clock Y here.path k) op r.state it r.found h in
-        keeps_quiet s r.state _ _ _ refl (keeps_all k n s es w.1 a.before)
-        (symbol_kept _ op r.state it r.found)
+        keeps_quiet s _ _ _ _ refl
+        (keeps_all k n s es w.1 (symbol_step Earlier earlier.adding _ op _ it _ h))
+        (symbol_step SameKept keeping _ op _ it _)
 
     pub keeps_all :
         (k : Clock) (n : ℕ) (s : State) (es : Exprs) →

@@ -26,8 +26,7 @@ use Rattle.lb_flat.proofs.Placing.{AreAsWide}
 use Rattle.lb_flat.proofs.TypeFacts.{bound, are_counts, same_count, array_count}
 use Rattle.lb_flat.proofs.OutputWidths.{each, width_of, length-index}
 use Rattle.lb_flat.proofs.Widths.{called, Placed, placed, AreVariablesWide, IsCalleeWide}
-use Rattle.lb_flat.proofs.Widths.{IsOccurrenceWide, number_is, all_wide}
-use Rattle.lb_flat.proofs.Widths.{outputs_at}
+use Rattle.lb_flat.proofs.Widths.{IsOccurrenceWide, number_is, all_wide, outputs_at}
 use Rattle.lb_flat.proofs.TypedBodies.{arguments_wide, inputs_as_wide}
 
 pub lengths_same :
@@ -172,11 +171,6 @@ module _ (P : Program) (H : History) (here : Instance)
       let t = truly (are_types wanted.value args) outs b.value b.is in
       parts_wide n i lt ins wanted.value xsss wanted.is
       (h ∙ sym (are_counts wanted.value args t.holds))
-  inputs_of_instance c outputs n i lt Red ds [] outs args ts xsss w o e h = cc
-  inputs_of_instance c outputs n i lt Red ds (a ∷ ins) [] args ts xsss w o e h = cc
-  inputs_of_instance c outputs n i lt Red ds (a ∷ ins) (u ∷ (v ∷ us)) args ts xsss w o e h = cc
-  inputs_of_instance c outputs n i lt Red ds (a ∷ ins) (u ∷ []) [] ts xsss w o e h = cc
-  inputs_of_instance c outputs n i lt Red ds (a ∷ ins) (u ∷ []) (t ∷ args) ts [] w o e h = cc
   inputs_of_instance c outputs n i lt Red ds (a ∷ ins) (u ∷ []) (t ∷ args) ts (x ∷ xsss) w o e h =
       let wanted = bound (all_some (map (array_of n) ins)) _ ts e in
       let arrays = are_types wanted.value args in
@@ -190,16 +184,6 @@ module _ (P : Program) (H : History) (here : Instance)
       (accumulator_wide P c outputs n i lt ds u [] x (first ∙ sym initial ∙ out) w o ∙ sym out)
       (parts_wide n i lt ins wanted.value xsss wanted.is
       (tails_same _ _ _ _ h ∙ sym counts))
-  inputs_of_instance c outputs n i lt Fill ds [] outs args ts xsss w o e h = cc
-  inputs_of_instance c outputs n i lt Fill ds (a ∷ (b ∷ ins)) outs args ts xsss w o e h = cc
-  inputs_of_instance c outputs n i lt Fill ds (a ∷ []) [] args ts xsss w o e h = cc
-  inputs_of_instance c outputs n i lt Fill ds (a ∷ []) (u ∷ []) args ts xsss w o e h = cc
-  inputs_of_instance c outputs n i lt Fill ds (a ∷ []) (u ∷ (v ∷ us)) [] ts xsss w o e h = cc
-  inputs_of_instance c outputs n i lt Fill ds (a ∷ []) (u ∷ (v ∷ us))
-      (t ∷ (s ∷ args)) ts xsss w o e h =
-      cc
-  inputs_of_instance c outputs n i lt Fill ds (a ∷ []) (u ∷ (v ∷ us))
-      (t ∷ []) ts [] w o e h = cc
   inputs_of_instance c outputs n i lt Fill ds (a ∷ []) (u ∷ (v ∷ us))
       (t ∷ []) ts (x ∷ xsss) w o e h =
       let arrays = bound (all_some (map (array_of n) (v ∷ us))) _ ts e in
@@ -210,6 +194,7 @@ module _ (P : Program) (H : History) (here : Instance)
       ap (λ l. l ∷ [])
       (accumulator_wide P c outputs n i lt ds u (v ∷ us) x (first ∙ sym initial ∙ out) w o
       ∙ sym out)
+  inputs_of_instance c outputs n i lt _ ds _ _ _ ts _ w o e h = cc
 
   pub iterator_as_wide :
       (k : Clock) (n : ℕ) (it : ArrayIterator) (f : Name) (statics : List Static) (m : Static)

@@ -33,10 +33,8 @@ before_taken n (x ∷ row) (xs ∷ F) = ap (λ ys. (x ∷ take n xs) ∷ ys) (be
 zip_taken :
     {A B C : Type 0} (f : A → B → C) (n : ℕ) (xs : List A) (ys : List B) →
     take n (zip2 f xs ys) ≡ zip2 f (take n xs) (take n ys)
-zip_taken f zero xs ys = refl
-zip_taken f (suc n) [] ys = refl
-zip_taken f (suc n) (x ∷ xs) [] = refl
 zip_taken f (suc n) (x ∷ xs) (y ∷ ys) = ap (λ zs. f x y ∷ zs) (zip_taken f n xs ys)
+zip_taken f _ _ _ = refl
 
 module _ (Z : Inputs) where
   replicate_taken :

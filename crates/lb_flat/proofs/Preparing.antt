@@ -11,9 +11,7 @@ use Rattle.lb_flat.specs.declared.equation.Equation.{Equation}
 use Rattle.lb_flat.specs.declared.equation.InputId.{InputId}
 use Rattle.lb_flat.specs.declared.equation.InputPlace.{InputPlace}
 use Rattle.lb_flat.specs.declared.equation.Operation.{Operation}
-use Rattle.lb_flat.specs.declared.equation.Operation.TheVariants.{Input, Constant, Copy, ApplyUnary}
-use Rattle.lb_flat.specs.declared.equation.Operation.TheVariants.{ApplyBinary, Choose, FirstThen}
-use Rattle.lb_flat.specs.declared.equation.Operation.TheVariants.{Previous, Latest, Sample}
+use Rattle.lb_flat.specs.declared.equation.Operation.TheVariants.{Input}
 use Rattle.lb_flat.specs.declared.equation.Clock.{Clock}
 use Rattle.lb_flat.specs.declared.cell.Cell.{Cell}
 use Rattle.lb_flat.specs.Flat.{FlatEquation}
@@ -90,15 +88,7 @@ apart_same size clocks qs i is js ss ts ms ns e f g h = rw (e, f, g) h
 
 not_input : (o : Operation) → ((j : InputId) → o ≡ Input j → ⊥) → is_input (operation_of o) ≡ false
 not_input (Input j) never = absurd (never j refl)
-not_input (Constant v) never = refl
-not_input (Copy a) never = refl
-not_input (ApplyUnary op a) never = refl
-not_input (ApplyBinary op a b) never = refl
-not_input (Choose c a b) never = refl
-not_input (FirstThen started a b) never = refl
-not_input (Previous v a) never = refl
-not_input (Latest v a) never = refl
-not_input (Sample a) never = refl
+not_input _ never = refl
 
 module _ (clocks : List Clock) (qs : List Equation) (i : ℕ) (d : Equation) (lt : i < length qs)
   where

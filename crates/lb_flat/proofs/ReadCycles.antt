@@ -8,7 +8,7 @@ use Rattle.std.proofs.lemmas.Option.{same_Some}
 use Rattle.lb_syntax.specs.Lists.{Every}
 use Rattle.lb_flat.specs.Judging.{FlatProgram}
 use Rattle.lb_flat.specs.Reading.{Leads, reads_it, by_way, AreLinked, IsReadCycle}
-use Rattle.lb_flat.proofs.Lists.{Every-append}
+use Rattle.lb_flat.proofs.Lists.{Every-append, Every-drop}
 
 -- what leads to a further element leads on
 pub leads_on :
@@ -68,12 +68,6 @@ module _ (R : ℕ → ℕ → Type 0) where
       some_dropped zero is lt = lt
       some_dropped (suc k) [] lt = absurd (omega arith)
       some_dropped (suc k) (i ∷ is) lt = some_dropped k is (omega arith)
-
-every_drop :
-    {A : Type 0} (Q : A → Type 0) (k : ℕ) (xs : List A) → Every Q xs → Every Q (drop k xs)
-every_drop Q zero xs h = h
-every_drop Q (suc k) [] h = tt
-every_drop Q (suc k) (x ∷ xs) h = every_drop Q k xs h.1
 
 -- ## Places on a path
 
@@ -160,7 +154,7 @@ module _ (f : FlatProgram) where
     pub way_closes : (k : ℕ) → get_or places at None ≡ Some k → IsReadCycle f (drop k is)
     way_closes k e =
         let here = w.noted at k e in (
-          every_drop (λ i. i < f.variables) k is w.below,
+          Every-drop (λ i. i < f.variables) k is w.below,
           path_closes Reads at k is w.path here.0 here.1,
         )
 

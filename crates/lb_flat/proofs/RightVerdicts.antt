@@ -1,8 +1,6 @@
 -- The right verdict of a trace is its verdict, and no other is.
-use Rattle.std.proofs.Common.{◌≡◌, ℕ, ◌<◌, List, [], length, get_or, refl, sym, ◌∙◌, subst}
-use Rattle.std.proofs.Common.{arith}
+use Rattle.std.proofs.Common.{◌≡◌, ℕ, ◌<◌, [], length, get_or, refl, sym, subst, arith}
 use Rattle.std.proofs.Math.Logic.{∥∥₁_elim, ∥∥₁_map}
-use Rattle.std.proofs.lemmas.List.{ext_get_or}
 use Rattle.std.proofs.lemmas.List.FromFn.{length-map-range_with_len, get_or-map-range_with_len}
 use Rattle.lb_static.specs.Instances.{Program}
 use Rattle.lb_check.specs.declared.verdict.Verdict.{Verdict}
@@ -18,7 +16,7 @@ use Rattle.lb_flat.specs.PreparedPrograms.{prepared_props}
 use Rattle.lb_flat.specs.Programs.{program_of}
 use Rattle.lb_flat.specs.RightVerdicts.{right_verdict, right_verdicts}
 use Rattle.lb_flat.specs.Run.{Ready}
-use Rattle.lb_flat.specs.Standing.{HasKindsOf, StandsForProgram}
+use Rattle.lb_flat.specs.Standing.{StandsForProgram}
 use Rattle.lb_traces.specs.Traces.{IsRecording, Recording}
 use Rattle.lb_flat.specs.declared.flat.Ordered.{Ordered}
 use Rattle.lb_flat.proofs.InOrder.{ready_of}
@@ -70,13 +68,6 @@ right_is_verdict f r k ready lawful below = record {
   is_right = λ stands kinds. refl;
 }
 
--- a trace has one verdict
-pub same_verdict :
-    (f : FlatProgram) (r : Recording) (k : ℕ) (v w : Verdict) → StandsForProgram f →
-    HasKindsOf f r → IsVerdictOf f r k v → IsVerdictOf f r k w → v ≡ w
-same_verdict f r k v w stands kinds one other =
-    one.is_right stands kinds ∙ sym (other.is_right stands kinds)
-
 -- ## Lists of them
 
 pub length-right_verdicts :
@@ -97,15 +88,3 @@ pub right_verdicts_are :
 right_verdicts_are f r ready lawful k below =
     subst (IsVerdictOf f r k) (sym (right_verdict_at f r k below))
     (right_is_verdict f r k ready lawful below)
-
--- a list with the verdict of each trace is this one
-pub are_right_verdicts :
-    (f : FlatProgram) (r : Recording) (verdicts : List Verdict) → StandsForProgram f →
-    HasKindsOf f r → length verdicts ≡ length r.traces →
-    ((k : ℕ) → k < length r.traces → IsVerdictOf f r k (get_or verdicts k Passed)) →
-    verdicts ≡ right_verdicts f r
-are_right_verdicts f r verdicts stands kinds count each =
-    ext_get_or Passed verdicts (right_verdicts f r) (count ∙ sym (length-right_verdicts f r))
-    (λ k lt.
-    let below : k < length r.traces = omega (arith, lt, count) in
-    (each k below).is_right stands kinds ∙ sym (right_verdict_at f r k below))

@@ -6,9 +6,7 @@ use Rattle.lb_syntax.specs.Lists.{Every, In, zip2, tail_of}
 use Rattle.lb_check.specs.Scalars.{Scalar, Stream}
 use Rattle.lb_check.specs.Streams.{first_cell}
 use Rattle.lb_check.specs.Solutions.{Inputs}
-use Rattle.lb_flat.specs.Flat.{Operation, Input, Constant, Copy, ApplyUnary, ApplyBinary, Choose}
-use Rattle.lb_flat.specs.Flat.{FirstThen, Previous, Latest, Sample, FlatEquation, Holds, AreLong}
-use Rattle.lb_flat.specs.Flat.{FlatSolves}
+use Rattle.lb_flat.specs.Flat.{Operation, Input, FlatEquation, Holds, AreLong, FlatSolves}
 use Rattle.lb_flat.specs.Run.{Row, remembered, advanced, clock_reads, reads, keeps, IsNext, Ready}
 use Rattle.lb_flat.specs.Run.{row_of, run, streams_of}
 use Rattle.lb_flat.proofs.Columns.{column_long, operate_long}
@@ -21,27 +19,11 @@ use Rattle.lb_flat.proofs.Counting.{tail_long}
 
 pub reads_same : (row : Row) (o : Operation) → reads (remembered row o) ≡ reads o
 reads_same row (Input j) = refl
-reads_same row (Constant v) = refl
-reads_same row (Copy a) = refl
-reads_same row (ApplyUnary op a) = refl
-reads_same row (ApplyBinary op a b) = refl
-reads_same row (Choose c a b) = refl
-reads_same row (FirstThen started a b) = refl
-reads_same row (Previous v a) = refl
-reads_same row (Latest v a) = refl
-reads_same row (Sample a) = refl
+reads_same row _ = refl
 
 pub keeps_same : (row : Row) (o : Operation) → keeps (remembered row o) ≡ keeps o
 keeps_same row (Input j) = refl
-keeps_same row (Constant v) = refl
-keeps_same row (Copy a) = refl
-keeps_same row (ApplyUnary op a) = refl
-keeps_same row (ApplyBinary op a b) = refl
-keeps_same row (Choose c a b) = refl
-keeps_same row (FirstThen started a b) = refl
-keeps_same row (Previous v a) = refl
-keeps_same row (Latest v a) = refl
-keeps_same row (Sample a) = refl
+keeps_same row _ = refl
 
 next_advanced :
     (size : ℕ) (row : Row) (done : List ℕ) (q : FlatEquation) → IsNext size done q →

@@ -1,15 +1,14 @@
 -- The operators give scalars of their kinds.
 use Rattle.std.proofs.Common.{◌≡◌, ◌≢◌, ℕ, zero, suc, ◌/◌, ◌<◌, ◌≤◌, Bool, true, false, ℤ, pos}
-use Rattle.std.proofs.Common.{negsuc, neg_ℤ, ◌+ℤ◌, ◌-ℤ◌, ◌*ℤ◌, int_div, int_rem, Some}
-use Rattle.std.proofs.Common.{[], ◌∷◌, refl, subst, arith}
+use Rattle.std.proofs.Common.{negsuc, neg_ℤ, ◌+ℤ◌, ◌-ℤ◌, ◌*ℤ◌, int_div, int_rem, Some, [], ◌∷◌}
+use Rattle.std.proofs.Common.{refl, subst, arith}
 use Rattle.std.specs.Int.Signed.{mag, mag_rem}
 use Rattle.std.proofs.Math.Nat.{div-le_self, div-one, div-lt_iff_lt-mul, div-le_of_le-mul}
 use Rattle.lb_syntax.specs.declared.tree.UnaryOperator.{UnaryOperator}
 use Rattle.lb_syntax.specs.declared.tree.UnaryOperator.TheVariants.{Not, Negate}
 use Rattle.lb_syntax.specs.declared.tree.BinaryOperator.{BinaryOperator}
 use Rattle.lb_syntax.specs.declared.tree.BinaryOperator.TheVariants.{Or, Xor, And, Implies, Equal}
-use Rattle.lb_syntax.specs.declared.tree.BinaryOperator.TheVariants.{Unequal, Less, AtMost, Greater}
-use Rattle.lb_syntax.specs.declared.tree.BinaryOperator.TheVariants.{AtLeast, Plus, Minus, Times}
+use Rattle.lb_syntax.specs.declared.tree.BinaryOperator.TheVariants.{Unequal, Plus, Minus, Times}
 use Rattle.lb_syntax.specs.declared.tree.BinaryOperator.TheVariants.{Divide, Modulo}
 use Rattle.lb_syntax.specs.declared.tree.Kind.{Kind}
 use Rattle.lb_syntax.specs.declared.tree.Kind.TheVariants.{Int, Bool as Truth}
@@ -89,10 +88,8 @@ bad_of Truth = refl
 
 -- what an operator gives of nil and another operand
 nil_and : (k : Kind) (v : Scalar) → IsOf k (strict (v ∷ []) Nil)
-nil_and k (Integer z) = nil_of k
-nil_and k (Boolean b) = nil_of k
-nil_and k Nil = nil_of k
 nil_and k Bad = bad_of k
+nil_and k _ = nil_of k
 
 one_kind : (k l : Kind) (v : Scalar) → Some k ≡ Some l → IsOf k v → IsOf l v
 one_kind k l v e h = let same : k ≡ l = cc in subst (λ m. IsOf m v) same h
@@ -105,16 +102,11 @@ of_integers Minus r a b e i j = one_kind Int r _ e (lawful_int (a -ℤ b) _ refl
 of_integers Times r a b e i j = one_kind Int r _ e (lawful_int (a *ℤ b) _ refl)
 of_integers Divide r a b e i j = one_kind Int r _ e (quotient_int a b _ i refl)
 of_integers Modulo r a b e i j = one_kind Int r _ e (remainder_int a b _ i)
-of_integers Equal r a b e i j = one_kind Truth r _ e refl
-of_integers Unequal r a b e i j = one_kind Truth r _ e refl
-of_integers Less r a b e i j = one_kind Truth r _ e refl
-of_integers AtMost r a b e i j = one_kind Truth r _ e refl
-of_integers Greater r a b e i j = one_kind Truth r _ e refl
-of_integers AtLeast r a b e i j = one_kind Truth r _ e refl
 of_integers Or r a b e i j = cc
 of_integers Xor r a b e i j = cc
 of_integers And r a b e i j = cc
 of_integers Implies r a b e i j = cc
+of_integers _ r a b e i j = one_kind Truth r _ e refl
 
 of_truths :
     (op : BinaryOperator) (r : Kind) (a b : Bool) → truths_kind op ≡ Some r →
@@ -125,15 +117,7 @@ of_truths And r a b e = one_kind Truth r _ e refl
 of_truths Implies r a b e = one_kind Truth r _ e refl
 of_truths Equal r a b e = one_kind Truth r _ e refl
 of_truths Unequal r a b e = one_kind Truth r _ e refl
-of_truths Less r a b e = cc
-of_truths AtMost r a b e = cc
-of_truths Greater r a b e = cc
-of_truths AtLeast r a b e = cc
-of_truths Plus r a b e = cc
-of_truths Minus r a b e = cc
-of_truths Times r a b e = cc
-of_truths Divide r a b e = cc
-of_truths Modulo r a b e = cc
+of_truths _ r a b e = cc
 
 pub binary_of :
     (op : BinaryOperator) (k l r : Kind) (v w : Scalar) → binary_kind op k l ≡ Some r →
@@ -143,17 +127,12 @@ binary_of op Int Int r (Integer a) Nil e i j = nil_of r
 binary_of op Int Int r (Integer a) Bad e i j = bad_of r
 binary_of op Int Int r Nil w e i j = nil_and r w
 binary_of op Int Int r Bad w e i j = bad_of r
-binary_of op Int Int r (Boolean a) w e i j = cc
-binary_of op Int Int r (Integer a) (Boolean b) e i j = cc
 binary_of op Truth Truth r (Boolean a) (Boolean b) e i j = of_truths op r a b e
 binary_of op Truth Truth r (Boolean a) Nil e i j = nil_of r
 binary_of op Truth Truth r (Boolean a) Bad e i j = bad_of r
 binary_of op Truth Truth r Nil w e i j = nil_and r w
 binary_of op Truth Truth r Bad w e i j = bad_of r
-binary_of op Truth Truth r (Integer a) w e i j = cc
-binary_of op Truth Truth r (Boolean a) (Integer b) e i j = cc
-binary_of op Int Truth r v w e i j = cc
-binary_of op Truth Int r v w e i j = cc
+binary_of op _ _ r _ _ e i j = cc
 
 pub unary_of :
     (op : UnaryOperator) (k r : Kind) (v : Scalar) → unary_kind op k ≡ Some r → IsOf k v →
@@ -161,13 +140,10 @@ pub unary_of :
 unary_of Negate Int r (Integer a) e i = one_kind Int r _ e (lawful_int (neg_ℤ a) _ refl)
 unary_of Negate Int r Nil e i = nil_of r
 unary_of Negate Int r Bad e i = bad_of r
-unary_of Negate Int r (Boolean a) e i = cc
-unary_of Negate Truth r v e i = cc
 unary_of Not Truth r (Boolean a) e i = one_kind Truth r _ e refl
 unary_of Not Truth r Nil e i = nil_of r
 unary_of Not Truth r Bad e i = bad_of r
-unary_of Not Truth r (Integer a) e i = cc
-unary_of Not Int r v e i = cc
+unary_of _ _ r _ e i = cc
 
 pub chosen_of :
     (k : Kind) (c v w : Scalar) → IsOf k v → IsOf k w → IsOf k (chosen c v w)

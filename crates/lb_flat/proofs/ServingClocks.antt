@@ -1,6 +1,6 @@
 -- A variable is among those that serve as clocks by its number where it is by its name.
-use Rattle.std.proofs.Common.{◌≡◌, ℕ, true, Option, Some, None, option_map, List, [], ◌∷◌}
-use Rattle.std.proofs.Common.{◌++◌, map, length, flat_map, refl, ap, ap₂, sym, ◌∙◌, subst, arith}
+use Rattle.std.proofs.Common.{◌≡◌, ℕ, true, Option, Some, None, option_map, List, [], ◌∷◌, ◌++◌}
+use Rattle.std.proofs.Common.{map, length, flat_map, refl, ap, ap₂, sym, ◌∙◌, subst, arith}
 use Rattle.std.specs.Prelude.{◌&&◌, ◌||◌, ◌==◌, nat_lt, slice_get}
 use Rattle.std.specs.List.{list_all}
 use Rattle.std.specs.Str.{bytes_eq}
@@ -8,8 +8,7 @@ use Rattle.std.proofs.lemmas.List.{length-map, map-append}
 use Rattle.std.proofs.lemmas.List.Concat.{flat_map-append}
 use Rattle.std.proofs.lemmas.Option.{slice_get-map}
 use Rattle.lb_syntax.specs.Lists.{Every, either_or, listed, some_of, zip2}
-use Rattle.lb_syntax.specs.Tree.{Name, Static, Whole, Named as Named_static, Negated, Combined}
-use Rattle.lb_syntax.specs.Tree.{Grouped, Expr, Declaration}
+use Rattle.lb_syntax.specs.Tree.{Name, Static, Whole, Expr, Declaration}
 use Rattle.lb_syntax.proofs.TruthValues.{and_first, and_second}
 use Rattle.lb_static.specs.DataTypes.{variables}
 use Rattle.lb_static.specs.Names.{are_distinct}
@@ -77,10 +76,7 @@ module _ (names : List Name) (bound : ℕ) where
 
 value_none : (s : Static) → clocks_of (parts (named_value s)) ≡ []
 value_none (Whole n) = refl
-value_none (Named_static x) = refl
-value_none (Negated s) = refl
-value_none (Combined op s t) = refl
-value_none (Grouped s) = refl
+value_none _ = refl
 
 module _ (t : Texts) (n : Counts) where
   abbrev Says : List ℕ → List Expr → Type 0

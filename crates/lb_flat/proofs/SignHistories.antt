@@ -1,29 +1,26 @@
 -- In a history that solves an accepted program, a variable that serves for another in a clock has
 -- its streams, and each instance runs on its clock; so do streams of flat elements that are those
 -- of the variables.
-use Rattle.std.proofs.Common.{◌≡◌, inl, inr, ℕ, ◌+◌, ◌<◌, Bool, true, false, cond}
-use Rattle.std.proofs.Common.{Option, Some, None, option_map, List, [], ◌∷◌, ◌++◌, length, map}
-use Rattle.std.proofs.Common.{flat_map, refl, ap, ap₂, sym, ◌∙◌, subst, arith}
+use Rattle.std.proofs.Common.{◌≡◌, inl, inr, ℕ, ◌+◌, ◌<◌, Bool, true, false, cond, Option, Some}
+use Rattle.std.proofs.Common.{None, option_map, List, [], ◌∷◌, ◌++◌, length, map, flat_map, refl}
+use Rattle.std.proofs.Common.{ap, ap₂, sym, ◌∙◌, subst, arith}
 use Rattle.std.specs.Prelude.{◌&&◌}
 use Rattle.std.specs.Str.{bytes_eq}
 use Rattle.std.proofs.lemmas.Slice.Eq.{bytes_eq-Decides}
 use Rattle.std.proofs.lemmas.Option.{same_Some}
 use Rattle.lb_syntax.specs.Lists.{◌>>=◌, Every, In, all_some, either_or, listed}
-use Rattle.lb_syntax.specs.Tree.{Name, Static, Node_named, Symbol, Expr, Literal, Truth, Variable}
-use Rattle.lb_syntax.specs.Tree.{Group, Unary, Binary, If, Arrow, Fby, Pre, Current, When}
-use Rattle.lb_syntax.specs.Tree.{Replicate, Index, Slice, Join, Array, AtMostOne, Nor, Call}
+use Rattle.lb_syntax.specs.Tree.{Name, Static, Node_named, Symbol, Expr, Variable, Group, Call}
 use Rattle.lb_syntax.specs.Tree.{Iterate, Exprs, Nil, Cons, Declaration, Node, Statement, Equation}
 use Rattle.lb_syntax.proofs.TruthValues.{and_first, and_second}
-use Rattle.lb_static.specs.DataTypes.{DataType, is_type, are_types, variables}
-use Rattle.lb_static.specs.DataTypes.{variable_type, width}
+use Rattle.lb_static.specs.DataTypes.{DataType, is_type, are_types, variables, variable_type, width}
 use Rattle.lb_static.specs.Instances.{Program, Instance, Path, Root, Observer, Child, Site}
 use Rattle.lb_static.specs.Instances.{call_site, instance_at, instances, instance_count, callee_of}
 use Rattle.lb_static.specs.Instances.{name_value, node_named}
 use Rattle.lb_static.specs.Instantiation.{static_refusal}
 use Rattle.lb_static.specs.StaticValues.{named}
 use Rattle.lb_check.specs.Acceptance.{check_refusal}
-use Rattle.lb_check.specs.Clocks.{Clock, Base, On, as_variable, declared_clock}
-use Rattle.lb_check.specs.Clocks.{given_inputs, given_outputs, ungrouped, outer, base_clock}
+use Rattle.lb_check.specs.Clocks.{Clock, Base, On, as_variable, declared_clock, given_inputs}
+use Rattle.lb_check.specs.Clocks.{given_outputs, ungrouped, outer, base_clock}
 use Rattle.lb_check.specs.Elements.{found_from}
 use Rattle.lb_check.specs.Needs.{site_clock}
 use Rattle.lb_check.specs.Occurrences.{Occurrence, at, call_count, node_occurrences, statements}
@@ -128,26 +125,7 @@ module _ (P : Program) (H : History) (here : Instance) where
   grouped_streams : (k : Clock) (n : ℕ) (e : Expr) →
       streams P H here k n e ≡ streams P H here k n (ungrouped e)
   grouped_streams k n (Group a) = grouped_streams k n a
-  grouped_streams k n (Literal m) = refl
-  grouped_streams k n (Truth b) = refl
-  grouped_streams k n (Variable x) = refl
-  grouped_streams k n (Unary op a) = refl
-  grouped_streams k n (Binary op a b) = refl
-  grouped_streams k n (If c a b) = refl
-  grouped_streams k n (Arrow a b) = refl
-  grouped_streams k n (Fby a b) = refl
-  grouped_streams k n (Pre a) = refl
-  grouped_streams k n (Current a) = refl
-  grouped_streams k n (When a x sign) = refl
-  grouped_streams k n (Replicate a m) = refl
-  grouped_streams k n (Index a i) = refl
-  grouped_streams k n (Slice a i j) = refl
-  grouped_streams k n (Join a b) = refl
-  grouped_streams k n (Array es) = refl
-  grouped_streams k n (AtMostOne es) = refl
-  grouped_streams k n (Nor es) = refl
-  grouped_streams k n (Call f statics es) = refl
-  grouped_streams k n (Iterate it op m es) = refl
+  grouped_streams k n _ = refl
 
   -- the first of some inputs, or a further one
   first_received :

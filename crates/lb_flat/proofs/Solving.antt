@@ -9,7 +9,7 @@ use Rattle.lb_syntax.specs.Lists.{Every, In}
 use Rattle.lb_syntax.specs.Tree.{Declaration}
 use Rattle.lb_static.specs.Instances.{Program, Instance, Root, Observer, instances}
 use Rattle.lb_static.specs.DataTypes.{variables, width}
-use Rattle.lb_check.specs.Scalars.{Integer, Boolean, Nil, Bad, Stream}
+use Rattle.lb_check.specs.Scalars.{Boolean, Nil, Bad, Stream}
 use Rattle.lb_check.specs.Clocks.{declared_clock}
 use Rattle.lb_check.specs.Solutions.{fits}
 use Rattle.lb_check.proofs.ApartLists.{Every-from}
@@ -44,14 +44,11 @@ fitting_ordered inputs K N Q Q' o fit = record {
 
 pub fits_truths : (bs : List Bool) (xs : Stream) → fits Truth bs xs ≡ true → Every IsTruth xs
 fits_truths bs [] e = tt
-fits_truths [] (x ∷ xs) e = cc
-fits_truths (true ∷ bs) (None ∷ xs) e = cc
 fits_truths (false ∷ bs) (None ∷ xs) e = (tt, fits_truths bs xs e)
-fits_truths (false ∷ bs) (Some v ∷ xs) e = cc
-fits_truths (true ∷ bs) (Some (Integer z) ∷ xs) e = cc
 fits_truths (true ∷ bs) (Some (Boolean b) ∷ xs) e = (tt, fits_truths bs xs e)
 fits_truths (true ∷ bs) (Some Nil ∷ xs) e = (tt, fits_truths bs xs e)
 fits_truths (true ∷ bs) (Some Bad ∷ xs) e = (tt, fits_truths bs xs e)
+fits_truths _ _ e = cc
 
 pub absent_truths : (n : ℕ) → Every IsTruth (replicate n None)
 absent_truths zero = tt

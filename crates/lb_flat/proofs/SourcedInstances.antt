@@ -1,15 +1,12 @@
 -- In an accepted program whose rules hold, what has to be known of each instance for its copies to
 -- be definitions follows from what is known of its clocks.
-use Rattle.std.proofs.Common.{◌≡◌, ℕ, ◌<◌, ◌≤◌, Some, None, List, [], ◌++◌}
-use Rattle.std.proofs.Common.{length, refl, sym, ◌∙◌}
+use Rattle.std.proofs.Common.{◌≡◌, ℕ, ◌<◌, ◌≤◌, Some, None, List, [], ◌++◌, length, refl, sym, ◌∙◌}
 use Rattle.std.specs.Prelude.{slice_get}
 use Rattle.std.proofs.lemmas.List.{length-map}
 use Rattle.lb_syntax.specs.declared.tree.ArrayIterator.{ArrayIterator}
 use Rattle.lb_syntax.specs.Lists.{Every, In}
-use Rattle.lb_syntax.specs.Tree.{Name, Static, Node_named, Symbol, Expr, Literal, Truth, Variable}
-use Rattle.lb_syntax.specs.Tree.{Group, Unary, Binary, If, Arrow, Fby, Pre, Current, When}
-use Rattle.lb_syntax.specs.Tree.{Replicate, Index, Slice, Join, Array, AtMostOne, Nor, Call}
-use Rattle.lb_syntax.specs.Tree.{Iterate, Exprs}
+use Rattle.lb_syntax.specs.Tree.{Name, Static, Node_named, Expr, Current, When, Call, Iterate}
+use Rattle.lb_syntax.specs.Tree.{Exprs}
 use Rattle.lb_static.specs.DataTypes.{variables, width}
 use Rattle.lb_static.specs.Instances.{Program, Instance, Path, Site, call_site, callee_of}
 use Rattle.lb_static.specs.Instances.{node_sites, numbered_sites, children, instances}
@@ -104,60 +101,24 @@ module _ (P : Program) (accepted : static_refusal P ≡ None) (checked : check_r
     linkable_at :
         (k : Clock) (n : ℕ) (e : Expr) → IsSited n e → IsClockKnown k n e →
         IsLinkable Y P H same IsAt Under Left here k n e
-    linkable_at k n (Literal m) h c = tt
-    linkable_at k n (Truth b) h c = tt
-    linkable_at k n (Variable x) h c = tt
-    linkable_at k n (Group a) h c = tt
-    linkable_at k n (Unary op a) h c = tt
-    linkable_at k n (Binary op a b) h c = tt
-    linkable_at k n (If z a b) h c = tt
-    linkable_at k n (Arrow a b) h c = tt
-    linkable_at k n (Fby a b) h c = tt
-    linkable_at k n (Pre a) h c = tt
     linkable_at k n (Current a) h c = c
     linkable_at k n (When a x sign) h c = c
-    linkable_at k n (Replicate a m) h c = tt
-    linkable_at k n (Index a i) h c = tt
-    linkable_at k n (Slice a i j) h c = tt
-    linkable_at k n (Join a b) h c = tt
-    linkable_at k n (Array es) h c = tt
-    linkable_at k n (AtMostOne es) h c = tt
-    linkable_at k n (Nor es) h c = tt
     linkable_at k n (Call f statics es) h c =
         let z = h _ refl in λ callee e. (z.1 0 z.0 callee e).0
     linkable_at k n (Iterate it (Node_named f statics) m es) h c =
         let z = h _ refl in (z.0, λ i lt callee e. (z.1 i lt callee e).0)
-    linkable_at k n (Iterate it (Symbol op) m es) h c = tt
+    linkable_at k n _ h c = tt
 
   module _ (here : Instance) (variables_wide : AreVariablesWide P H here here)
       (numbered : AreNumbered Y P H same IsAt Under Left here here) where
     passed_at :
         (k : Clock) (n : ℕ) (e : Expr) → IsSited here n e → IsClockKnown here k n e →
         IsPassed Y P H same IsAt Under Left here variables_wide numbered k n e
-    passed_at k n (Literal m) h c = tt
-    passed_at k n (Truth b) h c = tt
-    passed_at k n (Variable x) h c = tt
-    passed_at k n (Group a) h c = tt
-    passed_at k n (Unary op a) h c = tt
-    passed_at k n (Binary op a b) h c = tt
-    passed_at k n (If z a b) h c = tt
-    passed_at k n (Arrow a b) h c = tt
-    passed_at k n (Fby a b) h c = tt
-    passed_at k n (Pre a) h c = tt
-    passed_at k n (Current a) h c = tt
-    passed_at k n (When a x sign) h c = tt
-    passed_at k n (Replicate a m) h c = tt
-    passed_at k n (Index a i) h c = tt
-    passed_at k n (Slice a i j) h c = tt
-    passed_at k n (Join a b) h c = tt
-    passed_at k n (Array es) h c = tt
-    passed_at k n (AtMostOne es) h c = tt
-    passed_at k n (Nor es) h c = tt
     passed_at k n (Call f statics es) h c =
         let z = h _ refl in λ callee e. (c callee e, (z.1 0 z.0 callee e).1)
     passed_at k n (Iterate it (Node_named f statics) m es) h c =
         let z = h _ refl in λ i lt callee e. (c i lt callee e, (z.1 i lt callee e).1)
-    passed_at k n (Iterate it (Symbol op) m es) h c = tt
+    passed_at k n _ h c = tt
 
   -- ## All instances
 

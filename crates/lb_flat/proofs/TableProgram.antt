@@ -54,10 +54,7 @@ pub value_named :
     (names : List Name) (s : Static) → is_no_variable names s ≡ true →
     (x : Name) × (s ≡ Named x)
 value_named names (tree.Named x) e = (x, refl)
-value_named names (tree.Whole m) e = absurd cc
-value_named names (tree.Negated s) e = absurd cc
-value_named names (tree.Combined op s t) e = absurd cc
-value_named names (tree.Grouped s) e = absurd cc
+value_named names _ e = absurd cc
 
 number_below : (m : ℕ) → is_int (pos m) ≡ true → m ≤ 2147483647
 number_below m h = grind arith
@@ -67,26 +64,7 @@ number_tested m le = grind (arith, nat_tests)
 
 scalar_small : (P : Program) (here : Instance) (e : Expr) → IsScalarAt P here e → IsSmall e
 scalar_small P here (tree.Literal m) h = number_tested m (number_below m h)
-scalar_small P here (tree.Truth b) h = tt
-scalar_small P here (tree.Variable x) h = tt
-scalar_small P here (tree.Group a) h = tt
-scalar_small P here (tree.Unary op a) h = tt
-scalar_small P here (tree.Binary op a b) h = tt
-scalar_small P here (tree.If c a b) h = tt
-scalar_small P here (tree.Arrow a b) h = tt
-scalar_small P here (tree.Fby a b) h = tt
-scalar_small P here (tree.Pre a) h = tt
-scalar_small P here (tree.Current a) h = tt
-scalar_small P here (tree.When a x sign) h = tt
-scalar_small P here (tree.Replicate a c) h = tt
-scalar_small P here (tree.Index a i) h = tt
-scalar_small P here (tree.Slice a i j) h = tt
-scalar_small P here (tree.Join a b) h = tt
-scalar_small P here (tree.Array es) h = tt
-scalar_small P here (tree.AtMostOne es) h = tt
-scalar_small P here (tree.Nor es) h = tt
-scalar_small P here (tree.Call f statics es) h = tt
-scalar_small P here (tree.Iterate it op c es) h = tt
+scalar_small P here _ h = tt
 
 -- each literal of an accepted program is an `int`
 pub literals_small :

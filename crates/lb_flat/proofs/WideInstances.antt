@@ -1,11 +1,8 @@
 -- In an accepted program whose rules hold, what each call of an instance calls is as wide as its
 -- types, in a history that has a stream for each element of a variable.
-use Rattle.std.proofs.Common.{◌≡◌, ℕ, ◌≤◌, Some, None}
-use Rattle.std.proofs.Common.{length, refl}
+use Rattle.std.proofs.Common.{◌≡◌, ℕ, ◌≤◌, Some, None, length, refl}
 use Rattle.lb_syntax.specs.Lists.{Every, In}
-use Rattle.lb_syntax.specs.Tree.{Node_named, Symbol, Expr, Literal, Truth, Variable, Group, Unary}
-use Rattle.lb_syntax.specs.Tree.{Binary, If, Arrow, Fby, Pre, Current, When, Replicate, Index}
-use Rattle.lb_syntax.specs.Tree.{Slice, Join, Array, AtMostOne, Nor, Call, Iterate}
+use Rattle.lb_syntax.specs.Tree.{Node_named, Expr, Call, Iterate}
 use Rattle.lb_static.specs.Instances.{Program, Instance, Site, node_sites, numbered_sites, children}
 use Rattle.lb_static.specs.Instances.{instances}
 use Rattle.lb_static.specs.Instantiation.{level, static_refusal}
@@ -30,28 +27,9 @@ module _ (P : Program) (H : History) (here : Instance) where
   IsSited n e = (s : Site) → own_site e ≡ Some s → OfCalled P here Wide (n, s)
 
   wide_at : (n : ℕ) (e : Expr) → IsSited n e → IsWideAt P H here n e
-  wide_at n (Literal m) h = tt
-  wide_at n (Truth b) h = tt
-  wide_at n (Variable x) h = tt
-  wide_at n (Group a) h = tt
-  wide_at n (Unary op a) h = tt
-  wide_at n (Binary op a b) h = tt
-  wide_at n (If c a b) h = tt
-  wide_at n (Arrow a b) h = tt
-  wide_at n (Fby a b) h = tt
-  wide_at n (Pre a) h = tt
-  wide_at n (Current a) h = tt
-  wide_at n (When a x sign) h = tt
-  wide_at n (Replicate a m) h = tt
-  wide_at n (Index a i) h = tt
-  wide_at n (Slice a i j) h = tt
-  wide_at n (Join a b) h = tt
-  wide_at n (Array es) h = tt
-  wide_at n (AtMostOne es) h = tt
-  wide_at n (Nor es) h = tt
   wide_at n (Call f statics es) h = let z = h _ refl in z.1 0 z.0
   wide_at n (Iterate it (Node_named f statics) m es) h = let z = h _ refl in (z.0, z.1)
-  wide_at n (Iterate it (Symbol op) m es) h = tt
+  wide_at n _ h = tt
 
 module _ (P : Program) (accepted : static_refusal P ≡ None) (H : History)
     (wide : (here : Instance) → In here (instances P) →

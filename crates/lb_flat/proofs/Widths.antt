@@ -264,22 +264,17 @@ module _ (P : Program) (H : History) (here : Instance) where
   zipped :
       (op : BinaryOperator) (n : ℕ) (xsss : List (List Stream)) →
       map length xsss ≡ n ∷ (n ∷ []) → length (symbols Map op xsss) ≡ n
-  zipped op n [] e = cc
-  zipped op n (xs ∷ []) e = cc
   zipped op n (xs ∷ (ys ∷ [])) e =
       length-both _ n xs ys (heads_same _ _ _ _ e) (heads_same _ _ _ _ (tails_same _ _ _ _ e))
-  zipped op n (xs ∷ (ys ∷ (zs ∷ xsss))) e = cc
+  zipped op n _ e = cc
 
   -- an initial value and one operand
   folded :
       (op : BinaryOperator) (n : ℕ) (xsss : List (List Stream)) →
       map length xsss ≡ 1 ∷ (n ∷ []) → length (symbols Red op xsss) ≡ 1
-  folded op n [] e = cc
-  folded op n ([] ∷ xsss) e = cc
-  folded op n ((x ∷ []) ∷ []) e = cc
   folded op n ((x ∷ []) ∷ (ys ∷ [])) e = refl
-  folded op n ((x ∷ []) ∷ (ys ∷ (zs ∷ xsss))) e = cc
   folded op n ((x ∷ (y ∷ xs)) ∷ xsss) e = absurd (omega (arith, heads_same _ _ _ _ e))
+  folded op n _ e = cc
 
   symbol_wide :
       (op : BinaryOperator) (n : ℕ) (k : DataType) → element_count k ≡ 1 → (it : ArrayIterator)

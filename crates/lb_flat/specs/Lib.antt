@@ -17,6 +17,7 @@ pub mod InOrder
 pub mod Inputs
 pub mod GivenOnce
 pub mod Correct
+pub mod CyclicPrograms
 pub mod Prefixes
 pub mod Ordering
 pub mod EmitTerms

@@ -8,6 +8,7 @@ ghost use Rattle.std.specs.Prelude.{IfErr, IfOk};
 ghost use Rattle.lb_static.specs.Instances.{Program};
 ghost use Rattle.lb_check.specs.Needs.{IsCausal};
 ghost use Rattle.lb_flat.specs.Correct.{IsCycleFound, IsExpansionOf, IsOrderOf};
+ghost use Rattle.lb_flat.specs.CyclicPrograms.{AreOfCyclic};
 ghost use Rattle.lb_flat.specs.FlatPrograms.{IsFlatOf};
 ghost use Rattle.lb_flat.specs.GivenOnce.{IsGiven};
 ghost use Rattle.lb_flat.specs.Ordering.{AreOrdered};
@@ -54,6 +55,7 @@ pub fn order(alloc: Global, flat: Flat) -> Result<Ordered, OrderError>
     ensures causal { IfOk result (λ o.
         (P : Program) → IsExpansionOf P (program_of flat.program) → IsCausal P) }
     ensures cycle { IfErr result (IsCycleFound (program_of flat.program)) }
+    ensures cyclic { IfErr result (AreOfCyclic (program_of flat.program)) }
 {
     let equations = ordered_equations(alloc, &flat.program)?;
     let mut program = flat.program;

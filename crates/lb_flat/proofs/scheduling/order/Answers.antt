@@ -1,11 +1,16 @@
 -- Equations that are scheduled are those of the program in order.
 use Rattle.std.proofs.Common.{List, refl}
 use Rattle.std.proofs.lemmas.Result.{err_from_is_err_and}
-use Rattle.lb_flat.specs.Correct.{IsOrderOf}
+use Rattle.lb_flat.specs.Correct.{IsCycleFound, IsOrderOf}
+use Rattle.lb_flat.specs.CyclicPrograms.{AreOfCyclic}
+use Rattle.lb_flat.specs.Judging as judging
 use Rattle.lb_flat.specs.Ordering.{AreOrdered}
-use Rattle.lb_flat.specs.Programs.{flat_equations, program_of}
+use Rattle.lb_flat.specs.Programs.{flat_equations, numbers_of, program_of}
 use Rattle.lb_flat.specs.declared.equation.Equation.{Equation}
+use Rattle.lb_flat.specs.declared.error.OrderError.{OrderError}
+use Rattle.lb_flat.specs.declared.error.OrderError.TheVariants.{Memory, Cycle}
 use Rattle.lb_flat.specs.declared.program.FlatProgram.{FlatProgram}
+use Rattle.lb_flat.proofs.Certificates.{cyclic_of}
 use Rattle.lb_flat.proofs.ExpansionReads.{expansion_causal}
 use Rattle.lb_flat.proofs.InOrder.{ready_of}
 use Rattle.lb_flat.proofs.RightVerdicts.{stands_in_order}
@@ -53,6 +58,18 @@ pub returns-clause-order : goal.returns-clause-order
 returns-clause-order c =
     is_order c.args.flat.program c.in_ok-equations.equations.items
     c.in_ok-equations.ensures.order
+
+-- a cycle that is found is one of each program that the equations are of
+of_cyclic : (f : judging.FlatProgram) (e : OrderError) → IsCycleFound f e → AreOfCyclic f e
+of_cyclic f Memory found = tt
+of_cyclic f (Cycle c) found =
+    λ P expansion.
+    cyclic_of P (numbers_of c.value.elements.items) (found.1 P expansion)
+
+pub returns-in_err-equations-clause-cyclic : goal.returns-in_err-equations-clause-cyclic
+returns-in_err-equations-clause-cyclic c =
+    let p = err_from_is_err_and c.from_residual.result c.from_residual.ensures.1 in
+    rw (p.1, p.2) (of_cyclic _ _ c.in_err-equations.ensures.cycle)
 
 pub returns-in_err-equations-clause-cycle : goal.returns-in_err-equations-clause-cycle
 returns-in_err-equations-clause-cycle c =
