@@ -1,15 +1,15 @@
 -- Where a text can be cut, by some bytes of it.
 use Rattle.std.proofs.Common.{◌≡◌, ◌≢◌, ◌∙◌, ℕ, zero, suc, ◌+◌, ◌-◌, ◌<◌, ◌≤◌, Bool, true, false}
-use Rattle.std.proofs.Common.{List, [], ◌∷◌, ◌++◌, length, get_or, drop, Option, None, Some, ◌⊎◌, inl}
-use Rattle.std.proofs.Common.{inr, refl, sym, ap, subst, append_assoc, arith, not}
+use Rattle.std.proofs.Common.{List, [], ◌++◌, length, get_or, drop, Option, None, Some, ◌⊎◌, inl}
+use Rattle.std.proofs.Common.{inr, refl, sym, ap, subst, arith, not}
 use Rattle.std.proofs.lemmas.Bool.{cases_lt}
 use Rattle.std.proofs.lemmas.List.{drop-append-le, get_or-append-add, get_or_append_left}
 use Rattle.std.proofs.lemmas.List.{length-append}
 use Rattle.std.proofs.Math.Seq.{drop-append-add}
-use Rattle.lb_part.specs.Cuts.{Begins, IsBefore, IsBreak, IsCut, StartsTrace, at_line, ends_line}
+use Rattle.lb_part.specs.Cuts.{Begins, IsBefore, IsBreak, StartsTrace, at_line, ends_line}
 use Rattle.lb_part.specs.Cuts.{name_of}
 use Rattle.lb_part.specs.Cuts.IsBreak.{first as at_first, last as at_last, trace as at_trace}
-use Rattle.lb_part.specs.Windows.{AllGoOn, BeginsIn, Follows, GoesOn, HasName, HasOtherName}
+use Rattle.lb_part.specs.Windows.{AllGoOn, BeginsIn, GoesOn, HasName}
 use Rattle.lb_part.specs.Windows.{IsBeforeIn, IsCutBy, IsLastIn, IsOver, Stands, line_in}
 
 -- ## Bytes in a text

@@ -1,5 +1,5 @@
 -- A text is cut at its slash.
-use Rattle.std.proofs.Common.{◌≡◌, ◌≢◌, ℕ, ◌<◌, ◌≤◌, List, ◌∷◌, ◌++◌, Option, Some, None, length, get_or}
+use Rattle.std.proofs.Common.{◌≡◌, ◌≢◌, ℕ, ◌<◌, List, Option, Some, None, length, get_or}
 use Rattle.std.proofs.Common.{arith}
 use Rattle.std.specs.Prelude.{IfNone}
 use Rattle.std.specs.Option.{MatchOption}
@@ -32,12 +32,14 @@ none_if (Some x) P p = tt
 pub halves_none : (text : List ℕ) (r : Option (Bor (List ℕ) × Bor (List ℕ))) (part : Part)
     → IsSplitOnceResult 47 text r → r ≡ None → Names text part → ⊥
 halves_none text r part cut none is =
-    let Q : Bor (List ℕ) × Bor (List ℕ) → Type 0 = λ x. (x.0.now ≡ is.front) × (x.1.now ≡ is.rest) in
+    let Q : Bor (List ℕ) × Bor (List ℕ) → Type 0 =
+    λ x. (x.0.now ≡ is.front) × (x.1.now ≡ is.rest) in
     MatchOption-at_none {o = r} ⊥ Q none (halves text r part cut is)
 
 pub halves_some : (text : List ℕ) (r : Option (Bor (List ℕ) × Bor (List ℕ))) (part : Part)
     (x : Bor (List ℕ) × Bor (List ℕ)) → IsSplitOnceResult 47 text r → r ≡ Some x
     → (is : Names text part) → (x.0.now ≡ is.front) × (x.1.now ≡ is.rest)
 halves_some text r part x cut some is =
-    let Q : Bor (List ℕ) × Bor (List ℕ) → Type 0 = λ y. (y.0.now ≡ is.front) × (y.1.now ≡ is.rest) in
+    let Q : Bor (List ℕ) × Bor (List ℕ) → Type 0 =
+    λ y. (y.0.now ≡ is.front) × (y.1.now ≡ is.rest) in
     MatchOption-at_some {o = r} ⊥ Q x some (halves text r part cut is)

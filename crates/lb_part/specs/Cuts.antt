@@ -1,7 +1,7 @@
 -- Where traces begin in the records of a text without quotes.
 -- Source: this project's rule.
 use Rattle.std.specs.Prelude.{◌≡◌, ◌≢◌, ℕ, zero, suc, ◌<◌, ◌≤◌, Bool, true, false, ◌==◌, ◌||◌}
-use Rattle.std.specs.Prelude.{if◌then◌else◌, List, [], ◌∷◌, drop, get_or, length, ◌⊎◌}
+use Rattle.std.specs.Prelude.{if◌then◌else◌, List, [], ◌∷◌, drop, get_or, length}
 
 -- a carriage return or a line feed
 abbrev pub ends_line : ℕ → Bool

@@ -30,4 +30,5 @@ pub record IsPartOf (all : List ℕ) (part : Part) (bytes : List ℕ) : Type 0 w
       (reach (part.number - 1) part.count (length all) - head_of all) from
   pub end : IsCut (drop (head_of all) all)
       (reach part.number part.count (length all) - head_of all) to
-  pub whole : bytes ≡ take (head_of all) all ++ take (to - from) (drop from (drop (head_of all) all))
+  pub whole : bytes
+      ≡ take (head_of all) all ++ take (to - from) (drop from (drop (head_of all) all))

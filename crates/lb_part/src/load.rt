@@ -6,8 +6,8 @@
 //! part    head                   | c,7 | c,3 |
 //! ```
 //!
-//! Where the range begins and where it ends, the text is read about the place, until it tells where a
-//! trace begins.
+//! Where the range begins and where it ends, the text is read about the place, until it tells where
+//! a trace begins.
 
 ghost use Rattle.std.specs.Prelude.{◌≡◌, ◌≤◌, ◌+◌, ◌-◌, ℕ, List, false, drop, length, take};
 ghost use Rattle.std.specs.Prelude.{true, IfErr, IfOk, IsErrOf, OnOk, vec_len};

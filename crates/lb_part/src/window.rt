@@ -18,8 +18,8 @@ fn ends_cell(b: u8) -> bool
     b == b',' || ends_line(b)
 }
 
-/// The first cell of a text, of which the last bytes may be known; None where more bytes may be part
-/// of the cell.
+/// The first cell of a text, which may be told to be the last bytes; None where more bytes may be
+/// part of the cell.
 fn name_of(text: &[u8], is_last: bool) -> Option<&[u8]>
     ensures { IfSome result (λ name. (more : List ℕ) → Follows is_last more
         → name_of (text.now ++ more) ≡ name.now) }

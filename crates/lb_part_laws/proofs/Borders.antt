@@ -1,8 +1,9 @@
 -- No line and no trace goes on where a trace begins.
-use Rattle.std.proofs.Common.{◌≡◌, ◌≢◌, ◌∙◌, ℕ, zero, suc, ◌+◌, ◌-◌, ◌<◌, ◌≤◌, true, false, List, []}
+use Rattle.std.proofs.Common.{◌≡◌, ◌∙◌, ℕ, zero, suc, ◌+◌, ◌<◌, ◌≤◌, true, false, List, []}
 use Rattle.std.proofs.Common.{◌∷◌, ◌++◌, length, get_or, drop, refl, sym, ap, subst, append_assoc}
-use Rattle.std.proofs.Common.{arith, ◌⊎◌, inl, inr}
-use Rattle.std.proofs.lemmas.List.{append-nil, drop-append-le, drop_all, get_or-append-add, get_or_at, length-append}
+use Rattle.std.proofs.Common.{arith, inl}
+use Rattle.std.proofs.lemmas.List.{append-nil, drop-append-le, drop_all, get_or-append-add}
+use Rattle.std.proofs.lemmas.List.{get_or_at, length-append}
 use Rattle.std.proofs.lemmas.List.{nil_from_length}
 use Rattle.lb_trace.specs.Lines.{after_line, record_of}
 use Rattle.lb_trace.specs.Plain.{ends_line, plain_records}
@@ -12,7 +13,7 @@ use Rattle.lb_trace.proofs.Lines.{plain-line, plain-none}
 use Rattle.lb_part.specs.Cuts.{Begins, IsBefore, IsBreak, StartsTrace, at_line, name_of}
 use Rattle.lb_part.specs.Cuts.IsBreak.{first as at_first, last as at_last, trace as at_trace}
 use Rattle.lb_part.specs.Windows.{BeginsIn, line_in}
-use Rattle.lb_part.proofs.FoundCuts.{Within, begins-in, byte-at, line-later, long-text, name-at}
+use Rattle.lb_part.proofs.FoundCuts.{begins-in, byte-at, line-later, long-text, name-at}
 use Rattle.lb_part.proofs.FoundCuts.{text_of, within}
 use Rattle.lb_part_laws.specs.Stretches.{AreApart, IsBorder, name_in}
 use Rattle.lb_part_laws.proofs.RecordPlaces.{LastRecord, last-record, name-cell, name-closed}

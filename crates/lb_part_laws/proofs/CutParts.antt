@@ -1,25 +1,26 @@
 -- The parts of a text stand one behind the other.
-use Rattle.std.proofs.Common.{◌≡◌, ◌∙◌, ℕ, suc, ◌+◌, ◌-◌, ◌*◌, ◌/◌, ◌<◌, ◌≤◌, false, ◌||◌, List, [], ◌∷◌}
-use Rattle.std.proofs.Common.{◌++◌, length, map, take, drop, refl, sym, ap, subst, arith, ◌⊎◌, inl, inr}
+use Rattle.std.proofs.Common.{◌≡◌, ◌∙◌, ℕ, suc, ◌+◌, ◌-◌, ◌*◌, ◌/◌, ◌<◌, ◌≤◌, false, ◌||◌, List, []}
+use Rattle.std.proofs.Common.{◌∷◌}
+use Rattle.std.proofs.Common.{◌++◌, length, map, take, drop, refl, sym, ap, subst, arith, ◌⊎◌, inl}
+use Rattle.std.proofs.Common.{inr}
 use Rattle.std.specs.List.{All}
 use Rattle.std.proofs.lemmas.Bool.{cases_lt}
-use Rattle.std.proofs.lemmas.List.{drop-drop, drop_all, length-drop, length-take-le, take-append-drop}
-use Rattle.std.proofs.lemmas.List.{length-append}
+use Rattle.std.proofs.lemmas.List.{drop-drop, drop_all, length-drop, length-take-le}
+use Rattle.std.proofs.lemmas.List.{take-append-drop}
 use Rattle.std.proofs.lemmas.List.Folds.{list_any-append}
-use Rattle.std.proofs.Math.Nat.{div-le_of_le-mul, mul-div-le, mul-div_cancel, mul-le-mul_left, mul-zero}
+use Rattle.std.proofs.Math.Nat.{mul-div-le, mul-div_cancel, mul-le-mul_left, mul-zero}
 use Rattle.std.proofs.Math.Nat.{zero-div}
 use Rattle.std.proofs.lemmas.Nat.{le-div}
 use Rattle.lb_trace.specs.Plain.{has_quote, is_quote}
 use Rattle.lb_part.specs.Counts.{reach}
-use Rattle.lb_part.specs.Cuts.{Begins, IsBreak, IsCut}
+use Rattle.lb_part.specs.Cuts.{IsBreak, IsCut}
 use Rattle.lb_part.specs.Cuts.IsBreak.{first as at_first, last as at_last, trace as at_trace}
 use Rattle.lb_part.specs.Heads.{head_of}
-use Rattle.lb_part.specs.Parts.{IsPartOf}
 use Rattle.lb_part.proofs.FoundCuts.{text_of}
 use Rattle.lb_part_laws.specs.PartTexts.{AreLastParts}
 use Rattle.lb_part_laws.specs.Stretches.{AreStretches, IsBorder}
 use Rattle.lb_part_laws.proofs.Borders.{border}
-use Rattle.lb_part_laws.proofs.SpelledStretches.{or_left, or_none, or_right}
+use Rattle.lb_part_laws.proofs.SpelledStretches.{or_none, or_right}
 
 -- ## Places
 

@@ -1,11 +1,11 @@
 -- Reports on parts are merged to the report on all.
-use Rattle.std.proofs.Common.{◌≡◌, ◌∙◌, ℕ, ◌+◌, ◌-◌, ◌<◌, ◌≤◌, List, [], ◌∷◌, ◌++◌, length, get_or, map}
+use Rattle.std.proofs.Common.{◌≡◌, ◌∙◌, ℕ, ◌+◌, ◌<◌, List, [], ◌∷◌, ◌++◌, length, get_or, map}
 use Rattle.std.proofs.Common.{take, drop, refl, sym, ap, ap₂, subst, arith}
 use Rattle.std.specs.Prelude.{flat_map}
 use Rattle.std.specs.List.{AllZip}
 use Rattle.std.proofs.lemmas.List.{ext_get_or, get_or-append-add, get_or-drop, get_or-take}
 use Rattle.std.proofs.lemmas.List.{get_or_append_left, length-append, length-drop, length-map}
-use Rattle.std.proofs.lemmas.List.{length-take-le, map-append, nil_from_length, take-append-drop}
+use Rattle.std.proofs.lemmas.List.{length-take-le, map-append, take-append-drop}
 use Rattle.lb_syntax.specs.Tokens.{Text}
 use Rattle.lb_syntax.specs.Tree as tree
 use Rattle.lb_syntax.specs.Correct.{IsOnlyProgram}

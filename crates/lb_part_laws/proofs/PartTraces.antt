@@ -1,16 +1,17 @@
 -- The parts of a text spell what the text spells.
-use Rattle.std.proofs.Common.{◌≡◌, ◌∙◌, ℕ, suc, ◌+◌, ◌-◌, ◌≤◌, Bool, true, false, ◌||◌, List, [], ◌∷◌}
-use Rattle.std.proofs.Common.{◌++◌, length, map, take, drop, Option, None, Some, refl, sym, ap, subst}
+use Rattle.std.proofs.Common.{◌≡◌, ◌∙◌, ℕ, ◌+◌, ◌-◌, false, ◌||◌, List, [], ◌∷◌}
+use Rattle.std.proofs.Common.{◌++◌, length, map, take, drop, Option, None, Some, refl, sym, ap}
+use Rattle.std.proofs.Common.{subst}
 use Rattle.std.proofs.Common.{arith}
 use Rattle.std.specs.Prelude.{flat_map, unwrap_or}
-use Rattle.std.specs.List.{All, AllZip}
+use Rattle.std.specs.List.{AllZip}
 use Rattle.std.proofs.lemmas.List.{append-nil, drop_all, take-append-drop, take_all}
 use Rattle.std.proofs.lemmas.List.Folds.{list_any-append}
 use Rattle.csv.specs.Reading.{strip_bom}
 use Rattle.lb_static.specs.Signature.{Elements}
 use Rattle.lb_traces.specs.Traces.{Traces}
 use Rattle.lb_trace.specs.Plain.{has_quote, is_quote, plain_records}
-use Rattle.lb_trace.specs.Spelling.{Record, SpelledBy, Spells, after_first, instants, records_of}
+use Rattle.lb_trace.specs.Spelling.{SpelledBy, Spells, after_first, instants, records_of}
 use Rattle.lb_trace.proofs.PlainRecords.{plain_text}
 use Rattle.lb_part.specs.Counts.{reach}
 use Rattle.lb_part.specs.Cuts.{IsCut}
@@ -125,7 +126,8 @@ each-alone elements head body (s ∷ more) none are spells =
       each-alone elements head are.0 more (empty-right s are.0 both) are.3 spells,
     )
 
-none-together : (stretches : List (List ℕ)) → [] ≡ flat_map (λ those. those) (map no-traces stretches)
+none-together : (stretches : List (List ℕ))
+    → [] ≡ flat_map (λ those. those) (map no-traces stretches)
 unfolding no-traces
 none-together [] = refl
 none-together (s ∷ more) = none-together more

@@ -1,10 +1,9 @@
 -- A report on recorded traces lists their names and verdicts.
-use Rattle.std.proofs.Common.{◌≡◌, ◌≢◌, ◌∙◌, ℕ, ◌<◌, ◌≤◌, zero, suc, List, [], ◌∷◌, ◌++◌, length}
-use Rattle.std.proofs.Common.{get_or, map, refl, sym, ap, ap₂, subst, arith}
+use Rattle.std.proofs.Common.{◌≡◌, ◌≢◌, ◌∙◌, ℕ, ◌<◌, ◌≤◌, suc, List, [], ◌∷◌, ◌++◌, length}
+use Rattle.std.proofs.Common.{get_or, refl, sym, ap, ap₂, subst, arith}
 use Rattle.std.specs.List.{All, AllPairs}
 use Rattle.std.proofs.lemmas.List.{get_or-map, length-map}
 use Rattle.std.proofs.lemmas.List.Elements.{All-cons}
-use Rattle.lb_check.specs.Solutions.{Inputs}
 use Rattle.lb_check.specs.Verdicts.{Ends}
 use Rattle.lb_check.specs.declared.verdict.Verdict.{Verdict}
 use Rattle.lb_check.specs.declared.verdict.Verdict.TheVariants.{Passed, Fault, Undefined, Assertion}
@@ -17,7 +16,7 @@ use Rattle.lb_traces.specs.Traces.{trace_at, trace_names}
 use Rattle.lb_pool.specs.Reports.{IsReport, report_of}
 use Rattle.lb_pool.specs.declared.text.Report.{Report}
 use Rattle.lb_report.specs.Bench.{AreVerdicts}
-use Rattle.lb_listing.specs.Listings.{HasInstant, IsLine, IsListing, Line, Lists, names_of, report}
+use Rattle.lb_listing.specs.Listings.{HasInstant, IsLine, Line, Lists, names_of}
 use Rattle.lb_listing.specs.Listings.{verdicts_of}
 
 -- names and verdicts side by side

@@ -1,14 +1,14 @@
 -- Stretches of a text spell what the text spells.
-use Rattle.std.proofs.Common.{◌≡◌, ◌∙◌, ℕ, ◌+◌, ◌<◌, ◌≤◌, Bool, true, false, ◌||◌, if◌then◌else◌}
-use Rattle.std.proofs.Common.{List, [], ◌∷◌, ◌++◌, length, refl, sym, ap, subst, append_assoc, arith}
-use Rattle.std.specs.Prelude.{flat_map}
-use Rattle.std.specs.List.{All, AllZip, list_any}
+use Rattle.std.proofs.Common.{◌≡◌, ◌∙◌, ℕ, ◌<◌, ◌≤◌, Bool, true, false, ◌||◌, if◌then◌else◌}
+use Rattle.std.proofs.Common.{List, [], ◌∷◌, ◌++◌, length, refl, sym, ap, subst, append_assoc}
+use Rattle.std.proofs.Common.{arith}
+use Rattle.std.specs.List.{All, AllZip}
 use Rattle.std.proofs.lemmas.List.{length-append}
 use Rattle.std.proofs.lemmas.List.Folds.{list_any-append}
 use Rattle.csv.specs.Reading.{is_bom, strip_bom}
 use Rattle.lb_static.specs.Signature.{Elements}
-use Rattle.lb_traces.specs.Traces.{IsRecording, IsTrace, Row, Trace, Traces}
-use Rattle.lb_trace.specs.Plain.{ends_line, has_quote, is_quote, plain_records}
+use Rattle.lb_traces.specs.Traces.{IsRecording, IsTrace, Row, Traces}
+use Rattle.lb_trace.specs.Plain.{has_quote, is_quote, plain_records}
 use Rattle.lb_trace.specs.Spelling.{Instant, Record, SpelledBy, Spells, SpellsInstant, after_first}
 use Rattle.lb_trace.specs.Spelling.{instants, records_of}
 use Rattle.lb_trace.proofs.CutTexts.{plain-cut}

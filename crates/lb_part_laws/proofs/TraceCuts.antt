@@ -1,12 +1,11 @@
 -- Traces are cut where the name changes from one record to the next.
-use Rattle.std.proofs.Common.{◌≡◌, ◌≢◌, ◌∙◌, ℕ, ◌+◌, ◌*◌, ◌<◌, ◌≤◌, List, [], ◌∷◌, ◌++◌, length}
-use Rattle.std.proofs.Common.{get_or, map, refl, sym, ap, subst, append_assoc, arith, suc}
-use Rattle.std.specs.Prelude.{flat_map}
-use Rattle.std.specs.List.{All, AllPairs, AllZip, sum_by}
+use Rattle.std.proofs.Common.{◌≡◌, ◌≢◌, ◌∙◌, ℕ, ◌+◌, ◌*◌, ◌≤◌, List, [], ◌∷◌, ◌++◌, length}
+use Rattle.std.proofs.Common.{get_or, map, refl, sym, ap, subst, append_assoc, arith}
+use Rattle.std.specs.List.{All, AllPairs, AllZip}
 use Rattle.std.proofs.lemmas.List.{get_or-append-add, get_or_append_left, length-append, map-append}
 use Rattle.std.proofs.lemmas.List.Sums.{sum_by-append}
 use Rattle.lb_static.specs.Signature.{Elements}
-use Rattle.lb_traces.specs.Traces.{IsRecording, IsTrace, Recording, Row, Trace, Traces}
+use Rattle.lb_traces.specs.Traces.{IsRecording, IsTrace, Row, Trace, Traces}
 use Rattle.lb_traces.specs.Traces.{cells_of_instant, instants_of, trace_names}
 use Rattle.lb_trace.specs.Spelling.{Instant, Record, SpellsInstant, instants}
 use Rattle.lb_part_laws.specs.Stretches.{AreApart, name_in}

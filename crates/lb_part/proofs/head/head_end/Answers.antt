@@ -1,7 +1,7 @@
 use Rattle.std.proofs.Common.{◌∙◌, ap, sym, ◌+◌, ◌-◌, length}
 use Rattle.lb_part.specs.Heads.{record_end}
 use Rattle.std.proofs.Common.{false}
-use Rattle.lb_part.proofs.FirstRecords.{head-found, head-none}
+use Rattle.lb_part.proofs.FirstRecords.{head-found}
 use Rattle.lb_part.proofs.head.head_end.Goals as goal
 
 pub returns-in-Some-clause-head : goal.returns-in-Some-clause-head

@@ -1,7 +1,8 @@
-use Rattle.std.proofs.Common.{◌≡◌, ◌∙◌, ap, arith, false, refl, sym, true, ◌&&◌}
+use Rattle.std.proofs.Common.{◌∙◌, ap, refl, sym, ◌&&◌}
 use Rattle.lb_part.proofs.FirstRecords.{end-found, end-more, end-none, end-start}
 use Rattle.lb_part.proofs.head.record_end.Goals as goal
-use Rattle.lb_part.proofs.head.record_end.Goals.{else-ends-via-then-ends+else-begun, else-ends-via-else-ends}
+use Rattle.lb_part.proofs.head.record_end.Goals.{else-ends-via-then-ends+else-begun}
+use Rattle.lb_part.proofs.head.record_end.Goals.{else-ends-via-else-ends}
 
 pub loop-i-init : goal.loop-i-init
 loop-i-init c = end-start c.args.text.now

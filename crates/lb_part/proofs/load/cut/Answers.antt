@@ -1,4 +1,4 @@
-use Rattle.std.proofs.Common.{◌≡◌, ◌∙◌, ◌-◌, ◌≤◌, List, ℕ, arith, length, subst, sym}
+use Rattle.std.proofs.Common.{◌∙◌, List, ℕ, arith, subst, sym}
 use Rattle.lb_part.specs.Ranges.{HasRange}
 use Rattle.lb_part.proofs.LoadedParts.{cut-loaded}
 use Rattle.lb_part.proofs.load.cut.Goals as goal
@@ -10,5 +10,5 @@ returns-in-Some-clause-cut g c =
     c.args.size c.in-Some.cut
     (subst (λ (w : List ℕ). HasRange all c.max-from.result w) (sym c.as_slice.ensures.value)
     (c.in_ok-bytes.ensures.range all known))
-    (c.requires.size all known) (c.as_slice.ensures.len ∙ c.in_ok-bytes.ensures.length) (omega arith)
-    (omega arith) (omega arith) c.in-Some.ensures
+    (c.requires.size all known) (c.as_slice.ensures.len ∙ c.in_ok-bytes.ensures.length)
+    (omega arith) (omega arith) (omega arith) c.in-Some.ensures

@@ -1,4 +1,4 @@
-use Rattle.std.proofs.Common.{◌≡◌, ◌∙◌, ◌+◌, ◌-◌, ◌≤◌, ◌++◌, length, arith, sym, ap, take}
+use Rattle.std.proofs.Common.{◌≡◌, ◌∙◌, ◌+◌, ◌-◌, ◌++◌, length, arith, sym, ap, take}
 use Rattle.std.specs.Prelude.{replicate, vec_len}
 use Rattle.std.proofs.lemmas.List.{length-drop, take_rest}
 use Rattle.lb_part.proofs.ReadRanges.{before-room, room-filled}
@@ -9,7 +9,8 @@ returns-clause-range g c =
     λ all known.
     let long : length c.args.bytes.now.items ≡ vec_len c.args.bytes.now =
     omega (arith, c.args.bytes.now.ok.0) in
-    let filled : c.len-filled.result ≡ vec_len c.args.bytes.now = omega (arith, c.len-filled.ensures) in
+    let filled : c.len-filled.result ≡ vec_len c.args.bytes.now =
+    omega (arith, c.len-filled.ensures) in
     let many : c.saturating_sub.result ≡ c.args.to - c.args.from =
     omega (arith, c.saturating_sub.ensures) in
     let whole : length c.deref_mut.result.now ≡ c.len-filled.result + c.saturating_sub.result =

@@ -1,4 +1,4 @@
-use Rattle.std.proofs.Common.{◌≡◌, length}
+use Rattle.std.proofs.Common.{length}
 use Rattle.lb_part.proofs.ReadRanges.{range-copied}
 use Rattle.lb_part.proofs.range.TextRangesRanges.read.Goals as goal
 

@@ -1,4 +1,5 @@
-use Rattle.std.proofs.Common.{◌≡◌, ◌∙◌, ◌+◌, ℕ, Option, arith, length, refl, sym, subst, true, false}
+use Rattle.std.proofs.Common.{◌≡◌, ◌∙◌, ◌+◌, ℕ, Option, arith, length, refl, sym, subst, true}
+use Rattle.std.proofs.Common.{false}
 use Rattle.lb_part.specs.Windows.{AllGoOn, BeginsIn, IsLastIn}
 use Rattle.lb_part.proofs.FoundCuts.{cut-found, cut-last, gone-here, gone-kept, last-here}
 use Rattle.lb_part.proofs.FoundCuts.{last-kept, line-next, no-line, no-record}
@@ -17,7 +18,9 @@ returns-then-branch c =
           c.if-begins.has_record w.ends_line.result c.loop-i.invariant.line c.loop-i-test.true
           w.ends_line.ensures w.if-begins.true w.has_record-is c.if-has_record.true
       | else-begins w ↦
-          let e : false ≡ true = sym w.if-begins.false ∙ sym w.has_record-is ∙ c.if-has_record.true in cc e
+          let e : false ≡ true =
+          sym w.if-begins.false ∙ sym w.has_record-is ∙ c.if-has_record.true in
+          cc e
     ] in
     cut-found c.args.self.is_first c.args.self.is_last c.args.self.bytes.now c.loop-i.last
     c.args.from c.loop-i.i (omega arith) over.0 begins c.loop-i.invariant.last over.1
@@ -58,7 +61,8 @@ loop-i-preserved c = record {
               record-begins c.args.self.is_first c.args.self.bytes.now c.loop-i.i c.loop-i.begins
               c.if-begins.has_record w.ends_line.result c.loop-i.invariant.line
               c.loop-i-test.true w.ends_line.ensures w.if-begins.true w.has_record-is found
-          | else-begins w ↦ let e : false ≡ true = sym w.if-begins.false ∙ sym w.has_record-is ∙ found in cc e
+          | else-begins w ↦
+              let e : false ≡ true = sym w.if-begins.false ∙ sym w.has_record-is ∙ found in cc e
         ]
 
     none : c.if-begins.has_record ≡ false
