@@ -130,7 +130,8 @@ where
     }
 }
 
-/// The same of a task whose terms name an earlier report, which is this text.
+/// Runs a task that merges reports, and compares the merged report with an earlier one.
+/// `earlier` is the text of that one. The answer is the exit status.
 fn run_compared<R, W, E>(
     rt: &R,
     words: &[String],

@@ -215,7 +215,8 @@ where
     }
 }
 
-/// The same of a task whose terms name an earlier report, which is this text.
+/// Runs a task whose report is written at once, and compares it with an earlier report.
+/// `earlier` is the text of that report. The answer is the exit status.
 fn run_compared<R, F, W, E>(
     rt: &R,
     words: &[String],

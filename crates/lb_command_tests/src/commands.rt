@@ -379,7 +379,8 @@ g false 2
 total 7 passed 4 fault 0 undefined 0 assertion 0 false 3
 ";
 
-/// Whether the reports on so many parts of a file of traces are merged to the report on all.
+/// Whether a file of traces, judged in a number of parts, gives reports that are merged to the
+/// report on all.
 fn is_merged<R: Runtime + AllocGlobal + Threads + Wait + Sync>(
     rt: &R,
     folder: &str,
