@@ -31,7 +31,7 @@ abbrev pub bodies_of : List (List ℕ) → List (List ℕ)
 bodies_of [] = []
 bodies_of (text ∷ more) = strip_bom text ∷ more
 
-ended-some : (text : List ℕ) → is_ended text ≡ true → 0 < length text
+pub ended-some : (text : List ℕ) → is_ended text ≡ true → 0 < length text
 ended-some [] e = cc e
 ended-some (b ∷ rest) e = omega arith
 
@@ -48,7 +48,7 @@ ended-last text e =
     (drop_all (length text - 1 + 1) text (omega arith)))
 
 -- the records of what ends with a line, and of what follows it
-plain-after : (text rest : List ℕ) → is_ended text ≡ true
+pub plain-after : (text rest : List ℕ) → is_ended text ≡ true
     → plain_records (text ++ rest) ≡ plain_records text ++ plain_records rest
 plain-after text rest e =
     let before : List ℕ = take (length text - 1) text in
@@ -79,7 +79,7 @@ joined-quotes (text ∷ more) =
     ∙ ap (λ q. has_quote text || q) (joined-quotes more)
 
 -- the byte order mark stands in the first text
-strip-first : (text rest : List ℕ) → 2 < length text
+pub strip-first : (text rest : List ℕ) → 2 < length text
     → strip_bom (text ++ rest) ≡ strip_bom text ++ rest
 unfolding strip_bom
 strip-first [] rest long = absurd (omega (arith, long))
@@ -93,7 +93,7 @@ strip-first (a ∷ b ∷ c ∷ more) rest long = by (is_bom a b c) refl
     by false is = rw is refl
 
 -- what stands after the mark ends as the text does
-strip-ended : (text : List ℕ) → 2 < length text → is_ended text ≡ true
+pub strip-ended : (text : List ℕ) → 2 < length text → is_ended text ≡ true
     → is_ended (strip_bom text) ≡ true
 unfolding strip_bom
 strip-ended [] long e = absurd (omega (arith, long))

@@ -33,3 +33,11 @@ pub mod TruthRows
 pub mod Nexts
 pub mod FoundNumbers
 pub mod LoadedChunks
+pub mod RoundReadings
+pub mod Rolls
+pub mod PlainPrefixes
+pub mod TextReadings
+pub mod RollSteps
+pub mod RollJoins
+pub mod RollRefusals
+pub mod FrontLines

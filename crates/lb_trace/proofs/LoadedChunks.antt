@@ -1,5 +1,5 @@
 -- What is read of chunks, one after the other, is what their text spells.
-use Rattle.std.proofs.Common.{ℕ, zero, suc, ◌≡◌, ◌+◌, ◌*◌, ◌-◌, ◌<◌, ◌≤◌, ◌||◌, true, false}
+use Rattle.std.proofs.Common.{ℕ, zero, suc, ◌≡◌, ◌+◌, ◌*◌, ◌<◌, ◌≤◌, ◌||◌, true, false}
 use Rattle.std.proofs.Common.{List, [], ◌∷◌, ◌++◌, length, refl, sym, ap, ◌∙◌, arith, map}
 use Rattle.std.proofs.Common.{append-nil, append_assoc, length-append, subst, Option, Ok}
 use Rattle.std.specs.Prelude.{Vec, IfSome, flat_map}

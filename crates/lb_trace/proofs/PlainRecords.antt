@@ -22,43 +22,43 @@ use Rattle.lb_trace.proofs.Lines.{comma-inside, after-more, after-short, no-quot
 use Rattle.lb_trace.proofs.Lines.{plain-line, plain-none, plain-skip}
 
 -- the states between records, and those in a line
-fresh : Bool → State
+unfoldable pub fresh : Bool → State
 fresh true = st.StartRecord
 fresh false = st.AfterCr
 
-inside : Bool → State
+unfoldable pub inside : Bool → State
 inside true = st.InField
 inside false = st.StartField
 
 -- one byte, by the action that it has
-next-end : (s s2 : State) (fields : List (List ℕ)) (field : List ℕ) (c : ℕ) (rest : List ℕ)
+pub next-end : (s s2 : State) (fields : List (List ℕ)) (field : List ℕ) (c : ℕ) (rest : List ℕ)
     → step default_config s c ≡ (s2, act.EndRecord)
     → next_record default_config s fields field (c ∷ rest) ≡ Some (fields ++ field ∷ [], s2, rest)
 unfolding next_record
 next-end s s2 fields field c rest e = rw e refl
 
-next-cell : (s s2 : State) (fields : List (List ℕ)) (field : List ℕ) (c : ℕ) (rest : List ℕ)
+pub next-cell : (s s2 : State) (fields : List (List ℕ)) (field : List ℕ) (c : ℕ) (rest : List ℕ)
     → step default_config s c ≡ (s2, act.EndField)
     → next_record default_config s fields field (c ∷ rest)
     ≡ next_record default_config s2 (fields ++ field ∷ []) [] rest
 unfolding next_record
 next-cell s s2 fields field c rest e = rw e refl
 
-next-copy : (s s2 : State) (fields : List (List ℕ)) (field : List ℕ) (c : ℕ) (rest : List ℕ)
+pub next-copy : (s s2 : State) (fields : List (List ℕ)) (field : List ℕ) (c : ℕ) (rest : List ℕ)
     → step default_config s c ≡ (s2, act.Copy)
     → next_record default_config s fields field (c ∷ rest)
     ≡ next_record default_config s2 fields (field ++ c ∷ []) rest
 unfolding next_record
 next-copy s s2 fields field c rest e = rw e refl
 
-next-skip : (s s2 : State) (fields : List (List ℕ)) (field : List ℕ) (c : ℕ) (rest : List ℕ)
+pub next-skip : (s s2 : State) (fields : List (List ℕ)) (field : List ℕ) (c : ℕ) (rest : List ℕ)
     → step default_config s c ≡ (s2, act.Skip)
     → next_record default_config s fields field (c ∷ rest)
     ≡ next_record default_config s2 fields field rest
 unfolding next_record
 next-skip s s2 fields field c rest e = rw e refl
 
-next-same : (s s2 : State) (fields : List (List ℕ)) (field : List ℕ) (c : ℕ) (rest : List ℕ)
+pub next-same : (s s2 : State) (fields : List (List ℕ)) (field : List ℕ) (c : ℕ) (rest : List ℕ)
     → step default_config s c ≡ step default_config s2 c
     → next_record default_config s fields field (c ∷ rest)
     ≡ next_record default_config s2 fields field (c ∷ rest)
@@ -66,24 +66,24 @@ unfolding next_record
 next-same s s2 fields field c rest e = rw e refl
 
 -- the steps
-step-inside : (b : Bool) (c : ℕ) → (c == 34) ≡ false
+pub step-inside : (b : Bool) (c : ℕ) → (c == 34) ≡ false
     → step default_config (inside b) c ≡ in_field default_config c
 unfolding inside
 step-inside true c q = refl
 step-inside false c q = rw q refl
 
-field-comma : (c : ℕ) → (c == 44) ≡ true → in_field default_config c ≡ (st.StartField, act.EndField)
+pub field-comma : (c : ℕ) → (c == 44) ≡ true → in_field default_config c ≡ (st.StartField, act.EndField)
 field-comma c e = rw e refl
 
-field-end : (c : ℕ) → (c == 44) ≡ false → ends_line c ≡ true
+pub field-end : (c : ℕ) → (c == 44) ≡ false → ends_line c ≡ true
     → in_field default_config c ≡ (after_end term.CRLF c, act.EndRecord)
 field-end c e h = rw (e, h) refl
 
-field-copy : (c : ℕ) → (c == 44) ≡ false → ends_line c ≡ false
+pub field-copy : (c : ℕ) → (c == 44) ≡ false → ends_line c ≡ false
     → in_field default_config c ≡ (st.InField, act.Copy)
 field-copy c e h = rw (e, h) refl
 
-step-skip : (b : Bool) (c : ℕ) → ends_line c ≡ true
+pub step-skip : (b : Bool) (c : ℕ) → ends_line c ≡ true
     → step default_config (fresh b) c ≡ (st.StartRecord, act.Skip)
 unfolding fresh
 step-skip true c h = rw h refl
@@ -97,7 +97,7 @@ or-second : (a b : Bool) → (a || b) ≡ false → b ≡ false
 or-second true b h = cc h
 or-second false b h = h
 
-step-fresh : (b : Bool) (c : ℕ) → (c == 34) ≡ false → ends_line c ≡ false
+pub step-fresh : (b : Bool) (c : ℕ) → (c == 34) ≡ false → ends_line c ≡ false
     → step default_config (fresh b) c ≡ in_field default_config c
 unfolding fresh
 step-fresh true c q h = rw (h, q) refl
@@ -106,11 +106,11 @@ step-fresh false c q h =
     let first = rw e at h in rw (e, first, q) refl
 
 -- cells, with these bytes before the first of them
-put : List ℕ → List (List ℕ) → List (List ℕ)
+unfoldable pub put : List ℕ → List (List ℕ) → List (List ℕ)
 put field [] = field ∷ []
 put field (cell ∷ more) = (field ++ cell) ∷ more
 
-put-nil : (text : List ℕ) → put [] (split_at is_comma text) ≡ split_at is_comma text
+pub put-nil : (text : List ℕ) → put [] (split_at is_comma text) ≡ split_at is_comma text
 unfolding put split_at
 put-nil [] = refl
 put-nil (c ∷ rest) = by (is_comma c) refl (split_at is_comma rest) refl
@@ -121,14 +121,14 @@ put-nil (c ∷ rest) = by (is_comma c) refl (split_at is_comma rest) refl
     by false e [] is = rw (e, is) refl
     by false e (cell ∷ cells) is = rw (e, is) refl
 
-put-front : (field : List ℕ) (c : ℕ) (cells : List (List ℕ))
+pub put-front : (field : List ℕ) (c : ℕ) (cells : List (List ℕ))
     → put (field ++ c ∷ []) cells ≡ put field (at_front c cells)
 unfolding put
 put-front field c [] = refl
 put-front field c (cell ∷ more) = ap (λ f. f ∷ more) (append_assoc field (c ∷ []) cell)
 
 -- the state after a line
-state_after : List ℕ → State
+unfoldable pub state_after : List ℕ → State
 state_after [] = st.StartRecord
 state_after (c ∷ rest) = if ends_line c then after_end term.CRLF c else state_after rest
 
@@ -183,7 +183,7 @@ read-record b c rest q h =
     ∙ ap (λ cells. Some (cells, state_after (c ∷ rest), after_line (c ∷ rest)))
     (put-nil (line_of (c ∷ rest)))
 
-state-fresh : (text : List ℕ) → (b : Bool) × (state_after text ≡ fresh b)
+pub state-fresh : (text : List ℕ) → (b : Bool) × (state_after text ≡ fresh b)
 unfolding state_after fresh
 state-fresh [] = (true, refl)
 state-fresh (c ∷ rest) = by (ends_line c) refl (c == 13) refl (state-fresh rest)

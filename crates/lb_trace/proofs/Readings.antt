@@ -94,7 +94,7 @@ then_both : (x : Result Traces ℕ) (all some more : Traces → Result Traces �
 then_both (Ok t) all some more each = each t
 then_both (Err n) all some more each = refl
 
-with_records-append : (elements : Elements) (columns : Record) (before : Traces)
+pub with_records-append : (elements : Elements) (columns : Record) (before : Traces)
     (some more : List Record)
     → with_records elements columns before (some ++ more)
     ≡ then_read (λ traces. with_records elements columns traces more)

@@ -13,7 +13,7 @@ use Rattle.csv.specs.Reading.{Reached, default_config, records_from, records_nex
 use Rattle.lb_trace.specs.Spelling.{Record, records_of}
 
 -- a read takes a byte, or it ends the text
-abbrev TakesOne : List ℕ → Read → Type 0
+abbrev pub TakesOne : List ℕ → Read → Type 0
 TakesOne xs p = (length p.2 < length xs) ⊎ ((p.1 ≡ st.StartRecord) × (p.2 ≡ []))
 
 at_end : (b : Bool) (fields : List (List ℕ)) (p : Read)
@@ -36,7 +36,7 @@ one_byte false found more c rest p left go is =
     ⊎_elim (λ (h : length p.2 < length rest). inl (omega arith))
     (λ (h : (p.1 ≡ st.StartRecord) × (p.2 ≡ [])). inr h) (go is)
 
-takes_one : (cfg : Config) (s : State) (fields : List (List ℕ)) (field xs : List ℕ) (p : Read)
+pub takes_one : (cfg : Config) (s : State) (fields : List (List ℕ)) (field xs : List ℕ) (p : Read)
     → next_record cfg s fields field xs ≡ Some p → TakesOne xs p
 unfolding next_record
 takes_one cfg s fields field [] p is = at_end (ends_at_end s) (fields ++ (field ∷ [])) p is
@@ -91,7 +91,7 @@ split cfg (suc n) s s2 xs ys (r ∷ rows) reached enough =
     ∙ ap (λ m. r ∷ (rows ++ records_from cfg m s2 ys)) left
 
 -- no record is left
-none_left : (cfg : Config) (n : ℕ) (s : State) (xs : List ℕ) → next_record cfg s [] [] xs ≡ None
+pub none_left : (cfg : Config) (n : ℕ) (s : State) (xs : List ℕ) → next_record cfg s [] [] xs ≡ None
     → records_from cfg n s xs ≡ []
 unfolding records_from
 none_left cfg zero s xs none = refl

@@ -18,3 +18,8 @@ pub mod TruthBits
 pub mod Nexts
 pub mod Loads
 pub mod NamePlaces
+pub mod RowRefusals
+pub mod Rolls
+pub mod Rounds
+pub mod Texts
+pub mod RoundReaders

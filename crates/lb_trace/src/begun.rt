@@ -15,13 +15,13 @@ use std::alloc::{AllocError, Global};
 
 /// A text whose header has been read: its table, and what follows it.
 #[derive(Drop)]
-pub(crate) struct Begun<'t> {
-    pub(crate) table: ColumnTable,
-    pub(crate) rest: &'t [u8],
+pub struct Begun<'t> {
+    pub table: ColumnTable,
+    pub rest: &'t [u8],
 }
 
 /// Reads the header of a text; None where there is none, or another record.
-pub(crate) fn begin<'t>(
+pub fn begin<'t>(
     alloc: Global,
     signature: &Signature,
     body: &'t [u8],

@@ -9,7 +9,7 @@ use rayon::prelude::*;
 use std::thread::Threads;
 
 /// Whether the byte `"` stands nowhere in a text, so that its records are its lines cut at commas.
-pub(crate) fn is_plain(text: &[u8]) -> bool
+pub fn is_plain(text: &[u8]) -> bool
     ensures value { result ≡ not (has_quote text.now) }
     ensures records { IsTrue result → records default_config text.now ≡ plain_records text.now }
 {
@@ -37,7 +37,7 @@ pub(crate) fn are_plain<R: Threads + Sync>(rt: &R, parts: &[&[u8]]) -> bool
 }
 
 /// A text without the byte order mark at its start, if it has one.
-pub(crate) fn strip_bom<'t>(text: &'t [u8]) -> &'t [u8]
+pub fn strip_bom<'t>(text: &'t [u8]) -> &'t [u8]
     ensures { result.now ≡ strip_bom text.now }
 {
     let [first, second, third, rest @ ..] = text else {

@@ -11,7 +11,7 @@ use csv::{ByteRecord, Reader, ReaderBuilder};
 use std::alloc::{AllocError, Global};
 
 /// A reader of all records of a text, of any lengths, the first one too.
-pub(crate) fn reader_of(alloc: Global, text: &[u8]) -> Reader<&[u8]>
+pub fn reader_of(alloc: Global, text: &[u8]) -> Reader<&[u8]>
     ensures { Reaches text.now [] result }
 {
     ReaderBuilder::new()
@@ -21,7 +21,7 @@ pub(crate) fn reader_of(alloc: Global, text: &[u8]) -> Reader<&[u8]>
 }
 
 /// The next record, and whether there was one.
-pub(crate) fn next(reader: &mut Reader<&[u8]>, entry: &mut ByteRecord) -> Result<bool, TraceError>
+pub fn next(reader: &mut Reader<&[u8]>, entry: &mut ByteRecord) -> Result<bool, TraceError>
     ensures goes { IfOk result (λ found. (text : List ℕ) → (records : List Record)
         → Reaches text records reader.old
         → Goes text records reader.new (fields_of entry.new) found) }

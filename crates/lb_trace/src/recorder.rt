@@ -1,7 +1,7 @@
 //! The traces of the records that have been read.
 
 ghost use Rattle.std.specs.Prelude.{◌≡◌, ◌<◌, ◌≤◌, ◌+◌, ◌*◌, ◌^◌, nat_le, nat_lt, [], length, map};
-ghost use Rattle.std.specs.Prelude.{Ok, IfOk, IfErr, OnOk, IsTrue, IfSome, None, Some};
+ghost use Rattle.std.specs.Prelude.{Ok, IfOk, IfErr, OnErr, OnOk, IsTrue, IfSome, None, Some};
 ghost use Rattle.std.specs.List.{Contains};
 ghost use Rattle.csv.specs.Records.{fields_of};
 ghost use Rattle.lb_traces.specs.BitRows.{AreTruths, row_of_bits};
@@ -88,6 +88,7 @@ pub(crate) fn push_to(rows: &mut TraceRows, row: &[i32], number: u64) -> Result<
     ensures signature { OnOk result (rows.new.signature ≡ rows.old.signature) }
     ensures err { IfErr result (IsRefusal
         (go_on_by rows.old.signature rows.old.traces (Some row.now))) }
+    ensures kept { OnErr result (rows.new ≡ rows.old) }
 {
     let set = rows.set();
     if !has_instants(set) || !has_cells(set) {
@@ -110,6 +111,7 @@ fn push_bits_to(rows: &mut TraceRows, bits: u64, number: u64) -> Result<(), Trac
     ensures signature { OnOk result (rows.new.signature ≡ rows.old.signature) }
     ensures err { IfErr result (IsRefusal (go_on_by rows.old.signature rows.old.traces
         (Some (row_of_bits (length rows.old.signature) bits)))) }
+    ensures kept { OnErr result (rows.new ≡ rows.old) }
 {
     let set = rows.set();
     if !has_instants(set) || !has_cells(set) {
@@ -179,6 +181,7 @@ impl Recorder {
         ensures err { IfErr result (IsRefusal
             (record_by self.old.rows.signature table.now columns self.old.rows.traces
             (fields_of entry.now))) }
+        ensures kept { OnErr result (self.new.rows ≡ self.old.rows) }
     {
         let cells = width(entry);
         let Some(name) = entry.get(0) else {
@@ -231,6 +234,7 @@ impl Recorder {
             (λ rest. self.new.rows.signature ≡ self.old.rows.signature) }
         ensures err { IfErr result (IsRefusal (record_by self.old.rows.signature
             table.now.columns.items table.now.count self.old.rows.traces (record_of text.now))) }
+        ensures kept { OnErr result (self.new.rows ≡ self.old.rows) }
     {
         if let Some(rest) = self.add_row(alloc, table, text, number)? {
             return Ok(rest);
@@ -273,6 +277,7 @@ impl Recorder {
             (λ found. self.new.rows.signature ≡ self.old.rows.signature) }
         ensures err { IfErr result (IsRefusal (record_by self.old.rows.signature
             table.now.columns.items table.now.count self.old.rows.traces (record_of text.now))) }
+        ensures kept { OnErr result (self.new.rows ≡ self.old.rows) }
     {
         let name = name_of(self.rows.set(), text);
         if name.cell.is_last {
@@ -316,6 +321,7 @@ impl Recorder {
             (λ found. self.new.rows.signature ≡ self.old.rows.signature) }
         ensures err { IfErr result (IsRefusal (record_by self.old.rows.signature
             table.now.columns.items table.now.count self.old.rows.traces (record_of text.now))) }
+        ensures kept { OnErr result (self.new.rows ≡ self.old.rows) }
     {
         let Some(truths) = read_truths(name.rest, table.count) else {
             let same = Named {
@@ -359,6 +365,7 @@ impl Recorder {
             (λ found. self.new.rows.signature ≡ self.old.rows.signature) }
         ensures err { IfErr result (IsRefusal (record_by self.old.rows.signature
             table.now.columns.items table.now.count self.old.rows.traces (record_of text.now))) }
+        ensures kept { OnErr result (self.new.rows ≡ self.old.rows) }
     {
         let Ok(line) = read_cells(table, name.cell.rest, &mut self.values, &mut self.row) else {
             return Err(TraceError::Memory(AllocError));
@@ -388,6 +395,7 @@ impl Recorder {
         ensures err { IfErr result (IsRefusal
             (add_by self.old.rows.signature name.now self.old.rows.traces
             (Some self.old.row.items))) }
+        ensures kept { OnErr result (self.new.rows ≡ self.old.rows) }
     {
         let is_same = is_last(self.rows.set(), name);
         self.add_named(alloc, name, is_same, number)
@@ -413,6 +421,7 @@ impl Recorder {
         ensures err { IfErr result (IsRefusal
             (add_by self.old.rows.signature name.now self.old.rows.traces
             (Some self.old.row.items))) }
+        ensures kept { OnErr result (self.new.rows ≡ self.old.rows) }
     {
         if is_same {
             self.push_row(number)
@@ -433,6 +442,7 @@ impl Recorder {
         ensures err { IfErr result (IsRefusal
             (start_by self.old.rows.signature name.now self.old.rows.traces
             (Some self.old.row.items))) }
+        ensures kept { OnErr result (self.new.rows ≡ self.old.rows) }
     {
         let Some(text) = self.names.take(alloc, self.rows.set(), name)? else {
             return Err(TraceError::Trace { record: number });
@@ -451,6 +461,7 @@ impl Recorder {
         ensures signature { OnOk result (self.new.rows.signature ≡ self.old.rows.signature) }
         ensures err { IfErr result (IsRefusal
             (go_on_by self.old.rows.signature self.old.rows.traces (Some self.old.row.items))) }
+        ensures kept { OnErr result (self.new.rows ≡ self.old.rows) }
     {
         push_to(&mut self.rows, &self.row, number)
     }
@@ -467,6 +478,7 @@ impl Recorder {
         ensures err { IfErr result (IsRefusal
             (go_on_by self.old.rows.signature self.old.rows.traces
             (row_by table.now (after_first (fields_of entry.now))))) }
+        ensures kept { OnErr result (self.new.rows ≡ self.old.rows) }
     {
         let bad = read_row(table, entry, &mut self.row).map_err(TraceError::Memory)?;
         if let Some(column) = bad {
@@ -497,6 +509,7 @@ impl Recorder {
         ensures err { IfErr result (IsRefusal
             (start_by self.old.rows.signature name.now self.old.rows.traces
             (row_by table.now (after_first (fields_of entry.now))))) }
+        ensures kept { OnErr result (self.new.rows ≡ self.old.rows) }
     {
         let Some(text) = self.names.take(alloc, self.rows.set(), name)? else {
             return Err(TraceError::Trace { record: number });
@@ -523,6 +536,7 @@ impl Recorder {
         ensures err { IfErr result (IsRefusal
             (start_cells self.old.rows.signature name.now self.old.rows.traces
             (row_by table.now (after_first (fields_of entry.now))))) }
+        ensures kept { OnErr result (self.new.rows ≡ self.old.rows) }
     {
         let bad = read_row(table, entry, &mut self.row).map_err(TraceError::Memory)?;
         if let Some(column) = bad {
@@ -547,6 +561,7 @@ impl Recorder {
         ensures err { IfErr result (IsRefusal
             (start_cells self.old.rows.signature name.now self.old.rows.traces
             (Some self.old.row.items))) }
+        ensures kept { OnErr result (self.new.rows ≡ self.old.rows) }
     {
         let set = self.rows.set();
         if !has_traces(set) || !has_cells(set) {

@@ -17,7 +17,7 @@ use std::alloc::{AllocError, Global};
 
 /// The columns of the scalar inputs.
 #[derive(Drop)]
-pub(crate) struct ColumnTable {
+pub struct ColumnTable {
     /// The record that names them.
     pub(crate) header: ByteRecord,
     /// They in the order of the signature.
@@ -36,7 +36,7 @@ pub(crate) struct ColumnTable {
 
 /// The table of a header; None where the record is not `trace` and then the name of each scalar
 /// input once.
-pub(crate) fn table_of(
+pub fn table_of(
     alloc: Global,
     signature: &Signature,
     header: ByteRecord,

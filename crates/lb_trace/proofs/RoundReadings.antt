@@ -1,0 +1,73 @@
+-- How far the records of a text have been read.
+use Rattle.std.proofs.Common.{ℕ, ◌≡◌, ◌==◌, true, false, List, [], ◌∷◌, ◌++◌, length, map, Ok, refl}
+use Rattle.std.proofs.Common.{sym, ap, ◌∙◌, append_assoc}
+use Rattle.std.proofs.lemmas.List.{append-nil}
+use Rattle.lb_static.specs.Signature.{Elements}
+use Rattle.lb_traces.specs.Traces.{Traces}
+use Rattle.lb_trace.specs.declared.header.Column.{Column}
+use Rattle.lb_trace.specs.Lines.{after_line, record_of}
+use Rattle.lb_trace.specs.Mirrors.{column_of, record_by}
+use Rattle.lb_trace.specs.Plain.{plain_records}
+use Rattle.lb_trace.specs.Refusals.{then_read, with_records}
+use Rattle.lb_trace.specs.Rounds.{ReadsUpTo, StopsAt}
+use Rattle.lb_trace.specs.Scan.{begun_records}
+use Rattle.lb_trace.specs.Spelling.{Record}
+use Rattle.lb_trace.proofs.PlainRecordings.{begun-more, begun-none}
+use Rattle.lb_trace.proofs.Readings.{record_by-table, with_records-append}
+
+-- nothing has been read
+pub reads-none : (elements : Elements) (columns : Record) (traces : Traces) (text : List ℕ)
+    → ReadsUpTo elements columns traces traces text text
+unfolding with_records
+reads-none elements columns traces text = record { done = []; read = refl; cut = refl }
+
+-- one more record
+pub reads-more :
+    (elements : Elements) (columns : Record) (table : List Column) (width : ℕ)
+    (first traces next : Traces) (text rest begun after : List ℕ) →
+    ReadsUpTo elements columns first traces text rest →
+    plain_records rest ≡ begun_records begun → (length begun == 0) ≡ false →
+    after ≡ after_line begun → table ≡ map (column_of columns) elements → width ≡ length columns →
+    record_by elements table width traces (record_of begun) ≡ Ok next →
+    ReadsUpTo elements columns first next text after
+unfolding with_records
+reads-more elements columns table width first traces next text rest begun after so_far skipped some
+    is same wide good =
+    let r : Record = record_of begun in
+    record {
+      done = so_far.done ++ r ∷ [];
+      read = with_records-append elements columns first so_far.done (r ∷ [])
+          ∙ ap (then_read (λ t. with_records elements columns t (r ∷ []))) so_far.read
+          ∙ ap (then_read (λ t. Ok t))
+          (sym (record_by-table elements columns table width traces r same wide) ∙ good);
+      cut = so_far.cut
+          ∙ ap (λ rs. so_far.done ++ rs)
+          (skipped ∙ begun-more begun some
+          ∙ ap (λ left. r ∷ plain_records left) (sym is))
+          ∙ sym (append_assoc so_far.done (r ∷ []) (plain_records after));
+    }
+
+-- all records were read
+pub reads-end :
+    (elements : Elements) (columns : Record) (first traces : Traces) (text rest begun : List ℕ) →
+    ReadsUpTo elements columns first traces text rest →
+    plain_records rest ≡ begun_records begun → (length begun == 0) ≡ true →
+    with_records elements columns first (plain_records text) ≡ Ok traces
+reads-end elements columns first traces text rest begun so_far skipped none =
+    ap (with_records elements columns first)
+    (so_far.cut ∙ ap (λ rs. so_far.done ++ rs) (skipped ∙ begun-none begun none)
+    ∙ append-nil so_far.done)
+    ∙ so_far.read
+
+-- a record was not added
+pub reads-stop :
+    (elements : Elements) (columns : Record) (first traces : Traces) (text rest begun : List ℕ) →
+    ReadsUpTo elements columns first traces text rest →
+    plain_records rest ≡ begun_records begun → (length begun == 0) ≡ false →
+    StopsAt elements columns first traces text begun
+reads-stop elements columns first traces text rest begun so_far skipped some = record {
+  done = so_far.done;
+  read = so_far.read;
+  cut = so_far.cut ∙ ap (λ rs. so_far.done ++ rs) skipped;
+  some = some;
+}

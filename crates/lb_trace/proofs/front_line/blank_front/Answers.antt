@@ -1,0 +1,16 @@
+-- One end of a line after the other.
+use Rattle.std.proofs.Common.{refl, sym, arith}
+use Rattle.lb_trace.proofs.FrontLines.{blank-more, ended-at}
+use Rattle.lb_trace.proofs.Lines.{plain-none}
+use Rattle.lb_trace.proofs.front_line.blank_front.Goals as goal
+
+pub loop-i-init : goal.loop-i-init
+loop-i-init c = record { blank = plain-none; ended = λ some. absurd (omega (arith, some)) }
+
+pub loop-i-preserved : goal.loop-i-preserved
+loop-i-preserved c = record {
+  blank = blank-more c.args.text.now c.loop-i.i _ c.loop-i-test.true refl
+      (sym c.if-not-ends_line.ensures) c.loop-i.invariant.blank;
+  ended = λ some. ended-at c.args.text.now c.loop-i.i _ c.loop-i-test.true refl
+      (sym c.if-not-ends_line.ensures);
+}

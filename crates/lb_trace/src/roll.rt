@@ -1,0 +1,306 @@
+//! The names and lengths of traces whose rows have been let go.
+//!
+//! What further records of a text mean hangs on no more than these: which names there are, how many
+//! instants the last trace has, and how many all have together.
+
+ghost use Rattle.std.specs.Prelude.{◌≡◌, ◌<◌, ◌≤◌, ◌+◌, ◌-◌, ◌*◌, nat_le, nat_lt, length};
+ghost use Rattle.std.specs.Prelude.{IfOk, [], get_or, vec_len};
+ghost use Rattle.csv.specs.Records.{fields_of};
+ghost use Rattle.lb_trace.specs.Errors.{IsRefusal};
+ghost use Rattle.lb_trace.specs.Mirrors.{row_by};
+ghost use Rattle.lb_trace.specs.Spelling.{after_first};
+ghost use Rattle.lb_trace.specs.RowRefusals.{room_by};
+
+use crate::copied::copy_record;
+use crate::error::TraceError;
+use crate::known::Known;
+use crate::record::width;
+use crate::recorder::is_last;
+use crate::rows::read_row;
+use crate::table::ColumnTable;
+use csv::ByteRecord;
+use lb_static::Signature;
+use lb_traces::{TraceRows, TraceSet};
+use std::alloc::{AllocError, Global};
+
+/// The most cells of all traces together.
+const MOST_CELLS: u64 = 67_108_864;
+
+/// The most traces.
+const MOST_TRACES: u32 = 1_000_000;
+
+/// The most instants of a trace.
+const MOST_INSTANTS: u32 = 1_000_000;
+
+/// The names of traces, one after the other, and how many instants each has.
+#[derive(Drop)]
+pub struct Roll {
+    /// The traces with one row each, of no cells.
+    pub(crate) names: TraceRows,
+    pub(crate) known: Known,
+    pub(crate) lengths: Vec<u32>,
+    /// How many instants all have together.
+    pub(crate) instants: u64,
+    /// How many cells an instant has, at least one.
+    pub(crate) cells: u64,
+}
+
+// The number of the first record for which there are too many cells, where each has so many.
+fn first_past_cells(cells: u64) -> u64
+    requires { 0 < cells }
+{
+    MOST_CELLS / cells + 1
+}
+
+// What is wrong with the cells of a record, where there is room for one more instant, or not; E0
+// where nothing is.
+fn refusal_of_cells(
+    alloc: Global,
+    table: &ColumnTable,
+    entry: &ByteRecord,
+    record: u64,
+    has_room: bool,
+) -> TraceError
+    ensures { IsRefusal (room_by has_room
+        (row_by table.now.columns.items (after_first (fields_of entry.now)))) result }
+{
+    let mut row = Vec::new(alloc);
+    match read_row(&table.columns, entry, &mut row) {
+        Ok(Some(column)) => TraceError::Cell { record, column },
+        Ok(None) if !has_room => TraceError::Limit {
+            record: Some(record),
+        },
+        _ => TraceError::Memory(AllocError),
+    }
+}
+
+impl Roll {
+    ghost use Rattle.std.specs.Prelude.{ℕ, List, ◌++◌, ◌∷◌, IfErr, map};
+    ghost use Rattle.std.specs.List.{AllZip};
+    ghost use Rattle.lb_static.specs.Signature.{Elements};
+    ghost use Rattle.lb_traces.specs.Traces.{IsTrace, Trace, Traces};
+    ghost use Rattle.lb_trace.specs.Lines.{record_of};
+    ghost use Rattle.lb_trace.specs.Mirrors.{go_on_by, start_by};
+    ghost use Rattle.lb_trace.specs.Refusals.{with_record};
+    ghost use Rattle.lb_trace.specs.Rolls.{IsRoll, IsRollOf, RefusesRoll, RefusesRows};
+    ghost use Rattle.lb_trace.specs.Rolls.{RefusesTrace, TakesTrace, room_for_another};
+    ghost use Rattle.lb_trace.specs.Rolls.{room_in_last};
+    ghost use Rattle.lb_trace.specs.Tables.{IsColumnTable, columns_in};
+
+    /// No trace yet, of this signature.
+    pub fn new(alloc: Global, signature: &Signature) -> Result<Roll, AllocError>
+        ensures { IfOk result (λ roll. IsRollOf signature.now roll []) }
+    {
+        let none = Signature::new(alloc);
+        Ok(Roll {
+            names: TraceRows::new(alloc, &none)?,
+            known: Known::new(alloc),
+            lengths: Vec::new(alloc),
+            instants: 0,
+            cells: u64::from(signature.len().max(1)),
+        })
+    }
+
+    /// The names, as those of traces with one row each.
+    pub fn names(&self) -> &TraceSet
+        ensures { result.now ≡ self.now.names }
+    {
+        self.names.set()
+    }
+
+    /// Puts the traces of a set behind these. An error is the first refusal of their records there.
+    pub fn append(self, alloc: Global, set: &TraceSet) -> Result<Roll, TraceError>
+        requires roll { IsRoll self }
+        ensures roll { IfOk result IsRoll }
+        ensures ok { IfOk result (λ next. (traces : Traces) → IsRollOf set.now.signature self traces
+            → IsRollOf set.now.signature next (traces ++ set.now.traces)) }
+        ensures err { IfErr result (RefusesRows self set.now) }
+    {
+        let _ = set.signature();
+        let mut roll = self;
+        for k in 0..set.len() {
+            roll = roll.append_trace(alloc, set.name(k).as_bytes(), set.length(k))?;
+        }
+        Ok(roll)
+    }
+
+    /// Puts the traces of another roll behind these. An error is the first refusal of their records
+    /// there.
+    pub fn append_roll(self, alloc: Global, other: &Roll) -> Result<Roll, TraceError>
+        requires roll { IsRoll self }
+        requires other { IsRoll other.now }
+        ensures roll { IfOk result IsRoll }
+        ensures ok { IfOk result (λ next. (elements : Elements) → (traces others : Traces)
+            → IsRollOf elements self traces → IsRollOf elements other.now others
+            → IsRollOf elements next (traces ++ others)) }
+        ensures err { IfErr result (RefusesRoll self other.now) }
+    {
+        let set = other.names.set();
+        let mut roll = self;
+        for k in 0..set.len() {
+            let length = other.lengths[k as usize];
+            roll = roll.append_trace(alloc, set.name(k).as_bytes(), length)?;
+        }
+        Ok(roll)
+    }
+
+    // Puts a trace of so many instants behind these, where none has its name.
+    fn append_trace(self, alloc: Global, name: &[u8], length: u32) -> Result<Roll, TraceError>
+        requires { IsRoll self }
+        ensures roll { IfOk result IsRoll }
+        ensures ok { IfOk result (TakesTrace self name.now length) }
+        ensures err { IfErr result (RefusesTrace self name.now length) }
+    {
+        let Roll {
+            mut names,
+            mut known,
+            mut lengths,
+            instants,
+            cells,
+        } = self;
+        let number = instants + 1;
+        if is_last(names.set(), name) {
+            return Err(TraceError::Memory(AllocError));
+        }
+        let Some(text) = known.take(alloc, names.set(), name)? else {
+            return Err(TraceError::Trace { record: number });
+        };
+        if names.set().len() >= MOST_TRACES {
+            return Err(TraceError::Limit {
+                record: Some(number),
+            });
+        }
+        let count = u64::from(length);
+        let all = instants + count;
+        if all * cells > MOST_CELLS {
+            return Err(TraceError::Limit {
+                record: Some(first_past_cells(cells)),
+            });
+        }
+        let Ok(()) = lengths.push(length) else {
+            return Err(TraceError::Memory(AllocError));
+        };
+        let Ok(()) = names.start(text, &[]) else {
+            return Err(TraceError::Memory(AllocError));
+        };
+        Ok(Roll {
+            names,
+            known,
+            lengths,
+            instants: all,
+            cells,
+        })
+    }
+
+    /// Why the first record of a text without quotes is refused behind these traces; E0 where it is
+    /// not.
+    pub fn refusal_of_line(self, alloc: Global, table: &ColumnTable, text: &[u8]) -> TraceError
+        requires { IsRoll self }
+        ensures { (elements : Elements) → (traces : Traces) → IsRollOf elements self traces
+            → IsColumnTable elements table.now
+            → IsRefusal (with_record elements (columns_in table.now) traces (record_of text.now))
+            result }
+    {
+        let mut entry = ByteRecord::new(alloc);
+        match copy_record(text, &mut entry) {
+            Ok(_) => self.refusal_of(alloc, table, &entry),
+            Err(_) => TraceError::Memory(AllocError),
+        }
+    }
+
+    /// Why a record is refused behind these traces; E0 where it is not.
+    pub fn refusal_of(self, alloc: Global, table: &ColumnTable, entry: &ByteRecord) -> TraceError
+        requires { IsRoll self }
+        ensures { (elements : Elements) → (traces : Traces) → IsRollOf elements self traces
+            → IsColumnTable elements table.now
+            → IsRefusal (with_record elements (columns_in table.now) traces (fields_of entry.now))
+            result }
+    {
+        let record = self.instants + 1;
+        let cells = width(entry);
+        let columns = table.count;
+        let Some(name) = entry.get(0) else {
+            return TraceError::Record {
+                record,
+                cells,
+                columns,
+            };
+        };
+        if cells != columns {
+            return TraceError::Record {
+                record,
+                cells,
+                columns,
+            };
+        }
+        if is_last(self.names.set(), name) {
+            self.refusal_of_more(alloc, table, entry)
+        } else {
+            self.refusal_of_first(alloc, name, table, entry)
+        }
+    }
+
+    // The same of a record of the last trace, with a cell for each column.
+    fn refusal_of_more(self, alloc: Global, table: &ColumnTable, entry: &ByteRecord) -> TraceError
+        requires roll { IsRoll self }
+        requires started { 0 < length self.names.traces }
+        ensures { (elements : Elements) → (traces : Traces) → IsRollOf elements self traces
+            → IsRefusal (go_on_by elements traces
+            (row_by table.now.columns.items (after_first (fields_of entry.now)))) result }
+    {
+        let has_room = self.has_room_in_last();
+        refusal_of_cells(alloc, table, entry, self.instants + 1, has_room)
+    }
+
+    // The same of a record of another trace.
+    fn refusal_of_first(
+        self,
+        alloc: Global,
+        name: &[u8],
+        table: &ColumnTable,
+        entry: &ByteRecord,
+    ) -> TraceError
+        requires { IsRoll self }
+        ensures { (elements : Elements) → (traces : Traces) → IsRollOf elements self traces
+            → IsRefusal (start_by elements name.now traces
+            (row_by table.now.columns.items (after_first (fields_of entry.now)))) result }
+    {
+        let record = self.instants + 1;
+        let has_room = self.has_room_for_another();
+        let Roll {
+            names,
+            mut known,
+            ..
+        } = self;
+        match known.take(alloc, names.set(), name) {
+            Ok(None) => TraceError::Trace { record },
+            Ok(Some(_)) => refusal_of_cells(alloc, table, entry, record, has_room),
+            Err(cause) => cause,
+        }
+    }
+
+    // Whether the limits have room for one more instant of the last trace.
+    fn has_room_in_last(&self) -> bool
+        requires roll { IsRoll self.now }
+        requires started { 0 < length self.now.names.traces }
+        ensures { result ≡ room_in_last self.now }
+    {
+        self.lengths[self.lengths.len() - 1] < MOST_INSTANTS && self.has_cells()
+    }
+
+    // Whether the limits have room for the first instant of one more trace.
+    fn has_room_for_another(&self) -> bool
+        requires { IsRoll self.now }
+        ensures { result ≡ room_for_another self.now }
+    {
+        self.names.set().len() < MOST_TRACES && self.has_cells()
+    }
+
+    // Whether the limit of cells has room for one more instant.
+    fn has_cells(&self) -> bool
+        requires { IsRoll self.now }
+        ensures { result ≡ nat_le ((self.now.instants + 1) * self.now.cells) 67108864 }
+    {
+        (self.instants + 1) * self.cells <= MOST_CELLS
+    }
+}

@@ -1,0 +1,97 @@
+//! The whole traces at the front of a text of which more is to come.
+//!
+//! ```text
+//! a,1 | a,5 | b,0 | b,7 | b,
+//! ^^^^^^^^^ whole
+//! ```
+//!
+//! A trace is known to be whole once a line of another trace follows it. So the text is cut before
+//! the lines of its last trace, which a binary search finds.
+
+ghost use Rattle.std.specs.Prelude.{◌≡◌, ◌-◌, ◌<◌, ◌≤◌, true, get_or, length, take, IfSome};
+ghost use Rattle.lb_trace.specs.Chunks.{is_ended};
+ghost use Rattle.lb_trace.specs.Plain.{ends_line};
+
+use crate::scan::{ends_line, next_cell};
+use memchr::memrchr2;
+
+// Where the last line ends that is not empty, of the bytes before a place: after its last byte.
+fn past_line(text: &[u8], before: usize) -> usize
+    requires { before ≤ length text.now }
+    ensures { result ≤ before }
+{
+    let mut past = before;
+    while past > 0 && ends_line(text[past - 1]) {
+        past -= 1;
+    }
+    past
+}
+
+// Where the line begins whose bytes stand before a place.
+fn line_start(text: &[u8], past: usize) -> usize
+    requires { past ≤ length text.now }
+    ensures within { result ≤ past }
+    ensures after_end { 0 < result → ends_line (get_or text.now (result - 1) 0) ≡ true }
+{
+    match memrchr2(b'\r', b'\n', &text[..past]) {
+        Some(end) => end + 1,
+        None => 0,
+    }
+}
+
+// Where the last line begins that is not empty, of those that begin before a place.
+fn line_before(text: &[u8], place: usize) -> Option<usize>
+    requires { place ≤ length text.now }
+    ensures { IfSome result (λ start. (start < place)
+        × (0 < start → ends_line (get_or text.now (start - 1) 0) ≡ true)) }
+{
+    let past = past_line(text, place);
+    if past == 0 {
+        return None;
+    }
+    Some(line_start(text, past - 1))
+}
+
+// The bytes of the first cell of the line that begins at a place.
+fn name_at(text: &[u8], start: usize) -> &[u8]
+    requires { start ≤ length text.now }
+{
+    next_cell(&text[start..]).bytes
+}
+
+// Whether a cell may spell another text than its bytes.
+fn is_quoted(cell: &[u8]) -> bool {
+    matches!(cell, [b'"', ..])
+}
+
+/// How many bytes at the front of a text are lines of whole traces; 0 where that is not known of
+/// any. What stands behind them may be a part of a trace, and of a line.
+pub fn whole_traces(text: &[u8]) -> usize
+    ensures within { result ≤ length text.now }
+    ensures ended { 0 < result → is_ended (take result text.now) ≡ true }
+{
+    let unfinished = line_start(text, text.len());
+    let Some(last) = line_before(text, unfinished) else {
+        return 0;
+    };
+    let name = name_at(text, last);
+    // A name in quotes may be that of the line before.
+    if is_quoted(name) {
+        return 0;
+    }
+    // The line at `start` has the name, and a line before `other`, if there is one, another.
+    let mut start = last;
+    let mut other = 0;
+    'lines: while other < start {
+        let place = start - (start - other) / 2;
+        match line_before(text, place) {
+            Some(line) if name_at(text, line) == name => start = line,
+            _ => other = place,
+        }
+    }
+    // No trace ends before the first line.
+    if past_line(text, start) == 0 {
+        return 0;
+    }
+    start
+}
