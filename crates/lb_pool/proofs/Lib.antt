@@ -18,3 +18,5 @@ pub mod SinkBytes
 pub mod GoingOut
 pub mod RightPosts
 pub mod WorkerPosts
+pub mod JoinedVerdicts
+pub mod WholePlans

@@ -1,5 +1,5 @@
 -- The laws of what takes verdicts, for a worker that posts them.
-use Rattle.std.proofs.Common.{◌≡◌, ◌∙◌, ℕ, List, refl, subst, sym}
+use Rattle.std.proofs.Common.{◌∙◌, ℕ, List, refl, subst, sym}
 use Rattle.lb_check.specs.declared.verdict.Verdict.{Verdict}
 use Rattle.lb_pool.specs.FollowSeats.{IsFollowSeatOf}
 use Rattle.lb_pool.specs.Postings.{MayPost, StaysPosting}

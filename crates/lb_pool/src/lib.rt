@@ -2,6 +2,7 @@
 //! trace.
 #![tactic(auto)]
 
+mod alone;
 mod batch;
 mod board;
 mod claims;
@@ -19,12 +20,14 @@ mod spread;
 mod text;
 mod views;
 
+pub use alone::SetRunner;
 pub use board::{ClaimBoard, ClaimSeat};
 pub use claims::run_claims;
 pub use follow::run_follow;
 pub use follow_board::{FollowBoard, FollowSeat, Look};
 pub use follow_error::FollowError;
 pub use gate::{Gate, NoGate};
+pub use lb_sim::{BatchRoom as RoundRoom, LaneProgram, compile};
 pub use plan::Plan;
 pub use sink::{Sent, Sink, SinkFailed, Writer, send};
 pub use spread::run_spread;

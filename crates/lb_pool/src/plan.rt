@@ -81,6 +81,13 @@ impl Plan {
         Plan { numbers, width }
     }
 
+    /// The numbers of all batches, batch after batch.
+    pub(crate) fn numbers(&self) -> &[u32]
+        ensures { result.now ≡ numbers_in self.now }
+    {
+        self.numbers.as_slice()
+    }
+
     /// How many numbers a batch has; the last may have fewer.
     pub(crate) fn width(&self) -> u32
         ensures bounds { (0 < result) × (result ≤ 64) }

@@ -1,0 +1,84 @@
+//! A worker that runs all traces of one set, and then those of another.
+
+ghost use Rattle.std.specs.Prelude.{◌≡◌, ◌<◌, ◌≤◌, [], length, All, IfOk, OnOk};
+ghost use Rattle.lb_pool.specs.Correct.{AreVerdicts};
+ghost use Rattle.lb_pool.specs.Runs.{numbers_of, AreJudged};
+ghost use Rattle.lb_sim.specs.BatchRooms.{IsRoomFor};
+
+use crate::batch::{Judged, Work, room_for, run_members, verdicts_of};
+use crate::plan::Plan;
+use lb_check::Verdict;
+use lb_sim::{BatchRoom, LaneProgram};
+use lb_traces::TraceSet;
+use std::alloc::{AllocError, Global};
+
+// How many traces are run as one queue at most.
+const MOST_AT_ONCE: usize = 4096;
+
+/// A program, and how many traces are run side by side.
+#[derive(Clone, Copy)]
+pub struct SetRunner<'a, 'p> {
+    pub program: &'a LaneProgram<'p>,
+    pub lanes: u32,
+    pub ghost some: { 0 < lanes },
+    pub ghost few: { lanes ≤ 64 },
+}
+
+// Runs traces in queues, one after the other, in the room of a worker, which it gives back. What is
+// judged has their numbers in this order.
+fn run_queues(
+    alloc: Global,
+    work: &Work<'_, '_>,
+    numbers: &[u32],
+    lanes: u32,
+    begun: BatchRoom,
+    judged: &mut Vec<Judged>,
+) -> Result<BatchRoom, AllocError>
+    requires within { All (λ k. k < length work.now.set.now.traces) numbers.now }
+    requires lanes { (0 < lanes) × (lanes ≤ 64) }
+    requires room { IsRoomFor work.now.program.now begun }
+    requires nothing { judged.old.items ≡ [] }
+    ensures room { IfOk result (IsRoomFor work.now.program.now) }
+    ensures numbers { OnOk result (numbers_of judged.new.items ≡ numbers.now) }
+    ensures judged { OnOk result (AreJudged work.now.program.now.program.now work.now.set.now
+        judged.new.items) }
+{
+    let mut room = begun;
+    let mut verdicts = Vec::new(alloc);
+    let mut done = 0;
+    'queues: while done < numbers.len() {
+        let past = done + (numbers.len() - done).min(MOST_AT_ONCE);
+        let members = &numbers[done..past];
+        room = run_members(work, members, lanes, room, &mut verdicts, judged)?;
+        done = past;
+    }
+    Ok(room)
+}
+
+impl SetRunner<'_, '_> {
+    /// The verdicts of all traces of a set, in the traces' order, in the room of the worker, which
+    /// takes it with the first set. The longest traces are run first. It fails only where memory
+    /// was refused (E0).
+    pub fn run(
+        &self,
+        alloc: Global,
+        set: &TraceSet,
+        kept: &mut Option<BatchRoom>,
+    ) -> Result<Vec<Verdict>, AllocError>
+        ensures { IfOk result (λ verdicts.
+            AreVerdicts self.now.program.now.program.now set.now verdicts.items) }
+    {
+        let plan = Plan::by_length(alloc, set, self.lanes)?;
+        let _ = plan.traces();
+        let work = Work {
+            program: self.program,
+            set,
+            plan: &plan,
+        };
+        let room = room_for(alloc, self.program, kept.take())?;
+        let mut judged = Vec::new(alloc);
+        let room = run_queues(alloc, &work, plan.numbers(), self.lanes, room, &mut judged)?;
+        *kept = Some(room);
+        verdicts_of(alloc, &work, judged.as_slice())
+    }
+}
