@@ -38,7 +38,7 @@ Consumes-filled before between after old new filled count came front read =
     (take-add filled count new ∙ ap (λ bytes. bytes ++ take count (drop filled new)) front)
 
 -- what came is too much
-more_than : (limit : ℕ) (before after : Option (List ℕ)) (bytes : List ℕ) → limit < length bytes
+pub more_than : (limit : ℕ) (before after : Option (List ℕ)) (bytes : List ℕ) → limit < length bytes
     → Consumes before after bytes → IfSome before (λ coming. limit < length coming)
 more_than limit None after bytes many came = tt
 more_than limit (Some xs) None bytes many came = absurd came

@@ -8,3 +8,13 @@ pub mod AcceptedPrograms
 pub mod LiveReports
 pub mod Judging
 pub mod Feeds
+pub mod Windows
+pub mod JudgedParts
+pub mod FeedAnswers
+pub mod FeedJudging
+pub mod SectionEnds
+pub mod Sections
+pub mod QuotedTexts
+pub mod PlainHalts
+pub mod Ranges
+pub mod RangeAnswers

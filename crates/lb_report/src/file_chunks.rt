@@ -23,7 +23,7 @@ const FIRST: u64 = 1 << 16;
 const PROBE: usize = 4096;
 
 /// The bytes of a regular file; 0 where that is not known.
-fn size_of<F: OpenFile>(file: &F) -> u64 {
+pub(crate) fn size_of<F: OpenFile>(file: &F) -> u64 {
     match file.metadata() {
         Ok(found) if found.is_file() => found.len(),
         _ => 0,

@@ -5,17 +5,23 @@ mod answer;
 mod case;
 mod error;
 mod feed;
+mod feeding;
 mod file_chunks;
 mod judging;
 mod laws;
 mod live;
 mod options;
+mod quoted;
 mod refusal;
+mod rounds;
+mod sections;
+mod window;
 
-pub use answer::{bench, bench_file, bench_loaded, run_case};
+pub use answer::{bench, run_case};
 pub use case::split_case;
 pub use error::BenchError;
 pub use feed::{Feed, FeedFailed, LoadError, Reader, load};
+pub use feeding::{FeedFault, Sizes, bench_feed, bench_ranges};
 pub use judging::judge;
 pub use laws::first_refusal_is_computed;
 pub use lb_pool::{

@@ -11,14 +11,14 @@ ghost use Rattle.lb_pool.specs.Plans.{numbers_in};
 ghost use Rattle.lb_report.specs.Bench.{IsRefused};
 ghost use Rattle.lb_report.specs.LiveReports.{IsFollowAnswer, IsPrepared, IsUnderWay};
 
-use crate::answer::{AcceptedProgram, accept, plan_of};
+use crate::answer::{AcceptedProgram, accept};
 use crate::error::BenchError;
 use crate::file_chunks::FileChunks;
 use crate::options::Options;
 use lb_pool::{FollowError, Gate, Plan, Sink, run_follow};
 use lb_trace::{read_loaded, read_traces_by};
 use lb_traces::TraceSet;
-use std::alloc::Global;
+use std::alloc::{AllocError, Global};
 use std::fs::OpenFile;
 use std::os::unix::fs::FileExt;
 use std::rt::Runtime;
@@ -55,6 +55,17 @@ struct Prepared {
     program: AcceptedProgram,
     set: TraceSet,
     plan: Plan,
+}
+
+/// Which traces run together, as the options say.
+fn plan_of(alloc: Global, set: &TraceSet, options: &Options) -> Result<Plan, AllocError>
+    ensures { IfOk result (λ plan. length (numbers_in plan) ≡ length set.now.traces) }
+{
+    if options.by_length {
+        Plan::by_length(alloc, set, options.batch)
+    } else {
+        Plan::in_order(alloc, set.len(), options.batch)
+    }
 }
 
 /// The program that a source spells and the traces that a text spells, ready to be run.
@@ -160,8 +171,9 @@ where
     run_follow(rt, alloc, &program.ordered, set, plan, workers, gate, sink)
 }
 
-/// Runs a node of a source over the traces of a text, as [`crate::bench`] does with 1 to 64 workers,
-/// and writes the report to a sink: each line goes out as soon as it and all before it are known.
+/// Runs a node of a source over the traces of a text, as [`crate::bench`] does with 1 to 64
+/// workers, and writes the report to a sink: each line goes out as soon as it and all before it are
+/// known.
 ///
 /// Where the texts are refused no byte goes out. Where memory is refused in the run, or the sink
 /// fails, the first bytes of the report went out, and the error tells how many.

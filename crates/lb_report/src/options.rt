@@ -11,12 +11,12 @@ pub struct Options {
     pub node: String,
     /// The node that judges it. Without one the node under test judges itself.
     pub observer: Option<String>,
-    /// How many workers run the batches, 0 to 64. With 0 the batches are spread over the
-    /// processors.
+    /// How many workers run traces, 0 to 64. With 0 there are as many as processors.
     pub workers: u32,
     /// How many traces are in a batch at most, 1 to 64.
     pub batch: u32,
-    /// Whether traces of like length share a batch.
+    /// Whether traces of like length share a batch of a live report. Where the traces are judged
+    /// while they are read, they always do.
     pub by_length: bool,
     pub ghost few_workers: { workers ≤ 64 },
     pub ghost some_lanes: { 1 ≤ batch },

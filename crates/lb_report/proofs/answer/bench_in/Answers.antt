@@ -1,6 +1,0 @@
-use Rattle.std.proofs.Common.{rules}
-use Rattle.lb_report.proofs.answer.bench_in.Goals as goal
-
-pub returns-in_err-program-clause-refused : goal.returns-in_err-program-clause-refused
-returns-in_err-program-clause-refused g c =
-    let refused = c.in_err-program.ensures.err c.args.traces.now in search rules

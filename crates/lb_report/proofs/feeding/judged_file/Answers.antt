@@ -1,0 +1,57 @@
+-- The header is read of the first bytes of a file, and the rest in sections.
+use Rattle.std.proofs.Common.{◌≡◌, ◌∙◌, ◌≤◌, ◌-◌, Some, ap, arith, length, subst, sym}
+use Rattle.std.specs.Io.KnownBytes.{Consumes}
+use Rattle.lb_report.specs.Ranges.{IsFileJudged}
+use Rattle.lb_report.specs.SectionEnds.{AreEnds}
+use Rattle.lb_report.specs.Windows.{left, text_in}
+use Rattle.lb_report.proofs.RangeFiles.{came_within, file_told}
+use Rattle.lb_report.proofs.feeding.judged_file.Goals as goal
+
+pub ends_in_file-requires-clause-within : goal.ends_in_file-requires-clause-within
+ends_in_file-requires-clause-within g c =
+    let after = c.read_header.new.window in
+    let head = c.in-Ok-read_header.ensures.ok in
+    let bytes = c.in_ok-bytes.bytes.items in
+    let last = c.read_header.new.feed in
+    let came : length head.read.more ≤ length bytes =
+    came_within bytes (Some last.rest.now) head.read.more
+    (subst (λ o. Consumes o (Some last.rest.now) head.read.more)
+    (c.new-head.ensures.coming ∙ ap Some c.as_slice.ensures.value) head.read.consumed) in
+    let long : length c.text.result.now ≡ length (text_in after) = ap length c.text.ensures in
+    omega (
+      arith,
+      c.read.ensures,
+      long,
+      head.read.counted,
+      c.in-Ok-new.ensures.begun.0,
+      came,
+      c.in_ok-bytes.ensures,
+    )
+
+pub judge_ranges-requires-clause-ends : goal.judge_ranges-requires-clause-ends
+judge_ranges-requires-clause-ends g c κs lawful = record {
+  size = c.args.size;
+  follow = subst (AreEnds (c.read.result - length c.text.result.now) c.args.size)
+      (sym c.as_slice-2.ensures.value) c.in-Ok-ends_in_file.ensures;
+  short = c.requires;
+}
+
+pub returns : goal.returns
+returns g c =
+    let rounds = c.rounds_of-rounds.result in
+    let p = rounds.runner.program.now.program.now in
+    let elements = rounds.signature.now in
+    let after = c.read_header.new.window in
+    let first = c.new-head.result in
+    let last = c.read_header.new.feed in
+    let long : length c.text.result.now ≡ length (text_in after) = ap length c.text.ensures in
+    let told = file_told p elements c.in-Ok-read_header.table c.in-Ok-new.window after
+    (left (Some first.rest.now) first.given 0) (left (Some last.rest.now) last.given 0)
+    c.in-Ok-new.ensures.empty c.in-Ok-new.ensures.begun.0 c.in-Ok-read_header.ensures.ok
+    (c.is_done.ensures.left c.if-is_done.false) (c.read.result - length c.text.result.now)
+    (omega (arith, c.read.ensures, long)) c.judge_ranges.result
+    c.judge_ranges.ensures.ok c.judge_ranges.ensures.err in
+    subst (λ es. IsFileJudged c.args.program.now.ordered.program es c.judge_ranges.result)
+    c.rounds_of-rounds.ensures.signature
+    (subst (λ q. IsFileJudged q elements c.judge_ranges.result)
+    (c.rounds_of-rounds.ensures.program ∙ c.in-Ok.ensures) told)

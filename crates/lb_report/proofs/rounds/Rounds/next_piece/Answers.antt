@@ -1,0 +1,31 @@
+use Rattle.std.proofs.Common.{refl}
+use Rattle.lb_pool.proofs.GoingOut.{passes_on}
+use Rattle.lb_report.specs.Windows.{IsLoadFault, left}
+use Rattle.lb_report.specs.declared.feed.LoadError.{LoadError}
+use Rattle.lb_report.proofs.WindowReads.{fault_on, taken_none, taken_on}
+use Rattle.lb_report.proofs.rounds.Rounds.next_piece.Goals as goal
+
+pub pieces-init : goal.pieces-init
+pieces-init g c = record {
+  window = c.requires.window;
+  taken = taken_none c.args.window.now c.args.window.now _ refl refl refl refl;
+}
+
+pub pieces-preserved : goal.pieces-preserved
+pieces-preserved g c =
+    let filled = c.in_ok-fill.ensures in
+    record {
+      window = filled.window;
+      taken = taken_on _ _ _ _ _ _ c.pieces.invariant.taken filled.taken;
+    }
+
+pub returns-in_err-fill-clause-err : goal.returns-in_err-fill-clause-err
+returns-in_err-fill-clause-err g c =
+    let feed = c.args.feed.now in
+    let after = c.fill.new.feed in
+    let old = left (g.F.Feed.coming feed) (g.F.Feed.given feed) (g.F.Feed.failures feed) in
+    let new = left (g.F.Feed.coming after) (g.F.Feed.given after) (g.F.Feed.failures after) in
+    let e = c.in_err-fill.field-0.0 in
+    let Is : LoadError → Type 0 = IsLoadFault c.args.window.now old new in
+    passes_on c.from_residual.result e Is c.from_residual.ensures.1
+    (fault_on _ _ _ _ new e c.pieces.invariant.taken.read c.in_err-fill.ensures.err)

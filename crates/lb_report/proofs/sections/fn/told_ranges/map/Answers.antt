@@ -1,0 +1,30 @@
+-- A section is judged by itself.
+use Rattle.std.proofs.Common.{◌≡◌, ◌≤◌, ◌+◌, ◌==◌, arith, get_or, length, subst}
+use Rattle.lb_report.specs.Ranges.{IsRangeTold}
+use Rattle.lb_report.specs.SectionEnds.{start_of}
+use Rattle.lb_report.proofs.RangeReads.{range_past}
+use Rattle.lb_report.proofs.sections.fn.told_ranges.map.Goals as goal
+
+pub judge_range-requires : goal.judge_range-requires
+judge_range-requires g c =
+    let from = c.captures.from in
+    let ends = c.captures.ends.now in
+    let i = c.args.i in
+    let start : c.start_at-start.result ≡ start_of from ends i = c.start_at-start.ensures in
+    let up : start_of from ends i ≤ get_or ends i 0 =
+    c.requires.1.follow.ordered i c.requires.2 in
+    record {
+      table = c.requires.0;
+      ordered = omega (arith, start, up);
+      short = range_past from ends c.requires.1 i c.requires.2;
+    }
+
+pub returns : goal.returns
+returns g c =
+    let ends = c.captures.ends.now in
+    let i = c.args.i in
+    let start : c.start_at-start.result ≡ start_of c.captures.from ends i =
+    c.start_at-start.ensures in
+    subst (λ s. IsRangeTold c.captures.rounds.now.runner.program.now.program.now
+    c.captures.rounds.now.signature.now c.captures.table.now s (get_or ends i 0)
+    (i + 1 == length ends) c.judge_range.result) start c.judge_range.ensures

@@ -1,0 +1,279 @@
+-- What has been judged of the records of a text while it is read.
+-- This file says what data of the program mean; no definition of the language stands on it.
+use Rattle.std.specs.Prelude.{ℕ, ◌≡◌, ◌≤◌, ◌⊎◌, List, [], ◌∷◌, ◌++◌, length, Bool, false, true, Ok}
+use Rattle.csv.specs.Reading.{default_config, records}
+use Rattle.lb_static.specs.Signature.{Elements}
+use Rattle.lb_traces.specs.Traces.{Traces}
+use Rattle.lb_flat.specs.declared.program.FlatProgram.{FlatProgram}
+use Rattle.lb_trace.specs.declared.error.TraceError.{TraceError}
+use Rattle.lb_trace.specs.declared.roll.Roll.{Roll}
+use Rattle.lb_trace.specs.declared.table.ColumnTable.{ColumnTable}
+use Rattle.lb_trace.specs.Chunks.{is_ended}
+use Rattle.lb_trace.specs.Errors.{IsRefusal, error_number}
+use Rattle.lb_trace.specs.Lines.{record_of}
+use Rattle.lb_trace.specs.Mirrors.{knows}
+use Rattle.lb_trace.specs.Plain.{has_quote}
+use Rattle.lb_trace.specs.Refusals.{outcome, with_records}
+use Rattle.lb_trace.specs.Rolls.{IsRoll, IsRollOf}
+use Rattle.lb_trace.specs.Spelling.{Record, records_of}
+use Rattle.lb_trace.specs.Tables.{columns_in}
+use Rattle.lb_trace.specs.Texts.{IsFront, IsHead}
+use Rattle.lb_pool.specs.Correct.{AreVerdicts}
+use Rattle.lb_report.specs.Windows.{HasRead, HasTaken, IsLoadFault, IsWindow, Left, text_in}
+use Rattle.lb_report.specs.declared.rounds.Halt.{Halt}
+use Rattle.lb_report.specs.declared.rounds.Halt.TheVariants as halt
+use Rattle.lb_report.specs.declared.rounds.Judged.{Judged}
+use Rattle.lb_report.specs.declared.rounds.Reading.{Reading}
+use Rattle.lb_report.specs.declared.rounds.Reading.TheVariants as reading
+use Rattle.lb_report.specs.declared.rounds.State.{State}
+use Rattle.lb_report.specs.declared.window.Window.{Window}
+
+-- the names and verdicts that were kept are those of these traces
+pub record IsJudged (p : FlatProgram) (elements : Elements) (traces : Traces) (j : Judged)
+    : Type 0 where
+  pub names : IsRollOf elements j.roll traces
+  pub verdicts : AreVerdicts p record { signature = elements; traces = traces } j.verdicts.items
+
+-- records that stand behind nothing have been read and judged
+pub record IsJudgedPart (p : FlatProgram) (elements : Elements) (table : ColumnTable)
+    (rows : List Record) (j : Judged)
+    : Type 0 where
+  pub traces : Traces
+  pub read : with_records elements (columns_in table) [] rows ≡ Ok traces
+  pub judged : IsJudged p elements traces j
+
+-- a worker's names and rows go together
+pub record IsState (elements : Elements) (s : State) : Type 0 where
+  pub roll : IsRoll s.judged.roll
+  pub signature : s.round.recorder.rows.signature ≡ elements
+  pub known : knows s.round.recorder.names s.round.recorder.rows.traces
+
+-- of some records the first have been judged, and the others read
+pub record IsPartRead (p : FlatProgram) (elements : Elements) (table : ColumnTable)
+    (rows : List Record) (s : State)
+    : Type 0 where
+  pub done : List Record
+  pub part : List Record
+  pub is : rows ≡ done ++ part
+  pub judged : IsJudgedPart p elements table done s.judged
+  pub set : Traces
+  pub read : with_records elements (columns_in table) [] part ≡ Ok set
+  pub held : s.round.recorder.rows ≡ record { signature = elements; traces = set }
+
+-- a record stands behind the traces of a roll, and is one of some records
+pub record IsStopped (elements : Elements) (table : ColumnTable) (rows : List Record) (roll : Roll)
+    (line : List ℕ)
+    : Type 0 where
+  pub done : List Record
+  pub more : List Record
+  pub is : rows ≡ done ++ record_of line ∷ more
+  pub traces : Traces
+  pub read : with_records elements (columns_in table) [] done ≡ Ok traces
+  pub names : IsRollOf elements roll traces
+
+-- why records that stand behind nothing are not judged
+abbrev pub IsHalt : Elements → ColumnTable → List Record → Halt → Type 0
+IsHalt elements table rows (halt.Load e) = ⊥
+IsHalt elements table rows (halt.Refused e) = error_number e ≡ 0
+IsHalt elements table rows (halt.Early e) =
+    IsRefusal (with_records elements (columns_in table) [] rows) e
+IsHalt elements table rows (halt.Stopped judged line) =
+    IsStopped elements table rows judged.roll line.items
+IsHalt elements table rows halt.Quoted = Unit {0}
+
+-- what is kept of a part that was stopped is a roll
+abbrev pub HasRoll : Halt → Type 0
+HasRoll (halt.Load e) = Unit {0}
+HasRoll (halt.Refused e) = Unit {0}
+HasRoll (halt.Early e) = Unit {0}
+HasRoll (halt.Stopped judged line) = IsRoll judged.roll
+HasRoll halt.Quoted = Unit {0}
+
+-- why records that stand behind nothing are refused, where that is known for certain
+abbrev pub IsLastHalt : Elements → ColumnTable → List Record → Halt → Type 0
+IsLastHalt elements table rows (halt.Load e) = ⊥
+IsLastHalt elements table rows (halt.Refused e) =
+    IsRefusal (with_records elements (columns_in table) [] rows) e
+IsLastHalt elements table rows (halt.Early e) = Unit {0}
+IsLastHalt elements table rows (halt.Stopped judged line) = Unit {0}
+IsLastHalt elements table rows halt.Quoted = Unit {0}
+
+-- a text that may go on, unless it is over, has these records first
+abbrev pub BeginsWith : (over : Bool) → List ℕ → List Record → Type 0
+BeginsWith over text rows =
+    (tail : List ℕ) → (over ≡ true → tail ≡ [])
+    → (others : List Record) × (records default_config (text ++ tail) ≡ rows ++ others)
+
+-- all that a window and its feed had left has been read and judged behind some records
+pub record IsRestJudged (p : FlatProgram) (elements : Elements) (table : ColumnTable)
+    (rows : List Record) (before after : Window) (old new : Left) (j : Judged)
+    : Type 0 where
+  pub read : HasRead before after old new
+  pub over : after.is_over ≡ true
+  pub judged : IsJudgedPart p elements table
+      (rows ++ records default_config (text_in before ++ read.more)) j
+
+-- the same, and there was no quote
+pub record IsPiecesJudged (p : FlatProgram) (elements : Elements) (table : ColumnTable)
+    (rows : List Record) (before after : Window) (old new : Left) (j : Judged)
+    : Type 0 where
+  pub rest : IsRestJudged p elements table rows before after old new j
+  pub plain : has_quote (text_in before ++ rest.read.more) ≡ false
+
+-- some of what a window and its feed had left has been read behind some records
+pub record IsRestRead (p : FlatProgram) (elements : Elements) (table : ColumnTable)
+    (rows : List Record) (before after : Window) (old new : Left) (s : State)
+    : Type 0 where
+  pub read : HasRead before after old new
+  pub front : List ℕ
+  pub taken : text_in before ++ read.more ≡ front ++ text_in after
+  pub plain : has_quote front ≡ false
+  pub more : List Record
+  pub gives : IsFront front more
+  pub part : IsPartRead p elements table (rows ++ more) s
+
+-- all of it has been read
+pub record IsRestDone (p : FlatProgram) (elements : Elements) (table : ColumnTable)
+    (rows : List Record) (before after : Window) (old new : Left) (s : State)
+    : Type 0 where
+  pub read : HasRead before after old new
+  pub over : after.is_over ≡ true
+  pub nothing : text_in after ≡ []
+  pub part : IsPartRead p elements table
+      (rows ++ records default_config (text_in before ++ read.more)) s
+  pub plain : has_quote (text_in before ++ read.more) ≡ false
+
+-- why it was not judged to its end
+pub record HasHalted (elements : Elements) (table : ColumnTable) (rows : List Record)
+    (before after : Window) (old new : Left) (h : Halt)
+    : Type 0 where
+  pub read : HasRead before after old new
+  pub more : List Record
+  pub begins : BeginsWith after.is_over (text_in before ++ read.more) more
+  pub halt : IsHalt elements table (rows ++ more) h
+
+-- the same, or the feed is at fault
+abbrev pub IsRestHalted :
+    Elements → ColumnTable → List Record → (before after : Window) → (old new : Left) → Halt
+    → Type 0
+IsRestHalted elements table rows before after old new (halt.Load e) =
+    IsLoadFault before old new e
+IsRestHalted elements table rows before after old new (halt.Refused e) =
+    HasHalted elements table rows before after old new (halt.Refused e)
+IsRestHalted elements table rows before after old new (halt.Early e) =
+    HasHalted elements table rows before after old new (halt.Early e)
+IsRestHalted elements table rows before after old new (halt.Stopped judged line) =
+    HasHalted elements table rows before after old new (halt.Stopped judged line)
+IsRestHalted elements table rows before after old new halt.Quoted =
+    HasHalted elements table rows before after old new halt.Quoted
+
+-- why the pieces of it were not judged to the end
+abbrev pub IsReading :
+    FlatProgram → Elements → ColumnTable → List Record → (before after : Window)
+    → (old new : Left) → Reading → Type 0
+IsReading p elements table rows before after old new (reading.Quoted s) =
+    IsRestRead p elements table rows before after old new s
+IsReading p elements table rows before after old new (reading.Halted h) =
+    IsRestHalted elements table rows before after old new h
+
+-- what is kept is a window, a state and a feed that has not failed, or a roll
+abbrev pub IsReadOn : Elements → Window → (old new : Left) → Reading → Type 0
+IsReadOn elements w old new (reading.Quoted s) =
+    IsState elements s × IsWindow w × (new.failures ≡ old.failures)
+IsReadOn elements w old new (reading.Halted h) = HasRoll h
+
+-- why what is left is refused, where that is known for certain
+pub record HasRefused (elements : Elements) (table : ColumnTable) (rows : List Record)
+    (before after : Window) (old new : Left) (e : TraceError)
+    : Type 0 where
+  pub read : HasRead before after old new
+  pub more : List Record
+  pub begins : BeginsWith after.is_over (text_in before ++ read.more) more
+  pub refused : IsRefusal (with_records elements (columns_in table) [] (rows ++ more)) e
+
+-- the same, or the feed is at fault
+abbrev pub IsRestRefused :
+    Elements → ColumnTable → List Record → (before after : Window) → (old new : Left) → Halt
+    → Type 0
+IsRestRefused elements table rows before after old new (halt.Load e) =
+    IsLoadFault before old new e
+IsRestRefused elements table rows before after old new (halt.Refused e) =
+    HasRefused elements table rows before after old new e
+IsRestRefused elements table rows before after old new (halt.Early e) =
+    HasRead before after old new
+IsRestRefused elements table rows before after old new (halt.Stopped judged line) =
+    HasRead before after old new
+IsRestRefused elements table rows before after old new halt.Quoted =
+    HasRead before after old new
+
+-- why the records of a reader are not judged to the end, which had given some of its text
+pub record HasHaltedAt (elements : Elements) (table : ColumnTable) (text : List ℕ)
+    (given rows : List Record) (h : Halt)
+    : Type 0 where
+  pub more : List Record
+  pub others : List Record
+  pub is : records_of text ≡ given ++ (more ++ others)
+  pub halt : IsHalt elements table (rows ++ more) h
+
+-- they are judged
+pub record IsJudgedFrom (p : FlatProgram) (elements : Elements) (table : ColumnTable)
+    (text : List ℕ) (given rows : List Record) (j : Judged)
+    : Type 0 where
+  pub more : List Record
+  pub is : records_of text ≡ given ++ more
+  pub judged : IsJudgedPart p elements table (rows ++ more) j
+
+-- all bytes of a feed have been judged, as a text
+pub record IsTextJudged (p : FlatProgram) (elements : Elements) (before after : Window)
+    (old new : Left) (j : Judged)
+    : Type 0 where
+  pub read : HasRead before after old new
+  pub over : after.is_over ≡ true
+  pub traces : Traces
+  pub given : length (text_in before ++ read.more) ≤ 1073741824
+      → outcome elements (text_in before ++ read.more) ≡ Ok traces
+  pub judged : IsJudged p elements traces j
+
+-- the text is refused, however it goes on
+pub record HasRefusedText (elements : Elements) (before after : Window) (old new : Left)
+    (e : TraceError)
+    : Type 0 where
+  pub read : HasRead before after old new
+  pub refused : (tail : List ℕ) → (after.is_over ≡ true → tail ≡ [])
+      → length ((text_in before ++ read.more) ++ tail) ≤ 1073741824
+      → IsRefusal (outcome elements ((text_in before ++ read.more) ++ tail)) e
+
+-- the same, or the feed is at fault
+abbrev pub IsTextRefused :
+    Elements → (before after : Window) → (old new : Left) → Halt → Type 0
+IsTextRefused elements before after old new (halt.Load e) = IsLoadFault before old new e
+IsTextRefused elements before after old new (halt.Refused e) =
+    HasRefusedText elements before after old new e
+IsTextRefused elements before after old new (halt.Early e) =
+    HasRead before after old new
+IsTextRefused elements before after old new (halt.Stopped judged line) =
+    HasRead before after old new
+IsTextRefused elements before after old new halt.Quoted =
+    HasRead before after old new
+
+-- the header of a text has been read, and what stands behind it is left
+pub record IsHeadRead (elements : Elements) (table : ColumnTable) (before after : Window)
+    (old new : Left)
+    : Type 0 where
+  pub read : HasRead before after old new
+  pub head : List ℕ
+  pub taken : text_in before ++ read.more ≡ head ++ text_in after
+  pub is : IsHead elements table head
+  pub end : (is_ended head ≡ true) ⊎ ((after.is_over ≡ true) × (text_in after ≡ []))
+
+-- why there is none: where its line has a quote, all that was read is kept
+abbrev pub IsHeadHalted :
+    Elements → (before after : Window) → (old new : Left) → Halt → Type 0
+IsHeadHalted elements before after old new (halt.Load e) = IsLoadFault before old new e
+IsHeadHalted elements before after old new (halt.Refused e) =
+    HasRefusedText elements before after old new e
+IsHeadHalted elements before after old new (halt.Early e) = HasRead before after old new
+IsHeadHalted elements before after old new (halt.Stopped judged line) =
+    HasRead before after old new
+IsHeadHalted elements before after old new halt.Quoted =
+    HasTaken before after old new × IsWindow after

@@ -1,0 +1,18 @@
+-- What the bench answers to a source and a file that is read in ranges.
+-- Source: this project's rule.
+use Rattle.std.specs.Prelude.{Result, Ok, Err}
+use Rattle.lb_syntax.specs.Tokens.{Text}
+use Rattle.lb_pool.specs.declared.text.Report.{Report}
+use Rattle.lb_report.specs.Correct.{IsBenchAnswer}
+use Rattle.lb_report.specs.declared.feeding.FeedFault.{FeedFault}
+use Rattle.lb_report.specs.declared.feeding.FeedFault.TheVariants as fault
+use Rattle.lb_report.specs.declared.options.Options.{Options}
+
+-- a report on a trace text, or a refusal of the source and that text; nothing is said of a fault in
+-- reading
+abbrev pub IsRangeAnswer :
+    (source traces : Text) → Options → Result Report FeedFault → Type 0
+IsRangeAnswer source traces options (Ok report) = IsBenchAnswer source traces options (Ok report)
+IsRangeAnswer source traces options (Err (fault.Load e)) = Unit {0}
+IsRangeAnswer source traces options (Err (fault.Refused e)) =
+    IsBenchAnswer source traces options (Err e)

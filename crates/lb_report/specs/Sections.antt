@@ -1,0 +1,140 @@
+-- A text in sections, of which each is judged by itself.
+-- This file says what data of the program mean; no definition of the language stands on it.
+use Rattle.std.specs.Prelude.{ℕ, ◌≡◌, ◌<◌, ◌≤◌, ◌++◌, List, [], Option, None, Some, Result, Ok, Err}
+use Rattle.std.specs.Prelude.{Bool as Truth, ◌⊎◌, drop, false, true, flat_map, length, map, take}
+use Rattle.std.specs.List.{All, range_with_len}
+use Rattle.lb_static.specs.Signature.{Elements}
+use Rattle.lb_flat.specs.declared.program.FlatProgram.{FlatProgram}
+use Rattle.lb_trace.specs.Errors.{IsRefusal, error_number}
+use Rattle.lb_trace.specs.Plain.{has_quote, plain_records}
+use Rattle.lb_trace.specs.Refusals.{with_records}
+use Rattle.lb_trace.specs.Rolls.{IsRoll}
+use Rattle.lb_trace.specs.Spelling.{Record}
+use Rattle.lb_trace.specs.Tables.{columns_in}
+use Rattle.lb_trace.specs.declared.error.TraceError.{TraceError}
+use Rattle.lb_trace.specs.declared.table.ColumnTable.{ColumnTable}
+use Rattle.lb_report.specs.JudgedParts.{HasRoll, IsHalt, IsJudgedPart}
+use Rattle.lb_report.specs.SectionEnds.{section}
+use Rattle.lb_report.specs.Windows.{HasRead, IsLoadFault, Left, text_in}
+use Rattle.lb_report.specs.declared.rounds.Halt.{Halt}
+use Rattle.lb_report.specs.declared.rounds.Halt.TheVariants as halt
+use Rattle.lb_report.specs.declared.rounds.Judged.{Judged}
+use Rattle.lb_report.specs.declared.sections.Appended.{Appended}
+use Rattle.lb_report.specs.declared.window.Window.{Window}
+
+-- ## What is told of a section
+
+-- its lines, which have no quotes, have been read and judged behind nothing
+pub record IsSectionJudged (p : FlatProgram) (elements : Elements) (table : ColumnTable)
+    (text : List ℕ) (j : Judged)
+    : Type 0 where
+  pub plain : has_quote text ≡ false
+  pub part : IsJudgedPart p elements table (plain_records text) j
+  pub roll : IsRoll j.roll
+
+-- a refusal of a line says that the section has no quotes
+abbrev pub IsPlainHalt : (text : List ℕ) → Halt → Type 0
+IsPlainHalt text (halt.Stopped judged line) = has_quote text ≡ false
+IsPlainHalt text (halt.Early e) = has_quote text ≡ false
+IsPlainHalt text h = Unit {0}
+
+-- why it was not judged
+pub record IsSectionHalted (elements : Elements) (table : ColumnTable) (text : List ℕ) (h : Halt)
+    : Type 0 where
+  pub plain : IsPlainHalt text h
+  pub halt : IsHalt elements table (plain_records text) h
+  pub kept : HasRoll h
+
+abbrev pub IsSection :
+    FlatProgram → Elements → ColumnTable → (text : List ℕ) → Result Judged Halt → Type 0
+IsSection p elements table text (Ok j) = IsSectionJudged p elements table text j
+IsSection p elements table text (Err h) = IsSectionHalted elements table text h
+
+-- what a worker tells has a roll, if it has any names
+abbrev pub KeepsRoll : Result Judged Halt → Type 0
+KeepsRoll (Ok j) = IsRoll j.roll
+KeepsRoll (Err h) = HasRoll h
+
+-- whether it is to be judged again, behind those before it
+abbrev pub is_alone : Halt → Truth
+is_alone (halt.Load e) = false
+is_alone (halt.Refused e) = false
+is_alone (halt.Early e) = true
+is_alone (halt.Stopped judged line) = false
+is_alone halt.Quoted = true
+
+-- what is told of a section of a file, which is joined to what stands behind it or not, and of
+-- which some is left or not: it is to be judged again where it could not be read, or is neither
+-- judged and joined nor refused before its end
+abbrev pub told_at_seam : (joined more : Truth) → Result Judged Halt → Result Judged Halt
+told_at_seam true more (Ok j) = Ok j
+told_at_seam false more (Ok j) = Err halt.Quoted
+told_at_seam joined more (Err (halt.Load e)) = Err halt.Quoted
+told_at_seam joined more (Err (halt.Refused e)) = Err (halt.Refused e)
+told_at_seam joined true (Err (halt.Early e)) = Err (halt.Early e)
+told_at_seam joined false (Err (halt.Early e)) = Err halt.Quoted
+told_at_seam joined true (Err (halt.Stopped judged line)) = Err (halt.Stopped judged line)
+told_at_seam joined false (Err (halt.Stopped judged line)) = Err halt.Quoted
+told_at_seam joined more (Err halt.Quoted) = Err halt.Quoted
+
+-- ## Sections one after the other
+
+-- the lines of some texts
+abbrev pub lines_of : List (List ℕ) → List Record
+lines_of texts = flat_map plain_records texts
+
+-- what stopped them is told on: no refusal but for want of memory
+abbrev pub IsToldOn : Halt → Type 0
+IsToldOn (halt.Load e) = ⊥
+IsToldOn (halt.Refused e) = error_number e ≡ 0
+IsToldOn (halt.Early e) = Unit {0}
+IsToldOn (halt.Stopped judged line) = Unit {0}
+IsToldOn halt.Quoted = Unit {0}
+
+abbrev pub IsHaltAfter : (count all : ℕ) → Option Halt → Type 0
+IsHaltAfter count all None = count ≡ all
+IsHaltAfter count all (Some h) = (count < all) × IsToldOn h
+
+-- the first sections have been judged behind some records, all of them if nothing stopped them
+pub record AreAppended (p : FlatProgram) (elements : Elements) (table : ColumnTable)
+    (rows : List Record) (texts : List (List ℕ)) (a : Appended)
+    : Type 0 where
+  pub plain : All (λ text. has_quote text ≡ false) (take a.count texts)
+  pub part : IsJudgedPart p elements table (rows ++ lines_of (take a.count texts)) a.all
+  pub stopped : IsHaltAfter a.count (length texts) a.halt
+
+-- a line of a section is refused behind those before it
+pub record IsRefusedWithin (elements : Elements) (table : ColumnTable) (rows : List Record)
+    (texts : List (List ℕ)) (e : TraceError)
+    : Type 0 where
+  pub count : ℕ
+  pub within : count ≤ length texts
+  pub plain : All (λ text. has_quote text ≡ false) (take count texts)
+  pub refused :
+      IsRefusal (with_records elements (columns_in table) [] (rows ++ lines_of (take count texts)))
+      e
+
+-- ## Sections of a window
+
+-- the sections of a text
+abbrev pub sections_in : (text : List ℕ) → (ends : List ℕ) → List (List ℕ)
+sections_in text ends = map (section text ends) (range_with_len 0 (length ends))
+
+-- a window has let go of so many bytes at its front, and has read on
+pub record HasTurned (count : ℕ) (before after : Window) (old new : Left) : Type 0 where
+  pub read : HasRead before after old new
+  pub text : text_in after ≡ drop count (text_in before) ++ read.more
+
+-- why the sections of the bytes at its front were not judged: the feed is at fault, memory ran out,
+-- or a line is refused
+abbrev pub IsTurnHalted :
+    Elements → ColumnTable → List Record → (texts : List (List ℕ)) → (count : ℕ)
+    → (before after : Window) → (old new : Left) → Halt → Type 0
+IsTurnHalted elements table rows texts count before after old new (halt.Load e) =
+    IsLoadFault before old new e
+IsTurnHalted elements table rows texts count before after old new (halt.Refused e) =
+    ((error_number e ≡ 0) × HasRead before after old new)
+    ⊎ (HasTurned count before after old new × IsRefusedWithin elements table rows texts e)
+IsTurnHalted elements table rows texts count before after old new (halt.Early e) = ⊥
+IsTurnHalted elements table rows texts count before after old new (halt.Stopped judged line) = ⊥
+IsTurnHalted elements table rows texts count before after old new halt.Quoted = ⊥

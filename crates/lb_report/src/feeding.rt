@@ -1,0 +1,351 @@
+//! The bench on traces that come from a feed.
+
+ghost use Rattle.std.specs.Prelude.{◌≡◌, ◌<◌, ◌≤◌, IfErr, IfOk, IfSome, OnOk, length, vec_len};
+ghost use Rattle.lb_syntax.specs.Tokens.{Text};
+ghost use Rattle.lb_traces.specs.Traces.{trace_names};
+ghost use Rattle.lb_pool.specs.Reports.{IsReport};
+ghost use Rattle.lb_report.specs.Bench.{OnlyProgram};
+ghost use Rattle.lb_report.specs.FeedAnswers.{IsFeedAnswer};
+ghost use Rattle.lb_report.specs.FeedJudging.{IsJudgingFault, IsLastFault, IsProgramJudged};
+ghost use Rattle.lb_report.specs.FeedJudging.{fault_by, told_first, too_long};
+ghost use Rattle.lb_report.specs.JudgedParts.{IsTextJudged, IsTextRefused};
+ghost use Rattle.lb_report.specs.RangeAnswers.{IsRangeAnswer};
+ghost use Rattle.lb_report.specs.Ranges.{IsFileJudged};
+ghost use Rattle.lb_report.specs.Windows.{IsWindow, left};
+
+use crate::answer::{AcceptedProgram, accept};
+use crate::error::BenchError;
+use crate::feed::{Feed, LoadError};
+use crate::file_chunks::size_of;
+use crate::options::Options;
+use crate::rounds::{Halt, Judged, Rounds, row_bytes};
+use crate::sections::{TextFeed, ends_in_file, judge_by, judge_ranges};
+use crate::window::Window;
+use lb_pool::{LaneProgram, Report, SetRunner, compile};
+use lb_trace::TraceError;
+use rayon::current_num_threads;
+use std::alloc::Global;
+use std::fs::OpenFile;
+use std::os::unix::fs::FileExt;
+use std::rt::Runtime;
+use std::thread::Threads;
+
+/// How much of a text is judged at once. What a report says does not hang on it.
+#[derive(Clone, Copy)]
+pub struct Sizes {
+    /// How many bytes of a text are in memory with one worker, unless a trace is longer, and of
+    /// each section of a file with several. What several workers judge and can only be read in
+    /// order is in memory as a whole.
+    pub window: usize,
+    /// How many bytes of rows are run at once, about.
+    pub round: usize,
+    /// The least bytes of a file that is read in sections.
+    pub least: u64,
+}
+
+impl Sizes {
+    /// Enough rows for some times 64 lanes, and so few that all take some 20 MB.
+    pub fn usual(workers: u32) -> Sizes {
+        Sizes {
+            window: if workers == 1 { 1 << 20 } else { 1 << 19 },
+            round: if workers == 1 { 16 << 20 } else { 6 << 20 },
+            least: 1 << 21,
+        }
+    }
+}
+
+/// The most bytes of a trace text.
+pub(crate) const MOST_BYTES: usize = 1_073_741_824;
+
+/// How many bytes of a file are read for its header, at most.
+const HEAD: usize = 1 << 16;
+
+/// Why there is no report on the traces of a feed.
+#[derive(Drop)]
+pub enum FeedFault {
+    /// E0 or E21: the feed failed, or has too many bytes.
+    Load(LoadError),
+    /// E0 to E18.
+    Refused(BenchError),
+}
+
+impl From<LoadError> for FeedFault {
+    ghost use Rattle.lb_report.specs.declared.feeding.FeedFault.TheVariants.{Load};
+
+    ghost from_gives = { λ cause e. e ≡ Load cause };
+
+    fn from(cause: LoadError) -> FeedFault {
+        FeedFault::Load(cause)
+    }
+}
+
+/// How the traces of a program are judged by so many workers.
+fn rounds_of<'a, 'p>(
+    alloc: Global,
+    program: &'a AcceptedProgram,
+    lanes: &'a LaneProgram<'p>,
+    options: &Options,
+    sizes: Sizes,
+) -> Rounds<'a, 'p>
+    ensures signature { result.signature.now ≡ program.now.signature }
+    ensures program { result.runner.program.now.program.now ≡ lanes.now.program.now }
+{
+    let bytes = row_bytes(&program.signature).max(1);
+    Rounds {
+        alloc,
+        signature: &program.signature,
+        runner: SetRunner {
+            program: lanes,
+            lanes: options.batch,
+        },
+        instants: (sizes.round / bytes).clamp(1, 4_000_000) as u32,
+        window: sizes.window,
+    }
+}
+
+/// How many workers judge: as many as there are processors where the options leave that open.
+fn workers_of<R: Threads>(rt: &R, options: &Options) -> usize {
+    match options.workers {
+        0 => current_num_threads(rt),
+        count => count as usize,
+    }
+}
+
+/// Judges the traces of a feed by a program.
+fn judged_by<R, F>(
+    rt: &R,
+    alloc: Global,
+    program: &AcceptedProgram,
+    feed: &mut F,
+    window: &mut Window,
+    options: &Options,
+    sizes: Sizes,
+) -> Result<Judged, Halt>
+where
+    R: Threads + Sync,
+    F: Feed + Send,
+    requires window { IsWindow window.old }
+    requires failures { F.failures feed.old < u64.MAX }
+    ensures window { OnOk result (IsWindow window.new) }
+    ensures ok { IfOk result (λ judged.
+        IsTextJudged program.now.ordered.program program.now.signature window.old window.new
+        (left (F.coming feed.old) (F.given feed.old) (F.failures feed.old))
+        (left (F.coming feed.new) (F.given feed.new) (F.failures feed.new)) judged) }
+    ensures err { IfErr result (λ halt.
+        IsTextRefused program.now.signature window.old window.new
+        (left (F.coming feed.old) (F.given feed.old) (F.failures feed.old))
+        (left (F.coming feed.new) (F.given feed.new) (F.failures feed.new)) halt) }
+{
+    let lanes = compile(alloc, &program.ordered)?;
+    let workers = workers_of(rt, options);
+    let rounds = rounds_of(alloc, program, &lanes, options, sizes);
+    if workers == 1 {
+        rounds.judge(feed, window)
+    } else {
+        judge_by(rt, &rounds, feed, window, workers)
+    }
+}
+
+/// The bytes at the begin of a file of so many bytes, as far as its header is looked for.
+fn first_bytes<F: FileExt>(alloc: Global, file: &F, size: u64) -> Option<Vec<u8>>
+    ensures { IfSome result (λ bytes. vec_len bytes ≤ size) }
+{
+    let mut bytes = Vec::new(alloc);
+    let Ok(()) = bytes.resize(size.min(HEAD as u64) as usize, 0) else {
+        return None;
+    };
+    let Ok(()) = file.read_exact_at(bytes.as_mut_slice(), 0) else {
+        return None;
+    };
+    Some(bytes)
+}
+
+/// Judges the traces of a file of so many bytes by a program, in sections. None where nothing
+/// stands behind a header within the first bytes, and where the header has a quote, is refused or
+/// could not be read.
+fn judged_file<R, F>(
+    rt: &R,
+    alloc: Global,
+    program: &AcceptedProgram,
+    file: &F,
+    size: u64,
+    options: &Options,
+    sizes: Sizes,
+) -> Option<Result<Judged, Halt>>
+where
+    R: Threads + Sync,
+    F: FileExt + Sync,
+    requires { size ≤ 1073741824 }
+    ensures { IfSome result (IsFileJudged program.now.ordered.program program.now.signature) }
+{
+    let Ok(lanes) = compile(alloc, &program.ordered) else {
+        return None;
+    };
+    let rounds = rounds_of(alloc, program, &lanes, options, sizes);
+    let bytes = first_bytes(alloc, file, size)?;
+    let Ok(mut window) = Window::new(alloc, HEAD) else {
+        return None;
+    };
+    let mut head = TextFeed::new(bytes.as_slice());
+    let Ok(table) = rounds.read_header(&mut head, &mut window) else {
+        return None;
+    };
+    if window.is_done() {
+        return None;
+    }
+    let from = (window.read() - window.text().len()) as u64;
+    let count = workers_of(rt, options) as u64;
+    let Ok(ends) = ends_in_file(alloc, file, from, size, count) else {
+        return None;
+    };
+    Some(judge_ranges(rt, &rounds, &table, file, from, ends.as_slice()))
+}
+
+/// As [`bench`](crate::bench) on the traces of a large file that is open, which several workers
+/// read in sections side by side, each at places of its own. None says nothing of the texts:
+/// [`bench_feed`] of the file's bytes then tells. It is answered where one worker is to read the
+/// file, where it is no regular file, not large or longer than a trace text may be, and where the
+/// source or the header is not plainly accepted.
+pub fn bench_ranges<R, F>(
+    rt: &R,
+    source: &[u8],
+    file: &F,
+    options: &Options,
+    sizes: Sizes,
+) -> Option<Result<Report, FeedFault>>
+where
+    R: Runtime + AllocGlobal + Threads + Sync,
+    F: OpenFile + FileExt + Sync,
+    ensures { IfSome result (λ found. (traces : Text)
+        × IsRangeAnswer source.now traces options.now found) }
+{
+    let alloc = rt.alloc();
+    let size = size_of(file);
+    if workers_of(rt, options) == 1 || size < sizes.least || size > MOST_BYTES as u64 {
+        return None;
+    }
+    let Ok(program) = accept(alloc, source, options) else {
+        return None;
+    };
+    let found = judged_file(rt, alloc, &program, file, size, options, sizes)?;
+    match found {
+        Ok(judged) => Some(report_of(alloc, &judged, size as usize)),
+        Err(halt) => Some(Err(fault_of(halt))),
+    }
+}
+
+/// Judges the traces of a feed by the program of a source.
+fn judge_feed<R, F>(
+    rt: &R,
+    alloc: Global,
+    source: &[u8],
+    feed: &mut F,
+    window: &mut Window,
+    options: &Options,
+    sizes: Sizes,
+) -> Result<Judged, FeedFault>
+where
+    R: Threads + Sync,
+    F: Feed + Send,
+    requires window { IsWindow window.old }
+    requires failures { F.failures feed.old < u64.MAX }
+    ensures window { OnOk result (IsWindow window.new) }
+    ensures ok { IfOk result (λ judged. OnlyProgram source.now options.now (λ P.
+        IsProgramJudged P window.old window.new
+        (left (F.coming feed.old) (F.given feed.old) (F.failures feed.old))
+        (left (F.coming feed.new) (F.given feed.new) (F.failures feed.new)) judged)) }
+    ensures err { IfErr result (λ fault. IsJudgingFault source.now options.now
+        window.old window.new
+        (left (F.coming feed.old) (F.given feed.old) (F.failures feed.old))
+        (left (F.coming feed.new) (F.given feed.new) (F.failures feed.new)) fault) }
+{
+    let program = match accept(alloc, source, options) {
+        Ok(program) => program,
+        Err(cause) => return Err(FeedFault::Refused(cause)),
+    };
+    match judged_by(rt, alloc, &program, feed, window, options, sizes) {
+        Ok(judged) => Ok(judged),
+        Err(halt) => Err(fault_of(halt)),
+    }
+}
+
+/// What is told of a text that was not judged to its end.
+fn fault_of(halt: Halt) -> FeedFault
+    ensures { result ≡ fault_by halt }
+{
+    match halt {
+        Halt::Load(cause) => FeedFault::Load(cause),
+        Halt::Refused(cause) => FeedFault::Refused(BenchError::Trace(cause)),
+        _ => FeedFault::Refused(BenchError::Memory),
+    }
+}
+
+/// The report on the traces of a text of so many bytes.
+fn report_of(alloc: Global, judged: &Judged, bytes: usize) -> Result<Report, FeedFault>
+    requires { length judged.now.verdicts.items ≡ length judged.now.roll.names.traces }
+    ensures short { OnOk result (bytes ≤ 1073741824) }
+    ensures ok { IfOk result (IsReport (trace_names judged.now.roll.names.traces)
+        judged.now.verdicts.items) }
+    ensures err { IfErr result (IsLastFault bytes) }
+{
+    if bytes > MOST_BYTES {
+        return Err(FeedFault::Refused(too_long()));
+    }
+    match Report::new(alloc, judged.roll.names(), judged.verdicts.as_slice()) {
+        Ok(report) => Ok(report),
+        Err(_) => Err(FeedFault::Refused(BenchError::Memory)),
+    }
+}
+
+/// The refusal of a trace text that has too many bytes.
+pub(crate) fn too_long() -> BenchError
+    ensures { result ≡ too_long }
+{
+    BenchError::Trace(TraceError::Limit { record: None })
+}
+
+/// Why a source and a trace text of so many bytes are refused, of which the first part refuses so:
+/// that a text is too long comes before what is wrong with its records.
+fn first_of(cause: BenchError, bytes: usize) -> BenchError
+    ensures { result ≡ told_first cause bytes }
+{
+    match cause {
+        BenchError::Trace(cause) if bytes > MOST_BYTES && cause.number() != 0 => too_long(),
+        other => other,
+    }
+}
+
+/// Runs a node of a source over the traces of a feed, and reports the verdict of each, as
+/// [`bench`](crate::bench) does on all bytes of the feed. In memory are no more than a part of the
+/// text, the rows of some traces, and the names and verdicts of all.
+///
+/// The feed is read to its end, also where the texts are refused. The errors are E0 to E18, and E21
+/// where the feed failed or gave more than 1,100,000,000 bytes.
+pub fn bench_feed<R, F>(
+    rt: &R,
+    source: &[u8],
+    feed: &mut F,
+    options: &Options,
+    sizes: Sizes,
+) -> Result<Report, FeedFault>
+where
+    R: Runtime + AllocGlobal + Threads + Sync,
+    F: Feed + Send,
+    requires { F.failures feed.old < u64.MAX }
+    ensures { IsFeedAnswer source.now options.now
+        (left (F.coming feed.old) (F.given feed.old) (F.failures feed.old))
+        (left (F.coming feed.new) (F.given feed.new) (F.failures feed.new)) result }
+{
+    let alloc = rt.alloc();
+    let Ok(mut window) = Window::new(alloc, sizes.window) else {
+        return Err(FeedFault::Load(LoadError::Memory));
+    };
+    match judge_feed(rt, alloc, source, feed, &mut window, options, sizes) {
+        Ok(judged) => report_of(alloc, &judged, window.read()),
+        Err(FeedFault::Load(cause)) => Err(FeedFault::Load(cause)),
+        Err(FeedFault::Refused(cause)) => {
+            window.drain(feed)?;
+            Err(FeedFault::Refused(first_of(cause, window.read())))
+        }
+    }
+}

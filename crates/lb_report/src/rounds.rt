@@ -1,0 +1,640 @@
+//! Judging while reading: the traces of a text, round after round.
+//!
+//! ```text
+//! feed -> window -> whole traces -> rows -> once they are many, run -> names and verdicts
+//! ```
+//!
+//! A round ends where its rows take so many bytes; then its traces are run, and their rows let go.
+//! What is kept of a trace is its name, its length and its verdict.
+
+ghost use Rattle.std.specs.Prelude.{◌≡◌, ◌<◌, ◌≤◌};
+
+use crate::feed::{Feed, LoadError};
+use crate::window::Window;
+use lb_check::Verdict;
+use lb_pool::{RoundRoom, SetRunner};
+use lb_static::Signature;
+use lb_syntax::Kind;
+use lb_trace::{
+    ColumnTable, Roll, RoundReader, Stopped, TraceError, begin, first_line, has_line, header_len,
+    is_plain, strip_bom, whole_traces,
+};
+use std::alloc::{AllocError, Global};
+
+/// The most traces of a round, about.
+const MOST_TRACES: u32 = 65_536;
+
+/// How a worker judges: the program, the signature of its traces, how large its rounds are.
+#[derive(Clone, Copy)]
+pub(crate) struct Rounds<'a, 'p> {
+    pub(crate) alloc: Global,
+    pub(crate) signature: &'a Signature,
+    pub(crate) runner: SetRunner<'a, 'p>,
+    /// How many instants a round has, about.
+    pub(crate) instants: u32,
+    /// How many bytes of a text, or of a section, are in memory, unless a trace is longer.
+    pub(crate) window: usize,
+}
+
+/// The names of the traces so far, and their verdicts.
+#[derive(Drop)]
+pub(crate) struct Judged {
+    pub(crate) roll: Roll,
+    pub(crate) verdicts: Vec<Verdict>,
+}
+
+/// Why a text was not judged to its end.
+#[derive(Drop)]
+pub(crate) enum Halt {
+    /// It could not be read.
+    Load(LoadError),
+    /// It is refused, or memory ran out.
+    Refused(TraceError),
+    /// It is refused if nothing stands before it.
+    Early(TraceError),
+    /// A record of it is refused behind the traces that are named.
+    Stopped { judged: Judged, record: Vec<u8> },
+    /// It has a quote.
+    Quoted,
+}
+
+impl From<AllocError> for Halt {
+    ghost use Rattle.lb_report.specs.declared.rounds.Halt.TheVariants.{Refused};
+    ghost use Rattle.lb_trace.specs.declared.error.TraceError.TheVariants.{Memory};
+
+    ghost from_gives = { λ cause e. e ≡ Refused (Memory cause) };
+
+    fn from(cause: AllocError) -> Halt {
+        Halt::Refused(TraceError::Memory(cause))
+    }
+}
+
+impl From<TraceError> for Halt {
+    ghost use Rattle.lb_report.specs.declared.rounds.Halt.TheVariants.{Refused};
+
+    ghost from_gives = { λ cause e. e ≡ Refused cause };
+
+    fn from(cause: TraceError) -> Halt {
+        Halt::Refused(cause)
+    }
+}
+
+impl From<LoadError> for Halt {
+    ghost use Rattle.lb_report.specs.declared.rounds.Halt.TheVariants.{Load};
+
+    ghost from_gives = { λ cause e. e ≡ Load cause };
+
+    fn from(cause: LoadError) -> Halt {
+        Halt::Load(cause)
+    }
+}
+
+/// What a worker has from round to round.
+#[derive(Drop)]
+pub(crate) struct State {
+    pub(crate) judged: Judged,
+    pub(crate) room: Option<RoundRoom>,
+    pub(crate) round: RoundReader,
+}
+
+/// How many bytes the row of an instant takes.
+pub(crate) fn row_bytes(signature: &Signature) -> usize {
+    let mut integers = 0usize;
+    for i in 0..signature.len() {
+        if let Kind::Int = signature.kind(i) {
+            integers += 1;
+        }
+    }
+    let booleans = signature.len() as usize - integers;
+    4 * integers + 8 * booleans.div_ceil(64)
+}
+
+impl Judged {
+    ghost use Rattle.std.specs.Prelude.{[], ◌++◌, IfErr, IfOk};
+    ghost use Rattle.lb_static.specs.Signature.{Elements};
+    ghost use Rattle.lb_traces.specs.Traces.{Traces};
+    ghost use Rattle.lb_flat.specs.declared.program.FlatProgram.{FlatProgram};
+    ghost use Rattle.lb_trace.specs.Rolls.{IsRoll, RefusesRoll};
+    ghost use Rattle.lb_report.specs.JudgedParts.{IsJudged};
+
+    /// Nothing yet.
+    pub(crate) fn new(alloc: Global, signature: &Signature) -> Result<Judged, AllocError>
+        ensures { IfOk result (λ judged. (p : FlatProgram) → IsJudged p signature.now [] judged) }
+    {
+        Ok(Judged {
+            roll: Roll::new(alloc, signature)?,
+            verdicts: Vec::new(alloc),
+        })
+    }
+
+    /// Puts what was judged of further text behind this.
+    pub(crate) fn append(self, alloc: Global, more: &Judged) -> Result<Judged, TraceError>
+        requires names { IsRoll self.roll }
+        requires more { IsRoll more.now.roll }
+        ensures roll { IfOk result (λ judged. IsRoll judged.roll) }
+        ensures ok { IfOk result (λ judged. (p : FlatProgram) → (elements : Elements)
+            → (some others : Traces) → IsJudged p elements some self
+            → IsJudged p elements others more.now
+            → IsJudged p elements (some ++ others) judged) }
+        ensures err { IfErr result (RefusesRoll self.roll more.now.roll) }
+    {
+        let Judged { roll, mut verdicts } = self;
+        let roll = roll.append_roll(alloc, &more.roll)?;
+        let Ok(()) = verdicts.extend_from_slice(more.verdicts.as_slice()) else {
+            return Err(TraceError::Memory(AllocError));
+        };
+        Ok(Judged { roll, verdicts })
+    }
+}
+
+impl Rounds<'_, '_> {
+    ghost use Rattle.std.specs.Prelude.{◌≡◌, ◌⊎◌, ◌∷◌, ◌++◌, [], ℕ, List, false, true, length};
+    ghost use Rattle.std.specs.Prelude.{take, IfErr, IfOk, OnOk};
+    ghost use Rattle.csv.specs.Reading.{strip_bom};
+    ghost use Rattle.lb_trace.specs.Chunks.{is_ended};
+    ghost use Rattle.lb_trace.specs.Lines.{record_of};
+    ghost use Rattle.lb_trace.specs.Plain.{has_quote, plain_records};
+    ghost use Rattle.lb_trace.specs.Rolls.{IsRoll};
+    ghost use Rattle.lb_trace.specs.RoundReaders.{IsRound};
+    ghost use Rattle.lb_trace.specs.Spelling.{Record};
+    ghost use Rattle.lb_trace.specs.Tables.{IsColumnTable};
+    ghost use Rattle.lb_trace.specs.declared.table.ColumnTable.{ColumnTable as Table};
+    ghost use Rattle.lb_report.specs.JudgedParts.{HasRoll, IsHalt, IsHeadHalted, IsHeadRead};
+    ghost use Rattle.lb_report.specs.JudgedParts.{IsJudgedPart, IsLastHalt};
+    ghost use Rattle.lb_report.specs.JudgedParts.{IsPartRead, IsPiecesJudged, IsReading, IsReadOn};
+    ghost use Rattle.lb_report.specs.JudgedParts.{IsRestDone, IsRestHalted, IsRestRead, IsState};
+    ghost use Rattle.lb_report.specs.declared.rounds.Halt.TheVariants.{Load};
+    ghost use Rattle.lb_report.specs.declared.feed.LoadError.{LoadError};
+    ghost use Rattle.lb_report.specs.PlainHalts.{IsPlainHalted, IsPlainReading};
+    ghost use Rattle.lb_report.specs.Sections.{IsPlainHalt};
+    ghost use Rattle.lb_report.specs.Windows.{HasTaken, IsLoadFault, IsWindow, left};
+    ghost use Rattle.lb_report.specs.Windows.{text_in, turns_left};
+
+    /// A round with room for its cells, and some more.
+    fn new_round(&self) -> Result<RoundReader, AllocError>
+        ensures { IfOk result (IsRound self.now.signature.now []) }
+    {
+        let cells = (self.instants as usize).saturating_mul(self.signature.len() as usize);
+        RoundReader::new(self.alloc, self.signature, cells.saturating_add(cells / 4))
+    }
+
+    /// Nothing but what was judged.
+    pub(crate) fn begin_with(&self, judged: Judged) -> Result<State, AllocError>
+        requires { IsRoll judged.roll }
+        ensures state { IfOk result (IsState self.now.signature.now) }
+        ensures part { IfOk result (λ state. (table : Table) → (rows : List Record)
+            → IsJudgedPart self.now.runner.program.now.program.now self.now.signature.now table
+            rows judged
+            → IsPartRead self.now.runner.program.now.program.now self.now.signature.now table
+            rows state) }
+    {
+        Ok(State {
+            judged,
+            room: None,
+            round: self.new_round()?,
+        })
+    }
+
+    /// Nothing yet.
+    pub(crate) fn begin(&self) -> Result<State, AllocError>
+        ensures state { IfOk result (IsState self.now.signature.now) }
+        ensures part { IfOk result (λ state. (table : Table) →
+            IsPartRead self.now.runner.program.now.program.now self.now.signature.now table
+            [] state) }
+    {
+        self.begin_with(Judged::new(self.alloc, self.signature)?)
+    }
+
+    /// Whether a round has enough traces to be run.
+    pub(crate) fn is_full(&self, round: &RoundReader) -> bool {
+        let set = round.set();
+        set.instants() >= self.instants || set.len() >= MOST_TRACES
+    }
+
+    /// Runs the traces of the round, and puts their names and verdicts behind the others.
+    fn settle(&self, state: State) -> Result<(Judged, Option<RoundRoom>), Halt>
+        requires { IsState self.now.signature.now state }
+        ensures roll { IfOk result (λ found. IsRoll found.0.roll) }
+        ensures ok { IfOk result (λ found. (table : Table) → (rows : List Record)
+            → IsPartRead self.now.runner.program.now.program.now self.now.signature.now table
+            rows state
+            → IsJudgedPart self.now.runner.program.now.program.now self.now.signature.now table
+            rows found.0) }
+        ensures err { IfErr result (λ halt. (table : Table) → (rows : List Record)
+            → IsPartRead self.now.runner.program.now.program.now self.now.signature.now table
+            rows state
+            → IsHalt self.now.signature.now table rows halt) }
+        ensures kept { IfErr result HasRoll }
+    {
+        let State {
+            judged,
+            mut room,
+            round,
+        } = state;
+        let Judged { roll, mut verdicts } = judged;
+        let set = round.set();
+        let roll = match roll.append(self.alloc, set) {
+            Ok(roll) => roll,
+            Err(cause) => return Err(Halt::Early(cause)),
+        };
+        let found = self.runner.run(self.alloc, set, &mut room)?;
+        verdicts.extend_from_slice(found.as_slice())?;
+        Ok((Judged { roll, verdicts }, room))
+    }
+
+    /// The same, and begins another round.
+    pub(crate) fn next_round(&self, state: State) -> Result<State, Halt>
+        requires { IsState self.now.signature.now state }
+        ensures state { IfOk result (IsState self.now.signature.now) }
+        ensures ok { IfOk result (λ next. (table : Table) → (rows : List Record)
+            → IsPartRead self.now.runner.program.now.program.now self.now.signature.now table
+            rows state
+            → IsPartRead self.now.runner.program.now.program.now self.now.signature.now table
+            rows next) }
+        ensures err { IfErr result (λ halt. (table : Table) → (rows : List Record)
+            → IsPartRead self.now.runner.program.now.program.now self.now.signature.now table
+            rows state
+            → IsHalt self.now.signature.now table rows halt) }
+        ensures kept { IfErr result HasRoll }
+    {
+        let (judged, room) = self.settle(state)?;
+        let round = self.new_round()?;
+        Ok(State {
+            judged,
+            room,
+            round,
+        })
+    }
+
+    /// The same where the round is full.
+    pub(crate) fn with_room(&self, state: State) -> Result<State, Halt>
+        requires { IsState self.now.signature.now state }
+        ensures state { IfOk result (IsState self.now.signature.now) }
+        ensures ok { IfOk result (λ next. (table : Table) → (rows : List Record)
+            → IsPartRead self.now.runner.program.now.program.now self.now.signature.now table
+            rows state
+            → IsPartRead self.now.runner.program.now.program.now self.now.signature.now table
+            rows next) }
+        ensures err { IfErr result (λ halt. (table : Table) → (rows : List Record)
+            → IsPartRead self.now.runner.program.now.program.now self.now.signature.now table
+            rows state
+            → IsHalt self.now.signature.now table rows halt) }
+        ensures kept { IfErr result HasRoll }
+    {
+        if self.is_full(&state.round) {
+            self.next_round(state)
+        } else {
+            Ok(state)
+        }
+    }
+
+    /// Runs the traces of the last round.
+    pub(crate) fn last_round(&self, state: State) -> Result<Judged, Halt>
+        requires { IsState self.now.signature.now state }
+        ensures roll { IfOk result (λ judged. IsRoll judged.roll) }
+        ensures ok { IfOk result (λ judged. (table : Table) → (rows : List Record)
+            → IsPartRead self.now.runner.program.now.program.now self.now.signature.now table
+            rows state
+            → IsJudgedPart self.now.runner.program.now.program.now self.now.signature.now table
+            rows judged) }
+        ensures err { IfErr result (λ halt. (table : Table) → (rows : List Record)
+            → IsPartRead self.now.runner.program.now.program.now self.now.signature.now table
+            rows state
+            → IsHalt self.now.signature.now table rows halt) }
+        ensures kept { IfErr result HasRoll }
+    {
+        let (judged, _room) = self.settle(state)?;
+        Ok(judged)
+    }
+
+    /// What is known where reading stopped.
+    fn stop(&self, state: State, stopped: Stopped<'_>) -> Halt
+        requires { IsRoll state.judged.roll }
+        ensures halt { (table : Table) → (rows more : List Record)
+            → IsPartRead self.now.runner.program.now.program.now self.now.signature.now table
+            rows state
+            → IsHalt self.now.signature.now table
+            (rows ++ record_of stopped.entry.rest.now ∷ more) result }
+        ensures kept { HasRoll result }
+    {
+        let Stopped { cause, rest } = stopped;
+        if cause.number() == 0 {
+            return Halt::Refused(cause);
+        }
+        let State {
+            judged,
+            room: _room,
+            round,
+        } = state;
+        let Judged { roll, verdicts } = judged;
+        let roll = match roll.append(self.alloc, round.set()) {
+            Ok(roll) => roll,
+            Err(cause) => return Halt::Early(cause),
+        };
+        let judged = Judged { roll, verdicts };
+        match first_line(rest).to_vec(self.alloc) {
+            Ok(record) => Halt::Stopped { judged, record },
+            Err(_) => Halt::from(AllocError),
+        }
+    }
+
+    /// Why a text is refused that stands behind nothing.
+    pub(crate) fn refusal(&self, table: &ColumnTable, halt: Halt) -> Halt
+        requires table { IsColumnTable self.now.signature.now table.now }
+        requires kept { HasRoll halt }
+        ensures load { (e : LoadError) → halt ≡ Load e → result ≡ Load e }
+        ensures last { (rows : List Record) → IsHalt self.now.signature.now table.now rows halt
+            → IsLastHalt self.now.signature.now table.now rows result }
+    {
+        match halt {
+            Halt::Early(cause) => Halt::Refused(cause),
+            Halt::Stopped { judged, record } => {
+                let Judged { roll, .. } = judged;
+                let line = record.as_slice();
+                Halt::Refused(roll.refusal_of_line(self.alloc, table, line))
+            }
+            Halt::Refused(cause) => Halt::Refused(cause),
+            Halt::Load(cause) => Halt::Load(cause),
+            Halt::Quoted => Halt::Quoted,
+        }
+    }
+
+    /// Reads the header of a feed, and leaves the window behind it.
+    pub(crate) fn read_header<F: Feed>(
+        &self,
+        feed: &mut F,
+        window: &mut Window,
+    ) -> Result<ColumnTable, Halt>
+        requires window { IsWindow window.old }
+        requires failures { F.failures feed.old < u64.MAX }
+        ensures window { OnOk result (IsWindow window.new) }
+        ensures table { IfOk result (IsColumnTable self.now.signature.now) }
+        ensures ok { IfOk result (λ table.
+            IsHeadRead self.now.signature.now table window.old window.new
+            (left (F.coming feed.old) (F.given feed.old) (F.failures feed.old))
+            (left (F.coming feed.new) (F.given feed.new) (F.failures feed.new))) }
+        ensures err { IfErr result (λ halt.
+            IsHeadHalted self.now.signature.now window.old window.new
+            (left (F.coming feed.old) (F.given feed.old) (F.failures feed.old))
+            (left (F.coming feed.new) (F.given feed.new) (F.failures feed.new)) halt) }
+    {
+        let count = self.first_piece(feed, window)?;
+        let piece = &window.text()[..count];
+        let len = header_len(piece);
+        let head = &piece[..len];
+        if !is_plain(head) {
+            return Err(Halt::Quoted);
+        }
+        let Some(begun) = begin(self.alloc, self.signature, strip_bom(head))? else {
+            return Err(Halt::Refused(TraceError::Header));
+        };
+        let table = begun.table;
+        window.let_go(len);
+        Ok(table)
+    }
+
+    /// How many bytes at the begin of a text are known to be lines, so many that one of them is not
+    /// empty, if there is such a line.
+    fn first_piece<F: Feed>(&self, feed: &mut F, window: &mut Window) -> Result<usize, LoadError>
+        requires window { IsWindow window.old }
+        requires failures { F.failures feed.old < u64.MAX }
+        ensures window { OnOk result (IsWindow window.new) }
+        ensures taken { OnOk result (HasTaken window.old window.new
+            (left (F.coming feed.old) (F.given feed.old) (F.failures feed.old))
+            (left (F.coming feed.new) (F.given feed.new) (F.failures feed.new))) }
+        ensures within { IfOk result (λ count. count ≤ length (text_in window.new)) }
+        ensures whole { IfOk result (λ count.
+            window.new.is_over ≡ true → count ≡ length (text_in window.new)) }
+        ensures ended { IfOk result (λ count. window.new.is_over ≡ false
+            → is_ended (take count (text_in window.new)) ≡ true) }
+        ensures line { IfOk result (λ count. window.new.is_over ≡ false
+            → 0 < length (plain_records (strip_bom (take count (text_in window.new))))) }
+        ensures err { IfErr result (IsLoadFault window.old
+            (left (F.coming feed.old) (F.given feed.old) (F.failures feed.old))
+            (left (F.coming feed.new) (F.given feed.new) (F.failures feed.new))) }
+    {
+        window.fill(feed)?;
+        'pieces: loop {
+            let count = self.next_piece(feed, window)?;
+            if window.is_over() || has_line(strip_bom(&window.text()[..count])) {
+                return Ok(count);
+            }
+            window.fill(feed)?;
+        }
+    }
+
+    /// How many bytes at the front of the window are whole traces; all that it has where the feed
+    /// is over.
+    pub(crate) fn next_piece<F: Feed>(
+        &self,
+        feed: &mut F,
+        window: &mut Window,
+    ) -> Result<usize, LoadError>
+        requires window { IsWindow window.old }
+        requires failures { F.failures feed.old < u64.MAX }
+        ensures window { OnOk result (IsWindow window.new) }
+        ensures taken { OnOk result (HasTaken window.old window.new
+            (left (F.coming feed.old) (F.given feed.old) (F.failures feed.old))
+            (left (F.coming feed.new) (F.given feed.new) (F.failures feed.new))) }
+        ensures within { IfOk result (λ count. count ≤ length (text_in window.new)) }
+        ensures whole { IfOk result (λ count.
+            window.new.is_over ≡ true → count ≡ length (text_in window.new)) }
+        ensures ended { IfOk result (λ count. window.new.is_over ≡ false
+            → is_ended (take count (text_in window.new)) ≡ true) }
+        ensures err { IfErr result (IsLoadFault window.old
+            (left (F.coming feed.old) (F.given feed.old) (F.failures feed.old))
+            (left (F.coming feed.new) (F.given feed.new) (F.failures feed.new))) }
+    {
+        'pieces: while !window.is_over() {
+            let count = whole_traces(window.text());
+            if count > 0 {
+                return Ok(count);
+            }
+            window.fill(feed)?;
+        }
+        Ok(window.text().len())
+    }
+
+    /// Adds the next whole traces of a feed to the round, or all that is left of it.
+    fn read_piece<F: Feed>(
+        &self,
+        feed: &mut F,
+        window: &mut Window,
+        table: &ColumnTable,
+        state: State,
+    ) -> Result<State, Reading>
+        requires window { IsWindow window.old }
+        requires failures { F.failures feed.old < u64.MAX }
+        requires table { IsColumnTable self.now.signature.now table.now }
+        requires state { IsState self.now.signature.now state }
+        ensures window { OnOk result (IsWindow window.new) }
+        ensures state { IfOk result (IsState self.now.signature.now) }
+        ensures ok { IfOk result (λ next. (rows : List Record)
+            → IsPartRead self.now.runner.program.now.program.now self.now.signature.now table.now
+            rows state
+            → IsRestRead self.now.runner.program.now.program.now self.now.signature.now table.now
+            rows window.old window.new
+            (left (F.coming feed.old) (F.given feed.old) (F.failures feed.old))
+            (left (F.coming feed.new) (F.given feed.new) (F.failures feed.new)) next
+            ⊎ IsRestDone self.now.runner.program.now.program.now self.now.signature.now table.now
+            rows window.old window.new
+            (left (F.coming feed.old) (F.given feed.old) (F.failures feed.old))
+            (left (F.coming feed.new) (F.given feed.new) (F.failures feed.new)) next) }
+        ensures failures { OnOk result (F.failures feed.new ≡ F.failures feed.old) }
+        ensures goes { OnOk result ((turns_left window.new < turns_left window.old)
+            ⊎ ((window.old.is_over ≡ true) × (text_in window.old ≡ []))) }
+        ensures err { IfErr result (λ reading. (rows : List Record)
+            → IsPartRead self.now.runner.program.now.program.now self.now.signature.now table.now
+            rows state
+            → IsReading self.now.runner.program.now.program.now self.now.signature.now table.now
+            rows window.old window.new
+            (left (F.coming feed.old) (F.given feed.old) (F.failures feed.old))
+            (left (F.coming feed.new) (F.given feed.new) (F.failures feed.new)) reading) }
+        ensures on { IfErr result (IsReadOn self.now.signature.now window.new
+            (left (F.coming feed.old) (F.given feed.old) (F.failures feed.old))
+            (left (F.coming feed.new) (F.given feed.new) (F.failures feed.new))) }
+        ensures plain { IfErr result (λ reading. (rows : List Record)
+            → IsPartRead self.now.runner.program.now.program.now self.now.signature.now table.now
+            rows state
+            → IsPlainReading self.now.signature.now table.now rows window.old window.new
+            (left (F.coming feed.old) (F.given feed.old) (F.failures feed.old))
+            (left (F.coming feed.new) (F.given feed.new) (F.failures feed.new)) reading) }
+    {
+        let mut state = state;
+        let count = match self.next_piece(feed, window) {
+            Ok(count) => count,
+            Err(cause) => return Err(Reading::Halted(Halt::Load(cause))),
+        };
+        let text = &window.text()[..count];
+        if !is_plain(text) {
+            return Err(Reading::Quoted(state));
+        }
+        if let Err(stopped) = state.round.add_lines(self.alloc, table, text) {
+            return Err(Reading::Halted(self.stop(state, stopped)));
+        }
+        window.let_go(count);
+        Ok(state)
+    }
+
+    /// Judges the traces of a feed behind its header up to its end, or to the first piece that has
+    /// a quote.
+    pub(crate) fn judge_pieces<F: Feed>(
+        &self,
+        feed: &mut F,
+        window: &mut Window,
+        table: &ColumnTable,
+        begun: State,
+    ) -> Result<Judged, Reading>
+        requires window { IsWindow window.old }
+        requires failures { F.failures feed.old < u64.MAX }
+        requires table { IsColumnTable self.now.signature.now table.now }
+        requires state { IsState self.now.signature.now begun }
+        ensures window { OnOk result (IsWindow window.new) }
+        ensures roll { IfOk result (λ judged. IsRoll judged.roll) }
+        ensures ok { IfOk result (λ judged. (rows : List Record)
+            → IsPartRead self.now.runner.program.now.program.now self.now.signature.now table.now
+            rows begun
+            → IsPiecesJudged self.now.runner.program.now.program.now self.now.signature.now
+            table.now rows window.old window.new
+            (left (F.coming feed.old) (F.given feed.old) (F.failures feed.old))
+            (left (F.coming feed.new) (F.given feed.new) (F.failures feed.new)) judged) }
+        ensures err { IfErr result (λ reading. (rows : List Record)
+            → IsPartRead self.now.runner.program.now.program.now self.now.signature.now table.now
+            rows begun
+            → IsReading self.now.runner.program.now.program.now self.now.signature.now table.now
+            rows window.old window.new
+            (left (F.coming feed.old) (F.given feed.old) (F.failures feed.old))
+            (left (F.coming feed.new) (F.given feed.new) (F.failures feed.new)) reading) }
+        ensures on { IfErr result (IsReadOn self.now.signature.now window.new
+            (left (F.coming feed.old) (F.given feed.old) (F.failures feed.old))
+            (left (F.coming feed.new) (F.given feed.new) (F.failures feed.new))) }
+        ensures plain { IfErr result (λ reading. (rows : List Record)
+            → IsPartRead self.now.runner.program.now.program.now self.now.signature.now table.now
+            rows begun
+            → IsPlainReading self.now.signature.now table.now rows window.old window.new
+            (left (F.coming feed.old) (F.given feed.old) (F.failures feed.old))
+            (left (F.coming feed.new) (F.given feed.new) (F.failures feed.new)) reading) }
+    {
+        let mut state = self.read_piece(feed, window, table, begun)?;
+        'pieces: while !window.is_done() {
+            state = self.with_room(state)?;
+            state = self.read_piece(feed, window, table, state)?;
+        }
+        Ok(self.last_round(state)?)
+    }
+
+    /// Judges all traces of a section of a text.
+    pub(crate) fn judge_section<F: Feed>(
+        &self,
+        feed: &mut F,
+        window: &mut Window,
+        table: &ColumnTable,
+    ) -> Result<Judged, Halt>
+        requires window { IsWindow window.old }
+        requires failures { F.failures feed.old < u64.MAX }
+        requires table { IsColumnTable self.now.signature.now table.now }
+        ensures window { OnOk result (IsWindow window.new) }
+        ensures roll { IfOk result (λ judged. IsRoll judged.roll) }
+        ensures ok { IfOk result (λ judged.
+            IsPiecesJudged self.now.runner.program.now.program.now self.now.signature.now table.now
+            [] window.old window.new
+            (left (F.coming feed.old) (F.given feed.old) (F.failures feed.old))
+            (left (F.coming feed.new) (F.given feed.new) (F.failures feed.new)) judged) }
+        ensures err { IfErr result (λ halt. IsRestHalted self.now.signature.now table.now
+            [] window.old window.new
+            (left (F.coming feed.old) (F.given feed.old) (F.failures feed.old))
+            (left (F.coming feed.new) (F.given feed.new) (F.failures feed.new)) halt) }
+        ensures kept { IfErr result HasRoll }
+        ensures plain { IfErr result (IsPlainHalted self.now.signature.now table.now
+            [] window.old window.new
+            (left (F.coming feed.old) (F.given feed.old) (F.failures feed.old))
+            (left (F.coming feed.new) (F.given feed.new) (F.failures feed.new))) }
+    {
+        match self.judge_pieces(feed, window, table, self.begin()?) {
+            Ok(judged) => Ok(judged),
+            Err(Reading::Quoted(_)) => Err(Halt::Quoted),
+            Err(Reading::Halted(halt)) => Err(halt),
+        }
+    }
+
+    /// Judges all traces of a slice of a text, in one round.
+    pub(crate) fn judge_text(&self, text: &[u8], table: &ColumnTable) -> Result<Judged, Halt>
+        requires table { IsColumnTable self.now.signature.now table.now }
+        ensures roll { IfOk result (λ judged. IsRoll judged.roll) }
+        ensures ok { IfOk result
+            (IsJudgedPart self.now.runner.program.now.program.now self.now.signature.now table.now
+            (plain_records text.now)) }
+        ensures err { IfErr result
+            (IsHalt self.now.signature.now table.now (plain_records text.now)) }
+        ensures kept { IfErr result HasRoll }
+        ensures plain { OnOk result (has_quote text.now ≡ false) }
+        ensures plain_line { IfErr result (IsPlainHalt text.now) }
+    {
+        let mut state = self.begin()?;
+        if !is_plain(text) {
+            return Err(Halt::Quoted);
+        }
+        if let Err(stopped) = state.round.add_lines(self.alloc, table, text) {
+            return Err(self.stop(state, stopped));
+        }
+        self.last_round(state)
+    }
+}
+
+/// Why the pieces of a text were not judged to the end.
+#[derive(Drop)]
+pub(crate) enum Reading {
+    /// The next piece has a quote.
+    Quoted(State),
+    Halted(Halt),
+}
+
+impl From<Halt> for Reading {
+    ghost use Rattle.lb_report.specs.declared.rounds.Reading.TheVariants.{Halted};
+
+    ghost from_gives = { λ cause e. e ≡ Halted cause };
+
+    fn from(halt: Halt) -> Reading {
+        Reading::Halted(halt)
+    }
+}

@@ -1,0 +1,749 @@
+//! Judging with several workers: each has a section of the text, which it reads and runs by itself.
+//!
+//! ```text
+//! text      trace,x | a,1 | a,5 | b,0 | c,7 | c,7 | d,2
+//! section             0 ............... | 1 ...........
+//! ```
+//!
+//! A section begins and ends with whole traces. Names and verdicts of all sections are put one
+//! after the other in the order of the text.
+
+ghost use Rattle.std.specs.Prelude.{◌≡◌, ◌<◌, ◌≤◌, ◌-◌, [], ℕ, List, IfErr, IfOk, IfSome};
+ghost use Rattle.std.specs.Prelude.{◌==◌, ◌+◌, OnOk, drop, get_or, length, take, true};
+ghost use Rattle.std.specs.List.{All, AllZip, range_with_len};
+ghost use Rattle.lb_flat.specs.declared.program.FlatProgram.{FlatProgram};
+ghost use Rattle.lb_static.specs.Signature.{Elements};
+ghost use Rattle.lb_trace.specs.Chunks.{is_ended};
+ghost use Rattle.lb_trace.specs.Rolls.{IsRoll};
+ghost use Rattle.lb_trace.specs.Spelling.{Record};
+ghost use Rattle.lb_trace.specs.Tables.{IsColumnTable};
+ghost use Rattle.lb_report.specs.JudgedParts.{IsJudgedPart, IsRestJudged, IsRestRefused};
+ghost use Rattle.lb_report.specs.JudgedParts.{IsTextJudged, IsTextRefused};
+ghost use Rattle.lb_report.specs.Ranges.{AreRangeEnds, AreRangesJudged, IsRangeTold, IsRangesHalt};
+ghost use Rattle.lb_report.specs.SectionEnds.{AreEnds, AreSections, section, start_of};
+ghost use Rattle.lb_report.specs.Sections.{AreAppended, IsRefusedWithin, IsSection, KeepsRoll};
+ghost use Rattle.lb_report.specs.Sections.{HasTurned, IsTurnHalted, is_alone, sections_in};
+ghost use Rattle.lb_report.specs.Sections.{told_at_seam};
+ghost use Rattle.lb_report.specs.Windows.{HasTaken, IsLoadFault, IsWindow, left, let_go_of};
+ghost use Rattle.lb_report.specs.Windows.{Left, text_in};
+
+use crate::feed::{Feed, FeedFailed, LoadError};
+use crate::rounds::{Halt, Judged, Rounds};
+use crate::window::Window;
+use lb_trace::{ColumnTable, TraceError, whole_traces};
+use rayon::prelude::*;
+use std::alloc::{AllocError, Global};
+use std::mem;
+use std::os::unix::fs::FileExt;
+use std::thread::{Threads, join_mut};
+
+/// How far the end of a trace is looked for at first, and at most.
+const PROBE: usize = 1 << 16;
+
+const MOST_PROBE: usize = 1 << 22;
+
+/// A text in memory, as a feed.
+#[derive(Drop)]
+pub(crate) struct TextFeed<'t> {
+    rest: &'t [u8],
+    given: u64,
+}
+
+impl<'t> TextFeed<'t> {
+    ghost use Rattle.std.specs.Prelude.{Some};
+
+    /// A feed that has given nothing.
+    pub(crate) fn new(text: &'t [u8]) -> TextFeed<'t>
+        ensures coming { ⟦<TextFeed<'t> as Feed>⟧.coming result ≡ Some text.now }
+        ensures failures { ⟦<TextFeed<'t> as Feed>⟧.failures result ≡ 0 }
+        ensures given { ⟦<TextFeed<'t> as Feed>⟧.given result ≡ 0 }
+    {
+        TextFeed {
+            rest: text,
+            given: 0,
+        }
+    }
+}
+
+impl Feed for TextFeed<'_> {
+    ghost use Rattle.std.specs.Prelude.{Some};
+
+    ghost coming = { λ feed. Some feed.rest.now };
+
+    ghost failures = { λ _. 0 };
+
+    ghost given = { λ feed. feed.given };
+
+    fn read(&mut self, buffer: &mut [u8]) -> Result<usize, FeedFailed> {
+        let count = self.rest.len().min(buffer.len());
+        buffer[..count].copy_from_slice(&self.rest[..count]);
+        self.rest = &self.rest[count..];
+        self.given = self.given.saturating_add(count as u64);
+        Ok(count)
+    }
+
+    fn failures(&self) -> u64 {
+        0
+    }
+}
+
+/// The bytes of a file between two places, as a feed. What it has given is counted from the begin
+/// of the file.
+#[derive(Drop)]
+pub(crate) struct RangeFeed<'f, F> {
+    file: &'f F,
+    at: u64,
+    past: u64,
+    failures: u64,
+    ghost ordered: { at ≤ past },
+    ghost short: { past ≤ 1073741824 },
+}
+
+impl<'f, F: FileExt> RangeFeed<'f, F> {
+    /// A feed that has given nothing and has not failed yet.
+    pub(crate) fn new(file: &'f F, at: u64, past: u64) -> RangeFeed<'f, F>
+        requires ordered { at ≤ past }
+        requires short { past ≤ 1073741824 }
+        ensures failures { ⟦<RangeFeed<'f, F> as Feed>⟧.failures result ≡ 0 }
+        ensures given { ⟦<RangeFeed<'f, F> as Feed>⟧.given result ≡ at }
+    {
+        RangeFeed {
+            file,
+            at,
+            past,
+            failures: 0,
+        }
+    }
+}
+
+impl<F: FileExt> Feed for RangeFeed<'_, F> {
+    ghost failures = { λ feed. feed.failures };
+
+    ghost given = { λ feed. feed.at };
+
+    fn read(&mut self, buffer: &mut [u8]) -> Result<usize, FeedFailed> {
+        let left = (self.past - self.at).min(buffer.len() as u64) as usize;
+        match self.file.read_at(&mut buffer[..left], self.at) {
+            Ok(count) => {
+                self.at += count as u64;
+                Ok(count)
+            }
+            Err(_) => {
+                self.failures += 1;
+                Err(FeedFailed)
+            }
+        }
+    }
+
+    fn failures(&self) -> u64 {
+        self.failures
+    }
+}
+
+/// Where sections of a file end, each with a whole trace, the last one at its size.
+pub(crate) fn ends_in_file<F: FileExt>(
+    alloc: Global,
+    file: &F,
+    from: u64,
+    size: u64,
+    count: u64,
+) -> Result<Vec<u64>, AllocError>
+    requires within { from ≤ size }
+    requires size { size ≤ 1073741824 }
+    ensures { IfOk result (λ ends. AreEnds from size ends.items) }
+{
+    let mut ends = Vec::new(alloc);
+    let mut last = from;
+    'sections: for k in 1..count.max(1) {
+        let place = from + (size - from) / count * k;
+        let end = end_behind(alloc, file, last, place, size);
+        if end > last {
+            ends.push(end)?;
+            last = end;
+        }
+    }
+    ends.push(size)?;
+    Ok(ends)
+}
+
+// Where a trace ends that stands behind a place of a file; the last end where the place is not
+// behind it, or none is found.
+fn end_behind<F: FileExt>(alloc: Global, file: &F, last: u64, place: u64, size: u64) -> u64
+    requires last { last ≤ size }
+    requires place { place ≤ size }
+    requires size { size ≤ 1073741824 }
+    ensures from { last ≤ result }
+    ensures within { result ≤ size }
+{
+    if place <= last {
+        return last;
+    }
+    match end_in_file(alloc, file, place, size) {
+        Some(end) => end.max(last),
+        None => last,
+    }
+}
+
+// Where a trace ends that stands behind a place of a file.
+fn end_in_file<F: FileExt>(alloc: Global, file: &F, place: u64, size: u64) -> Option<u64>
+    requires within { place ≤ size }
+    requires size { size ≤ 1073741824 }
+    ensures { IfSome result (λ end. (place ≤ end) × (end ≤ size)) }
+{
+    let mut probe = PROBE;
+    'probes: while probe <= MOST_PROBE {
+        let mut bytes = Vec::new(alloc);
+        let Ok(()) = bytes.resize(probe, 0) else {
+            return None;
+        };
+        let mut window = RangeFeed::new(file, place, size);
+        let Ok(found) = window.read(bytes.as_mut_slice()) else {
+            return None;
+        };
+        if let Some(end) = trace_end(&bytes[..found]) {
+            return Some((place + end as u64).min(size));
+        }
+        if found < probe {
+            return None;
+        }
+        probe *= 4;
+    }
+    None
+}
+
+/// A place of a text where a trace ends; the text may begin within a line.
+fn trace_end(text: &[u8]) -> Option<usize>
+    ensures { IfSome result (λ end. (0 < end) × (end ≤ length text.now)) }
+{
+    let line = text.iter().position(|b| *b == b'\n' || *b == b'\r')? + 1;
+    let count = whole_traces(&text[line..]);
+    if count == 0 { None } else { Some(line + count) }
+}
+
+/// What was judged of the first sections, how many these are, and why not of all.
+#[derive(Drop)]
+struct Appended {
+    all: Judged,
+    count: usize,
+    halt: Option<Halt>,
+}
+
+/// Puts what was judged one after the other. A section that is not judged by itself is left out,
+/// with all behind it.
+fn append_all(
+    alloc: Global,
+    judged: Vec<Result<Judged, Halt>>,
+    table: &ColumnTable,
+    before: Judged,
+) -> Result<Appended, TraceError>
+    requires before { IsRoll before.roll }
+    requires rolls { All KeepsRoll judged.items }
+    ensures roll { IfOk result (λ a. IsRoll a.all.roll) }
+    ensures ok { IfOk result (λ a. (p : FlatProgram) → (elements : Elements)
+        → (rows : List Record) → (texts : List (List ℕ)) → IsColumnTable elements table.now
+        → IsJudgedPart p elements table.now rows before
+        → AllZip (IsSection p elements table.now) texts judged.items
+        → AreAppended p elements table.now rows texts a) }
+    ensures err { IfErr result (λ e. (p : FlatProgram) → (elements : Elements)
+        → (rows : List Record) → (texts : List (List ℕ)) → IsColumnTable elements table.now
+        → IsJudgedPart p elements table.now rows before
+        → AllZip (IsSection p elements table.now) texts judged.items
+        → IsRefusedWithin elements table.now rows texts e) }
+{
+    let mut all = before;
+    let mut count = 0;
+    'sections: for one in judged {
+        match one {
+            Ok(some) => all = all.append(alloc, &some)?,
+            Err(Halt::Stopped { judged, record }) => {
+                let Judged { roll, .. } = all;
+                let roll = roll.append_roll(alloc, &judged.roll)?;
+                return Err(roll.refusal_of_line(alloc, table, record.as_slice()));
+            }
+            Err(halt) => {
+                return Ok(Appended {
+                    all,
+                    count,
+                    halt: Some(halt),
+                });
+            }
+        }
+        count += 1;
+    }
+    Ok(Appended {
+        all,
+        count,
+        halt: None,
+    })
+}
+
+/// Whether what a section tells is that it can not be judged by itself.
+fn goes_on_alone(halt: &Halt) -> bool
+    ensures { result ≡ is_alone halt.now }
+{
+    matches!(halt, Halt::Quoted | Halt::Early(_))
+}
+
+/// What is told of a section of a file, which is joined to what stands behind it or not, and of
+/// which some is left to read or not. In a file that has changed its bytes may not end with a line
+/// at the place where the next one begins; then it is judged again with what follows it. So it is
+/// where it could not be read, and where it is refused at its end, where a line may go on.
+fn at_seam(judged: Result<Judged, Halt>, is_joined: bool, has_more: bool) -> Result<Judged, Halt>
+    ensures { result ≡ told_at_seam is_joined has_more judged }
+{
+    match judged {
+        Ok(judged) if is_joined => Ok(judged),
+        Err(Halt::Refused(cause)) => Err(Halt::Refused(cause)),
+        Err(Halt::Early(cause)) if has_more => Err(Halt::Early(cause)),
+        Err(Halt::Stopped { judged, record }) if has_more => Err(Halt::Stopped { judged, record }),
+        _ => Err(Halt::Quoted),
+    }
+}
+
+/// Judges a section of a file by itself, the last one or another.
+fn judge_range<F: FileExt>(
+    rounds: &Rounds<'_, '_>,
+    table: &ColumnTable,
+    file: &F,
+    start: u64,
+    past: u64,
+    is_last: bool,
+) -> Result<Judged, Halt>
+    requires table { IsColumnTable rounds.now.signature.now table.now }
+    requires ordered { start ≤ past }
+    requires short { past ≤ 1073741824 }
+    ensures { IsRangeTold rounds.now.runner.program.now.program.now rounds.now.signature.now
+        table.now start past is_last result }
+{
+    let mut window = Window::new(rounds.alloc, rounds.window)?;
+    let mut feed = RangeFeed::new(file, start, past);
+    let judged = rounds.judge_section(&mut feed, &mut window, table);
+    let is_joined = is_last || (window.is_ended() && feed.at == past);
+    let has_more = is_last || (!window.is_over() && feed.at < past);
+    at_seam(judged, is_joined, has_more)
+}
+
+/// Where a section of a file begins.
+fn start_at(from: u64, ends: &[u64], i: usize) -> u64
+    requires { i ≤ length ends.now }
+    ensures { result ≡ start_of from ends.now i }
+{
+    if i == 0 { from } else { ends[i - 1] }
+}
+
+/// What is told of each section of a file behind its header.
+fn told_ranges<R: Threads + Sync, F: FileExt + Sync>(
+    rt: &R,
+    rounds: &Rounds<'_, '_>,
+    table: &ColumnTable,
+    file: &F,
+    from: u64,
+    ends: &[u64],
+) -> Result<Vec<Result<Judged, Halt>>, AllocError>
+    requires table { IsColumnTable rounds.now.signature.now table.now }
+    requires ends { AreRangeEnds from ends.now }
+    ensures { IfOk result (λ judged. AllZip (λ i one.
+        IsRangeTold rounds.now.runner.program.now.program.now rounds.now.signature.now table.now
+        (start_of from ends.now i) (get_or ends.now i 0) (i + 1 == length ends.now) one)
+        (range_with_len 0 (length ends.now)) judged.items) }
+{
+    (0..ends.len())
+        .into_par_iter()
+        .with_min_len(1)
+        .map(
+            |i: usize| -> Result<Judged, Halt>
+                requires { IsColumnTable rounds.now.signature.now table.now
+                    × AreRangeEnds from ends.now × (i < length ends.now) }
+                ensures { IsRangeTold rounds.entry.now.runner.program.now.program.now
+                    rounds.entry.now.signature.now table.entry.now
+                    (start_of from ends.entry.now i) (get_or ends.entry.now i 0)
+                    (i + 1 == length ends.entry.now) result }
+            {
+                let start = start_at(from, ends, i);
+                judge_range(rounds, table, file, start, ends[i], i + 1 == ends.len())
+            },
+        )
+        .collect::<Vec<_>>(rt, rounds.alloc)
+}
+
+/// Judges the bytes of a file between two places by one worker, behind what was judged before.
+fn judge_onward<F: FileExt>(
+    rounds: &Rounds<'_, '_>,
+    table: &ColumnTable,
+    file: &F,
+    start: u64,
+    past: u64,
+    judged: Judged,
+) -> Result<Judged, Halt>
+    requires table { IsColumnTable rounds.now.signature.now table.now }
+    requires ordered { start ≤ past }
+    requires short { past ≤ 1073741824 }
+    requires judged { IsRoll judged.roll }
+    ensures ok { IfOk result (λ all. (rows : List Record)
+        → IsJudgedPart rounds.now.runner.program.now.program.now rounds.now.signature.now table.now
+        rows judged
+        → AreRangesJudged rounds.now.runner.program.now.program.now rounds.now.signature.now
+        table.now rows start all) }
+    ensures err { IfErr result (λ halt. (rows : List Record)
+        → IsJudgedPart rounds.now.runner.program.now.program.now rounds.now.signature.now table.now
+        rows judged
+        → IsRangesHalt rounds.now.signature.now table.now rows start halt) }
+{
+    let mut feed = RangeFeed::new(file, start, past);
+    let mut window = Window::new(rounds.alloc, rounds.window)?;
+    rounds.judge_rest(&mut feed, &mut window, table, rounds.begin_with(judged)?)
+}
+
+/// Judges the sections of a file behind its header.
+pub(crate) fn judge_ranges<R: Threads + Sync, F: FileExt + Sync>(
+    rt: &R,
+    rounds: &Rounds<'_, '_>,
+    table: &ColumnTable,
+    file: &F,
+    from: u64,
+    ends: &[u64],
+) -> Result<Judged, Halt>
+    requires table { IsColumnTable rounds.now.signature.now table.now }
+    requires ends { AreRangeEnds from ends.now }
+    ensures ok { IfOk result (AreRangesJudged rounds.now.runner.program.now.program.now
+        rounds.now.signature.now table.now [] from) }
+    ensures err { IfErr result (IsRangesHalt rounds.now.signature.now table.now [] from) }
+{
+    let alloc = rounds.alloc;
+    let told = told_ranges(rt, rounds, table, file, from, ends)?;
+    let begun = Judged::new(alloc, rounds.signature)?;
+    let Appended { all, count, halt } = append_all(alloc, told, table, begun)?;
+    let Some(halt) = halt else {
+        return Ok(all);
+    };
+    if !goes_on_alone(&halt) {
+        return Err(halt);
+    }
+    let start = start_at(from, ends, count);
+    judge_onward(rounds, table, file, start, ends[ends.len() - 1], all)
+}
+
+// Where the whole traces end that stand between two places of a text; the first place where there
+// is none.
+fn end_in_text(text: &[u8], last: usize, place: usize) -> usize
+    requires last { last ≤ length text.now }
+    requires place { place ≤ length text.now }
+    ensures within { result ≤ length text.now }
+    ensures whole { last < result
+        → is_ended (take (result - last) (drop last text.now)) ≡ true }
+{
+    if place <= last {
+        return last;
+    }
+    last + whole_traces(&text[last..place])
+}
+
+/// The end of each of so many slices of a text of whole traces.
+pub(crate) fn ends_in_text(
+    alloc: Global,
+    text: &[u8],
+    count: usize,
+) -> Result<Vec<usize>, AllocError>
+    ensures { IfOk result (λ ends. AreSections text.now ends.items) }
+{
+    let mut ends = Vec::new(alloc);
+    let mut last = 0usize;
+    'sections: for k in 1..count.max(1) {
+        let end = end_in_text(text, last, text.len() / count * k);
+        if end > last {
+            ends.push(end)?;
+            last = end;
+        }
+    }
+    ends.push(text.len())?;
+    Ok(ends)
+}
+
+/// The bytes of a section of a text.
+fn section_bytes<'t>(text: &'t [u8], ends: &[usize], i: usize) -> &'t [u8]
+    requires ends { AreSections text.now ends.now }
+    requires i { i < length ends.now }
+    ensures { result.now ≡ section text.now ends.now i }
+{
+    let start = start_in(ends, i);
+    &text[start..ends[i]]
+}
+
+/// The judged slices of a text.
+fn judge_slices<R: Threads + Sync>(
+    rt: &R,
+    rounds: &Rounds<'_, '_>,
+    table: &ColumnTable,
+    text: &[u8],
+    ends: &[usize],
+) -> Result<Vec<Result<Judged, Halt>>, AllocError>
+    requires table { IsColumnTable rounds.now.signature.now table.now }
+    requires ends { AreSections text.now ends.now }
+    ensures { IfOk result (λ judged. AllZip
+        (IsSection rounds.now.runner.program.now.program.now rounds.now.signature.now table.now)
+        (sections_in text.now ends.now) judged.items) }
+{
+    (0..ends.len())
+        .into_par_iter()
+        .with_min_len(1)
+        .map(
+            |i: usize| -> Result<Judged, Halt>
+                requires { IsColumnTable rounds.now.signature.now table.now
+                    × AreSections text.now ends.now × (i < length ends.now) }
+                ensures { IsSection rounds.entry.now.runner.program.now.program.now
+                    rounds.entry.now.signature.now table.entry.now
+                    (section text.entry.now ends.entry.now i) result }
+            { rounds.judge_text(section_bytes(text, ends, i), table) },
+        )
+        .collect::<Vec<_>>(rt, rounds.alloc)
+}
+
+/// Judges slices of a text, and fills a window meanwhile.
+fn judge_and_fill<R: Threads + Sync, F: Feed + Send>(
+    rt: &R,
+    rounds: &Rounds<'_, '_>,
+    table: &ColumnTable,
+    text: &[u8],
+    ends: &[usize],
+    feed: &mut F,
+    next: &mut Window,
+) -> (
+    Result<Vec<Result<Judged, Halt>>, AllocError>,
+    Result<(), LoadError>,
+)
+    requires table { IsColumnTable rounds.now.signature.now table.now }
+    requires ends { AreSections text.now ends.now }
+    requires window { IsWindow next.old }
+    requires failures { F.failures feed.old < u64.MAX }
+    ensures judged { IfOk result.0 (λ judged. AllZip
+        (IsSection rounds.now.runner.program.now.program.now rounds.now.signature.now table.now)
+        (sections_in text.now ends.now) judged.items) }
+    ensures window { OnOk result.1 (IsWindow next.new) }
+    ensures taken { OnOk result.1 (HasTaken next.old next.new
+        (left (F.coming feed.old) (F.given feed.old) (F.failures feed.old))
+        (left (F.coming feed.new) (F.given feed.new) (F.failures feed.new))) }
+    ensures err { IfErr result.1 (IsLoadFault next.old
+        (left (F.coming feed.old) (F.given feed.old) (F.failures feed.old))
+        (left (F.coming feed.new) (F.given feed.new) (F.failures feed.new))) }
+{
+    join_mut(
+        rt,
+        &mut || -> Result<Vec<Result<Judged, Halt>>, AllocError>
+            requires { IsColumnTable rounds.now.signature.now table.now
+                × AreSections text.now ends.now }
+            ensures { IfOk result (λ judged. AllZip
+                (IsSection rounds.entry.now.runner.program.now.program.now
+                rounds.entry.now.signature.now table.entry.now)
+                (sections_in text.entry.now ends.entry.now) judged.items) }
+        { judge_slices(rt, rounds, table, text, ends) },
+        &mut || next.fill(&mut *feed),
+    )
+}
+
+/// Judges the sections of the bytes at the front of a window, so many. What stands behind them is
+/// put into another window, which is filled meanwhile; then the two change places.
+fn judge_window<R: Threads + Sync, F: Feed + Send>(
+    rt: &R,
+    rounds: &Rounds<'_, '_>,
+    table: &ColumnTable,
+    feed: &mut F,
+    window: &mut Window,
+    next: &mut Window,
+    ends: &[usize],
+    count: usize,
+    before: Judged,
+) -> Result<Appended, Halt>
+    requires window { IsWindow window.old }
+    requires failures { F.failures feed.old < u64.MAX }
+    requires table { IsColumnTable rounds.now.signature.now table.now }
+    requires before { IsRoll before.roll }
+    requires count { count ≤ length (text_in window.old) }
+    requires ends { AreSections (take count (text_in window.old)) ends.now }
+    ensures window { OnOk result (IsWindow window.new) }
+    ensures other { OnOk result (next.new ≡ window.old) }
+    ensures turned { OnOk result (HasTurned count window.old window.new
+        (left (F.coming feed.old) (F.given feed.old) (F.failures feed.old))
+        (left (F.coming feed.new) (F.given feed.new) (F.failures feed.new))) }
+    ensures roll { IfOk result (λ a. IsRoll a.all.roll) }
+    ensures ok { IfOk result (λ a. (rows : List Record)
+        → IsJudgedPart rounds.now.runner.program.now.program.now rounds.now.signature.now table.now
+        rows before
+        → AreAppended rounds.now.runner.program.now.program.now rounds.now.signature.now table.now
+        rows (sections_in (take count (text_in window.old)) ends.now) a) }
+    ensures err { IfErr result (λ halt. (rows : List Record)
+        → IsJudgedPart rounds.now.runner.program.now.program.now rounds.now.signature.now table.now
+        rows before
+        → IsTurnHalted rounds.now.signature.now table.now rows
+        (sections_in (take count (text_in window.old)) ends.now) count window.old window.new
+        (left (F.coming feed.old) (F.given feed.old) (F.failures feed.old))
+        (left (F.coming feed.new) (F.given feed.new) (F.failures feed.new)) halt) }
+{
+    next.begin_with(window, count)?;
+    let text = &window.text()[..count];
+    let (judged, filled) = judge_and_fill(rt, rounds, table, text, ends, feed, next);
+    // From here on the window is the one that has read as far as the feed has given.
+    mem::swap(window, next);
+    filled?;
+    Ok(append_all(rounds.alloc, judged?, table, before)?)
+}
+
+/// Judges the rest of a feed by one worker, from a place of a window. Another window has read on;
+/// it begins with what stands in that one behind so many bytes.
+fn judge_alone<F: Feed>(
+    rounds: &Rounds<'_, '_>,
+    table: &ColumnTable,
+    feed: &mut F,
+    window: &mut Window,
+    next: &mut Window,
+    start: usize,
+    count: usize,
+    judged: Judged,
+) -> Result<Judged, Halt>
+    requires window { IsWindow window.old }
+    requires next { IsWindow next.old }
+    requires failures { F.failures feed.old < u64.MAX }
+    requires table { IsColumnTable rounds.now.signature.now table.now }
+    requires judged { IsRoll judged.roll }
+    requires start { start ≤ count }
+    requires count { count ≤ length (text_in next.old) }
+    requires behind { length (text_in next.old) - count ≤ length (text_in window.old) }
+    ensures window { OnOk result (IsWindow window.new) }
+    ensures ok { IfOk result (λ all. (at : Left) → (rows : List Record)
+        → HasTurned count next.old window.old at
+        (left (F.coming feed.old) (F.given feed.old) (F.failures feed.old))
+        → IsJudgedPart rounds.now.runner.program.now.program.now rounds.now.signature.now table.now
+        rows judged
+        → IsRestJudged rounds.now.runner.program.now.program.now rounds.now.signature.now table.now
+        rows (let_go_of start next.old) window.new at
+        (left (F.coming feed.new) (F.given feed.new) (F.failures feed.new)) all) }
+    ensures err { IfErr result (λ halt. (at : Left) → (rows : List Record)
+        → HasTurned count next.old window.old at
+        (left (F.coming feed.old) (F.given feed.old) (F.failures feed.old))
+        → IsJudgedPart rounds.now.runner.program.now.program.now rounds.now.signature.now table.now
+        rows judged
+        → IsRestRefused rounds.now.signature.now table.now rows (let_go_of start next.old)
+        window.new at (left (F.coming feed.new) (F.given feed.new) (F.failures feed.new)) halt) }
+{
+    let carried = next.text().len() - count;
+    next.let_go(start);
+    next.go_on_with(&*window, carried)?;
+    mem::swap(window, next);
+    rounds.judge_rest(feed, window, table, rounds.begin_with(judged)?)
+}
+
+/// Judges the rest of a feed behind its header, in slices of a window. While they are judged
+/// another window is filled.
+pub(crate) fn judge_windows<R: Threads + Sync, F: Feed + Send>(
+    rt: &R,
+    rounds: &Rounds<'_, '_>,
+    table: &ColumnTable,
+    feed: &mut F,
+    window: &mut Window,
+    workers: usize,
+) -> Result<Judged, Halt>
+    requires window { IsWindow window.old }
+    requires failures { F.failures feed.old < u64.MAX }
+    requires table { IsColumnTable rounds.now.signature.now table.now }
+    ensures window { OnOk result (IsWindow window.new) }
+    ensures ok { IfOk result (λ judged.
+        IsRestJudged rounds.now.runner.program.now.program.now rounds.now.signature.now table.now
+        [] window.old window.new
+        (left (F.coming feed.old) (F.given feed.old) (F.failures feed.old))
+        (left (F.coming feed.new) (F.given feed.new) (F.failures feed.new)) judged) }
+    ensures err { IfErr result (λ halt.
+        IsRestRefused rounds.now.signature.now table.now [] window.old window.new
+        (left (F.coming feed.old) (F.given feed.old) (F.failures feed.old))
+        (left (F.coming feed.new) (F.given feed.new) (F.failures feed.new)) halt) }
+{
+    let alloc = rounds.alloc;
+    let mut all = Judged::new(alloc, rounds.signature)?;
+    let mut next = Window::new(alloc, window.size())?;
+    'windows: loop {
+        let count = rounds.next_piece(feed, window)?;
+        if count == 0 {
+            return Ok(all);
+        }
+        let ends = ends_in_text(alloc, &window.text()[..count], workers)?;
+        let ends = ends.as_slice();
+        let done = judge_window(rt, rounds, table, feed, window, &mut next, ends, count, all)?;
+        let Appended {
+            all: so_far,
+            count: judged,
+            halt,
+        } = done;
+        all = match halt {
+            None => so_far,
+            Some(halt) => {
+                if !goes_on_alone(&halt) {
+                    return Err(halt);
+                }
+                let start = start_in(ends, judged);
+                return judge_alone(rounds, table, feed, window, &mut next, start, count, so_far);
+            }
+        };
+    }
+}
+
+/// Judges the rest of a feed behind its header, with several workers: it is read to its end, and
+/// the text is cut among them.
+fn judge_among<R: Threads + Sync, F: Feed + Send>(
+    rt: &R,
+    rounds: &Rounds<'_, '_>,
+    table: &ColumnTable,
+    feed: &mut F,
+    window: &mut Window,
+    workers: usize,
+) -> Result<Judged, Halt>
+    requires window { IsWindow window.old }
+    requires failures { F.failures feed.old < u64.MAX }
+    requires table { IsColumnTable rounds.now.signature.now table.now }
+    ensures window { OnOk result (IsWindow window.new) }
+    ensures ok { IfOk result (λ judged.
+        IsRestJudged rounds.now.runner.program.now.program.now rounds.now.signature.now table.now
+        [] window.old window.new
+        (left (F.coming feed.old) (F.given feed.old) (F.failures feed.old))
+        (left (F.coming feed.new) (F.given feed.new) (F.failures feed.new)) judged) }
+    ensures err { IfErr result (λ halt.
+        IsRestRefused rounds.now.signature.now table.now [] window.old window.new
+        (left (F.coming feed.old) (F.given feed.old) (F.failures feed.old))
+        (left (F.coming feed.new) (F.given feed.new) (F.failures feed.new)) halt) }
+{
+    window.fill_all(feed)?;
+    judge_windows(rt, rounds, table, feed, window, workers)
+}
+
+/// Where a section of a text begins.
+fn start_in(ends: &[usize], i: usize) -> usize
+    requires { i ≤ length ends.now }
+    ensures { result ≡ start_of 0 ends.now i }
+{
+    if i == 0 { 0 } else { ends[i - 1] }
+}
+
+/// Judges all traces of a feed, with several workers.
+pub(crate) fn judge_by<R: Threads + Sync, F: Feed + Send>(
+    rt: &R,
+    rounds: &Rounds<'_, '_>,
+    feed: &mut F,
+    window: &mut Window,
+    workers: usize,
+) -> Result<Judged, Halt>
+    requires window { IsWindow window.old }
+    requires failures { F.failures feed.old < u64.MAX }
+    ensures window { OnOk result (IsWindow window.new) }
+    ensures ok { IfOk result (λ judged.
+        IsTextJudged rounds.now.runner.program.now.program.now rounds.now.signature.now
+        window.old window.new
+        (left (F.coming feed.old) (F.given feed.old) (F.failures feed.old))
+        (left (F.coming feed.new) (F.given feed.new) (F.failures feed.new)) judged) }
+    ensures err { IfErr result (λ halt. IsTextRefused rounds.now.signature.now
+        window.old window.new
+        (left (F.coming feed.old) (F.given feed.old) (F.failures feed.old))
+        (left (F.coming feed.new) (F.given feed.new) (F.failures feed.new)) halt) }
+{
+    match rounds.read_header(feed, window) {
+        Ok(table) => judge_among(rt, rounds, &table, feed, window, workers),
+        Err(Halt::Quoted) => rounds.judge_quoted_text(feed, window),
+        Err(halt) => Err(halt),
+    }
+}

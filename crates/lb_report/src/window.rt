@@ -1,0 +1,320 @@
+//! A text that comes from a feed, of which a part is in memory.
+//!
+//! ```text
+//! bytes   . . . . a , 1 | b , 0 | b , . . .
+//!                 start               end
+//! ```
+
+ghost use Rattle.std.specs.Prelude.{◌≡◌, ◌<◌, ◌≤◌, ◌+◌, ◌-◌, ◌⊎◌, ◌++◌, [], drop, false, true};
+ghost use Rattle.std.specs.Prelude.{length, take, IfOk, OnOk, vec_len};
+ghost use Rattle.lb_report.specs.Windows.{ended_by};
+
+use crate::feed::{Feed, INPUT_LIMIT, LoadError};
+use std::alloc::{AllocError, Global};
+
+/// The bytes of a feed that have been read and are not yet let go.
+#[derive(Drop)]
+pub(crate) struct Window {
+    pub(crate) bytes: Vec<u8>,
+    pub(crate) start: usize,
+    pub(crate) end: usize,
+    /// How many bytes the feed has given.
+    pub(crate) read: usize,
+    /// Whether these are all.
+    pub(crate) is_over: bool,
+    /// Whether the last of them ends a line.
+    pub(crate) is_ended: bool,
+}
+
+// Makes a list so long, where it is shorter.
+fn make_long(bytes: &mut Vec<u8>, size: usize) -> Result<(), AllocError>
+    ensures long { OnOk result (size ≤ vec_len bytes.new) }
+    ensures kept { OnOk result
+        (take (vec_len bytes.old) bytes.new.items ≡ bytes.old.items) }
+{
+    if bytes.len() < size {
+        bytes.resize(size, 0)?;
+    }
+    Ok(())
+}
+
+// Copies bytes into a list, behind so many that stay.
+fn copy_behind(bytes: &mut Vec<u8>, count: usize, more: &[u8])
+    requires { count + length more.now ≤ vec_len bytes.old }
+    ensures len { vec_len bytes.new ≡ vec_len bytes.old }
+    ensures front { take count bytes.new.items ≡ take count bytes.old.items }
+    ensures more { take (length more.now) (drop count bytes.new.items) ≡ more.now }
+{
+    bytes[count..count + more.len()].copy_from_slice(more);
+}
+
+// The same, into a list that is made longer where it is too short.
+fn put_behind(bytes: &mut Vec<u8>, count: usize, more: &[u8]) -> Result<(), AllocError>
+    requires { count ≤ vec_len bytes.old }
+    ensures long { OnOk result (count + length more.now ≤ vec_len bytes.new) }
+    ensures front { OnOk result (take count bytes.new.items ≡ take count bytes.old.items) }
+    ensures more { OnOk result (take (length more.now) (drop count bytes.new.items) ≡ more.now) }
+{
+    make_long(bytes, count + more.len())?;
+    copy_behind(bytes, count, more);
+    Ok(())
+}
+
+// Whether a text ends with a line, of which these are the last bytes.
+fn ends_by(before: bool, more: &[u8]) -> bool
+    ensures { result ≡ ended_by before more.now }
+{
+    if more.is_empty() {
+        return before;
+    }
+    let last = more[more.len() - 1];
+    last == b'\r' || last == b'\n'
+}
+
+impl Window {
+    ghost use Rattle.std.specs.Prelude.{IfErr};
+    ghost use Rattle.lb_report.specs.Windows.{HasRead, HasTaken, IsLoadFault, IsWindow};
+    ghost use Rattle.lb_report.specs.Windows.{IsWithin, left, text_in};
+
+    /// A window of so many bytes, with nothing in it.
+    pub(crate) fn new(alloc: Global, size: usize) -> Result<Window, AllocError>
+        ensures window { IfOk result IsWindow }
+        ensures empty { IfOk result (λ w. text_in w ≡ []) }
+        ensures begun { IfOk result (λ w.
+            (w.read ≡ 0) × (w.is_over ≡ false) × (w.is_ended ≡ false)) }
+    {
+        Ok(Window {
+            bytes: vec![in alloc; 0u8; size]?,
+            start: 0,
+            end: 0,
+            read: 0,
+            is_over: false,
+            is_ended: false,
+        })
+    }
+
+    /// The bytes in it.
+    pub(crate) fn text(&self) -> &[u8]
+        requires { IsWindow self.now }
+        ensures { result.now ≡ text_in self.now }
+    {
+        &self.bytes[self.start..self.end]
+    }
+
+    /// Lets go of so many bytes at the front.
+    pub(crate) fn let_go(&mut self, count: usize)
+        requires window { IsWindow self.old }
+        requires count { count ≤ self.old.end - self.old.start }
+        ensures window { IsWindow self.new }
+        ensures rest { text_in self.new ≡ drop count (text_in self.old) }
+        ensures read { self.new.read ≡ self.old.read }
+        ensures over { self.new.is_over ≡ self.old.is_over }
+        ensures ended { self.new.is_ended ≡ self.old.is_ended }
+    {
+        self.start += count;
+    }
+
+    // Has the bytes at the front and some room behind them.
+    fn make_room(&mut self) -> Result<(), AllocError>
+        requires { IsWindow self.old }
+        ensures window { OnOk result (IsWindow self.new) }
+        ensures text { OnOk result (text_in self.new ≡ text_in self.old) }
+        ensures front { OnOk result (self.new.start ≡ 0) }
+        ensures room { OnOk result (self.new.end < vec_len self.new.bytes) }
+        ensures read { self.new.read ≡ self.old.read }
+        ensures over { self.new.is_over ≡ self.old.is_over }
+        ensures ended { self.new.is_ended ≡ self.old.is_ended }
+    {
+        let size = self.bytes.len();
+        let count = self.end - self.start;
+        self.bytes
+            .as_mut_slice()
+            .copy_within(self.start..self.end, 0);
+        self.start = 0;
+        self.end = count;
+        if count == size {
+            self.bytes.resize(size.saturating_add(size.max(1)), 0)?;
+        }
+        Ok(())
+    }
+
+    // Reads once behind the bytes.
+    fn read_more<F: Feed>(&mut self, feed: &mut F) -> Result<(), LoadError>
+        requires window { IsWindow self.old }
+        requires front { self.old.start ≡ 0 }
+        requires room { self.old.end < vec_len self.old.bytes }
+        requires more { self.old.is_over ≡ false }
+        requires failures { F.failures feed.old < u64.MAX }
+        ensures window { OnOk result (IsWindow self.new) }
+        ensures front { OnOk result (self.new.start ≡ 0) }
+        ensures taken { OnOk result (HasTaken self.old self.new
+            (left (F.coming feed.old) (F.given feed.old) (F.failures feed.old))
+            (left (F.coming feed.new) (F.given feed.new) (F.failures feed.new))) }
+        ensures goes { OnOk result
+            ((self.new.is_over ≡ true) ⊎ (self.old.read < self.new.read)) }
+        ensures err { IfErr result (IsLoadFault self.old
+            (left (F.coming feed.old) (F.given feed.old) (F.failures feed.old))
+            (left (F.coming feed.new) (F.given feed.new) (F.failures feed.new))) }
+    {
+        let count = feed.read(&mut self.bytes[self.end..])?;
+        self.is_over = count == 0;
+        self.is_ended = ends_by(self.is_ended, &self.bytes[self.end..self.end + count]);
+        self.end += count;
+        self.read += count;
+        if self.read > INPUT_LIMIT {
+            return Err(LoadError::Read);
+        }
+        Ok(())
+    }
+
+    /// Reads until the window is full or the feed is over. Where it is full already it is made
+    /// twice as large.
+    pub(crate) fn fill<F: Feed>(&mut self, feed: &mut F) -> Result<(), LoadError>
+        requires window { IsWindow self.old }
+        requires failures { F.failures feed.old < u64.MAX }
+        ensures window { OnOk result (IsWindow self.new) }
+        ensures taken { OnOk result (HasTaken self.old self.new
+            (left (F.coming feed.old) (F.given feed.old) (F.failures feed.old))
+            (left (F.coming feed.new) (F.given feed.new) (F.failures feed.new))) }
+        ensures goes { OnOk result
+            ((self.new.is_over ≡ true) ⊎ (self.old.read < self.new.read)) }
+        ensures err { IfErr result (IsLoadFault self.old
+            (left (F.coming feed.old) (F.given feed.old) (F.failures feed.old))
+            (left (F.coming feed.new) (F.given feed.new) (F.failures feed.new))) }
+    {
+        self.make_room()?;
+        'reads: while self.end < self.bytes.len() && !self.is_over {
+            self.read_more(feed)?;
+        }
+        Ok(())
+    }
+
+    /// Reads until the feed is over.
+    pub(crate) fn fill_all<F: Feed>(&mut self, feed: &mut F) -> Result<(), LoadError>
+        requires window { IsWindow self.old }
+        requires failures { F.failures feed.old < u64.MAX }
+        ensures window { OnOk result (IsWindow self.new) }
+        ensures taken { OnOk result (HasTaken self.old self.new
+            (left (F.coming feed.old) (F.given feed.old) (F.failures feed.old))
+            (left (F.coming feed.new) (F.given feed.new) (F.failures feed.new))) }
+        ensures over { OnOk result (self.new.is_over ≡ true) }
+        ensures err { IfErr result (IsLoadFault self.old
+            (left (F.coming feed.old) (F.given feed.old) (F.failures feed.old))
+            (left (F.coming feed.new) (F.given feed.new) (F.failures feed.new))) }
+    {
+        'reads: while !self.is_over {
+            self.fill(feed)?;
+        }
+        Ok(())
+    }
+
+    /// Whether the feed has no more.
+    pub(crate) fn is_over(&self) -> bool
+        ensures { result ≡ self.now.is_over }
+    {
+        self.is_over
+    }
+
+    /// Whether the last byte that the feed has given ends a line.
+    pub(crate) fn is_ended(&self) -> bool
+        ensures { result ≡ self.now.is_ended }
+    {
+        self.is_ended
+    }
+
+    /// Whether nothing is in it, and the feed has no more.
+    pub(crate) fn is_done(&self) -> bool
+        requires { IsWindow self.now }
+        ensures over { result ≡ true → self.now.is_over ≡ true }
+        ensures nothing { result ≡ true → text_in self.now ≡ [] }
+        ensures left { result ≡ false → self.now.is_over ≡ true → 0 < length (text_in self.now) }
+    {
+        self.is_over && self.start == self.end
+    }
+
+    /// How many bytes the feed has given.
+    pub(crate) fn read(&self) -> usize
+        ensures { result ≡ self.now.read }
+    {
+        self.read
+    }
+
+    /// Reads the rest of the feed, and lets go of it.
+    pub(crate) fn drain<F: Feed>(&mut self, feed: &mut F) -> Result<(), LoadError>
+        requires within { IsWithin self.old }
+        requires failures { F.failures feed.old < u64.MAX }
+        ensures read { OnOk result (HasRead self.old self.new
+            (left (F.coming feed.old) (F.given feed.old) (F.failures feed.old))
+            (left (F.coming feed.new) (F.given feed.new) (F.failures feed.new))) }
+        ensures over { OnOk result (self.new.is_over ≡ true) }
+        ensures err { IfErr result (IsLoadFault self.old
+            (left (F.coming feed.old) (F.given feed.old) (F.failures feed.old))
+            (left (F.coming feed.new) (F.given feed.new) (F.failures feed.new))) }
+    {
+        'reads: while !self.is_over {
+            self.let_go_all();
+            self.fill(feed)?;
+        }
+        Ok(())
+    }
+
+    // Lets go of all bytes.
+    fn let_go_all(&mut self)
+        requires { IsWithin self.old }
+        ensures window { IsWindow self.new }
+        ensures read { self.new.read ≡ self.old.read }
+        ensures over { self.new.is_over ≡ self.old.is_over }
+        ensures ended { self.new.is_ended ≡ self.old.is_ended }
+    {
+        self.start = 0;
+        self.end = 0;
+    }
+
+    /// How many bytes it has room for.
+    pub(crate) fn size(&self) -> usize
+        ensures { result ≡ vec_len self.now.bytes }
+    {
+        self.bytes.len()
+    }
+
+    /// Holds what stands in another window behind so many bytes, and nothing else.
+    pub(crate) fn begin_with(&mut self, before: &Window, count: usize) -> Result<(), AllocError>
+        requires window { IsWindow before.now }
+        requires count { count ≤ length (text_in before.now) }
+        ensures window { OnOk result (IsWindow self.new) }
+        ensures rest { OnOk result (text_in self.new ≡ drop count (text_in before.now)) }
+        ensures read { OnOk result (self.new.read ≡ before.now.read) }
+        ensures over { OnOk result (self.new.is_over ≡ before.now.is_over) }
+        ensures ended { OnOk result (self.new.is_ended ≡ before.now.is_ended) }
+    {
+        let rest = &before.text()[count..];
+        put_behind(&mut self.bytes, 0, rest)?;
+        self.start = 0;
+        self.end = rest.len();
+        self.read = before.read;
+        self.is_over = before.is_over;
+        self.is_ended = before.is_ended;
+        Ok(())
+    }
+
+    /// Takes what another window has behind so many bytes, which has read on.
+    pub(crate) fn go_on_with(&mut self, next: &Window, count: usize) -> Result<(), AllocError>
+        requires window { IsWindow self.old }
+        requires next { IsWindow next.now }
+        requires count { count ≤ length (text_in next.now) }
+        ensures window { OnOk result (IsWindow self.new) }
+        ensures text { OnOk result
+            (text_in self.new ≡ text_in self.old ++ drop count (text_in next.now)) }
+        ensures read { OnOk result (self.new.read ≡ next.now.read) }
+        ensures over { OnOk result (self.new.is_over ≡ next.now.is_over) }
+        ensures ended { OnOk result (self.new.is_ended ≡ next.now.is_ended) }
+    {
+        let more = &next.text()[count..];
+        put_behind(&mut self.bytes, self.end, more)?;
+        self.end += more.len();
+        self.read = next.read;
+        self.is_over = next.is_over;
+        self.is_ended = next.is_ended;
+        Ok(())
+    }
+}
