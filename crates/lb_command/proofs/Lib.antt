@@ -1,6 +1,7 @@
 pub mod Streams
 pub mod Inputs
 pub mod Outcomes
+pub mod Feeding
 pub mod PartWords
 pub mod Words
 pub mod Living

@@ -11,6 +11,8 @@ use Rattle.lb_report.specs.Refusals.{number_of, position_of}
 use Rattle.lb_report.specs.declared.error.BenchError.{BenchError}
 use Rattle.lb_report.specs.declared.feed.LoadError.{LoadError}
 use Rattle.lb_report.specs.declared.feed.LoadError.TheVariants as load
+use Rattle.lb_report.specs.declared.feeding.FeedFault.{FeedFault}
+use Rattle.lb_report.specs.declared.feeding.FeedFault.TheVariants as fault
 use Rattle.lb_report.specs.declared.options.Options.{Options}
 use Rattle.lb_pool.specs.Taken.{Takes}
 use Rattle.lb_pool.specs.declared.text.Report.{Report}
@@ -120,6 +122,16 @@ pub data IsRefusedOn (Are : Text → Text → Type 0) (options : Options) (refus
 abbrev pub IsOutcomeOn : (Text → Text → Type 0) → Options → Result (Warned Report) Refusal → Type 0
 IsOutcomeOn Are options (Ok found) = IsReportOn Are options found.value
 IsOutcomeOn Are options (Err refusal) = IsRefusedOn Are options refusal
+
+-- what is told of what the bench found on the traces of a feed: its report, or a refusal with the
+-- number and the place of what is wrong with the feed or with the texts
+abbrev pub IsReported : (found : Result Report FeedFault) → Result (Warned Report) Refusal → Type 0
+IsReported (Ok report) (Ok told) = told.value ≡ report
+IsReported (Ok report) (Err refusal) = ⊥
+IsReported (Err (fault.Load e)) (Ok told) = ⊥
+IsReported (Err (fault.Load e)) (Err refusal) = refusal.number ≡ load_number e
+IsReported (Err (fault.Refused e)) (Ok told) = ⊥
+IsReported (Err (fault.Refused e)) (Err refusal) = IsToldBy e refusal
 
 -- ## What a refusal tells of the input
 

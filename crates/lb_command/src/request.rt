@@ -145,7 +145,7 @@ fn with_numbers<'a>(alloc: Global, command: Command<'a>) -> Result<Command<'a>, 
 fn with_switches<'a>(alloc: Global, command: Command<'a>) -> Result<Command<'a>, AllocError>
     ensures { IfOk result (λ c. app_of c ≡ spec.with_switches (app_of command.entry)) }
 {
-    let help = "puts traces of like length into one batch";
+    let help = "with --follow, puts traces of like length into one batch";
     let command = command.arg(switch_argument(alloc, "by-length", help))?;
     let help = "writes each line as soon as it and all before it are known";
     command.arg(switch_argument(alloc, "follow", help))

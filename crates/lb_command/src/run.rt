@@ -1,7 +1,7 @@
 //! A run of the program, on any streams.
 
-ghost use Rattle.std.specs.Prelude.{◌≡◌, ◌≢◌, ◌<◌, ◌⊎◌, ◌++◌, ℕ, List, IfErr, IfOk, IsSome, map};
-ghost use Rattle.std.specs.Prelude.{string_bytes};
+ghost use Rattle.std.specs.Prelude.{◌≡◌, ◌≢◌, ◌<◌, ◌⊎◌, ◌++◌, ℕ, List, [], IfErr, IfOk, IfSome};
+ghost use Rattle.std.specs.Prelude.{IsSome, None, Some, map, string_bytes};
 ghost use Rattle.lb_listing.specs.Listings.{Line, Lists};
 ghost use Rattle.lb_command.specs.Conclusions.{IsBaseline, IsConcluded};
 ghost use Rattle.lb_command.specs.Correct.{IsRun, IsTaskRun, IsToldOutcome, IsWholeRun};
@@ -16,15 +16,14 @@ use crate::delivery::deliver;
 use crate::explanation::{asks_to_explain, remarks_of, tell};
 use crate::judging::run_judging;
 use crate::live::run_live;
-use crate::loading::{Loaded, load_open, load_texts};
+use crate::loading::{Loaded, load_file, load_open, load_texts};
 use crate::merging::run_merge;
 use crate::refusal::{Refusal, Texts};
 use crate::request::{Aim, Request, Task, read_words};
 use crate::showing::run_showing;
 use lb_listing::Listing;
-use lb_report::{Feed, Report, Sink, bench, bench_file};
+use lb_report::{Feed, FeedFault, Reader, Report, Sink, Sizes, bench, bench_feed, bench_ranges};
 use std::alloc::{AllocError, Global};
-use std::io::Read;
 use std::os::unix::fs::FileExt;
 use std::rt::Runtime;
 use std::sync::Wait;
@@ -54,16 +53,52 @@ where
     }
 }
 
-/// The traces of a file that a report was made of in chunks, where the words ask for explanations;
-/// nothing where they do not, and where the file can not be read again.
-fn traces_again<F: Read>(alloc: Global, words: &[String], path: &str, file: &mut F) -> Vec<u8> {
-    if !asks_to_explain(words) {
-        return Vec::new(alloc);
+/// The report that the bench found on a source and the traces of a feed, where the words ask for no
+/// explanations: nothing is said beside it.
+fn reported(
+    alloc: Global,
+    source: Vec<u8>,
+    found: Result<Report, FeedFault>,
+) -> Result<Warned<Report>, Refusal>
+    ensures outcome { spec.IsReported found result }
+    ensures warned { IfOk result (λ told. told.warnings.items ≡ []) }
+{
+    match found {
+        Ok(value) => Ok(Warned {
+            value,
+            warnings: Vec::new(alloc),
+        }),
+        Err(fault) => match fault {
+            FeedFault::Load(cause) => Err(Refusal::from(cause)),
+            FeedFault::Refused(cause) => {
+                let traces = Vec::new(alloc);
+                Err(Refusal::of_texts(cause, Texts::Two { source, traces }))
+            }
+        },
     }
-    match load_open(alloc, path, file) {
-        Ok(traces) => traces,
-        Err(_) => Vec::new(alloc),
-    }
+}
+
+/// The report on a source and the traces of a feed, which are judged while they are read.
+fn report_on_feed<R, F>(
+    rt: &R,
+    task: &Task<'_>,
+    source: Vec<u8>,
+    feed: &mut F,
+) -> Result<Warned<Report>, Refusal>
+where
+    R: Runtime + AllocGlobal + Threads + Sync,
+    F: Feed + Send,
+    requires { F.failures feed.old < u64.MAX }
+    ensures outcome { spec.IsOutcomeOn (λ _ traces. spec.IsInput (F.coming feed.old) traces)
+        task.now.options result }
+    ensures read { spec.HasRead ⊥
+        (input (F.coming feed.old) (F.given feed.old) (F.given feed.new)
+        (F.failures feed.old) (F.failures feed.new)) result }
+    ensures warned { IfOk result (λ told. told.warnings.items ≡ []) }
+{
+    let sizes = Sizes::usual(task.options.workers);
+    let found = bench_feed(rt, source.as_slice(), feed, &task.options, sizes);
+    reported(rt.alloc(), source, found)
 }
 
 /// The report on a source and a file of traces that is open.
@@ -77,19 +112,32 @@ fn report_on_open<R>(
 ) -> Result<Warned<Report>, Refusal>
 where
     R: Runtime + AllocGlobal + Threads + Sync,
-    R::File: FileExt + Sync,
+    R::File: FileExt + Sync + Send,
     ensures outcome { spec.IsOutcomeOn (λ _ _. Unit {0}) task.now.options result }
     ensures warned { IfOk result (λ found.
         AreRemarks (map string_bytes words.now) task.now.options found.warnings.items) }
 {
-    if let Some(value) = bench_file(rt, source.as_slice(), &file, &task.options) {
-        let traces = traces_again(rt.alloc(), words, path, &mut file);
-        let texts = (source.as_slice(), traces.as_slice());
-        let warnings = remarks_of(rt.alloc(), words, task, texts, &value);
-        return Ok(Warned { value, warnings });
+    if asks_to_explain(words) {
+        let traces = load_open(rt.alloc(), path, &mut file)?;
+        return report_on(rt, words, task, Texts::Two { source, traces });
     }
-    let traces = load_open(rt.alloc(), path, &mut file)?;
-    report_on(rt, words, task, Texts::Two { source, traces })
+    let sizes = Sizes::usual(task.options.workers);
+    match bench_ranges(rt, source.as_slice(), &file, &task.options, sizes) {
+        Some(found) => reported(rt.alloc(), source, found),
+        None => report_on_feed(rt, task, source, &mut Reader::new(file)),
+    }
+}
+
+/// The path of the source of a task whose traces are the input, where the words ask for no
+/// explanations: only these need the whole text of the traces.
+fn source_beside_input<'a>(words: &[String], task: &Task<'a>) -> Option<&'a str>
+    ensures { IfSome result (λ path.
+        (task.now.source ≡ Some path) × (task.now.traces ≡ None)) }
+{
+    match task.traces {
+        None if !asks_to_explain(words) => task.source,
+        _ => None,
+    }
 }
 
 /// The report of a task.
@@ -101,8 +149,8 @@ fn report<R, F>(
 ) -> Result<Warned<Report>, Refusal>
 where
     R: Runtime + AllocGlobal + Threads + Sync,
-    R::File: FileExt + Sync,
-    F: Feed,
+    R::File: FileExt + Sync + Send,
+    F: Feed + Send,
     requires { F.failures reader.old < u64.MAX }
     ensures outcome { spec.IsOutcomeOn (spec.AreTexts task.now (F.coming reader.old))
         task.now.options result }
@@ -112,6 +160,10 @@ where
     ensures warned { IfOk result (λ found.
         AreRemarks (map string_bytes words.now) task.now.options found.warnings.items) }
 {
+    if let Some(path) = source_beside_input(words, task) {
+        let source = load_file(rt, path)?;
+        return report_on_feed(rt, task, source, reader);
+    }
     match load_texts(rt, task, reader) {
         Ok(loaded) => match loaded {
             Loaded::Texts(texts) => report_on(rt, words, task, texts),
@@ -162,8 +214,8 @@ fn told_report<R, F>(
 ) -> Result<Warned<Report>, Refusal>
 where
     R: Runtime + AllocGlobal + Threads + Sync,
-    R::File: FileExt + Sync,
-    F: Feed,
+    R::File: FileExt + Sync + Send,
+    F: Feed + Send,
     requires baseline { IsBaseline task.now.terms baseline }
     requires reader { F.failures reader.old < u64.MAX }
     ensures outcome { IsToldOutcome (map string_bytes words.now) task.now (F.coming reader.old)
@@ -189,8 +241,8 @@ fn run_measured<R, F, W, E>(
 ) -> u8
 where
     R: Runtime + AllocGlobal + Threads + Sync,
-    R::File: FileExt + Sync,
-    F: Feed,
+    R::File: FileExt + Sync + Send,
+    F: Feed + Send,
     W: Sink,
     E: Sink,
     requires baseline { IsBaseline task.now.terms baseline }
@@ -228,8 +280,8 @@ fn run_compared<R, F, W, E>(
 ) -> u8
 where
     R: Runtime + AllocGlobal + Threads + Sync,
-    R::File: FileExt + Sync,
-    F: Feed,
+    R::File: FileExt + Sync + Send,
+    F: Feed + Send,
     W: Sink,
     E: Sink,
     requires baseline { IsSome task.now.terms.baseline }
@@ -262,8 +314,8 @@ fn run_whole<R, F, W, E>(
 ) -> u8
 where
     R: Runtime + AllocGlobal + Threads + Sync,
-    R::File: FileExt + Sync,
-    F: Feed,
+    R::File: FileExt + Sync + Send,
+    F: Feed + Send,
     W: Sink,
     E: Sink,
     requires reader { F.failures reader.old < u64.MAX }
@@ -297,8 +349,8 @@ fn run_task<R, F, W, E>(
 ) -> u8
 where
     R: Runtime + AllocGlobal + Threads + Wait + Sync,
-    R::File: FileExt + Sync,
-    F: Feed,
+    R::File: FileExt + Sync + Send,
+    F: Feed + Send,
     W: Sink,
     E: Sink,
     requires worker { task.now.aim ≡ LiveReport → 0 < task.now.options.workers }
@@ -346,8 +398,8 @@ pub fn command<R, F, W, E>(
 ) -> u8
 where
     R: Runtime + AllocGlobal + Threads + Wait + Sync,
-    R::File: FileExt + Sync,
-    F: Feed,
+    R::File: FileExt + Sync + Send,
+    F: Feed + Send,
     W: Sink,
     E: Sink,
     requires reader { F.failures reader.old < u64.MAX }
