@@ -38,7 +38,7 @@ impl Run {
         input: &str,
     ) -> Result<Self, AllocError>
     where
-        R::File: FileExt + Sync,
+        R::File: FileExt + Sync + Send,
     {
         let words = words_of(rt.alloc(), line)?;
         let mut output: Vec<u8> = Vec::new(rt.alloc());
@@ -63,7 +63,7 @@ impl Run {
         asked: &str,
     ) -> Result<Self, AllocError>
     where
-        R::File: FileExt + Sync,
+        R::File: FileExt + Sync + Send,
     {
         let (line, input) = asked.split_once('\n').unwrap_or((asked, ""));
         Run::on(rt, line, input)

@@ -177,7 +177,7 @@ fn printed<R: Runtime + AllocGlobal + Threads + Wait + Sync>(
     input: &str,
 ) -> Result<Vec<u8>, AllocError>
 where
-    R::File: FileExt + Sync,
+    R::File: FileExt + Sync + Send,
 {
     let run = Run::on(rt, line, input)?;
     if run.status != 0 || !run.errors.is_empty() {
@@ -247,7 +247,7 @@ fn is_reported<R: Runtime + AllocGlobal + Threads + Wait + Sync>(
     input: &str,
 ) -> Result<bool, AllocError>
 where
-    R::File: FileExt + Sync,
+    R::File: FileExt + Sync + Send,
 {
     let options = "lbench --node plant --observe small";
     let line = format!(in rt.alloc(); "{options} {source}{traces}")?;
@@ -387,7 +387,7 @@ fn is_merged<R: Runtime + AllocGlobal + Threads + Wait + Sync>(
     parts: u32,
 ) -> Result<bool, Fail>
 where
-    R::File: FileExt + Sync,
+    R::File: FileExt + Sync + Send,
 {
     let mut line = format!(in rt.alloc(); "lbench --merge")?;
     for number in 1..=parts {

@@ -32,7 +32,7 @@ fn answer_within<R: Runtime + AllocGlobal + Threads + Wait + Sync>(
     room: &mut [u8],
 ) -> Result<String, AllocError>
 where
-    R::File: FileExt + Sync,
+    R::File: FileExt + Sync + Send,
 {
     let words = words_of(rt.alloc(), line)?;
     let mut errors: Vec<u8> = Vec::new(rt.alloc());

@@ -111,7 +111,7 @@ fn push_answer<R: Runtime + AllocGlobal + Threads + Wait + Sync>(
     said: &mut String,
 ) -> Result<(), AllocError>
 where
-    R::File: FileExt + Sync,
+    R::File: FileExt + Sync + Send,
 {
     let run = Run::new(rt, asked)?;
     match asks {
@@ -129,7 +129,7 @@ fn is_right<R: Runtime + AllocGlobal + Threads + Wait + Sync>(
     said: &mut String,
 ) -> Result<bool, AllocError>
 where
-    R::File: FileExt + Sync,
+    R::File: FileExt + Sync + Send,
 {
     let (asks, mark, _) = table;
     said.clear();
@@ -149,7 +149,7 @@ fn is_answered<R: Runtime + AllocGlobal + Threads + Wait + Sync>(
     said: &mut String,
 ) -> Result<bool, AllocError>
 where
-    R::File: FileExt + Sync,
+    R::File: FileExt + Sync + Send,
 {
     let (_, _, rows) = table;
     for short in rows.split("\n----\n") {
@@ -167,7 +167,7 @@ fn first_wrong<R: Runtime + AllocGlobal + Threads + Wait + Sync>(
     table: Table,
 ) -> Result<String, AllocError>
 where
-    R::File: FileExt + Sync,
+    R::File: FileExt + Sync + Send,
 {
     let mut row = String::new(rt.alloc());
     let mut said = String::new(rt.alloc());

@@ -2,6 +2,7 @@
 
 ghost use Rattle.std.specs.Prelude.{◌≡◌, ◌≤◌, IfOk};
 
+use crate::rounds;
 use lb_check::CheckError;
 use lb_report::{BenchError, Options, Report, run_case};
 use std::alloc::{AllocError, Global};
@@ -98,7 +99,7 @@ fn push_quoted(case: &str, quoted: &mut String) -> Result<(), AllocError> {
 }
 
 /// What is answered on a case text after its first line, which may name an observer; and what is
-/// answered with each cell in quotes, where that is something else.
+/// answered with each cell in quotes, or in rounds, where that is something else.
 pub fn push_case<R: Runtime + AllocGlobal + Threads + Sync>(
     rt: &R,
     asked: &str,
@@ -112,6 +113,10 @@ pub fn push_case<R: Runtime + AllocGlobal + Threads + Sync>(
     push_answer(rt, quoted.as_str(), observer.trim(), &mut other)?;
     if other.as_str() != said.as_str() {
         return write!(said, ", and quoted {other}");
+    }
+    if observer.trim().is_empty() {
+        rounds::push_case_in_rounds(rt, case, said)?;
+        rounds::push_case_in_rounds(rt, quoted.as_str(), said)?;
     }
     Ok(())
 }

@@ -1,6 +1,6 @@
-//! Trace files that are read in chunks while others are loaded.
+//! Trace files that are read in sections side by side.
 
-use lb_report::{Options, Report, bench, bench_file, bench_loaded};
+use lb_report::{BenchError, FeedFault, Options, Report, Sizes, bench, bench_ranges};
 use std::alloc::{AllocError, Global};
 use std::os::unix::fs::FileExt;
 use std::rt::Runtime;
@@ -15,9 +15,9 @@ const SOURCE: &str = "node main(x: int) returns (ok: bool); let ok = x < 12; tel
 fn traces_of(alloc: Global, count: u32, last: &str) -> Result<String, AllocError> {
     let mut text = String::from_str(alloc, "trace,x\n")?;
     for k in 0..count {
-        write!(text, "t{},{}\n", k / 700, k % 11)?;
-        if k % 999 == 0 {
-            write!(text, "t{},12\n", k / 700)?;
+        write!(text, "t{},{}\n", k / 7, k % 11)?;
+        if k % 99 == 0 {
+            write!(text, "t{},12\n", k / 7)?;
         }
     }
     text.push_str(last)?;
@@ -33,8 +33,13 @@ fn options_of(alloc: Global, workers: u32) -> Result<Option<Options>, AllocError
     Ok(Some(Options::new(node, None, workers, 64, false)))
 }
 
-/// The report on a trace file by so many workers, where it is read in chunks.
-fn report_of<R>(rt: &R, path: &str, workers: u32) -> Result<Option<Report>, AllocError>
+/// What is found on a trace file by so many workers, where it is read in sections.
+fn found_in<R>(
+    rt: &R,
+    path: &str,
+    workers: u32,
+    sizes: Sizes,
+) -> Result<Option<Result<Report, FeedFault>>, AllocError>
 where
     R: Runtime + AllocGlobal + Threads + Sync,
     R::File: FileExt + Sync,
@@ -45,11 +50,34 @@ where
     let Ok(file) = fs::File::open(rt, path) else {
         return Ok(None);
     };
-    Ok(bench_file(rt, SOURCE.as_bytes(), &file, &options))
+    Ok(bench_ranges(rt, SOURCE.as_bytes(), &file, &options, sizes))
 }
 
-/// Whether the report on a trace file by so many workers is that on its text by one.
-fn is_read<R>(rt: &R, path: &str, text: &str, workers: u32) -> Result<bool, AllocError>
+/// Whether what is found on a file is what is found on its text.
+fn is_same(found: &Result<Report, FeedFault>, whole: &Result<Report, BenchError>) -> bool {
+    match found {
+        Ok(found) => match whole {
+            Ok(whole) => {
+                found.status == whole.status && found.text.as_slice() == whole.text.as_slice()
+            }
+            Err(_) => false,
+        },
+        Err(FeedFault::Refused(found)) => match whole {
+            Ok(_) => false,
+            Err(whole) => found.number() == whole.number(),
+        },
+        Err(FeedFault::Load(_)) => false,
+    }
+}
+
+/// Whether what is found on a trace file in sections is what one worker finds on its text.
+fn is_read<R>(
+    rt: &R,
+    path: &str,
+    text: &str,
+    workers: u32,
+    sizes: Sizes,
+) -> Result<bool, AllocError>
 where
     R: Runtime + AllocGlobal + Threads + Sync,
     R::File: FileExt + Sync,
@@ -57,107 +85,58 @@ where
     let Some(options) = options_of(rt.alloc(), 1)? else {
         return Ok(false);
     };
-    let Ok(whole) = bench(rt, SOURCE.as_bytes(), text.as_bytes(), &options) else {
-        return Ok(false);
-    };
-    let Some(report) = report_of(rt, path, workers)? else {
-        return Ok(false);
-    };
-    Ok(report.status == whole.status && report.text.as_slice() == whole.text.as_slice())
+    let whole = bench(rt, SOURCE.as_bytes(), text.as_bytes(), &options);
+    match &found_in(rt, path, workers, sizes)? {
+        Some(found) => Ok(is_same(found, &whole)),
+        None => Ok(false),
+    }
 }
 
-/// Texts that are not read in chunks: with a name that comes back, with a line that does not end,
-/// and a short one.
-const WHOLE: [(u32, &str); 3] = [(320_000, "t0,1\n"), (320_000, "z,1"), (100, "")];
-
-/// Whether a trace text is not read in chunks.
-fn is_read_whole<R>(rt: &R, path: &str, count: u32, last: &str) -> Result<bool, Fail>
-where
-    R: Runtime + AllocGlobal + Threads + Sync,
-    R::File: FileExt + Sync,
-{
-    let text = traces_of(rt.alloc(), count, last)?;
-    fs::write(rt, path, text.as_str())?;
-    Ok(report_of(rt, path, 4)?.is_none())
-}
-
-/// Whether a text is read in chunks, but not by one worker.
-fn is_read_in_chunks<R>(rt: &R, path: &str) -> Result<bool, Fail>
+/// Whether a large file is read in sections as its text is judged, but not by one worker.
+fn is_large_read<R>(rt: &R, path: &str) -> Result<bool, Fail>
 where
     R: Runtime + AllocGlobal + Threads + Sync,
     R::File: FileExt + Sync,
 {
     let text = traces_of(rt.alloc(), 320_000, "")?;
     fs::write(rt, path, text.as_str())?;
-    for workers in [0, 3] {
-        if !is_read(rt, path, text.as_str(), workers)? {
-            return Ok(false);
-        }
+    if !is_read(rt, path, text.as_str(), 3, Sizes::usual(3))? {
+        return Ok(false);
     }
-    Ok(report_of(rt, path, 1)?.is_none())
+    Ok(found_in(rt, path, 1, Sizes::usual(1))?.is_none())
 }
 
-/// Whether each text is read in chunks that should be, and no other.
-fn are_read<R>(rt: &R, path: &str) -> Result<bool, Fail>
+/// Whether a file that is not large is left to one worker.
+fn is_short_left<R>(rt: &R, path: &str) -> Result<bool, Fail>
 where
     R: Runtime + AllocGlobal + Threads + Sync,
     R::File: FileExt + Sync,
 {
-    for (count, last) in WHOLE {
-        if !is_read_whole(rt, path, count, last)? {
-            return Ok(false);
-        }
-    }
-    is_read_in_chunks(rt, path)
+    let text = traces_of(rt.alloc(), 100, "")?;
+    fs::write(rt, path, text.as_str())?;
+    Ok(found_in(rt, path, 4, Sizes::usual(4))?.is_none())
+}
+
+/// Whether a large file is read in sections, and whether a short one is left to one worker.
+fn are_read<R>(rt: &R, path: &str) -> Result<(bool, bool), Fail>
+where
+    R: Runtime + AllocGlobal + Threads + Sync,
+    R::File: FileExt + Sync,
+{
+    let is_large = is_large_read(rt, path)?;
+    Ok((is_large, is_short_left(rt, path)?))
 }
 
 #[test]
 fn files(rt: HostRuntime) -> Result<(), Fail> {
     let mut path = String::new(rt.alloc());
-    write!(path, "{}/lb_tests_chunks", env::temp_dir(&rt)?.as_str())?;
+    write!(path, "{}/lb_tests_sections", env::temp_dir(&rt)?.as_str())?;
     let are_read = are_read(&rt, path.as_str());
     let _ = fs::remove_file(&rt, path.as_str());
-    let are_read = are_read?;
-    assert!(rt; are_read, "chunks");
-    let report = report_of(&rt, path.as_str(), 4)?;
-    assert!(rt; report.is_none(), "no file");
-    Ok(())
-}
-
-/// Chunks of a trace text. The first one goes on with the trace that was begun, and so does the
-/// second.
-const CHUNKS: [&str; 2] = ["a,12\nb,1\n", "b,2\nc,12\n"];
-
-/// The report on them behind `trace,x` and `a,1`.
-const REPORT: &str = "\
-a false 1
-b passed
-c false 0
-total 3 passed 1 fault 0 undefined 0 assertion 0 false 2
-";
-
-/// The bytes of a chunk.
-fn chunk_of(alloc: Global, k: usize) -> Option<Vec<u8>> {
-    let chunk = CHUNKS.get(k)?;
-    let Ok(copy) = chunk.as_bytes().to_vec(alloc) else {
-        return None;
-    };
-    Some(copy)
-}
-
-#[test]
-fn chunks(rt: HostRuntime) -> Result<(), AllocError> {
-    let alloc = rt.alloc();
-    let load = |k: usize| -> Option<Vec<u8>> { chunk_of(alloc, k) };
-    let first = b"trace,x\na,1\n".as_slice();
-    let report = match options_of(alloc, 2)? {
-        Some(options) => bench_loaded(&rt, SOURCE.as_bytes(), first, &load, &[0, 1], &options),
-        None => None,
-    };
-    let text = match &report {
-        Some(report) => report.text.as_slice(),
-        None => b"".as_slice(),
-    };
-    assert_eq!(rt; text, REPORT.as_bytes());
+    let (is_large, is_left) = are_read?;
+    assert!(rt; is_large, "sections of a large file");
+    assert!(rt; is_left, "one worker");
+    let none = found_in(&rt, path.as_str(), 4, Sizes::usual(4))?;
+    assert!(rt; none.is_none(), "no file");
     Ok(())
 }

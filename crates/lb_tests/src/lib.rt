@@ -42,11 +42,17 @@ mod programs;
 #[cfg(test)]
 mod random;
 #[cfg(test)]
+mod random_texts;
+#[cfg(test)]
 mod readings;
 #[cfg(test)]
 mod reports;
 #[cfg(test)]
+mod rounds;
+#[cfg(test)]
 mod runs;
+#[cfg(test)]
+mod sections;
 #[cfg(test)]
 mod source_places;
 #[cfg(test)]

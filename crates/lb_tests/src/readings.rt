@@ -9,7 +9,7 @@ use std::thread::Threads;
 
 // The text that a row stands for: `/` is a line feed, `\` a carriage return, `'` the byte `"`, and
 // `^` the byte order mark.
-fn push_text(short: &str, text: &mut String) -> Result<(), AllocError> {
+pub fn push_text(short: &str, text: &mut String) -> Result<(), AllocError> {
     for letter in short.chars() {
         match letter {
             '/' => text.push('\n')?,

@@ -14,8 +14,8 @@
 
 use crate::{
     answers, batches, check_causes, cycles, elaboration, flat_causes, forms, hostile, lane_words,
-    lanes, machine, offsets, pool, programs, random, readings, reports, runs, source_places,
-    source_texts, sources, static_causes,
+    lanes, machine, offsets, pool, programs, random, readings, reports, rounds, runs, sections,
+    source_places, source_texts, sources, static_causes,
 };
 use std::alloc::AllocError;
 use std::rt::Runtime;
@@ -62,6 +62,10 @@ enum Asks<'a> {
     Batches,
     /// A trace text under the signature `x: int, c: bool`, whatever the workers.
     Parted,
+    /// A trace text of a sum of `x` where `c` is not, in rounds, cut at each byte.
+    Cuts,
+    /// The same as a file, in sections, whatever the reads.
+    Files,
     /// A kernel on integers, and its operands.
     Ints,
     /// A kernel on words of 64 integers, and its operands.
@@ -254,6 +258,12 @@ pub fn write_out(row: &mut String, short: &str) -> Result<bool, AllocError> {
     Ok(true)
 }
 
+/// Traces that are judged round by round.
+static ROUND_TABLES: [Table; 2] = [
+    (Asks::Cuts, LINES, rounds::CUTS),
+    (Asks::Files, LINES, sections::FILES),
+];
+
 /// What is answered on what a row asks.
 fn push_answer<R: Runtime + AllocGlobal + Threads + Sync>(
     rt: &R,
@@ -281,6 +291,8 @@ fn push_answer<R: Runtime + AllocGlobal + Threads + Sync>(
         Asks::Bits => readings::push_bits(rt.alloc(), asked, said),
         Asks::Batches => batches::push_lanes_of(rt.alloc(), asked, said),
         Asks::Parted => readings::push_by_workers(rt, rt.alloc(), asked, said),
+        Asks::Cuts => rounds::push_cut(rt, asked, said),
+        Asks::Files => sections::push_sections(rt, asked, said),
         Asks::Ints => lanes::push_ints(asked, said),
         Asks::Words => lane_words::push_words(asked, said),
         Asks::Planes => lanes::push_plane(asked, said),
@@ -378,5 +390,12 @@ fn case_tables(rt: HostRuntime) -> Result<(), AllocError> {
 fn limit_tables(rt: HostRuntime) -> Result<(), AllocError> {
     let wrong = first_wrong(&rt, &LIMIT_TABLES)?;
     assert!(rt; wrong.is_empty(), "a row of the limits");
+    Ok(())
+}
+
+#[test]
+fn round_tables(rt: HostRuntime) -> Result<(), AllocError> {
+    let wrong = first_wrong(&rt, &ROUND_TABLES)?;
+    assert!(rt; wrong.is_empty(), "{wrong}");
     Ok(())
 }

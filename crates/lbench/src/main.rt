@@ -39,7 +39,7 @@ fn say_awaited<E: Sink>(alloc: Global, words: &[String], stdin: Stdin, errors: &
 fn run<R, E>(rt: &R, stdin: Stdin, errors: &mut E) -> u8
 where
     R: Runtime + AllocGlobal + Threads + Wait + Sync,
-    R::File: FileExt + Sync,
+    R::File: FileExt + Sync + Send,
     E: Sink,
     requires { E.failures errors.old + 1 < u64.MAX }
 {
@@ -69,7 +69,7 @@ fn is_coloured<R: Runtime + AllocGlobal>(rt: &R, stderr: &Stderr) -> bool {
 fn run_on_streams<R>(rt: &R, stdin: Stdin, stderr: Stderr) -> u8
 where
     R: Runtime + AllocGlobal + Threads + Wait + Sync,
-    R::File: FileExt + Sync,
+    R::File: FileExt + Sync + Send,
 {
     let mut errors = Writer::new(io::writer(&stderr));
     if is_coloured(rt, &stderr) {

@@ -1,0 +1,308 @@
+//! Trace files that several workers read in sections: as they stand, in short reads, and changed
+//! between two reads.
+
+ghost use Rattle.std.specs.Prelude.{◌≤◌};
+
+use crate::answers::spread;
+use crate::readings::push_text;
+use crate::rounds::{FAILING, SIZES, SUM, push_cause, push_report};
+use lb_report::{FeedFault, LoadError, Report, Sizes, bench_ranges};
+use std::alloc::{AllocError, Global};
+use std::fs::{Metadata, OpenFile};
+use std::io::{Error, ErrorKind};
+use std::os::unix::fs::FileExt;
+use std::rt::Runtime;
+use std::sync::atomic::{AtomicU64, Ordering};
+use std::thread::Threads;
+
+/// A file that is held in memory. A read gives so many bytes at most; after so many reads the file
+/// has other bytes, or none can be read, but it tells its first size.
+#[derive(Drop)]
+struct Held<'t> {
+    text: &'t [u8],
+    later: Option<&'t [u8]>,
+    changes_after: u64,
+    most: usize,
+    reads: AtomicU64,
+}
+
+impl<'t> Held<'t> {
+    /// A file that does not change.
+    fn new(text: &'t [u8], most: usize) -> Held<'t> {
+        Held {
+            text,
+            later: None,
+            changes_after: u64::MAX,
+            most,
+            reads: AtomicU64::new(0),
+        }
+    }
+
+    /// A file that changes.
+    fn changing(text: &'t [u8], later: Option<&'t [u8]>, changes_after: u64) -> Held<'t> {
+        Held {
+            text,
+            later,
+            changes_after,
+            most: usize::MAX,
+            reads: AtomicU64::new(0),
+        }
+    }
+
+    /// Whether the file was read more often than before it changed.
+    fn has_changed(&self) -> bool {
+        self.reads.load(Ordering::SeqCst) > self.changes_after
+    }
+}
+
+impl OpenFile for Held<'_> {
+    fn metadata(&self) -> std::io::Result<Metadata> {
+        Ok(Metadata::of_file(self.text.len() as u64))
+    }
+
+    fn set_len(&self, _size: u64) -> std::io::Result<()> {
+        Err(Error::from(ErrorKind::Unsupported))
+    }
+
+    fn sync_all(&self) -> std::io::Result<()> {
+        Err(Error::from(ErrorKind::Unsupported))
+    }
+
+    fn sync_data(&self) -> std::io::Result<()> {
+        Err(Error::from(ErrorKind::Unsupported))
+    }
+}
+
+impl FileExt for Held<'_> {
+    fn read_at(&self, buffer: &mut [u8], place: u64) -> std::io::Result<usize> {
+        let reads = self.reads.fetch_add(1, Ordering::SeqCst);
+        let text = if reads < self.changes_after {
+            Some(self.text)
+        } else {
+            self.later
+        };
+        let Some(text) = text else {
+            return Err(Error::from(ErrorKind::Unsupported));
+        };
+        let rest = text.get(place as usize..).unwrap_or(&[]);
+        let count = rest.len().min(buffer.len()).min(self.most);
+        buffer[..count].copy_from_slice(&rest[..count]);
+        Ok(count)
+    }
+
+    fn write_at(&self, _bytes: &[u8], _place: u64) -> std::io::Result<usize> {
+        Err(Error::from(ErrorKind::Unsupported))
+    }
+}
+
+/// How many workers judge.
+const WORKERS: [u32; 3] = [0, 2, 7];
+
+/// What is answered on a file by so many workers; none where it is not read in sections.
+fn judged<R: Runtime + AllocGlobal + Threads + Sync>(
+    rt: &R,
+    file: &Held<'_>,
+    workers: u32,
+    sizes: Sizes,
+) -> Result<Option<Result<Report, FeedFault>>, AllocError>
+    requires { workers ≤ 64 }
+{
+    let options = spread(rt.alloc(), workers, 64, false)?;
+    Ok(bench_ranges(rt, SUM.as_bytes(), file, &options, sizes))
+}
+
+// The same in words.
+fn push_judged<R: Runtime + AllocGlobal + Threads + Sync>(
+    rt: &R,
+    file: &Held<'_>,
+    workers: u32,
+    sizes: Sizes,
+    said: &mut String,
+) -> Result<(), AllocError>
+    requires { workers ≤ 64 }
+{
+    match judged(rt, file, workers, sizes)? {
+        None => said.push_str("as a whole"),
+        Some(Ok(report)) => push_report(said, &report),
+        Some(Err(FeedFault::Refused(cause))) => push_cause(said, &cause),
+        Some(Err(FeedFault::Load(LoadError::Read))) => said.push_str("E21"),
+        Some(Err(FeedFault::Load(LoadError::Memory))) => said.push_str("E0"),
+    }
+}
+
+/// What is answered on a text by so many bytes a read, where that is not what is wanted: the number
+/// of workers and the sizes take turns.
+pub fn push_other<R: Runtime + AllocGlobal + Threads + Sync>(
+    rt: &R,
+    text: &[u8],
+    most: usize,
+    wanted: &str,
+    said: &mut String,
+) -> Result<(), AllocError> {
+    let workers = WORKERS[most % 3].min(64);
+    let mut other = String::new(rt.alloc());
+    let file = Held::new(text, most);
+    push_judged(rt, &file, workers, SIZES[most / 3 % 3], &mut other)?;
+    if other.as_str() == wanted {
+        return Ok(());
+    }
+    let other = other.as_str();
+    write!(said, " by {workers} workers, reads of {most}: {other}")
+}
+
+/// What is answered on a file whose columns are an integer `x` and a Boolean `c`, by several
+/// workers and in reads of each length up to fifty.
+pub fn push_sections<R: Runtime + AllocGlobal + Threads + Sync>(
+    rt: &R,
+    asked: &str,
+    said: &mut String,
+) -> Result<(), AllocError> {
+    let mut text = String::new(rt.alloc());
+    push_text(asked, &mut text)?;
+    let bytes = text.as_str().as_bytes();
+    push_judged(rt, &Held::new(bytes, usize::MAX), 2, SIZES[0], said)?;
+    let mut other = String::new(rt.alloc());
+    for most in 1..50usize {
+        push_other(rt, bytes, most, said.as_str(), &mut other)?;
+        if !other.as_str().is_empty() {
+            return said.push_str(other.as_str());
+        }
+    }
+    Ok(())
+}
+
+/// A text of so many traces of one instant each. Their names are a letter and a number, and all
+/// lines are of one length.
+fn numbered_text(alloc: Global, letter: char, count: u32) -> Result<String, AllocError> {
+    let mut text = String::from_str(alloc, "trace,x,c\n")?;
+    for k in 0..count {
+        write!(text, "{letter}{k:05},{:02},1\n", k % 39)?;
+    }
+    Ok(text)
+}
+
+/// The number behind one of two letters.
+fn number_behind(name: &str, letters: (char, char)) -> Option<usize> {
+    let number = match name.strip_prefix(letters.0) {
+        Some(number) => number,
+        None => name.strip_prefix(letters.1)?,
+    };
+    number.parse::<usize>().ok()
+}
+
+/// Whether the traces of a report passed and have the numbers from 0 on, behind one of two letters.
+fn is_numbered(report: &Report, letters: (char, char)) -> bool {
+    let text = std::str::from_utf8(report.text.as_slice()).unwrap_or("no text");
+    for (k, line) in text.split_terminator('\n').enumerate() {
+        let Some(name) = line.strip_suffix(" passed") else {
+            return line.starts_with("total ");
+        };
+        if number_behind(name, letters) != Some(k) {
+            return false;
+        }
+    }
+    false
+}
+
+/// Whether the report on a file that changes after so many reads has each line of the file once,
+/// as it was at some read. There may be no report where the file is not read in sections.
+fn is_whole_report<R: Runtime + AllocGlobal + Threads + Sync>(
+    rt: &R,
+    file: &Held<'_>,
+    letters: (char, char),
+    workers: u32,
+) -> Result<bool, AllocError>
+    requires { workers ≤ 64 }
+{
+    let sizes = Sizes {
+        window: 1024,
+        round: 1024,
+        least: 1,
+    };
+    match judged(rt, file, workers, sizes)? {
+        Some(Ok(report)) => Ok(is_numbered(&report, letters)),
+        Some(Err(_)) => Ok(false),
+        None => Ok(true),
+    }
+}
+
+/// The file that a file becomes: the letter of its traces, and how many they are.
+const LATER: [(char, u32); 4] = [('b', 3_000), ('c', 5_000), ('d', 200), ('e', 0)];
+
+/// Files that become another one between two reads: as long, longer, shorter and empty.
+#[test]
+fn changing_files(rt: HostRuntime) -> Result<(), AllocError> {
+    let alloc = rt.alloc();
+    let text = numbered_text(alloc, 'a', 3_000)?;
+    let text = text.as_str().as_bytes();
+    for (letter, count) in LATER {
+        let later = numbered_text(alloc, letter, count)?;
+        for reads in 0..50u64 {
+            for workers in [2, 7] {
+                let file = Held::changing(text, Some(later.as_str().as_bytes()), reads);
+                let is_whole = is_whole_report(&rt, &file, ('a', letter), workers)?;
+                assert!(rt; is_whole, "{letter} after {reads} reads, {workers} workers");
+            }
+        }
+    }
+    Ok(())
+}
+
+/// Whether no report is made of a file of which a read failed.
+fn is_failure_told<R: Runtime + AllocGlobal + Threads + Sync>(
+    rt: &R,
+    file: &Held<'_>,
+    workers: u32,
+) -> Result<bool, AllocError>
+    requires { workers ≤ 64 }
+{
+    match judged(rt, file, workers, SIZES[1])? {
+        Some(Ok(_)) => Ok(!file.has_changed()),
+        Some(Err(FeedFault::Load(LoadError::Read))) => Ok(true),
+        Some(Err(_)) => Ok(false),
+        None => Ok(true),
+    }
+}
+
+/// Files of which no more can be read after so many reads.
+#[test]
+fn failing_files(rt: HostRuntime) -> Result<(), AllocError> {
+    for reads in 0..80u64 {
+        for workers in [2, 7] {
+            let file = Held::changing(FAILING[0].as_bytes(), None, reads);
+            let is_told = is_failure_told(&rt, &file, workers)?;
+            assert!(rt; is_told, "{reads} reads, {workers} workers");
+        }
+    }
+    Ok(())
+}
+
+// Texts of twenty records, as files: what a run as a whole answers, but where the header is none,
+// has a quote, or nothing behind it.
+pub const FILES: &str = "\
+trace,x,c{20 /a,@,0} => \
+a false 9; total 1 passed 0 fault 0 undefined 0 assertion 0 false 1; status 1
+trace,x,c{20 /t@,@,0}/ => \
+{20 t@ passed; }total 20 passed 20 fault 0 undefined 0 assertion 0 false 0; status 0
+//\\/trace,x,c\\{10 \\/a,@,0//}{10 //\\b,@,0}//// => \
+a false 9; b false 9; total 2 passed 0 fault 0 undefined 0 assertion 0 false 2; status 1
+^trace,c,x{9 /a,0,@}/b,1,2147483647/b,1,1{9 \\/c,0,9} => a passed; b fault 1; c false 4; \
+total 3 passed 1 fault 1 undefined 0 assertion 0 false 1; status 1
+'trace',x,c{20 /t@,@,0} => as a whole
+trace,x{20 /a,@} => as a whole
+trace,x,c => as a whole
+trace,x,c/a,,1{19 /b,@,1} => E16 the cell of record 1 in column 0 is no value of it
+trace,x,c{9 /a,@,0}{9 /b,@,1}/a,7,0/b,1,1/ => \
+E17 the trace name of record 19 is ill-formed or comes back
+trace,x,c{18 /t@,@,0}/t17,1,0/b,1,1 => \
+{17 t@ passed; }t17 passed; b passed; \
+total 19 passed 19 fault 0 undefined 0 assertion 0 false 0; status 0
+trace,x,c{18 /t@,@,0}/t16,1,0/b,1,1 => \
+E17 the trace name of record 19 is ill-formed or comes back
+trace,x,c{19 /t@,@,1}/z,1 => E15 record 20 has 1 cells, and the header 2
+trace,x,c{17 /t@,@,1}/'a',1,0/'a',39,0/a,'1',1 => \
+{17 t@ passed; }a false 1; total 18 passed 17 fault 0 undefined 0 assertion 0 false 1; status 1
+trace,x,c{10 /a,@,1}{9 /'a',@,0}/b,1,1 => \
+a false 10; b passed; total 2 passed 1 fault 0 undefined 0 assertion 0 false 1; status 1
+trace,x,c{9 /t@,@,1}/q,'1',1{9 /u@,1,1}/t0,1,1 => \
+E17 the trace name of record 20 is ill-formed or comes back";
