@@ -296,6 +296,15 @@ def specializations(n):
     )
 
 
+def sliced_specializations(n):
+    "640 specializations of a node with many slices"
+    each = "".join(f"assert G<<{k}>>(x)=x;" for k in range(1, 641))
+    return (
+        "node G<<const k:int>>(B:int)returns(A:int);let A=B;"
+        + f"assert B{'[0..k]' * DEEP};" * n + "tel " + main_node(each)
+    )
+
+
 def lawful_specializations(n):
     "200 specializations of a node with many statements that name its parameter"
     each = "".join(f"assert G<<{k}>>(x)=x;" for k in range(1, 201))
@@ -310,7 +319,8 @@ FAMILIES = [
     wide_list, wide_truths, wide_call, wide_map, wide_results, wide_variables, wide_arrows, indexes,
     below_nots, below_sums, below_calls, below_choices, below_currents, ill_typed_below,
     ill_clocked_below, signs, sums, lists, choices, samplings, clocks, clocks_upward, circle,
-    lowest_clock, undefined, ill_typed, specializations, lawful_specializations,
+    lowest_clock, undefined, ill_typed, specializations, sliced_specializations,
+    lawful_specializations,
 ]
 
 

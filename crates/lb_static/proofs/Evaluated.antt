@@ -1,5 +1,5 @@
 -- What the values of the static expressions of a node say of an instance of it.
-use Rattle.std.proofs.Common.{◌≡◌, ℕ, ℤ, pos, Bool, true, false, List, [], ◌∷◌, ◌++◌, map, reverse}
+use Rattle.std.proofs.Common.{◌≡◌, ℕ, ℤ, Bool, true, false, List, [], ◌∷◌, ◌++◌, map, reverse}
 use Rattle.std.proofs.Common.{length, take, drop, Option, Some, None, option_map, refl, ap, ap₂}
 use Rattle.std.proofs.Common.{sym, ◌∙◌, arith}
 use Rattle.std.specs.Prelude.{◌&&◌, flat_map, is_some, nat_le}
@@ -14,12 +14,13 @@ use Rattle.lb_static.specs.Instances.{Program, Instance, Path, name_value, stati
 use Rattle.lb_static.specs.Instances.{static_count}
 use Rattle.lb_static.specs.Parts.{among, declared_sizes, node_parts, own_sizes, own_indexes}
 use Rattle.lb_static.specs.Parts.{own_slices, variable_names}
-use Rattle.lb_static.specs.ResolvedNodes.{IsResolved, part_of, statics_of}
+use Rattle.lb_static.specs.ResolvedNodes.{IsResolved, statics_of}
 use Rattle.lb_static.specs.ResolvedTerms.{declaration_of, static_of}
 use Rattle.lb_static.specs.DataTypes.{variables, width, product, element_count}
-use Rattle.lb_static.specs.Specialized.{part_value, part_values, in_range_after, is_narrow}
+use Rattle.lb_static.specs.Specialized.{part_value, part_values, are_in_range, is_narrow}
 use Rattle.lb_static.specs.Specialized.{node_in_range}
-use Rattle.lb_static.specs.StaticParts.{Part, group_parts, node_static_parts}
+use Rattle.lb_static.specs.SharedParts.{with_parts}
+use Rattle.lb_static.specs.StaticParts.{Part, group_parts, node_static_parts, part_of}
 use Rattle.lb_static.specs.StaticValues.{natural, value_under}
 use Rattle.lb_static.specs.Instantiation.{has_values, is_in_range}
 use Rattle.lb_static.specs.declared.resolved.ResolvedNode.{ResolvedNode}
@@ -29,10 +30,11 @@ use Rattle.lb_static.proofs.Evaluations.{some_each}
 use Rattle.lb_static.proofs.ValuedInstances.{instance_with, values_judged, variables_declared}
 use Rattle.lb_static.proofs.ValuedInstances.{groups_of}
 use Rattle.lb_static.proofs.Lists.{map_map}
-use Rattle.lb_static.proofs.NodeRanges.{pass_after, ranges_are, node_ranges, body_passes, is_size}
+use Rattle.lb_static.proofs.NodeRanges.{passes, ranges_are, node_ranges, body_passes, is_size}
 use Rattle.lb_static.proofs.NodeRanges.{is_index, is_slice}
 use Rattle.lb_static.proofs.NodeValues.{some_all, sizes_in}
 use Rattle.lb_static.proofs.OwnParts.{body_is}
+use Rattle.lb_static.proofs.SharedParts.{all_kept}
 use Rattle.lb_static.proofs.Widths.{narrow_is}
 use Rattle.lb_static.proofs.Options.{map_reverse}
 
@@ -55,11 +57,12 @@ module _ (P : Program) (p : Path) (r : ResolvedNode) (values : List (Name × ℤ
 
   -- ## Values
 
-  pub values_had : map part_of r.statics.items ≡ node_static_parts r.tree.now
+  pub values_had : map part_of r.statics.items ≡ with_parts [] (node_static_parts r.tree.now)
       → has_values P here ≡ is_some (part_values given r.statics.items)
   values_had e =
       let test = λ (q : Part). is_some (value_under given q.1) in
-      values_judged P p r.tree.now values ∙ ap (list_all test) (sym e)
+      values_judged P p r.tree.now values
+      ∙ sym (ap (list_all test) e ∙ all_kept test [] (node_static_parts r.tree.now))
       ∙ list_all-map test part_of r.statics.items
       ∙ sym (some_all (map (part_value given) r.statics.items)
       ∙ list_all-map is_some (part_value given) r.statics.items)
@@ -114,18 +117,19 @@ module _ (P : Program) (p : Path) (r : ResolvedNode) (values : List (Name × ℤ
 
   ranges_had : (names : List Name) → IsResolved names r → (vs : List ℤ)
       → part_values given r.statics.items ≡ Some vs
-      → in_range_after (pos 0) r.statics.items vs
+      → are_in_range given r.statics.items vs
       ≡ (list_all (is_size given) (declared_sizes here.node)
       && body_passes given (λ x. among x (variable_names here.node)) (node_parts here.node))
   ranges_had names is vs e =
       let w = r.tree.now in
       let variable = λ (x : Name). among x (variable_names here.node) in
-      ranges_are given (pos 0) r.statics.items vs
+      ranges_are given r.statics.items vs
       (some_each (map (part_value given) r.statics.items) vs e)
-      ∙ ap (pass_after given (Some (pos 0)))
-      (is.statics ∙ ap (λ l. flat_map group_parts (groups_of w) ++ l)
-      (body_is variable here.node.body))
-      ∙ node_ranges given variable (groups_of w) (node_parts here.node) (Some (pos 0))
+      ∙ ap (list_all (passes given)) is.statics
+      ∙ all_kept (passes given) [] (node_static_parts w)
+      ∙ ap (λ l. list_all (passes given) (flat_map group_parts (groups_of w) ++ l))
+      (body_is variable here.node.body)
+      ∙ node_ranges given variable (groups_of w) (node_parts here.node)
       ∙ ap (λ ds. list_all (is_size given) (sizes_in ds)
       && body_passes given variable (node_parts here.node)) (variables_declared w)
 
@@ -137,7 +141,7 @@ module _ (P : Program) (p : Path) (r : ResolvedNode) (values : List (Name × ℤ
 
   pub in_range_had : (names : List Name) → IsResolved names r → (vs : List ℤ)
       → part_values given r.statics.items ≡ Some vs
-      → node_in_range r vs ≡ is_in_range P here
+      → node_in_range given r vs ≡ is_in_range P here
   in_range_had names is vs e =
       let es = node_parts here.node in
       let sizes = list_all (is_size given) (flat_map own_sizes es) in

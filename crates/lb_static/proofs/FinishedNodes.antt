@@ -23,13 +23,14 @@ use Rattle.lb_static.specs.NodeProgress.{StatementsStand}
 use Rattle.lb_static.specs.NodeProgress.{declaration_told, statement_told}
 use Rattle.lb_static.specs.Parts.{among, right_side, variable_names}
 use Rattle.lb_static.specs.Progressed.{progress, IsFinished}
-use Rattle.lb_static.specs.ResolvedNodes.{part_of, texts_of, counts_of, statics_of, node_of}
+use Rattle.lb_static.specs.ResolvedNodes.{texts_of, counts_of, statics_of, node_of}
 use Rattle.lb_static.specs.ResolvedNodes.{IsResolved}
 use Rattle.lb_static.specs.ResolvedTerms.{statement_of, declaration_of, site_of}
 use Rattle.lb_static.specs.ResolvedTerms.{is_statement_within, is_statement_unhidden}
 use Rattle.lb_static.specs.ResolvedTerms.{is_declared_within, is_site_within}
 use Rattle.lb_static.specs.DataTypes.{variables}
-use Rattle.lb_static.specs.StaticParts.{Part, group_parts, node_static_parts, parts_of}
+use Rattle.lb_static.specs.SharedParts.{with_parts}
+use Rattle.lb_static.specs.StaticParts.{Part, group_parts, node_static_parts, part_of, parts_of}
 use Rattle.lb_static.specs.declared.error.StaticError.{StaticError}
 use Rattle.lb_static.specs.declared.node_builder.NodeBuilder.{NodeBuilder}
 use Rattle.lb_static.specs.declared.node_scope.NodeScope.{NodeScope}
@@ -37,6 +38,7 @@ use Rattle.lb_static.specs.declared.resolved.ResolvedNode.{ResolvedNode}
 use Rattle.lb_static.specs.declared.resolved.ResolvedStatement.{ResolvedStatement}
 use Rattle.lb_static.specs.declared.resolved.Variable.{Variable}
 use Rattle.lb_static.proofs.Lists.{map_map}
+use Rattle.lb_static.proofs.SharedParts.{kept_twice}
 
 -- ## What is found of a node
 
@@ -51,7 +53,7 @@ at_end source n = record {
   source = source;
   node = view_node n;
   declared = map nameless (variables (view_node n));
-  parts = node_static_parts n;
+  parts = with_parts [] (node_static_parts n);
   calls = node_sites (view_node n);
 }
 
@@ -170,13 +172,25 @@ module _ (source : Source) (n : written.Node) where
       ∙ ap (flat_map group_parts)
       (sym (map-append view_group n.inputs.items (n.outputs.items ++ n.locals.items)))
 
+  parts_all : with_parts (with_parts (with_parts (with_parts [] (flat_map group_parts ins))
+      (flat_map group_parts outs)) (flat_map group_parts locals)) body_parts
+      ≡ with_parts [] (node_static_parts n)
+  parts_all =
+      let i = flat_map group_parts ins in
+      let o = flat_map group_parts outs in
+      let l = flat_map group_parts locals in
+      ap (λ ps. with_parts (with_parts ps l) body_parts) (kept_twice [] i o)
+      ∙ ap (λ ps. with_parts ps body_parts) (kept_twice [] (i ++ o) l)
+      ∙ kept_twice [] ((i ++ o) ++ l) body_parts
+      ∙ ap (λ ps. with_parts [] (ps ++ body_parts)) groups_all
+
   pub all_found : after_node start n ≡ at_end source n
   all_found =
       λ j. record {
         source = source;
         node = view_node n;
         declared = declared_all j;
-        parts = groups_all j ++ body_parts;
+        parts = parts_all j;
         calls = node_sites (view_node n);
       }
 
@@ -216,14 +230,14 @@ module _ (f : NodeBuilder) (source : written_source.Source) (n : written.Node) (
     same_node : node_in f.node_scope ≡ node_of r
     same_node = ap (λ s. s.node) all ∙ ap view_node (sym done.tree_is)
 
-    same_statics : texts_in f.statics.items ≡ statics_of r
+    same_statics : texts_in f.statics.parts.items ≡ statics_of r
     same_statics = ap texts_in (sym done.statics)
 
     as_many : length r.variables.items ≡ length (variables (node_of r))
     as_many =
         ap length done.variables
         ∙ sym (length-map f.variables.items
-        (declaration_of (variable_names (node_in f.node_scope)) (texts_in f.statics.items) []))
+        (declaration_of (variable_names (node_in f.node_scope)) (texts_in f.statics.parts.items) []))
         ∙ ap (λ s. length s.declared) all ∙ length-map (variables N) nameless
         ∙ ap (λ m. length (variables (view_node m))) (sym done.tree_is)
 
@@ -245,13 +259,13 @@ module _ (f : NodeBuilder) (source : written_source.Source) (n : written.Node) (
         (sym same_statics j)) f.calls.items)
         ∙ ap (λ s. s.calls) all ∙ ap (λ m. node_sites (view_node m)) (sym done.tree_is)
 
-    statics_are : map part_of r.statics.items ≡ node_static_parts r.tree.now
+    statics_are : map part_of r.statics.items ≡ with_parts [] (node_static_parts r.tree.now)
     statics_are = ap (map part_of) done.statics ∙ ap (λ s. s.parts) all
-        ∙ ap node_static_parts (sym done.tree_is)
+        ∙ ap (λ w. with_parts [] (node_static_parts w)) (sym done.tree_is)
 
     same_texts : texts (progress f) ≡ texts_of r
     same_texts =
-        let statics = map_map part_of (λ p. p.1) f.statics.items ∙ same_statics in
+        let statics = map_map part_of (λ p. p.1) f.statics.parts.items ∙ same_statics in
         let calls = ap (λ s. s.calls) all ∙ ap (λ m. node_sites (view_node m)) (sym done.tree_is) in
         λ j. record {
           variables =
@@ -265,7 +279,7 @@ module _ (f : NodeBuilder) (source : written_source.Source) (n : written.Node) (
         ap (λ m. length (variable_names m)) same_node
         ∙ length-map (variables (node_of r)) (λ d. d.name) ∙ sym as_many
 
-    same_counts : counts_kept f.node_scope f.statics.items f.calls.items ≡ counts_of r
+    same_counts : counts_kept f.node_scope f.statics.parts.items f.calls.items ≡ counts_of r
     same_counts =
         λ j. record {
           variables = same_variables j;
@@ -276,12 +290,12 @@ module _ (f : NodeBuilder) (source : written_source.Source) (n : written.Node) (
     -- the numbers of steps
     same_counts_in : counts_in (texts (progress f)) ≡ counts_of r
     same_counts_in =
-        let statics = length-map (map part_of f.statics.items) (λ p. p.1)
-        ∙ length-map f.statics.items part_of in
+        let statics = length-map (map part_of f.statics.parts.items) (λ p. p.1)
+        ∙ length-map f.statics.parts.items part_of in
         let calls =
         length-map f.calls.items
         (site_of (map (λ (m : Node). m.name) (view_source f.node_scope.source.now).nodes)
-        (texts_in f.statics.items)) in
+        (texts_in f.statics.parts.items)) in
         (λ j. record {
           variables = length (variable_names (node_in f.node_scope));
           statics =

@@ -1,17 +1,24 @@
 -- What stands for a part of a node stands for it where the node has more.
-use Rattle.std.proofs.Common.{◌≡◌, true, List, ◌++◌, length, map, refl, ap, ◌∙◌, length-append}
-use Rattle.std.proofs.lemmas.List.{map-append, append_assoc}
+use Rattle.std.proofs.Common.{◌≡◌, ℕ, ◌+◌, ◌<◌, true, List, [], ◌∷◌, ◌++◌, length, take, get_or}
+use Rattle.std.proofs.Common.{map, Option, Some, None, refl, ap, sym, subst, ◌∙◌, length-append}
+use Rattle.std.proofs.lemmas.Bool.{and_from}
+use Rattle.std.proofs.lemmas.List.{map-append, append_assoc, take_more}
+use Rattle.std.proofs.lemmas.List.Folds.{list_all-append}
+use Rattle.std.proofs.Math.Bool.{and-true}
 use Rattle.lb_syntax.specs.Tree.{Static, Expr}
+use Rattle.lb_syntax.specs.View.{view_static, view_statics}
+use Rattle.lb_syntax.specs.declared.tree.Static.{Static as Static'}
 use Rattle.lb_static.specs.Instances.{Site}
 use Rattle.lb_static.specs.NodeProgress.{Progress, texts, counts_in, grown, Stands, StandAll}
-use Rattle.lb_static.specs.NodeProgress.{StaticStands, CallStands}
+use Rattle.lb_static.specs.NodeProgress.{StaticStands, CallStands, static_fits, statics_fit}
 use Rattle.lb_static.specs.ResolvedTerms.{Texts, expr_of, static_at, is_static, is_call, is_within}
-use Rattle.lb_static.specs.ResolvedTerms.{is_unhidden}
-use Rattle.lb_static.specs.StaticParts.{Part}
+use Rattle.lb_static.specs.ResolvedTerms.{is_count_within, is_unhidden}
+use Rattle.lb_static.specs.StaticParts.{Part, Purpose}
 use Rattle.lb_static.specs.declared.resolved.CallId.{CallId}
 use Rattle.lb_static.specs.declared.resolved.StaticId.{StaticId}
 use Rattle.lb_static.specs.declared.resolved.Term.{Term}
 use Rattle.lb_static.proofs.Growth.{expr_stays, unhidden_stays, still_within, static_stays}
+use Rattle.lb_static.proofs.SharedParts.{all_added, kept_longer, kept_twice}
 use Rattle.lb_static.proofs.Growth.{static_still, call_stays, call_still, same_on, all_on, both_on}
 
 pub grown_twice : (s : Progress) (P Q : List Part) (C D : List Site)
@@ -20,13 +27,13 @@ grown_twice s P Q C D = λ i. record {
   source = s.source;
   node = s.node;
   declared = s.declared;
-  parts = append_assoc s.parts P Q i;
+  parts = kept_twice s.parts P Q i;
   calls = append_assoc s.calls C D i;
 }
 
 module _ (s : Progress) (P : List Part) (C : List Site) where
   abbrev X : List Static
-  X = map (λ p. p.1) P
+  X = map (λ p. p.1) (all_added s.parts P)
 
   abbrev later_texts : Texts
   later_texts = record {
@@ -40,7 +47,8 @@ module _ (s : Progress) (P : List Part) (C : List Site) where
   texts_grown =
       ap (λ (l : List Static). record
       { variables = (texts s).variables; statics = l; calls = s.calls ++ C })
-      (map-append (λ p. p.1) s.parts P)
+      (ap (map (λ p. p.1)) (kept_longer s.parts P)
+      ∙ map-append (λ p. p.1) s.parts (all_added s.parts P))
 
   pub within_grown : (t : Term) → is_within (counts_in (texts s)) t ≡ true
       → is_within (counts_in (texts (grown s P C))) t ≡ true
@@ -81,6 +89,14 @@ module _ (s : Progress) (P : List Part) (C : List Site) where
         (length-append _ X) (length-append s.calls C) id.0 h.1,
   )
 
+  pub count_within_grown : (count : Option StaticId)
+      → is_count_within (counts_in (texts s)) count ≡ true
+      → is_count_within (counts_in (texts (grown s P C))) count ≡ true
+  count_within_grown None e = refl
+  count_within_grown (Some id) e = ap (λ T. is_static (counts_in T) id) texts_grown
+      ∙ static_still (counts_in (texts s)) (counts_in later_texts) (length X) (length C) refl
+      (length-append _ X) (length-append s.calls C) id.0 e
+
   pub call_stands_grown : (x : Site) (id : CallId) → CallStands s x id
       → CallStands (grown s P C) x id
   call_stands_grown x id h = (
@@ -89,3 +105,42 @@ module _ (s : Progress) (P : List Part) (C : List Site) where
         ∙ call_still (counts_in (texts s)) (counts_in later_texts) (length X) (length C) refl
         (length-append _ X) (length-append s.calls C) id.0 h.1,
   )
+
+-- ## Static expressions one after another
+
+-- what is found with one more of them
+pub next_static : (start here after : Progress) (role : Purpose) (xs : List Static') (i : ℕ)
+    (x : Static') → i < length xs → x ≡ get_or xs i x
+    → here ≡ grown start (map (λ s. (role, s)) (view_statics (take i xs))) []
+    → after ≡ grown here ((role, view_static x) ∷ []) []
+    → after ≡ grown start (map (λ s. (role, s)) (view_statics (take (i + 1) xs))) []
+next_static start here after role xs i x below is at grew =
+    let before = view_statics (take i xs) in
+    let tagged : List Static → List Part = map (λ s. (role, s)) in
+    let same : before ++ view_static x ∷ [] ≡ view_statics (take (i + 1) xs) =
+    ap (λ y. before ++ view_static y ∷ []) is
+    ∙ sym (map-append view_static (take i xs) (get_or xs i x ∷ []))
+    ∙ ap view_statics (sym (take_more xs i x below)) in
+    let h : after ≡ grown (grown start (tagged before) []) ((role, view_static x) ∷ []) [] =
+    subst (λ m. after ≡ grown m ((role, view_static x) ∷ []) []) at grew in
+    h ∙ grown_twice start (tagged before) ((role, view_static x) ∷ []) [] []
+    ∙ ap (λ l. grown start l [])
+    (sym (map-append (λ s. (role, s)) before (view_static x ∷ [])) ∙ ap tagged same)
+
+pub next_static_fits : (start here : Progress) (role : Purpose) (xs : List Static') (i : ℕ)
+    (x : Static') → i < length xs → x ≡ get_or xs i x
+    → here ≡ grown start (map (λ s. (role, s)) (view_statics (take i xs))) []
+    → statics_fit start (view_statics (take i xs)) ≡ true
+    → static_fits here (view_static x) ≡ true
+    → statics_fit start (view_statics (take (i + 1) xs)) ≡ true
+next_static_fits start here role xs i x below is at fit new =
+    let before = view_statics (take i xs) in
+    let same : before ++ view_static x ∷ [] ≡ view_statics (take (i + 1) xs) =
+    ap (λ y. before ++ view_static y ∷ []) is
+    ∙ sym (map-append view_static (take i xs) (get_or xs i x ∷ []))
+    ∙ ap view_statics (sym (take_more xs i x below)) in
+    let now : static_fits start (view_static x) ≡ true =
+    subst (λ m. static_fits m (view_static x) ≡ true) at new in
+    subst (λ l. statics_fit start l ≡ true) same
+    (list_all-append (static_fits start) before (view_static x ∷ [])
+    ∙ and_from _ _ fit (and-true (static_fits start (view_static x)) ∙ now))

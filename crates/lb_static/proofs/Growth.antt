@@ -2,7 +2,8 @@
 use Rattle.std.proofs.Common.{◌≡◌, ℕ, ◌+◌, ◌<◌, ◌≤◌, Bool, true, false, cond, List, [], ◌∷◌, ◌++◌}
 use Rattle.std.proofs.Common.{length, take, drop, map, Option, Some, None, option_map, refl, ap}
 use Rattle.std.proofs.Common.{sym, subst, ◌∙◌, arith, length-append, length-drop, ◌-◌}
-use Rattle.std.specs.Prelude.{◌&&◌, nat_lt, nat_le, slice_get}
+use Rattle.std.specs.Prelude.{◌&&◌, nat_lt, nat_le, is_some, slice_get, Result, Ok, Err, IfOk}
+use Rattle.std.specs.Prelude.{OnErr}
 use Rattle.std.specs.List.{list_all}
 use Rattle.std.proofs.lemmas.Bool.Decides.{nat_tests}
 use Rattle.std.proofs.lemmas.List.{append-nil, map-append, length-map, drop-append-le}
@@ -25,7 +26,8 @@ use Rattle.lb_static.specs.ResolvedTerms.{is_site_within, is_sampling_within, is
 use Rattle.lb_static.specs.ResolvedTerms.{is_no_variable, is_unhidden, are_unhidden}
 use Rattle.lb_static.specs.NodeNames.{node_in}
 use Rattle.lb_static.specs.Parts.{variable_names}
-use Rattle.lb_static.specs.ResolvedNodes.{part_of}
+use Rattle.lb_static.specs.SharedParts.{held, with_part, with_static}
+use Rattle.lb_static.specs.StaticParts.{part_of}
 use Rattle.lb_static.specs.declared.node_scope.NodeScope.{NodeScope}
 use Rattle.lb_static.specs.declared.resolved.CallId.{CallId}
 use Rattle.lb_static.specs.declared.resolved.StaticPart.{StaticPart}
@@ -39,6 +41,7 @@ use Rattle.lb_static.specs.declared.resolved.Term.{Join', Array', AtMostOne', No
 use Rattle.lb_static.specs.declared.resolved.Term.{IterateNode', IterateSymbol', Row_of-Term}
 use Rattle.lb_static.specs.declared.resolved.Term.{end_of-Term, more_of-Term}
 use Rattle.lb_static.proofs.Lists.{map_map}
+use Rattle.lb_static.proofs.SharedParts.{statics_kept}
 
 -- ## Lists with more at the end
 
@@ -328,8 +331,8 @@ module _ (n : NodeScope) (parts more : List StaticPart) (calls : List CallSite)
   more_texts : texts_in more ≡ texts_in parts ++ static_of x.text ∷ []
   more_texts = ap texts_in added ∙ map-append (λ p. static_of p.text) parts (x ∷ [])
 
-  pub kept_static : IsKept n more calls variables
-  kept_static = record {
+  kept_longer : IsKept n more calls variables
+  kept_longer = record {
     declared_within = all_on _ _ variables
         (declared_still (counts_kept n parts calls) (counts_kept n more calls) 1 0 refl longer
         (sym (plus_zero (length calls)))) kept_now.declared_within;
@@ -341,9 +344,9 @@ module _ (n : NodeScope) (parts more : List StaticPart) (calls : List CallSite)
       plus_zero : (k : ℕ) → k + 0 ≡ k
       plus_zero k = omega arith
 
-  pub grown_static : kept n more calls variables
-      ≡ grown (kept n parts calls variables) (part_of x ∷ []) []
-  grown_static =
+  grown_longer : map part_of more ≡ with_part (map part_of parts) (part_of x)
+      → kept n more calls variables ≡ grown (kept n parts calls variables) (part_of x ∷ []) []
+  grown_longer found =
       let names = variable_names (node_in n) in
       let nodes : List Name = map (λ m. m.name) (view_source n.source.now).nodes in
       let T = static_of x.text ∷ [] in
@@ -363,8 +366,6 @@ module _ (n : NodeScope) (parts more : List StaticPart) (calls : List CallSite)
       (λ s e. site_stays (texts_in parts) T nodes s (counts_kept n parts calls)
       (length n.source.now.nodes.items) long e) kept_now.calls_within
       ∙ sym (append-nil _) in
-      let found : map part_of more ≡ map part_of parts ++ part_of x ∷ [] =
-      ap (map part_of) added ∙ map-append part_of parts (x ∷ []) in
       λ i. record {
         source = view_source n.source.now;
         node =
@@ -373,6 +374,49 @@ module _ (n : NodeScope) (parts more : List StaticPart) (calls : List CallSite)
         parts = found i;
         calls = called i;
       }
+
+-- the same where one that stands for it is kept
+grown_same : (n : NodeScope) (parts more : List StaticPart) (calls : List CallSite)
+    (variables : List Declared) (x : StaticPart) → more ≡ parts
+    → map part_of more ≡ with_part (map part_of parts) (part_of x)
+    → kept n more calls variables ≡ grown (kept n parts calls variables) (part_of x ∷ []) []
+grown_same n parts more calls variables x same found =
+    let names = variable_names (node_in n) in
+    let nodes : List Name = map (λ m. m.name) (view_source n.source.now).nodes in
+    let called : map (site_of nodes (texts_in more)) calls
+    ≡ map (site_of nodes (texts_in parts)) calls ++ [] =
+    ap (λ l. map (site_of nodes (texts_in l)) calls) same ∙ sym (append-nil _) in
+    λ i. record {
+      source = view_source n.source.now;
+      node = node_in n;
+      declared = map (declaration_of names (texts_in (same i)) []) variables;
+      parts = found i;
+      calls = called i;
+    }
+
+pub grown_static : (n : NodeScope) (parts more : List StaticPart) (calls : List CallSite)
+    (variables : List Declared) (x : StaticPart) → IsKept n parts calls variables
+    → more ≡ with_static parts x
+    → kept n more calls variables ≡ grown (kept n parts calls variables) (part_of x ∷ []) []
+grown_static n parts more calls variables x h e =
+    by (is_some (held (map part_of parts) (part_of x))) e
+    (ap (map part_of) e ∙ statics_kept parts x)
+  where
+    by : (b : Bool) → more ≡ cond b parts (parts ++ x ∷ [])
+        → map part_of more ≡ with_part (map part_of parts) (part_of x)
+        → kept n more calls variables ≡ grown (kept n parts calls variables) (part_of x ∷ []) []
+    by true same found = grown_same n parts more calls variables x same found
+    by false added found = grown_longer n parts more calls variables x h added found
+
+kept_static : (n : NodeScope) (parts more : List StaticPart) (calls : List CallSite)
+    (variables : List Declared) (x : StaticPart) → IsKept n parts calls variables
+    → more ≡ with_static parts x → IsKept n more calls variables
+kept_static n parts more calls variables x h e =
+    by (is_some (held (map part_of parts) (part_of x))) e
+  where
+    by : (b : Bool) → more ≡ cond b parts (parts ++ x ∷ []) → IsKept n more calls variables
+    by true same = subst (λ l. IsKept n l calls variables) (sym same) h
+    by false added = kept_longer n parts more calls variables x h added
 
 -- the texts of the static expressions
 pub texts_are : (parts : List StaticPart) → map (λ p. p.1) (map part_of parts) ≡ texts_in parts
@@ -393,12 +437,11 @@ grown_call n parts calls more variables x added =
     ∙ map-append (site_of nodes (texts_in parts)) calls (x ∷ [])
     ∙ ap (λ l. map (site_of nodes (texts_in parts)) calls ++ site_of nodes l x ∷ [])
     (sym (texts_are parts)) in
-    let found : map part_of parts ≡ map part_of parts ++ [] = sym (append-nil _) in
     λ i. record {
       source = view_source n.source.now;
       node = node_in n;
       declared = map (declaration_of (variable_names (node_in n)) (texts_in parts) []) variables;
-      parts = found i;
+      parts = map part_of parts;
       calls = called i;
     }
 
@@ -424,10 +467,11 @@ one_more_variable n parts calls variables more x added =
     }
 
 -- what is kept after a push that may fail
-pub kept_pushed : (n : NodeScope) (parts more : List StaticPart) (calls : List CallSite)
-    (variables : List Declared) (x : StaticPart) (added : Bool)
-    → IsKept n parts calls variables → more ≡ cond added (parts ++ x ∷ []) parts
-    → IsKept n more calls variables
-kept_pushed n parts more calls variables x true h e = kept_static n parts more calls variables x h e
-kept_pushed n parts more calls variables x false h e =
-    subst (λ l. IsKept n l calls variables) (sym e) h
+pub kept_pushed : {A B : Type 0} (n : NodeScope) (parts more : List StaticPart)
+    (calls : List CallSite) (variables : List Declared) (x : StaticPart) (r : Result A B)
+    → IsKept n parts calls variables → IfOk r (λ _. more ≡ with_static parts x)
+    → OnErr r (more ≡ parts) → IsKept n more calls variables
+kept_pushed n parts more calls variables x (Ok y) h ok err =
+    kept_static n parts more calls variables x h ok
+kept_pushed n parts more calls variables x (Err f) h ok err =
+    subst (λ l. IsKept n l calls variables) (sym err) h

@@ -22,8 +22,7 @@ use Rattle.lb_static.specs.Parts.{among, own_arguments, own_indexes, own_names, 
 use Rattle.lb_static.specs.Parts.{parts_in as exprs_in, static_names}
 use Rattle.lb_static.specs.DataTypes.{variables}
 use Rattle.lb_static.specs.StaticParts.{Part, arguments_of, group_parts, if_named, parts_of}
-use Rattle.lb_static.specs.StaticParts.{parts_in}
-use Rattle.lb_static.specs.declared.resolved.Role.TheVariants.{Argument, Size, Value}
+use Rattle.lb_static.specs.StaticParts.{parts_in, Argument, Dimension, Value}
 
 -- ## Some item of a list
 
@@ -239,12 +238,12 @@ module _ (x : Name) (variable : Name → Bool) where
       ≡ list_any in_static (flat_map (λ d. d.sizes) (declarations g))
   group_stands g = by g.names
     where
-      by : (ys : List Name) → list_any in_part (if_named ys (map (λ s. (Size, s)) g.sizes))
+      by : (ys : List Name) → list_any in_part (if_named ys (map (λ s. (Dimension, s)) g.sizes))
           ≡ list_any in_static (flat_map (λ (d : Declaration). d.sizes)
           (map (λ y. record { name = y; kind = g.kind; sizes = g.sizes; clock = g.clock }) ys))
       by [] = refl
       by (y ∷ ys) =
-          any_map in_part (λ s. (Size, s)) g.sizes
+          any_map in_part (λ s. (Dimension, s)) g.sizes
           ∙ sym (absorbed (list_any in_static g.sizes)
           (list_any in_static (flat_map (λ (d : Declaration). d.sizes)
           (map (λ y. record { name = y; kind = g.kind; sizes = g.sizes; clock = g.clock }) ys)))

@@ -24,9 +24,9 @@ use Rattle.lb_static.specs.Parts.{among, declared_names, declared_sizes, node_na
 use Rattle.lb_static.specs.Parts.{node_static_names, node_statics, own_arguments, own_indexes}
 use Rattle.lb_static.specs.Parts.{own_sizes, right_side, parts, static_names, variable_names}
 use Rattle.lb_static.specs.Instances.{node_sites}
-use Rattle.lb_static.specs.ResolvedNodes.{IsResolved, node_of, part_of}
+use Rattle.lb_static.specs.ResolvedNodes.{IsResolved, node_of}
 use Rattle.lb_static.specs.ResolvedTerms.{static_of}
-use Rattle.lb_static.specs.StaticParts.{group_parts, node_static_parts, parts_of}
+use Rattle.lb_static.specs.StaticParts.{group_parts, node_static_parts, part_of, parts_of}
 use Rattle.lb_static.specs.WorkLists.{is_visited, visited_after, visited_after_all}
 use Rattle.lb_static.specs.declared.globals.Globals.{Globals}
 use Rattle.lb_static.specs.declared.resolved.ResolvedNode.{ResolvedNode}
@@ -38,6 +38,7 @@ use Rattle.lb_static.proofs.Mentions.{groups_stand, in_part, in_static, stands, 
 use Rattle.lb_static.proofs.TestedItems.{all_flat}
 use Rattle.lb_static.proofs.ReachedPlaces.{all_item}
 use Rattle.lb_static.proofs.Scopes.{among_append}
+use Rattle.lb_static.proofs.SharedParts.{any_kept}
 use Rattle.lb_static.proofs.WorkLists.{any_at}
 
 -- ## The names in the static expressions of a node
@@ -70,6 +71,7 @@ module _ (x : Name) (r : ResolvedNode) (nodes : List Name) (is : IsResolved node
   mentioned_parts : is_mentioned x r ≡ list_any (in_part x variable) (node_static_parts r.tree.now)
   mentioned_parts = sym (any_map (in_part x variable) part_of r.statics.items)
       ∙ ap (list_any (in_part x variable)) is.statics
+      ∙ any_kept (in_part x variable) [] (node_static_parts r.tree.now)
 
   body_stands : list_any (in_part x variable)
       (flat_map (λ s. parts_of variable (right_side s)) n.body)

@@ -14,9 +14,8 @@ use Rattle.lb_syntax.specs.Tree.{Group, Unary, Binary, If, Arrow, Fby, Pre, Curr
 use Rattle.lb_syntax.specs.Tree.{Replicate, Index, Slice, Join, Array, AtMostOne, Nor, Call}
 use Rattle.lb_syntax.specs.Tree.{Iterate}
 use Rattle.lb_static.specs.Parts.{own_sizes, own_indexes, own_arguments, own_names}
-use Rattle.lb_static.specs.StaticParts.{Part, group_parts, if_named}
+use Rattle.lb_static.specs.StaticParts.{Part, Dimension, Value, Argument, group_parts, if_named}
 use Rattle.lb_static.specs.StaticValues.{value_under}
-use Rattle.lb_static.specs.declared.resolved.Role.TheVariants.{Size, Value, Argument}
 use Rattle.lb_static.proofs.OwnParts.{own_parts}
 use Rattle.lb_static.proofs.TestedItems.{all_flat}
 
@@ -71,10 +70,10 @@ pub group_sizes : (p : Static → Bool) (g : Declarations)
 group_sizes p g = by g.names
   where
     by : (xs : List Name) → list_all p (sizes_in (declarations (record g { names = xs })))
-        ≡ list_all (λ (q : Part). p q.1) (if_named xs (map (λ s. (Size, s)) g.sizes))
+        ≡ list_all (λ (q : Part). p q.1) (if_named xs (map (λ s. (Dimension, s)) g.sizes))
     by [] = refl
     by (x ∷ xs) = of_group p g x xs
-        ∙ sym (list_all-map (λ (q : Part). p q.1) (λ s. (Size, s)) g.sizes)
+        ∙ sym (list_all-map (λ (q : Part). p q.1) (λ s. (Dimension, s)) g.sizes)
 
 pub groups_sizes : (p : Static → Bool) (gs : List Declarations)
     → list_all p (sizes_in (declared gs)) ≡ list_all (λ (q : Part). p q.1) (flat_map group_parts gs)

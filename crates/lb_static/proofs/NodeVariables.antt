@@ -17,15 +17,16 @@ use Rattle.lb_static.specs.NodeProgress.{statics_fit, clock_fits, ClockStands, S
 use Rattle.lb_static.specs.NodeProgress.{statics_told, clock_told, declaration_told}
 use Rattle.lb_static.specs.Parts.{variable_names}
 use Rattle.lb_static.specs.ResolvedTerms.{declaration_of, is_declared_within}
-use Rattle.lb_static.specs.StaticParts.{group_parts, if_named}
+use Rattle.lb_static.specs.SharedParts.{with_parts}
+use Rattle.lb_static.specs.StaticParts.{Dimension, group_parts, if_named}
 use Rattle.lb_static.specs.declared.error.StaticError.{StaticError}
-use Rattle.lb_static.specs.declared.resolved.Role.TheVariants.{Size}
 use Rattle.lb_static.specs.declared.resolved.Sampling as resolved
 use Rattle.lb_static.specs.declared.resolved.StaticId.{StaticId}
 use Rattle.lb_static.specs.declared.resolved.Variable.{Variable}
 use Rattle.lb_static.proofs.Faults.{fault_within}
 use Rattle.lb_static.proofs.Lists.{map_map}
 use Rattle.lb_static.proofs.Resolutions.{flat_more}
+use Rattle.lb_static.proofs.SharedParts.{kept_twice}
 
 -- ## Variables that are all alike
 
@@ -110,13 +111,13 @@ sizes_fault f s g some h =
 
 pub group_done : (s mid after : Progress) (g : Group) (first : StaticId) (count : ℕ)
     (clock : Option resolved.Sampling) → nat_eq (length g.names) 0 ≡ false
-    → mid ≡ grown s (map (λ x. (Size, x)) g.sizes) [] → StaticsStand mid g.sizes (first, count)
+    → mid ≡ grown s (map (λ x. (Dimension, x)) g.sizes) [] → StaticsStand mid g.sizes (first, count)
     → ClockStands s g.clock clock
     → after ≡ with_alike mid g.names
     (record { kind = g.kind; first_size = first; sizes = count; clock = clock })
     → after ≡ after_group s g
 group_done s mid after g first count clock some is stand told grew =
-    let m = grown s (map (λ x. (Size, x)) g.sizes) [] in
+    let m = grown s (map (λ x. (Dimension, x)) g.sizes) [] in
     let v : Variable = record { kind = g.kind; first_size = first; sizes = count; clock = clock } in
     let h : after ≡ with_alike m g.names v = subst (λ k. after ≡ with_alike k g.names v) is grew in
     let sizes = (subst (λ k. StaticsStand k g.sizes (first, count)) is stand).0 in
@@ -126,19 +127,19 @@ group_done s mid after g first count clock some is stand told grew =
     let all : map (λ x. declaration_of (variable_names s.node) (texts m).statics [] v) g.names
     ≡ map nameless (declarations g) =
     ap (λ d. map (λ (x : Name). d) g.names) one ∙ sym (map_map (alike g) nameless g.names) in
-    let parts : map (λ x. (Size, x)) g.sizes ≡ group_parts g = by g.names some in
+    let parts : map (λ x. (Dimension, x)) g.sizes ≡ group_parts g = by g.names some in
     let calls : s.calls ++ [] ≡ s.calls = append-nil s.calls in
     h ∙ (λ j. record {
       source = s.source;
       node =
           s.node;
       declared = s.declared ++ all j;
-      parts = s.parts ++ parts j;
+      parts = with_parts s.parts (parts j);
       calls = calls j;
     })
   where
     by : (names : List Name) → nat_eq (length names) 0 ≡ false
-        → map (λ x. (Size, x)) g.sizes ≡ if_named names (map (λ x. (Size, x)) g.sizes)
+        → map (λ x. (Dimension, x)) g.sizes ≡ if_named names (map (λ x. (Dimension, x)) g.sizes)
     by [] e = absurd cc
     by (x ∷ names) e = refl
 
@@ -156,7 +157,7 @@ no_groups s =
       source = s.source;
       node = s.node;
       declared = sym (append-nil s.declared) j;
-      parts = sym (append-nil s.parts) j;
+      parts = s.parts;
       calls = s.calls;
     }
 
@@ -182,10 +183,10 @@ next_group start here after gs i g below is at grew =
     ∙ ap (λ l. start.declared ++ l)
     (sym (map-append nameless (declared before) (declarations v))
     ∙ ap (map nameless) (sym (groups_more before v))) in
-    let parts : (start.parts ++ flat_map group_parts before) ++ group_parts v ≡ start.parts
-    ++ flat_map group_parts (before ++ v ∷ []) =
-    append_assoc start.parts (flat_map group_parts before) (group_parts v)
-    ∙ ap (λ l. start.parts ++ l) (sym (flat_more group_parts before v)) in
+    let parts : with_parts (with_parts start.parts (flat_map group_parts before)) (group_parts v)
+    ≡ with_parts start.parts (flat_map group_parts (before ++ v ∷ [])) =
+    kept_twice start.parts (flat_map group_parts before) (group_parts v)
+    ∙ ap (with_parts start.parts) (sym (flat_more group_parts before v)) in
     subst (λ l. after ≡ after_groups start l) (taken gs i g below is)
     (h ∙ (λ j. record {
       source =

@@ -11,16 +11,15 @@ use Rattle.lb_syntax.specs.Tree.{Cons, Statement}
 use Rattle.lb_syntax.proofs.ListPlaces.{nothing_added}
 use Rattle.lb_static.specs.Parts as of
 use Rattle.lb_static.specs.Parts.{parts, right_side}
-use Rattle.lb_static.specs.StaticParts.{Part, arguments_of, parts_of, parts_in}
-use Rattle.lb_static.specs.declared.resolved.Role.TheVariants.{Size, Index, SliceStart, SliceEnd}
-use Rattle.lb_static.specs.declared.resolved.Role.TheVariants.{Value}
+use Rattle.lb_static.specs.StaticParts.{Part, Size, Index, SliceStart, SliceEnd, Value}
+use Rattle.lb_static.specs.StaticParts.{arguments_of, parts_of, parts_in}
 
 -- those that stand in an expression itself
 abbrev pub own_parts : (Name → Bool) → Expr → List Part
 own_parts variable (Variable x) = cond (variable x) [] ((Value, tree.Named x) ∷ [])
 own_parts variable (Replicate a n) = (Size, n) ∷ []
 own_parts variable (tree.Index a i) = (Index, i) ∷ []
-own_parts variable (Slice a i j) = (SliceStart, i) ∷ ((SliceEnd, j) ∷ [])
+own_parts variable (Slice a i j) = (SliceStart, i) ∷ ((SliceEnd i, j) ∷ [])
 own_parts variable (Call f statics es) = arguments_of statics
 own_parts variable (Iterate it (Node_named f statics) n es) = (Size, n) ∷ arguments_of statics
 own_parts variable (Iterate it (Symbol op) n es) = (Size, n) ∷ []
@@ -52,7 +51,7 @@ module _ (variable : Name → Bool) where
     parts_are (When a x sign) = parts_are a
     parts_are (Replicate a n) = ap (λ l. (Size, n) ∷ l) (parts_are a)
     parts_are (tree.Index a i) = ap (λ l. (Index, i) ∷ l) (parts_are a)
-    parts_are (Slice a i j) = ap (λ l. (SliceStart, i) ∷ ((SliceEnd, j) ∷ l)) (parts_are a)
+    parts_are (Slice a i j) = ap (λ l. (SliceStart, i) ∷ ((SliceEnd i, j) ∷ l)) (parts_are a)
     parts_are (Join a b) = two _ _ (parts a) (parts b) (parts_are a) (parts_are b)
     parts_are (Array es) = row_is es
     parts_are (AtMostOne es) = row_is es

@@ -29,6 +29,7 @@ use Rattle.lb_syntax.specs.declared.tree.Expr.{Array', AtMostOne', Nor', Call', 
 use Rattle.lb_syntax.specs.declared.tree.Expr.{Row_of-Expr, end_of-Expr}
 use Rattle.lb_syntax.specs.declared.tree.Expr.{items_hidden-the_row-Expr-0}
 use Rattle.lb_syntax.proofs.Views.{view_row-items}
+use Rattle.std.proofs.lemmas.Option.{slice_get-map, slice_get_within}
 use Rattle.lb_syntax.proofs.ListPlaces.{get_last}
 use Rattle.lb_static.specs.Instances.{Site, sites, sites_in}
 use Rattle.lb_static.specs.NameFaults.{IsNameFault, is_told}
@@ -47,12 +48,14 @@ use Rattle.lb_static.specs.NodeNames.{all_pass_where}
 use Rattle.lb_static.specs.ResolvedTerms.{Texts, Counts, expr_of, row_of, static_at, is_within}
 use Rattle.lb_static.specs.ResolvedTerms.{are_within, is_no_variable, is_unhidden, are_unhidden}
 use Rattle.lb_static.specs.ResolvedTerms.{named_value, iterate_expr, no_site, site_of}
-use Rattle.lb_static.specs.ResolvedTerms.{is_count_within}
-use Rattle.lb_static.specs.StaticParts.{Part, parts_of, parts_in, arguments_of}
+use Rattle.lb_static.specs.ResolvedTerms.{are_statics, is_count_within, is_site_within}
+use Rattle.lb_static.specs.PartKeys.{letter_of}
+use Rattle.lb_static.specs.SharedParts.{place_of, with_part, with_parts}
+use Rattle.lb_static.specs.StaticParts.{Part, Purpose, Argument, Size, Value as Value_role}
+use Rattle.lb_static.specs.StaticParts.{parts_of, parts_in, arguments_of}
 use Rattle.lb_static.specs.declared.error.StaticError.{StaticError}
 use Rattle.lb_static.specs.declared.resolved.CallId.{CallId}
-use Rattle.lb_static.specs.declared.resolved.Role.{Role}
-use Rattle.lb_static.specs.declared.resolved.Role.TheVariants.{Size, Value as Value_role}
+use Rattle.lb_static.specs.declared.resolved.CallSite.{CallSite}
 use Rattle.lb_static.specs.declared.resolved.StaticId.{StaticId}
 use Rattle.lb_static.specs.declared.resolved.Term as term
 use Rattle.lb_static.specs.declared.resolved.Term.{Term, Row_of-Term, end_of-Term, more_of-Term}
@@ -60,9 +63,10 @@ use Rattle.lb_static.specs.declared.resolved.Term.{items-the_row-Term, items_hid
 use Rattle.lb_static.proofs.Faults.{fault_within}
 use Rattle.lb_static.proofs.Growth.{count_stays, same_two}
 use Rattle.lb_static.proofs.GrownNodes.{grown_twice, stands_grown, all_stand_grown}
-use Rattle.lb_static.proofs.GrownNodes.{static_stands_grown, call_stands_grown}
+use Rattle.lb_static.proofs.GrownNodes.{static_stands_grown, call_stands_grown, count_within_grown}
 use Rattle.lb_static.proofs.Lists.{map_map}
 use Rattle.lb_static.proofs.Scopes.{among_append}
+use Rattle.lb_static.proofs.SharedParts.{own_kept, place_stands}
 
 -- ## One part after another
 
@@ -81,8 +85,10 @@ pub two_done : (before mid after : Progress) (e f : Expr) (t u : Term) → Done 
 two_done before mid after e f t u d g =
     let h : Done (after_expr before e) after f u = subst (λ m. Done m after f u) d.0 g in
     let first : Stands after e t =
-    subst (λ m. Stands m e t) (sym g.0) (stands_grown mid _ _ e t d.1) in (
-      h.0 ∙ grown_twice before _ _ _ _,
+    subst (λ m. Stands m e t) (sym g.0)
+    (stands_grown mid (parts_of (is_variable_of mid) f) (sites f) e t d.1) in (
+      h.0 ∙ grown_twice before (parts_of (is_variable_of before) e)
+          (parts_of (is_variable_of before) f) (sites e) (sites f),
       first,
       h.1,
       and_from (expr_passes before e)
@@ -103,8 +109,12 @@ pub three_done : (before mid after : Progress) (c e f : Expr) (s t u : Term) →
 three_done before mid after c e f s t u d g =
     let h : Two (after_expr before c) after e f t u = subst (λ m. Two m after e f t u) d.0 g in
     let first : Stands after c s =
-    subst (λ m. Stands m c s) (sym g.0) (stands_grown mid _ _ c s d.1) in (
-      h.0 ∙ grown_twice before _ _ _ _,
+    subst (λ m. Stands m c s) (sym g.0)
+    (stands_grown mid (parts_of (is_variable_of mid) e ++ parts_of (is_variable_of mid) f)
+    (sites e ++ sites f) c s d.1) in (
+      h.0 ∙ grown_twice before (parts_of (is_variable_of before) c)
+          (parts_of (is_variable_of before) e ++ parts_of (is_variable_of before) f) (sites c)
+          (sites e ++ sites f),
       first,
       h.1,
       h.2,
@@ -113,14 +123,14 @@ three_done before mid after c e f s t u d g =
     )
 
 -- a static expression, and an expression after it
-abbrev pub WithStatic : (before after : Progress) (role : Role) (x : Static) (e : Expr)
+abbrev pub WithStatic : (before after : Progress) (role : Purpose) (x : Static) (e : Expr)
     (id : StaticId) (t : Term) → Type 0
 WithStatic before after role x e id t =
     (after ≡ grown before ((role, x) ∷ parts_of (is_variable_of before) e) (sites e))
     × StaticStands after x id × Stands after e t
     × ((static_fits before x && expr_passes before e) ≡ true)
 
-pub static_done : (before mid after : Progress) (role : Role) (x : Static) (e : Expr)
+pub static_done : (before mid after : Progress) (role : Purpose) (x : Static) (e : Expr)
     (id : StaticId) (t : Term) → ResolvesStatic before mid role x (Ok id)
     → Done mid after e t → WithStatic before after role x e id t
 static_done before mid after role x e id t d g =
@@ -134,14 +144,14 @@ static_done before mid after role x e id t d g =
       and_from (static_fits before x) (expr_passes before e) d.2 h.2,
     )
 
-abbrev pub WithStatics : (before after : Progress) (r q : Role) (x y : Static) (e : Expr)
+abbrev pub WithStatics : (before after : Progress) (r q : Purpose) (x y : Static) (e : Expr)
     (i j : StaticId) (t : Term) → Type 0
 WithStatics before after r q x y e i j t =
     (after ≡ grown before ((r, x) ∷ ((q, y) ∷ parts_of (is_variable_of before) e)) (sites e))
     × StaticStands after x i × StaticStands after y j × Stands after e t
     × ((static_fits before x && (static_fits before y && expr_passes before e)) ≡ true)
 
-pub statics_done : (before mid after : Progress) (r q : Role) (x y : Static) (e : Expr)
+pub statics_done : (before mid after : Progress) (r q : Purpose) (x y : Static) (e : Expr)
     (i j : StaticId) (t : Term) → ResolvesStatic before mid r x (Ok i)
     → WithStatic mid after q y e j t → WithStatics before after r q x y e i j t
 statics_done before mid after r q x y e i j t d g =
@@ -185,7 +195,7 @@ call_done before mid after x es id ts d g =
       and_from (call_fits before x) (exprs_pass before es) d.2 h.2,
     )
 
-abbrev pub WithSize : (before after : Progress) (role : Role) (y : Static) (es : List Expr)
+abbrev pub WithSize : (before after : Progress) (role : Purpose) (y : Static) (es : List Expr)
     (i : StaticId) (ts : List Term) → Type 0
 WithSize before after role y es i ts =
     (after ≡ grown before ((role, y) ∷ flat_map (parts_of (is_variable_of before)) es)
@@ -193,7 +203,7 @@ WithSize before after role y es i ts =
     × StaticStands after y i × StandAll after es ts
     × ((static_fits before y && exprs_pass before es) ≡ true)
 
-pub size_done : (before mid after : Progress) (role : Role) (y : Static) (es : List Expr)
+pub size_done : (before mid after : Progress) (role : Purpose) (y : Static) (es : List Expr)
     (i : StaticId) (ts : Vec Term Global) → ResolvesStatic before mid role y (Ok i)
     → AllDone mid after es ts → WithSize before after role y es i ts.items
 size_done before mid after role y es i ts d g =
@@ -209,7 +219,7 @@ size_done before mid after role y es i ts d g =
       and_from (static_fits before y) (exprs_pass before es) d.2 h.2,
     )
 
-abbrev pub WithSizedCall : (before after : Progress) (role : Role) (y : Static) (x : Site)
+abbrev pub WithSizedCall : (before after : Progress) (role : Purpose) (y : Static) (x : Site)
     (es : List Expr) (id : CallId) (ts : List Term) → Type 0
 WithSizedCall before after role y x es id ts =
     (after ≡ grown before ((role, y)
@@ -218,7 +228,7 @@ WithSizedCall before after role y x es id ts =
     × CallStands after x id × StandAll after es ts
     × ((static_fits before y && (call_fits before x && exprs_pass before es)) ≡ true)
 
-pub sized_call_done : (before mid after : Progress) (role : Role) (y : Static) (x : Site)
+pub sized_call_done : (before mid after : Progress) (role : Purpose) (y : Static) (x : Site)
     (es : List Expr) (i : StaticId) (id : CallId) (ts : List Term)
     → ResolvesStatic before mid role y (Ok i) → WithCall mid after x es id ts
     → WithSizedCall before after role y x es id ts
@@ -600,7 +610,7 @@ fault_of_item start here f es i e below is at h =
     subst (λ k. IsNameFault f (expr_told f k (view e))) at h in
     fault_within f _ _ g (one_fails (expr_told f start) view es i e below is)
 
-pub fault_of_static : (start here : Progress) (f : StaticError) (role : Role) (xs : List Static')
+pub fault_of_static : (start here : Progress) (f : StaticError) (role : Purpose) (xs : List Static')
     (i : ℕ) (x : Static') → i < length xs → x ≡ get_or xs i x
     → here ≡ grown start (map (λ s. (role, s)) (view_statics (take i xs))) []
     → IsNameFault f (static_told f here (view_static x))
@@ -616,17 +626,18 @@ map_same : {A : Type 0} (xs : List A) → map (λ x. x) xs ≡ xs
 map_same [] = refl
 map_same (x ∷ xs) = ap (λ l. x ∷ l) (map_same xs)
 
-pub statics_placed : (start here : Progress) (role : Role) (xs : List Static) (first : StaticId)
-    (count : ℕ) → here ≡ grown start (map (λ x. (role, x)) xs) []
+pub statics_placed : (start here : Progress) (role : Purpose) (xs : List Static) (first : StaticId)
+    (count : ℕ) → letter_of role ≡ None → here ≡ grown start (map (λ x. (role, x)) xs) []
     → first.0 ≡ length start.parts → count ≡ length xs → StaticsStand here xs (first, count)
-statics_placed start here role xs first count is at long =
+statics_placed start here role xs first count own is at long =
     subst (λ k. StaticsStand k xs (first, count)) (sym is) placed
   where
     found : List Static
     found = map (λ p. p.1) start.parts
 
-    all : map (λ p. p.1) (start.parts ++ map (λ x. (role, x)) xs) ≡ found ++ xs
-    all = map-append (λ p. p.1) start.parts (map (λ x. (role, x)) xs)
+    all : map (λ p. p.1) (with_parts start.parts (map (λ x. (role, x)) xs)) ≡ found ++ xs
+    all = ap (map (λ p. p.1)) (own_kept role start.parts xs own)
+        ∙ map-append (λ p. p.1) start.parts (map (λ x. (role, x)) xs)
         ∙ ap (λ l. map (λ p. p.1) start.parts ++ l)
         (map_map (λ x. (role, x)) (λ p. p.1) xs ∙ map_same xs)
 
@@ -645,6 +656,21 @@ statics_placed start here role xs first count is at long =
 
 -- ## Names and calls
 
+-- the numbers of a call are in range behind its static arguments
+pub site_placed : (before mid : Progress) (P : List Part) (args : List Static)
+    (place : StaticId × ℕ) (s : CallSite) → mid ≡ grown before P []
+    → StaticsStand mid args place → s.first_argument ≡ place.0 → s.arguments ≡ place.1
+    → is_count_within (counts_in (texts before)) s.count ≡ true
+    → nat_lt s.callee.0 (length (callees mid)) ≡ true
+    → is_site_within (length (callees mid)) (counts_in (texts mid)) s ≡ true
+site_placed before mid P args place s is stand first count within callee =
+    let statics : are_statics (counts_in (texts mid)) s.first_argument s.arguments ≡ true =
+    (λ j. are_statics (counts_in (texts mid)) (first j) (count j)) ∙ stand.1 in
+    let counted : is_count_within (counts_in (texts mid)) s.count ≡ true =
+    subst (λ m. is_count_within (counts_in (texts m)) s.count ≡ true) (sym is)
+    (count_within_grown before P [] s.count within) in
+    and_from _ _ callee (and_from _ _ statics counted)
+
 pub call_placed : (s : Progress) (P : List Part) (x : Site) (id : CallId) → id.0 ≡ length s.calls
     → CallStands (grown s P (x ∷ [])) x id
 call_placed s P x id e =
@@ -654,30 +680,24 @@ call_placed s P x id e =
       grind (arith, nat_tests),
     )
 
-pub static_placed : (s : Progress) (p : Part) (C : List Site) (id : StaticId)
-    → id.0 ≡ length s.parts → StaticStands (grown s (p ∷ []) C) p.1 id
-static_placed s p C id e =
-    let found = map (λ q. q.1) s.parts in
-    let all : map (λ q. q.1) (s.parts ++ p ∷ []) ≡ found ++ p.1 ∷ [] =
-    map-append (λ q. q.1) s.parts (p ∷ []) in
-    let at : id.0 ≡ length found = e ∙ sym (length-map s.parts (λ q. q.1)) in
-    let long : length (found ++ p.1 ∷ []) ≡ length found + 1 = length-append found (p.1 ∷ []) in
-    let within : nat_lt id.0 (length (found ++ p.1 ∷ [])) ≡ true = grind (arith, nat_tests) in (
-      ap (λ l. either_or (slice_get l id.0) (tree.Whole 0)) all
-          ∙ ap (λ k. either_or (slice_get (found ++ p.1 ∷ []) k) (tree.Whole 0)) at
-          ∙ ap (λ o. either_or o (tree.Whole 0)) (get_last found p.1),
-      ap (λ l. nat_lt id.0 (length l)) all ∙ within,
-    )
+pub static_placed : (s : Progress) (p : Part) (id : StaticId) → id.0 ≡ place_of s.parts p
+    → StaticStands (grown s (p ∷ []) []) p.1 id
+static_placed s p id e =
+    let more = with_part s.parts p in
+    let at : slice_get (map (λ q. q.1) more) id.0 ≡ Some p.1 =
+    slice_get-map (λ q. q.1) more id.0
+    ∙ ap (λ i. option_map (λ q. q.1) (slice_get more i)) e
+    ∙ ap (option_map (λ q. q.1)) (place_stands s.parts p) in
+    let below = slice_get_within (map (λ q. q.1) more) id.0 p.1 at in
+    let within : nat_lt id.0 (length (map (λ q. q.1) more)) ≡ true = grind (arith, nat_tests) in
+    (ap (λ o. either_or o (tree.Whole 0)) at, within)
 
 -- a static parameter or a constant in an expression
 pub named_done : (s after : Progress) (x : Name) (id : StaticId) → is_variable_of s x ≡ false
     → is_static_name (program_of s) s.node x ≡ true
-    → after ≡ grown s ((Value_role, tree.Named x) ∷ []) [] → id.0 ≡ length s.parts
+    → after ≡ grown s ((Value_role, tree.Named x) ∷ []) [] → StaticStands after (tree.Named x) id
     → Done s after (tree.Variable x) (term.Value id)
-named_done s after x id other known is at =
-    let placed : StaticStands after (tree.Named x) id = subst
-    (λ k. StaticStands k (tree.Named x) id) (sym is)
-    (static_placed s (Value_role, tree.Named x) [] id at) in
+named_done s after x id other known is placed =
     let hides : not (among x (variable_names after.node)) ≡ true =
     ap (λ k. not (among x (variable_names k.node))) is ∙ ap not other in (
       is ∙ ap (λ b. grown s (cond b [] ((Value_role, tree.Named x) ∷ [])) []) (sym other),
@@ -725,7 +745,8 @@ module _ (before after : Progress) (f : Name) (args : List Static) (place : Stat
   made_is h =
       let found = (texts before).statics in
       let all : (texts after_arguments).statics ≡ found ++ map (λ p. p.1) (arguments_of args) =
-      map-append (λ p. p.1) before.parts (arguments_of args) in
+      ap (map (λ p. p.1)) (own_kept Argument before.parts args refl)
+      ∙ map-append (λ p. p.1) before.parts (arguments_of args) in
       let same : option_map (static_at (texts after_arguments).statics) count
       ≡ option_map (static_at found) count =
       ap (λ l. option_map (static_at l) count) all

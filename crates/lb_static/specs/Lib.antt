@@ -19,6 +19,8 @@ pub mod HeldValues
 pub mod Tasks
 pub mod ResolvedTerms
 pub mod StaticParts
+pub mod PartKeys
+pub mod SharedParts
 pub mod ResolvedNodes
 pub mod ReachedNodes
 pub mod InstanceTable

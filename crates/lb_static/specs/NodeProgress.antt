@@ -17,7 +17,6 @@ use Rattle.lb_static.specs.NodeNames.{passes_where, statement_passes_where, call
 use Rattle.lb_static.specs.NodeNames.{static_passes_where, statics_pass_where}
 use Rattle.lb_static.specs.NodeNames.{statics_pass}
 use Rattle.lb_static.specs.Parts.{among, right_side, variable_names}
-use Rattle.lb_static.specs.ResolvedNodes.{part_of}
 use Rattle.lb_static.specs.ResolvedTerms.{Texts, Counts, sampling_of, is_sampling_within, static_of}
 use Rattle.lb_static.specs.ResolvedTerms.{expr_of, statement_of, is_statement_within}
 use Rattle.lb_static.specs.ResolvedTerms.{is_statement_unhidden, declaration_of, site_of, site_at}
@@ -25,12 +24,12 @@ use Rattle.lb_static.specs.ResolvedTerms.{static_at, statics_at, is_call, is_sta
 use Rattle.lb_static.specs.ResolvedTerms.{is_within, is_unhidden, is_declared_within}
 use Rattle.lb_static.specs.ResolvedTerms.{is_site_within}
 use Rattle.lb_static.specs.DataTypes.{variables}
-use Rattle.lb_static.specs.StaticParts.{Part, parts_of, arguments_of, group_parts}
+use Rattle.lb_static.specs.SharedParts.{with_parts}
+use Rattle.lb_static.specs.StaticParts.{Part, Purpose, part_of, parts_of, arguments_of, group_parts}
 use Rattle.lb_static.specs.declared.error.StaticError.{StaticError}
 use Rattle.lb_static.specs.declared.node_scope.NodeScope.{NodeScope}
 use Rattle.lb_static.specs.declared.resolved.CallId.{CallId}
 use Rattle.lb_static.specs.declared.resolved.CallSite.{CallSite}
-use Rattle.lb_static.specs.declared.resolved.Role.{Role}
 use Rattle.lb_static.specs.declared.resolved.Sampling as resolved
 use Rattle.lb_static.specs.declared.resolved.StaticId.{StaticId}
 use Rattle.lb_static.specs.declared.resolved.StaticPart.{StaticPart}
@@ -81,7 +80,7 @@ grown s parts calls = record {
   source = s.source;
   node = s.node;
   declared = s.declared;
-  parts = s.parts ++ parts;
+  parts = with_parts s.parts parts;
   calls = s.calls ++ calls;
 }
 
@@ -142,7 +141,7 @@ static_told f s x = static_passes_where (is_told f) (program_of s) s.node x
 
 -- the number that stands for a static expression, or why there is none
 abbrev pub ResolvesStatic :
-    (before after : Progress) → Role → Static → Result StaticId StaticError → Type 0
+    (before after : Progress) → Purpose → Static → Result StaticId StaticError → Type 0
 ResolvesStatic before after role x (Ok id) =
     (after ≡ grown before ((role, x) ∷ []) []) × StaticStands after x id
     × (static_fits before x ≡ true)
@@ -161,7 +160,7 @@ StaticsStand s xs place =
     × (are_statics (counts_in (texts s)) place.0 place.1 ≡ true)
 
 abbrev pub ResolvesStatics :
-    (before after : Progress) → Role → List Static → Result (StaticId × ℕ) StaticError → Type 0
+    (before after : Progress) → Purpose → List Static → Result (StaticId × ℕ) StaticError → Type 0
 ResolvesStatics before after role xs (Ok place) =
     (after ≡ grown before (map (λ x. (role, x)) xs) []) × StaticsStand after xs place
     × (statics_fit before xs ≡ true)
@@ -318,7 +317,7 @@ declared_more s ds parts = record {
   source = s.source;
   node = s.node;
   declared = s.declared ++ map nameless ds;
-  parts = s.parts ++ parts;
+  parts = with_parts s.parts parts;
   calls = s.calls;
 }
 

@@ -9,7 +9,7 @@ use Rattle.lb_static.specs.declared.resolved.ResolvedNode.{ResolvedNode}
 use Rattle.lb_static.specs.declared.resolved.ResolvedStatement.{ResolvedStatement}
 
 abbrev pub progress : NodeBuilder → Progress
-progress f = kept f.node_scope f.statics.items f.calls.items f.variables.items
+progress f = kept f.node_scope f.statics.parts.items f.calls.items f.variables.items
 
 -- the node of a tree with what was found of it
 pub record IsFinished (f : NodeBuilder) (tree : Node) (inputs outputs : ℕ)
@@ -21,4 +21,4 @@ pub record IsFinished (f : NodeBuilder) (tree : Node) (inputs outputs : ℕ)
   pub outputs_are : r.outputs ≡ outputs
   pub body_is : r.body.items ≡ body.items
   pub calls : r.calls.items ≡ f.calls.items
-  pub statics : r.statics.items ≡ f.statics.items
+  pub statics : r.statics.items ≡ f.statics.parts.items

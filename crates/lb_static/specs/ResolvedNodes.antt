@@ -1,6 +1,6 @@
 -- When a node with resolved names stands for its tree.
 -- This file says what data of the program mean; no definition of the language stands on it.
-use Rattle.std.specs.Prelude.{◌≡◌, true, List, length, map}
+use Rattle.std.specs.Prelude.{◌≡◌, true, List, [], length, map}
 use Rattle.std.specs.List.{list_all}
 use Rattle.lb_syntax.specs.Lists.{zip2}
 use Rattle.lb_syntax.specs.SourceView.{view_node}
@@ -11,16 +11,13 @@ use Rattle.lb_static.specs.DataTypes.{variables}
 use Rattle.lb_static.specs.ResolvedTerms.{Texts, Counts, static_of, statement_of, declaration_of}
 use Rattle.lb_static.specs.ResolvedTerms.{site_of, is_statement_within, is_statement_unhidden}
 use Rattle.lb_static.specs.ResolvedTerms.{is_declared_within, is_site_within}
-use Rattle.lb_static.specs.StaticParts.{Part, node_static_parts}
+use Rattle.lb_static.specs.SharedParts.{with_parts}
+use Rattle.lb_static.specs.StaticParts.{node_static_parts, part_of}
 use Rattle.lb_static.specs.declared.resolved.ResolvedNode.{ResolvedNode}
-use Rattle.lb_static.specs.declared.resolved.StaticPart.{StaticPart}
 
 -- the tree of a node
 abbrev pub node_of : ResolvedNode → Node
 node_of r = view_node r.tree.now
-
-abbrev pub part_of : StaticPart → Part
-part_of p = (p.role, static_of p.text)
 
 -- its static expressions
 abbrev pub statics_of : ResolvedNode → List Static
@@ -53,7 +50,7 @@ pub record IsResolved (nodes : List Name) (r : ResolvedNode) : Type 0 where
   pub as_many : length r.variables.items ≡ length (variables (node_of r))
   pub body : map (statement_of (texts_of r)) r.body.items ≡ (node_of r).body
   pub calls : map (site_of nodes (statics_of r)) r.calls.items ≡ node_sites (node_of r)
-  pub statics : map part_of r.statics.items ≡ node_static_parts r.tree.now
+  pub statics : map part_of r.statics.items ≡ with_parts [] (node_static_parts r.tree.now)
   -- where it names a static parameter or a constant, no variable of its own hides it
   pub unhidden : list_all (is_statement_unhidden (texts_of r)) r.body.items ≡ true
   -- each number is within range

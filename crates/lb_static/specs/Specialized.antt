@@ -10,14 +10,13 @@ use Rattle.lb_syntax.specs.Tree.{Name}
 use Rattle.lb_static.specs.HeldValues.{value_of}
 use Rattle.lb_static.specs.Instances.{given_or_constant}
 use Rattle.lb_static.specs.ResolvedTerms.{static_of}
+use Rattle.lb_static.specs.StaticParts.{Purpose, Size, Index, SliceStart, SliceEnd, Dimension}
+use Rattle.lb_static.specs.StaticParts.{Argument, Value, purpose_of}
 use Rattle.lb_static.specs.StaticValues.{named, natural, value_under}
 use Rattle.lb_static.specs.declared.error.StaticError.{StaticError}
 use Rattle.lb_static.specs.declared.error.StaticError.TheVariants as error
 use Rattle.lb_static.specs.declared.instance_values.InstanceValues.{InstanceValues}
 use Rattle.lb_static.specs.declared.resolved.ResolvedNode.{ResolvedNode}
-use Rattle.lb_static.specs.declared.resolved.Role.{Role}
-use Rattle.lb_static.specs.declared.resolved.Role.TheVariants.{Size, Index, SliceStart, SliceEnd}
-use Rattle.lb_static.specs.declared.resolved.Role.TheVariants.{Argument, Value}
 use Rattle.lb_static.specs.declared.resolved.StaticPart.{StaticPart}
 use Rattle.lb_static.specs.declared.resolved.Variable.{Variable as Declared}
 use Rattle.lb_static.specs.declared.static_value.StaticInt.{StaticInt}
@@ -49,20 +48,21 @@ count_between low high v = holds (λ n. nat_le low n && nat_le n high) (v >>= na
 abbrev pub runs_forward : Option ℤ → Option ℤ → Bool
 runs_forward v w = holds (λ i. holds (nat_le i) (w >>= natural)) (v >>= natural)
 
--- a value is within the range of what it is there for, where this value stands before it
-abbrev pub part_passes : Option ℤ → Role → Option ℤ → Bool
-part_passes before Size v = count_between 1 4096 v
-part_passes before Index v = count_between 0 4095 v
-part_passes before SliceStart v = count_between 0 4095 v
-part_passes before SliceEnd v = count_between 0 4095 v && runs_forward before v
-part_passes before Argument v = true
-part_passes before Value v = true
+-- a value is within the range of what it is there for
+abbrev pub part_passes : (Name → Option ℤ) → Purpose → Option ℤ → Bool
+part_passes given Size v = count_between 1 4096 v
+part_passes given Index v = count_between 0 4095 v
+part_passes given SliceStart v = count_between 0 4095 v
+part_passes given (SliceEnd s) v = count_between 0 4095 v && runs_forward (value_under given s) v
+part_passes given Dimension v = count_between 1 4096 v
+part_passes given Argument v = true
+part_passes given Value v = true
 
-abbrev pub in_range_after : ℤ → List StaticPart → List ℤ → Bool
-in_range_after before [] vs = true
-in_range_after before (p ∷ ps) [] = true
-in_range_after before (p ∷ ps) (v ∷ vs) =
-    part_passes (Some before) p.role (Some v) && in_range_after v ps vs
+abbrev pub are_in_range : (Name → Option ℤ) → List StaticPart → List ℤ → Bool
+are_in_range given [] vs = true
+are_in_range given (p ∷ ps) [] = true
+are_in_range given (p ∷ ps) (v ∷ vs) =
+    part_passes given (purpose_of p.role) (Some v) && are_in_range given ps vs
 
 -- ## Widths
 
@@ -83,9 +83,9 @@ is_narrow values v =
 
 -- ## Nodes
 
-abbrev pub node_in_range : ResolvedNode → List ℤ → Bool
-node_in_range n values =
-    in_range_after (pos 0) n.statics.items values
+abbrev pub node_in_range : (Name → Option ℤ) → ResolvedNode → List ℤ → Bool
+node_in_range given n values =
+    are_in_range given n.statics.items values
     && list_all (is_narrow values) n.variables.items
 
 -- The values of the static expressions of a node, in range; or some have none, or are not.
@@ -93,10 +93,10 @@ abbrev pub IsEvaluated : (Name → Option ℤ) → ResolvedNode
     → Result (Vec StaticInt Global) StaticError → Type 0
 IsEvaluated given n (Ok statics) =
     (part_values given n.statics.items ≡ Some statics.items)
-    × (node_in_range n statics.items ≡ true)
+    × (node_in_range given n statics.items ≡ true)
 IsEvaluated given n (Err error.Memory) = Unit {0}
 IsEvaluated given n (Err (error.Value x)) = part_values given n.statics.items ≡ None
 IsEvaluated given n (Err (error.Range x)) =
     (values : List ℤ) × (part_values given n.statics.items ≡ Some values)
-    × (node_in_range n values ≡ false)
+    × (node_in_range given n values ≡ false)
 IsEvaluated given n (Err _) = ⊥

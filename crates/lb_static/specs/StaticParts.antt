@@ -9,15 +9,43 @@ use Rattle.lb_syntax.specs.Tree.{Name, Static, Node_named, Symbol, Expr, Literal
 use Rattle.lb_syntax.specs.Tree.{Unary, Binary, If, Arrow, Fby, Pre, Current, When, Replicate}
 use Rattle.lb_syntax.specs.Tree.{Slice, Join, Array, AtMostOne, Nor, Call, Iterate, Exprs, Nil}
 use Rattle.lb_syntax.specs.Tree.{Cons}
+use Rattle.lb_syntax.specs.View.{view_static}
 use Rattle.lb_syntax.specs.declared.tree.Node as written
 use Rattle.lb_static.specs.Parts.{among, right_side, variable_names}
+use Rattle.lb_static.specs.ResolvedTerms.{static_of}
 use Rattle.lb_static.specs.declared.resolved.Role.{Role}
-use Rattle.lb_static.specs.declared.resolved.Role.TheVariants.{Size, Index, SliceStart, SliceEnd}
-use Rattle.lb_static.specs.declared.resolved.Role.TheVariants.{Argument, Value}
+use Rattle.lb_static.specs.declared.resolved.Role.TheVariants as role
+use Rattle.lb_static.specs.declared.resolved.StaticPart.{StaticPart}
+
+-- what a static expression is there for
+pub data Purpose : Type 0 where
+  -- a size of `e ^ n` or of an iterator
+  Size : Purpose
+  Index : Purpose
+  SliceStart : Purpose
+  -- the last end of a slice with this first end
+  SliceEnd : Static → Purpose
+  -- a size of a declared type
+  Dimension : Purpose
+  Argument : Purpose
+  -- a static parameter or a constant that an expression names
+  Value : Purpose
+
+abbrev pub purpose_of : Role → Purpose
+purpose_of role.Size = Size
+purpose_of role.Index = Index
+purpose_of role.SliceStart = SliceStart
+purpose_of (role.SliceEnd s) = SliceEnd (view_static s.now)
+purpose_of role.Dimension = Dimension
+purpose_of role.Argument = Argument
+purpose_of role.Value = Value
 
 -- a static expression and what it is there for
 abbrev pub Part : Type 0
-Part = Role × Static
+Part = Purpose × Static
+
+abbrev pub part_of : StaticPart → Part
+part_of p = (purpose_of p.role, static_of p.text)
 
 abbrev pub arguments_of : List Static → List Part
 arguments_of = map (λ s. (Argument, s))
@@ -41,7 +69,7 @@ abbrev mutual
   parts_of variable (When a x sign) = parts_of variable a
   parts_of variable (Replicate a n) = (Size, n) ∷ parts_of variable a
   parts_of variable (tree.Index a i) = (Index, i) ∷ parts_of variable a
-  parts_of variable (Slice a i j) = (SliceStart, i) ∷ ((SliceEnd, j) ∷ parts_of variable a)
+  parts_of variable (Slice a i j) = (SliceStart, i) ∷ ((SliceEnd i, j) ∷ parts_of variable a)
   parts_of variable (Join a b) = parts_of variable a ++ parts_of variable b
   parts_of variable (Array es) = parts_in variable es
   parts_of variable (AtMostOne es) = parts_in variable es
@@ -61,7 +89,7 @@ if_named [] parts = []
 if_named (x ∷ xs) parts = parts
 
 abbrev pub group_parts : Group → List Part
-group_parts g = if_named g.names (map (λ s. (Size, s)) g.sizes)
+group_parts g = if_named g.names (map (λ s. (Dimension, s)) g.sizes)
 
 -- those of a node: of its declarations, and then of its statements
 abbrev pub node_static_parts : written.Node → List Part

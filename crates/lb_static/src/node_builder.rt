@@ -6,15 +6,16 @@ ghost use Rattle.lb_static.specs.NameFaults.{IsNameFault, alone};
 ghost use Rattle.lb_static.specs.NodeNames.{node_in, program_in};
 ghost use Rattle.lb_static.specs.NodeProgress.{IsKept};
 ghost use Rattle.lb_static.specs.Parts.{variable_names};
-ghost use Rattle.lb_static.specs.ResolvedNodes.{part_of};
+ghost use Rattle.lb_static.specs.StaticParts.{part_of};
 ghost use Rattle.lb_static.specs.ResolvedTerms.{declaration_of, is_declared_within, is_site_within};
-ghost use Rattle.lb_static.specs.ResolvedTerms.{site_of};
+ghost use Rattle.lb_static.specs.ResolvedTerms.{site_of, static_of};
 
 use crate::error::StaticError;
 use crate::node_scope::NodeScope;
 use crate::resolved::{
     CallId, CallSite, ResolvedNode, ResolvedStatement, StaticId, StaticPart, Variable,
 };
+use crate::static_parts::StaticParts;
 use lb_syntax::Node;
 use std::alloc::Global;
 
@@ -24,15 +25,15 @@ use std::alloc::Global;
 #[derive(Drop)]
 pub struct NodeBuilder<'a, 's> {
     node_scope: NodeScope<'a, 's>,
-    statics: Vec<StaticPart<'s>>,
+    statics: StaticParts<'s>,
     calls: Vec<CallSite>,
     variables: Vec<Variable>,
-    ghost sound: { IsKept node_scope statics.items calls.items variables.items },
+    ghost sound: { IsKept node_scope statics.parts.items calls.items variables.items },
 }
 
 impl<'a, 's> NodeBuilder<'a, 's> {
     ghost use Rattle.lb_static.specs.NodeProgress.{texts, counts_in, callees, grown, with_variable};
-    ghost use Rattle.lb_static.specs.NodeProgress.{program_of};
+    ghost use Rattle.lb_static.specs.NodeProgress.{program_of, StaticStands};
     ghost use Rattle.lb_static.specs.Progressed.{progress, IsFinished};
 
     /// Nothing is resolved yet.
@@ -47,7 +48,7 @@ impl<'a, 's> NodeBuilder<'a, 's> {
     {
         NodeBuilder {
             node_scope,
-            statics: Vec::new(alloc),
+            statics: StaticParts::new(alloc),
             calls: Vec::new(alloc),
             variables: Vec::new(alloc),
         }
@@ -68,16 +69,19 @@ impl<'a, 's> NodeBuilder<'a, 's> {
         StaticId(self.statics.len())
     }
 
-    /// One more static expression, and its number.
-    pub fn push_static(&mut self, part: StaticPart<'s>) -> Result<StaticId, StaticError>
+    /// The number of a static expression: of one that stands for the same, if it is kept once, or
+    /// the next.
+    pub fn push_static(
+        &mut self,
+        alloc: Global,
+        part: StaticPart<'s>,
+    ) -> Result<StaticId, StaticError>
         ensures after { IfOk result (λ _.
             progress self.new ≡ grown (progress self.old) (part_of part.entry ∷ []) []) }
-        ensures id { IfOk result (λ id. id.0 ≡ length (progress self.old).parts) }
+        ensures stands { IfOk result (StaticStands (progress self.new) (static_of part.entry.text)) }
         ensures err { IfErr result (λ e. IsNameFault e true) }
     {
-        let id = self.next_static();
-        self.statics.push(part)?;
-        Ok(id)
+        Ok(self.statics.push(alloc, part)?)
     }
 
     /// One more call, and its number.
@@ -136,7 +140,7 @@ impl<'a, 's> NodeBuilder<'a, 's> {
             outputs,
             body,
             calls,
-            statics,
+            statics: statics.into_vec(),
         }
     }
 }

@@ -4,11 +4,12 @@
 
 use crate::causes::{RangeFault, RangeRole};
 use crate::instance_paths::InstancePlace;
+use crate::instance_values::InstanceValues;
 use crate::resolved::{ResolvedNode, Role, StaticPart, StaticText, Variable};
 use crate::slices::part_of;
 use crate::specialize::{LONGEST, WIDEST, size_of};
-use crate::static_value::StaticInt;
-use lb_syntax::{Declarations, Name, Node};
+use crate::static_value::{StaticInt, static_value};
+use lb_syntax::{Declarations, Name, Node, Static};
 use std::alloc::{AllocError, Global};
 
 /// A value, and the range in which it is to be.
@@ -36,15 +37,23 @@ fn part_offset(part: &StaticPart) -> u32 {
     }
 }
 
-/// The value of a static expression with its range, after the value before it; none where any value
+/// The least last end of a slice that begins there.
+fn least_end(start: &Static, values: &InstanceValues) -> i64 {
+    match static_value(start, values) {
+        Some(start) => start.get().max(0),
+        None => 0,
+    }
+}
+
+/// The value of a static expression with its range, under the values of names; none where any value
 /// will do.
-fn range_of(before: StaticInt, part: &StaticPart, value: StaticInt) -> Option<Ranged> {
+fn range_of(part: &StaticPart, value: StaticInt, values: &InstanceValues) -> Option<Ranged> {
     let longest = i64::from(LONGEST);
     let (role, least, most) = match part.role {
-        Role::Size => (RangeRole::Size, 1, longest),
+        Role::Size | Role::Dimension => (RangeRole::Size, 1, longest),
         Role::Index => (RangeRole::Index, 0, longest - 1),
         Role::SliceStart => (RangeRole::SliceStart, 0, longest - 1),
-        Role::SliceEnd => (RangeRole::SliceEnd, before.get().max(0), longest - 1),
+        Role::SliceEnd(start) => (RangeRole::SliceEnd, least_end(start, values), longest - 1),
         Role::Argument | Role::Value => return None,
     };
     Some(Ranged {
@@ -57,15 +66,17 @@ fn range_of(before: StaticInt, part: &StaticPart, value: StaticInt) -> Option<Ra
 }
 
 /// The first static expression of a node whose value is out of its range.
-fn part_fault(node: &ResolvedNode, statics: &[StaticInt]) -> Option<Ranged> {
-    let mut before = StaticInt::zero();
+fn part_fault(
+    node: &ResolvedNode,
+    statics: &[StaticInt],
+    values: &InstanceValues,
+) -> Option<Ranged> {
     for (part, value) in node.statics.iter().zip(statics) {
-        if let Some(found) = range_of(before, part, *value) {
+        if let Some(found) = range_of(part, *value, values) {
             if !found.is_within() {
                 return Some(found);
             }
         }
-        before = *value;
     }
     None
 }
@@ -131,8 +142,9 @@ fn node_fault(
     alloc: Global,
     node: &ResolvedNode,
     statics: &[StaticInt],
+    values: &InstanceValues,
 ) -> Result<Ranged, AllocError> {
-    if let Some(found) = part_fault(node, statics) {
+    if let Some(found) = part_fault(node, statics, values) {
         return Ok(found);
     }
     if let Some(found) = width_fault(alloc, node, statics)? {
@@ -153,9 +165,10 @@ pub fn range_fault(
     alloc: Global,
     node: &ResolvedNode,
     statics: &[StaticInt],
+    values: &InstanceValues,
     place: &InstancePlace,
 ) -> Result<Box<RangeFault>, AllocError> {
-    let found = node_fault(alloc, node, statics)?;
+    let found = node_fault(alloc, node, statics, values)?;
     let path = place.path(alloc)?;
     let node = String::from_str(alloc, node.tree.name.as_str())?;
     Ok(Box::new(

@@ -118,15 +118,17 @@ pub struct CallSite {
 
 /// What a static expression stands for in the text.
 #[derive(Clone, Copy)]
-pub enum Role {
-    /// The size of a declared type, of `e ^ n` or of an iterator.
+pub enum Role<'s> {
+    /// The size of `e ^ n` or of an iterator.
     Size,
     /// An index.
     Index,
-    /// The first end of a slice; the other end comes next.
+    /// The first end of a slice.
     SliceStart,
-    /// The last end of a slice.
-    SliceEnd,
+    /// The last end of a slice with this first end.
+    SliceEnd(&'s Static),
+    /// A size of a declared type.
+    Dimension,
     /// A static argument of a call or an iterated node.
     Argument,
     /// A static parameter or a constant that an expression names.
@@ -143,7 +145,7 @@ pub enum StaticText<'s> {
 /// A static expression of a node, and what it is there for.
 #[derive(Clone, Copy)]
 pub struct StaticPart<'s> {
-    pub role: Role,
+    pub role: Role<'s>,
     pub text: StaticText<'s>,
 }
 
@@ -162,5 +164,6 @@ pub struct ResolvedNode<'s> {
     /// The calls and iterated nodes, in text order, each before those in its arguments.
     pub calls: Vec<CallSite>,
     /// The static expressions: those of declarations first, then those of the body in text order.
+    /// What stands in expressions for the same has one place.
     pub statics: Vec<StaticPart<'s>>,
 }

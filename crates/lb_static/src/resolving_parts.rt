@@ -1,6 +1,6 @@
 //! Names, static expressions and calls of a node, resolved.
 
-ghost use Rattle.std.specs.Prelude.{◌≡◌, true, map, option_map, IfOk, IfErr};
+ghost use Rattle.std.specs.Prelude.{◌≡◌, true, map, option_map, None, IfOk, IfErr};
 ghost use Rattle.lb_syntax.specs.Tree as tree;
 ghost use Rattle.lb_syntax.specs.View.{view_static, view_statics};
 ghost use Rattle.lb_static.specs.CountedNames.{counted, use_of};
@@ -9,8 +9,10 @@ ghost use Rattle.lb_static.specs.Names.{is_variable};
 ghost use Rattle.lb_static.specs.NodeNames.{IsVariableAt};
 ghost use Rattle.lb_static.specs.NodeProgress.{ResolvesTerm, ResolvesStatic, ResolvesStatics};
 ghost use Rattle.lb_static.specs.NodeProgress.{ResolvesCall, texts, counts_in, program_of};
+ghost use Rattle.lb_static.specs.PartKeys.{letter_of};
 ghost use Rattle.lb_static.specs.Progressed.{progress};
 ghost use Rattle.lb_static.specs.ResolvedTerms.{static_at, is_count_within};
+ghost use Rattle.lb_static.specs.StaticParts.{purpose_of};
 
 use crate::causes::Sought;
 use crate::error::StaticError;
@@ -65,7 +67,7 @@ pub fn named<'s>(
         role: Role::Value,
         text: StaticText::Named(name),
     };
-    Ok(Term::Value(here.push_static(part)?))
+    Ok(Term::Value(here.push_static(alloc, part)?))
 }
 
 /// The number of a static expression.
@@ -73,28 +75,31 @@ pub fn named<'s>(
 pub fn one_static<'s>(
     alloc: Global,
     here: &mut NodeBuilder<'_, 's>,
-    role: Role,
+    role: Role<'s>,
     text: &'s Static,
 ) -> Result<StaticId, StaticError>
-    ensures { ResolvesStatic (progress here.old) (progress here.new) role (view_static text.now)
-        result }
+    ensures { ResolvesStatic (progress here.old) (progress here.new) (purpose_of role.entry)
+        (view_static text.now) result }
 {
     here.node_scope().check_static(alloc, text)?;
-    here.push_static(StaticPart {
+    let part = StaticPart {
         role,
         text: StaticText::Written(text),
-    })
+    };
+    here.push_static(alloc, part)
 }
 
-/// The first of some static expressions that stand one after another, and how many there are.
+/// The first of some static expressions that stand one after another, and how many there are. Their
+/// role is one of which each is kept.
 pub fn all_statics<'s>(
     alloc: Global,
     here: &mut NodeBuilder<'_, 's>,
-    role: Role,
+    role: Role<'s>,
     texts: &'s [Static],
 ) -> Result<(StaticId, usize), StaticError>
-    ensures { ResolvesStatics (progress here.old) (progress here.new) role (view_statics texts.now)
-        result }
+    requires { letter_of (purpose_of role) ≡ None }
+    ensures { ResolvesStatics (progress here.old) (progress here.new) (purpose_of role.entry)
+        (view_statics texts.now) result }
 {
     let first = here.next_static();
     for text in texts {

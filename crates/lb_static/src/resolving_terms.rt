@@ -176,7 +176,7 @@ pub fn term<'s>(
         }
         Expr::Slice(a, i, j, _) => {
             let start = one_static(alloc, here, Role::SliceStart, i)?;
-            let end = one_static(alloc, here, Role::SliceEnd, j)?;
+            let end = one_static(alloc, here, Role::SliceEnd(i), j)?;
             nested(alloc, here, Outer::Slice(start, end), a)
         }
         Expr::Join(a, b, _) => {

@@ -74,7 +74,7 @@ fn resolve_group<'s>(
         return Ok(());
     }
     let clock = sampling(alloc, here, &group.clock)?;
-    let (first_size, sizes) = all_statics(alloc, here, Role::Size, &group.sizes)?;
+    let (first_size, sizes) = all_statics(alloc, here, Role::Dimension, &group.sizes)?;
     let variable = Variable {
         kind: group.kind,
         first_size,

@@ -6,12 +6,14 @@
 ghost use Rattle.std.specs.Prelude.{◌≡◌, ◌≤◌, ◌<◌, ◌+◌, ◌^◌, nat_le, true, IfOk, option_map};
 ghost use Rattle.std.specs.Prelude.{length, pos};
 ghost use Rattle.std.specs.List.{list_all};
+ghost use Rattle.lb_syntax.specs.View.{view_static};
 ghost use Rattle.lb_static.specs.ResolvedTerms.{static_of, is_declared_within, are_statics};
 ghost use Rattle.lb_static.specs.ResolvedNodes.{counts_of};
 ghost use Rattle.lb_static.specs.StaticValues.{value_under};
 ghost use Rattle.lb_static.specs.Specialized.{given_by, part_value, part_values, count_between};
-ghost use Rattle.lb_static.specs.Specialized.{runs_forward, part_passes, in_range_after, size_of};
+ghost use Rattle.lb_static.specs.Specialized.{runs_forward, part_passes, are_in_range, size_of};
 ghost use Rattle.lb_static.specs.Specialized.{times_sizes, is_narrow, node_in_range, IsEvaluated};
+ghost use Rattle.lb_static.specs.StaticParts.{purpose_of};
 
 use crate::error::StaticError;
 use crate::instance_paths::InstancePlace;
@@ -20,6 +22,7 @@ use crate::range_faults::range_fault;
 use crate::resolved::{ResolvedNode, Role, StaticPart, StaticText, Variable};
 use crate::static_value::{StaticInt, Values, static_value};
 use crate::value_faults::value_fault;
+use lb_syntax::Static;
 use std::alloc::{AllocError, Global};
 
 /// The most elements of an array.
@@ -71,29 +74,40 @@ fn runs_forward(start: StaticInt, end: StaticInt) -> bool
     0 <= start.get() && start.get() <= end.get()
 }
 
-/// Whether a value is within the range of what it is there for, after the value before it.
-fn part_passes(before: StaticInt, role: Role, value: StaticInt) -> bool
-    ensures { result ≡ part_passes (Some before) role (Some value) }
+/// Whether a slice from the value of a static expression, if it has one, to this end does not run
+/// backwards.
+fn ends_after(start: &Static, end: StaticInt, values: &InstanceValues) -> bool
+    ensures { result
+        ≡ runs_forward (value_under (given_by values.now) (view_static start.now)) (Some end) }
+{
+    match static_value(start, values) {
+        Some(start) => runs_forward(start, end),
+        None => false,
+    }
+}
+
+/// Whether a value is within the range of what it is there for, under the values of names.
+fn part_passes(role: Role, value: StaticInt, values: &InstanceValues) -> bool
+    ensures { result ≡ part_passes (given_by values.now) (purpose_of role.entry) (Some value) }
 {
     match role {
-        Role::Size => is_between(value, 1, LONGEST),
+        Role::Size | Role::Dimension => is_between(value, 1, LONGEST),
         Role::Index | Role::SliceStart => is_between(value, 0, LONGEST - 1),
-        Role::SliceEnd => is_between(value, 0, LONGEST - 1) && runs_forward(before, value),
+        Role::SliceEnd(start) => is_between(value, 0, LONGEST - 1)
+            && ends_after(start, value, values),
         Role::Argument | Role::Value => true,
     }
 }
 
 /// Whether the values of static expressions are within the ranges of what these are there for.
-fn are_in_range(parts: &[StaticPart], values: &[StaticInt]) -> bool
-    requires { length values.now ≡ length parts.now }
-    ensures { result ≡ in_range_after (pos 0) parts.now values.now }
+fn are_in_range(parts: &[StaticPart], statics: &[StaticInt], values: &InstanceValues) -> bool
+    requires { length statics.now ≡ length parts.now }
+    ensures { result ≡ are_in_range (given_by values.now) parts.now statics.now }
 {
-    let mut before = StaticInt::zero();
-    for (place, value) in values.iter().enumerate() {
-        if !part_passes(before, parts[place].role, *value) {
+    for (place, value) in statics.iter().enumerate() {
+        if !part_passes(parts[place].role, *value, values) {
             return false;
         }
-        before = *value;
     }
     true
 }
@@ -149,10 +163,10 @@ pub fn specialize(
         let fault = value_fault(alloc, node, values, place)?;
         return Err(StaticError::Value(fault));
     };
-    if are_in_range(&node.statics, &statics) && are_narrow(&node.variables, &statics) {
+    if are_in_range(&node.statics, &statics, values) && are_narrow(&node.variables, &statics) {
         Ok(statics)
     } else {
-        let fault = range_fault(alloc, node, &statics, place)?;
+        let fault = range_fault(alloc, node, &statics, values, place)?;
         Err(StaticError::Range(fault))
     }
 }

@@ -1,12 +1,39 @@
 -- A call with its callee and its static arguments.
-use Rattle.std.proofs.Common.{length, sym, subst}
+use Rattle.std.proofs.Common.{◌≡◌, true, ap, length, refl, sym, subst}
+use Rattle.std.specs.Prelude.{nat_lt}
 use Rattle.std.proofs.lemmas.List.{length-map}
 use Rattle.lb_syntax.specs.View.{view_static, view_statics}
 use Rattle.lb_static.specs.NodeNames.{program_in, IsCallee}
-use Rattle.lb_static.specs.NodeProgress.{program_of}
+use Rattle.lb_static.specs.NodeProgress.{callees, program_of}
 use Rattle.lb_static.specs.Progressed.{progress}
-use Rattle.lb_static.proofs.Resolutions.{call_resolved}
+use Rattle.lb_static.specs.ReachedNodes.{source_names}
+use Rattle.lb_static.specs.StaticParts.{arguments_of}
+use Rattle.lb_static.specs.declared.resolved.CallSite.{CallSite}
+use Rattle.lb_static.proofs.Resolutions.{call_resolved, site_placed}
 use Rattle.lb_static.proofs.resolving_parts.call.Goals as goal
+
+pub push_call-requires : goal.push_call-requires
+push_call-requires c =
+    let before = progress c.args.here.now in
+    let mid = progress c.all_statics.new.here in
+    let found = c.in_ok-first_argument.ensures in
+    let names : length (callees before) ≡ length (callees mid) =
+    ap (λ s. length (callees s)) (sym found.0) in
+    let callee : nat_lt c.in_ok-callee.callee.0 (length (callees before)) ≡ true =
+    subst (λ P. nat_lt c.in_ok-callee.callee.0 (length (source_names P)) ≡ true)
+    c.node_scope.ensures.source c.in_ok-callee.ensures.ok.1 in
+    let site : CallSite = record {
+      callee = c.in_ok-callee.callee;
+      offset = c.offset.result;
+      first_argument = c.in_ok-first_argument.first_argument;
+      arguments = c.in_ok-first_argument.arguments;
+      count = c.args.count;
+    } in
+    site_placed before mid (arguments_of (view_statics c.args.arguments.now))
+    (view_statics c.args.arguments.now)
+    (c.in_ok-first_argument.first_argument, c.in_ok-first_argument.arguments) site found.0 found.1
+    refl refl c.requires
+    (subst (λ n. nat_lt c.in_ok-callee.callee.0 n ≡ true) names callee)
 
 pub returns : goal.returns
 returns c =

@@ -20,4 +20,4 @@ returns c =
     same_two (λ P n. is_static_name P n x) _ _ _ _ (sym c.node_scope-2.ensures.source)
     (sym c.node_scope-2.ensures.node) ∙ sym c.is_static.ensures ∙ c.if-not-is_static.false in
     named_done s (progress c.push_static.new.self) x c.in_ok-push_static.field-0 other known
-    c.in_ok-push_static.ensures.after c.in_ok-push_static.ensures.id
+    c.in_ok-push_static.ensures.after c.in_ok-push_static.ensures.stands

@@ -1,26 +1,24 @@
 -- What stands for an expression whose parts are resolved, and which faults of parts are its own.
 use Rattle.std.proofs.Common.{◌≡◌, ℕ, ◌+◌, Bool, Ok, refl, Vec, Global, Option, None, Some, List}
-use Rattle.std.proofs.Common.{map, take, ap, sym, subst, ◌∙◌}
+use Rattle.std.proofs.Common.{map, take, ap, sym, subst, ◌∙◌, [], ◌∷◌}
 use Rattle.std.proofs.lemmas.Result.{err_from_is_err_and}
 use Rattle.std.specs.Prelude.{◌&&◌, Box, Err, IsErrAnd, Result, length, nat_lt}
 use Rattle.std.proofs.lemmas.Bool.{and_from as both, and_left as false_first}
 use Rattle.std.proofs.lemmas.Bool.{and_right as false_second}
 use Rattle.lb_syntax.specs.Tree as tree
 use Rattle.lb_syntax.specs.Tree.{Name}
-use Rattle.lb_syntax.specs.View.{view, view_operator, view_static}
+use Rattle.lb_syntax.specs.View.{view, view_operator, view_static, view_statics}
 use Rattle.lb_syntax.specs.declared.tree.Expr as source
 use Rattle.lb_syntax.specs.declared.tree.Expr.{Expr}
 use Rattle.lb_syntax.specs.declared.tree.ArrayIterator.{ArrayIterator}
 use Rattle.lb_syntax.specs.declared.tree.Operator.{Operator}
 use Rattle.lb_syntax.specs.declared.tree.Static.{Static}
-use Rattle.lb_static.specs.NodeProgress.{Progress, texts, grown}
+use Rattle.lb_static.specs.NodeProgress.{Progress, texts, grown, after_expr}
 use Rattle.lb_static.specs.NodeProgress.{expr_told, exprs_told, static_told}
 use Rattle.lb_static.specs.NodeProgress.{program_of, ResolvesCall, ResolvesTerm}
 use Rattle.lb_static.specs.ResolvedTerms.{expr_of, name_at, static_at}
-use Rattle.lb_static.specs.StaticParts.{Part}
+use Rattle.lb_static.specs.StaticParts.{Part, Size, Index, SliceStart, SliceEnd, arguments_of}
 use Rattle.lb_static.specs.declared.resolved.CallId.{CallId}
-use Rattle.lb_static.specs.declared.resolved.Role.TheVariants.{Size, SliceStart, SliceEnd}
-use Rattle.lb_static.specs.Instances.{Site}
 use Rattle.lb_static.specs.CountedNames.{Variables, counted}
 use Rattle.lb_static.specs.NameFaults.{IsNameFault, is_told}
 use Rattle.lb_static.specs.Names.{is_variable}
@@ -68,17 +66,20 @@ box_refused : (s : Progress) (f : StaticError) (e g : Expr) → e ≡ g
 box_refused s f e g same h = subst (λ x. IsNameFault f (expr_told f s (view x))) same h
 
 -- a fault that is found after more is resolved
-before_more : (before mid : Progress) (P : List Part) (C : List Site) (f : StaticError)
-    (e : tree.Expr)
-    → mid ≡ grown before P C → IsNameFault f (expr_told f mid e)
+after_one : (before mid : Progress) (d : tree.Expr) (f : StaticError) (e : tree.Expr)
+    → mid ≡ after_expr before d → IsNameFault f (expr_told f mid e)
     → IsNameFault f (expr_told f before e)
-before_more before mid P C f e is h = subst (λ s. IsNameFault f (expr_told f s e)) is h
+after_one before mid d f e is h = subst (λ s. IsNameFault f (expr_told f s e)) is h
 
-static_before : (before mid : Progress) (P : List Part) (C : List Site) (f : StaticError)
-    (x : tree.Static)
-    → mid ≡ grown before P C → IsNameFault f (static_told f mid x)
+after_part : (before mid : Progress) (p : Part) (f : StaticError) (e : tree.Expr)
+    → mid ≡ grown before (p ∷ []) [] → IsNameFault f (expr_told f mid e)
+    → IsNameFault f (expr_told f before e)
+after_part before mid p f e is h = subst (λ s. IsNameFault f (expr_told f s e)) is h
+
+static_after : (before mid : Progress) (p : Part) (f : StaticError) (x : tree.Static)
+    → mid ≡ grown before (p ∷ []) [] → IsNameFault f (static_told f mid x)
     → IsNameFault f (static_told f before x)
-static_before before mid P C f x is h = subst (λ s. IsNameFault f (static_told f s x)) is h
+static_after before mid p f x is h = subst (λ s. IsNameFault f (static_told f s x)) is h
 
 -- a fault in the size of an iteration
 sized_refused : (s : Progress) (f : StaticError) (it : ArrayIterator) (o : tree.Operator)
@@ -161,7 +162,7 @@ term-returns-in_err-first-in-If t c =
     let mid = progress c.boxed-in-If.new.here in
     let refused = box_refused mid f _ c.in-If.a.value c.deref-in-If-2.ensures
     c.in_err-first-in-If.ensures in
-    let earlier = before_more before mid _ _ f
+    let earlier = after_one before mid (view c.deref-in-If.result.now) f
     (view c.in-If.a.value) c.in_ok-condition-in-If.ensures.0 refused in
     exit_refused before _ c.args.e.now _ c.from_residual-in_err-first-in-If.result f c.in-If.is
     c.from_residual-in_err-first-in-If.ensures.1
@@ -229,7 +230,7 @@ term-returns-in_err-end-in-Slice t c =
     let before = progress c.args.here.now in
     let f = c.in_err-end-in-Slice.field-0.0 in
     let mid = progress c.one_static-in-Slice.new.here in
-    let earlier = static_before before mid _ _ f
+    let earlier = static_after before mid (SliceStart, view_static c.in-Slice.i) f
     (view_static c.in-Slice.j) c.in_ok-start-in-Slice.ensures.0 c.in_err-end-in-Slice.ensures in
     exit_refused before _ c.args.e.now _ c.from_residual-in_err-end-in-Slice.result f c.in-Slice.is
     c.from_residual-in_err-end-in-Slice.ensures.1
@@ -316,7 +317,7 @@ term-returns-in_ok-first-in-Binary t c =
       r.3,
     ))
     (λ f h. second_refused f (expr_told f before (view a)) _
-    (before_more before mid _ _ f (view b) d.0 h)) c.nested-in-Binary.ensures)
+    (after_one before mid (view a) f (view b) d.0 h)) c.nested-in-Binary.ensures)
 
 pub term-returns-in_ok-first-in-Arrow : goal.term-returns-in_ok-first-in-Arrow
 term-returns-in_ok-first-in-Arrow t c =
@@ -336,7 +337,7 @@ term-returns-in_ok-first-in-Arrow t c =
       r.3,
     ))
     (λ f h. second_refused f (expr_told f before (view a)) _
-    (before_more before mid _ _ f (view b) d.0 h)) c.nested-in-Arrow.ensures)
+    (after_one before mid (view a) f (view b) d.0 h)) c.nested-in-Arrow.ensures)
 
 pub term-returns-in_ok-first-in-Fby : goal.term-returns-in_ok-first-in-Fby
 term-returns-in_ok-first-in-Fby t c =
@@ -355,7 +356,7 @@ term-returns-in_ok-first-in-Fby t c =
       r.3,
     ))
     (λ f h. second_refused f (expr_told f before (view a)) _
-    (before_more before mid _ _ f (view b) d.0 h)) c.nested-in-Fby.ensures)
+    (after_one before mid (view a) f (view b) d.0 h)) c.nested-in-Fby.ensures)
 
 pub term-returns-in_ok-first-in-Join : goal.term-returns-in_ok-first-in-Join
 term-returns-in_ok-first-in-Join t c =
@@ -375,7 +376,7 @@ term-returns-in_ok-first-in-Join t c =
       r.3,
     ))
     (λ f h. second_refused f (expr_told f before (view a)) _
-    (before_more before mid _ _ f (view b) d.0 h)) c.nested-in-Join.ensures)
+    (after_one before mid (view a) f (view b) d.0 h)) c.nested-in-Join.ensures)
 
 pub term-returns-in_ok-first-in-If : goal.term-returns-in_ok-first-in-If
 term-returns-in_ok-first-in-If t c =
@@ -408,7 +409,8 @@ term-returns-in_ok-first-in-If t c =
     ))
     (λ f h. second_refused f (expr_told f before (view test)) _
     (second_refused f (expr_told f before (view a)) _
-    (before_more before mid _ _ f (view b) d.0 (before_more mid next _ _ f (view b) g.0 h))))
+    (after_one before mid (view test) f (view b) d.0
+    (after_one mid next (view a) f (view b) g.0 h))))
     c.nested-in-If.ensures)
 
 pub term-returns-in_ok-clock-in-When : goal.term-returns-in_ok-clock-in-When
@@ -452,7 +454,7 @@ term-returns-in_ok-size-in-Replicate t c =
     (λ b d. let r = static_done before mid after _ n (view a) id b.value s d in
     (r.0, (same_two tree.Replicate _ _ _ _ r.2.0 r.1.0, both _ _ r.1.1 r.2.1, r.2.2), r.3))
     (λ f h. second_refused f (static_told f before n) _
-    (before_more before mid _ _ f (view a) s.0 h))
+    (after_part before mid (Size, n) f (view a) s.0 h))
     c.nested-in-Replicate.ensures)
 
 pub term-returns-in_ok-index-in-Index : goal.term-returns-in_ok-index-in-Index
@@ -469,7 +471,7 @@ term-returns-in_ok-index-in-Index t c =
     (λ b d. let r = static_done before mid after _ n (view a) id b.value s d in
     (r.0, (same_two tree.Index _ _ _ _ r.2.0 r.1.0, both _ _ r.1.1 r.2.1, r.2.2), r.3))
     (λ f h. second_refused f (static_told f before n) _
-    (before_more before mid _ _ f (view a) s.0 h))
+    (after_part before mid (Index, n) f (view a) s.0 h))
     c.nested-in-Index.ensures)
 
 pub term-returns-in_ok-end-in-Slice : goal.term-returns-in_ok-end-in-Slice
@@ -488,8 +490,8 @@ term-returns-in_ok-end-in-Slice t c =
     rw c.in-Slice.is (nested_as before next after (outer.Slice start end) _ a
     (tree.Slice (view a) i j) c.nested-in-Slice.result c.deref-in-Slice.ensures
     (λ b d.
-    let q = static_done mid next after SliceEnd j (view a) end b.value p d in
-    let r = statics_done before mid after SliceStart SliceEnd i j (view a) start end b.value s q
+    let q = static_done mid next after (SliceEnd i) j (view a) end b.value p d in
+    let r = statics_done before mid after SliceStart (SliceEnd i) i j (view a) start end b.value s q
     in (
       r.0,
       (
@@ -502,7 +504,8 @@ term-returns-in_ok-end-in-Slice t c =
       r.4,
     ))
     (λ f h. second_refused f (static_told f before i) _ (second_refused f (static_told f before j) _
-    (before_more before mid _ _ f (view a) s.0 (before_more mid next _ _ f (view a) p.0 h))))
+    (after_part before mid (SliceStart, i) f (view a) s.0
+    (after_part mid next (SliceEnd i, j) f (view a) p.0 h))))
     c.nested-in-Slice.ensures)
 
 pub term-returns-in-Array : goal.term-returns-in-Array
@@ -562,7 +565,8 @@ term-returns-in_ok-site-in-Call t c =
     (view (source.Call f args es)) c.row-in-Call.result c.deref-in-Call-2.ensures.value
     (λ ts g. call_term_done before after es ts f args id
     (call_done before mid after (site_for f args.items None) (map view es.items) id ts d g))
-    (λ e h. fault_after_call before mid e f args es _ _ d.0 h) c.row-in-Call.ensures)
+    (λ e h. fault_after_call before mid e f args es (arguments_of (view_statics args.items))
+    (site_for f args.items None ∷ []) d.0 h) c.row-in-Call.ensures)
 
 pub term-returns-in_ok-site-in-Node : goal.term-returns-in_ok-site-in-Node
 term-returns-in_ok-site-in-Node t c =
@@ -591,7 +595,8 @@ term-returns-in_ok-site-in-Node t c =
     iterate_node_done before after es ts it o f args same n at id
     (sized_call_done before mid after Size (view_static n) x
     (map view es.items) c.in_ok-size-in-Iterate.size id ts.items size q))
-    (λ e h. fault_after_node before mid e it o f args same n es at _ _ size.0
+    (λ e h. fault_after_node before mid e it o f args same n es at
+    ((Size, view_static n) ∷ []) [] size.0
     (subst (λ k. IsNameFault e (exprs_told e k (map view es.items))) d.0 h)) c.row-in-Node.ensures)
 
 pub term-returns-in-Symbol : goal.term-returns-in-Symbol
@@ -613,7 +618,8 @@ term-returns-in-Symbol t c =
     c.deref-in-Symbol.ensures.value
     (λ ts g. iterate_symbol_done before after es ts it o op same n at id
     (size_done before mid after Size (view_static n) (map view es.items) id ts size g))
-    (λ e h. fault_after_symbol before mid e it o op same n es at _ _ size.0 h) c.row-in-Symbol.ensures)
+    (λ e h. fault_after_symbol before mid e it o op same n es at
+    ((Size, view_static n) ∷ []) [] size.0 h) c.row-in-Symbol.ensures)
 
 pub nested-returns-in-Group : goal.nested-returns-in-Group
 nested-returns-in-Group t c =

@@ -8,7 +8,7 @@ use Rattle.lb_syntax.specs.View.{view_statics}
 use Rattle.lb_static.specs.NameFaults.{IsNameFault}
 use Rattle.lb_static.specs.NodeProgress.{ResolvesStatics, statics_fit, statics_told, with_alike}
 use Rattle.lb_static.specs.Progressed.{progress}
-use Rattle.lb_static.specs.declared.resolved.Role.TheVariants.{Size}
+use Rattle.lb_static.specs.StaticParts.{Dimension}
 use Rattle.lb_static.proofs.NodeVariables.{clock_fault, sizes_fault, group_done, group_fits}
 use Rattle.lb_static.proofs.resolving_variables.resolve_group.Goals as goal
 
@@ -48,7 +48,7 @@ returns-clause-ok c =
     let long = c.args.group.now.names.ok.0 in
     let some : nat_eq (length g.names) 0 ≡ false =
     grind (arith, nat_tests, long, c.is_empty.ensures, c.if-is_empty.false) in
-    let found = subst (λ l. ResolvesStatics s mid Size (view_statics l) (Ok (first, count)))
+    let found = subst (λ l. ResolvesStatics s mid Dimension (view_statics l) (Ok (first, count)))
     c.deref.ensures.value c.in_ok-first_size.ensures in
     on_ok_weaker c.push_variables.result
     (λ d. group_done s mid after g first count clock some found.0 found.1

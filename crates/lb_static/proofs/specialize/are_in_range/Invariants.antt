@@ -1,8 +1,9 @@
-use Rattle.std.proofs.Common.{◌≡◌, drop, pos}
-use Rattle.lb_static.specs.Specialized.{in_range_after}
+use Rattle.std.proofs.Common.{◌≡◌, drop}
+use Rattle.lb_static.specs.Specialized.{are_in_range, given_by}
 use Rattle.lb_static.proofs.specialize.are_in_range.Given as goal
 
 abbrev pub invariant-loop-place : goal.invariant-loop-place
 invariant-loop-place l =
-    in_range_after l.before (drop l.place l.parts) (drop l.place l.values)
-    ≡ in_range_after (pos 0) l.parts l.values
+    let given = given_by l.values in
+    are_in_range given (drop l.place l.parts) (drop l.place l.statics)
+    ≡ are_in_range given l.parts l.statics

@@ -5,5 +5,5 @@ use Rattle.lb_static.proofs.node_builder.NodeBuilder.push_call.Goals as goal
 pub returns-clause-after : goal.returns-clause-after
 returns-clause-after c =
     let here = c.args.self.now in
-    grown_call here.node_scope here.statics.items here.calls.items c.push.new.self.items
+    grown_call here.node_scope here.statics.parts.items here.calls.items c.push.new.self.items
     here.variables.items c.args.site c.in_ok-push.ensures.items

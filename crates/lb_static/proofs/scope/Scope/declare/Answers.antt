@@ -1,5 +1,5 @@
 -- A name that is found stays where it is; one that is new goes last, and its place into the map.
-use Rattle.std.proofs.Common.{◌≡◌, ◌∙◌, ◌++◌, ◌∷◌, [], ℕ, Bool, true, false, cond, map, ap, sym, refl}
+use Rattle.std.proofs.Common.{◌≡◌, ◌∙◌, ◌++◌, ◌∷◌, [], ℕ, true, false, map, ap, sym, refl}
 use Rattle.std.proofs.Common.{Option, Some, None, arith, length, string_bytes}
 use Rattle.std.specs.Borrow.{Bor}
 use Rattle.std.specs.Prelude.{is_some, not, option_copied, if◌then◌else◌}

@@ -1,0 +1,123 @@
+//! The static expressions of a node, in order.
+//!
+//! What stands in expressions for the same is kept once: a node is specialized as often as it is
+//! called with other values, and each specialization has a value of each static expression that is
+//! kept. The sizes of a declaration, and the static arguments of a call, stand one after another,
+//! so each of them is kept.
+//!
+//! ```text
+//! a ^ n ^ n, b[0], c[0], d[n - 1]      kept: n, a size; 0, an index; n - 1, an index
+//! ```
+
+ghost use Rattle.std.specs.Prelude.{◌≡◌, ◌++◌, ◌∷◌, [], length, map, OnOk, OnErr, IfOk, Some, None};
+ghost use Rattle.std.specs.Prelude.{string_bytes};
+ghost use Rattle.lb_static.specs.PartKeys.{key_of, has_key};
+ghost use Rattle.lb_static.specs.StaticParts.{part_of};
+ghost use Rattle.lb_static.specs.SharedParts.{is_held_at, place_of, with_static, first_with};
+ghost use Rattle.lb_static.specs.SharedParts.{ArePartsPlaced, HasNoNewKey};
+
+use crate::part_keys::{is_same_part, key_of};
+use crate::resolved::{StaticId, StaticPart};
+use std::alloc::{AllocError, Global};
+use std::collections::BTreeMap;
+
+/// The static expressions of a node so far, in order.
+#[derive(Drop)]
+pub struct StaticParts<'s> {
+    parts: Vec<StaticPart<'s>>,
+    /// The first place of each key.
+    places: BTreeMap<String, usize>,
+    ghost placed: { ArePartsPlaced (map part_of parts.items) places },
+}
+
+impl<'s> StaticParts<'s> {
+    /// None yet.
+    pub fn new(alloc: Global) -> StaticParts<'s>
+        ensures { result.parts.items ≡ [] }
+    {
+        StaticParts {
+            parts: Vec::new(alloc),
+            places: BTreeMap::new(alloc),
+        }
+    }
+
+    /// How many there are.
+    pub fn len(&self) -> usize
+        ensures { result ≡ length self.now.parts.items }
+    {
+        self.parts.len()
+    }
+
+    /// Whether a static expression that stands for the same as this one is kept at a place.
+    fn is_held_at(&self, place: usize, part: StaticPart<'s>) -> bool
+        ensures { result
+            ≡ is_held_at (map part_of self.now.parts.items) (part_of part.entry) place }
+    {
+        match self.parts.get(place) {
+            Some(found) => is_same_part(*found, part),
+            None => false,
+        }
+    }
+
+    /// One more at the end, which is found by no key that none before it has.
+    fn append(&mut self, part: StaticPart<'s>) -> Result<StaticId, AllocError>
+        requires { HasNoNewKey (map part_of self.old.parts.items) (part_of part) }
+        ensures after { OnOk result
+            (self.new.parts.items ≡ self.old.parts.items ++ part.entry ∷ []) }
+        ensures place { IfOk result (λ id. id.0 ≡ length self.old.parts.items) }
+        ensures err { OnErr result (self.new.parts.items ≡ self.old.parts.items) }
+    {
+        let place = self.parts.len();
+        self.parts.push(part)?;
+        Ok(StaticId(place))
+    }
+
+    /// One more at the end, which is found by a key that none before it has.
+    fn add(&mut self, key: String, part: StaticPart<'s>) -> Result<StaticId, AllocError>
+        requires key { key_of (part_of part) ≡ Some (string_bytes key) }
+        requires fresh { first_with (has_key (string_bytes key)) (map part_of self.old.parts.items)
+            ≡ None }
+        ensures after { OnOk result
+            (self.new.parts.items ≡ self.old.parts.items ++ part.entry ∷ []) }
+        ensures place { IfOk result (λ id. id.0 ≡ length self.old.parts.items) }
+        ensures err { OnErr result (self.new.parts.items ≡ self.old.parts.items) }
+    {
+        let place = self.parts.len();
+        self.parts.push(part)?;
+        let Ok(_) = self.places.insert(key, place) else {
+            self.parts.pop();
+            return Err(AllocError);
+        };
+        Ok(StaticId(place))
+    }
+
+    /// The place of a static expression: where one that stands for the same is kept, or else behind
+    /// the others. Where memory is refused they stay as they were.
+    pub fn push(&mut self, alloc: Global, part: StaticPart<'s>) -> Result<StaticId, AllocError>
+        ensures after { IfOk result (λ _.
+            self.new.parts.items ≡ with_static self.old.parts.items part.entry) }
+        ensures place { IfOk result (λ id.
+            id.0 ≡ place_of (map part_of self.old.parts.items) (part_of part.entry)) }
+        ensures err { OnErr result (self.new.parts.items ≡ self.old.parts.items) }
+    {
+        let Some(key) = key_of(alloc, part)? else {
+            return self.append(part);
+        };
+        match self.places.get(key.as_str()).copied() {
+            Some(place) if self.is_held_at(place, part) => Ok(StaticId(place)),
+            Some(_) => self.append(part),
+            None => self.add(key, part),
+        }
+    }
+
+    /// The static expressions, in their order.
+    pub fn into_vec(self) -> Vec<StaticPart<'s>>
+        ensures { result.items ≡ self.entry.parts.items }
+    {
+        let StaticParts {
+            parts,
+            places: _places,
+        } = self;
+        parts
+    }
+}
