@@ -8,10 +8,8 @@ use Rattle.std.proofs.lemmas.Bool.{eqb-true, and_from}
 use Rattle.std.proofs.lemmas.Option.{same_Some}
 use Rattle.std.proofs.Math.Bool.{and-false}
 use Rattle.lb_syntax.specs.Lists.{Every, In, listed}
-use Rattle.lb_syntax.specs.Tree.{Node_named, Symbol, Expr, Literal, Truth, Variable, Group}
-use Rattle.lb_syntax.specs.Tree.{Unary, Binary, If, Arrow, Fby, Pre, Current, When, Replicate}
-use Rattle.lb_syntax.specs.Tree.{Index, Slice, Join, Array, AtMostOne, Nor, Call, Iterate, Node}
-use Rattle.lb_syntax.specs.Tree.{Statement, Equation, Assertion}
+use Rattle.lb_syntax.specs.Tree.{Node_named, Symbol, Expr, Group, Iterate, Node, Statement}
+use Rattle.lb_syntax.specs.Tree.{Equation, Assertion}
 use Rattle.lb_syntax.proofs.SameNames.{same_number}
 use Rattle.lb_syntax.proofs.TruthValues.{and_first, and_second}
 use Rattle.lb_static.specs.Instances.{Program, sites, statement_sites}
@@ -53,28 +51,10 @@ module _ (P : Program) (here : Node) where
   -- an expression is the first of its occurrences
   pub leads : (k : Clock) (n : ℕ) (e : Expr) →
       In (at k n (ungrouped e)) (occurrences P here k n e)
-  leads k n (Literal m) = inl refl
-  leads k n (Truth b) = inl refl
-  leads k n (Variable x) = inl refl
   leads k n (Group a) = leads k n a
-  leads k n (Unary op a) = inl refl
-  leads k n (Binary op a b) = inl refl
-  leads k n (If c a b) = inl refl
-  leads k n (Arrow a b) = inl refl
-  leads k n (Fby a b) = inl refl
-  leads k n (Pre a) = inl refl
-  leads k n (Current a) = inl refl
-  leads k n (When a x sign) = inl refl
-  leads k n (Replicate a m) = inl refl
-  leads k n (Index a i) = inl refl
-  leads k n (Slice a i j) = inl refl
-  leads k n (Join a b) = inl refl
-  leads k n (Array es) = inl refl
-  leads k n (AtMostOne es) = inl refl
-  leads k n (Nor es) = inl refl
-  leads k n (Call f statics es) = inl refl
   leads k n (Iterate it (Node_named f statics) m es) = inl refl
   leads k n (Iterate it (Symbol op) m es) = inl refl
+  leads k n e = inl refl
 
   -- ## The call of a number
 

@@ -55,15 +55,15 @@ same_test : {A : Type 0} (b : Bool) (x y : A) → where_true b x ≡ None → wh
 same_test true x y e = absurd cc
 same_test false x y e = refl
 
-abbrev so_many : ℕ → DataType → DataType
-so_many n t = record { kind = t.kind; sizes = n ∷ t.sizes }
+abbrev with_length : ℕ → DataType → DataType
+with_length n t = record { kind = t.kind; sizes = n ∷ t.sizes }
 
--- an array of so many has no type, whatever its elements are
+-- an array of this length has no type, whatever its elements are
 none_so_long : (n : ℕ) (t : DataType) → array_of n t ≡ None → (o : Option DataType) →
     arrays n o ≡ None
 none_so_long n t e None = refl
 none_so_long n t e (Some u) =
-    same_test (nat_le 1 n && nat_le n 4096) (so_many n t) (so_many n u) e
+    same_test (nat_le 1 n && nat_le n 4096) (with_length n t) (with_length n u) e
 
 list_none : (n k : ℕ) (os : Types) → k < length os →
     is_some (arrays n (common (drop k os))) ≡ false → arrays n (common os) ≡ None

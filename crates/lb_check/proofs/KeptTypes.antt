@@ -1,16 +1,13 @@
 -- What is kept of the types of terms gives the type of each.
-use Rattle.std.proofs.Common.{◌≡◌, ◌≢◌, ℕ, zero, suc, ◌+◌, ◌-◌, ◌<◌, ◌≤◌, min}
-use Rattle.std.proofs.Common.{Option, Vec, Global, Some, None, List, [], ◌∷◌, ◌++◌, map, flat_map}
-use Rattle.std.proofs.Common.{take, drop}
-use Rattle.std.proofs.Common.{length, get_or, reverse, refl, ap, ap₂, sym, ◌∙◌, subst, arith}
-use Rattle.std.specs.Prelude.{option_map, slice_get, sum_by}
+use Rattle.std.proofs.Common.{◌≡◌, ℕ, zero, suc, ◌+◌, ◌-◌, ◌<◌, ◌≤◌, min, Some, None, List, [], ◌∷◌}
+use Rattle.std.proofs.Common.{◌++◌, map, flat_map, take, drop, length, get_or, reverse, refl, ap}
+use Rattle.std.proofs.Common.{ap₂, sym, ◌∙◌, subst, arith}
+use Rattle.std.specs.Prelude.{slice_get, sum_by}
 use Rattle.std.proofs.lemmas.List.{append_assoc, append-nil, length-append, reverse-append}
-use Rattle.std.proofs.lemmas.List.{reverse-reverse}
 use Rattle.std.proofs.lemmas.List.Sums.{sum_by-cons, sum_by-take-le, sum_by_more}
 use Rattle.lb_syntax.specs.Lists.{◌>>=◌, either_or, listed, tail_of}
 use Rattle.lb_syntax.specs.Tree.{Expr}
 use Rattle.lb_syntax.specs.declared.tree.Kind.{Kind}
-use Rattle.lb_syntax.specs.declared.tree.Kind.TheVariants.{Int as Int_kind}
 use Rattle.lb_static.specs.DataTypes.{DataType, int, product}
 use Rattle.lb_static.specs.Instances.{Program, Instance}
 use Rattle.lb_static.specs.Parts.{node_parts}

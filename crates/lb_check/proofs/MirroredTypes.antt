@@ -1,7 +1,7 @@
 -- The types that the code finds for a term are those of the expression that it stands for.
 use Rattle.std.proofs.Common.{◌≡◌, ℕ, Bool, true, false, List, [], ◌∷◌, Option, Some, None, refl}
 use Rattle.std.proofs.Common.{ap, sym, ◌∙◌}
-use Rattle.std.specs.Prelude.{◌&&◌, pos}
+use Rattle.std.specs.Prelude.{◌&&◌}
 use Rattle.lb_syntax.specs.Lists.{◌>>=◌, where_true, either_or}
 use Rattle.lb_syntax.specs.Tree.{Whole, Node_named}
 use Rattle.lb_syntax.proofs.TruthValues.{and_first, and_second}
@@ -17,41 +17,12 @@ use Rattle.lb_static.specs.ResolvedTerms.{static_at, site_at, is_variable, is_st
 use Rattle.lb_static.specs.ResolvedTerms.{is_no_variable, is_within, are_within, is_unhidden}
 use Rattle.lb_static.specs.ResolvedTerms.{are_unhidden}
 use Rattle.lb_static.specs.DataTypes.{DataType, truth, is_type}
-use Rattle.lb_check.specs.Types.{data_types, all_types, name_data_type, operator_types}
-use Rattle.lb_check.specs.Types.{constant_type, unary_type, binary_type, common_type, array_of}
-use Rattle.lb_check.specs.Types.{index_type, slice_type, join_type, list_type, symbol_types}
-use Rattle.lb_check.specs.Types.{iterator_types}
-use Rattle.lb_check.specs.Types.{from_one, from_two, from_truths, singly, only}
+use Rattle.lb_check.specs.Types.{data_types, all_types, name_data_type, operator_types, unary_type}
+use Rattle.lb_check.specs.Types.{binary_type, common_type, array_of, index_type, slice_type}
+use Rattle.lb_check.specs.Types.{join_type, list_type, symbol_types, iterator_types, from_one}
+use Rattle.lb_check.specs.Types.{from_two, from_truths, singly, only}
 use Rattle.lb_check.specs.TermTypes.{Context, type_of, types_in, results, when_both, when_truth}
-use Rattle.lb_check.proofs.OneType.{only_singly}
-
--- ## One type of several
-
-pub results_only : (ctx : Context) (t : Term) → (results ctx t >>= only) ≡ type_of ctx t
-unfolding type_of results
-results_only ctx (Literal n) = only_singly (constant_type (Some (pos n)))
-results_only ctx (Truth b) = refl
-results_only ctx (Variable x) = only_singly (ctx.variable x)
-results_only ctx (Value i) = only_singly (ctx.constant i)
-results_only ctx (Group' p e) = results_only ctx e
-results_only ctx (Unary' op p a) = only_singly (type_of ctx (Unary' op p a))
-results_only ctx (Binary' op p a q b) = only_singly (type_of ctx (Binary' op p a q b))
-results_only ctx (If' p c q a r b) = only_singly (type_of ctx (If' p c q a r b))
-results_only ctx (Arrow' p a q b) = only_singly (type_of ctx (Arrow' p a q b))
-results_only ctx (Fby' p a q b) = only_singly (type_of ctx (Fby' p a q b))
-results_only ctx (Pre' p e) = only_singly (type_of ctx (Pre' p e))
-results_only ctx (Current' p e) = only_singly (type_of ctx (Current' p e))
-results_only ctx (When' p e x sign) = only_singly (type_of ctx (When' p e x sign))
-results_only ctx (Replicate' p e n) = only_singly (type_of ctx (Replicate' p e n))
-results_only ctx (Index' p e i) = only_singly (type_of ctx (Index' p e i))
-results_only ctx (Slice' p e i j) = only_singly (type_of ctx (Slice' p e i j))
-results_only ctx (Join' p a q b) = only_singly (type_of ctx (Join' p a q b))
-results_only ctx (Array' arity all) = refl
-results_only ctx (AtMostOne' arity all) = refl
-results_only ctx (Nor' arity all) = refl
-results_only ctx (Call' c arity all) = refl
-results_only ctx (IterateNode' it c arity all) = refl
-results_only ctx (IterateSymbol' it op n arity all) = refl
+use Rattle.lb_check.proofs.OneType.{type_is_only}
 
 -- ## What operands give
 
@@ -173,7 +144,7 @@ module _ (P : Program) (here : Instance) (texts : Texts) (n : Counts) (ctx : Con
   typed t = data_types P here (expr_of texts t)
 
   one : (t : Term) → typed t ≡ results ctx t → (typed t >>= only) ≡ type_of ctx t
-  one t e = ap (λ o. o >>= only) e ∙ results_only ctx t
+  one t e = ap (λ o. o >>= only) e ∙ sym (type_is_only ctx t)
 
   two : (a b : Term) (f : DataType → DataType → Option DataType) → typed a ≡ results ctx a →
       typed b ≡ results ctx b

@@ -1,5 +1,5 @@
 -- The rules of definitions of a node with resolved names are what the code finds.
-use Rattle.std.proofs.Common.{length-append, ◌≡◌, ℕ, zero, ◌+◌, ◌-◌, ◌<◌, ◌≤◌, Bool, true, false}
+use Rattle.std.proofs.Common.{length-append, ◌≡◌, ℕ, ◌+◌, ◌-◌, ◌<◌, ◌≤◌, Bool, true, false}
 use Rattle.std.proofs.Common.{cond, List, [], ◌∷◌, ◌++◌, length, map, Option, Some, None, refl, ap}
 use Rattle.std.proofs.Common.{sym, ◌∙◌, subst, arith}
 use Rattle.std.specs.Prelude.{◌&&◌, ◌||◌, not, nat_lt, nat_eq, option_map, slice_get, flat_map}
@@ -25,12 +25,11 @@ use Rattle.lb_static.specs.declared.resolved.ResolvedNode.{ResolvedNode}
 use Rattle.lb_static.specs.declared.resolved.VariableId.{VariableId}
 use Rattle.lb_static.specs.declared.resolved.ResolvedStatement.{ResolvedStatement}
 use Rattle.lb_static.specs.declared.resolved.ResolvedStatement.TheVariants as statement
-use Rattle.lb_static.specs.declared.resolved.Term.{Term, Literal, Truth, Variable, Value, Group'}
-use Rattle.lb_static.specs.declared.resolved.Term.{Unary', Binary', If', Arrow', Fby', Pre'}
-use Rattle.lb_static.specs.declared.resolved.Term.{Current', When', Replicate', Index', Slice'}
-use Rattle.lb_static.specs.declared.resolved.Term.{Join', Array', AtMostOne', Nor', Call'}
-use Rattle.lb_static.specs.declared.resolved.Term.{IterateNode', IterateSymbol', Row_of-Term}
-use Rattle.lb_static.specs.declared.resolved.Term.{end_of-Term, more_of-Term}
+use Rattle.lb_static.specs.declared.resolved.Term.{Term, Value, Group', Unary', Binary'}
+use Rattle.lb_static.specs.declared.resolved.Term.{If', When', Replicate', Index', Slice', Join'}
+use Rattle.lb_static.specs.declared.resolved.Term.{Array', AtMostOne', Nor', Call', IterateNode'}
+use Rattle.lb_static.specs.declared.resolved.Term.{IterateSymbol', Row_of-Term, end_of-Term}
+use Rattle.lb_static.specs.declared.resolved.Term.{more_of-Term}
 use Rattle.lb_static.specs.Instances.{Program, node_sites}
 use Rattle.lb_static.specs.Names.{are_distinct, keeps_names}
 use Rattle.lb_static.specs.Parts.{left_names, node_parts, parts, parts_in, right_side}
@@ -242,9 +241,6 @@ module _ (P : Program) (r : Reached) (names : keeps_names P ≡ true) (reached :
 
     term_memoryless : (e : Term) → is_within (counts_of n) e ≡ true →
         memoryless (parts_of e) ≡ mirror.is_memoryless r n e
-    term_memoryless (Literal m) w = refl
-    term_memoryless (Truth b) w = refl
-    term_memoryless (Variable x) w = refl
     term_memoryless (Value i) w = value_memoryless (static_at t.statics i)
     term_memoryless (Group' p e) w = term_memoryless e w
     term_memoryless (Unary' op p a) w = term_memoryless a w
@@ -261,10 +257,6 @@ module _ (P : Program) (r : Reached) (names : keeps_names P ≡ true) (reached :
         (and_first _ (is_within (counts_of n) b) (and_second (is_within (counts_of n) c) _ w)))
         (term_memoryless b
         (and_second (is_within (counts_of n) a) _ (and_second (is_within (counts_of n) c) _ w))))
-    term_memoryless (Arrow' p a q b) w = refl
-    term_memoryless (Fby' p a q b) w = refl
-    term_memoryless (Pre' p e) w = refl
-    term_memoryless (Current' p e) w = refl
     term_memoryless (When' p e x sign) w =
         term_memoryless e (and_second (is_variable (counts_of n) x) _ w)
     term_memoryless (Replicate' p e i) w =
@@ -289,6 +281,7 @@ module _ (P : Program) (r : Reached) (names : keeps_names P ≡ true) (reached :
         (row_memoryless all (and_second (is_call (counts_of n) c) _ w))
     term_memoryless (IterateSymbol' it op i arity all) w =
         row_memoryless all (and_second (is_static (counts_of n) i) _ w)
+    term_memoryless e w = refl
 
     row_memoryless : {m : _} (row : Row_of-Term m) → are_within (counts_of n) row ≡ true →
         memoryless (row_parts row) ≡ mirror.is_row_memoryless r n row

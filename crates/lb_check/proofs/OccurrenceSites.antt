@@ -34,28 +34,9 @@ own_site (Iterate it (Node_named f statics) m es) =
 own_site e = None
 
 pub site_test : (e : Expr) → is_site e ≡ is_some (own_site e)
-site_test (Literal m) = refl
-site_test (Truth b) = refl
-site_test (Variable x) = refl
-site_test (Group a) = refl
-site_test (Unary op a) = refl
-site_test (Binary op a b) = refl
-site_test (If c a b) = refl
-site_test (Arrow a b) = refl
-site_test (Fby a b) = refl
-site_test (Pre a) = refl
-site_test (Current a) = refl
-site_test (When a x sign) = refl
-site_test (Replicate a m) = refl
-site_test (Index a i) = refl
-site_test (Slice a i j) = refl
-site_test (Join a b) = refl
-site_test (Array es) = refl
-site_test (AtMostOne es) = refl
-site_test (Nor es) = refl
-site_test (Call f statics es) = refl
 site_test (Iterate it (Node_named f statics) m es) = refl
 site_test (Iterate it (Symbol op) m es) = refl
+site_test e = refl
 
 pub site_of_call : (e : Expr) → is_site e ≡ true → (s : Site) × (own_site e ≡ Some s)
 site_of_call e is = by (own_site e) (sym (site_test e) ∙ is)

@@ -5,21 +5,16 @@ use Rattle.std.proofs.Common.{None, inl, Vec, Global, refl, ap, sym, ◌∙◌}
 use Rattle.std.specs.Prelude.{option_map}
 use Rattle.std.proofs.Math.Bool.{and-true, and-false}
 use Rattle.lb_syntax.specs.Lists.{◌>>=◌, all_some}
-use Rattle.lb_static.specs.declared.resolved.Term.{Term, Array, Literal, Value, Truth}
-use Rattle.lb_static.specs.declared.resolved.Term.{Variable, Group'}
-use Rattle.lb_static.specs.declared.resolved.Term.{Unary', Binary', If', Arrow', Fby', Pre'}
-use Rattle.lb_static.specs.declared.resolved.Term.{Current', When', Replicate', Index', Slice'}
-use Rattle.lb_static.specs.declared.resolved.Term.{Join', Array', AtMostOne', Nor', Call'}
-use Rattle.lb_static.specs.declared.resolved.Term.{IterateNode', IterateSymbol'}
+use Rattle.lb_static.specs.declared.resolved.Term.{Term, Array, Group', Array', AtMostOne', Nor'}
+use Rattle.lb_static.specs.declared.resolved.Term.{Call', IterateNode', IterateSymbol'}
 use Rattle.lb_static.specs.DataTypes.{DataType, is_type}
 use Rattle.lb_check.specs.Types.{list_type, only, singly}
 use Rattle.lb_check.specs.TermSignatures.{are_one}
-use Rattle.lb_check.specs.TermTypes.{Context, type_of, types_of, results, row_results}
-use Rattle.lb_check.specs.TermTypes.{are_equal}
+use Rattle.lb_check.specs.TermTypes.{Context, type_of, types_of, results, row_results, are_equal}
 use Rattle.lb_check.proofs.TypeRows.{results_of_row}
 
 -- the one type of one type
-pub only_singly : (o : Option DataType) → (singly o >>= only) ≡ o
+only_singly : (o : Option DataType) → (singly o >>= only) ≡ o
 only_singly (Some t) = refl
 only_singly None = refl
 
@@ -33,22 +28,7 @@ type_is_only ctx (Nor' arity all) = refl
 type_is_only ctx (Call' c arity all) = refl
 type_is_only ctx (IterateNode' it c arity all) = refl
 type_is_only ctx (IterateSymbol' it op n arity all) = refl
-type_is_only ctx (Literal n) = sym (only_singly (type_of ctx (Literal n)))
-type_is_only ctx (Value i) = sym (only_singly (type_of ctx (Value i)))
-type_is_only ctx (Truth b) = sym (only_singly (type_of ctx (Truth b)))
-type_is_only ctx (Variable x) = sym (only_singly (type_of ctx (Variable x)))
-type_is_only ctx (Unary' op p a) = sym (only_singly (type_of ctx (Unary' op p a)))
-type_is_only ctx (Binary' op p a q b) = sym (only_singly (type_of ctx (Binary' op p a q b)))
-type_is_only ctx (If' p c q a r b) = sym (only_singly (type_of ctx (If' p c q a r b)))
-type_is_only ctx (Arrow' p a q b) = sym (only_singly (type_of ctx (Arrow' p a q b)))
-type_is_only ctx (Fby' p a q b) = sym (only_singly (type_of ctx (Fby' p a q b)))
-type_is_only ctx (Pre' p e) = sym (only_singly (type_of ctx (Pre' p e)))
-type_is_only ctx (Current' p e) = sym (only_singly (type_of ctx (Current' p e)))
-type_is_only ctx (When' p e x sign) = sym (only_singly (type_of ctx (When' p e x sign)))
-type_is_only ctx (Replicate' p e n) = sym (only_singly (type_of ctx (Replicate' p e n)))
-type_is_only ctx (Index' p e i) = sym (only_singly (type_of ctx (Index' p e i)))
-type_is_only ctx (Slice' p e i j) = sym (only_singly (type_of ctx (Slice' p e i j)))
-type_is_only ctx (Join' p a q b) = sym (only_singly (type_of ctx (Join' p a q b)))
+type_is_only ctx t = sym (only_singly (type_of ctx t))
 
 -- the results of an array, and its type, from the types of its elements
 pub list_results : (ctx : Context) (t : Term) (es : Vec Term Global) → t ≡ Array es →

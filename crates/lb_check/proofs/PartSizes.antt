@@ -18,7 +18,7 @@ use Rattle.lb_check.proofs.SignatureRows.{drop_at}
 
 -- ## A row
 
--- how many elements there are, with so many before them
+-- how many elements there are, with those before them
 abbrev pub counted_from : ℕ → Option (List DataType) → ℕ
 counted_from n None = 0
 counted_from n (Some ts) = min (n + total ts) 65537

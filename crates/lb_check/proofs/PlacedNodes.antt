@@ -1,8 +1,7 @@
 -- What the code finds of the terms of a node, clock by clock and call by call, is what the
 -- occurrences in its text say.
 use Rattle.std.proofs.Common.{◌≡◌, ℕ, ◌+◌, ◌<◌, ◌≤◌, Bool, true, false, List, [], ◌∷◌, ◌++◌, length}
-use Rattle.std.proofs.Common.{map, flat_map, Option, Some, None, refl, ap, ap₂, sym}
-use Rattle.std.proofs.Common.{◌∙◌, subst}
+use Rattle.std.proofs.Common.{map, flat_map, Option, Some, None, refl, ap, ap₂, sym, ◌∙◌, subst}
 use Rattle.std.specs.Prelude.{◌&&◌, cond, nat_eq}
 use Rattle.std.specs.List.{list_all, zip}
 use Rattle.std.proofs.lemmas.List.Folds.{list_all-append}
@@ -23,12 +22,8 @@ use Rattle.lb_static.specs.declared.resolved.CallId.{CallId}
 use Rattle.lb_static.specs.declared.resolved.ResolvedNode.{ResolvedNode}
 use Rattle.lb_static.specs.declared.resolved.ResolvedStatement.{ResolvedStatement}
 use Rattle.lb_static.specs.declared.resolved.ResolvedStatement.TheVariants as statement
-use Rattle.lb_static.specs.declared.resolved.Term.{Term, Literal, Truth, Variable, Value, Group'}
-use Rattle.lb_static.specs.declared.resolved.Term.{Unary', Binary', If', Arrow', Fby', Pre'}
-use Rattle.lb_static.specs.declared.resolved.Term.{Current', When', Replicate', Index', Slice'}
-use Rattle.lb_static.specs.declared.resolved.Term.{Join', Array', AtMostOne', Nor', Call'}
-use Rattle.lb_static.specs.declared.resolved.Term.{IterateNode', IterateSymbol', Row_of-Term}
-use Rattle.lb_static.specs.declared.resolved.Term.{items-the_row-Term}
+use Rattle.lb_static.specs.declared.resolved.Term.{Term, Value, Group', Call', IterateNode'}
+use Rattle.lb_static.specs.declared.resolved.Term.{Row_of-Term, items-the_row-Term}
 use Rattle.lb_static.specs.declared.resolved.VariableId.{VariableId}
 use Rattle.lb_check.specs.Clocks.{base_clock, clock_of, clock_or, declared_clock, given_inputs}
 use Rattle.lb_check.specs.Clocks.{outer, ungrouped}
@@ -114,8 +109,8 @@ module _ (P : Program) (r : Reached) (here : ResolvedNode) (sees : SeesClocks P 
       tree.Call (site_at (texts_of here).calls c).callee (site_at (texts_of here).calls c).arguments
       (row_of (texts_of here) row)
 
-  -- the clocks of the arguments of a call that is a whole right side
-  call_placed :
+  -- what is found of a call that is a whole right side, and the clocks of its arguments
+  call_found :
       (lefts : List VariableId) → list_all (is_variable (counts_of here)) lefts ≡ true →
       (n : ℕ) (c : CallId) {m : Count} (row : Row_of-Term m) →
       is_call (counts_of here) c ≡ true → are_within (counts_of here) row ≡ true →
@@ -123,11 +118,15 @@ module _ (P : Program) (r : Reached) (here : ResolvedNode) (sees : SeesClocks P 
       is_clocked_on P here (clock_in here (left_k lefts)) n (call_in c row) ≡ true →
       are_on_results P (node_of here) (clock_in here (left_k lefts)) (map (name_in here) lefts)
       (call_in c row) ≡ true →
-      text.call_clocks (clock_in here (left_k lefts))
+      IsCallOf P here (map (name_in here) lefts)
+      (at (clock_in here (left_k lefts)) n (call_in c row))
+      (side_call (context_of r here) lefts (operands_in (context_of r here) row)
+      ((context_of r here).callee c))
+      × (text.call_clocks (clock_in here (left_k lefts))
       (node_named P (site_at (texts_of here).calls c).callee) (row_of (texts_of here) row)
       ≡ map (clock_in here)
-      (side_clocks (context_of r here) lefts c (operands_in (context_of r here) row))
-  call_placed lefts wl n c {m = m} row wc w u singles kept results =
+      (side_clocks (context_of r here) lefts c (operands_in (context_of r here) row)))
+  call_found lefts wl n c {m = m} row wc w u singles kept results =
       let found = callee_found P r sees.names sees.reached sees.place here sees.at c wc in
       let callee = found.0 in
       let hc = sees.callees c callee found.1 in
@@ -159,84 +158,43 @@ module _ (P : Program) (r : Reached) (here : ResolvedNode) (sees : SeesClocks P 
       stand lefts wl n kept_there results_there in
       let os = operands_of ctx es in
       let b = either_or (result_base ctx callee os lefts) Base in
-      ap₂ (λ o es. text.call_clocks (clock_in here (left_k lefts)) o es) found.2 args
-      ∙ ap (λ z. text.call_clocks z (Some (node_of callee)) (exprs_of texts es)) (sym on_left)
-      ∙ ap (λ z. map (λ (d : tree.Declaration). outer z
-      (given_inputs (node_of callee).inputs (exprs_of texts es))
-      (declared_clock (node_of callee) d.name)) (node_of callee).inputs) base
-      ∙ arguments_placed P here callee sees.own hc ctx declares es wi ui stand
-      (stands_for callee.inputs os lefts)
-      (side.Y_in P here callee sees.own hc site found.2 ctx declares es wi ui stand lefts wl)
-      given b fits
-      ∙ sym (ap (λ (l : List Operand). map (clock_in here) (side_clocks ctx lefts c l))
-      (operands_items ctx m row)
-      ∙ ap (λ f. map (clock_in here) (listed (λ n. argument_clocks
-      (either_or (result_base ctx n os lefts) Base) (stands_for n.inputs os lefts) n) (f c))) calls
-      ∙ ap (λ o. map (clock_in here) (listed (λ n. argument_clocks
-      (either_or (result_base ctx n os lefts) Base) (stands_for n.inputs os lefts) n) o)) found.1)
-
-  call_found :
-      (lefts : List VariableId) → list_all (is_variable (counts_of here)) lefts ≡ true →
-      (n : ℕ) (c : CallId) {m : Count} (row : Row_of-Term m) →
-      is_call (counts_of here) c ≡ true → are_within (counts_of here) row ≡ true →
-      are_unhidden (texts_of here) row ≡ true → are_single r here row ≡ true →
-      is_clocked_on P here (clock_in here (left_k lefts)) n (call_in c row) ≡ true →
-      are_on_results P (node_of here) (clock_in here (left_k lefts)) (map (name_in here) lefts)
-      (call_in c row) ≡ true →
-      IsCallOf P here (map (name_in here) lefts)
-      (at (clock_in here (left_k lefts)) n (call_in c row))
-      (side_call (context_of r here) lefts (operands_in (context_of r here) row)
-      ((context_of r here).callee c))
-  call_found lefts wl n c {m = m} row wc w u singles kept results =
-      let found = callee_found P r sees.names sees.reached sees.place here sees.at c wc in
-      let callee = found.0 in
-      let hc = sees.callees c callee found.1 in
-      let site = site_at texts.calls c in
-      let es = items-the_row-Term m row in
-      let wi = within_items (counts_of here) m row ∙ w in
-      let ui = unhidden_items texts m row ∙ u in
-      let stand = row_stands P r here sees
-      (λ callee has. call_stands P here callee sees.own has) row w u singles in
-      let args = row_items texts m row in
-      let xs = map (name_in here) lefts in
-      let whole = tree.Call site.callee site.arguments (exprs_of texts es) in
-      let on_left = left_is lefts wl whole in
-      let same : call_in c row ≡ whole = ap (tree.Call site.callee site.arguments) args in
-      let kept_there : is_clocked_on P here
-      (statement_clock P (node_of here) (tree.Equation xs whole)) n whole ≡ true =
-      subst (λ k. is_clocked_on P here k n whole ≡ true) (sym on_left)
-      (subst (λ e. is_clocked_on P here (clock_in here (left_k lefts)) n e ≡ true) same kept) in
-      let results_there : are_on_results P (node_of here)
-      (statement_clock P (node_of here) (tree.Equation xs whole)) xs whole ≡ true =
-      subst (λ k. are_on_results P (node_of here) k xs whole ≡ true) (sym on_left)
-      (subst (λ e. are_on_results P (node_of here) (clock_in here (left_k lefts)) xs e ≡ true) same
-      results) in
-      let all_given = side.side_given P here callee sees.own hc site found.2 ctx declares es wi ui
-      stand lefts wl n kept_there results_there in
-      let base = side.side_base P here callee sees.own hc site found.2 ctx declares es wi ui stand
-      lefts wl n kept_there results_there in
-      let os = operands_of ctx es in
+      let clocks_of = λ (n : ResolvedNode). argument_clocks
+      (either_or (result_base ctx n os lefts) Base) (stands_for n.inputs os lefts) n in
       let found_call : side_call ctx lefts (operands_in ctx row) (ctx.callee c)
       ≡ side_call ctx lefts os (Some callee) =
-      ap₂ (side_call ctx lefts) (operands_items ctx m row) (ap (λ f. f c) calls ∙ found.1) in
-      subst (IsCallOf P here xs (at (clock_in here (left_k lefts)) n (call_in c row)))
-      (sym found_call)
-      (record {
-        runs =
-            ap (λ o. either_or
-            (o >>= λ callee. Some (base_clock (clock_in here (left_k lefts)) callee))
-            (clock_in here (left_k lefts))) found.2
-            ∙ ap (λ z. base_clock z (node_of callee)) (sym on_left) ∙ base;
-        given =
-            ap (λ o. listed (λ callee. given_parameters callee (row_of texts row) xs) o) found.2
-            ∙ ap (λ es. given_parameters (node_of callee) es xs) args
-            ∙ given_is callee hc here ctx es lefts all_given
-            ∙ sym (ap (λ o. listed (λ z. map (pair_names (variable_names z) here)
-            (given_variables callee os lefts)) o) found.2);
-        parameters =
-            ap (are_among (given_variables callee os lefts)) found.2
-            ∙ parameters_within callee hc os lefts;
-      })
+      ap₂ (side_call ctx lefts) (operands_items ctx m row) (ap (λ f. f c) calls ∙ found.1) in (
+        subst (IsCallOf P here xs (at (clock_in here (left_k lefts)) n (call_in c row)))
+            (sym found_call)
+            (record {
+              runs =
+                  ap (λ o. either_or
+                  (o >>= λ callee. Some (base_clock (clock_in here (left_k lefts)) callee))
+                  (clock_in here (left_k lefts))) found.2
+                  ∙ ap (λ z. base_clock z (node_of callee)) (sym on_left) ∙ base;
+              given =
+                  ap (listed (λ callee. given_parameters callee (row_of texts row) xs)) found.2
+                  ∙ ap (λ es. given_parameters (node_of callee) es xs) args
+                  ∙ given_is callee hc here ctx es lefts given
+                  ∙ sym (ap (λ o. listed (λ z. map (pair_names (variable_names z) here)
+                  (given_variables callee os lefts)) o) found.2);
+              parameters =
+                  ap (are_among (given_variables callee os lefts)) found.2
+                  ∙ parameters_within callee hc os lefts;
+            }),
+        ap₂ (λ o es. text.call_clocks (clock_in here (left_k lefts)) o es) found.2 args
+            ∙ ap (λ z. text.call_clocks z (Some (node_of callee)) (exprs_of texts es)) (sym on_left)
+            ∙ ap (λ z. map (λ (d : tree.Declaration). outer z
+            (given_inputs (node_of callee).inputs (exprs_of texts es))
+            (declared_clock (node_of callee) d.name)) (node_of callee).inputs) base
+            ∙ arguments_placed P here callee sees.own hc ctx declares es wi ui stand
+            (stands_for callee.inputs os lefts)
+            (side.Y_in P here callee sees.own hc site found.2 ctx declares es wi ui stand lefts wl)
+            given b fits
+            ∙ sym (ap (λ (l : List Operand). map (clock_in here) (side_clocks ctx lefts c l))
+            (operands_items ctx m row)
+            ∙ ap (λ f. map (clock_in here) (listed clocks_of (f c))) calls
+            ∙ ap (λ o. map (clock_in here) (listed clocks_of o)) found.1),
+      )
 
   -- what is found of some occurrences, where the call of a number has these left variables
   abbrev Places : (ℕ → List Name) → List Occurrence → List FoundTerm → Type 0
@@ -313,71 +271,18 @@ module _ (P : Program) (r : Reached) (here : ResolvedNode) (sees : SeesClocks P 
       (n : ℕ) (e : Term) → is_within (counts_of here) e ≡ true →
       is_unhidden (texts_of here) e ≡ true → is_single_within r here e ≡ true → IsPlaced lefts n e
   unfolding placed_side placed_terms is_single_within is_single
-  side_placed lefts wl n (Literal m) w u s k f =
-      plain lefts n (Literal m) refl
-      (term_placed P r here sees (left_k lefts) n (Literal m) w u s k)
-  side_placed lefts wl n (Truth b) w u s k f =
-      plain lefts n (Truth b) refl
-      (term_placed P r here sees (left_k lefts) n (Truth b) w u s k)
-  side_placed lefts wl n (Variable x) w u s k f =
-      plain lefts n (Variable x) refl
-      (term_placed P r here sees (left_k lefts) n (Variable x) w u s k)
   side_placed lefts wl n (Value i) w u s k f =
       plain lefts n (Value i) (no_site_value (static_at texts.statics i))
       (term_placed P r here sees (left_k lefts) n (Value i) w u s k)
   side_placed lefts wl n (Group' p a) w u s k f = side_placed lefts wl n a w u s k f
-  side_placed lefts wl n (Unary' op p a) w u s k f =
-      plain lefts n (Unary' op p a) refl
-      (term_placed P r here sees (left_k lefts) n (Unary' op p a) w u s k)
-  side_placed lefts wl n (Binary' op p a q b) w u s k f =
-      plain lefts n (Binary' op p a q b) refl
-      (term_placed P r here sees (left_k lefts) n (Binary' op p a q b) w u s k)
-  side_placed lefts wl n (If' p c q a o b) w u s k f =
-      plain lefts n (If' p c q a o b) refl
-      (term_placed P r here sees (left_k lefts) n (If' p c q a o b) w u s k)
-  side_placed lefts wl n (Arrow' p a q b) w u s k f =
-      plain lefts n (Arrow' p a q b) refl
-      (term_placed P r here sees (left_k lefts) n (Arrow' p a q b) w u s k)
-  side_placed lefts wl n (Fby' p a q b) w u s k f =
-      plain lefts n (Fby' p a q b) refl
-      (term_placed P r here sees (left_k lefts) n (Fby' p a q b) w u s k)
-  side_placed lefts wl n (Pre' p a) w u s k f =
-      plain lefts n (Pre' p a) refl
-      (term_placed P r here sees (left_k lefts) n (Pre' p a) w u s k)
-  side_placed lefts wl n (Current' p a) w u s k f =
-      plain lefts n (Current' p a) refl
-      (term_placed P r here sees (left_k lefts) n (Current' p a) w u s k)
-  side_placed lefts wl n (When' p a x sign) w u s k f =
-      plain lefts n (When' p a x sign) refl
-      (term_placed P r here sees (left_k lefts) n (When' p a x sign) w u s k)
-  side_placed lefts wl n (Replicate' p a i) w u s k f =
-      plain lefts n (Replicate' p a i) refl
-      (term_placed P r here sees (left_k lefts) n (Replicate' p a i) w u s k)
-  side_placed lefts wl n (Index' p a i) w u s k f =
-      plain lefts n (Index' p a i) refl
-      (term_placed P r here sees (left_k lefts) n (Index' p a i) w u s k)
-  side_placed lefts wl n (Slice' p a i j) w u s k f =
-      plain lefts n (Slice' p a i j) refl
-      (term_placed P r here sees (left_k lefts) n (Slice' p a i j) w u s k)
-  side_placed lefts wl n (Join' p a q b) w u s k f =
-      plain lefts n (Join' p a q b) refl
-      (term_placed P r here sees (left_k lefts) n (Join' p a q b) w u s k)
-  side_placed lefts wl n (Array' arity all) w u s k f =
-      plain lefts n (Array' arity all) refl
-      (term_placed P r here sees (left_k lefts) n (Array' arity all) w u s k)
-  side_placed lefts wl n (AtMostOne' arity all) w u s k f =
-      plain lefts n (AtMostOne' arity all) refl
-      (term_placed P r here sees (left_k lefts) n (AtMostOne' arity all) w u s k)
-  side_placed lefts wl n (Nor' arity all) w u s k f =
-      plain lefts n (Nor' arity all) refl
-      (term_placed P r here sees (left_k lefts) n (Nor' arity all) w u s k)
   side_placed lefts wl n (Call' c arity all) w u s k f =
       let wc = and_first _ (are_within (counts_of here) all) w in
       let wa = and_second (is_call (counts_of here) c) _ w in
       let es = row_of texts all in
       let x = call_in c all in
       let ks = side_clocks ctx lefts c (operands_in ctx all) in
-      let names = map (name_in here) lefts in (
+      let names = map (name_in here) lefts in
+      let found = call_found lefts wl n c all wc wa u s k f in (
         (
           refl,
           (
@@ -386,7 +291,7 @@ module _ (P : Program) (r : Reached) (here : ResolvedNode) (sees : SeesClocks P 
                 (λ l. IsCallOf P here l (at (clock_in here (left_k lefts)) n x)
                 (side_call ctx lefts (operands_in ctx all) (ctx.callee c)))
                 (sym (own_is P (node_of here) n x names refl))
-                (call_found lefts wl n c all wc wa u s k f),
+                found.0,
           ),
         ),
         inner lefts n x
@@ -399,7 +304,7 @@ module _ (P : Program) (r : Reached) (here : ResolvedNode) (sees : SeesClocks P 
             (subst (λ ls. AreLawful (occurrences_each P (node_of here) ls (n + 1) es) →
             Pairs (IsTerm P here []) (occurrences_each P (node_of here) ls (n + 1) es)
             (placed_arguments ctx ks all))
-            (sym (call_placed lefts wl n c all wc wa u s k f))
+            (sym found.1)
             (λ e. arguments_on P r here sees ks (n + 1) all wa u s e) (and_second _ _ k)),
       )
   side_placed lefts wl n (IterateNode' it c arity all) w u s k f =
@@ -413,9 +318,8 @@ module _ (P : Program) (r : Reached) (here : ResolvedNode) (sees : SeesClocks P 
             (row_placed P r here sees (left_k lefts) (n + 1) all
             (and_second (is_call (counts_of here) c) _ w) u s (and_second _ _ k)),
       )
-  side_placed lefts wl n (IterateSymbol' it op i arity all) w u s k f =
-      plain lefts n (IterateSymbol' it op i arity all) refl
-      (term_placed P r here sees (left_k lefts) n (IterateSymbol' it op i arity all) w u s k)
+  side_placed lefts wl n t w u s k f =
+      plain lefts n t refl (term_placed P r here sees (left_k lefts) n t w u s k)
 
   -- ## Statements
 

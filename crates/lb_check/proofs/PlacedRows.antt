@@ -1,19 +1,15 @@
 -- What is found of the parts of a term, from what is found of its operands, and of rows of terms
 -- from a place on.
 use Rattle.std.proofs.Common.{◌≡◌, ◌⊎◌, inl, inr, ℕ, ◌+◌, ◌<◌, ◌≤◌, List, [], ◌∷◌, ◌++◌}
-use Rattle.std.proofs.Common.{length, take, drop, map, flat_map, get_or, Option, Some, None, Box}
+use Rattle.std.proofs.Common.{length, take, drop, map, flat_map, get_or, Some, None, Box}
 use Rattle.std.proofs.Common.{Global, Vec, refl, ap, ap₂, sym, ◌∙◌, arith}
 use Rattle.std.specs.Prelude.{slice_get}
 use Rattle.std.proofs.lemmas.List.{append_assoc, append-nil, drop_all, drop_at, drop_more}
 use Rattle.std.proofs.lemmas.List.{map-append, take_at}
 use Rattle.std.proofs.lemmas.Option.{slice_get_cases}
 use Rattle.lb_syntax.specs.Lists.{listed}
-use Rattle.lb_syntax.specs.declared.tree.ArrayIterator.{ArrayIterator}
-use Rattle.lb_syntax.specs.declared.tree.BinaryOperator.{BinaryOperator}
 use Rattle.lb_static.specs.declared.resolved.CallId.{CallId}
-use Rattle.lb_static.specs.declared.resolved.StaticId.{StaticId}
-use Rattle.lb_static.specs.declared.resolved.Term.{Term, Group, If, Current, Array, AtMostOne, Nor}
-use Rattle.lb_static.specs.declared.resolved.Term.{Call, IterateNode, IterateSymbol, Row_of-Term}
+use Rattle.lb_static.specs.declared.resolved.Term.{Term, Group, If, Current, Call, Row_of-Term}
 use Rattle.lb_static.specs.declared.resolved.Term.{end_of-Term, more_of-Term, items-the_row-Term}
 use Rattle.lb_static.specs.declared.resolved.Term.{items_hidden-the_row-Term-0}
 use Rattle.lb_static.specs.declared.resolved.VariableId.{VariableId}
@@ -22,14 +18,14 @@ use Rattle.lb_check.specs.PlacedClocks.{FoundCall, FoundNode, FoundTerm, IsPlace
 use Rattle.lb_check.specs.PlacedClocks.{called, with_term, with_terms, placed_terms, placed_row}
 use Rattle.lb_check.specs.PlacedClocks.{placed_arguments, placed_all, placed_each, placed_side}
 use Rattle.lb_check.specs.PlacedClocks.{placed_call, operand_clock, call_clocks, side_clocks}
-use Rattle.lb_check.specs.PlacedClocks.{determined_clock, nested_call, side_call, iterated_call}
+use Rattle.lb_check.specs.PlacedClocks.{determined_clock, nested_call, side_call}
 use Rattle.lb_check.specs.TermClocks.{Context, infer_clock, operands_in, operands_of, left_clock}
 use Rattle.lb_check.specs.declared.clock_set.Operand.{Operand}
 use Rattle.lb_check.specs.declared.own_clock.Clock.{Clock}
 use Rattle.lb_check.proofs.ClockRows.{same_operands}
-use Rattle.lb_check.proofs.TypeRows.{row_in}
+use Rattle.lb_check.proofs.TypeRows.{row_in, row_is}
 use Rattle.lb_check.proofs.TypeWalks.{IsLeaf}
-use Rattle.lb_check.proofs.WalkedClocks.{IsPlain, IsPlainRow}
+use Rattle.lb_check.proofs.WalkedClocks.{IsPlain, IsPlainRow, wide_row}
 
 -- ## What is found grows
 
@@ -263,57 +259,21 @@ module _ (ctx : Context) (k : Clock) where
   row_items n end_of-Term = refl
   row_items n (more_of-Term e rest) = ap (λ l. placed_terms ctx k e ++ l) (row_items _ rest)
 
-  hidden : (t : Term) (es : Vec Term Global) → items-the_row-Term _ (row_in t).1 ≡ es.items →
-      placed_row ctx k (row_in t).1 ≡ placed_all ctx k es.items
-  hidden t es e = row_items _ (row_in t).1 ∙ ap (placed_all ctx k) e
-
-  array_placed : (es : Vec Term Global) →
-      placed_terms ctx k (Array es) ≡ part k ∷ placed_all ctx k es.items
+  placed_in : (t : Term) (es : Vec Term Global) → IsPlainRow t es →
+      placed_terms ctx k t ≡ row_term k t ∷ placed_row ctx k (row_in t).1
   unfolding placed_terms
-  array_placed es = ap (λ l. part k ∷ l) (hidden (Array es) es (items_hidden-the_row-Term-0 es))
-
-  at_most_one_placed : (es : Vec Term Global) →
-      placed_terms ctx k (AtMostOne es) ≡ part k ∷ placed_all ctx k es.items
-  unfolding placed_terms
-  at_most_one_placed es =
-      ap (λ l. part k ∷ l) (hidden (AtMostOne es) es (items_hidden-the_row-Term-0 es))
-
-  nor_placed : (es : Vec Term Global) →
-      placed_terms ctx k (Nor es) ≡ part k ∷ placed_all ctx k es.items
-  unfolding placed_terms
-  nor_placed es = ap (λ l. part k ∷ l) (hidden (Nor es) es (items_hidden-the_row-Term-0 es))
-
-  node_placed : (it : ArrayIterator) (c : CallId) (es : Vec Term Global) →
-      placed_terms ctx k (IterateNode it c es)
-      ≡ called k (iterated_call k) ∷ placed_all ctx k es.items
-  unfolding placed_terms
-  node_placed it c es =
-      ap (λ l. called k (iterated_call k) ∷ l)
-      (hidden (IterateNode it c es) es (items_hidden-the_row-Term-0 es))
-
-  symbol_placed : (it : ArrayIterator) (op : BinaryOperator) (n : StaticId) (es : Vec Term Global) →
-      placed_terms ctx k (IterateSymbol it op n es) ≡ part k ∷ placed_all ctx k es.items
-  unfolding placed_terms
-  symbol_placed it op n es =
-      ap (λ l. part k ∷ l) (hidden (IterateSymbol it op n es) es (items_hidden-the_row-Term-0 es))
+  placed_in t es (inl e) = rw e refl
+  placed_in t es (inr (inl e)) = rw e refl
+  placed_in t es (inr (inr (inl e))) = rw e refl
+  placed_in t es (inr (inr (inr (inl (it, c, e))))) = rw e refl
+  placed_in t es (inr (inr (inr (inr (it, op, n, e))))) = rw e refl
 
   pub row_placed : (t : Term) (es : Vec Term Global) → IsPlainRow t es →
       placed_terms ctx k t ≡ row_term k t ∷ placed_all ctx k es.items
-  row_placed t es (inl e) =
-      ap (placed_terms ctx k) e ∙ array_placed es
-      ∙ ap (λ z. row_term k z ∷ placed_all ctx k es.items) (sym e)
-  row_placed t es (inr (inl e)) =
-      ap (placed_terms ctx k) e ∙ at_most_one_placed es
-      ∙ ap (λ z. row_term k z ∷ placed_all ctx k es.items) (sym e)
-  row_placed t es (inr (inr (inl e))) =
-      ap (placed_terms ctx k) e ∙ nor_placed es
-      ∙ ap (λ z. row_term k z ∷ placed_all ctx k es.items) (sym e)
-  row_placed t es (inr (inr (inr (inl (it, c, e))))) =
-      ap (placed_terms ctx k) e ∙ node_placed it c es
-      ∙ ap (λ z. row_term k z ∷ placed_all ctx k es.items) (sym e)
-  row_placed t es (inr (inr (inr (inr (it, op, n, e))))) =
-      ap (placed_terms ctx k) e ∙ symbol_placed it op n es
-      ∙ ap (λ z. row_term k z ∷ placed_all ctx k es.items) (sym e)
+  row_placed t es is =
+      placed_in t es is
+      ∙ ap (λ l. row_term k t ∷ l)
+      (row_items _ (row_in t).1 ∙ ap (placed_all ctx k) (row_is t es (wide_row t es is)))
 
 module _ (ctx : Context) where
   argument_items : (ks : List Clock) (n : _) (row : Row_of-Term n) →

@@ -134,8 +134,9 @@ module _ (P : Program) (r : Reached) (here : ResolvedNode) (sees : SeesClocks P 
   determined_is e AnyClock st k n kept = ap clock_or st.0
   determined_is e (OneClock c) st k n kept = ap clock_or st.1
 
-  -- the base clock of what a call of the node calls, and the clocks of its arguments
-  call_placed :
+  -- the clock on which what a call calls runs, what is given for its clock parameters, and the
+  -- clocks of its arguments
+  call_found :
       (k : Clock) (n : ℕ) (c : CallId) {m : Count} (row : Row_of-Term m) →
       is_call (counts_of here) c ≡ true → are_within (counts_of here) row ≡ true →
       are_unhidden (texts_of here) row ≡ true → calls_single r here c ≡ true →
@@ -143,11 +144,15 @@ module _ (P : Program) (r : Reached) (here : ResolvedNode) (sees : SeesClocks P 
       is_clocked_on P here (clock_in here k) n
       (tree.Call (site_at (texts_of here).calls c).callee
       (site_at (texts_of here).calls c).arguments (row_of (texts_of here) row)) ≡ true →
-      text.call_clocks (clock_in here k) (node_named P (site_at (texts_of here).calls c).callee)
+      IsCallOf P here []
+      (at (clock_in here k) n (tree.Call (site_at (texts_of here).calls c).callee
+      (site_at (texts_of here).calls c).arguments (row_of (texts_of here) row)))
+      (nested_call k (operands_in (context_of r here) row) ((context_of r here).callee c))
+      × (text.call_clocks (clock_in here k) (node_named P (site_at (texts_of here).calls c).callee)
       (row_of (texts_of here) row)
       ≡ map (clock_in here)
-      (call_clocks (context_of r here) k c (operands_in (context_of r here) row))
-  call_placed k n c {m = m} row wc w u single singles kept =
+      (call_clocks (context_of r here) k c (operands_in (context_of r here) row)))
+  call_found k n c {m = m} row wc w u single singles kept =
       let found = callee_found P r sees.names sees.reached sees.place here sees.at c wc in
       let callee = found.0 in
       let hc = sees.callees c callee found.1 in
@@ -173,75 +178,40 @@ module _ (P : Program) (r : Reached) (here : ResolvedNode) (sees : SeesClocks P 
       outputs k n on_items in
       let os = operands_of ctx es in
       let b = either_or (base_of (input_clocks callee) (clock_sets os)) k in
-      ap₂ (λ o es. text.call_clocks (clock_in here k) o es) found.2 args
-      ∙ ap (λ z. map (λ (d : tree.Declaration). outer z
-      (given_inputs (node_of callee).inputs (exprs_of texts es))
-      (declared_clock (node_of callee) d.name)) (node_of callee).inputs) base
-      ∙ arguments_placed P here callee sees.own hc ctx declares es wi ui stand (given_at os)
-      (λ i lt. refl) given b fits
-      ∙ sym (ap (λ (l : List Operand). map (clock_in here) (call_clocks ctx k c l))
-      (operands_items ctx m row)
-      ∙ ap (λ f. map (clock_in here) (listed (λ n. argument_clocks
-      (either_or (base_of (input_clocks n) (clock_sets os)) k) (given_at os) n) (f c))) calls
-      ∙ ap (λ o. map (clock_in here) (listed (λ n. argument_clocks
-      (either_or (base_of (input_clocks n) (clock_sets os)) k) (given_at os) n) o)) found.1)
-
-  -- the clock on which what a call calls runs, and what is given for its clock parameters
-  call_found :
-      (k : Clock) (n : ℕ) (c : CallId) {m : Count} (row : Row_of-Term m) →
-      is_call (counts_of here) c ≡ true → are_within (counts_of here) row ≡ true →
-      are_unhidden (texts_of here) row ≡ true → calls_single r here c ≡ true →
-      are_single r here row ≡ true →
-      is_clocked_on P here (clock_in here k) n
-      (tree.Call (site_at (texts_of here).calls c).callee
-      (site_at (texts_of here).calls c).arguments (row_of (texts_of here) row)) ≡ true →
-      IsCallOf P here []
-      (at (clock_in here k) n (tree.Call (site_at (texts_of here).calls c).callee
-      (site_at (texts_of here).calls c).arguments (row_of (texts_of here) row)))
-      (nested_call k (operands_in (context_of r here) row) ((context_of r here).callee c))
-  call_found k n c {m = m} row wc w u single singles kept =
-      let found = callee_found P r sees.names sees.reached sees.place here sees.at c wc in
-      let callee = found.0 in
-      let hc = sees.callees c callee found.1 in
-      let site = site_at texts.calls c in
-      let es = items-the_row-Term m row in
-      let wi = within_items (counts_of here) m row ∙ w in
-      let ui = unhidden_items texts m row ∙ u in
-      let stand = row_stands P r here sees
-      (λ callee has. call_stands P here callee sees.own has) row w u singles in
-      let one_test : nat_eq callee.outputs 1 ≡ true =
-      sym (ap (holds (λ n. nat_eq n.outputs 1)) found.1) ∙ single in
-      let outputs : callee.outputs ≡ 1 = grind (arith, nat_tests) in
-      let args = row_items texts m row in
-      let on_items : is_clocked_on P here (clock_in here k) n
-      (tree.Call site.callee site.arguments (exprs_of texts es)) ≡ true =
-      subst (λ es. is_clocked_on P here (clock_in here k) n
-      (tree.Call site.callee site.arguments es) ≡ true) args kept in
-      let all_given = one.runs_given P here callee sees.own hc site found.2 ctx declares es wi ui
-      stand outputs k n on_items in
-      let base = one.runs_base P here callee sees.own hc site found.2 ctx declares es wi ui stand
-      outputs k n on_items in
-      let os = operands_of ctx es in
+      let clocks_of = λ (n : ResolvedNode). argument_clocks
+      (either_or (base_of (input_clocks n) (clock_sets os)) k) (given_at os) n in
       let same : nested_call k (operands_in ctx row) (ctx.callee c)
       ≡ nested_call k os (Some callee) =
-      ap₂ (nested_call k) (operands_items ctx m row) (ap (λ f. f c) calls ∙ found.1) in
-      subst (IsCallOf P here [] (at (clock_in here k) n
-      (tree.Call site.callee site.arguments (row_of texts row)))) (sym same)
-      (record {
-        runs =
-            ap (λ o. either_or (o >>= λ callee. Some (clocks.base_clock (clock_in here k) callee))
-            (clock_in here k)) found.2
-            ∙ base;
-        given =
-            ap (λ o. listed (λ callee. given_parameters callee (row_of texts row) []) o) found.2
-            ∙ ap (λ es. given_parameters (node_of callee) es []) args
-            ∙ given_is callee hc here ctx es [] all_given
-            ∙ sym (ap (λ o. listed (λ z. map (pair_names (variable_names z) here)
-            (given_variables callee os [])) o) found.2);
-        parameters =
-            ap (are_among (given_variables callee os [])) found.2
-            ∙ parameters_within callee hc os [];
-      })
+      ap₂ (nested_call k) (operands_items ctx m row) (ap (λ f. f c) calls ∙ found.1) in (
+        subst (IsCallOf P here [] (at (clock_in here k) n
+            (tree.Call site.callee site.arguments (row_of texts row)))) (sym same)
+            (record {
+              runs =
+                  ap (λ o. either_or
+                  (o >>= λ callee. Some (clocks.base_clock (clock_in here k) callee))
+                  (clock_in here k)) found.2
+                  ∙ base;
+              given =
+                  ap (listed (λ callee. given_parameters callee (row_of texts row) [])) found.2
+                  ∙ ap (λ es. given_parameters (node_of callee) es []) args
+                  ∙ given_is callee hc here ctx es [] given
+                  ∙ sym (ap (λ o. listed (λ z. map (pair_names (variable_names z) here)
+                  (given_variables callee os [])) o) found.2);
+              parameters =
+                  ap (are_among (given_variables callee os [])) found.2
+                  ∙ parameters_within callee hc os [];
+            }),
+        ap₂ (λ o es. text.call_clocks (clock_in here k) o es) found.2 args
+            ∙ ap (λ z. map (λ (d : tree.Declaration). outer z
+            (given_inputs (node_of callee).inputs (exprs_of texts es))
+            (declared_clock (node_of callee) d.name)) (node_of callee).inputs) base
+            ∙ arguments_placed P here callee sees.own hc ctx declares es wi ui stand (given_at os)
+            (λ i lt. refl) given b fits
+            ∙ sym (ap (λ (l : List Operand). map (clock_in here) (call_clocks ctx k c l))
+            (operands_items ctx m row)
+            ∙ ap (λ f. map (clock_in here) (listed clocks_of (f c))) calls
+            ∙ ap (λ o. map (clock_in here) (listed clocks_of o)) found.1),
+      )
 
   value_placed : (k : Clock) (n : ℕ) (s : Static) → Places (on k n (named_value s)) (part k ∷ [])
   value_placed k n (tree.Named x) = ((refl, refl), tt)
@@ -250,17 +220,33 @@ module _ (P : Program) (r : Reached) (here : ResolvedNode) (sees : SeesClocks P 
   value_placed k n (tree.Combined op s t) = ((refl, refl), tt)
   value_placed k n (tree.Grouped s) = ((refl, refl), tt)
 
+  -- what is found of the parts of a term that stands on a clock
+  abbrev HasPlaces : Clock → ℕ → Term → Type 0
+  HasPlaces k n t =
+      is_within (counts_of here) t ≡ true → is_unhidden texts t ≡ true → is_single r here t ≡ true →
+      AreLawful (on k n (expr_of texts t)) →
+      Places (on k n (expr_of texts t)) (placed_terms ctx k t)
+
   -- two operands
   two_placed :
-      (k : Clock) (n : ℕ) (a b : Expr) (ks ls : List FoundTerm) →
-      AreLawful (on k n a ++ on k (n + call_count a) b) →
-      (AreLawful (on k n a) → Places (on k n a) ks) →
-      (AreLawful (on k (n + call_count a) b) → Places (on k (n + call_count a) b) ls) →
-      Places (on k n a ++ on k (n + call_count a) b) (ks ++ ls)
-  two_placed k n a b ks ls e h g =
-      both_placed (on k n a) (on k (n + call_count a) b) ks ls
-      (h (fore (on k n a) (on k (n + call_count a) b) e))
-      (g (aft (on k n a) (on k (n + call_count a) b) e))
+      (k : Clock) (n : ℕ) (a b : Term) →
+      (is_within (counts_of here) a && is_within (counts_of here) b) ≡ true →
+      (is_unhidden texts a && is_unhidden texts b) ≡ true →
+      (is_single r here a && is_single r here b) ≡ true →
+      HasPlaces k n a → HasPlaces k (n + call_count (expr_of texts a)) b →
+      AreLawful (on k n (expr_of texts a)
+      ++ on k (n + call_count (expr_of texts a)) (expr_of texts b)) →
+      Places (on k n (expr_of texts a)
+      ++ on k (n + call_count (expr_of texts a)) (expr_of texts b))
+      (placed_terms ctx k a ++ placed_terms ctx k b)
+  two_placed k n a b w u o h g e =
+      let first = on k n (expr_of texts a) in
+      let second = on k (n + call_count (expr_of texts a)) (expr_of texts b) in
+      both_placed first second (placed_terms ctx k a) (placed_terms ctx k b)
+      (h (and_first _ (is_within (counts_of here) b) w) (and_first _ (is_unhidden texts b) u)
+      (and_first _ (is_single r here b) o) (fore first second e))
+      (g (and_second (is_within (counts_of here) a) _ w) (and_second (is_unhidden texts a) _ u)
+      (and_second (is_single r here a) _ o) (aft first second e))
 
   mutual
     unfolding placed_terms is_single
@@ -281,13 +267,8 @@ module _ (P : Program) (r : Reached) (here : ResolvedNode) (sees : SeesClocks P 
     )
     term_placed k n (Binary' op p a q b) w u o e = (
       (refl, refl),
-      two_placed k n (expr_of texts a) (expr_of texts b) (placed_terms ctx k a)
-          (placed_terms ctx k b) e
-          (λ f. term_placed k n a (and_first _ (is_within (counts_of here) b) w)
-          (and_first _ (is_unhidden texts b) u) (and_first _ (is_single r here b) o) f)
-          (λ f. term_placed k (n + call_count (expr_of texts a)) b
-          (and_second (is_within (counts_of here) a) _ w) (and_second (is_unhidden texts a) _ u)
-          (and_second (is_single r here a) _ o) f),
+      two_placed k n a b w u o (λ w u o e. term_placed k n a w u o e)
+          (λ w u o e. term_placed k (n + call_count (expr_of texts a)) b w u o e) e,
     )
     term_placed k n (If' p c q a r' b) w u o e =
         let wab = and_second (is_within (counts_of here) c) _ w in
@@ -304,34 +285,19 @@ module _ (P : Program) (r : Reached) (here : ResolvedNode) (sees : SeesClocks P 
               (and_first _ (is_within (counts_of here) a && is_within (counts_of here) b) w)
               (and_first _ (is_unhidden texts a && is_unhidden texts b) u)
               (and_first _ (is_single r here a && is_single r here b) o) (fore first others e))
-              (two_placed k na (expr_of texts a) (expr_of texts b) (placed_terms ctx k a)
-              (placed_terms ctx k b) (aft first others e)
-              (λ f. term_placed k na a (and_first _ (is_within (counts_of here) b) wab)
-              (and_first _ (is_unhidden texts b) uab) (and_first _ (is_single r here b) oab) f)
-              (λ f. term_placed k (na + call_count (expr_of texts a)) b
-              (and_second (is_within (counts_of here) a) _ wab)
-              (and_second (is_unhidden texts a) _ uab)
-              (and_second (is_single r here a) _ oab) f)),
+              (two_placed k na a b wab uab oab (λ w u o e. term_placed k na a w u o e)
+              (λ w u o e. term_placed k (na + call_count (expr_of texts a)) b w u o e)
+              (aft first others e)),
         )
     term_placed k n (Arrow' p a q b) w u o e = (
       (refl, refl),
-      two_placed k n (expr_of texts a) (expr_of texts b) (placed_terms ctx k a)
-          (placed_terms ctx k b) e
-          (λ f. term_placed k n a (and_first _ (is_within (counts_of here) b) w)
-          (and_first _ (is_unhidden texts b) u) (and_first _ (is_single r here b) o) f)
-          (λ f. term_placed k (n + call_count (expr_of texts a)) b
-          (and_second (is_within (counts_of here) a) _ w) (and_second (is_unhidden texts a) _ u)
-          (and_second (is_single r here a) _ o) f),
+      two_placed k n a b w u o (λ w u o e. term_placed k n a w u o e)
+          (λ w u o e. term_placed k (n + call_count (expr_of texts a)) b w u o e) e,
     )
     term_placed k n (Fby' p a q b) w u o e = (
       (refl, refl),
-      two_placed k n (expr_of texts a) (expr_of texts b) (placed_terms ctx k a)
-          (placed_terms ctx k b) e
-          (λ f. term_placed k n a (and_first _ (is_within (counts_of here) b) w)
-          (and_first _ (is_unhidden texts b) u) (and_first _ (is_single r here b) o) f)
-          (λ f. term_placed k (n + call_count (expr_of texts a)) b
-          (and_second (is_within (counts_of here) a) _ w) (and_second (is_unhidden texts a) _ u)
-          (and_second (is_single r here a) _ o) f),
+      two_placed k n a b w u o (λ w u o e. term_placed k n a w u o e)
+          (λ w u o e. term_placed k (n + call_count (expr_of texts a)) b w u o e) e,
     )
     term_placed k n (Pre' p a) w u o e = (
       (refl, refl),
@@ -379,13 +345,8 @@ module _ (P : Program) (r : Reached) (here : ResolvedNode) (sees : SeesClocks P 
     )
     term_placed k n (Join' p a q b) w u o e = (
       (refl, refl),
-      two_placed k n (expr_of texts a) (expr_of texts b) (placed_terms ctx k a)
-          (placed_terms ctx k b) e
-          (λ f. term_placed k n a (and_first _ (is_within (counts_of here) b) w)
-          (and_first _ (is_unhidden texts b) u) (and_first _ (is_single r here b) o) f)
-          (λ f. term_placed k (n + call_count (expr_of texts a)) b
-          (and_second (is_within (counts_of here) a) _ w) (and_second (is_unhidden texts a) _ u)
-          (and_second (is_single r here a) _ o) f),
+      two_placed k n a b w u o (λ w u o e. term_placed k n a w u o e)
+          (λ w u o e. term_placed k (n + call_count (expr_of texts a)) b w u o e) e,
     )
     term_placed k n (Array' arity all) w u o e = (
       (refl, refl),
@@ -405,12 +366,13 @@ module _ (P : Program) (r : Reached) (here : ResolvedNode) (sees : SeesClocks P 
         let oc = and_first _ (are_single r here all) o in
         let oa = and_second (calls_single r here c) _ o in
         let es = row_of texts all in
-        let ks = call_clocks ctx k c (operands_in ctx all) in (
-          (refl, (refl, call_found k n c all wc wa u oc oa e)),
+        let ks = call_clocks ctx k c (operands_in ctx all) in
+        let found = call_found k n c all wc wa u oc oa e in (
+          (refl, (refl, found.0)),
           subst (λ ls. AreLawful (occurrences_each P (node_of here) ls (n + 1) es) →
               Places (occurrences_each P (node_of here) ls (n + 1) es)
               (placed_arguments ctx ks all))
-              (sym (call_placed k n c all wc wa u oc oa e))
+              (sym found.1)
               (λ f. arguments_on ks (n + 1) all wa u oa f) (and_second _ _ e),
         )
     term_placed k n (IterateNode' it c arity all) w u o e = (

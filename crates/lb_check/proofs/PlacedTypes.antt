@@ -44,13 +44,23 @@ module _ (P : Program) (here : Instance) (texts : Texts) (n : Counts) (ctx : Con
   two_placed ts ts' es es' h g =
       ap₂ (λ l m. l ++ m) h g ∙ sym (map-append (data_types P here) es es')
 
-  both_placed : (a b : Term) → Places (placed_types ctx a) (parts (expr_of texts a)) →
-      Places (placed_types ctx b) (parts (expr_of texts b)) →
+  -- what is found of the parts of a term, and of those of two operands
+  abbrev HasPlaces : Term → Type 0
+  HasPlaces t =
+      is_within n t ≡ true → is_unhidden texts t ≡ true →
+      Places (placed_types ctx t) (parts (expr_of texts t))
+
+  both_placed : (a b : Term) → (is_within n a && is_within n b) ≡ true →
+      (is_unhidden texts a && is_unhidden texts b) ≡ true → HasPlaces a → HasPlaces b →
       Places (placed_types ctx a ++ placed_types ctx b)
       (parts (expr_of texts a) ++ parts (expr_of texts b))
-  both_placed a b h g =
+  both_placed a b w u h g =
       two_placed (placed_types ctx a) (placed_types ctx b) (parts (expr_of texts a))
-      (parts (expr_of texts b)) h g
+      (parts (expr_of texts b))
+      (h (and_first (is_within n a) (is_within n b) w)
+      (and_first (is_unhidden texts a) (is_unhidden texts b) u))
+      (g (and_second (is_within n a) (is_within n b) w)
+      (and_second (is_unhidden texts a) (is_unhidden texts b) u))
 
   value_alone : (s : Static) → parts (named_value s) ≡ named_value s ∷ []
   value_alone (tree.Named x) = refl
@@ -77,11 +87,8 @@ module _ (P : Program) (here : Instance) (texts : Texts) (n : Counts) (ctx : Con
     types_placed (Binary' op p a q b) w u =
         one_more (Binary' op p a q b) (placed_types ctx a ++ placed_types ctx b)
         (parts (expr_of texts a) ++ parts (expr_of texts b)) w u
-        (both_placed a b
-        (types_placed a (and_first (is_within n a) (is_within n b) w)
-        (and_first (is_unhidden texts a) (is_unhidden texts b) u))
-        (types_placed b (and_second (is_within n a) (is_within n b) w)
-        (and_second (is_unhidden texts a) (is_unhidden texts b) u)))
+        (both_placed a b w u
+        (λ w u. types_placed a w u) (λ w u. types_placed b w u))
     types_placed (If' p c q a r b) w u =
         let wab = and_second (is_within n c) _ w in
         let uab = and_second (is_unhidden texts c) _ u in
@@ -92,25 +99,15 @@ module _ (P : Program) (here : Instance) (texts : Texts) (n : Counts) (ctx : Con
         (parts (expr_of texts c)) (parts (expr_of texts a) ++ parts (expr_of texts b))
         (types_placed c (and_first (is_within n c) (is_within n a && is_within n b) w)
         (and_first (is_unhidden texts c) (is_unhidden texts a && is_unhidden texts b) u))
-        (both_placed a b
-        (types_placed a (and_first (is_within n a) (is_within n b) wab)
-        (and_first (is_unhidden texts a) (is_unhidden texts b) uab))
-        (types_placed b (and_second (is_within n a) (is_within n b) wab)
-        (and_second (is_unhidden texts a) (is_unhidden texts b) uab))))
+        (both_placed a b wab uab (λ w u. types_placed a w u) (λ w u. types_placed b w u)))
     types_placed (Arrow' p a q b) w u =
         one_more (Arrow' p a q b) (placed_types ctx a ++ placed_types ctx b)
-        (parts (expr_of texts a) ++ parts (expr_of texts b)) w u (both_placed a b
-        (types_placed a (and_first (is_within n a) (is_within n b) w)
-        (and_first (is_unhidden texts a) (is_unhidden texts b) u))
-        (types_placed b (and_second (is_within n a) (is_within n b) w)
-        (and_second (is_unhidden texts a) (is_unhidden texts b) u)))
+        (parts (expr_of texts a) ++ parts (expr_of texts b)) w u (both_placed a b w u
+        (λ w u. types_placed a w u) (λ w u. types_placed b w u))
     types_placed (Fby' p a q b) w u =
         one_more (Fby' p a q b) (placed_types ctx a ++ placed_types ctx b)
-        (parts (expr_of texts a) ++ parts (expr_of texts b)) w u (both_placed a b
-        (types_placed a (and_first (is_within n a) (is_within n b) w)
-        (and_first (is_unhidden texts a) (is_unhidden texts b) u))
-        (types_placed b (and_second (is_within n a) (is_within n b) w)
-        (and_second (is_unhidden texts a) (is_unhidden texts b) u)))
+        (parts (expr_of texts a) ++ parts (expr_of texts b)) w u (both_placed a b w u
+        (λ w u. types_placed a w u) (λ w u. types_placed b w u))
     types_placed (Pre' p e) w u =
         one_more (Pre' p e) (placed_types ctx e) (parts (expr_of texts e)) w u
         (types_placed e w u)
@@ -131,11 +128,8 @@ module _ (P : Program) (here : Instance) (texts : Texts) (n : Counts) (ctx : Con
         (types_placed e (and_second (is_static n j) _ (and_second (is_static n i) _ w)) u)
     types_placed (Join' p a q b) w u =
         one_more (Join' p a q b) (placed_types ctx a ++ placed_types ctx b)
-        (parts (expr_of texts a) ++ parts (expr_of texts b)) w u (both_placed a b
-        (types_placed a (and_first (is_within n a) (is_within n b) w)
-        (and_first (is_unhidden texts a) (is_unhidden texts b) u))
-        (types_placed b (and_second (is_within n a) (is_within n b) w)
-        (and_second (is_unhidden texts a) (is_unhidden texts b) u)))
+        (parts (expr_of texts a) ++ parts (expr_of texts b)) w u (both_placed a b w u
+        (λ w u. types_placed a w u) (λ w u. types_placed b w u))
     types_placed (Array' arity all) w u =
         one_more (Array' arity all) (placed_row_types ctx all) (parts_in (row_of texts all)) w u
         (row_types_placed all w u)

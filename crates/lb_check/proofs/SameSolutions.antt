@@ -6,11 +6,8 @@ use Rattle.std.specs.Prelude.{IfSome, option_map}
 use Rattle.lb_syntax.specs.declared.tree.ArrayIterator.{ArrayIterator}
 use Rattle.lb_syntax.specs.declared.tree.ArrayIterator.TheVariants.{Map, Red, Fill}
 use Rattle.lb_syntax.specs.Lists.{Every, part}
-use Rattle.lb_syntax.specs.Tree.{Name, Static, Node_named, Symbol, Expr, Literal, Truth, Variable}
-use Rattle.lb_syntax.specs.Tree.{Group, Unary, Binary, If, Arrow, Fby, Pre, Current, When}
-use Rattle.lb_syntax.specs.Tree.{Replicate, Index, Slice, Join, Array, AtMostOne, Nor, Call}
-use Rattle.lb_syntax.specs.Tree.{Iterate, Exprs, Nil, Cons, Declaration, Node, Statement, Equation}
-use Rattle.lb_syntax.specs.Tree.{Assertion}
+use Rattle.lb_syntax.specs.Tree.{Name, Static, Node_named, Symbol, Expr, Call, Iterate, Exprs, Nil}
+use Rattle.lb_syntax.specs.Tree.{Cons, Declaration, Node, Statement, Equation, Assertion}
 use Rattle.lb_static.specs.Instances.{Program, Instance, Path, Root, Observer, Child, sites}
 use Rattle.lb_static.specs.Instances.{sites_in, node_sites, node_named, static_count, start_at}
 use Rattle.lb_static.specs.Instances.{instance_at, instances}
@@ -239,29 +236,11 @@ module _ (P : Program) (H G : History) (here : Instance) (agree : AgreeAt H G he
   joined_at :
       (k : Clock) (n : ℕ) (e : Expr) → StandsHere (at k n e) → IsJoinedAt P H here k n e →
       IsJoinedAt P G here k n e
-  joined_at k n (Literal m) s j = tt
-  joined_at k n (Truth b) s j = tt
-  joined_at k n (Variable x) s j = tt
-  joined_at k n (Group a) s j = tt
-  joined_at k n (Unary op a) s j = tt
-  joined_at k n (Binary op a b) s j = tt
-  joined_at k n (If c a b) s j = tt
-  joined_at k n (Arrow a b) s j = tt
-  joined_at k n (Fby a b) s j = tt
-  joined_at k n (Pre a) s j = tt
-  joined_at k n (When a x sign) s j = tt
-  joined_at k n (Current a) s j = tt
-  joined_at k n (Replicate a m) s j = tt
-  joined_at k n (Index a m) s j = tt
-  joined_at k n (Slice a m l) s j = tt
-  joined_at k n (Join a b) s j = tt
-  joined_at k n (Array es) s j = tt
-  joined_at k n (AtMostOne es) s j = tt
-  joined_at k n (Nor es) s j = tt
   joined_at k n (Call f statics es) s j = call_joined k n f statics es s j
   joined_at k n (Iterate it (Node_named f statics) m es) s j =
       iterator_joined k n it f statics m es s j
   joined_at k n (Iterate it (Symbol op) m es) s j = tt
+  joined_at k n e s j = tt
 
   -- an equation stays equal on both sides
   equal_stays :

@@ -17,7 +17,6 @@ use Rattle.lb_static.specs.declared.resolved.ResolvedNode.{ResolvedNode}
 use Rattle.lb_static.specs.declared.table.Specialization.{Specialization}
 use Rattle.lb_static.specs.CalledSpecializations.{called_by}
 use Rattle.lb_static.specs.DataTypes.{DataType, is_kind, is_type, same_sizes}
-use Rattle.lb_static.specs.StoredTypes.{declared_type}
 use Rattle.lb_syntax.specs.declared.tree.Kind.{Kind}
 use Rattle.lb_syntax.specs.declared.tree.Kind.TheVariants.{Int as Int_kind, Bool as Bool_kind}
 use Rattle.lb_static.proofs.Options.{length-all_some}
@@ -185,28 +184,27 @@ fits_end s count os many = by (are_met s.takes os) refl
         last false = refl
 
 -- from the first to the last
-module _ (whole : Bool) (ws os : Types) (i : ℕ)
-    (known : whole ≡ are_met (drop i ws) (drop i os)) where
-  met_next : (b : Bool) → i < length ws → i < length os →
-      b ≡ are_one (type_at ws i) (type_at os i) →
-      whole ≡ (b && are_met (drop (i + 1) ws) (drop (i + 1) os))
-  met_next b less lt e =
-      known ∙ ap (λ l. are_met l (drop i os)) (drop_at ws i less)
-      ∙ ap (are_met (type_at ws i ∷ drop (i + 1) ws)) (drop_at os i lt)
-      ∙ ap (λ c. c && are_met (drop (i + 1) ws) (drop (i + 1) os)) (sym e)
+module _ {A : Type 0} (f : A → Option DataType) (ws : Types) (xs : List A) (i : ℕ)
+    (many : length xs ≡ length ws)
+    (known : are_met ws (map f xs) ≡ are_met (drop i ws) (drop i (map f xs))) where
+  pub met_next : (b : Bool) (o : Option DataType) (d : A) → i < length xs →
+      b ≡ are_one (type_at ws i) o → o ≡ f (get_or xs i d) →
+      are_met ws (map f xs) ≡ (b && are_met (drop (i + 1) ws) (drop (i + 1) (map f xs)))
+  met_next b o d lt e is =
+      let all = length-map xs f in
+      known
+      ∙ ap (λ l. are_met l (drop i (map f xs))) (drop_at ws i (omega (arith, many, lt)))
+      ∙ ap (are_met (type_at ws i ∷ drop (i + 1) ws))
+      (drop_at (map f xs) i (omega (arith, all, lt)))
+      ∙ ap (λ c. c && are_met (drop (i + 1) ws) (drop (i + 1) (map f xs)))
+      (sym (e ∙ ap (are_one (type_at ws i)) (is ∙ item_at f xs i d lt)))
 
-  pub met_more : i < length ws → i < length os → true ≡ are_one (type_at ws i) (type_at os i) →
-      whole ≡ are_met (drop (i + 1) ws) (drop (i + 1) os)
-  met_more less lt e = met_next true less lt e
-
-  pub met_broken : i < length ws → i < length os →
-      false ≡ are_one (type_at ws i) (type_at os i) → false ≡ whole
-  met_broken less lt e = sym (met_next false less lt e)
-
-  pub met_end : length ws ≤ i → length os ≤ i → true ≡ whole
-  met_end few le =
-      sym (known ∙ ap (λ l. are_met l (drop i os)) (drop_all i ws few)
-      ∙ ap (are_met []) (drop_all i os le))
+  pub met_end : length xs ≤ i → true ≡ are_met ws (map f xs)
+  met_end le =
+      let all = length-map xs f in
+      sym (known
+      ∙ ap (λ l. are_met l (drop i (map f xs))) (drop_all i ws (omega (arith, many, le)))
+      ∙ ap (are_met []) (drop_all i (map f xs) (omega (arith, all, le))))
 
 -- there are more or fewer
 pub met_apart : (ws os : Types) → length os ≢ length ws → false ≡ are_met ws os

@@ -46,7 +46,7 @@ use Rattle.lb_check.specs.TermTypes.{is_resolved_statement_typed, is_node_typed,
 use Rattle.lb_check.specs.TermTypes.{type_of, types_in, when_truth}
 use Rattle.lb_check.specs.Types.{only, singly}
 use Rattle.lb_check.proofs.FittedCalls.{specialized_instance}
-use Rattle.lb_check.proofs.MirroredTypes.{results_only}
+use Rattle.lb_check.proofs.OneType.{type_is_only}
 use Rattle.lb_check.proofs.SiteCallees.{callee_found, node_resolved, site_found}
 
 -- ## What is there
@@ -315,7 +315,7 @@ module _ (P : Program) (r : Reached) (t : Table) (j : IsJudged P r t) (i : ℕ) 
       right_single e (and_second (list_all (is_variable (counts_of n)) lefts.items) _ w)
       (equal_some (results ctx e) _ h)
   statement_single (statement.Assertion e) w h =
-      term_single e w (sym (ap is_some (results_only ctx e)) ∙ one_truth (results ctx e) h)
+      term_single e w (ap is_some (type_is_only ctx e) ∙ one_truth (results ctx e) h)
 
   statements_single : (ss : List ResolvedStatement)
       → list_all (is_statement_within (counts_of n)) ss ≡ true →

@@ -1,7 +1,6 @@
 -- The statements of a node keep the rules of clocks where the code finds that they do.
 use Rattle.std.proofs.Common.{◌≡◌, ℕ, zero, suc, ◌<◌, Bool, true, false, ◌+◌, List, [], ◌∷◌, length}
-use Rattle.std.proofs.Common.{map}
-use Rattle.std.proofs.Common.{Option, Some, None, refl, ap, sym, ◌∙◌, subst, arith}
+use Rattle.std.proofs.Common.{map, Option, Some, None, refl, ap, sym, ◌∙◌, subst, arith}
 use Rattle.std.specs.Prelude.{◌&&◌, ◌==◌, slice_get, flat_map, nat_eq}
 use Rattle.std.specs.List.{list_all, zip}
 use Rattle.std.proofs.lemmas.Bool.Decides.{nat_tests}
@@ -28,11 +27,7 @@ use Rattle.lb_static.specs.declared.resolved.ResolvedNode.{ResolvedNode}
 use Rattle.lb_static.specs.declared.resolved.Sampling.{Sampling}
 use Rattle.lb_static.specs.declared.resolved.ResolvedStatement.{ResolvedStatement}
 use Rattle.lb_static.specs.declared.resolved.ResolvedStatement.TheVariants as statement
-use Rattle.lb_static.specs.declared.resolved.Term.{Term, Literal, Truth, Variable, Value, Group'}
-use Rattle.lb_static.specs.declared.resolved.Term.{Unary', Binary', If', Arrow', Fby', Pre'}
-use Rattle.lb_static.specs.declared.resolved.Term.{Current', When', Replicate', Index', Slice'}
-use Rattle.lb_static.specs.declared.resolved.Term.{Join', Array', AtMostOne', Nor', Call'}
-use Rattle.lb_static.specs.declared.resolved.Term.{IterateNode', IterateSymbol', Row_of-Term}
+use Rattle.lb_static.specs.declared.resolved.Term.{Term, Value, Group', Call', Row_of-Term}
 use Rattle.lb_static.specs.declared.resolved.Term.{end_of-Term, more_of-Term}
 use Rattle.lb_static.specs.declared.resolved.VariableId.{VariableId}
 use Rattle.lb_check.specs.Scalars.{same}
@@ -342,38 +337,15 @@ module _ (P : Program) (r : Reached) (here : ResolvedNode) (sees : SeesClocks P 
         → is_within (counts_of here) e ≡ true → is_unhidden t e ≡ true →
         is_single_within r here e ≡ true → IsSide lefts n e
     unfolding is_equation_clocked is_single_within
-    side_clocked lefts wl n (Literal m) w u s = term_side lefts wl n (Literal m) w u s
-    side_clocked lefts wl n (Truth b) w u s = term_side lefts wl n (Truth b) w u s
-    side_clocked lefts wl n (Variable x) w u s = term_side lefts wl n (Variable x) w u s
     side_clocked lefts wl n (Value i) w u s =
         ap (λ b. is_clocked_on P here (left_k lefts) n (expr_of t (Value i)) && b)
         (value_side (left_k lefts) (map (name_in here) lefts) (static_at t.statics i))
         ∙ term_side lefts wl n (Value i) w u s
     side_clocked lefts wl n (Group' p e) w u s = side_clocked lefts wl n e w u s
-    side_clocked lefts wl n (Unary' op p a) w u s = term_side lefts wl n (Unary' op p a) w u s
-    side_clocked lefts wl n (Binary' op p a q b) w u s =
-        term_side lefts wl n (Binary' op p a q b) w u s
-    side_clocked lefts wl n (If' p c q a o b) w u s = term_side lefts wl n (If' p c q a o b) w u s
-    side_clocked lefts wl n (Arrow' p a q b) w u s = term_side lefts wl n (Arrow' p a q b) w u s
-    side_clocked lefts wl n (Fby' p a q b) w u s = term_side lefts wl n (Fby' p a q b) w u s
-    side_clocked lefts wl n (Pre' p e) w u s = term_side lefts wl n (Pre' p e) w u s
-    side_clocked lefts wl n (Current' p e) w u s = term_side lefts wl n (Current' p e) w u s
-    side_clocked lefts wl n (When' p e x sign) w u s = term_side lefts wl n (When' p e x sign) w u s
-    side_clocked lefts wl n (Replicate' p e i) w u s = term_side lefts wl n (Replicate' p e i) w u s
-    side_clocked lefts wl n (Index' p e i) w u s = term_side lefts wl n (Index' p e i) w u s
-    side_clocked lefts wl n (Slice' p e i j) w u s = term_side lefts wl n (Slice' p e i j) w u s
-    side_clocked lefts wl n (Join' p a q b) w u s = term_side lefts wl n (Join' p a q b) w u s
-    side_clocked lefts wl n (Array' arity all) w u s = term_side lefts wl n (Array' arity all) w u s
-    side_clocked lefts wl n (AtMostOne' arity all) w u s =
-        term_side lefts wl n (AtMostOne' arity all) w u s
-    side_clocked lefts wl n (Nor' arity all) w u s = term_side lefts wl n (Nor' arity all) w u s
     side_clocked lefts wl n (Call' c arity all) w u s =
         call_side lefts wl n c all (and_first _ (are_within (counts_of here) all) w)
         (and_second (is_call (counts_of here) c) _ w) u s
-    side_clocked lefts wl n (IterateNode' it c arity all) w u s =
-        term_side lefts wl n (IterateNode' it c arity all) w u s
-    side_clocked lefts wl n (IterateSymbol' it op i arity all) w u s =
-        term_side lefts wl n (IterateSymbol' it op i arity all) w u s
+    side_clocked lefts wl n e w u s = term_side lefts wl n e w u s
 
     statement_clocked : (n : ℕ) (s : ResolvedStatement)
         → is_statement_within (counts_of here) s ≡ true →

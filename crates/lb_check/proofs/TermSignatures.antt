@@ -1,32 +1,27 @@
 -- What a term with a row of operands takes and gives, type by type, gives the types of its results.
-use Rattle.std.proofs.Common.{◌≡◌, ◌⊎◌, inl, inr, ℕ, suc, ◌+◌, ◌<◌, Bool, true, false, List, []}
-use Rattle.std.proofs.Common.{◌∷◌, length, map, drop, Option, Some, None, Vec, Global, refl, ap}
-use Rattle.std.proofs.Common.{sym, subst, ◌∙◌, arith}
+use Rattle.std.proofs.Common.{◌≡◌, ◌⊎◌, inl, inr, ℕ, Bool, true, false, List, [], ◌∷◌, length, map}
+use Rattle.std.proofs.Common.{Option, Some, None, Vec, Global, refl, ap, sym, subst, ◌∙◌, arith}
 use Rattle.std.specs.Prelude.{◌&&◌, nat_eq, nat_lt, option_map, replicate, if◌then◌else◌}
 use Rattle.std.specs.List.{list_all}
 use Rattle.std.proofs.Math.Bool.{and-false}
 use Rattle.std.proofs.lemmas.Bool.Decides.{nat_tests}
-use Rattle.std.proofs.lemmas.List.{length-map}
 use Rattle.lb_syntax.specs.declared.tree.ArrayIterator.{ArrayIterator}
 use Rattle.lb_syntax.specs.declared.tree.ArrayIterator.TheVariants.{Map, Red, Fill}
 use Rattle.lb_syntax.specs.declared.tree.BinaryOperator.{BinaryOperator}
-use Rattle.lb_syntax.specs.declared.tree.Kind.{Kind}
 use Rattle.lb_syntax.specs.declared.tree.Kind.TheVariants.{Int as Int_kind, Bool as Bool_kind}
-use Rattle.lb_syntax.specs.Lists.{◌>>=◌, all_some, either_or, holds, where_true}
+use Rattle.lb_syntax.specs.Lists.{◌>>=◌, all_some, holds, where_true}
 use Rattle.lb_static.specs.declared.resolved.CallId.{CallId}
 use Rattle.lb_static.specs.declared.resolved.StaticId.{StaticId}
 use Rattle.lb_static.specs.declared.resolved.Term.{Term, AtMostOne, Nor, Call, IterateNode}
 use Rattle.lb_static.specs.declared.resolved.Term.{IterateSymbol}
 use Rattle.lb_static.specs.DataTypes.{DataType, are_types, int, is_type, truth}
-use Rattle.lb_check.specs.TermSignatures.{Signature, are_met, are_one, arrays, evaluated}
-use Rattle.lb_check.specs.TermSignatures.{given_of, iterated, iterated_by, outcome}
-use Rattle.lb_check.specs.TermSignatures.{pair_of}
-use Rattle.lb_check.specs.TermSignatures.{rest_arrays, scalars, symbol_signature, type_at}
+use Rattle.lb_check.specs.TermSignatures.{Signature, are_met, are_one, arrays, evaluated, given_of}
+use Rattle.lb_check.specs.TermSignatures.{iterated, iterated_by, outcome, pair_of, rest_arrays}
+use Rattle.lb_check.specs.TermSignatures.{scalars, symbol_signature, type_at}
 use Rattle.lb_check.specs.TermTypes.{CallTypes, Context, are_equal, results, row_results}
-use Rattle.lb_check.specs.TermTypes.{truth_results, type_of, types_of, when_both}
-use Rattle.lb_check.specs.Types.{array_of, common_type, fill_types, is_arithmetic, is_logical}
-use Rattle.lb_check.specs.Types.{iterator_types, list_type, map_types, only, red_types}
-use Rattle.lb_check.specs.Types.{symbol_types}
+use Rattle.lb_check.specs.TermTypes.{truth_results, type_of}
+use Rattle.lb_check.specs.Types.{array_of, fill_types, is_arithmetic, is_logical, iterator_types}
+use Rattle.lb_check.specs.Types.{map_types, red_types, symbol_types}
 use Rattle.lb_check.proofs.TypeRows.{results_of_row}
 
 -- types that are there or not
@@ -292,8 +287,8 @@ module _ (n : ℕ) where
       let many : nat_eq (length (there (acc ∷ (i ∷ ins)))) 1 ≡ false =
       grind (arith, nat_tests) in
       sym (refused _ (rest_arrays n (there outs))
-      (ap (λ b. (b && (nat_lt 1 (length (there outs))
-      && are_one (Some acc) (type_at (there outs) 0)))
+      (ap (λ b. ((b && nat_lt 1 (length (there outs)))
+      && are_one (Some acc) (type_at (there outs) 0))
       && are_met (there (acc ∷ (i ∷ ins))) (there ts)) many))
   fill_gives (acc ∷ []) [] ts = refl
   fill_gives (acc ∷ []) (out ∷ []) ts = refl
@@ -337,8 +332,8 @@ module _ (n : ℕ) where
       && are_one (type_at s.takes 0) (type_at s.gives 0))) e) red_gives s os
   iterated_given Fill s os =
       given_by (fill_types n) (iterated_by Fill n) (λ s e. e) (λ s e. no_rest n s.gives e)
-      (λ s e. ap (λ b. b && (nat_eq (length s.takes) 1 && (nat_lt 1 (length s.gives)
-      && are_one (type_at s.takes 0) (type_at s.gives 0)))) e) fill_gives s os
+      (λ s e. ap (λ b. b && ((nat_eq (length s.takes) 1 && nat_lt 1 (length s.gives))
+      && are_one (type_at s.takes 0) (type_at s.gives 0))) e) fill_gives s os
 
 -- ## Operators on truths
 
@@ -410,33 +405,20 @@ module _ (called : CallId → Signature) (ctx : Context)
       ap (λ p. all_some os >>= λ ts. p >>= λ o. where_true (are_types o.0 ts) o.1) (law c)
       ∙ plain_given (called c) os
 
-  of_node : (it : ArrayIterator) (c : CallId) (es : Vec Term Global) (os : Types) →
-      Holds (IterateNode it c es) os
-  of_node it c es os =
-      ap (λ p. all_some os >>= λ ts. ctx.repeats c >>= λ n. p >>= λ o.
-      iterator_types it n o.0 o.1 ts) (law c)
-      ∙ by (ctx.repeats c)
+  -- what is called, and how often, if that is known
+  of_iterated : (it : ArrayIterator) (o : Option ℕ) (p : Option CallTypes) (s : Signature)
+      (os : Types) → p ≡ evaluated s →
+      (all_some os >>= λ ts. o >>= λ n. p >>= λ q. iterator_types it n q.0 q.1 ts)
+      ≡ (outcome (iterated it o s) os >>= all_some)
+  of_iterated it o p s os e =
+      ap (λ q. all_some os >>= λ ts. o >>= λ n. q >>= λ q. iterator_types it n q.0 q.1 ts) e
+      ∙ by o
     where
       by : (o : Option ℕ) →
-          (all_some os >>= λ ts. o >>= λ n. evaluated (called c) >>= λ p.
-          iterator_types it n p.0 p.1 ts)
-          ≡ (outcome (iterated it o (called c)) os >>= all_some)
+          (all_some os >>= λ ts. o >>= λ n. evaluated s >>= λ q. iterator_types it n q.0 q.1 ts)
+          ≡ (outcome (iterated it o s) os >>= all_some)
       by None = none_after (all_some os)
-      by (Some n) = iterated_given n it (called c) os
-
-  of_symbol : (it : ArrayIterator) (op : BinaryOperator) (i : StaticId) (es : Vec Term Global)
-      (os : Types) → Holds (IterateSymbol it op i es) os
-  of_symbol it op i es os =
-      ap (λ p. all_some os >>= λ ts. ctx.count i >>= λ n. p >>= λ o.
-      iterator_types it n o.0 o.1 ts) (symbol_types_are op)
-      ∙ by (ctx.count i)
-    where
-      by : (o : Option ℕ) →
-          (all_some os >>= λ ts. o >>= λ n. evaluated (symbol_signature op) >>= λ p.
-          iterator_types it n p.0 p.1 ts)
-          ≡ (outcome (iterated it o (symbol_signature op)) os >>= all_some)
-      by None = none_after (all_some os)
-      by (Some n) = iterated_given n it (symbol_signature op) os
+      by (Some n) = iterated_given n it s os
 
   of_form : (t u : Term) (os : Types) → t ≡ u → Holds u os → Holds t os
   of_form t u os e h = subst (λ x. Holds x os) (sym e) h
@@ -450,6 +432,9 @@ module _ (called : CallId → Signature) (ctx : Context)
       by os (inr (inl e)) = of_form t (Nor es) os e (truths_given os)
       by os (inr (inr (inl (c, e)))) = of_form t (Call c es) os e (of_call c es os)
       by os (inr (inr (inr (inl (it, c, e))))) =
-          of_form t (IterateNode it c es) os e (of_node it c es os)
+          of_form t (IterateNode it c es) os e
+          (of_iterated it (ctx.repeats c) (ctx.call c) (called c) os (law c))
       by os (inr (inr (inr (inr (it, op, n, e))))) =
-          of_form t (IterateSymbol it op n es) os e (of_symbol it op n es os)
+          of_form t (IterateSymbol it op n es) os e
+          (of_iterated it (ctx.count n) (symbol_types op) (symbol_signature op) os
+          (symbol_types_are op))

@@ -12,7 +12,7 @@ further before mid after xs ys m a =
     a ∙ ap (λ l. l ++ reverse xs) m ∙ append_assoc before (reverse ys) (reverse xs)
     ∙ ap (λ l. before ++ l) (sym (reverse-append xs ys))
 
--- ## The last so many items
+-- ## The items seen, as the last two of `[a, b, c]`
 
 pub none_last : {A : Type 0} (all : List A) → drop (length all - 0) all ≡ []
 none_last all = drop_all (length all - 0) all (omega arith)

@@ -3,13 +3,8 @@ use Rattle.std.proofs.Common.{◌≡◌, inl, inr, List, ◌∷◌, map, Option,
 use Rattle.std.proofs.Common.{refl, ap, ◌∙◌}
 use Rattle.std.specs.Prelude.{option_map}
 use mathlib.Core.Former.{Count}
-use Rattle.lb_syntax.specs.declared.tree.ArrayIterator.{ArrayIterator}
-use Rattle.lb_syntax.specs.declared.tree.BinaryOperator.{BinaryOperator}
 use Rattle.lb_syntax.specs.Lists.{◌>>=◌, all_some}
-use Rattle.lb_static.specs.declared.resolved.CallId.{CallId}
-use Rattle.lb_static.specs.declared.resolved.StaticId.{StaticId}
-use Rattle.lb_static.specs.declared.resolved.Term.{Term, Array, AtMostOne, Nor, Call, IterateNode}
-use Rattle.lb_static.specs.declared.resolved.Term.{IterateSymbol, Array', AtMostOne', Nor', Call'}
+use Rattle.lb_static.specs.declared.resolved.Term.{Term, Array', AtMostOne', Nor', Call'}
 use Rattle.lb_static.specs.declared.resolved.Term.{IterateNode', IterateSymbol', Row_of-Term}
 use Rattle.lb_static.specs.declared.resolved.Term.{end_of-Term, more_of-Term, items-the_row-Term}
 use Rattle.lb_static.specs.declared.resolved.Term.{items_hidden-the_row-Term-0}
@@ -45,63 +40,30 @@ row_in (IterateNode' _ _ _ row) = (_, row)
 row_in (IterateSymbol' _ _ _ _ row) = (_, row)
 row_in _ = (_, end_of-Term)
 
-pub results_array : (ctx : Context) (es : Vec Term Global)
-    → results ctx (Array es) ≡ (types_of ctx es.items >>= row_results ctx (Array es))
-unfolding type_of results
-results_array ctx es =
-    let row = row_in (Array es) in
-    ap (λ o. o >>= row_results ctx (Array es))
-    (types_items ctx row.0 row.1 ∙ ap (types_of ctx) (items_hidden-the_row-Term-0 es))
+-- the row in the tree is the list in the vector
+pub row_is : (t : Term) (es : Vec Term Global) → IsRow t es →
+    items-the_row-Term _ (row_in t).1 ≡ es.items
+row_is t es (inl e) = rw e (items_hidden-the_row-Term-0 es)
+row_is t es (inr (inl e)) = rw e (items_hidden-the_row-Term-0 es)
+row_is t es (inr (inr (inl e))) = rw e (items_hidden-the_row-Term-0 es)
+row_is t es (inr (inr (inr (inl (c, e))))) = rw e (items_hidden-the_row-Term-0 es)
+row_is t es (inr (inr (inr (inr (inl (it, c, e)))))) = rw e (items_hidden-the_row-Term-0 es)
+row_is t es (inr (inr (inr (inr (inr (it, op, n, e)))))) = rw e (items_hidden-the_row-Term-0 es)
 
-pub results_at_most_one : (ctx : Context) (es : Vec Term Global)
-    → results ctx (AtMostOne es) ≡ (types_of ctx es.items >>= row_results ctx (AtMostOne es))
-unfolding type_of results
-results_at_most_one ctx es =
-    let row = row_in (AtMostOne es) in
-    ap (λ o. o >>= row_results ctx (AtMostOne es))
-    (types_items ctx row.0 row.1 ∙ ap (types_of ctx) (items_hidden-the_row-Term-0 es))
+module _ (ctx : Context) where
+  results_in : (t : Term) (es : Vec Term Global) → IsRow t es →
+      results ctx t ≡ (types_in ctx (row_in t).1 >>= row_results ctx t)
+  unfolding results
+  results_in t es (inl e) = rw e refl
+  results_in t es (inr (inl e)) = rw e refl
+  results_in t es (inr (inr (inl e))) = rw e refl
+  results_in t es (inr (inr (inr (inl (c, e))))) = rw e refl
+  results_in t es (inr (inr (inr (inr (inl (it, c, e)))))) = rw e refl
+  results_in t es (inr (inr (inr (inr (inr (it, op, n, e)))))) = rw e refl
 
-pub results_nor : (ctx : Context) (es : Vec Term Global)
-    → results ctx (Nor es) ≡ (types_of ctx es.items >>= row_results ctx (Nor es))
-unfolding type_of results
-results_nor ctx es =
-    let row = row_in (Nor es) in
-    ap (λ o. o >>= row_results ctx (Nor es))
-    (types_items ctx row.0 row.1 ∙ ap (types_of ctx) (items_hidden-the_row-Term-0 es))
-
-pub results_call : (ctx : Context) (c : CallId) (es : Vec Term Global)
-    → results ctx (Call c es) ≡ (types_of ctx es.items >>= row_results ctx (Call c es))
-unfolding type_of results
-results_call ctx c es =
-    let row = row_in (Call c es) in
-    ap (λ o. o >>= row_results ctx (Call c es))
-    (types_items ctx row.0 row.1 ∙ ap (types_of ctx) (items_hidden-the_row-Term-0 es))
-
-pub results_node : (ctx : Context) (it : ArrayIterator) (c : CallId) (es : Vec Term Global)
-    → results ctx (IterateNode it c es) ≡
-    (types_of ctx es.items >>= row_results ctx (IterateNode it c es))
-unfolding type_of results
-results_node ctx it c es =
-    let row = row_in (IterateNode it c es) in
-    ap (λ o. o >>= row_results ctx (IterateNode it c es))
-    (types_items ctx row.0 row.1 ∙ ap (types_of ctx) (items_hidden-the_row-Term-0 es))
-
-pub results_symbol : (ctx : Context) (it : ArrayIterator) (op : BinaryOperator) (n : StaticId)
-    (es : Vec Term Global)
-    → results ctx (IterateSymbol it op n es) ≡
-    (types_of ctx es.items >>= row_results ctx (IterateSymbol it op n es))
-unfolding type_of results
-results_symbol ctx it op n es =
-    let row = row_in (IterateSymbol it op n es) in
-    ap (λ o. o >>= row_results ctx (IterateSymbol it op n es))
-    (types_items ctx row.0 row.1 ∙ ap (types_of ctx) (items_hidden-the_row-Term-0 es))
-
-pub results_of_row : (ctx : Context) (t : Term) (es : Vec Term Global) → IsRow t es
-    → results ctx t ≡ (types_of ctx es.items >>= row_results ctx t)
-results_of_row ctx t es (inl e) = rw e (results_array ctx es)
-results_of_row ctx t es (inr (inl e)) = rw e (results_at_most_one ctx es)
-results_of_row ctx t es (inr (inr (inl e))) = rw e (results_nor ctx es)
-results_of_row ctx t es (inr (inr (inr (inl (c, e))))) = rw e (results_call ctx c es)
-results_of_row ctx t es (inr (inr (inr (inr (inl (it, c, e)))))) = rw e (results_node ctx it c es)
-results_of_row ctx t es (inr (inr (inr (inr (inr (it, op, n, e)))))) =
-    rw e (results_symbol ctx it op n es)
+  pub results_of_row : (t : Term) (es : Vec Term Global) → IsRow t es →
+      results ctx t ≡ (types_of ctx es.items >>= row_results ctx t)
+  results_of_row t es is =
+      results_in t es is
+      ∙ ap (λ o. o >>= row_results ctx t)
+      (types_items ctx (row_in t).0 (row_in t).1 ∙ ap (types_of ctx) (row_is t es is))

@@ -1,25 +1,20 @@
 -- What is kept of the types of the parts of a term, from what is kept of its operands, and of rows
 -- of terms from a place on.
 use Rattle.std.proofs.Common.{◌≡◌, ◌⊎◌, inl, inr, ℕ, ◌+◌, ◌<◌, ◌≤◌, Bool, List, [], ◌∷◌, ◌++◌}
-use Rattle.std.proofs.Common.{length, drop, flat_map, get_or, map, Box, Global, Vec, refl, ap}
+use Rattle.std.proofs.Common.{length, drop, flat_map, get_or, Box, Global, Vec, refl, ap}
 use Rattle.std.proofs.Common.{sym, ◌∙◌}
 use Rattle.std.proofs.lemmas.List.{drop_all, drop_more}
-use Rattle.lb_syntax.specs.declared.tree.ArrayIterator.{ArrayIterator}
-use Rattle.lb_syntax.specs.declared.tree.BinaryOperator.{BinaryOperator}
-use Rattle.lb_static.specs.declared.resolved.CallId.{CallId}
 use Rattle.lb_static.specs.declared.resolved.StaticId.{StaticId}
 use Rattle.lb_static.specs.declared.resolved.Term.{Term, Literal, Truth, Variable, Value, Group}
 use Rattle.lb_static.specs.declared.resolved.Term.{If}
-use Rattle.lb_static.specs.declared.resolved.Term.{Array}
-use Rattle.lb_static.specs.declared.resolved.Term.{AtMostOne, Nor, Call, IterateNode, IterateSymbol}
 use Rattle.lb_static.specs.declared.resolved.Term.{Row_of-Term, end_of-Term, more_of-Term}
-use Rattle.lb_static.specs.declared.resolved.Term.{items-the_row-Term, items_hidden-the_row-Term-0}
+use Rattle.lb_static.specs.declared.resolved.Term.{items-the_row-Term}
 use Rattle.lb_static.specs.declared.resolved.VariableId.{VariableId}
 use Rattle.lb_static.specs.TermForms.{IsSingle, IsPair, IsRow}
 use Rattle.lb_check.specs.PlacedTypes.{FoundNode, FoundTypes, with_term, with_terms, placed_types}
 use Rattle.lb_check.specs.PlacedTypes.{placed_row_types, placed_all_types}
 use Rattle.lb_check.specs.TermTypes.{Context, results}
-use Rattle.lb_check.proofs.TypeRows.{row_in}
+use Rattle.lb_check.proofs.TypeRows.{row_in, row_is}
 
 -- ## What is kept grows
 
@@ -43,21 +38,6 @@ module _ {A : Type 0} (f : A → List FoundTypes) (whole now : FoundNode) (all :
   -- none is left
   pub flat_end : length all ≤ i → whole ≡ now
   flat_end le = known ∙ ap (λ l. with_terms now (flat_map f l)) (drop_all i all le)
-
-module _ {A : Type 0} (f : A → FoundTypes) (whole now : FoundNode) (all : List A) (i : ℕ)
-    (known : whole ≡ with_terms now (map f (drop i all))) where
-  -- one more part
-  pub kept_more : (more : FoundNode) (x : A) → i < length all → x ≡ get_or all i x →
-      more ≡ with_term now (f x) → whole ≡ with_terms more (map f (drop (i + 1) all))
-  kept_more more x lt is e =
-      let rest = map f (drop (i + 1) all) in
-      known ∙ ap (λ l. with_terms now (map f l)) (drop_more all i x lt)
-      ∙ ap (λ y. with_terms (with_term now (f y)) rest) (sym is)
-      ∙ ap (λ g. with_terms g rest) (sym e)
-
-  -- none is left
-  pub kept_end : length all ≤ i → whole ≡ now
-  kept_end le = known ∙ ap (λ l. with_terms now (map f l)) (drop_all i all le)
 
 -- ## Terms by their forms
 
@@ -116,60 +96,19 @@ module _ (ctx : Context) where
   row_items n end_of-Term = refl
   row_items n (more_of-Term e rest) = ap (λ l. placed_types ctx e ++ l) (row_items _ rest)
 
-  -- the operands of a term with this one row
-  hidden : (t : Term) (es : Vec Term Global) → items-the_row-Term _ (row_in t).1 ≡ es.items →
-      results ctx t ∷ placed_row_types ctx (row_in t).1
-      ≡ results ctx t ∷ placed_all_types ctx es.items
-  hidden t es e =
-      ap (λ l. results ctx t ∷ l) (row_items _ (row_in t).1 ∙ ap (placed_all_types ctx) e)
-
-  of_form :
-      (t u : Term) (es : Vec Term Global) → t ≡ u →
-      placed_types ctx u ≡ results ctx u ∷ placed_all_types ctx es.items →
-      placed_types ctx t ≡ results ctx t ∷ placed_all_types ctx es.items
-  of_form t u es e h =
-      ap (placed_types ctx) e ∙ h
-      ∙ ap (λ z. results ctx z ∷ placed_all_types ctx es.items) (sym e)
-
-  array_placed : (es : Vec Term Global) →
-      placed_types ctx (Array es) ≡ results ctx (Array es) ∷ placed_all_types ctx es.items
+  placed_in : (t : Term) (es : Vec Term Global) → IsRow t es →
+      placed_types ctx t ≡ results ctx t ∷ placed_row_types ctx (row_in t).1
   unfolding placed_types
-  array_placed es = hidden (Array es) es (items_hidden-the_row-Term-0 es)
-
-  at_most_one_placed : (es : Vec Term Global) →
-      placed_types ctx (AtMostOne es) ≡ results ctx (AtMostOne es) ∷ placed_all_types ctx es.items
-  unfolding placed_types
-  at_most_one_placed es = hidden (AtMostOne es) es (items_hidden-the_row-Term-0 es)
-
-  nor_placed : (es : Vec Term Global) →
-      placed_types ctx (Nor es) ≡ results ctx (Nor es) ∷ placed_all_types ctx es.items
-  unfolding placed_types
-  nor_placed es = hidden (Nor es) es (items_hidden-the_row-Term-0 es)
-
-  call_placed : (c : CallId) (es : Vec Term Global) →
-      placed_types ctx (Call c es) ≡ results ctx (Call c es) ∷ placed_all_types ctx es.items
-  unfolding placed_types
-  call_placed c es = hidden (Call c es) es (items_hidden-the_row-Term-0 es)
-
-  node_placed : (it : ArrayIterator) (c : CallId) (es : Vec Term Global) →
-      placed_types ctx (IterateNode it c es)
-      ≡ results ctx (IterateNode it c es) ∷ placed_all_types ctx es.items
-  unfolding placed_types
-  node_placed it c es = hidden (IterateNode it c es) es (items_hidden-the_row-Term-0 es)
-
-  symbol_placed : (it : ArrayIterator) (op : BinaryOperator) (n : StaticId) (es : Vec Term Global) →
-      placed_types ctx (IterateSymbol it op n es)
-      ≡ results ctx (IterateSymbol it op n es) ∷ placed_all_types ctx es.items
-  unfolding placed_types
-  symbol_placed it op n es = hidden (IterateSymbol it op n es) es (items_hidden-the_row-Term-0 es)
+  placed_in t es (inl e) = rw e refl
+  placed_in t es (inr (inl e)) = rw e refl
+  placed_in t es (inr (inr (inl e))) = rw e refl
+  placed_in t es (inr (inr (inr (inl (c, e))))) = rw e refl
+  placed_in t es (inr (inr (inr (inr (inl (it, c, e)))))) = rw e refl
+  placed_in t es (inr (inr (inr (inr (inr (it, op, n, e)))))) = rw e refl
 
   pub row_placed : (t : Term) (es : Vec Term Global) → IsRow t es →
       placed_types ctx t ≡ results ctx t ∷ placed_all_types ctx es.items
-  row_placed t es (inl e) = of_form t (Array es) es e (array_placed es)
-  row_placed t es (inr (inl e)) = of_form t (AtMostOne es) es e (at_most_one_placed es)
-  row_placed t es (inr (inr (inl e))) = of_form t (Nor es) es e (nor_placed es)
-  row_placed t es (inr (inr (inr (inl (c, e))))) = of_form t (Call c es) es e (call_placed c es)
-  row_placed t es (inr (inr (inr (inr (inl (it, c, e)))))) =
-      of_form t (IterateNode it c es) es e (node_placed it c es)
-  row_placed t es (inr (inr (inr (inr (inr (it, op, n, e)))))) =
-      of_form t (IterateSymbol it op n es) es e (symbol_placed it op n es)
+  row_placed t es is =
+      placed_in t es is
+      ∙ ap (λ l. results ctx t ∷ l)
+      (row_items _ (row_in t).1 ∙ ap (placed_all_types ctx) (row_is t es is))

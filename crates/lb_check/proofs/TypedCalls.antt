@@ -6,10 +6,8 @@ use Rattle.std.specs.Str.{bytes_eq}
 use Rattle.std.proofs.lemmas.Slice.Eq.{bytes_eq-Decides}
 use Rattle.std.proofs.lemmas.Option.{same_Some}
 use Rattle.lb_syntax.specs.Lists.{In, all_some}
-use Rattle.lb_syntax.specs.Tree.{Name, Static, Node_named, Expr, Literal, Truth, Variable, Group}
-use Rattle.lb_syntax.specs.Tree.{Unary, Binary, If, Arrow, Fby, Pre, Current, When, Replicate}
-use Rattle.lb_syntax.specs.Tree.{Index, Slice, Join, Array, AtMostOne, Nor, Call, Iterate, Exprs}
-use Rattle.lb_syntax.specs.Tree.{Declaration, Equation}
+use Rattle.lb_syntax.specs.Tree.{Name, Static, Node_named, Expr, Group, Call, Exprs, Declaration}
+use Rattle.lb_syntax.specs.Tree.{Equation}
 use Rattle.lb_syntax.proofs.ListPlaces.{all_in}
 use Rattle.lb_syntax.proofs.TruthValues.{and_second}
 use Rattle.lb_static.specs.DataTypes.{DataType, are_types, variable_type}
@@ -71,27 +69,8 @@ pub record IsTypedCall (P : Program) (here : Instance) (n : ℕ) (f : Name) (sta
 -- parentheses have no types of their own
 pub ungrouped_types : (P : Program) (here : Instance) (e : Expr) →
     data_types P here (ungrouped e) ≡ data_types P here e
-ungrouped_types P here (Literal m) = refl
-ungrouped_types P here (Truth b) = refl
-ungrouped_types P here (Variable x) = refl
 ungrouped_types P here (Group a) = ungrouped_types P here a
-ungrouped_types P here (Unary op a) = refl
-ungrouped_types P here (Binary op a b) = refl
-ungrouped_types P here (If c a b) = refl
-ungrouped_types P here (Arrow a b) = refl
-ungrouped_types P here (Fby a b) = refl
-ungrouped_types P here (Pre a) = refl
-ungrouped_types P here (Current a) = refl
-ungrouped_types P here (When a x sign) = refl
-ungrouped_types P here (Replicate a m) = refl
-ungrouped_types P here (Index a i) = refl
-ungrouped_types P here (Slice a i j) = refl
-ungrouped_types P here (Join a b) = refl
-ungrouped_types P here (Array es) = refl
-ungrouped_types P here (AtMostOne es) = refl
-ungrouped_types P here (Nor es) = refl
-ungrouped_types P here (Call f statics es) = refl
-ungrouped_types P here (Iterate it op m es) = refl
+ungrouped_types P here e = refl
 
 -- types that are compared
 compared :

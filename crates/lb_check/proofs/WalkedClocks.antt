@@ -29,7 +29,7 @@ use Rattle.lb_check.proofs.ClockParts.{single_stands}
 use Rattle.lb_check.proofs.ClockRows.{same_operands, stands_row}
 use Rattle.lb_check.proofs.TurnedLists.{all_last, further, more_last, none_last}
 use Rattle.lb_check.proofs.TypeParts.{IsSingle}
-use Rattle.lb_check.proofs.TypeRows.{row_in}
+use Rattle.lb_check.proofs.TypeRows.{row_in, row_is}
 use Rattle.lb_check.proofs.TypeWalks.{IsLeaf}
 
 -- what is known the other way round
@@ -66,7 +66,7 @@ IsPlainRow t es =
     ⊎ ((it : ArrayIterator) × (op : BinaryOperator) × (n : StaticId)
     × (t ≡ IterateSymbol it op n es)))))
 
-wide_row : (t : Term) (es : Vec Term Global) → IsPlainRow t es → IsRow t es
+pub wide_row : (t : Term) (es : Vec Term Global) → IsPlainRow t es → IsRow t es
 wide_row t es (inl e) = inl e
 wide_row t es (inr (inl e)) = inr (inl e)
 wide_row t es (inr (inr (inl e))) = inr (inr (inl e))
@@ -129,39 +129,19 @@ module _ (ctx : Context) where
       known_in ctx (row_in t).1 ≡ known_among ctx es.items
   hidden t es e = known_items _ (row_in t).1 ∙ ap (known_among ctx) e
 
-  array_known : (es : Vec Term Global) →
-      known_operands ctx (Array es) ≡ known_among ctx es.items
+  row_in_known : (t : Term) (es : Vec Term Global) → IsPlainRow t es →
+      known_operands ctx t ≡ known_in ctx (row_in t).1
   unfolding known_operands
-  array_known es = hidden (Array es) es (items_hidden-the_row-Term-0 es)
-
-  at_most_one_known : (es : Vec Term Global) →
-      known_operands ctx (AtMostOne es) ≡ known_among ctx es.items
-  unfolding known_operands
-  at_most_one_known es = hidden (AtMostOne es) es (items_hidden-the_row-Term-0 es)
-
-  nor_known : (es : Vec Term Global) → known_operands ctx (Nor es) ≡ known_among ctx es.items
-  unfolding known_operands
-  nor_known es = hidden (Nor es) es (items_hidden-the_row-Term-0 es)
-
-  node_known : (it : ArrayIterator) (c : CallId) (es : Vec Term Global) →
-      known_operands ctx (IterateNode it c es) ≡ known_among ctx es.items
-  unfolding known_operands
-  node_known it c es = hidden (IterateNode it c es) es (items_hidden-the_row-Term-0 es)
-
-  symbol_known : (it : ArrayIterator) (op : BinaryOperator) (n : StaticId) (es : Vec Term Global) →
-      known_operands ctx (IterateSymbol it op n es) ≡ known_among ctx es.items
-  unfolding known_operands
-  symbol_known it op n es = hidden (IterateSymbol it op n es) es (items_hidden-the_row-Term-0 es)
+  row_in_known t es (inl e) = rw e refl
+  row_in_known t es (inr (inl e)) = rw e refl
+  row_in_known t es (inr (inr (inl e))) = rw e refl
+  row_in_known t es (inr (inr (inr (inl (it, c, e))))) = rw e refl
+  row_in_known t es (inr (inr (inr (inr (it, op, n, e))))) = rw e refl
 
   pub row_known : (t : Term) (es : Vec Term Global) → IsPlainRow t es →
       known_operands ctx t ≡ known_among ctx es.items
-  row_known t es (inl e) = ap (known_operands ctx) e ∙ array_known es
-  row_known t es (inr (inl e)) = ap (known_operands ctx) e ∙ at_most_one_known es
-  row_known t es (inr (inr (inl e))) = ap (known_operands ctx) e ∙ nor_known es
-  row_known t es (inr (inr (inr (inl (it, c, e))))) =
-      ap (known_operands ctx) e ∙ node_known it c es
-  row_known t es (inr (inr (inr (inr (it, op, n, e))))) =
-      ap (known_operands ctx) e ∙ symbol_known it op n es
+  row_known t es is =
+      row_in_known t es is ∙ hidden t es (row_is t es (wide_row t es is))
 
   called_known : (c : CallId) (es : Vec Term Global) →
       known_operands ctx (Call c es) ≡ operands_of ctx es.items ++ known_among ctx es.items
@@ -274,7 +254,7 @@ module _ (ctx : Context) where
   -- ## Rows
 
   module _ (all : List Term) (before : List Operand) where
-    -- the last so many terms are walked
+    -- the terms seen are walked, as the last two of `[a, b, c]`
     abbrev pub AreWalked : ℕ → (now os : List Operand) → Type 0
     AreWalked seen now os =
         IsRowWalked ctx (drop (length all - seen) all) before now (reverse os)

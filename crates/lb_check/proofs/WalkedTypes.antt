@@ -14,9 +14,9 @@ use Rattle.lb_static.specs.TermForms.{IsSingle, IsPair}
 use Rattle.lb_check.specs.PlacedTypes.{FoundTypes, IsWalked, Kept, kept, noted, placed_types}
 use Rattle.lb_check.specs.PlacedTypes.{placed_all_types}
 use Rattle.lb_check.specs.TermSignatures.{Signature, evaluated, given_of, list_of}
-use Rattle.lb_check.specs.TermTypes.{Context, leaf_type, one_type, results, type_of, types_of}
+use Rattle.lb_check.specs.TermTypes.{Context, leaf_type, one_type, results, type_of}
 use Rattle.lb_check.specs.TermTypes.{when_both, when_truth}
-use Rattle.lb_check.specs.Types.{common_type, list_type, only, singly}
+use Rattle.lb_check.specs.Types.{common_type, only, singly}
 use Rattle.lb_check.proofs.BrokenRules.{both_found, if_found}
 use Rattle.lb_check.proofs.OneType.{list_results, list_type_is, type_is_only}
 use Rattle.lb_check.proofs.PartSizes.{kept_both}
@@ -171,7 +171,7 @@ module _ (ctx : Context) where
   -- ## Rows
 
   module _ (all : List Term) where
-    -- the types of the last so many terms
+    -- the types of the terms seen, as of the last two of `[a, b, c]`
     abbrev pub later : ℕ → List (Option DataType)
     later seen = map (type_of ctx) (drop (length all - seen) all)
 
@@ -191,7 +191,7 @@ module _ (ctx : Context) where
         let rest = length-drop (length all - seen) all in
         omega (arith, kept, rest, le)
 
-    -- the parts of the last so many terms are noted
+    -- the parts of the terms seen are noted
     module _ (before : Kept) where
       abbrev pub AreNoted : ℕ → Kept → Type 0
       AreNoted seen now = now ≡ kept before (placed_all_types ctx (drop (length all - seen) all))

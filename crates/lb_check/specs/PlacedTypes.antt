@@ -138,7 +138,7 @@ abbrev pub kept : Kept → List FoundTypes → Kept
 kept k [] = k
 kept k (o ∷ os) = noted (kept k os) o
 
--- a term counts with so many elements, where it is counted
+-- a term counts with this number of elements, where elements are counted
 abbrev pub IsCounted : (left n size : ℕ) → Type 0
 IsCounted left n size = 0 < left → n ≡ size
 
@@ -154,7 +154,7 @@ abbrev pub IsRowWalked :
 IsRowWalked ctx es before after given of =
     (given ≡ of (map (type_of ctx) es)) × (after ≡ kept before (placed_all_types ctx es))
 
--- the last so many operands of a row are some, do not fit, and no part is kept any more
+-- the operands seen, as the last two of `[a, b, c]`, do not fit, and no part is kept any more
 abbrev pub IsDecided : (seen : ℕ) (fit : Bool) (left : ℕ) → Type 0
 IsDecided seen fit left = (0 < seen) × (fit ≡ false) × (left ≡ 0)
 
@@ -171,7 +171,7 @@ found_in f = record { terms = f.terms.items; sizes = f.sizes.items }
 abbrev pub nothing_found : FoundNode
 nothing_found = record { terms = []; sizes = [] }
 
--- one more term, of this kind, with these sizes, the outermost last, and so many elements
+-- one more term, of this kind, with these sizes, the outermost last, and this number of elements
 abbrev pub with_row : FoundNode → Kind → List ℕ → ℕ → FoundNode
 with_row f kind ns n = record {
   terms =

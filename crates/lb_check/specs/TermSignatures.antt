@@ -1,6 +1,6 @@
 -- What a term with a row of operands takes and gives, type by type.
 -- This file mirrors code (src/signature.rt); no definition of the language stands on it.
-use Rattle.std.specs.Prelude.{ℕ, ℤ, Bool, true, false, ◌&&◌, ◌||◌, nat_eq, nat_lt, Option, Some, None}
+use Rattle.std.specs.Prelude.{ℕ, ℤ, Bool, true, false, ◌&&◌, nat_eq, nat_lt, Option, Some, None}
 use Rattle.std.specs.Prelude.{option_map, List, [], ◌∷◌, map, length, take, drop, replicate}
 use Rattle.std.specs.Prelude.{slice_get, if◌then◌else◌}
 use Rattle.lb_syntax.specs.declared.tree.ArrayIterator.{ArrayIterator}
@@ -111,30 +111,30 @@ rest_arrays n (o ∷ os) = o ∷ map (arrays n) os
 abbrev pub is_accumulated : Signature → Bool
 is_accumulated s = are_one (type_at s.takes 0) (type_at s.gives 0)
 
+-- which types of a row stand for arrays of them
+abbrev pub arrays_in : Arrays → List (Option DataType) → List (Option DataType)
+arrays_in No os = os
+arrays_in (All n) os = map (arrays n) os
+arrays_in (Rest n) os = rest_arrays n os
+
+abbrev pub spread : Signature → (takes gives : Arrays) → Bool → Signature
+spread s takes gives stands =
+    record { takes = arrays_in takes s.takes; gives = arrays_in gives s.gives; stands = stands }
+
+abbrev pub accumulated : Signature → (takes gives : Arrays) → Bool → Signature
+accumulated s takes gives fits = spread s takes gives (s.stands && (fits && is_accumulated s))
+
 abbrev pub iterated_by : ArrayIterator → ℕ → Signature → Signature
-iterated_by Map n s = record {
-  takes = map (arrays n) s.takes;
-  gives = map (arrays n) s.gives;
-  stands = s.stands;
-}
-iterated_by Red n s = record {
-  takes = rest_arrays n s.takes;
-  gives = s.gives;
-  stands = s.stands && (nat_eq (length s.gives) 1 && is_accumulated s);
-}
-iterated_by Fill n s = record {
-  takes = s.takes;
-  gives = rest_arrays n s.gives;
-  stands =
-      s.stands
-      && (nat_eq (length s.takes) 1 && (nat_lt 1 (length s.gives) && is_accumulated s));
-}
+iterated_by Map n s = spread s (All n) (All n) s.stands
+iterated_by Red n s = accumulated s (Rest n) No (nat_eq (length s.gives) 1)
+iterated_by Fill n s =
+    accumulated s No (Rest n) (nat_eq (length s.takes) 1 && nat_lt 1 (length s.gives))
 
 abbrev pub iterated : ArrayIterator → Option ℕ → Signature → Signature
 iterated it None s = nothing
 iterated it (Some n) s = iterated_by it n s
 
--- what a term with so many operands in a row takes and gives, a list apart
+-- what a term with this number of operands in a row takes and gives, a list apart
 abbrev pub signature : (CallId → Signature) → Context → Term → ℕ → Signature
 signature called ctx (AtMostOne' arity all) count = scalars Bool_kind count true
 signature called ctx (Nor' arity all) count = scalars Bool_kind count true
@@ -162,11 +162,11 @@ evaluated s = if s.stands then pair_of (all_some s.takes) (all_some s.gives) els
 
 -- ## From the last operand to the first
 
--- the type of the elements, from that of one and that of the later ones, of which there are so many
+-- the type of the elements of `[a, b, c]` from `b` on, from its own and that of the one seen, `c`
 abbrev pub like_later : ℕ → (own later : Option DataType) → Option DataType
 like_later seen own later = if nat_eq seen 0 then own else when_both own later common_type
 
--- whether so many operands may be given
+-- whether this number of operands may be given
 abbrev pub has_arity : Signature → ℕ → Bool
 has_arity s count = s.stands && nat_eq (length s.takes) count
 
@@ -175,11 +175,6 @@ has_arity s count = s.stands && nat_eq (length s.takes) count
 abbrev pub elements_in : Elements → List (Option DataType)
 elements_in (Scalars kind n) = replicate n (Some (record { kind = kind; sizes = [] }))
 elements_in (Declared vs statics) = map (declared_type statics.now) vs.now
-
-abbrev pub arrays_in : Arrays → List (Option DataType) → List (Option DataType)
-arrays_in No os = os
-arrays_in (All n) os = map (arrays n) os
-arrays_in (Rest n) os = rest_arrays n os
 
 abbrev pub row_in : TypeRow → List (Option DataType)
 row_in r = arrays_in r.arrays (elements_in r.elements)

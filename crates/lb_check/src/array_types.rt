@@ -1,6 +1,6 @@
 //! The types of arrays.
 
-ghost use Rattle.std.specs.Prelude.{◌≡◌, is_some, option_map, IfOk};
+ghost use Rattle.std.specs.Prelude.{◌≡◌, ◌&&◌, is_some, nat_le, option_map, IfOk};
 ghost use Rattle.lb_syntax.specs.Lists as lists;
 ghost use Rattle.lb_static.specs.StoredTypes.{view_type};
 ghost use Rattle.lb_check.specs.Types as types;
@@ -11,14 +11,22 @@ use std::alloc::AllocError;
 /// The most elements of an array.
 const LONGEST: u64 = 4096;
 
-/// An array of so many of these, where it is not too long.
+/// Whether an array may have this length.
+#[inline(always)]
+fn is_length(size: u64) -> bool
+    ensures { result ≡ (nat_le 1 size && nat_le size 4096) }
+{
+    1 <= size && size <= LONGEST
+}
+
+/// An array of this length, where it may have it.
 #[inline(always)]
 #[tactic(auto, using(crate::proofs::TypeLists::outermost))]
 pub fn array_of(size: u64, element: DataType) -> Result<Option<DataType>, AllocError>
     ensures { IfOk result (λ o.
         option_map view_type o ≡ types.array_of size (view_type element)) }
 {
-    if size < 1 || LONGEST < size {
+    if !is_length(size) {
         return Ok(None);
     }
     let mut array = element;
@@ -26,13 +34,13 @@ pub fn array_of(size: u64, element: DataType) -> Result<Option<DataType>, AllocE
     Ok(Some(array))
 }
 
-/// Whether there is an array of so many of these.
+/// Whether there is an array of this length with such elements.
 pub fn is_array(size: u64, element: &Option<DataType>) -> bool
     ensures { result ≡ is_some
         (lists.◌>>=◌ (option_map view_type element.now) (types.array_of size)) }
 {
     match element {
-        Some(_) => 1 <= size && size <= LONGEST,
+        Some(_) => is_length(size),
         None => false,
     }
 }
@@ -84,7 +92,7 @@ pub fn join_type(left: DataType, right: DataType) -> Result<Option<DataType>, Al
     array_of(m + n, second)
 }
 
-/// The type of an array of so many of these, if it is known how many.
+/// The type of an array of this length, if that is known.
 #[inline(always)]
 pub fn replicate_type(size: Option<u64>, element: DataType) -> Result<Option<DataType>, AllocError>
     ensures { IfOk result (λ o.

@@ -1,7 +1,6 @@
 //! On which clocks calls stand (E10).
 
 ghost use Rattle.std.specs.Prelude.{◌≡◌, ◌+◌, ◌∷◌, [], List, take, drop, IfOk};
-ghost use Rattle.std.specs.List.{list_all};
 ghost use Rattle.lb_static.specs.declared.resolved.VariableId as named;
 ghost use Rattle.lb_check.specs.CallClocks as variables;
 ghost use Rattle.lb_check.specs.StoredClocks.{clocks_of, context_in, given_in};

@@ -1,102 +1,79 @@
 //! Why a call or an iterator has not one type, where its arguments have types (E9).
 
-use crate::signature::{TypeRow, signature_of};
+use crate::signature::{TypeRow, is_wanted, signature_of};
 use crate::sites::Site;
 use crate::type_env::TypeEnv;
 use crate::type_fault::TypeRule;
-use crate::type_reason::{TypeReason, all_shown, shown};
-use crate::types::{results, type_of};
-use lb_static::{DataType, Term};
+use crate::type_reason::{TypeReason, Typed, of_rule};
+use crate::types::type_of;
+use lb_static::Term;
 use std::alloc::{AllocError, Global};
 
-/// What is wrong with a call as a whole.
-fn of_call(alloc: Global, rule: TypeRule, site: Site) -> TypeReason {
-    TypeReason {
-        rule,
-        offset: site.offset(),
-        sign_offset: None,
-        found: Vec::new(alloc),
-        wanted: None,
-    }
-}
-
-/// A call with another number of results than one.
-fn of_results(alloc: Global, env: &TypeEnv, site: Site) -> Result<TypeReason, AllocError> {
-    let found = match results(alloc, env, site.term)? {
-        Some(types) => all_shown(alloc, types)?,
-        None => Vec::new(alloc),
-    };
-    Ok(TypeReason {
-        rule: TypeRule::ResultCount,
-        offset: site.offset(),
-        sign_offset: None,
-        found,
-        wanted: None,
-    })
-}
-
-/// An argument, counted from 0, that has another type than its input.
-fn of_argument(
+/// An argument, counted from 0, that has another type than its input, or whose input has none.
+fn of_argument<'t>(
     alloc: Global,
-    site: Site,
+    site: Site<'t>,
+    inputs: &TypeRow<'t>,
     place: usize,
-    found: Option<DataType>,
-    wanted: DataType,
-) -> Result<TypeReason, AllocError> {
-    let mut types = Vec::new(alloc);
-    if let Some(data_type) = found {
-        types.push(shown(data_type))?;
+    argument: &'t Term,
+) -> Result<TypeReason<'t>, AllocError> {
+    if inputs.get(alloc, place)?.is_none() {
+        return Ok(of_rule(TypeRule::Length, site.offset()));
     }
     Ok(TypeReason {
         rule: TypeRule::Argument(place.saturating_add(1)),
         offset: site.operand_offset(place),
         sign_offset: None,
-        found: types,
-        wanted: Some(shown(wanted)),
+        found: Typed::One(argument),
+        wanted: Typed::Input(*inputs, place),
     })
 }
 
-/// The first argument that has another type than its input, if there is one.
-fn wrong_argument(
+/// A call with another number of results than one.
+fn of_results<'t>(site: Site<'t>) -> TypeReason<'t> {
+    TypeReason {
+        rule: TypeRule::ResultCount,
+        offset: site.offset(),
+        sign_offset: None,
+        found: Typed::Results(site.term),
+        wanted: Typed::Nothing,
+    }
+}
+
+/// What is wrong with the first argument that has another type than its input, or else with the
+/// results.
+fn of_arguments<'t>(
     alloc: Global,
     env: &TypeEnv,
-    site: Site,
-    wanted: &TypeRow,
-    terms: &[Term],
-) -> Result<Option<TypeReason>, AllocError> {
+    site: Site<'t>,
+    inputs: &TypeRow<'t>,
+    terms: &'t [Term],
+) -> Result<TypeReason<'t>, AllocError> {
     for (place, term) in terms.iter().enumerate() {
-        let Some(wanted) = wanted.get(alloc, place)? else {
-            return Ok(Some(of_call(alloc, TypeRule::Length, site)));
-        };
-        match type_of(alloc, env, term)? {
-            Some(found) if wanted.equals(&found) => {}
-            other => return Ok(Some(of_argument(alloc, site, place, other, wanted)?)),
+        let own = type_of(alloc, env, term)?;
+        if !is_wanted(alloc, inputs, place, &own)? {
+            return of_argument(alloc, site, inputs, place, term);
         }
     }
-    Ok(None)
+    Ok(of_results(site))
 }
 
 /// Why a call or an iterator with these arguments has not one type.
-pub fn call_reason(
+pub fn call_reason<'t>(
     alloc: Global,
-    env: &TypeEnv,
-    site: Site,
-    terms: &[Term],
-) -> Result<TypeReason, AllocError> {
+    env: &TypeEnv<'t, '_>,
+    site: Site<'t>,
+    terms: &'t [Term],
+) -> Result<TypeReason<'t>, AllocError> {
     let signature = signature_of(alloc, env, site.term, terms.len())?;
+    let inputs = signature.takes;
+    let (found, wanted) = (terms.len(), inputs.len());
     if !signature.stands {
-        return Ok(of_call(alloc, TypeRule::IteratedNode, site));
-    }
-    let wanted = signature.takes.len();
-    if terms.len() != wanted {
-        let rule = TypeRule::ArgumentCount {
-            found: terms.len(),
-            wanted,
-        };
-        return Ok(of_call(alloc, rule, site));
-    }
-    match wrong_argument(alloc, env, site, &signature.takes, terms)? {
-        Some(reason) => Ok(reason),
-        None => of_results(alloc, env, site),
+        Ok(of_rule(TypeRule::IteratedNode, site.offset()))
+    } else if found != wanted {
+        let rule = TypeRule::ArgumentCount { found, wanted };
+        Ok(of_rule(rule, site.offset()))
+    } else {
+        of_arguments(alloc, env, site, &inputs, terms)
     }
 }

@@ -102,18 +102,6 @@ pub fn variable_offset(node: &Node, variable: VariableId) -> u32 {
     }
 }
 
-/// The name of a variable of a node.
-pub fn variable_name(
-    alloc: Global,
-    node: &Node,
-    variable: VariableId,
-) -> Result<String, AllocError> {
-    match declared_variable(node, variable) {
-        Some(declared) => String::from_str(alloc, declared.name.as_str()),
-        None => Ok(String::new(alloc)),
-    }
-}
-
 /// Adds the names of some declarations.
 fn add_names<'t>(
     names: &mut Vec<&'t Name>,
@@ -148,7 +136,11 @@ pub fn clock_offset(node: &Node, variable: VariableId) -> u32 {
 }
 
 /// Where a part of a node begins.
-pub fn part_offset(node: &Node, part: Part) -> u32 {
+pub fn part_offset(reached: &Reached, id: NodeId, part: Part) -> u32 {
+    let Some(node) = reached.nodes.get(id.0) else {
+        return 0;
+    };
+    let node = node.tree;
     match part {
         Part::Variable(variable) => variable_offset(node, variable),
         Part::Statement(place) => match node.body.get(place) {

@@ -7,143 +7,97 @@ ghost use Rattle.std.specs.Prelude.{◌≡◌, IfOk, string_bytes};
 ghost use Rattle.lb_syntax.specs.Lists.{listed};
 ghost use Rattle.lb_static.specs.ReachedNodes.{tree_at};
 
-use crate::call_clock::{Given, expected, outputs_of, result_clock, variable_of};
-use crate::cause::{clock_offset, name_of, part_offset, path_to_node};
-use crate::clock_fault::{ClockFault, ClockRule};
+use crate::call_clock::{Given, expected, outputs_of, result_clock};
+use crate::cause::{clock_offset, name_of, part_offset, path_to_node, variable_names};
+use crate::clock_fault::{ClockFault, ClockRule, ClockSign, SourceClock};
 use crate::clock_reason::{
     ClockReason, arguments_reason, clock_reason, clocks_differ, of_rule, only_clock,
 };
 use crate::clock_rules::left_clock;
 use crate::clock_set::{ClockSet, Operand};
-use crate::own_clock::{Clock, is_same};
+use crate::own_clock::{Clock, is_same, parent};
 use crate::part::{IllFormed, Part};
-use crate::sites::{Site, left_offset, operand_at, right_side, ungrouped};
+use crate::sites::{Site, left_offset, right_side, ungrouped};
 use crate::term_clock::{ClockEnv, row_clock_set, unary_clock_set};
-use crate::walked_clocks::infer_clock;
-use lb_static::{CallId, Reached, ResolvedNode, ResolvedStatement, Table, Term, VariableId};
-use lb_syntax::{Expr, Statement};
+use lb_static::{
+    CallId, NodeId, Reached, ResolvedNode, ResolvedStatement, Table, Term, VariableId,
+};
+use lb_syntax::{Name, Statement};
 use std::alloc::{AllocError, Global};
 
 /// What is found of a term, from what is found of its operands.
 #[derive(Clone, Copy)]
-enum Clocking<'t> {
-    /// It stands on these clocks.
-    Clocked(ClockSet),
-    /// This part stands on no clock, though each of its operands stands on one.
-    Unclocked(Site<'t>),
+enum Clocking {
+    /// It stands on these clocks, and is this variable, if it is one.
+    Clocked(Operand),
+    /// Why this term, or a part of it, stands on no clock.
+    Unclocked(ClockReason),
 }
 
-/// What is found of terms in a row.
+/// What is found of the operands of a term.
 #[derive(Drop)]
-enum RowClocking<'t> {
+enum OperandClocking {
     Clocked(Vec<Operand>),
-    Unclocked(Site<'t>),
+    Unclocked(ClockReason),
+}
+
+/// The clocks that a term with these operands accepts.
+fn own_clock_set(env: &ClockEnv, term: &Term, operands: &[Operand]) -> ClockSet {
+    match (term, operands) {
+        (Term::Variable(x), _) => ClockSet::OneClock(env.variable(*x)),
+        (Term::When(_, _, _) | Term::Current(_), [operand]) => {
+            unary_clock_set(env, term, operand.clock_set)
+        }
+        _ => row_clock_set(env, term, operands),
+    }
+}
+
+/// The variable that a term with these operands is, in parentheses or not.
+fn own_variable(term: &Term, operands: &[Operand]) -> Option<VariableId> {
+    match (term, operands) {
+        (Term::Variable(x), _) => Some(*x),
+        (Term::Group(_), [inner]) => inner.variable,
+        _ => None,
+    }
 }
 
 /// What is found of a term of which each operand stands on a clock.
-fn own_clocking<'t>(clock_set: ClockSet, site: Site<'t>) -> Clocking<'t> {
-    match clock_set {
-        ClockSet::NoClock => Clocking::Unclocked(site),
-        ClockSet::AnyClock | ClockSet::OneClock(_) => Clocking::Clocked(clock_set),
+fn own_clocking(env: &ClockEnv, site: Site, operands: &[Operand]) -> Clocking {
+    match own_clock_set(env, site.term, operands) {
+        ClockSet::NoClock => Clocking::Unclocked(clock_reason(env, site, operands)),
+        clock_set => Clocking::Clocked(Operand {
+            clock_set,
+            variable: own_variable(site.term, operands),
+        }),
     }
 }
 
-/// What is found of some terms, which stand in a row in an expression.
+/// What is found of the operands of a term: the first part that stands on no clock is told.
 #[cycle(clockings)]
-fn clocked_row<'t>(
+fn clocked_operands(
     alloc: Global,
     env: &ClockEnv,
-    terms: &'t [Term],
-    expr: &'t Expr,
-) -> Result<RowClocking<'t>, AllocError> {
+    site: Site,
+) -> Result<OperandClocking, AllocError> {
     let mut operands = Vec::new(alloc);
-    for (place, term) in terms.iter().enumerate() {
-        match clocked_term(alloc, env, term, operand_at(expr, place))? {
-            Clocking::Clocked(clock_set) => operands.push(Operand {
-                clock_set,
-                variable: variable_of(term),
-            })?,
-            Clocking::Unclocked(site) => return Ok(RowClocking::Unclocked(site)),
+    for place in 0..usize::MAX {
+        let Some(operand) = site.operand(place) else {
+            break;
+        };
+        match clocked_term(alloc, env, operand)? {
+            Clocking::Clocked(operand) => operands.push(operand)?,
+            Clocking::Unclocked(reason) => return Ok(OperandClocking::Unclocked(reason)),
         }
     }
-    Ok(RowClocking::Clocked(operands))
-}
-
-/// What is found of a term with two operands, of which this is found.
-fn pair_clocking<'t>(site: Site<'t>, left: Clocking<'t>, right: Clocking<'t>) -> Clocking<'t> {
-    match (left, right) {
-        (Clocking::Clocked(left), Clocking::Clocked(right)) => {
-            own_clocking(left.both(right), site)
-        }
-        (Clocking::Unclocked(inner), _) => Clocking::Unclocked(inner),
-        (_, unclocked) => unclocked,
-    }
-}
-
-/// What is found of a choice, of whose condition and branches this is found.
-fn choice_clocking<'t>(
-    site: Site<'t>,
-    condition: Clocking<'t>,
-    left: Clocking<'t>,
-    right: Clocking<'t>,
-) -> Clocking<'t> {
-    match condition {
-        Clocking::Clocked(condition) => match pair_clocking(site, left, right) {
-            Clocking::Clocked(branches) => own_clocking(condition.both(branches), site),
-            unclocked => unclocked,
-        },
-        unclocked => unclocked,
-    }
+    Ok(OperandClocking::Clocked(operands))
 }
 
 /// What is found of a term: each part is looked at once.
 #[cycle(clockings)]
-fn clocked_term<'t>(
-    alloc: Global,
-    env: &ClockEnv,
-    term: &'t Term,
-    expr: &'t Expr,
-) -> Result<Clocking<'t>, AllocError> {
-    let site = Site { term, expr };
-    match term {
-        Term::Literal(_) | Term::Truth(_) | Term::Value(_) | Term::Variable(_) => {
-            Ok(own_clocking(infer_clock(alloc, env, term)?, site))
-        }
-        Term::Group(e) => clocked_term(alloc, env, e, operand_at(expr, 0)),
-        Term::Unary(_, e)
-        | Term::Pre(e)
-        | Term::Current(e)
-        | Term::When(e, _, _)
-        | Term::Replicate(e, _)
-        | Term::Index(e, _)
-        | Term::Slice(e, _, _) => match clocked_term(alloc, env, e, operand_at(expr, 0))? {
-            Clocking::Clocked(operand) => {
-                Ok(own_clocking(unary_clock_set(env, term, operand), site))
-            }
-            unclocked => Ok(unclocked),
-        },
-        Term::Binary(_, a, b) | Term::Arrow(a, b) | Term::Fby(a, b) | Term::Join(a, b) => {
-            let left = clocked_term(alloc, env, a, operand_at(expr, 0))?;
-            let right = clocked_term(alloc, env, b, operand_at(expr, 1))?;
-            Ok(pair_clocking(site, left, right))
-        }
-        Term::If(c, a, b) => {
-            let condition = clocked_term(alloc, env, c, operand_at(expr, 0))?;
-            let left = clocked_term(alloc, env, a, operand_at(expr, 1))?;
-            let right = clocked_term(alloc, env, b, operand_at(expr, 2))?;
-            Ok(choice_clocking(site, condition, left, right))
-        }
-        Term::Array(terms)
-        | Term::AtMostOne(terms)
-        | Term::Nor(terms)
-        | Term::Call(_, terms)
-        | Term::IterateNode(_, _, terms)
-        | Term::IterateSymbol(_, _, _, terms) => match clocked_row(alloc, env, terms, expr)? {
-            RowClocking::Clocked(operands) => {
-                Ok(own_clocking(row_clock_set(env, term, &operands), site))
-            }
-            RowClocking::Unclocked(site) => Ok(Clocking::Unclocked(site)),
-        },
+fn clocked_term(alloc: Global, env: &ClockEnv, site: Site) -> Result<Clocking, AllocError> {
+    match clocked_operands(alloc, env, site)? {
+        OperandClocking::Clocked(operands) => Ok(own_clocking(env, site, &operands)),
+        OperandClocking::Unclocked(reason) => Ok(Clocking::Unclocked(reason)),
     }
 }
 
@@ -159,69 +113,60 @@ fn first_elsewhere(env: &ClockEnv, clock: Clock, lefts: &[VariableId]) -> Option
 
 /// A left variable, counted from 0, on another clock than what stands on the right.
 fn left_reason(
-    alloc: Global,
     env: &ClockEnv,
     lefts: &[VariableId],
     place: usize,
     found: Option<Clock>,
     statement: &Statement,
-) -> Result<ClockReason, AllocError> {
+) -> ClockReason {
     let wanted = match lefts.get(place) {
         Some(left) => Some(env.variable(*left)),
         None => None,
     };
     let rule = ClockRule::Left(place.saturating_add(1));
-    clocks_differ(
-        alloc,
-        env,
-        rule,
-        left_offset(statement, place),
-        found,
-        wanted,
-    )
+    clocks_differ(rule, left_offset(statement, place), found, wanted)
 }
 
 /// Why an equation whose right side is no call breaks the rules of clocks, where its right side
 /// stands on a clock.
 fn lefts_reason(
-    alloc: Global,
     env: &ClockEnv,
     lefts: &[VariableId],
     right: ClockSet,
     statement: &Statement,
-) -> Result<ClockReason, AllocError> {
+) -> ClockReason {
     let clock = left_clock(env, lefts);
     if !right.accepts_clock(Some(clock)) {
-        return left_reason(alloc, env, lefts, 0, only_clock(right), statement);
+        return left_reason(env, lefts, 0, only_clock(right), statement);
     }
     let place = first_elsewhere(env, clock, lefts).unwrap_or(0);
-    left_reason(alloc, env, lefts, place, Some(clock), statement)
+    left_reason(env, lefts, place, Some(clock), statement)
+}
+
+/// Whether a result with this clock stands on that of its left variable.
+fn is_result_on(env: &ClockEnv, found: Option<Clock>, left: VariableId) -> bool {
+    match found {
+        Some(clock) => is_same(clock, env.variable(left)),
+        None => false,
+    }
 }
 
 /// The results of a call, of which one is on another clock than its left variable.
 fn results_reason(
-    alloc: Global,
     env: &ClockEnv,
     callee: &ResolvedNode,
     base: Option<Clock>,
     given: &Given,
     lefts: &[VariableId],
     statement: &Statement,
-) -> Result<ClockReason, AllocError> {
-    for (place, output) in outputs_of(callee).iter().enumerate() {
-        let Some(left) = lefts.get(place) else {
-            return Ok(of_rule(ClockRule::Left(1), statement.offset()));
-        };
+) -> ClockReason {
+    for (place, (output, left)) in outputs_of(callee).iter().zip(lefts.iter()).enumerate() {
         let found = expected(base, given, output.clock);
-        let is_right = match found {
-            Some(clock) => is_same(clock, env.variable(*left)),
-            None => false,
-        };
-        if !is_right {
-            return left_reason(alloc, env, lefts, place, found, statement);
+        if !is_result_on(env, found, *left) {
+            return left_reason(env, lefts, place, found, statement);
         }
     }
-    Ok(of_rule(ClockRule::Left(1), statement.offset()))
+    of_rule(ClockRule::Left(1), statement.offset())
 }
 
 /// Why an equation whose right side is a call breaks the rules of clocks, where the arguments stand
@@ -237,33 +182,24 @@ fn called_reason(
 ) -> Result<ClockReason, AllocError> {
     let base = result_clock(alloc, env, callee, operands, lefts)?;
     let given = &Given::Whole(callee.inputs, operands, lefts);
-    match arguments_reason(alloc, env, site, callee, base, given, operands)? {
+    match arguments_reason(site, callee, base, given, operands) {
         Some(reason) => Ok(reason),
-        None => results_reason(alloc, env, callee, base, given, lefts, statement),
+        None => Ok(results_reason(env, callee, base, given, lefts, statement)),
     }
 }
 
-/// Why a term stands on no clock.
-fn term_reason(alloc: Global, env: &ClockEnv, whole: Site) -> Result<ClockReason, AllocError> {
-    match clocked_term(alloc, env, whole.term, whole.expr)? {
-        Clocking::Unclocked(site) => clock_reason(alloc, env, site),
-        Clocking::Clocked(_) => clock_reason(alloc, env, whole),
-    }
-}
-
-/// Why an equation whose right side is a call with these arguments breaks the rules of clocks.
+/// Why an equation whose right side is this call breaks the rules of clocks.
 fn call_equation_reason(
     alloc: Global,
     env: &ClockEnv,
     lefts: &[VariableId],
     site: Site,
     call: CallId,
-    terms: &[Term],
     statement: &Statement,
 ) -> Result<ClockReason, AllocError> {
-    let operands = match clocked_row(alloc, env, terms, site.expr)? {
-        RowClocking::Clocked(operands) => operands,
-        RowClocking::Unclocked(inner) => return clock_reason(alloc, env, inner),
+    let operands = match clocked_operands(alloc, env, site)? {
+        OperandClocking::Clocked(operands) => operands,
+        OperandClocking::Unclocked(reason) => return Ok(reason),
     };
     match env.callee(call) {
         Some(callee) => called_reason(alloc, env, site, callee, &operands, lefts, statement),
@@ -279,12 +215,20 @@ fn equation_reason(
     site: Site,
     statement: &Statement,
 ) -> Result<ClockReason, AllocError> {
-    if let Term::Call(call, terms) = site.term {
-        return call_equation_reason(alloc, env, lefts, site, *call, terms, statement);
+    if let Term::Call(call, _) = site.term {
+        return call_equation_reason(alloc, env, lefts, site, *call, statement);
     }
-    match infer_clock(alloc, env, site.term)? {
-        ClockSet::NoClock => term_reason(alloc, env, site),
-        right => lefts_reason(alloc, env, lefts, right, statement),
+    match clocked_term(alloc, env, site)? {
+        Clocking::Clocked(right) => Ok(lefts_reason(env, lefts, right.clock_set, statement)),
+        Clocking::Unclocked(reason) => Ok(reason),
+    }
+}
+
+/// Why what is asserted stands on no clock.
+fn assertion_reason(alloc: Global, env: &ClockEnv, site: Site) -> Result<ClockReason, AllocError> {
+    match clocked_term(alloc, env, site)? {
+        Clocking::Clocked(_) => Ok(of_rule(ClockRule::Current, site.offset())),
+        Clocking::Unclocked(reason) => Ok(reason),
     }
 }
 
@@ -300,7 +244,59 @@ fn statement_reason(
         ResolvedStatement::Equation(lefts, right) => {
             equation_reason(alloc, env, lefts, ungrouped(right, expr), statement)
         }
-        ResolvedStatement::Assertion(term) => { term_reason(alloc, env, ungrouped(term, expr)) }
+        ResolvedStatement::Assertion(term) => {
+            assertion_reason(alloc, env, ungrouped(term, expr))
+        }
+    }
+}
+
+/// The signs on which a clock of a node rests, the last one first.
+fn signs_of(
+    alloc: Global,
+    node: &ResolvedNode,
+    clock: Clock,
+) -> Result<Vec<ClockSign>, AllocError> {
+    let names = variable_names(alloc, node.tree)?;
+    let mut signs = Vec::new(alloc);
+    let mut above = clock;
+    for _ in 0..node.variables.len() {
+        let Clock::On(variable, sign) = above else {
+            return Ok(signs);
+        };
+        signs.push(ClockSign {
+            variable: name_at(alloc, &names, variable)?,
+            sign,
+        })?;
+        match parent(node, above) {
+            Some(next) => above = next,
+            None => return Ok(signs),
+        }
+    }
+    Ok(signs)
+}
+
+/// The name of a variable again, of those by their places.
+fn name_at(alloc: Global, names: &[&Name], variable: VariableId) -> Result<String, AllocError> {
+    match names.get(variable.0) {
+        Some(name) => String::from_str(alloc, name.as_str()),
+        None => Ok(String::new(alloc)),
+    }
+}
+
+/// A clock of a node as it is written, if there is one.
+fn shown(
+    alloc: Global,
+    reached: &Reached,
+    id: NodeId,
+    clock: Option<Clock>,
+) -> Result<Option<SourceClock>, AllocError> {
+    match (reached.nodes.get(id.0), clock) {
+        (Some(node), Some(clock)) => {
+            let mut signs = signs_of(alloc, node, clock)?;
+            signs.reverse();
+            Ok(Some(SourceClock { signs }))
+        }
+        _ => Ok(None),
     }
 }
 
@@ -342,17 +338,16 @@ fn part_reason(alloc: Global, env: &ClockEnv, part: Part) -> Result<ClockReason,
     }
 }
 
-/// Why a part breaks the rules of clocks, and where it begins.
+/// Why a part breaks the rules of clocks.
 fn found_reason(
     alloc: Global,
     reached: &Reached,
     found: IllFormed,
-) -> Result<(ClockReason, u32), AllocError> {
-    let Some(node) = reached.nodes.get(found.node.0) else {
-        return Ok((of_rule(ClockRule::Circle, 0), 0));
-    };
-    let reason = part_reason(alloc, &ClockEnv { reached, node }, found.part)?;
-    Ok((reason, part_offset(node.tree, found.part)))
+) -> Result<ClockReason, AllocError> {
+    match reached.nodes.get(found.node.0) {
+        Some(node) => part_reason(alloc, &ClockEnv { reached, node }, found.part),
+        None => Ok(of_rule(ClockRule::Circle, 0)),
+    }
 }
 
 /// What breaks the rules of clocks in this part, and where.
@@ -366,18 +361,20 @@ pub fn clock_fault(
         string_bytes f.node ≡ listed (λ n. n.name) (tree_at reached.now found.node)) }
     ensures part { IfOk result (λ f. f.part ≡ found.part) }
 {
-    let (reason, part_offset) = found_reason(alloc, reached, found)?;
+    let reason = found_reason(alloc, reached, found)?;
+    let own = shown(alloc, reached, found.node, reason.found)?;
+    let wanted = shown(alloc, reached, found.node, reason.wanted)?;
     let path = path_to_node(alloc, reached, table, found.node)?;
     let node = name_of(alloc, reached, found.node)?;
     Ok(ClockFault {
         node,
         part: found.part,
-        part_offset,
+        part_offset: part_offset(reached, found.node, found.part),
         rule: reason.rule,
         offset: reason.offset,
         sign_offset: reason.sign_offset,
-        found: reason.found,
-        wanted: reason.wanted,
+        found: own,
+        wanted,
         path,
     })
 }

@@ -5,7 +5,7 @@ use lb_static::CallPath;
 use std::fmt;
 
 /// A variable that is waited for, and whether for true or for false.
-#[derive(PartialEq, Debug, Drop)]
+#[derive(Drop)]
 pub struct ClockSign {
     pub variable: String,
     pub sign: bool,
@@ -13,24 +13,21 @@ pub struct ClockSign {
 
 /// A clock of a node: its base clock where there is no sign, else the last variable has its sign
 /// where those before it have theirs.
-#[derive(PartialEq, Debug, Drop)]
+#[derive(Drop)]
 pub struct SourceClock {
     pub signs: Vec<ClockSign>,
 }
 
 impl fmt::Display for ClockSign {
     fn fmt<W: fmt::Write>(&self, f: &mut fmt::Formatter<W>) -> fmt::Result {
-        if self.sign {
-            write!(f, "when {}", self.variable)
-        } else {
-            write!(f, "when not {}", self.variable)
-        }
+        let word = if self.sign { "when" } else { "when not" };
+        write!(f, "{word} {}", self.variable)
     }
 }
 
 impl fmt::Display for SourceClock {
     fn fmt<W: fmt::Write>(&self, f: &mut fmt::Formatter<W>) -> fmt::Result {
-        write!(f, "base")?;
+        f.write_str("base")?;
         for sign in &self.signs {
             write!(f, " {sign}")?;
         }
@@ -39,7 +36,7 @@ impl fmt::Display for SourceClock {
 }
 
 /// What stands on the wrong clock. Operands, arguments and left variables count from 1.
-#[derive(Clone, Copy, PartialEq, Eq, Debug)]
+#[derive(Clone, Copy, Debug)]
 pub enum ClockRule {
     /// An operand of an operator, which is on another clock than those before it: of `if` the two
     /// branches come first, then the condition.
@@ -65,7 +62,7 @@ pub enum ClockRule {
 
 /// A rule of clocks that is broken (E10), and where. Places are offsets in the source text, in
 /// bytes.
-#[derive(Debug, Drop)]
+#[derive(Drop)]
 pub struct ClockFault {
     /// The name of the node in which it is.
     pub node: String,

@@ -18,6 +18,7 @@ ghost use Rattle.std.specs.Prelude.{◌≡◌, find, IfOk, IfSome, is_some, not,
 use crate::call_clock::is_call_clocked;
 use crate::clock::ill_declared_clock;
 use crate::clock_set::ClockSet;
+use crate::nodes::node_at;
 use crate::own_clock::{Clock, is_same};
 use crate::part::{IllFormed, Part};
 use crate::term_clock::ClockEnv;
@@ -137,7 +138,7 @@ fn ill_clocked_part(
     ensures { (P : Program) → keeps_names P ≡ true → IsReached P reached.now
         → IfOk result (IsClockedPart reached.now id) }
 {
-    let Some(node) = reached.nodes.get(id.0) else {
+    let Some(node) = node_at(reached, id) else {
         return Ok(Some(Part::Statement(0)));
     };
     if let Some(i) = ill_declared_clock(alloc, node)? {

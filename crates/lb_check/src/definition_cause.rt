@@ -4,21 +4,20 @@ ghost use Rattle.std.specs.Prelude.{◌≡◌, IfOk, string_bytes};
 ghost use Rattle.lb_syntax.specs.Lists.{listed};
 ghost use Rattle.lb_static.specs.ReachedNodes.{tree_at};
 
-use crate::cause::{name_of, part_offset, path_to_node, variable_name, variable_offset};
+use crate::cause::{declared_variable, name_of, part_offset, path_to_node, variable_offset};
 use crate::definition_fault::{DefinitionFault, DefinitionRule};
 use crate::part::{IllFormed, Part};
-use crate::sites::{Site, operand_at, right_side};
+use crate::sites::{Site, right_side};
 use lb_static::{CallId, Reached, ResolvedNode, ResolvedStatement, Table, Term, VariableId};
-use lb_syntax::{Expr, Statement};
+use lb_syntax::Statement;
 use std::alloc::{AllocError, Global};
 
 /// Which rule of definitions a part breaks, where, and by which name.
-#[derive(Drop)]
-struct DefinitionReason {
+#[derive(Clone, Copy)]
+struct DefinitionReason<'t> {
     rule: DefinitionRule,
-    name: String,
+    name: &'t str,
     offset: u32,
-    definitions: Vec<u32>,
 }
 
 /// The node that a call calls, if it is no function.
@@ -44,16 +43,14 @@ fn has_own_memory(reached: &Reached, node: &ResolvedNode, term: &Term) -> bool {
     }
 }
 
-/// The first part with memory of some terms, which stand in a row in an expression.
-#[cycle(remembering)]
-fn memory_among<'t>(
-    reached: &Reached,
-    node: &ResolvedNode,
-    terms: &'t [Term],
-    expr: &'t Expr,
-) -> Option<Site<'t>> {
-    for (place, term) in terms.iter().enumerate() {
-        let found = memory_of(reached, node, term, operand_at(expr, place));
+/// The first part of a term with memory, or that calls a node: the term itself comes before its
+/// operands.
+fn memory_of<'t>(reached: &Reached, node: &ResolvedNode, site: Site<'t>) -> Option<Site<'t>> {
+    if has_own_memory(reached, node, site.term) {
+        return Some(site);
+    }
+    for place in 0..usize::MAX {
+        let found = memory_of(reached, node, site.operand(place)?);
         if found.is_some() {
             return found;
         }
@@ -61,120 +58,101 @@ fn memory_among<'t>(
     None
 }
 
-/// The first part of a term with memory, or that calls a node: the term itself comes before its
-/// operands.
-#[cycle(remembering)]
-fn memory_of<'t>(
-    reached: &Reached,
-    node: &ResolvedNode,
-    term: &'t Term,
-    expr: &'t Expr,
-) -> Option<Site<'t>> {
-    if has_own_memory(reached, node, term) {
-        return Some(Site { term, expr });
-    }
-    match term {
-        Term::Literal(_) | Term::Truth(_) | Term::Value(_) | Term::Variable(_) => None,
-        Term::Group(e)
-        | Term::Unary(_, e)
-        | Term::Pre(e)
-        | Term::Current(e)
-        | Term::When(e, _, _)
-        | Term::Replicate(e, _)
-        | Term::Index(e, _)
-        | Term::Slice(e, _, _) => memory_of(reached, node, e, operand_at(expr, 0)),
-        Term::Binary(_, a, b) | Term::Arrow(a, b) | Term::Fby(a, b) | Term::Join(a, b) => {
-            let found = memory_of(reached, node, a, operand_at(expr, 0));
-            if found.is_some() {
-                return found;
-            }
-            memory_of(reached, node, b, operand_at(expr, 1))
-        }
-        Term::If(c, a, b) => {
-            let found = memory_of(reached, node, c, operand_at(expr, 0));
-            if found.is_some() {
-                return found;
-            }
-            let found = memory_of(reached, node, a, operand_at(expr, 1));
-            if found.is_some() {
-                return found;
-            }
-            memory_of(reached, node, b, operand_at(expr, 2))
-        }
-        Term::Array(terms)
-        | Term::AtMostOne(terms)
-        | Term::Nor(terms)
-        | Term::Call(_, terms)
-        | Term::IterateNode(_, _, terms)
-        | Term::IterateSymbol(_, _, _, terms) => memory_among(reached, node, terms, expr),
-    }
-}
-
 /// The call of a node in a function.
-fn call_reason(
-    alloc: Global,
-    reached: &Reached,
-    node: &ResolvedNode,
+fn call_reason<'a, 's>(
+    reached: &'a Reached<'s>,
+    node: &'a ResolvedNode<'s>,
     call: CallId,
-) -> Result<DefinitionReason, AllocError> {
+) -> DefinitionReason<'a> {
     let name = match reached.callee(node, call) {
-        Some(callee) => String::from_str(alloc, callee.tree.name.as_str())?,
-        None => String::new(alloc),
+        Some(callee) => callee.tree.name.as_str(),
+        None => "",
     };
     let offset = match node.calls.get(call.0) {
         Some(site) => site.offset,
         None => 0,
     };
-    Ok(DefinitionReason {
+    DefinitionReason {
         rule: DefinitionRule::NodeCall,
         name,
         offset,
-        definitions: Vec::new(alloc),
-    })
+    }
 }
 
 /// An operator with memory, or a call of a node, in a function.
-fn memory_reason(
-    alloc: Global,
-    reached: &Reached,
-    node: &ResolvedNode,
+fn memory_reason<'a, 's>(
+    reached: &'a Reached<'s>,
+    node: &'a ResolvedNode<'s>,
     site: Site,
-) -> Result<DefinitionReason, AllocError> {
+) -> DefinitionReason<'a> {
     match site.term {
-        Term::Call(call, _) | Term::IterateNode(_, call, _) => {
-            call_reason(alloc, reached, node, *call)
-        }
-        _ => Ok(DefinitionReason {
+        Term::Call(call, _) | Term::IterateNode(_, call, _) => call_reason(reached, node, *call),
+        _ => DefinitionReason {
             rule: DefinitionRule::Memory,
-            name: String::new(alloc),
+            name: "",
             offset: site.sign_offset(),
-            definitions: Vec::new(alloc),
-        }),
+        },
     }
 }
 
 /// What is told of a part that is not there.
-fn no_reason(alloc: Global) -> DefinitionReason {
-    DefinitionReason {
-        rule: DefinitionRule::Undefined,
-        name: String::new(alloc),
-        offset: 0,
-        definitions: Vec::new(alloc),
+const NO_REASON: DefinitionReason<'static> = DefinitionReason {
+    rule: DefinitionRule::Undefined,
+    name: "",
+    offset: 0,
+};
+
+/// Why a statement of a function breaks the rules.
+fn statement_reason<'a, 's>(
+    reached: &'a Reached<'s>,
+    node: &'a ResolvedNode<'s>,
+    place: usize,
+) -> DefinitionReason<'a> {
+    let (Some(resolved), Some(statement)) = (node.body.get(place), node.tree.body.get(place)) else {
+        return NO_REASON;
+    };
+    let (ResolvedStatement::Equation(_, term) | ResolvedStatement::Assertion(term)) = resolved;
+    let expr = right_side(statement);
+    match memory_of(reached, node, Site { term, expr }) {
+        Some(site) => memory_reason(reached, node, site),
+        None => NO_REASON,
     }
 }
 
-/// Why a statement of a function breaks the rules.
-fn statement_reason(
-    alloc: Global,
-    reached: &Reached,
-    node: &ResolvedNode,
-    resolved: &ResolvedStatement,
-    statement: &Statement,
-) -> Result<DefinitionReason, AllocError> {
-    let (ResolvedStatement::Equation(_, term) | ResolvedStatement::Assertion(term)) = resolved;
-    match memory_of(reached, node, term, right_side(statement)) {
-        Some(site) => memory_reason(alloc, reached, node, site),
-        None => Ok(no_reason(alloc)),
+/// Why a variable has not the definitions that it should have.
+fn variable_reason<'a, 's>(
+    node: &'a ResolvedNode<'s>,
+    variable: VariableId,
+    is_defined: bool,
+) -> DefinitionReason<'a> {
+    let rule = if variable.0 < node.inputs {
+        DefinitionRule::DefinedInput
+    } else if is_defined {
+        DefinitionRule::Doubled
+    } else {
+        DefinitionRule::Undefined
+    };
+    let name = match declared_variable(node.tree, variable) {
+        Some(declared) => declared.name.as_str(),
+        None => "",
+    };
+    DefinitionReason {
+        rule,
+        name,
+        offset: variable_offset(node.tree, variable),
+    }
+}
+
+/// Why a part of a node breaks the rules of definitions, where its variable is defined or not.
+fn found_reason<'a, 's>(
+    reached: &'a Reached<'s>,
+    found: IllFormed,
+    is_defined: bool,
+) -> DefinitionReason<'a> {
+    match (reached.nodes.get(found.node.0), found.part) {
+        (Some(node), Part::Variable(variable)) => variable_reason(node, variable, is_defined),
+        (Some(node), Part::Statement(place)) => statement_reason(reached, node, place),
+        (None, _) => NO_REASON,
     }
 }
 
@@ -198,70 +176,19 @@ fn note_lefts(
     Ok(())
 }
 
-/// Where a variable of a node stands on left sides.
+/// Where a part that is a variable stands on left sides.
 fn definitions_of(
-    alloc: Global,
-    node: &ResolvedNode,
-    variable: VariableId,
-) -> Result<Vec<u32>, AllocError> {
-    let mut definitions = Vec::new(alloc);
-    for (resolved, statement) in node.body.iter().zip(node.tree.body.iter()) {
-        note_lefts(&mut definitions, variable, resolved, statement)?;
-    }
-    Ok(definitions)
-}
-
-/// Why a variable has not the definitions that it should have.
-fn variable_reason(
-    alloc: Global,
-    node: &ResolvedNode,
-    variable: VariableId,
-) -> Result<DefinitionReason, AllocError> {
-    let definitions = definitions_of(alloc, node, variable)?;
-    let rule = if variable.0 < node.inputs {
-        DefinitionRule::DefinedInput
-    } else if definitions.is_empty() {
-        DefinitionRule::Undefined
-    } else {
-        DefinitionRule::Doubled
-    };
-    Ok(DefinitionReason {
-        rule,
-        name: variable_name(alloc, node.tree, variable)?,
-        offset: variable_offset(node.tree, variable),
-        definitions,
-    })
-}
-
-/// Why a part of a node breaks the rules of definitions.
-fn part_reason(
-    alloc: Global,
-    reached: &Reached,
-    node: &ResolvedNode,
-    part: Part,
-) -> Result<DefinitionReason, AllocError> {
-    match part {
-        Part::Variable(variable) => variable_reason(alloc, node, variable),
-        Part::Statement(place) => match (node.body.get(place), node.tree.body.get(place)) {
-            (Some(resolved), Some(statement)) => {
-                statement_reason(alloc, reached, node, resolved, statement)
-            }
-            _ => Ok(no_reason(alloc)),
-        },
-    }
-}
-
-/// Why a part breaks the rules of definitions, and where it begins.
-fn found_reason(
     alloc: Global,
     reached: &Reached,
     found: IllFormed,
-) -> Result<(DefinitionReason, u32), AllocError> {
-    let Some(node) = reached.nodes.get(found.node.0) else {
-        return Ok((no_reason(alloc), 0));
-    };
-    let reason = part_reason(alloc, reached, node, found.part)?;
-    Ok((reason, part_offset(node.tree, found.part)))
+) -> Result<Vec<u32>, AllocError> {
+    let mut definitions = Vec::new(alloc);
+    if let (Some(node), Part::Variable(variable)) = (reached.nodes.get(found.node.0), found.part) {
+        for (resolved, statement) in node.body.iter().zip(node.tree.body.iter()) {
+            note_lefts(&mut definitions, variable, resolved, statement)?;
+        }
+    }
+    Ok(definitions)
 }
 
 /// What breaks the rules of definitions in this part, and where.
@@ -275,17 +202,19 @@ pub fn definition_fault(
         string_bytes f.node ≡ listed (λ n. n.name) (tree_at reached.now found.node)) }
     ensures part { IfOk result (λ f. f.part ≡ found.part) }
 {
-    let (reason, part_offset) = found_reason(alloc, reached, found)?;
+    let definitions = definitions_of(alloc, reached, found)?;
+    let reason = found_reason(reached, found, !definitions.is_empty());
+    let name = String::from_str(alloc, reason.name)?;
     let path = path_to_node(alloc, reached, table, found.node)?;
     let node = name_of(alloc, reached, found.node)?;
     Ok(DefinitionFault {
         node,
         part: found.part,
-        part_offset,
+        part_offset: part_offset(reached, found.node, found.part),
         rule: reason.rule,
-        name: reason.name,
+        name,
         offset: reason.offset,
-        definitions: reason.definitions,
+        definitions,
         path,
     })
 }

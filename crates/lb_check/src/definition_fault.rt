@@ -5,7 +5,7 @@ use lb_static::CallPath;
 use std::fmt;
 
 /// Which rule of definitions or of functions is broken.
-#[derive(Clone, Copy, PartialEq, Eq, Debug)]
+#[derive(Clone, Copy, Debug)]
 pub enum DefinitionRule {
     /// An output or a local that stands on no left side.
     Undefined,
@@ -21,7 +21,7 @@ pub enum DefinitionRule {
 
 /// A rule of definitions or of functions that is broken (E11), and where. Places are offsets in the
 /// source text, in bytes.
-#[derive(Debug, Drop)]
+#[derive(Drop)]
 pub struct DefinitionFault {
     /// The name of the node or function in which it is.
     pub node: String,

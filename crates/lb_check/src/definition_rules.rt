@@ -14,6 +14,7 @@ ghost use Rattle.lb_static.specs.Instances.{Program, instances};
 ghost use Rattle.lb_static.specs.Names.{keeps_names};
 ghost use Rattle.lb_static.specs.ReachedNodes.{IsReached};
 
+use crate::nodes::node_at;
 use crate::part::{IllFormed, Part};
 use crate::used_nodes::used_nodes;
 use lb_static::{
@@ -173,7 +174,7 @@ fn ill_defined_part(
     ensures { (P : Program) → keeps_names P ≡ true → IsReached P reached.now
         → IfOk result (IsDefinedPart P reached.now id) }
 {
-    let Some(node) = reached.nodes.get(id.0) else {
+    let Some(node) = node_at(reached, id) else {
         return Ok(Some(Part::Statement(0)));
     };
     if let Some(j) = memory_in_function(reached, node) {

@@ -20,6 +20,7 @@ mod error;
 mod found_clocks;
 mod found_types;
 mod given_variables;
+mod nodes;
 mod operand_types;
 mod own_clock;
 mod part;

@@ -3,7 +3,7 @@
 use lb_static::{NodeId, VariableId};
 
 /// The part of a node that breaks a rule.
-#[derive(Clone, Copy, PartialEq, Eq, Debug)]
+#[derive(Clone, Copy)]
 pub enum Part {
     /// The declaration of a variable, by its place among the inputs, outputs and locals.
     Variable(VariableId),

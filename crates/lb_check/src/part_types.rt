@@ -15,7 +15,7 @@ use lb_static::DataType;
 use lb_syntax::Kind;
 use std::alloc::{AllocError, Global};
 
-/// More scalar elements than a program may have: so many and more are counted as these.
+/// More scalar elements than a program may have: this number stands for any greater one.
 const TOO_MANY: u32 = 65_537;
 
 /// What is kept of the types of the results of a part.

@@ -24,13 +24,13 @@ use std::alloc::{AllocError, Global};
 /// Types in a row.
 #[derive(Clone, Copy)]
 pub enum Elements<'a> {
-    /// So many scalars of one kind.
+    /// A number of scalars of one kind.
     Scalars(Kind, usize),
     /// Those of variables, by the values of the static expressions of their node.
     Declared(&'a [Variable], &'a [StaticInt]),
 }
 
-/// Which types of a row stand for arrays of so many of them.
+/// Which types of a row stand for arrays of them, of this length.
 #[derive(Clone, Copy)]
 pub enum Arrays {
     No,
@@ -64,7 +64,7 @@ pub struct Signature<'a> {
     pub stands: bool,
 }
 
-/// A scalar, if there are so many at its place.
+/// A scalar, if this place is one of a row of them.
 fn scalar_at(alloc: Global, kind: Kind, count: usize, place: usize) -> Option<DataType>
     ensures { option_map view_type result
         ≡ mirror.type_at (mirror.elements_in (Elements.Scalars kind count)) place }
@@ -117,7 +117,7 @@ impl Elements<'_> {
     }
 }
 
-/// An array of so many elements of this type, if there is one.
+/// An array of this length with elements of this type, if there is one.
 pub fn array_type(size: u64, element: Option<DataType>) -> Result<Option<DataType>, AllocError>
     ensures { IfOk result (λ o.
         option_map view_type o ≡ mirror.arrays size (option_map view_type element)) }
@@ -156,7 +156,7 @@ impl TypeRow<'_> {
     }
 }
 
-/// Scalars of one kind, so many that are taken and one that is given.
+/// Scalars of one kind: this number of them is taken, and one is given.
 fn scalars<'a>(kind: Kind, count: usize, stands: bool) -> Called<'a>
     ensures { mirror.called_in result ≡ mirror.scalars kind count stands }
 {
@@ -218,39 +218,29 @@ fn symbol<'a>(op: BinaryOperator) -> Called<'a>
     }
 }
 
+/// What is called, and how its types stand in the rows that are taken and given.
+fn spread<'a>(called: &Called<'a>, takes: Arrays, gives: Arrays, stands: bool) -> Signature<'a>
+    ensures { mirror.signature_in result
+        ≡ mirror.spread (mirror.called_in called.now) takes gives stands }
+{
+    Signature {
+        takes: TypeRow {
+            elements: called.takes,
+            arrays: takes,
+        },
+        gives: TypeRow {
+            elements: called.gives,
+            arrays: gives,
+        },
+        stands,
+    }
+}
+
 /// What is called once.
 fn plain<'a>(called: &Called<'a>) -> Signature<'a>
     ensures { mirror.signature_in result ≡ mirror.called_in called.now }
 {
-    Signature {
-        takes: TypeRow {
-            elements: called.takes,
-            arrays: Arrays::No,
-        },
-        gives: TypeRow {
-            elements: called.gives,
-            arrays: Arrays::No,
-        },
-        stands: called.stands,
-    }
-}
-
-/// What is called for each element of arrays of so many.
-fn mapped<'a>(size: u64, called: &Called<'a>) -> Signature<'a>
-    ensures { mirror.signature_in result
-        ≡ mirror.iterated_by ArrayIterator.Map size (mirror.called_in called.now) }
-{
-    Signature {
-        takes: TypeRow {
-            elements: called.takes,
-            arrays: Arrays::All(size),
-        },
-        gives: TypeRow {
-            elements: called.gives,
-            arrays: Arrays::All(size),
-        },
-        stands: called.stands,
-    }
+    spread(called, Arrays::No, Arrays::No, called.stands)
 }
 
 /// Whether the first type that is given is the first that is taken.
@@ -262,46 +252,29 @@ fn is_accumulated(alloc: Global, called: &Called) -> Result<bool, AllocError>
     Ok(are_one(&taken, &given))
 }
 
-/// What is called with an accumulator, and gives it alone.
-fn reduced<'a>(alloc: Global, size: u64, called: &Called<'a>) -> Result<Signature<'a>, AllocError>
+/// What is called with an accumulator, where it takes and gives as many types as it should.
+fn accumulated<'a>(
+    alloc: Global,
+    called: &Called<'a>,
+    takes: Arrays,
+    gives: Arrays,
+    fits: bool,
+) -> Result<Signature<'a>, AllocError>
     ensures { IfOk result (λ s. mirror.signature_in s
-        ≡ mirror.iterated_by ArrayIterator.Red size (mirror.called_in called.now)) }
+        ≡ mirror.accumulated (mirror.called_in called.now) takes gives fits) }
 {
     let is_accumulated = is_accumulated(alloc, called)?;
-    Ok(Signature {
-        takes: TypeRow {
-            elements: called.takes,
-            arrays: Arrays::Rest(size),
-        },
-        gives: TypeRow {
-            elements: called.gives,
-            arrays: Arrays::No,
-        },
-        stands: called.stands && (called.gives.len() == 1 && is_accumulated),
-    })
+    Ok(spread(
+        called,
+        takes,
+        gives,
+        called.stands && (fits && is_accumulated),
+    ))
 }
 
-/// What is called with an accumulator alone, and gives it and more.
-fn filled<'a>(alloc: Global, size: u64, called: &Called<'a>) -> Result<Signature<'a>, AllocError>
-    ensures { IfOk result (λ s. mirror.signature_in s
-        ≡ mirror.iterated_by ArrayIterator.Fill size (mirror.called_in called.now)) }
-{
-    let is_accumulated = is_accumulated(alloc, called)?;
-    Ok(Signature {
-        takes: TypeRow {
-            elements: called.takes,
-            arrays: Arrays::No,
-        },
-        gives: TypeRow {
-            elements: called.gives,
-            arrays: Arrays::Rest(size),
-        },
-        stands: called.stands
-            && (called.takes.len() == 1 && (1 < called.gives.len() && is_accumulated)),
-    })
-}
-
-/// What is iterated so often, if that is known.
+/// What is iterated over arrays of this length, if that is known: `map` takes and gives arrays,
+/// `red` takes them beside an accumulator and gives it alone, `fill` takes it alone and gives them
+/// beside it.
 fn iterated<'a>(
     alloc: Global,
     iterator: ArrayIterator,
@@ -314,14 +287,21 @@ fn iterated<'a>(
     let Some(size) = size else {
         return Ok(plain(&nothing()));
     };
+    let (all, rest) = (Arrays::All(size), Arrays::Rest(size));
     match iterator {
-        ArrayIterator::Map => Ok(mapped(size, called)),
-        ArrayIterator::Red => reduced(alloc, size, called),
-        ArrayIterator::Fill => filled(alloc, size, called),
+        ArrayIterator::Map => Ok(spread(called, all, all, called.stands)),
+        ArrayIterator::Red => {
+            let fits = called.gives.len() == 1;
+            accumulated(alloc, called, rest, Arrays::No, fits)
+        }
+        ArrayIterator::Fill => {
+            let fits = called.takes.len() == 1 && 1 < called.gives.len();
+            accumulated(alloc, called, Arrays::No, rest, fits)
+        }
     }
 }
 
-/// What a term with so many operands in a row takes and gives, a list apart.
+/// What a term with this number of operands in a row takes and gives, a list apart.
 pub fn signature_of<'a>(
     alloc: Global,
     env: &TypeEnv<'a, '_>,

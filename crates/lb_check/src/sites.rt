@@ -1,5 +1,8 @@
 //! Terms beside the expressions that they were made of.
 
+ghost use Rattle.std.specs.Prelude.{◌<◌, IfSome};
+ghost use Rattle.lb_static.specs.declared.resolved.Term.{size-Term};
+
 use lb_static::Term;
 use lb_syntax::{Expr, Statement};
 
@@ -15,6 +18,45 @@ fn item_or<'t>(exprs: &'t [Expr], place: usize, other: &'t Expr) -> &'t Expr {
     match exprs.get(place) {
         Some(expr) => expr,
         None => other,
+    }
+}
+
+/// The operand of a term at a place, if it has one there.
+fn term_operand<'t>(term: &'t Term, place: usize) -> Option<&'t Term>
+    ensures { IfSome result (λ e. size-Term e.now < size-Term term.now) }
+{
+    match term {
+        Term::Literal(_) | Term::Truth(_) | Term::Value(_) | Term::Variable(_) => None,
+        Term::Group(a)
+        | Term::Unary(_, a)
+        | Term::Pre(a)
+        | Term::Current(a)
+        | Term::When(a, _, _)
+        | Term::Replicate(a, _)
+        | Term::Index(a, _)
+        | Term::Slice(a, _, _) => match place {
+            0 => Some(a),
+            _ => None,
+        },
+        Term::Binary(_, a, b) | Term::Arrow(a, b) | Term::Fby(a, b) | Term::Join(a, b) => {
+            match place {
+                0 => Some(a),
+                1 => Some(b),
+                _ => None,
+            }
+        }
+        Term::If(c, a, b) => match place {
+            0 => Some(c),
+            1 => Some(a),
+            2 => Some(b),
+            _ => None,
+        },
+        Term::Array(terms)
+        | Term::AtMostOne(terms)
+        | Term::Nor(terms)
+        | Term::Call(_, terms)
+        | Term::IterateNode(_, _, terms)
+        | Term::IterateSymbol(_, _, _, terms) => terms.get(place),
     }
 }
 
@@ -41,6 +83,16 @@ fn two<'t>(first: &'t Expr, second: &'t Expr, place: usize) -> &'t Expr {
 }
 
 impl<'t> Site<'t> {
+    /// Its operand at a place, if it has one there.
+    pub fn operand(self, place: usize) -> Option<Site<'t>>
+        ensures { IfSome result (λ s. size-Term s.term.now < size-Term self.entry.term.now) }
+    {
+        Some(Site {
+            term: term_operand(self.term, place)?,
+            expr: operand_at(self.expr, place),
+        })
+    }
+
     /// Where the expression begins.
     pub fn offset(self) -> u32 {
         self.expr.offset()

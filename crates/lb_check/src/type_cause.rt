@@ -10,13 +10,14 @@ use crate::cause::{clock_offset, name_of, part_offset, path_to_specialization};
 use crate::operand_types::{common_type, when_truth};
 use crate::part::Part;
 use crate::signature::{array_type, only_given, signature_of};
-use crate::sites::{Site, left_offset, operand_at, right_side, ungrouped};
+use crate::sites::{Site, left_offset, right_side, ungrouped};
 use crate::type_env::TypeEnv;
-use crate::type_fault::{TypeFault, TypeRule};
-use crate::type_reason::{TypeReason, all_shown, copy_shown, scalar, shown, type_reason};
+use crate::type_fault::{SourceType, TypeFault, TypeRule};
+use crate::type_reason::{TypeReason, Typed, of_rule, type_reason};
 use crate::type_rules::IllTyped;
 use crate::types::{
-    fits_too, given_where, has_arity, like_later, one_type, results, two_types, type_of,
+    SideTypes, fits_too, given_where, has_arity, like_later, one_type, results, side_types,
+    two_types, type_of,
 };
 use lb_static::{DataType, Reached, ResolvedStatement, Table, Term, VariableId};
 use lb_syntax::{Expr, Kind, Statement};
@@ -39,18 +40,21 @@ fn own_typing<'t>(data_type: Option<DataType>, site: Site<'t>) -> Typing<'t> {
     }
 }
 
-/// What is found of a term with these operands in a row, a list apart.
+/// What is found of a term with this number of operands in a row, a list apart.
 #[cycle(typings)]
 fn typed_row<'t>(
     alloc: Global,
     env: &TypeEnv,
     site: Site<'t>,
-    terms: &'t [Term],
+    count: usize,
 ) -> Result<Typing<'t>, AllocError> {
-    let signature = signature_of(alloc, env, site.term, terms.len())?;
-    let mut fits = has_arity(&signature, terms.len());
-    for (place, term) in terms.iter().enumerate() {
-        match typed_term(alloc, env, term, operand_at(site.expr, place))? {
+    let signature = signature_of(alloc, env, site.term, count)?;
+    let mut fits = has_arity(&signature, count);
+    for place in 0..count {
+        let Some(operand) = site.operand(place) else {
+            break;
+        };
+        match typed_term(alloc, env, operand)? {
             Typing::Typed(data_type) => {
                 fits = fits_too(alloc, fits, &signature.takes, place, &Some(data_type))?;
             }
@@ -61,296 +65,352 @@ fn typed_row<'t>(
     Ok(own_typing(own, site))
 }
 
-/// What is found of a list of these elements.
+/// What is found of a list of this number of elements.
 #[cycle(typings)]
 fn typed_list<'t>(
     alloc: Global,
     env: &TypeEnv,
     site: Site<'t>,
-    terms: &'t [Term],
+    count: usize,
 ) -> Result<Typing<'t>, AllocError> {
     let mut element = None;
-    for (place, term) in terms.iter().enumerate() {
-        match typed_term(alloc, env, term, operand_at(site.expr, place))? {
+    for place in 0..count {
+        let Some(operand) = site.operand(place) else {
+            break;
+        };
+        match typed_term(alloc, env, operand)? {
             Typing::Typed(data_type) => element = like_later(place, Some(data_type), element),
             untyped => return Ok(untyped),
         }
     }
-    let own = array_type(terms.len() as u64, element)?;
+    let own = array_type(count as u64, element)?;
     Ok(own_typing(own, site))
 }
 
-/// What is found of a term with two operands, of which this is found.
-fn pair_typing<'t>(
+/// The type of a term with three operands or fewer, from those of the operands.
+fn type_from(
     alloc: Global,
     env: &TypeEnv,
-    site: Site<'t>,
-    left: Typing<'t>,
-    right: Typing<'t>,
-) -> Result<Typing<'t>, AllocError> {
-    match (left, right) {
-        (Typing::Typed(left), Typing::Typed(right)) => {
-            let own = two_types(alloc, site.term, Some(left), Some(right))?;
-            Ok(own_typing(own, site))
-        }
-        (Typing::Untyped(inner), _) => Ok(Typing::Untyped(inner)),
-        (_, untyped) => Ok(untyped),
+    term: &Term,
+    operands: Vec<DataType>,
+) -> Result<Option<DataType>, AllocError> {
+    let mut types = operands;
+    let right = types.pop();
+    let left = types.pop();
+    match (types.pop(), left, right) {
+        (None, None, None) => type_of(alloc, env, term),
+        (None, None, Some(operand)) => one_type(alloc, env, term, operand),
+        (None, left, right) => two_types(alloc, term, left, right),
+        (condition, left, right) => Ok(when_truth(condition, common_type(left, right))),
     }
 }
 
-/// What is found of a choice, of whose condition and branches this is found.
-fn choice_typing<'t>(
-    site: Site<'t>,
-    condition: Typing<'t>,
-    left: Typing<'t>,
-    right: Typing<'t>,
-) -> Typing<'t> {
-    match (condition, left, right) {
-        (Typing::Typed(condition), Typing::Typed(left), Typing::Typed(right)) => {
-            let chosen = common_type(Some(left), Some(right));
-            own_typing(when_truth(Some(condition), chosen), site)
+/// What is found of a term with three operands or fewer.
+#[cycle(typings)]
+fn typed_few<'t>(alloc: Global, env: &TypeEnv, site: Site<'t>) -> Result<Typing<'t>, AllocError> {
+    let mut types = Vec::new(alloc);
+    for place in 0..3 {
+        let Some(operand) = site.operand(place) else {
+            break;
+        };
+        match typed_term(alloc, env, operand)? {
+            Typing::Typed(data_type) => types.push(data_type)?,
+            untyped => return Ok(untyped),
         }
-        (Typing::Untyped(inner), _, _) => Typing::Untyped(inner),
-        (_, Typing::Untyped(inner), _) => Typing::Untyped(inner),
-        (_, _, untyped) => untyped,
     }
+    let own = type_from(alloc, env, site.term, types)?;
+    Ok(own_typing(own, site))
 }
 
 /// What is found of a term: each part is looked at once.
 #[cycle(typings)]
-fn typed_term<'t>(
-    alloc: Global,
-    env: &TypeEnv,
-    term: &'t Term,
-    expr: &'t Expr,
-) -> Result<Typing<'t>, AllocError> {
-    let site = Site { term, expr };
-    match term {
-        Term::Literal(_) | Term::Truth(_) | Term::Value(_) | Term::Variable(_) => {
-            Ok(own_typing(type_of(alloc, env, term)?, site))
-        }
-        Term::Group(e) => typed_term(alloc, env, e, operand_at(expr, 0)),
-        Term::Unary(_, e)
-        | Term::Pre(e)
-        | Term::Current(e)
-        | Term::When(e, _, _)
-        | Term::Replicate(e, _)
-        | Term::Index(e, _)
-        | Term::Slice(e, _, _) => match typed_term(alloc, env, e, operand_at(expr, 0))? {
-            Typing::Typed(operand) => Ok(own_typing(one_type(alloc, env, term, operand)?, site)),
-            untyped => Ok(untyped),
-        },
-        Term::Binary(_, a, b) | Term::Arrow(a, b) | Term::Fby(a, b) | Term::Join(a, b) => {
-            let left = typed_term(alloc, env, a, operand_at(expr, 0))?;
-            let right = typed_term(alloc, env, b, operand_at(expr, 1))?;
-            pair_typing(alloc, env, site, left, right)
-        }
-        Term::If(c, a, b) => {
-            let condition = typed_term(alloc, env, c, operand_at(expr, 0))?;
-            let left = typed_term(alloc, env, a, operand_at(expr, 1))?;
-            let right = typed_term(alloc, env, b, operand_at(expr, 2))?;
-            Ok(choice_typing(site, condition, left, right))
-        }
-        Term::Array(terms) => typed_list(alloc, env, site, terms),
+fn typed_term<'t>(alloc: Global, env: &TypeEnv, site: Site<'t>) -> Result<Typing<'t>, AllocError> {
+    match site.term {
+        Term::Array(terms) => typed_list(alloc, env, site, terms.len()),
         Term::AtMostOne(terms)
         | Term::Nor(terms)
         | Term::Call(_, terms)
         | Term::IterateNode(_, _, terms)
-        | Term::IterateSymbol(_, _, _, terms) => typed_row(alloc, env, site, terms),
+        | Term::IterateSymbol(_, _, _, terms) => typed_row(alloc, env, site, terms.len()),
+        _ => typed_few(alloc, env, site),
     }
 }
 
-/// Why a right side has no types of results.
-fn side_reason(
-    alloc: Global,
-    env: &TypeEnv,
-    right: &Term,
-    expr: &Expr,
-) -> Result<TypeReason, AllocError> {
-    let whole = ungrouped(right, expr);
-    match typed_term(alloc, env, whole.term, whole.expr)? {
-        Typing::Untyped(site) => type_reason(alloc, env, site),
-        Typing::Typed(_) => type_reason(alloc, env, whole),
-    }
-}
-
-/// An equation with another number of left variables than results.
-fn count_reason(
-    alloc: Global,
-    rights: Vec<DataType>,
-    lefts: usize,
-    offset: u32,
-) -> Result<TypeReason, AllocError> {
-    let wanted = rights.len();
-    Ok(TypeReason {
-        rule: TypeRule::LeftCount {
-            found: lefts,
-            wanted,
-        },
-        offset,
+/// An equation with another number of left variables than its right side has results.
+fn count_reason<'t>(
+    right: &'t Term,
+    found: usize,
+    wanted: usize,
+    statement: &Statement,
+) -> TypeReason<'t> {
+    TypeReason {
+        rule: TypeRule::LeftCount { found, wanted },
+        offset: left_offset(statement, 0),
         sign_offset: None,
-        found: all_shown(alloc, rights)?,
-        wanted: None,
-    })
+        found: Typed::Results(right),
+        wanted: Typed::Nothing,
+    }
 }
 
 /// A left variable, counted from 0, that has another type than the result for it.
-fn left_reason(
-    alloc: Global,
-    right: &DataType,
-    declared: Option<DataType>,
+fn left_reason<'t>(
+    right: &'t Term,
+    left: Option<&VariableId>,
     place: usize,
-    offset: u32,
-) -> Result<TypeReason, AllocError> {
-    let mut found = Vec::new(alloc);
-    found.push(copy_shown(right)?)?;
-    let wanted = match declared {
-        Some(data_type) => Some(shown(data_type)),
-        None => None,
-    };
-    Ok(TypeReason {
+    statement: &Statement,
+) -> TypeReason<'t> {
+    TypeReason {
         rule: TypeRule::Left(place.saturating_add(1)),
-        offset,
+        offset: left_offset(statement, place),
         sign_offset: None,
-        found,
-        wanted,
-    })
+        found: Typed::Result(right, place),
+        wanted: match left {
+            Some(left) => Typed::Variable(*left),
+            None => Typed::Nothing,
+        },
+    }
 }
 
-/// Why an equation breaks the rules whose right side has these types.
-fn lefts_reason(
+/// The place of the first result that has another type than its left variable, if there is one.
+fn first_unlike(
     alloc: Global,
     env: &TypeEnv,
     lefts: &[VariableId],
-    rights: Vec<DataType>,
-    statement: &Statement,
-) -> Result<TypeReason, AllocError> {
-    if lefts.len() != rights.len() {
-        return count_reason(alloc, rights, lefts.len(), left_offset(statement, 0));
-    }
-    for (place, right) in rights.iter().enumerate() {
-        let declared = match lefts.get(place) {
-            Some(left) => env.variable(alloc, *left)?,
-            None => None,
-        };
-        match declared {
-            Some(data_type) if right.equals(&data_type) => {}
-            other => {
-                let offset = left_offset(statement, place);
-                return left_reason(alloc, right, other, place, offset);
-            }
+    rights: &[DataType],
+) -> Result<Option<usize>, AllocError> {
+    for (place, (left, right)) in lefts.iter().zip(rights.iter()).enumerate() {
+        match env.variable(alloc, *left)? {
+            Some(declared) if right.equals(&declared) => {}
+            _ => return Ok(Some(place)),
         }
     }
-    count_reason(alloc, rights, lefts.len(), left_offset(statement, 0))
+    Ok(None)
+}
+
+/// Why an equation breaks the rules whose right side has these types.
+fn lefts_reason<'t>(
+    alloc: Global,
+    env: &TypeEnv,
+    lefts: &[VariableId],
+    right: &'t Term,
+    rights: &[DataType],
+    statement: &Statement,
+) -> Result<TypeReason<'t>, AllocError> {
+    let count = count_reason(right, lefts.len(), rights.len(), statement);
+    if lefts.len() != rights.len() {
+        return Ok(count);
+    }
+    match first_unlike(alloc, env, lefts, rights)? {
+        Some(place) => Ok(left_reason(right, lefts.get(place), place, statement)),
+        None => Ok(count),
+    }
 }
 
 /// What is asserted and is not one truth.
-fn assertion_reason(
-    alloc: Global,
-    types: Vec<DataType>,
-    offset: u32,
-) -> Result<TypeReason, AllocError> {
-    Ok(TypeReason {
+fn assertion_reason<'t>(term: &'t Term, expr: &Expr) -> TypeReason<'t> {
+    TypeReason {
         rule: TypeRule::Assertion,
-        offset,
+        offset: expr.offset(),
         sign_offset: None,
-        found: all_shown(alloc, types)?,
-        wanted: Some(scalar(alloc, Kind::Bool)),
-    })
+        found: Typed::Results(term),
+        wanted: Typed::Scalar(Kind::Bool),
+    }
+}
+
+/// Why a statement breaks the rules whose right side, or what it asserts, has results of these
+/// types.
+fn results_reason<'t>(
+    alloc: Global,
+    env: &TypeEnv,
+    resolved: &'t ResolvedStatement,
+    statement: &Statement,
+    rights: &[DataType],
+) -> Result<TypeReason<'t>, AllocError> {
+    match resolved {
+        ResolvedStatement::Equation(lefts, right) => {
+            lefts_reason(alloc, env, lefts, right, rights, statement)
+        }
+        ResolvedStatement::Assertion(term) => { Ok(assertion_reason(term, right_side(statement))) }
+    }
+}
+
+/// The types of the results of a call or an iterator, if it has any.
+fn call_results(
+    alloc: Global,
+    env: &TypeEnv,
+    term: &Term,
+) -> Result<Option<Vec<DataType>>, AllocError> {
+    match term {
+        Term::Call(_, _) | Term::IterateNode(_, _, _) | Term::IterateSymbol(_, _, _, _) => {
+            results(alloc, env, term)
+        }
+        _ => Ok(None),
+    }
 }
 
 /// Why a statement breaks the rules of types.
-fn statement_reason(
+fn statement_reason<'t>(
     alloc: Global,
-    env: &TypeEnv,
-    resolved: &ResolvedStatement,
-    statement: &Statement,
-) -> Result<TypeReason, AllocError> {
-    let expr = right_side(statement);
-    match resolved {
-        ResolvedStatement::Equation(lefts, right) => match results(alloc, env, right)? {
-            Some(rights) => lefts_reason(alloc, env, lefts, rights, statement),
-            None => side_reason(alloc, env, right, expr),
-        },
-        ResolvedStatement::Assertion(term) => match results(alloc, env, term)? {
-            Some(types) => assertion_reason(alloc, types, expr.offset()),
-            None => side_reason(alloc, env, term, expr),
+    env: &TypeEnv<'t, '_>,
+    resolved: &'t ResolvedStatement,
+    statement: &'t Statement,
+) -> Result<TypeReason<'t>, AllocError> {
+    let (ResolvedStatement::Equation(_, term) | ResolvedStatement::Assertion(term)) = resolved;
+    let whole = ungrouped(term, right_side(statement));
+    match typed_term(alloc, env, whole)? {
+        Typing::Typed(own) => {
+            let mut rights = Vec::new(alloc);
+            rights.push(own)?;
+            results_reason(alloc, env, resolved, statement, &rights)
+        }
+        Typing::Untyped(site) => match call_results(alloc, env, whole.term)? {
+            Some(rights) => results_reason(alloc, env, resolved, statement, &rights),
+            None => type_reason(alloc, env, site),
         },
     }
 }
 
 /// The variable of a declared clock that is no truth.
-fn clock_reason(
-    alloc: Global,
-    env: &TypeEnv,
-    variable: VariableId,
-) -> Result<TypeReason, AllocError> {
+fn clock_reason<'t>(env: &TypeEnv<'t, '_>, variable: VariableId) -> TypeReason<'t> {
     let clock = match env.node.variables.get(variable.0) {
         Some(declared) => declared.clock,
         None => None,
     };
-    let mut found = Vec::new(alloc);
-    if let Some(clock) = clock {
-        if let Some(data_type) = env.variable(alloc, clock.variable)? {
-            found.push(shown(data_type))?;
-        }
-    }
-    Ok(TypeReason {
+    TypeReason {
         rule: TypeRule::ClockVariable,
         offset: clock_offset(env.node.tree, variable),
         sign_offset: None,
-        found,
-        wanted: Some(scalar(alloc, Kind::Bool)),
-    })
+        found: match clock {
+            Some(clock) => Typed::Variable(clock.variable),
+            None => Typed::Nothing,
+        },
+        wanted: Typed::Scalar(Kind::Bool),
+    }
 }
 
 /// Why a part of a specialization breaks the rules of types.
-fn part_reason(alloc: Global, env: &TypeEnv, part: Part) -> Result<TypeReason, AllocError> {
+fn part_reason<'t>(
+    alloc: Global,
+    env: &TypeEnv<'t, '_>,
+    part: Part,
+) -> Result<TypeReason<'t>, AllocError> {
     match part {
-        Part::Variable(variable) => clock_reason(alloc, env, variable),
+        Part::Variable(variable) => Ok(clock_reason(env, variable)),
         Part::Statement(place) => {
             match (env.node.body.get(place), env.node.tree.body.get(place)) {
                 (Some(resolved), Some(statement)) => {
                     statement_reason(alloc, env, resolved, statement)
                 }
-                _ => Ok(no_reason(alloc)),
+                _ => Ok(of_rule(TypeRule::Assertion, 0)),
             }
         }
     }
 }
 
-/// What is told of a part that is not there.
-fn no_reason(alloc: Global) -> TypeReason {
-    TypeReason {
-        rule: TypeRule::Assertion,
-        offset: 0,
-        sign_offset: None,
-        found: Vec::new(alloc),
-        wanted: None,
+/// The type of a result of a right side.
+fn result_at(
+    alloc: Global,
+    env: &TypeEnv,
+    term: &Term,
+    place: usize,
+) -> Result<Option<DataType>, AllocError> {
+    match side_types(alloc, env, term)? {
+        SideTypes::Single(own) => Ok(own),
+        SideTypes::Several(Some(given)) => given.get(alloc, place),
+        SideTypes::Several(None) => Ok(None),
     }
 }
 
-/// Why a part breaks the rules of types, and where it begins.
-fn found_reason(
+/// A type as it is written.
+fn shown(data_type: DataType) -> SourceType {
+    SourceType {
+        kind: data_type.kind,
+        sizes: data_type.sizes,
+    }
+}
+
+/// The one type that is told.
+fn told_type(alloc: Global, env: &TypeEnv, typed: Typed) -> Result<Option<DataType>, AllocError> {
+    match typed {
+        Typed::Nothing | Typed::Results(_) => Ok(None),
+        Typed::Scalar(kind) => Ok(Some(DataType::scalar(alloc, kind))),
+        Typed::Variable(x) => env.variable(alloc, x),
+        Typed::One(term) => type_of(alloc, env, term),
+        Typed::Result(term, place) => result_at(alloc, env, term, place),
+        Typed::Input(row, place) => row.get(alloc, place),
+    }
+}
+
+/// The types that are told.
+fn told_types(alloc: Global, env: &TypeEnv, typed: Typed) -> Result<Vec<SourceType>, AllocError> {
+    let mut types = Vec::new(alloc);
+    if let Typed::Results(term) = typed {
+        if let Some(data_types) = results(alloc, env, term)? {
+            for data_type in data_types {
+                types.push(shown(data_type))?;
+            }
+        }
+    } else if let Some(data_type) = told_type(alloc, env, typed)? {
+        types.push(shown(data_type))?;
+    }
+    Ok(types)
+}
+
+/// What is told of a part that breaks the rules of types.
+#[derive(Drop)]
+struct ToldReason {
+    rule: TypeRule,
+    offset: u32,
+    sign_offset: Option<u32>,
+    found: Vec<SourceType>,
+    wanted: Option<SourceType>,
+}
+
+/// What is told for a reason.
+fn told(alloc: Global, env: &TypeEnv, reason: TypeReason) -> Result<ToldReason, AllocError> {
+    let found = told_types(alloc, env, reason.found)?;
+    let wanted = match told_type(alloc, env, reason.wanted)? {
+        Some(data_type) => Some(shown(data_type)),
+        None => None,
+    };
+    Ok(ToldReason {
+        rule: reason.rule,
+        offset: reason.offset,
+        sign_offset: reason.sign_offset,
+        found,
+        wanted,
+    })
+}
+
+/// What is told of a part.
+fn told_of(
     alloc: Global,
     reached: &Reached,
     table: &Table,
     found: IllTyped,
-) -> Result<(TypeReason, u32), AllocError> {
-    let Some(specialization) = table.specializations.get(found.place) else {
-        return Ok((no_reason(alloc), 0));
-    };
-    let Some(node) = reached.nodes.get(found.node.0) else {
-        return Ok((no_reason(alloc), 0));
-    };
-    let env = TypeEnv {
-        reached,
-        table,
-        node,
-        specialization,
-    };
-    let reason = part_reason(alloc, &env, found.part)?;
-    Ok((reason, part_offset(node.tree, found.part)))
+) -> Result<ToldReason, AllocError> {
+    match (
+        table.specializations.get(found.place),
+        reached.nodes.get(found.node.0),
+    ) {
+        (Some(specialization), Some(node)) => {
+            let env = TypeEnv {
+                reached,
+                table,
+                node,
+                specialization,
+            };
+            let reason = part_reason(alloc, &env, found.part)?;
+            told(alloc, &env, reason)
+        }
+        _ => Ok(ToldReason {
+            rule: TypeRule::Assertion,
+            offset: 0,
+            sign_offset: None,
+            found: Vec::new(alloc),
+            wanted: None,
+        }),
+    }
 }
 
 /// What breaks the rules of types in this part, and where.
@@ -364,18 +424,18 @@ pub fn type_fault(
         string_bytes f.node ≡ listed (λ n. n.name) (tree_at reached.now found.node)) }
     ensures part { IfOk result (λ f. f.part ≡ found.part) }
 {
-    let (reason, part_offset) = found_reason(alloc, reached, table, found)?;
     let path = path_to_specialization(alloc, reached, table, found.place)?;
     let node = name_of(alloc, reached, found.node)?;
+    let told = told_of(alloc, reached, table, found)?;
     Ok(TypeFault {
         node,
         part: found.part,
-        part_offset,
-        rule: reason.rule,
-        offset: reason.offset,
-        sign_offset: reason.sign_offset,
-        found: reason.found,
-        wanted: reason.wanted,
+        part_offset: part_offset(reached, found.node, found.part),
+        rule: told.rule,
+        offset: told.offset,
+        sign_offset: told.sign_offset,
+        found: told.found,
+        wanted: told.wanted,
         path,
     })
 }

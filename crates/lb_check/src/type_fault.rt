@@ -6,7 +6,7 @@ use lb_syntax::Kind;
 use std::fmt;
 
 /// A type as it is written, such as `int^3^2`.
-#[derive(PartialEq, Debug, Drop)]
+#[derive(Drop)]
 pub struct SourceType {
     pub kind: Kind,
     /// The sizes of an array, the outermost last; a scalar has none.
@@ -15,10 +15,10 @@ pub struct SourceType {
 
 impl fmt::Display for SourceType {
     fn fmt<W: fmt::Write>(&self, f: &mut fmt::Formatter<W>) -> fmt::Result {
-        match self.kind {
-            Kind::Int => write!(f, "int")?,
-            Kind::Bool => write!(f, "bool")?,
-        }
+        f.write_str(match self.kind {
+            Kind::Int => "int",
+            Kind::Bool => "bool",
+        })?;
         for size in &self.sizes {
             write!(f, "^{size}")?;
         }
@@ -27,7 +27,7 @@ impl fmt::Display for SourceType {
 }
 
 /// What has the wrong type. Operands, arguments and left variables count from 1.
-#[derive(Clone, Copy, PartialEq, Eq, Debug)]
+#[derive(Clone, Copy, Debug)]
 pub enum TypeRule {
     /// A number, a constant or a static parameter outside the range of `int`.
     Number,
@@ -57,7 +57,7 @@ pub enum TypeRule {
 }
 
 /// A rule of types that is broken (E9), and where. Places are offsets in the source text, in bytes.
-#[derive(Debug, Drop)]
+#[derive(Drop)]
 pub struct TypeFault {
     /// The name of the node in which it is.
     pub node: String,

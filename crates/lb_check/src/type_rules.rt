@@ -1,6 +1,6 @@
 //! The rules of types of a program (E9).
 
-ghost use Rattle.std.specs.Prelude.{◌≡◌, ◌∷◌, [], is_some, map, not, option_map};
+ghost use Rattle.std.specs.Prelude.{◌≡◌, is_some, map, not, option_map};
 ghost use Rattle.std.specs.Prelude.{IfOk, IfSome, slice_get};
 ghost use Rattle.lb_syntax.specs.Lists.{holds};
 ghost use Rattle.std.specs.List.{list_all};
@@ -17,6 +17,7 @@ ghost use Rattle.lb_check.specs.TermSignatures.{are_met, row_in};
 ghost use Rattle.lb_check.specs.TermTypes as mirror;
 ghost use Rattle.lb_check.specs.Types.{singly};
 
+use crate::nodes::node_at;
 use crate::operand_types::are_one;
 use crate::part::Part;
 use crate::shared::{SharedPart, settled_statements, shared_parts};
@@ -183,7 +184,7 @@ fn ill_typed_part(
     requires { AreJudgedParts reached.now table.now shared.now }
     ensures { IfOk result (IsTypedPart reached.now table.now specialization.now) }
 {
-    let Some(node) = reached.nodes.get(specialization.node.0) else {
+    let Some(node) = node_at(reached, specialization.node) else {
         return Ok(Some(Part::Statement(0)));
     };
     let env = TypeEnv {

@@ -1,6 +1,6 @@
 //! The types of terms (E9), each found once from those of its operands.
 
-ghost use Rattle.std.specs.Prelude.{◌≡◌, ◌↔◌, ◌&&◌, map, option_map};
+ghost use Rattle.std.specs.Prelude.{◌≡◌, ◌↔◌, ◌&&◌, option_map};
 ghost use Rattle.std.specs.Prelude.{IfOk, IsTrue, OnOk};
 ghost use Rattle.lb_syntax.specs.Lists as lists;
 ghost use Rattle.lb_static.specs.StoredTypes.{view_type};
@@ -135,7 +135,7 @@ pub fn fits_too(
     }
 }
 
-/// Whether so many operands may be given.
+/// Whether this number of operands may be given.
 pub fn has_arity(signature: &Signature, count: usize) -> bool
     ensures { result ≡ signatures.has_arity (signatures.signature_in signature.now) count }
 {
@@ -150,8 +150,8 @@ pub fn given_where<'a>(fits: bool, given: TypeRow<'a>) -> Option<TypeRow<'a>>
     if fits { Some(given) } else { None }
 }
 
-/// Whether the last operands of a row, so many of them, decide about the row: they do not fit, and
-/// no part is kept any more.
+/// Whether the operands that were walked, as the last two of `[a, b, c]`, decide about their row:
+/// they do not fit, and no part is kept any more.
 fn is_decided(seen: usize, fit: bool, parts: &PartTypes) -> bool
     ensures { IsTrue result ↔ placed_mirror.IsDecided seen fit parts.now.left }
 {

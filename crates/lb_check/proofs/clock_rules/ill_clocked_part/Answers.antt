@@ -1,21 +1,16 @@
-use Rattle.std.proofs.Common.{length, refl, ap, subst, sym, ◌∙◌}
-use Rattle.std.specs.Prelude.{slice_get}
-use Rattle.std.proofs.lemmas.Option.{slice_get_read}
+use Rattle.std.proofs.Common.{subst, sym, ◌∙◌}
 use Rattle.lb_static.specs.ReachedNodes.{source_names}
 use Rattle.lb_static.specs.ResolvedNodes.{node_of}
 use Rattle.lb_check.specs.FoundParts.{IsDeclaredClock}
-use Rattle.lb_check.proofs.NodeClocks.{all_clocked, declared_found, resolved_at, distinct_at}
+use Rattle.lb_check.proofs.NodeClocks.{all_clocked, declared_found, distinct_at, resolved_at}
 use Rattle.lb_check.proofs.NodeClocks.{statement_found}
 use Rattle.lb_check.proofs.clock_rules.ill_clocked_part.Goals as goal
 
 pub returns-in-Some-2 : goal.returns-in-Some-2
 returns-in-Some-2 c P names reached =
-    let found = c.in-Some.ensures.lookup in
-    let nodes = c.deref.result.now in
     let r = c.args.reached.now in
     let n = c.in-Some.node.now in
-    let at = ap (λ ns. slice_get ns c.args.id.0) (sym c.deref.ensures.value)
-    ∙ slice_get_read nodes (length nodes) c.args.id.0 n refl found.3.0 found.1 in
+    let at = sym c.in-Some.ensures in
     let declared = c.in_ok-i.ensures (source_names P)
     (resolved_at P r names reached c.args.id.0 n at)
     (distinct_at P r names reached c.args.id.0 n at) in
@@ -24,12 +19,9 @@ returns-in-Some-2 c P names reached =
 
 pub returns-in-Some-3 : goal.returns-in-Some-3
 returns-in-Some-3 c P names reached =
-    let found = c.in-Some.ensures.lookup in
-    let nodes = c.deref.result.now in
     let r = c.args.reached.now in
     let n = c.in-Some.node.now in
-    let at = ap (λ ns. slice_get ns c.args.id.0) (sym c.deref.ensures.value)
-    ∙ slice_get_read nodes (length nodes) c.args.id.0 n refl found.3.0 found.1 in
+    let at = sym c.in-Some.ensures in
     let declared = c.in_ok-i.ensures (source_names P)
     (resolved_at P r names reached c.args.id.0 n at)
     (distinct_at P r names reached c.args.id.0 n at) in
@@ -39,12 +31,9 @@ returns-in-Some-3 c P names reached =
 
 pub returns-in-None : goal.returns-in-None
 returns-in-None c P names reached =
-    let found = c.in-Some.ensures.lookup in
-    let nodes = c.deref.result.now in
     let r = c.args.reached.now in
     let n = c.in-Some.node.now in
-    let at = ap (λ ns. slice_get ns c.args.id.0) (sym c.deref.ensures.value)
-    ∙ slice_get_read nodes (length nodes) c.args.id.0 n refl found.3.0 found.1 in
+    let at = sym c.in-Some.ensures in
     let declared = c.in_ok-i.ensures (source_names P)
     (resolved_at P r names reached c.args.id.0 n at)
     (distinct_at P r names reached c.args.id.0 n at) in

@@ -1,6 +1,5 @@
-use Rattle.std.proofs.Common.{◌+◌, Some, ap, min, sym, ◌∙◌, arith}
+use Rattle.std.proofs.Common.{◌+◌, ap, min, sym, ◌∙◌, arith}
 use Rattle.std.specs.Prelude.{option_map}
-use Rattle.lb_static.specs.DataTypes.{element_count}
 use Rattle.lb_static.specs.StoredTypes.{view_type}
 use Rattle.lb_syntax.specs.Lists.{all_some}
 use Rattle.lb_check.specs.TermSignatures.{row_in}

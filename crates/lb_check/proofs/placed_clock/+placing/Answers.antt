@@ -3,7 +3,7 @@ use Rattle.std.proofs.Common.{sym, subst, ◌∙◌, arith}
 use Rattle.std.specs.Prelude.{slice_get}
 use Rattle.std.proofs.lemmas.List.{drop_all, length-map}
 use Rattle.lb_check.specs.PlacedClocks.{IsPlaced, call_clocks, called, current_clock, found_in}
-use Rattle.lb_check.specs.PlacedClocks.{determined_clock, nested_call, operand_clock, part}
+use Rattle.lb_check.specs.PlacedClocks.{determined_clock, nested_call, part}
 use Rattle.lb_check.specs.PlacedClocks.{placed_all, placed_each, placed_terms, row_term, with_term}
 use Rattle.lb_check.specs.PlacedClocks.{with_terms}
 use Rattle.lb_syntax.specs.Lists.{listed}

@@ -1,4 +1,4 @@
-use Rattle.std.proofs.Common.{◌≡◌, [], length, ap, ap₂, sym, ◌∙◌, arith}
+use Rattle.std.proofs.Common.{◌≡◌, [], ap, ap₂, sym, ◌∙◌, arith}
 use Rattle.std.proofs.lemmas.List.{append-nil, length-map}
 use Rattle.lb_check.specs.PlacedClocks.{called, found_in, placed_each, side_call, side_clocks}
 use Rattle.lb_check.specs.PlacedClocks.{with_term, with_terms}

@@ -1,5 +1,4 @@
-use Rattle.std.proofs.Common.{◌≡◌, [], ◌++◌, List, IfOk, ap, sym, subst, ◌∙◌, rules}
-use Rattle.std.specs.Prelude.{reverse}
+use Rattle.std.proofs.Common.{◌≡◌, [], ◌++◌, ap, subst, ◌∙◌, rules}
 use Rattle.lb_check.specs.CallClocks.{variable_of}
 use Rattle.lb_check.specs.StoredClocks.{context_in}
 use Rattle.lb_check.specs.TermClocks.{both, row_clock_set}
