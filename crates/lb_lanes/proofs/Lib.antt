@@ -17,3 +17,4 @@ pub mod ByReciprocals
 pub mod SignedDivisions
 pub mod SmallQuotients
 pub mod FloatGuesses
+pub mod Widths

@@ -1,9 +1,14 @@
 -- What integer lanes are, and what kernels do of the first so many. This project's rule.
-use Rattle.std.specs.Prelude.{◌≡◌, ℕ, ◌<◌, Bool, true, false, Option, Some, None, List, ℤ, pos}
+use Rattle.std.specs.Prelude.{◌≡◌, ℕ, ◌<◌, ◌*◌, Bool, true, false, Option, Some, None, List, ℤ, pos}
 use Rattle.std.specs.Prelude.{IsTrue, slice_index_or, if◌then◌else◌}
 use Rattle.std.specs.Int.{cast_signed, w32}
 use Rattle.lb_lanes.specs.Operators.{is_int}
 use Rattle.lb_lanes.specs.Planes.{on}
+use Rattle.lb_lanes.specs.declared.width.Width.{Width}
+
+-- how many lanes a width has
+abbrev pub lanes_in : Width → ℕ
+lanes_in w = 16 * w.chunks
 
 -- lane i of a list of integers
 abbrev pub lane_of : List ℤ → ℕ → ℤ

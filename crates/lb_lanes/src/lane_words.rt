@@ -4,15 +4,17 @@ ghost use Rattle.std.specs.Prelude.{◌≡◌, ℕ, ◌<◌, ◌==◌, List, ℤ
 ghost use Rattle.std.specs.Prelude.{if◌then◌else◌};
 ghost use Rattle.std.specs.Int.{cast_signed, w32};
 ghost use Rattle.std.specs.Ordering.{int_eq};
-ghost use Rattle.lb_lanes.specs.Correct.{IsBlend, IsKernel};
+ghost use Rattle.lb_lanes.specs.Correct.{IsBlend};
 ghost use Rattle.lb_lanes.specs.Halves.{is_below_unsigned, sign_of};
-ghost use Rattle.lb_lanes.specs.Kernels.{AreInts, lane_of};
+ghost use Rattle.lb_lanes.specs.Kernels.{AreInts, IsBlendBelow, IsKernelBelow, bits_lane, lane_of};
+ghost use Rattle.lb_lanes.specs.Kernels.{lanes_in};
 ghost use Rattle.lb_lanes.specs.Operators.{result_of};
-ghost use Rattle.lb_lanes.specs.Planes.{IsPlaneOf};
+ghost use Rattle.lb_lanes.specs.Planes.{IsPlaneBelow};
 
 use crate::division::{Quotient, Remainder};
 use crate::int_operator::IntOperator;
 use crate::planes::Plane;
+use crate::width::Width;
 use crate::word_divisions::run_division;
 use crate::word_kernels::{Difference, Sum, blend, commit, run};
 use crate::word_products::run_product;
@@ -23,6 +25,8 @@ use std::marker::Model;
 ///
 /// The operators compute in the lanes of the active plane alone, and give the lanes with a fault as
 /// a plane. No lane can be out of the range of `int`.
+///
+/// What takes a width computes in its lanes, and may leave anything in the others.
 #[derive(Drop)]
 pub struct LaneWord {
     lanes: [u32; 64],
@@ -70,34 +74,38 @@ impl LaneWord {
 
     /// The lanes that are equal in both.
     #[inline(never)]
-    pub fn eq(&self, other: &LaneWord) -> Plane
-        ensures { IsPlaneOf (λ i. int_eq (lane_of self.now i) (lane_of other.now i)) result.0 }
+    pub fn eq(&self, other: &LaneWord, width: Width) -> Plane
+        ensures { IsPlaneBelow (lanes_in width)
+            (λ i. int_eq (lane_of self.now i) (lane_of other.now i)) result.0 }
     {
-        Plane(tested::<Equal>(&self.lanes, &other.lanes))
+        Plane(tested::<Equal>(&self.lanes, &other.lanes, width))
     }
 
     /// The lanes that are below those of `other`.
     #[inline(never)]
-    pub fn lt(&self, other: &LaneWord) -> Plane
-        ensures { IsPlaneOf (λ i. int_lt (lane_of self.now i) (lane_of other.now i)) result.0 }
+    pub fn lt(&self, other: &LaneWord, width: Width) -> Plane
+        ensures { IsPlaneBelow (lanes_in width)
+            (λ i. int_lt (lane_of self.now i) (lane_of other.now i)) result.0 }
     {
-        Plane(tested::<Below>(&self.lanes, &other.lanes))
+        Plane(tested::<Below>(&self.lanes, &other.lanes, width))
     }
 
     /// The lanes that are at most those of `other`.
     #[inline(never)]
-    pub fn le(&self, other: &LaneWord) -> Plane
-        ensures { IsPlaneOf (λ i. int_le (lane_of self.now i) (lane_of other.now i)) result.0 }
+    pub fn le(&self, other: &LaneWord, width: Width) -> Plane
+        ensures { IsPlaneBelow (lanes_in width)
+            (λ i. int_le (lane_of self.now i) (lane_of other.now i)) result.0 }
     {
-        Plane(tested::<AtMost>(&self.lanes, &other.lanes))
+        Plane(tested::<AtMost>(&self.lanes, &other.lanes, width))
     }
 
     // The lanes whose bits are a smaller number than those of `other`.
-    pub(crate) fn lt_unsigned(&self, other: &LaneWord) -> Plane
-        ensures { IsPlaneOf (λ i. is_below_unsigned (lane_of self.now i) (lane_of other.now i))
+    pub(crate) fn lt_unsigned(&self, other: &LaneWord, width: Width) -> Plane
+        ensures { IsPlaneBelow (lanes_in width)
+            (λ i. is_below_unsigned (lane_of self.now i) (lane_of other.now i))
             result.0 }
     {
-        Plane(tested::<BelowUnsigned>(&self.lanes, &other.lanes))
+        Plane(tested::<BelowUnsigned>(&self.lanes, &other.lanes, width))
     }
 
     /// Takes over all lanes of another word.
@@ -108,17 +116,18 @@ impl LaneWord {
     }
 
     /// Takes over the lanes of `a` where the mask is true, and those of `b` where it is not.
-    pub fn set_blend(&mut self, mask: Plane, a: &LaneWord, b: &LaneWord)
-        ensures { IsBlend mask.0 a.now b.now self.new }
+    pub fn set_blend(&mut self, mask: Plane, a: &LaneWord, b: &LaneWord, width: Width)
+        ensures { IsBlendBelow (lanes_in width) mask.0 (lane_of a.now) (lane_of b.now)
+            (lane_of self.new) }
     {
-        blend(mask.0, &a.lanes, &b.lanes, &mut self.lanes);
+        blend(mask.0, &a.lanes, &b.lanes, width, &mut self.lanes);
     }
 
     // Puts the lanes of `new` where the mask is true.
     pub(crate) fn commit(&mut self, new: &LaneWord, mask: Plane)
         ensures { IsBlend mask.0 new.now self.old self.new }
     {
-        commit(mask.0, &new.lanes, &mut self.lanes);
+        commit(mask.0, &new.lanes, Width::all(), &mut self.lanes);
     }
 
     // Takes over the signs of the lanes of another word: -1 where one is below 0, else 0.
@@ -126,37 +135,85 @@ impl LaneWord {
         ensures { (i : ℕ) → i < 64 → lane_of self.new i ≡ sign_of (lane_of of.now i) }
     {
         let (zeros, ones) = (&[0; 64], &[u32::MAX; 64]);
-        let _ = chosen::<Below>(&of.lanes, zeros, ones, zeros, &mut self.lanes);
+        let _ = chosen::<Below>(&of.lanes, zeros, ones, zeros, Width::all(), &mut self.lanes);
     }
 
     /// Takes over the lanes of `a` where those of `x` and `y` are equal, and those of `b` where
     /// they are not; gives the lanes that are equal.
     #[inline(never)]
-    pub fn set_where_eq(&mut self, x: &LaneWord, y: &LaneWord, a: &LaneWord, b: &LaneWord) -> Plane
-        ensures plane { IsPlaneOf (λ i. int_eq (lane_of x.now i) (lane_of y.now i)) result.0 }
-        ensures lanes { IsBlend result.0 a.now b.now self.new }
+    pub fn set_where_eq(
+        &mut self,
+        x: &LaneWord,
+        y: &LaneWord,
+        a: &LaneWord,
+        b: &LaneWord,
+        width: Width,
+    ) -> Plane
+        ensures plane { IsPlaneBelow (lanes_in width)
+            (λ i. int_eq (lane_of x.now i) (lane_of y.now i)) result.0 }
+        ensures lanes { IsBlendBelow (lanes_in width) result.0 (lane_of a.now) (lane_of b.now)
+            (lane_of self.new) }
     {
-        Plane(chosen::<Equal>(&x.lanes, &y.lanes, &a.lanes, &b.lanes, &mut self.lanes))
+        Plane(chosen::<Equal>(
+            &x.lanes,
+            &y.lanes,
+            &a.lanes,
+            &b.lanes,
+            width,
+            &mut self.lanes,
+        ))
     }
 
     /// Takes over the lanes of `a` where those of `x` are below those of `y`, and those of `b`
     /// where they are not; gives the lanes that are below.
     #[inline(never)]
-    pub fn set_where_lt(&mut self, x: &LaneWord, y: &LaneWord, a: &LaneWord, b: &LaneWord) -> Plane
-        ensures plane { IsPlaneOf (λ i. int_lt (lane_of x.now i) (lane_of y.now i)) result.0 }
-        ensures lanes { IsBlend result.0 a.now b.now self.new }
+    pub fn set_where_lt(
+        &mut self,
+        x: &LaneWord,
+        y: &LaneWord,
+        a: &LaneWord,
+        b: &LaneWord,
+        width: Width,
+    ) -> Plane
+        ensures plane { IsPlaneBelow (lanes_in width)
+            (λ i. int_lt (lane_of x.now i) (lane_of y.now i)) result.0 }
+        ensures lanes { IsBlendBelow (lanes_in width) result.0 (lane_of a.now) (lane_of b.now)
+            (lane_of self.new) }
     {
-        Plane(chosen::<Below>(&x.lanes, &y.lanes, &a.lanes, &b.lanes, &mut self.lanes))
+        Plane(chosen::<Below>(
+            &x.lanes,
+            &y.lanes,
+            &a.lanes,
+            &b.lanes,
+            width,
+            &mut self.lanes,
+        ))
     }
 
     /// Takes over the lanes of `a` where those of `x` are at most those of `y`, and those of `b`
     /// where they are not; gives the lanes that are at most.
     #[inline(never)]
-    pub fn set_where_le(&mut self, x: &LaneWord, y: &LaneWord, a: &LaneWord, b: &LaneWord) -> Plane
-        ensures plane { IsPlaneOf (λ i. int_le (lane_of x.now i) (lane_of y.now i)) result.0 }
-        ensures lanes { IsBlend result.0 a.now b.now self.new }
+    pub fn set_where_le(
+        &mut self,
+        x: &LaneWord,
+        y: &LaneWord,
+        a: &LaneWord,
+        b: &LaneWord,
+        width: Width,
+    ) -> Plane
+        ensures plane { IsPlaneBelow (lanes_in width)
+            (λ i. int_le (lane_of x.now i) (lane_of y.now i)) result.0 }
+        ensures lanes { IsBlendBelow (lanes_in width) result.0 (lane_of a.now) (lane_of b.now)
+            (lane_of self.new) }
     {
-        Plane(chosen::<AtMost>(&x.lanes, &y.lanes, &a.lanes, &b.lanes, &mut self.lanes))
+        Plane(chosen::<AtMost>(
+            &x.lanes,
+            &y.lanes,
+            &a.lanes,
+            &b.lanes,
+            width,
+            &mut self.lanes,
+        ))
     }
 
     /// Puts the lanes after an operator into `out`, and gives the faults: where the operator has no
@@ -168,17 +225,55 @@ impl LaneWord {
         op: IntOperator,
         other: &LaneWord,
         active: Plane,
+        width: Width,
         out: &mut LaneWord,
     ) -> Plane
-        ensures lanes { IsKernel (result_of op) self.now other.now active.0 out.new result.0 }
+        ensures lanes { IsKernelBelow (lanes_in width) (result_of op) (lane_of self.now)
+            (lane_of other.now) active.0 (lane_of out.new) result.0 }
     {
-        let (a, b, out) = (&self.lanes, &other.lanes, &mut out.lanes);
-        Plane(match op {
-            IntOperator::Add => run::<Sum>(a, b, active.0, out),
-            IntOperator::Sub => run::<Difference>(a, b, active.0, out),
-            IntOperator::Mul => run_product(a, b, active.0, out),
-            IntOperator::Div => run_division::<Quotient>(a, b, active.0, out),
-            IntOperator::Rem => run_division::<Remainder>(a, b, active.0, out),
-        })
+        Plane(operated(
+            op,
+            &self.lanes,
+            &other.lanes,
+            active.0,
+            width,
+            &mut out.lanes,
+        ))
     }
+}
+
+// Puts the lanes of a width after an operator into `out`, and gives their faults.
+fn run_operator(
+    op: IntOperator,
+    a: &[u32; 64],
+    b: &[u32; 64],
+    active: u64,
+    width: Width,
+    out: &mut [u32; 64],
+) -> u64
+    ensures { IsKernelBelow (lanes_in width) (result_of op) (bits_lane a.now)
+        (bits_lane b.now) active (bits_lane out.new) result }
+{
+    match op {
+        IntOperator::Add => run::<Sum>(a, b, active, width, out),
+        IntOperator::Sub => run::<Difference>(a, b, active, width, out),
+        IntOperator::Mul => run_product(a, b, active, width, out),
+        IntOperator::Div => run_division::<Quotient>(a, b, active, width, out),
+        IntOperator::Rem => run_division::<Remainder>(a, b, active, width, out),
+    }
+}
+
+// The same, whatever the active plane says of the lanes above.
+fn operated(
+    op: IntOperator,
+    a: &[u32; 64],
+    b: &[u32; 64],
+    active: u64,
+    width: Width,
+    out: &mut [u32; 64],
+) -> u64
+    ensures { IsKernelBelow (lanes_in width) (result_of op) (bits_lane a.now)
+        (bits_lane b.now) active (bits_lane out.new) result }
+{
+    run_operator(op, a, b, active & width.plane(), width, out)
 }

@@ -26,6 +26,7 @@ ghost use Rattle.lb_lanes.specs.Planes.{IsPlaneOf};
 use crate::int_operator::IntOperator;
 use crate::lane_words::LaneWord;
 use crate::planes::Plane;
+use crate::width::Width;
 use std::marker::Model;
 
 // The halves of an integer.
@@ -98,7 +99,9 @@ impl IntLanes {
     {
         self.low.are_ints();
         other.low.are_ints();
-        self.high.eq(&other.high).and(self.low.eq(&other.low))
+        self.high
+            .eq(&other.high, Width::all())
+            .and(self.low.eq(&other.low, Width::all()))
     }
 
     /// The lanes that are below those of `other`.
@@ -107,9 +110,11 @@ impl IntLanes {
     {
         self.low.are_ints();
         other.low.are_ints();
-        let above_equal = self.high.eq(&other.high);
-        let low_below = self.low.lt_unsigned(&other.low);
-        self.high.lt(&other.high).or(above_equal.and(low_below))
+        let above_equal = self.high.eq(&other.high, Width::all());
+        let low_below = self.low.lt_unsigned(&other.low, Width::all());
+        self.high
+            .lt(&other.high, Width::all())
+            .or(above_equal.and(low_below))
     }
 
     /// The lanes that are at most those of `other`.
@@ -126,7 +131,7 @@ impl IntLanes {
         self.low.are_ints();
         let mut signs = LaneWord::splat(0);
         signs.set_signs(&self.low);
-        self.high.eq(&signs).not()
+        self.high.eq(&signs, Width::all()).not()
     }
 
     /// The lanes of `a` where the mask is true, and those of `b` where it is not.
@@ -150,8 +155,8 @@ impl IntLanes {
     pub fn set_blend(&mut self, mask: Plane, a: &IntLanes, b: &IntLanes)
         ensures { IsBlend mask.0 a.now b.now self.new }
     {
-        self.high.set_blend(mask, &a.high, &b.high);
-        self.low.set_blend(mask, &a.low, &b.low);
+        self.high.set_blend(mask, &a.high, &b.high, Width::all());
+        self.low.set_blend(mask, &a.low, &b.low, Width::all());
     }
 
     // Puts the lanes of `new` where the mask is true.
@@ -179,7 +184,9 @@ impl IntLanes {
     {
         self.low.are_ints();
         other.low.are_ints();
-        let faults = self.low.operate(op, &other.low, active, &mut out.low);
+        let faults = self
+            .low
+            .operate(op, &other.low, active, Width::all(), &mut out.low);
         out.low.are_ints();
         out.high.set_signs(&out.low);
         faults

@@ -17,51 +17,53 @@
 ghost use Rattle.std.specs.Prelude.{◌≡◌, ℕ, ◌<◌, ◌^◌, true, IsTrue, pos, ℤ, int_div, unsigned_abs};
 ghost use Rattle.std.specs.Prelude.{MatchOption, if◌then◌else◌};
 ghost use Rattle.std.specs.Int.{cast_signed, w32};
-ghost use Rattle.lb_lanes.specs.Kernels.{IsKernelBelow, bits_lane};
+ghost use Rattle.lb_lanes.specs.Kernels.{IsKernelBelow, bits_lane, lanes_in};
 ghost use Rattle.lb_lanes.specs.Operators.{can_divide, divided_by};
 ghost use Rattle.lb_lanes.specs.Planes.{on};
 
 use crate::division::Division;
 use crate::planes::Plane;
 use crate::reciprocals::{reciprocal, word_divided, word_shifted};
+use crate::width::Width;
 use crate::word_kernels::{blend, keep};
 use crate::word_quotients::{LARGE, divide_small};
 use crate::word_tests::{Divisible, Equal, tested};
 
 // Puts the results of lanes that can all be divided.
-fn divide_all<K: Division>(a: &[u32; 64], divisors: &[u32; 64], out: &mut [u32; 64])
-    requires { (i : ℕ) → i < 64
+fn divide_all<K: Division>(a: &[u32; 64], divisors: &[u32; 64], width: Width, out: &mut [u32; 64])
+    requires { (i : ℕ) → i < lanes_in width
         → IsTrue (can_divide (bits_lane a.now i) (bits_lane divisors.now i)) }
-    ensures { (i : ℕ) → i < 64
+    ensures { (i : ℕ) → i < lanes_in width
         → bits_lane out.new i ≡ K.divided (bits_lane a.now i) (bits_lane divisors.now i) }
 {
-    for i in 0..64usize {
+    for i in 0..16 * width.chunks {
         let divided = K::divide(a[i].cast_signed(), divisors[i].cast_signed());
         out[i] = divided.cast_unsigned();
     }
 }
 
-// Puts the 64 lanes after the division into `out`, each divided by itself, and gives their faults.
+// Puts the lanes after the division into `out`, each divided by itself, and gives their faults.
 fn run_one_by_one<K: Division>(
     a: &[u32; 64],
     b: &[u32; 64],
     active: u64,
+    width: Width,
     out: &mut [u32; 64],
 ) -> u64
-    ensures { IsKernelBelow 64 (divided_by K.divided) (bits_lane a.now) (bits_lane b.now) active
-        (bits_lane out.new) result }
+    ensures { IsKernelBelow (lanes_in width) (divided_by K.divided) (bits_lane a.now)
+        (bits_lane b.now) active (bits_lane out.new) result }
 {
-    let divisible = tested::<Divisible>(a, b);
+    let divisible = tested::<Divisible>(a, b, width);
     let divides = active & divisible;
-    if divides == u64::MAX {
-        divide_all::<K>(a, b, out);
+    if divides == width.plane() {
+        divide_all::<K>(a, b, width, out);
         return 0;
     }
     let mut divisors = [1u32; 64];
-    blend(divides, b, &[1; 64], &mut divisors);
+    blend(divides, b, &[1; 64], width, &mut divisors);
     let mut results = [0u32; 64];
-    divide_all::<K>(a, &divisors, &mut results);
-    blend(divides, &results, &[0; 64], out);
+    divide_all::<K>(a, &divisors, width, &mut results);
+    blend(divides, &results, &[0; 64], width, out);
     active & !divisible
 }
 
@@ -79,55 +81,62 @@ fn divided_or<K: Division>(x: u32, y: u32, divides: bool, held: u32) -> u32
 
 // Puts the results of some lanes, mostly few, each divided by itself.
 #[inline(never)]
-fn divide_some<K: Division>(a: &[u32; 64], b: &[u32; 64], divides: u64, out: &mut [u32; 64])
-    requires { (i : ℕ) → i < 64 → on divides i ≡ true
+fn divide_some<K: Division>(
+    a: &[u32; 64],
+    b: &[u32; 64],
+    divides: u64,
+    width: Width,
+    out: &mut [u32; 64],
+)
+    requires { (i : ℕ) → i < lanes_in width → on divides i ≡ true
         → IsTrue (can_divide (bits_lane a.now i) (bits_lane b.now i)) }
-    ensures { (i : ℕ) → i < 64 → bits_lane out.new i ≡ (if on divides i
+    ensures { (i : ℕ) → i < lanes_in width → bits_lane out.new i ≡ (if on divides i
         then K.divided (bits_lane a.now i) (bits_lane b.now i) else bits_lane out.old i) }
 {
-    for i in 0..64usize {
+    for i in 0..16 * width.chunks {
         let chosen = Plane(divides).get(i as u32);
         out[i] = divided_or::<K>(a[i], b[i], chosen, out[i]);
     }
 }
 
-// Puts the 64 lanes after the division into `out`, each divided by its own divisor, and gives their
+// Puts the lanes after the division into `out`, each divided by its own divisor, and gives their
 // faults.
 #[inline(never)]
 fn run_each_division<K: Division>(
     a: &[u32; 64],
     b: &[u32; 64],
     active: u64,
+    width: Width,
     out: &mut [u32; 64],
 ) -> u64
-    ensures { IsKernelBelow 64 (divided_by K.divided) (bits_lane a.now) (bits_lane b.now) active
-        (bits_lane out.new) result }
+    ensures { IsKernelBelow (lanes_in width) (divided_by K.divided) (bits_lane a.now)
+        (bits_lane b.now) active (bits_lane out.new) result }
 {
     // Where the first active lane has a large dividend, others have mostly, too.
     let first = (active.trailing_zeros() % 64) as usize;
     if a[first].cast_signed().unsigned_abs() >= LARGE {
-        return run_one_by_one::<K>(a, b, active, out);
+        return run_one_by_one::<K>(a, b, active, width, out);
     }
     let mut doubts = [0u32; 64];
-    if divide_small::<K>(a, b, out, &mut doubts) == 0 {
-        keep(active, out);
+    if divide_small::<K>(a, b, width, out, &mut doubts) == 0 {
+        keep(active, width, out);
         return 0;
     }
-    let doubtful = active & !tested::<Equal>(&doubts, &[0; 64]);
-    keep(active, out);
-    let others = doubtful & !tested::<Equal>(b, &[0; 64]);
+    let doubtful = active & !tested::<Equal>(&doubts, &[0; 64], width);
+    keep(active, width, out);
+    let others = doubtful & !tested::<Equal>(b, &[0; 64], width);
     if others == 0 {
         return doubtful;
     }
-    let divisible = tested::<Divisible>(a, b);
-    divide_some::<K>(a, b, doubtful & divisible, out);
+    let divisible = tested::<Divisible>(a, b, width);
+    divide_some::<K>(a, b, doubtful & divisible, width, out);
     doubtful & !divisible
 }
 
 // The divisor of all active lanes, if it is one that divides each integer.
-fn common_divisor(b: &[u32; 64], active: u64) -> Option<u32>
+fn common_divisor(b: &[u32; 64], active: u64, width: Width) -> Option<u32>
     ensures { MatchOption result (Unit {0}) (λ d.
-        ((i : ℕ) → i < 64 → on active i ≡ true → bits_lane b.now i ≡ cast_signed w32 d)
+        ((i : ℕ) → i < lanes_in width → on active i ≡ true → bits_lane b.now i ≡ cast_signed w32 d)
         × ((v : ℤ) → IsTrue (can_divide v (cast_signed w32 d)))) }
 {
     let divisor = b[(active.trailing_zeros() % 64) as usize];
@@ -138,59 +147,66 @@ fn common_divisor(b: &[u32; 64], active: u64) -> Option<u32>
     if b[63 - (active.leading_zeros() % 64) as usize] != divisor {
         return None;
     }
-    let others = active & !tested::<Equal>(b, &[divisor; 64]);
+    let others = active & !tested::<Equal>(b, &[divisor; 64], width);
     if others == 0 { Some(divisor) } else { None }
 }
 
 // Puts the results of lanes that are all divided by one divisor, whose size is a power of 2.
-fn divide_by_power<K: Division>(a: &[u32; 64], divisor: u32, shift: u32, out: &mut [u32; 64])
+fn divide_by_power<K: Division>(
+    a: &[u32; 64],
+    divisor: u32,
+    shift: u32,
+    width: Width,
+    out: &mut [u32; 64],
+)
     requires short { shift < 32 }
     requires power { unsigned_abs (cast_signed w32 divisor) ≡ 2 ^ shift }
     requires divisible { (v : ℤ) → IsTrue (can_divide v (cast_signed w32 divisor)) }
-    ensures { (i : ℕ) → i < 64
+    ensures { (i : ℕ) → i < lanes_in width
         → bits_lane out.new i ≡ K.divided (bits_lane a.now i) (cast_signed w32 divisor) }
 {
-    for i in 0..64usize {
+    for i in 0..16 * width.chunks {
         let quotient = word_shifted(a[i], divisor, shift);
         out[i] = K::from_quotient(a[i], divisor, quotient);
     }
 }
 
 // Puts the results of lanes that are all divided by one divisor.
-fn divide_by_one<K: Division>(a: &[u32; 64], divisor: u32, out: &mut [u32; 64])
+fn divide_by_one<K: Division>(a: &[u32; 64], divisor: u32, width: Width, out: &mut [u32; 64])
     requires { (v : ℤ) → IsTrue (can_divide v (cast_signed w32 divisor)) }
-    ensures { (i : ℕ) → i < 64
+    ensures { (i : ℕ) → i < lanes_in width
         → bits_lane out.new i ≡ K.divided (bits_lane a.now i) (cast_signed w32 divisor) }
 {
     let size = divisor.cast_signed().unsigned_abs();
     let log = size.ilog2();
     if 1u32 << log == size {
-        divide_by_power::<K>(a, divisor, log, out);
+        divide_by_power::<K>(a, divisor, log, width, out);
         return;
     }
     let (factor, shift) = reciprocal(size, log);
-    for i in 0..64usize {
+    for i in 0..16 * width.chunks {
         let quotient = word_divided(a[i], divisor, factor, shift);
         out[i] = K::from_quotient(a[i], divisor, quotient);
     }
 }
 
-// Puts the 64 lanes after the division into `out`, and gives their faults.
+// Puts the lanes after the division into `out`, and gives their faults.
 pub(crate) fn run_division<K: Division>(
     a: &[u32; 64],
     b: &[u32; 64],
     active: u64,
+    width: Width,
     out: &mut [u32; 64],
 ) -> u64
-    ensures { IsKernelBelow 64 (divided_by K.divided) (bits_lane a.now) (bits_lane b.now) active
-        (bits_lane out.new) result }
+    ensures { IsKernelBelow (lanes_in width) (divided_by K.divided) (bits_lane a.now)
+        (bits_lane b.now) active (bits_lane out.new) result }
 {
-    match common_divisor(b, active) {
+    match common_divisor(b, active, width) {
         Some(divisor) => {
-            divide_by_one::<K>(a, divisor, out);
-            keep(active, out);
+            divide_by_one::<K>(a, divisor, width, out);
+            keep(active, width, out);
             0
         }
-        None => run_each_division::<K>(a, b, active, out),
+        None => run_each_division::<K>(a, b, active, width, out),
     }
 }

@@ -14,18 +14,20 @@
 
 ghost use Rattle.std.specs.Prelude.{◌≡◌, ℕ, ◌<◌, not, IsTrue, ℤ, pos, ◌+ℤ◌, ◌-ℤ◌};
 ghost use Rattle.std.specs.Prelude.{slice_index, if◌then◌else◌};
-ghost use Rattle.lb_lanes.specs.Kernels.{IsBlendBelow, IsKernelBelow, bits_lane};
+ghost use Rattle.lb_lanes.specs.Kernels.{IsBlendBelow, IsKernelBelow, bits_lane, lanes_in};
 ghost use Rattle.lb_lanes.specs.Operators.{is_int, lawful};
-ghost use Rattle.lb_lanes.specs.Planes.{IsPlaneOf, on};
+ghost use Rattle.lb_lanes.specs.Planes.{IsPlaneBelow, on};
 
+use crate::width::Width;
 use crate::word_chunks::{blended16, load16, store16, tops16};
 use std::simd::prelude::*;
 
 // Puts the lanes of `a` where the mask is true, and those of `b` where it is not.
-pub(crate) fn blend(mask: u64, a: &[u32; 64], b: &[u32; 64], out: &mut [u32; 64])
-    ensures { IsBlendBelow 64 mask (bits_lane a.now) (bits_lane b.now) (bits_lane out.new) }
+pub(crate) fn blend(mask: u64, a: &[u32; 64], b: &[u32; 64], width: Width, out: &mut [u32; 64])
+    ensures { IsBlendBelow (lanes_in width) mask (bits_lane a.now) (bits_lane b.now)
+        (bits_lane out.new) }
 {
-    for c in 0..4usize {
+    for c in 0..width.chunks {
         let at = 16 * c;
         let kept = blended16(mask >> (at as u64), load16(a, at), load16(b, at));
         store16(out, at, kept);
@@ -33,10 +35,11 @@ pub(crate) fn blend(mask: u64, a: &[u32; 64], b: &[u32; 64], out: &mut [u32; 64]
 }
 
 // Puts the lanes of `new` into `old` where the mask is true.
-pub(crate) fn commit(mask: u64, new: &[u32; 64], old: &mut [u32; 64])
-    ensures { IsBlendBelow 64 mask (bits_lane new.now) (bits_lane old.old) (bits_lane old.new) }
+pub(crate) fn commit(mask: u64, new: &[u32; 64], width: Width, old: &mut [u32; 64])
+    ensures { IsBlendBelow (lanes_in width) mask (bits_lane new.now) (bits_lane old.old)
+        (bits_lane old.new) }
 {
-    for c in 0..4usize {
+    for c in 0..width.chunks {
         let at = 16 * c;
         let kept = blended16(mask >> (at as u64), load16(new, at), load16(old, at));
         store16(old, at, kept);
@@ -45,22 +48,22 @@ pub(crate) fn commit(mask: u64, new: &[u32; 64], old: &mut [u32; 64])
 
 // Makes the lanes 0 where the mask is not true, which it mostly is in all lanes.
 #[inline(never)]
-fn keep_some(mask: u64, lanes: &mut [u32; 64])
-    ensures { (i : ℕ) → i < 64 → bits_lane lanes.new i
+fn keep_some(mask: u64, width: Width, lanes: &mut [u32; 64])
+    ensures { (i : ℕ) → i < lanes_in width → bits_lane lanes.new i
         ≡ (if on mask i then bits_lane lanes.old i else pos 0) }
 {
-    commit(!mask, &[0; 64], lanes);
+    commit(!mask, &[0; 64], width, lanes);
 }
 
 // Makes the lanes 0 where the mask is not true.
-pub(crate) fn keep(mask: u64, lanes: &mut [u32; 64])
-    ensures { (i : ℕ) → i < 64 → bits_lane lanes.new i
+pub(crate) fn keep(mask: u64, width: Width, lanes: &mut [u32; 64])
+    ensures { (i : ℕ) → i < lanes_in width → bits_lane lanes.new i
         ≡ (if on mask i then bits_lane lanes.old i else pos 0) }
 {
-    if mask == u64::MAX {
+    if mask == width.plane() {
         return;
     }
-    keep_some(mask, lanes);
+    keep_some(mask, width, lanes);
 }
 
 /// A sum or a difference.
@@ -101,17 +104,17 @@ impl Wrapping for Difference {
     }
 }
 
-// Puts the 64 lanes after the operator into `out`, right where they are in the range of `int`, and
+// Puts the lanes after the operator into `out`, right where they are in the range of `int`, and
 // gives the lanes that are not.
-fn run_wrapped<K: Wrapping>(a: &[u32; 64], b: &[u32; 64], out: &mut [u32; 64]) -> u64
-    ensures values { (i : ℕ) → i < 64
+fn run_wrapped<K: Wrapping>(a: &[u32; 64], b: &[u32; 64], width: Width, out: &mut [u32; 64]) -> u64
+    ensures values { (i : ℕ) → i < lanes_in width
         → IsTrue (is_int (K.exact (bits_lane a.now i) (bits_lane b.now i)))
         → bits_lane out.new i ≡ K.exact (bits_lane a.now i) (bits_lane b.now i) }
-    ensures beyond { IsPlaneOf
+    ensures beyond { IsPlaneBelow (lanes_in width)
         (λ i. not (is_int (K.exact (bits_lane a.now i) (bits_lane b.now i)))) result }
 {
     let mut beyond = 0u64;
-    for c in 0..4usize {
+    for c in 0..width.chunks {
         let at = 16 * c;
         let (value, look) = K::wrapped16(load16(a, at), load16(b, at));
         store16(out, at, value);
@@ -120,17 +123,18 @@ fn run_wrapped<K: Wrapping>(a: &[u32; 64], b: &[u32; 64], out: &mut [u32; 64]) -
     beyond
 }
 
-// Puts the 64 lanes after the operator into `out`, and gives their faults.
+// Puts the lanes after the operator into `out`, and gives their faults.
 pub(crate) fn run<K: Wrapping>(
     a: &[u32; 64],
     b: &[u32; 64],
     active: u64,
+    width: Width,
     out: &mut [u32; 64],
 ) -> u64
-    ensures { IsKernelBelow 64 (λ x y. lawful (K.exact x y)) (bits_lane a.now) (bits_lane b.now)
-        active (bits_lane out.new) result }
+    ensures { IsKernelBelow (lanes_in width) (λ x y. lawful (K.exact x y)) (bits_lane a.now)
+        (bits_lane b.now) active (bits_lane out.new) result }
 {
-    let beyond = run_wrapped::<K>(a, b, out);
-    keep(active & !beyond, out);
+    let beyond = run_wrapped::<K>(a, b, width, out);
+    keep(active & !beyond, width, out);
     active & beyond
 }

@@ -15,9 +15,10 @@
 
 ghost use Rattle.std.specs.Prelude.{◌≡◌, ℕ, ◌<◌, ◌==◌, IsTrue, ◌*ℤ◌, slice_index};
 ghost use Rattle.std.specs.Int.{cast_signed, w32};
-ghost use Rattle.lb_lanes.specs.Kernels.{IsKernelBelow, bits_lane};
+ghost use Rattle.lb_lanes.specs.Kernels.{IsKernelBelow, bits_lane, lanes_in};
 ghost use Rattle.lb_lanes.specs.Operators.{is_int, product_of};
 
+use crate::width::Width;
 use crate::word_kernels::{blend, keep};
 use crate::word_tests::{Equal, tested};
 
@@ -32,12 +33,12 @@ fn small_product(x: u32, y: u32) -> (u32, u32)
 }
 
 // Puts the products in 32 bits into `out`, and tells whether all operands are small.
-fn multiply_small(a: &[u32; 64], b: &[u32; 64], out: &mut [u32; 64]) -> bool
-    ensures { IsTrue result → (i : ℕ) → i < 64
+fn multiply_small(a: &[u32; 64], b: &[u32; 64], width: Width, out: &mut [u32; 64]) -> bool
+    ensures { IsTrue result → (i : ℕ) → i < lanes_in width
         → bits_lane out.new i ≡ bits_lane a.now i *ℤ bits_lane b.now i }
 {
     let mut largest = 0u32;
-    for i in 0..64usize {
+    for i in 0..16 * width.chunks {
         let (value, raised) = small_product(a[i], b[i]);
         largest = largest.max(raised);
         out[i] = value;
@@ -59,12 +60,12 @@ fn product(x: u32, y: u32) -> (u32, u32)
 }
 
 // Puts the products' low 32 bits into `out`, and tells whether all are the products.
-fn multiply_wide(a: &[u32; 64], b: &[u32; 64], out: &mut [u32; 64]) -> bool
-    ensures { IsTrue result → (i : ℕ) → i < 64
+fn multiply_wide(a: &[u32; 64], b: &[u32; 64], width: Width, out: &mut [u32; 64]) -> bool
+    ensures { IsTrue result → (i : ℕ) → i < lanes_in width
         → bits_lane out.new i ≡ bits_lane a.now i *ℤ bits_lane b.now i }
 {
     let mut look = 0u32;
-    for i in 0..64usize {
+    for i in 0..16 * width.chunks {
         let (low, beyond) = product(a[i], b[i]);
         look |= beyond;
         out[i] = low;
@@ -73,57 +74,63 @@ fn multiply_wide(a: &[u32; 64], b: &[u32; 64], out: &mut [u32; 64]) -> bool
 }
 
 // Puts the products into `out`, and tells whether all are in the range of `int`.
-fn multiply(a: &[u32; 64], b: &[u32; 64], out: &mut [u32; 64]) -> bool
-    ensures { IsTrue result → (i : ℕ) → i < 64
+fn multiply(a: &[u32; 64], b: &[u32; 64], width: Width, out: &mut [u32; 64]) -> bool
+    ensures { IsTrue result → (i : ℕ) → i < lanes_in width
         → bits_lane out.new i ≡ bits_lane a.now i *ℤ bits_lane b.now i }
 {
     // Where the operands of a lane are large, others are mostly, too.
-    if small_product(a[0], b[0]).1 < 65536 && multiply_small(a, b, out) {
+    if small_product(a[0], b[0]).1 < 65536 && multiply_small(a, b, width, out) {
         return true;
     }
-    multiply_wide(a, b, out)
+    multiply_wide(a, b, width, out)
 }
 
 // Puts the products' low 32 bits into the first operands, and words that are 0 just where the
 // product is in the range of `int`.
-fn multiply_apart(lanes: &mut [u32; 64], by: &[u32; 64], beyond: &mut [u32; 64])
-    ensures values { (i : ℕ) → i < 64
+fn multiply_apart(lanes: &mut [u32; 64], by: &[u32; 64], width: Width, beyond: &mut [u32; 64])
+    ensures values { (i : ℕ) → i < lanes_in width
         → IsTrue (is_int (bits_lane lanes.old i *ℤ bits_lane by.now i))
         → bits_lane lanes.new i ≡ bits_lane lanes.old i *ℤ bits_lane by.now i }
-    ensures beyond { (i : ℕ) → i < 64
+    ensures beyond { (i : ℕ) → i < lanes_in width
         → (slice_index beyond.new i == 0)
         ≡ is_int (bits_lane lanes.old i *ℤ bits_lane by.now i) }
 {
-    for i in 0..64usize {
+    for i in 0..16 * width.chunks {
         let (low, upper) = product(lanes[i], by[i]);
         beyond[i] = upper;
         lanes[i] = low;
     }
 }
 
-// Puts the 64 products into `out`, some of which are out of the range of `int`, and gives the
+// Puts the products into `out`, some of which are out of the range of `int`, and gives the
 // faults.
-fn run_apart(a: &[u32; 64], b: &[u32; 64], active: u64, out: &mut [u32; 64]) -> u64
-    ensures { IsKernelBelow 64 product_of (bits_lane a.now) (bits_lane b.now) active
+fn run_apart(a: &[u32; 64], b: &[u32; 64], active: u64, width: Width, out: &mut [u32; 64]) -> u64
+    ensures { IsKernelBelow (lanes_in width) product_of (bits_lane a.now) (bits_lane b.now) active
         (bits_lane out.new) result }
 {
     let mut products = [0u32; 64];
-    blend(active, a, &[0; 64], &mut products);
+    blend(active, a, &[0; 64], width, &mut products);
     let mut beyond = [0u32; 64];
-    multiply_apart(&mut products, b, &mut beyond);
-    let within = tested::<Equal>(&beyond, &[0; 64]);
-    blend(within, &products, &[0; 64], out);
+    multiply_apart(&mut products, b, width, &mut beyond);
+    let within = tested::<Equal>(&beyond, &[0; 64], width);
+    blend(within, &products, &[0; 64], width, out);
     !within
 }
 
-// Puts the 64 products into `out`, and gives the faults.
-pub(crate) fn run_product(a: &[u32; 64], b: &[u32; 64], active: u64, out: &mut [u32; 64]) -> u64
-    ensures { IsKernelBelow 64 product_of (bits_lane a.now) (bits_lane b.now) active
+// Puts the products into `out`, and gives the faults.
+pub(crate) fn run_product(
+    a: &[u32; 64],
+    b: &[u32; 64],
+    active: u64,
+    width: Width,
+    out: &mut [u32; 64],
+) -> u64
+    ensures { IsKernelBelow (lanes_in width) product_of (bits_lane a.now) (bits_lane b.now) active
         (bits_lane out.new) result }
 {
-    if multiply(a, b, out) {
-        keep(active, out);
+    if multiply(a, b, width, out) {
+        keep(active, width, out);
         return 0;
     }
-    run_apart(a, b, active, out)
+    run_apart(a, b, active, width, out)
 }

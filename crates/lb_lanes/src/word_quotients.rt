@@ -14,11 +14,12 @@
 ghost use Rattle.std.specs.Prelude.{◌≡◌, ℕ, ◌<◌, ◌==◌, ◌/◌, true, pos, IfSome, slice_index};
 ghost use Rattle.std.specs.Prelude.{if◌then◌else◌};
 ghost use Rattle.std.specs.Int.{cast_signed, w32};
-ghost use Rattle.lb_lanes.specs.Kernels.{bits_lane};
+ghost use Rattle.lb_lanes.specs.Kernels.{bits_lane, lanes_in};
 ghost use Rattle.lb_lanes.specs.Operators.{can_divide};
 
 use crate::division::Division;
 use crate::reciprocals::signed;
+use crate::width::Width;
 use crate::word_chunks::{load16, store16};
 use std::simd::prelude::*;
 
@@ -45,8 +46,8 @@ fn near16(x: u32x16, y: u32x16) -> u32x16 {
 }
 
 // Puts a guess at the size of each quotient.
-fn guess_all(a: &[u32; 64], b: &[u32; 64], guesses: &mut [u32; 64]) {
-    for c in 0..4usize {
+fn guess_all(a: &[u32; 64], b: &[u32; 64], width: Width, guesses: &mut [u32; 64]) {
+    for c in 0..width.chunks {
         let at = 16 * c;
         let near = near16(load16(a, at), load16(b, at));
         store16(guesses, at, near);
@@ -82,24 +83,25 @@ fn settled<K: Division>(x: u32, y: u32, guess: u32) -> (u32, u32)
     }
 }
 
-/// Puts the 64 lanes after the division into `out`, or 0 where one is in doubt, and words that are
+/// Puts the lanes after the division into `out`, or 0 where one is in doubt, and words that are
 /// 0 just where none is. Gives the union of these.
 pub(crate) fn divide_small<K: Division>(
     a: &[u32; 64],
     b: &[u32; 64],
+    width: Width,
     out: &mut [u32; 64],
     doubts: &mut [u32; 64],
 ) -> u32
-    ensures sure { result ≡ 0 → (i : ℕ) → i < 64 → slice_index doubts.new i ≡ 0 }
-    ensures divisible { (i : ℕ) → i < 64 → (slice_index doubts.new i == 0) ≡ true
+    ensures sure { result ≡ 0 → (i : ℕ) → i < lanes_in width → slice_index doubts.new i ≡ 0 }
+    ensures divisible { (i : ℕ) → i < lanes_in width → (slice_index doubts.new i == 0) ≡ true
         → can_divide (bits_lane a.now i) (bits_lane b.now i) ≡ true }
-    ensures values { (i : ℕ) → i < 64 → bits_lane out.new i
+    ensures values { (i : ℕ) → i < lanes_in width → bits_lane out.new i
         ≡ (if slice_index doubts.new i == 0
         then K.divided (bits_lane a.now i) (bits_lane b.now i) else pos 0) }
 {
-    guess_all(a, b, out);
+    guess_all(a, b, width, out);
     let mut union = 0u32;
-    for i in 0..64usize {
+    for i in 0..16 * width.chunks {
         let (value, doubt) = settled::<K>(a[i], b[i], out[i]);
         union |= doubt;
         doubts[i] = doubt;

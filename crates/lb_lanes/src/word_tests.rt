@@ -10,10 +10,11 @@ ghost use Rattle.std.specs.Prelude.{◌≡◌, ℕ, ◌<◌, Bool, ℤ, int_lt, 
 ghost use Rattle.std.specs.Ordering.{int_eq};
 ghost use Rattle.std.specs.Prelude.{slice_index, if◌then◌else◌};
 ghost use Rattle.lb_lanes.specs.Halves.{is_below_unsigned};
-ghost use Rattle.lb_lanes.specs.Kernels.{IsBlendBelow, bits_lane};
+ghost use Rattle.lb_lanes.specs.Kernels.{IsBlendBelow, bits_lane, lanes_in};
 ghost use Rattle.lb_lanes.specs.Operators.{can_divide};
-ghost use Rattle.lb_lanes.specs.Planes.{IsPlaneOf, on};
+ghost use Rattle.lb_lanes.specs.Planes.{IsPlaneBelow, on};
 
+use crate::width::Width;
 use crate::word_chunks::{load16, store16};
 use std::simd::prelude::*;
 
@@ -126,11 +127,12 @@ impl WordTest for BelowUnsigned {
 }
 
 // The lanes of the two that pass.
-pub(crate) fn tested<K: WordTest>(a: &[u32; 64], b: &[u32; 64]) -> u64
-    ensures { IsPlaneOf (λ i. K.passes (bits_lane a.now i) (bits_lane b.now i)) result }
+pub(crate) fn tested<K: WordTest>(a: &[u32; 64], b: &[u32; 64], width: Width) -> u64
+    ensures { IsPlaneBelow (lanes_in width)
+        (λ i. K.passes (bits_lane a.now i) (bits_lane b.now i)) result }
 {
     let mut plane = 0u64;
-    for c in 0..4usize {
+    for c in 0..width.chunks {
         let at = 16 * c;
         let passed = K::test16(load16(a, at), load16(b, at));
         plane |= passed << (at as u64);
@@ -145,14 +147,16 @@ pub(crate) fn chosen<K: WordChoice>(
     y: &[u32; 64],
     a: &[u32; 64],
     b: &[u32; 64],
+    width: Width,
     out: &mut [u32; 64],
 ) -> u64
-    ensures plane { IsPlaneOf (λ i. K.passes (bits_lane x.now i) (bits_lane y.now i)) result }
-    ensures lanes { IsBlendBelow 64 result (bits_lane a.now) (bits_lane b.now)
+    ensures plane { IsPlaneBelow (lanes_in width)
+        (λ i. K.passes (bits_lane x.now i) (bits_lane y.now i)) result }
+    ensures lanes { IsBlendBelow (lanes_in width) result (bits_lane a.now) (bits_lane b.now)
         (bits_lane out.new) }
 {
     let mut plane = 0u64;
-    for c in 0..4usize {
+    for c in 0..width.chunks {
         let at = 16 * c;
         let left = load16(x, at);
         let right = load16(y, at);

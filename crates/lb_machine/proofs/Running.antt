@@ -182,7 +182,7 @@ no_choice choices more first k le =
 
 -- with this rest of the code to do: it goes on from what is there, and where it has been done, in a
 -- lane that is as this one up to there, all has been done
-pub record IsRunning (first_plane first_word : ℕ) (code : List Instruction) (P W : ℕ)
+pub record IsRunning (n first_plane first_word : ℕ) (code : List Instruction) (P W : ℕ)
     (planes0 planes : List ℕ) (words0 words : List (List ℤ)) (rest : List Instruction) :
     Type 0 where
   pub next_plane : ℕ
@@ -195,16 +195,16 @@ pub record IsRunning (first_plane first_word : ℕ) (code : List Instruction) (P
   pub first_planes : (k : ℕ) → k < first_plane → get_or planes k 0 ≡ get_or planes0 k 0
   pub first_words : (k : ℕ) → k < first_word → get_or words k [] ≡ get_or words0 k []
   pub finishing :
-      (lane : ℕ) → lane < 64 → (s : Lane) →
+      (lane : ℕ) → lane < n → (s : Lane) →
       AreAlike next_plane next_word (lane_at planes words lane) s →
       AllByRecursion (IsDone s) rest → AllByRecursion (IsDone s) code
 
-module _ (p w : ℕ) (code : List Instruction) (P W : ℕ) (planes0 planes : List ℕ)
+module _ (n p w : ℕ) (code : List Instruction) (P W : ℕ) (planes0 planes : List ℕ)
     (words0 words : List (List ℤ)) (rest : List Instruction)
-    (h : IsRunning p w code P W planes0 planes words0 words rest) where
+    (h : IsRunning n p w code P W planes0 planes words0 words rest) where
   -- at the end all has been done
   pub ends :
-      rest ≡ [] → (lane : ℕ) → lane < 64 →
+      rest ≡ [] → (lane : ℕ) → lane < n →
       AllByRecursion (IsDone (lane_at planes words lane)) code
   ends none lane lt =
       h.finishing lane lt (lane_at planes words lane)
@@ -231,10 +231,10 @@ module _ (p w : ℕ) (code : List Instruction) (P W : ℕ) (planes0 planes : Lis
     pub goes_on :
         (planes' : List ℕ) (words' : List (List ℤ)) → length planes' ≡ length planes →
         length words' ≡ length words →
-        ((lane : ℕ) → lane < 64 → IsDone (lane_at planes' words' lane) here) →
+        ((lane : ℕ) → lane < n → IsDone (lane_at planes' words' lane) here) →
         ((k : ℕ) → KeepsPlane here k → get_or planes' k 0 ≡ get_or planes k 0) →
         ((k : ℕ) → KeepsWord here k → get_or words' k [] ≡ get_or words k []) →
-        IsRunning p w code P W planes0 planes' words0 words' more
+        IsRunning n p w code P W planes0 planes' words0 words' more
     goes_on planes' words' lp lw done planes_same words_same = record {
       next_plane = planes_after h.next_plane here;
       next_word = words_after h.next_word here;

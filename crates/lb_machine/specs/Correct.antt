@@ -1,4 +1,4 @@
--- What code promises: run in all lanes at once, it is done in each of them; and as it is put
+-- What code promises: run in so many lanes at once, it is done in each of them; and as it is put
 -- together, each place that a call gives holds what the call names, in every lane in which the code
 -- is done.
 -- This file says what data of the program mean. No lane occurs beside another.
@@ -15,10 +15,10 @@ use Rattle.lb_machine.specs.declared.instruction.WordId.{WordId}
 
 -- ## Code that is run
 
--- in each of the 64 lanes of planes and words each instruction has been done
-abbrev pub AreDoneInAllLanes : List Instruction → List ℕ → List (List ℤ) → Type 0
-AreDoneInAllLanes code planes words =
-    (lane : ℕ) → lane < 64 → AllByRecursion (IsDone (lane_at planes words lane)) code
+-- in each of the first n lanes of planes and words each instruction has been done
+abbrev pub AreDoneInLanes : ℕ → List Instruction → List ℕ → List (List ℤ) → Type 0
+AreDoneInLanes n code planes words =
+    (lane : ℕ) → lane < n → AllByRecursion (IsDone (lane_at planes words lane)) code
 
 -- ## Code that is put together
 

@@ -1,10 +1,9 @@
-//! The run of code in all lanes at once.
+//! The run of code in many lanes at once.
 
 ghost use Rattle.std.specs.Prelude.{◌≡◌, ◌≢◌, ℕ, ◌<◌, ◌≤◌, length, slice_index, slice_index_or, []};
-ghost use Rattle.lb_lanes.specs.Correct.{IsBlend, IsKernel};
-ghost use Rattle.lb_lanes.specs.Kernels.{lane_of};
+ghost use Rattle.lb_lanes.specs.Kernels.{IsBlendBelow, IsKernelBelow, lane_of, lanes_in};
 ghost use Rattle.lb_lanes.specs.Operators.{result_of};
-ghost use Rattle.lb_lanes.specs.Planes.{IsPlaneOf, on};
+ghost use Rattle.lb_lanes.specs.Planes.{IsPlaneBelow, on};
 ghost use Rattle.lb_machine.specs.Listed.{listed, select_at};
 ghost use Rattle.lb_machine.specs.Meaning.{compared, lane_at, IsDone};
 ghost use Rattle.lb_machine.specs.Straight.{IsFit, KeepsPlane, KeepsWord};
@@ -12,7 +11,7 @@ ghost use Rattle.lb_machine.specs.Straight.{IsFit, KeepsPlane, KeepsWord};
 use crate::code::Code;
 use crate::instruction::{Comparison, Instruction, PlaneId, WordId};
 use crate::instructions::Choice;
-use lb_lanes::{IntOperator, LaneWord, Plane};
+use lb_lanes::{IntOperator, LaneWord, Plane, Width};
 
 // A plane by its number.
 fn plane(planes: &[u64], p: PlaneId) -> Plane
@@ -22,13 +21,14 @@ fn plane(planes: &[u64], p: PlaneId) -> Plane
     Plane(planes[p.0 as usize])
 }
 
-fn compared(c: Comparison, a: &LaneWord, b: &LaneWord) -> Plane
-    ensures { IsPlaneOf (λ i. compared c (lane_of a.now i) (lane_of b.now i)) result.0 }
+fn compared(c: Comparison, a: &LaneWord, b: &LaneWord, width: Width) -> Plane
+    ensures { IsPlaneBelow (lanes_in width)
+        (λ i. compared c (lane_of a.now i) (lane_of b.now i)) result.0 }
 {
     match c {
-        Comparison::Equal => a.eq(b),
-        Comparison::Below => a.lt(b),
-        Comparison::AtMost => a.le(b),
+        Comparison::Equal => a.eq(b, width),
+        Comparison::Below => a.lt(b, width),
+        Comparison::AtMost => a.le(b, width),
     }
 }
 
@@ -38,6 +38,7 @@ fn operate(
     a: WordId,
     b: WordId,
     active: Plane,
+    width: Width,
     out: WordId,
     words: &mut [LaneWord],
 ) -> Plane
@@ -45,28 +46,30 @@ fn operate(
     requires right { b.0 < out.0 }
     requires room { out.0 < length words.old }
     ensures words { length words.new ≡ length words.old }
-    ensures lanes { IsKernel (result_of op) (slice_index_or words.old a.0 [])
-        (slice_index_or words.old b.0 []) active.0 (slice_index_or words.new out.0 []) result.0 }
+    ensures lanes { IsKernelBelow (lanes_in width) (result_of op)
+        (lane_of (slice_index_or words.old a.0 [])) (lane_of (slice_index_or words.old b.0 []))
+        active.0 (lane_of (slice_index_or words.new out.0 [])) result.0 }
     ensures others { (k : ℕ) → k ≢ out.0
         → slice_index_or words.new k [] ≡ slice_index_or words.old k [] }
 {
     let (before, after) = words.split_at_mut(out.0 as usize);
-    before[a.0 as usize].operate(op, &before[b.0 as usize], active, &mut after[0])
+    before[a.0 as usize].operate(op, &before[b.0 as usize], active, width, &mut after[0])
 }
 
 // Blends two words into one behind them.
-fn blend(mask: Plane, a: WordId, b: WordId, out: WordId, words: &mut [LaneWord])
+fn blend(mask: Plane, a: WordId, b: WordId, width: Width, out: WordId, words: &mut [LaneWord])
     requires left { a.0 < out.0 }
     requires right { b.0 < out.0 }
     requires room { out.0 < length words.old }
     ensures words { length words.new ≡ length words.old }
-    ensures lanes { IsBlend mask.0 (slice_index_or words.old a.0 [])
-        (slice_index_or words.old b.0 []) (slice_index_or words.new out.0 []) }
+    ensures lanes { IsBlendBelow (lanes_in width) mask.0
+        (lane_of (slice_index_or words.old a.0 [])) (lane_of (slice_index_or words.old b.0 []))
+        (lane_of (slice_index_or words.new out.0 [])) }
     ensures others { (k : ℕ) → k ≢ out.0
         → slice_index_or words.new k [] ≡ slice_index_or words.old k [] }
 {
     let (before, after) = words.split_at_mut(out.0 as usize);
-    after[0].set_blend(mask, &before[a.0 as usize], &before[b.0 as usize]);
+    after[0].set_blend(mask, &before[a.0 as usize], &before[b.0 as usize], width);
 }
 
 // Puts one of two words into one behind them, lane by lane, by a test of two others, and gives the
@@ -77,6 +80,7 @@ fn choose_word(
     y: WordId,
     a: WordId,
     b: WordId,
+    width: Width,
     out: WordId,
     words: &mut [LaneWord],
 ) -> Plane
@@ -86,10 +90,12 @@ fn choose_word(
     requires right { b.0 < out.0 }
     requires room { out.0 < length words.old }
     ensures words { length words.new ≡ length words.old }
-    ensures plane { IsPlaneOf (λ i. compared c (lane_of (slice_index_or words.old x.0 []) i)
+    ensures plane { IsPlaneBelow (lanes_in width)
+        (λ i. compared c (lane_of (slice_index_or words.old x.0 []) i)
         (lane_of (slice_index_or words.old y.0 []) i)) result.0 }
-    ensures lanes { IsBlend result.0 (slice_index_or words.old a.0 [])
-        (slice_index_or words.old b.0 []) (slice_index_or words.new out.0 []) }
+    ensures lanes { IsBlendBelow (lanes_in width) result.0
+        (lane_of (slice_index_or words.old a.0 [])) (lane_of (slice_index_or words.old b.0 []))
+        (lane_of (slice_index_or words.new out.0 [])) }
     ensures others { (k : ℕ) → k ≢ out.0
         → slice_index_or words.new k [] ≡ slice_index_or words.old k [] }
 {
@@ -97,9 +103,9 @@ fn choose_word(
     let (x, y) = (&before[x.0 as usize], &before[y.0 as usize]);
     let (a, b) = (&before[a.0 as usize], &before[b.0 as usize]);
     match c {
-        Comparison::Equal => after[0].set_where_eq(x, y, a, b),
-        Comparison::Below => after[0].set_where_lt(x, y, a, b),
-        Comparison::AtMost => after[0].set_where_le(x, y, a, b),
+        Comparison::Equal => after[0].set_where_eq(x, y, a, b, width),
+        Comparison::Below => after[0].set_where_lt(x, y, a, b, width),
+        Comparison::AtMost => after[0].set_where_le(x, y, a, b, width),
     }
 }
 
@@ -119,12 +125,13 @@ fn choose(c: Choice, out: usize, planes: &mut [u64])
     planes[out] = made.0;
 }
 
-// Does one instruction in all lanes.
-fn execute(i: Instruction, planes: &mut [u64], words: &mut [LaneWord])
+// Does one instruction in the lanes of a width.
+fn execute(i: Instruction, width: Width, planes: &mut [u64], words: &mut [LaneWord])
     requires { IsFit (length planes.old) (length words.old) i }
     ensures planes { length planes.new ≡ length planes.old }
     ensures words { length words.new ≡ length words.old }
-    ensures done { (lane : ℕ) → lane < 64 → IsDone (lane_at planes.new words.new lane) i }
+    ensures done { (lane : ℕ) → lane < lanes_in width
+        → IsDone (lane_at planes.new words.new lane) i }
     ensures other_planes { (k : ℕ) → KeepsPlane i k
         → slice_index planes.new k ≡ slice_index planes.old k }
     ensures other_words { (k : ℕ) → KeepsWord i k
@@ -135,34 +142,35 @@ fn execute(i: Instruction, planes: &mut [u64], words: &mut [LaneWord])
             choose(Choice { mask, a, b }, out.0 as usize, planes);
         }
         Instruction::Compare(c, a, b, out) => {
-            let made = compared(c, &words[a.0 as usize], &words[b.0 as usize]);
+            let made = compared(c, &words[a.0 as usize], &words[b.0 as usize], width);
             planes[out.0 as usize] = made.0;
         }
         Instruction::Operate(op, a, b, idle, left, right, out, faults) => {
             let before = plane(planes, left).or(plane(planes, right));
             let active = plane(planes, idle).or(before).not();
-            let made = before.or(operate(op, a, b, active, out, words));
+            let made = before.or(operate(op, a, b, active, width, out, words));
             planes[faults.0 as usize] = made.0;
         }
-        Instruction::Blend(mask, a, b, out) => blend(plane(planes, mask), a, b, out, words),
+        Instruction::Blend(mask, a, b, out) => blend(plane(planes, mask), a, b, width, out, words),
         Instruction::Choose(c, x, y, a, b, passed, out) => {
-            let made = choose_word(c, x, y, a, b, out, words);
+            let made = choose_word(c, x, y, a, b, width, out, words);
             planes[passed.0 as usize] = made.0;
         }
     }
 }
 
 impl Code {
-    ghost use Rattle.lb_machine.specs.Correct.{AreDoneInAllLanes};
+    ghost use Rattle.lb_machine.specs.Correct.{AreDoneInLanes};
 
-    /// Runs the code in all lanes, in room that may be larger: afterwards each instruction is done
-    /// in each of them, and what was there before the code is as it was.
-    pub fn run(&self, planes: &mut [u64], words: &mut [LaneWord])
+    /// Runs the code in the lanes of a width, in room that may be larger: afterwards each
+    /// instruction is done in each of them, and what was there before the code is as it was.
+    pub fn run(&self, planes: &mut [u64], words: &mut [LaneWord], width: Width)
         requires planes { self.now.planes ≤ length planes.old }
         requires words { self.now.words ≤ length words.old }
         ensures planes { length planes.new ≡ length planes.old }
         ensures words { length words.new ≡ length words.old }
-        ensures done { AreDoneInAllLanes (listed self.now.instructions) planes.new words.new }
+        ensures done { AreDoneInLanes (lanes_in width) (listed self.now.instructions) planes.new
+            words.new }
         ensures first_planes { (k : ℕ) → k < self.now.first_plane
             → slice_index planes.new k ≡ slice_index planes.old k }
         ensures first_words { (k : ℕ) → k < self.now.first_word
@@ -175,7 +183,7 @@ impl Code {
             'choices: for k in 0..row.len() {
                 choose(row[k], first + k, planes);
             }
-            execute(block.last, planes, words);
+            execute(block.last, width, planes, words);
         }
         let start = self.instructions.first as usize;
         let behind = self.instructions.choices.as_slice();

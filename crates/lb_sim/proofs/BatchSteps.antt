@@ -131,7 +131,7 @@ not_passed (False t) ne = refl
 -- part, and after the instant
 module _ (p : LaneProgram) (c : LaneCode) (law : IsCodeIn p c) (row : List Scalar)
     (s0 s1 s2 : Lane) (v v' : Verdict) (active live going passed : Bool) (steps : ℕ)
-    (suits : going ≡ true → Suits c s0) (computed : IsComputed p c row s0 s1)
+    (suits : going ≡ true → Suits c s0) (computed : IsComputed p c row going s0 s1)
     (going_is : going ≡ (active && live))
     (passed_is : passed ≡ (going && is_passed (lane_judged c.watched steps s1)))
     (put : v' ≡ (if going && not passed then lane_judged c.watched steps s1 else v))
@@ -170,9 +170,9 @@ module _ (p : LaneProgram) (c : LaneCode) (law : IsCodeIn p c) (row : List Scala
       (X ++ given_at s1 p.inputs.items ∷ []))
       (λ h. steps_of.moves f c.code p.inputs.items c.places.items p.kept.items c.watched
       p.start_words.items p.constant_word p.memory_plane p.memory_word c.plane_sources.items
-      c.word_sources.items (Suits c) h.compiled (program_ready p) K fits s0 s1 s2 computed.run
-      computed.constants computed.same carried X steps v v' is_verdict suits_now active passed
-      was is_passed_now stands))
+      c.word_sources.items (Suits c) h.compiled (program_ready p) K fits s0 s1 s2
+      computed.constant_words computed.same carried X steps v v' is_verdict
+      (λ e. computed.run (going_there e)) suits_now active passed was is_passed_now stands))
 
   -- a lane that is not live stands for what it did
   lane_stays :
@@ -186,7 +186,7 @@ module _ (p : LaneProgram) (c : LaneCode) (law : IsCodeIn p c) (row : List Scala
   -- what is the same everywhere stays so
   lane_constants : HasConstants s2
   lane_constants =
-      let c = computed.run.constants in
+      let c = computed.constants in
       record {
         nowhere = carried.first_planes 0 (omega (arith, inputs_planes p)) ∙ c.nowhere;
         everywhere = carried.first_planes 1 (omega (arith, inputs_planes p)) ∙ c.everywhere;
@@ -205,7 +205,7 @@ module _ (p : LaneProgram) (c : LaneCode) (law : IsCodeIn p c) (row : List Scala
         layouts.live_active v judged v' active live passed passed_at put_at there was;
     rests = λ off. layouts.resting_passed v judged v' active live passed passed_at put_at off;
     constants = lane_constants;
-    constant_words = λ w from to. carried.first_words w to ∙ computed.constants w from to;
+    constant_words = λ w from to. carried.first_words w to ∙ computed.constant_words w from to;
   }
 
 -- ## A step of a run

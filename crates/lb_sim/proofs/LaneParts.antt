@@ -1,7 +1,7 @@
 -- The parts of an instant of a batch, as to what each of them makes of one lane.
 use Rattle.std.proofs.Common.{◌≡◌, ◌≢◌, ◌<◌, ◌≤◌, ◌+◌, ℕ, true, false, List, [], map, length}
 use Rattle.std.proofs.Common.{get_or, set, ℤ, sym, ap, ◌∙◌, arith}
-use Rattle.std.proofs.Common.{below_more, length-set}
+use Rattle.std.proofs.Common.{below_more, length-set, Bool}
 use Rattle.std.proofs.Math.Logic.{∥∥₁_elim}
 use Rattle.std.proofs.lemmas.List.{get_or-set_same, get_or-set_other}
 use Rattle.std.specs.List.{AllByRecursion}
@@ -125,13 +125,16 @@ module _ (p : LaneProgram) (c : LaneCode) (law : IsCodeIn p c) (np nw : ℕ)
 
   -- so the lane has run the code on its row
   pub computed :
-      (kinds : List Kind) (row : List Scalar) → kinds ≡ (program_of p.program.now).inputs →
+      (kinds : List Kind) (row : List Scalar) (going : Bool) →
+      kinds ≡ (program_of p.program.now).inputs →
       map (value_at s1) (places_of 2 1 kinds) ≡ row → HasConstants s0 →
       HasConstantWords p.constant_word p.memory_word p.start_words.items s0 →
-      AllByRecursion (IsDone s2) (listed c.code.instructions) → IsComputed p c row s0 s2
-  computed kinds row same is constants words done = record {
-    run = record { constants = constants_same constants; done = done };
-    constants = constant_words_same words;
+      (going ≡ true → AllByRecursion (IsDone s2) (listed c.code.instructions)) →
+      IsComputed p c row going s0 s2
+  computed kinds row going same is constants words done = record {
+    run = λ there. record { constants = constants_same constants; done = done there };
+    constants = constants_same constants;
+    constant_words = constant_words_same words;
     given = given_same kinds row same is;
     same = memories_same;
   }

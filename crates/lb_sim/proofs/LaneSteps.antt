@@ -146,12 +146,12 @@ module _ (f : FlatProgram) (code : Code) (inputs : List Value) (places : List Pl
     memory_plane memory_word plane_sources word_sources Suited)
     (ready : Ready f.size [] f.equations) (K : ℕ → FlatClock)
     (fits : IsFitting f.inputs K (kind_among f.kinds) f.equations) (before s after : Lane)
-    (has_run : HasRun (listed code.instructions) s)
     (constants : HasConstantWords constant_word memory_word start_words s)
     (same : HoldSame code memory_plane memory_word before s)
     (carried : IsCarriedOver memory_plane memory_word plane_sources word_sources s after)
     (X : Inputs) (steps : ℕ) (v v' : Verdict)
     (v_is : v' ≡ settled (is_passed v) (lane_judged watched steps s) v)
+    (has_run : is_passed v ≡ true → HasRun (listed code.instructions) s)
     (suits : is_passed v ≡ true → Suited s) where
   abbrev judged : Verdict
   judged = lane_judged watched steps s
@@ -198,11 +198,11 @@ module _ (f : FlatProgram) (code : Code) (inputs : List Value) (places : List Pl
             (sym none ∙ h.verdict_is)
             ∙ sym (verdict_after f code inputs places kept watched start_words constant_word
             memory_plane memory_word plane_sources word_sources Suited compiled ready K fits s
-            has_run constants (suits e) X state);
+            (has_run e) constants (suits e) X state);
         as_long = λ on. one_longer (given_at s inputs) X steps long;
         state = λ on.
             state_after f code inputs places kept watched start_words constant_word memory_plane
-            memory_word plane_sources word_sources Suited compiled ready K fits s has_run
+            memory_word plane_sources word_sources Suited compiled ready K fits s (has_run e)
             constants (suits e) X state steps after carried
             (passed_is judged (sym is ∙ on));
       }

@@ -9,7 +9,7 @@ use Rattle.lb_flat.specs.Judging.{FlatProgram, flat_verdict}
 use Rattle.lb_flat.specs.Programs.{program_of}
 use Rattle.lb_check.specs.Scalars.{Scalar}
 use Rattle.lb_machine.specs.Listed.{listed}
-use Rattle.lb_machine.specs.Meaning.{Lane, HasRun}
+use Rattle.lb_machine.specs.Meaning.{Lane, HasConstants, HasRun}
 use Rattle.lb_machine.specs.declared.code.Code.{Code}
 use Rattle.lb_sim.specs.Codes.{IsCodeOf}
 use Rattle.lb_sim.specs.Compiled.{IsHomeAt, HasConstantWords, given_at}
@@ -44,11 +44,12 @@ IsCodeIn p c =
     ∥ IsCodeOf (program_of p.program.now) p.inputs.items p.kept.items p.start_planes.items
     p.start_words.items p.constant_word p.memory_plane p.memory_word p.planes p.words c ∥₁
 
--- a lane was given a row of inputs and has run a code of a program; its memories and constants are
--- those of the lane before
-pub record IsComputed (p : LaneProgram) (c : LaneCode) (row : List Scalar) (before s : Lane) :
-    Type 0 where
-  pub run : HasRun (listed c.code.instructions) s
-  pub constants : HasConstantWords p.constant_word p.memory_word p.start_words.items s
+-- a lane was given a row of inputs and, if it takes part in the instant, has run a code of a
+-- program; its memories and constants are those of the lane before
+pub record IsComputed (p : LaneProgram) (c : LaneCode) (row : List Scalar) (going : Bool)
+    (before s : Lane) : Type 0 where
+  pub run : going ≡ true → HasRun (listed c.code.instructions) s
+  pub constants : HasConstants s
+  pub constant_words : HasConstantWords p.constant_word p.memory_word p.start_words.items s
   pub given : given_at s p.inputs.items ≡ row
   pub same : HoldSame c.code p.memory_plane p.memory_word before s

@@ -22,7 +22,7 @@ use crate::lane_bits::with_lane;
 use crate::place::Watched;
 use crate::program::{LaneCode, LaneProgram};
 use lb_check::Verdict;
-use lb_lanes::{LaneWord, Plane};
+use lb_lanes::{LaneWord, Plane, Width};
 use lb_machine::{PlaneId, carry_planes, carry_words};
 
 // The first so many lanes.
@@ -49,7 +49,7 @@ fn put_start_in(words: &mut [LaneWord], start: &[i32], lanes: Plane)
     for k in 0..start.len() {
         let number = LaneWord::splat(start[k]);
         let mut word = LaneWord::splat(0);
-        word.set_blend(lanes, &number, &words[k]);
+        word.set_blend(lanes, &number, &words[k], Width::all());
         words[k].copy_from(&word);
     }
 }
@@ -113,13 +113,14 @@ pub(crate) fn begin_again(verdicts: &mut [Verdict], begins: &mut [u32], lanes: P
     }
 }
 
-// Hands the inputs of an instant over, and runs a code of the program.
+// Hands the inputs of an instant over, and runs a code of the program in some lanes.
 fn compute(
     program: &LaneProgram,
     code: &LaneCode,
     inputs: &Inputs,
     planes: &mut [u64],
     words: &mut [LaneWord],
+    lanes: Plane,
 )
     requires law { IsCodeIn program.now code.now }
     requires planes { length planes.old ≡ program.now.planes }
@@ -132,10 +133,10 @@ fn compute(
     ensures planes { length planes.new ≡ length planes.old }
     ensures words { length words.new ≡ length words.old }
     ensures computed { (i : ℕ) → i < 64 → IsComputed program.now code.now (inputs_row inputs.now i)
-        (lane_at planes.old words.old i) (lane_at planes.new words.new i) }
+        (on lanes.0 i) (lane_at planes.old words.old i) (lane_at planes.new words.new i) }
 {
     inputs.hand_over(planes, words);
-    code.code.run(planes, words);
+    code.code.run(planes, words, Width::of(lanes));
 }
 
 // Whether a plane has a lane.
@@ -296,7 +297,7 @@ pub(crate) fn advance(
 {
     let going = active.and(live);
     let code = code_for(program, planes, going);
-    compute(program, code, inputs, planes, words);
+    compute(program, code, inputs, planes, words, going);
     let passed = judge(code, planes, verdicts, going, begins, t);
     commit(program, code, planes, words);
     passed

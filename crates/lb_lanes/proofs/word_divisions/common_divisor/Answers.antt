@@ -8,6 +8,7 @@ use Rattle.lb_lanes.specs.Planes.{on}
 use Rattle.lb_lanes.proofs.Checks.{can_divide_by, int_same}
 use Rattle.lb_lanes.proofs.OnPlanes.{on-and, on-flip, on-zero, flip}
 use Rattle.lb_lanes.proofs.WordArithmetic.{word_equal_is}
+use Rattle.lb_lanes.proofs.Widths.{inside}
 use Rattle.lb_lanes.proofs.word_divisions.common_divisor.Goals as goal
 
 -- a lane that is live, where no live lane is unlike
@@ -32,12 +33,13 @@ returns-then-others-eq0 c =
     let same = c.tested.result in (
       λ i h live.
           let none : (on active i && not (on same i)) ≡ false
-          = ap (λ s. on active i && s) (sym (on-flip same i c.tested.type_inv h))
+          = ap (λ s. on active i && s)
+          (sym (on-flip same i c.tested.type_inv (inside c.args.width i h)))
           ∙ sym (on-and active (flip same) i) ∙ ap (λ n. on n i) c.if-others-eq0.true
           ∙ on-zero i in
           int_same (bits_lane b i) (to_z w32 (get_or (replicate 64 d) i 0))
           (sym (c.tested.ensures i h) ∙ alike (on active i) (on same i) live none)
-          ∙ ap (to_z w32) (get_or-replicate 64 i d 0 h),
+          ∙ ap (to_z w32) (get_or-replicate 64 i d 0 (inside c.args.width i h)),
       λ v.
           can_divide_by v (to_z w32 d)
           (sym (word_equal_is d 0 (c.fits-b place) (lit< tt)) ∙ unequal d 0 c.if-divisor-eq0.false)

@@ -1,6 +1,6 @@
 use Rattle.std.proofs.Common.{◌≡◌, ℕ, ◌<◌, true, ℤ, ap, ◌∙◌, sym}
 use Rattle.std.proofs.Common.{w32, to_z}
-use Rattle.lb_lanes.specs.Kernels.{bits_lane}
+use Rattle.lb_lanes.specs.Kernels.{bits_lane, lanes_in}
 use Rattle.lb_lanes.specs.Operators.{can_divide}
 use Rattle.lb_lanes.specs.Planes.{on}
 use Rattle.lb_lanes.proofs.LaneCases.{kept_common, faulty_common}
@@ -18,7 +18,7 @@ returns-in-Some g c =
     let d = to_z w32 c.in-Some.divisor in
     let f : ℤ → ℤ → ℤ = g.K.Division.divided in
     let common = c.in-Some.ensures.0 in
-    let can : (i : ℕ) → i < 64 → live i ≡ true → can_divide (a i) (b i) ≡ true
+    let can : (i : ℕ) → i < lanes_in c.args.width → live i ≡ true → can_divide (a i) (b i) ≡ true
     = λ i h e. ap (can_divide (a i)) (common i h e) ∙ c.in-Some.ensures.1 (a i) in
     record {
       values = λ i h.

@@ -1,9 +1,9 @@
-use Rattle.std.proofs.Common.{sym, ap, pos, cond}
+use Rattle.std.proofs.Common.{sym, ap, ◌∙◌, pos, cond}
 use Rattle.lb_lanes.specs.Kernels.{bits_lane}
-use Rattle.lb_lanes.proofs.OnPlanes.{on-ones}
+use Rattle.lb_lanes.specs.Planes.{on}
 use Rattle.lb_lanes.proofs.word_kernels.keep.Goals as goal
 
-pub returns-then-mask-eq18446744073709551615 : goal.returns-then-mask-eq18446744073709551615
-returns-then-mask-eq18446744073709551615 c i h =
+pub returns-then-mask-plane : goal.returns-then-mask-plane
+returns-then-mask-plane c i h =
     ap (λ t. cond t (bits_lane c.args.lanes.now i) (pos 0))
-    (sym (on-ones c.args.mask i c.if-mask-eq18446744073709551615.true h))
+    (sym (c.plane.ensures i h) ∙ ap (λ m. on m i) (sym c.if-mask-plane.true))

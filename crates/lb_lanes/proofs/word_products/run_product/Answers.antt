@@ -1,5 +1,5 @@
 use Rattle.std.proofs.Common.{◌≡◌, ℕ, ◌<◌, ◌*ℤ◌, true, cond, pos, ap, ◌∙◌, sym}
-use Rattle.lb_lanes.specs.Kernels.{bits_lane}
+use Rattle.lb_lanes.specs.Kernels.{bits_lane, lanes_in}
 use Rattle.lb_lanes.specs.Operators.{is_int}
 use Rattle.lb_lanes.specs.Planes.{on}
 use Rattle.lb_lanes.proofs.OnPlanes.{on-zero}
@@ -12,9 +12,9 @@ returns-then-multiply c =
     let live = λ (i : ℕ). on c.args.active i in
     let a = λ (i : ℕ). bits_lane c.args.a.now i in
     let b = λ (i : ℕ). bits_lane c.args.b.now i in
-    let exact : (i : ℕ) → i < 64 → bits_lane c.multiply.new.out i ≡ a i *ℤ b i
+    let exact : (i : ℕ) → i < lanes_in c.args.width → bits_lane c.multiply.new.out i ≡ a i *ℤ b i
     = c.multiply.ensures c.if-multiply.true in
-    let within : (i : ℕ) → i < 64 → is_int (a i *ℤ b i) ≡ true
+    let within : (i : ℕ) → i < lanes_in c.args.width → is_int (a i *ℤ b i) ≡ true
     = λ i h. ap is_int (sym (exact i h)) ∙ word_is_int _ in
     record {
       values = λ i h.

@@ -1,4 +1,5 @@
 use Rattle.std.proofs.Common.{◌∙◌, length, ap}
+use Rattle.lb_lanes.specs.Planes.{on}
 use Rattle.lb_sim.specs.InputRows.{truth_columns, number_columns}
 use Rattle.lb_sim.proofs.LaneParts.{computed}
 use Rattle.lb_sim.proofs.instant.compute.Goals as goal
@@ -18,5 +19,6 @@ returns-clause-computed c i h =
     ∙ ap (λ ks. length (number_columns 0 ks)) c.requires.signature)
     c.args.planes.now c.hand_over.new.planes c.run.new.planes c.args.words.now
     c.hand_over.new.words c.run.new.words e.first_planes e.other_planes e.first_words
-    e.other_words r.first_planes r.first_words i x.columns.kinds.items _ c.requires.signature
-    (e.rows i h) (c.requires.constants i h) (c.requires.constant_words i h) (r.done i h)
+    e.other_words r.first_planes r.first_words i x.columns.kinds.items _
+    (on c.args.lanes.0 i) c.requires.signature (e.rows i h) (c.requires.constants i h)
+    (c.requires.constant_words i h) (λ there. r.done i (c.of.ensures i h there))

@@ -1,6 +1,6 @@
-use Rattle.std.proofs.Common.{◌&&◌, ◌||◌, ap₂, ◌∙◌}
+use Rattle.std.proofs.Common.{◌<◌, arith, ◌&&◌, ◌||◌, ap₂, ◌∙◌}
 use Rattle.std.specs.Int.RustNames.{int_lt}
-use Rattle.lb_lanes.specs.Kernels.{lane_of}
+use Rattle.lb_lanes.specs.Kernels.{lane_of, lanes_in}
 use Rattle.lb_lanes.proofs.Halves.{below_by, lane_is}
 use Rattle.lb_lanes.proofs.Words.{fits_int}
 use Rattle.lb_lanes.proofs.lanes.IntLanes.lt.Goals as goal
@@ -9,10 +9,14 @@ pub returns : goal.returns
 returns c i h =
     let a = c.self.inside in
     let b = c.other.inside in
+    let first : i < lanes_in c.all.result = omega (arith, h, c.all.ensures) in
+    let second : i < lanes_in c.all-2.result = omega (arith, h, c.all-2.ensures) in
+    let third : i < lanes_in c.all-3.result = omega (arith, h, c.all-3.ensures) in
     c.or.ensures i h
-    ∙ ap₂ (λ p q. p || q) (c.lt.ensures i h)
+    ∙ ap₂ (λ p q. p || q) (c.lt.ensures i third)
     (c.and.ensures i h
-    ∙ ap₂ (λ p q. p && q) (c.eq-above_equal.ensures i h) (c.lt_unsigned-low_below.ensures i h))
+    ∙ ap₂ (λ p q. p && q) (c.eq-above_equal.ensures i first)
+    (c.lt_unsigned-low_below.ensures i second))
     ∙ below_by (lane_of a.high i) (lane_of b.high i) (lane_of a.low i) (lane_of b.low i)
     (fits_int _ (c.are_ints.ensures i h)) (fits_int _ (c.are_ints-2.ensures i h))
     ∙ ap₂ int_lt (lane_is a.high a.low c.args.self.now c.self.view_is i h)

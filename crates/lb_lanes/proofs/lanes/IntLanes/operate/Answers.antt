@@ -1,4 +1,4 @@
-use Rattle.std.proofs.Common.{ap, ◌∙◌}
+use Rattle.std.proofs.Common.{ap, ◌∙◌, arith}
 use Rattle.lb_lanes.specs.Operators.{is_int, result_of}
 use Rattle.lb_lanes.proofs.Halves.{kernel_whole, signed_lane}
 use Rattle.lb_lanes.proofs.lanes.IntLanes.operate.Goals as goal
@@ -11,7 +11,11 @@ returns-clause-lanes c =
     c.set_signs.new.self c.operate-faults.new.out a.high a.low c.args.self.now b.high b.low
     c.args.other.now c.are_ints-3.ensures c.set_signs.ensures c.self.view_is c.requires.left
     c.are_ints.ensures c.other.view_is c.requires.right c.are_ints-2.ensures
-    c.operate-faults.ensures.lanes
+    (record {
+      values = λ i h. c.operate-faults.ensures.lanes.values i (omega (arith, h, c.all.ensures));
+      fault_bits = λ i h.
+          c.operate-faults.ensures.lanes.fault_bits i (omega (arith, h, c.all.ensures));
+    })
 
 pub returns-clause-in_range : goal.returns-clause-in_range
 returns-clause-in_range c i h =

@@ -14,7 +14,7 @@ choose-requires c =
     let same = c.as_slice-row.ensures.value in
     let lt : c.choices.k < length b.choices.items =
     omega (arith, ap length same, c.choices-test.true) in
-    fits _ _ _ _ _ _ _ _ _ _ c.choices.invariant _ _
+    fits _ _ _ _ _ _ _ _ _ _ _ c.choices.invariant _ _
     (next_choice b.choices.items _ b.first k (b.first + k) nothing _
     (ap (λ cs. get_or cs k nothing) same) lt refl)
 
@@ -25,17 +25,19 @@ choices-preserved c =
     let same = c.as_slice-row.ensures.value in
     let lt : c.choices.k < length b.choices.items =
     omega (arith, ap length same, c.choices-test.true) in
-    goes_on _ _ _ _ _ _ _ _ _ _ c.choices.invariant _ _
+    goes_on _ _ _ _ _ _ _ _ _ _ _ c.choices.invariant _ _
     (next_choice b.choices.items _ b.first k (b.first + k) nothing _
     (ap (λ cs. get_or cs k nothing) same) lt refl) c.choose.new.planes c.outer.words
-    c.choose.ensures.planes refl c.choose.ensures.done c.choose.ensures.other_planes (λ k h. refl)
+    c.choose.ensures.planes refl
+    (λ lane l. c.choose.ensures.done lane (omega (arith, l, c.args.width.few)))
+    c.choose.ensures.other_planes (λ k h. refl)
 
 pub execute-requires : goal.execute-requires
 execute-requires c =
     let b = c.index-block.result.now in
     let le : length b.choices.items ≤ c.choices.k =
     omega (arith, ap length c.as_slice-row.ensures.value, c.choices-test.false) in
-    fits _ _ _ _ _ _ _ _ _ _ c.choices.invariant b.last _
+    fits _ _ _ _ _ _ _ _ _ _ _ c.choices.invariant b.last _
     (no_choice b.choices.items _ b.first c.choices.k le)
 
 pub outer-preserved : goal.outer-preserved
@@ -44,7 +46,7 @@ outer-preserved c =
     let le : length b.choices.items ≤ c.choices.k =
     omega (arith, ap length c.as_slice-row.ensures.value, c.choices-test.false) in
     let e = c.execute.ensures in
-    goes_on _ _ _ _ _ _ _ _ _ _ c.choices.invariant b.last _
+    goes_on _ _ _ _ _ _ _ _ _ _ _ c.choices.invariant b.last _
     (no_choice b.choices.items _ b.first c.choices.k le) c.execute.new.planes c.execute.new.words
     e.planes e.words e.done e.other_planes e.other_words
 
@@ -55,7 +57,7 @@ choose-requires-in-rest c =
     let same = c.as_slice-behind.ensures.value in
     let lt : c.rest.k < length is.choices.items =
     omega (arith, ap length same, c.rest-test.true) in
-    fits _ _ _ _ _ _ _ _ _ _ c.rest.invariant _ _
+    fits _ _ _ _ _ _ _ _ _ _ _ c.rest.invariant _ _
     (next_choice is.choices.items [] is.first k (is.first + k) nothing _
     (ap (λ cs. get_or cs k nothing) same) lt refl)
 
@@ -67,14 +69,16 @@ rest-preserved c =
     let lt : c.rest.k < length is.choices.items =
     omega (arith, ap length same, c.rest-test.true) in
     let d = c.choose-in-rest.ensures in
-    goes_on _ _ _ _ _ _ _ _ _ _ c.rest.invariant _ _
+    goes_on _ _ _ _ _ _ _ _ _ _ _ c.rest.invariant _ _
     (next_choice is.choices.items [] is.first k (is.first + k) nothing _
     (ap (λ cs. get_or cs k nothing) same) lt refl) c.choose-in-rest.new.planes c.outer.words
-    d.planes refl d.done d.other_planes (λ k h. refl)
+    d.planes refl (λ lane l. d.done lane (omega (arith, l, c.args.width.few))) d.other_planes
+    (λ k h. refl)
 
 pub returns-clause-done : goal.returns-clause-done
 returns-clause-done c =
     let is = c.args.self.now.instructions in
     let le : length is.choices.items ≤ c.rest.k =
     omega (arith, ap length c.as_slice-behind.ensures.value, c.rest-test.false) in
-    ends _ _ _ _ _ _ _ _ _ _ c.rest.invariant (no_choice is.choices.items [] is.first c.rest.k le)
+    ends _ _ _ _ _ _ _ _ _ _ _ c.rest.invariant
+    (no_choice is.choices.items [] is.first c.rest.k le)
