@@ -20,3 +20,4 @@ pub mod RightPosts
 pub mod WorkerPosts
 pub mod JoinedVerdicts
 pub mod WholePlans
+pub mod LastFirst

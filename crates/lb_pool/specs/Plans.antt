@@ -1,6 +1,7 @@
 -- Plans: how the traces of a set are cut into batches. A trace is named by its number.
 -- Source: this project's rule.
-use Rattle.std.specs.Prelude.{◌≡◌, ℕ, ◌+◌, ◌<◌, ◌≤◌, ◌⊎◌, List, [], length, get_or, flat_map}
+use Rattle.std.specs.Prelude.{◌≡◌, ℕ, ◌+◌, ◌<◌, ◌≤◌, ◌⊎◌, List, [], ◌++◌, length, get_or}
+use Rattle.std.specs.Prelude.{take, drop, reverse, flat_map}
 use Rattle.std.specs.List.{range_with_len, AllPairs}
 use Rattle.std.specs.List.Sorted.{IsPermutation}
 use Rattle.lb_traces.specs.Traces.{Traces, trace_at}
@@ -35,3 +36,9 @@ Precedes length_at j k =
 -- the numbers of traces, by length and then by number
 abbrev pub IsByLength : Traces → List ℕ → Type 0
 IsByLength traces numbers = AllPairs (Precedes (length_of traces)) numbers
+
+-- the numbers of traces as a queue with so many lanes takes them: the first ones, one for each
+-- lane, begin with the longest trace; put behind the others in the reverse order, all are by length
+abbrev pub IsForLanes : Traces → ℕ → List ℕ → Type 0
+IsForLanes traces lanes numbers =
+    IsByLength traces (drop lanes numbers ++ reverse (take lanes numbers))

@@ -68,7 +68,7 @@ impl SetRunner<'_, '_> {
         ensures { IfOk result (λ verdicts.
             AreVerdicts self.now.program.now.program.now set.now verdicts.items) }
     {
-        let plan = Plan::by_length(alloc, set, self.lanes)?;
+        let plan = Plan::for_lanes(alloc, set, self.lanes)?;
         let _ = plan.traces();
         let work = Work {
             program: self.program,

@@ -8,12 +8,13 @@
 //!                                                            batches  1 3 | 2 0
 //! ```
 
-ghost use Rattle.std.specs.Prelude.{◌≡◌, ◌<◌, ◌≤◌, ◌^◌, [], length, map, get_or, IfOk, OnOk};
-ghost use Rattle.std.specs.Prelude.{vec_len};
+ghost use Rattle.std.specs.Prelude.{◌≡◌, ◌<◌, ◌≤◌, ◌^◌, ◌++◌, [], length, map, get_or, IfOk};
+ghost use Rattle.std.specs.Prelude.{OnOk, vec_len, take, drop, reverse};
 ghost use Rattle.std.specs.List.{range_with_len};
 ghost use Rattle.std.specs.List.Sorted.{IsPermutation};
 ghost use Rattle.lb_pool.specs.Cuts.{measured};
 ghost use Rattle.lb_pool.specs.Plans.{numbers_in, length_of, IsPlan, IsLawful, IsByLength};
+ghost use Rattle.lb_pool.specs.Plans.{IsForLanes};
 
 use lb_traces::TraceSet;
 use std::alloc::{AllocError, Global};
@@ -68,6 +69,23 @@ impl Plan {
     {
         let numbers = numbers_by_length(alloc, set)?;
         Ok(Plan::of_numbers(numbers, width))
+    }
+
+    /// The traces of a set as a queue takes them: the longest ones first, one for each lane, the
+    /// longest of all in lane 0; and behind them the others, the shortest first, since a lane that
+    /// is free takes the last trace that waits.
+    ///
+    /// ```text
+    /// two lanes, traces of 3, 1, 2, 4 and 1 instants:      numbers  3 0 1 4 2
+    /// ```
+    pub(crate) fn for_lanes(alloc: Global, set: &TraceSet, lanes: u32) -> Result<Plan, AllocError>
+        requires lanes { (0 < lanes) × (lanes ≤ 64) }
+        ensures plan { IfOk result (IsPlan (length set.now.traces) lanes) }
+        ensures order { IfOk result (λ p. IsForLanes set.now.traces lanes (numbers_in p)) }
+    {
+        let by_length = numbers_by_length(alloc, set)?;
+        let numbers = last_first(alloc, by_length.as_slice(), lanes as usize)?;
+        Ok(Plan::of_numbers(numbers, lanes))
     }
 
     // Numbers cut into batches of a width.
@@ -160,4 +178,19 @@ fn numbers_by_length(alloc: Global, set: &TraceSet) -> Result<Vec<u32>, AllocErr
     pairs.sort_unstable();
     let numbers = numbers_of(alloc, pairs.as_slice())?;
     Ok(numbers)
+}
+
+// The last numbers, so many and the last one first, and behind them the others as they stood.
+fn last_first(alloc: Global, numbers: &[u32], count: usize) -> Result<Vec<u32>, AllocError>
+    ensures each_once { IfOk result (λ v. IsPermutation numbers.now v.items) }
+    ensures order { IfOk result (λ v.
+        drop count v.items ++ reverse (take count v.items) ≡ numbers.now) }
+{
+    let others = numbers.len() - count.min(numbers.len());
+    let mut moved = Vec::with_capacity(alloc, numbers.len())?;
+    for i in 0..numbers.len() - others {
+        moved.push(numbers[numbers.len() - 1 - i])?;
+    }
+    moved.extend_from_slice(&numbers[..others])?;
+    Ok(moved)
 }
