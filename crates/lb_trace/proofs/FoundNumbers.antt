@@ -78,7 +78,7 @@ sign-past false text at sign is =
 
 -- a number that was found at a place
 pub number-begins : (text : List ℕ) (at sign count n : ℕ) (x : ℤ) (last : Bool) → 31 < length text
-    → sign ≡ bool_byte (get_or text at 0 == 45) → at + sign + count < 32 → 0 < count → count ≤ 7
+    → sign ≡ bool_byte (get_or text at 0 == 45) → at + sign + count < 32 → 0 < count → count ≤ 8
     → list_all is_ascii_digit (take count (drop (at + sign) text)) ≡ true
     → n ≡ decimal (take count (drop (at + sign) text)) → n < 10 ^ count
     → (ends_cell (get_or text (at + sign + count) 0) ≡ true)
@@ -106,7 +106,7 @@ number-begins text at sign count n x last long is within some few all e small en
     last (omega (arith, whole, within, long)) (ap (λ b. b == 45) (sym front))
     (sign-past (get_or text at 0 == 45) text at sign is) begins s
 
-one-goes_on : (column : Column) (columns : List Column) (text rest : List ℕ) (v : ℤ)
+pub one-goes_on : (column : Column) (columns : List Column) (text rest : List ℕ) (v : ℤ)
     → column.kind ≡ kind.Int → BeginsWith kind.Int text v rest false
     → GoesOn (column ∷ columns) text (v ∷ []) columns rest
 one-goes_on column columns text rest v int b =

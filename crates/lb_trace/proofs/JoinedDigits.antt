@@ -18,7 +18,7 @@ use Rattle.lb_trace.proofs.Fronts.{digit-at, digit-least}
 use Rattle.lb_trace.proofs.SmallNumbers.{and-parts}
 
 -- the eight bytes of a number
-bytes-eight : (a b c d e f g h x : ℕ)
+pub bytes-eight : (a b c d e f g h x : ℕ)
     → x ≡ a + 256 * (b + 256 * (c + 256 * (d + 256 * (e + 256 * (f + 256 * (g + 256 * h))))))
     → a < 256 → b < 256 → c < 256 → d < 256 → e < 256 → f < 256 → g < 256 → h < 256
     → bytes_of x ≡ a ∷ b ∷ c ∷ d ∷ e ∷ f ∷ g ∷ h ∷ []

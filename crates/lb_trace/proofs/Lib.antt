@@ -41,3 +41,8 @@ pub mod RollSteps
 pub mod RollJoins
 pub mod RollRefusals
 pub mod FrontLines
+pub mod WordLanes
+pub mod LowestBits
+pub mod NumberEnds
+pub mod NumberWords
+pub mod FourNumbers

@@ -150,6 +150,26 @@ refuses_name roll name count e number found other =
     ∙ same_last name traces roll.names.traces (sym of.names) ∙ other)
     ∙ ap Err (sym number))
 
+and-there : (a b : Bool) → b ≡ true → (a && not b) ≡ false
+and-there true true is = refl
+and-there true false is = cc is
+and-there false b is = refl
+
+-- its name is there, and may be the last
+pub refuses_there : (roll : Roll) (name : List ℕ) (count : ℕ) (e : TraceError)
+    → list_any (λ u. bytes_eq name u.0) roll.names.traces ≡ true
+    → (is_last name roll.names.traces ≡ true → error_number e ≡ 0)
+    → (is_last name roll.names.traces ≡ false → error_number e ≡ 17)
+    → RefusesTrace roll name count e
+refuses_there roll name count e there last other = by (is_last name roll.names.traces) refl
+  where
+    by : (b : Bool) → is_last name roll.names.traces ≡ b → RefusesTrace roll name count e
+    by true is = refuses_nothing roll name count e (last is)
+    by false is =
+        refuses_name roll name count e (other is)
+        (and-there (is_trace_name name)
+        (list_any (λ (u : Trace). bytes_eq name u.0) roll.names.traces) there) is
+
 -- a new name, by that of its trace
 new_name : (roll : Roll) (elements : Elements) (traces : Traces) (t : Trace) (name : List ℕ)
     (count : ℕ)

@@ -22,7 +22,7 @@ use Rattle.lb_trace.proofs.FirstCells.{Walked, after-cell-end, after-cell-more, 
 use Rattle.lb_trace.proofs.FirstCells.{last-end, last-more, walked-end, walked-front, walked-start}
 
 -- a digit ends no cell
-digit-inside : (b : ℕ) → is_ascii_digit b ≡ true → ends_cell b ≡ false
+pub digit-inside : (b : ℕ) → is_ascii_digit b ≡ true → ends_cell b ≡ false
 digit-inside b e = grind (arith, nat_tests)
 
 pub and-parts : (a b : Bool) → (a && b) ≡ true → (a ≡ true) × (b ≡ true)

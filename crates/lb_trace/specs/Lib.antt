@@ -23,3 +23,5 @@ pub mod Rolls
 pub mod Rounds
 pub mod Texts
 pub mod RoundReaders
+pub mod WordValues
+pub mod Numbers

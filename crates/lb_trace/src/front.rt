@@ -76,7 +76,7 @@ fn lone(text: &[u8], count: usize) -> u64
 
 // The first eight bytes of a text as those of a number, the first one the lowest.
 #[inline(always)]
-fn first_eight(text: &[u8]) -> u64
+pub(crate) fn first_eight(text: &[u8]) -> u64
     requires { 7 < length text.now }
     ensures { result ≡ number_of (take 8 text.now) }
 {

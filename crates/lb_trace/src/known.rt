@@ -84,19 +84,59 @@ impl Known {
         let Ok(text) = str::from_utf8(name) else {
             return Ok(None);
         };
-        if self.is_above(traces, text) {
-            return Ok(Some(text));
+        let is_new = self.takes(alloc, traces, text)?;
+        if !is_new {
+            return Ok(None);
         }
+        Ok(Some(text))
+    }
+
+    /// Takes a lawful name among those of some traces, where it is new, and tells whether it is.
+    #[inline]
+    pub(crate) fn takes(
+        &mut self,
+        alloc: Global,
+        traces: &TraceSet,
+        name: &str,
+    ) -> Result<bool, TraceError>
+        requires { knows self.old traces.now.traces }
+        ensures new { IfOk result (λ is_new. is_new
+            ≡ not (list_any (λ t. bytes_eq name.now t.0) traces.now.traces)) }
+        ensures known { IfOk result (λ is_new. is_new ≡ true
+            → (row : Row) → knows self.new (with_trace traces.now.traces name.now row)) }
+        ensures memory { IfErr result (λ e. error_number e ≡ 0) }
+    {
+        if self.is_above(traces, name) {
+            return Ok(true);
+        }
+        self.takes_below(alloc, traces, name)
+    }
+
+    // The same of a name that rises above no other, or where the names do not rise.
+    #[inline(never)]
+    fn takes_below(
+        &mut self,
+        alloc: Global,
+        traces: &TraceSet,
+        name: &str,
+    ) -> Result<bool, TraceError>
+        requires { knows self.old traces.now.traces }
+        ensures new { IfOk result (λ is_new. is_new
+            ≡ not (list_any (λ t. bytes_eq name.now t.0) traces.now.traces)) }
+        ensures known { IfOk result (λ is_new. is_new ≡ true
+            → (row : Row) → knows self.new (with_trace traces.now.traces name.now row)) }
+        ensures memory { IfErr result (λ e. error_number e ≡ 0) }
+    {
         let Ok(()) = self.gather(alloc, traces) else {
             return Err(TraceError::Memory(AllocError));
         };
-        if self.table.has(traces, text) {
-            return Ok(None);
+        if self.table.has(traces, name) {
+            return Ok(false);
         }
-        let Ok(()) = self.table.put(alloc, text, traces.len()) else {
+        let Ok(()) = self.table.put(alloc, name, traces.len()) else {
             return Err(TraceError::Memory(AllocError));
         };
-        Ok(Some(text))
+        Ok(true)
     }
 
     // Whether the names rise, and this one above the last of them.

@@ -34,6 +34,7 @@ mod table;
 mod truth_bits;
 mod truths;
 mod whole;
+mod words;
 
 pub use begun::{Begun, begin};
 pub use error::TraceError;

@@ -19,7 +19,7 @@ pub(crate) struct Named<'t> {
 
 /// The name of the first record of a text. That of the last trace is tried before its end is looked
 /// for.
-#[inline]
+#[inline(always)]
 pub(crate) fn name_of<'t>(set: &TraceSet, text: &'t [u8]) -> Named<'t>
     ensures cells { record_of text.now ≡ result.cell.bytes.now
         ∷ (if result.cell.is_last then [] else record_of result.cell.rest.now) }

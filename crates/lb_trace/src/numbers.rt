@@ -3,14 +3,22 @@
 //! One number tells which of the next 32 bytes are no digits. The ends of four cells are read from
 //! it, so that a cell need not wait for the bytes of the one before it.
 
-ghost use Rattle.std.specs.Prelude.{◌≡◌, ◌<◌, ◌≤◌, IfSome, IsTrue, drop, false, length, take};
+ghost use Rattle.std.specs.Prelude.{◌≡◌, ◌<◌, ◌≤◌, ◌+◌, ◌-◌, ◌==◌, ◌++◌, ℕ, List, ℤ, IfSome, IsTrue};
+ghost use Rattle.std.specs.Prelude.{Some, drop, get_or, length, map, replicate, take};
+ghost use Rattle.std.specs.Int.{bit_at};
+ghost use lib.Lanes.{mask_l};
 ghost use Rattle.lb_trace.specs.Fronts.{others};
-ghost use Rattle.lb_trace.specs.PlainRows.{BeginsWith};
+ghost use Rattle.lb_trace.specs.Fronts.{bytes_of};
+ghost use Rattle.lb_trace.specs.Lines.{after_line, record_of};
+ghost use Rattle.lb_trace.specs.Numbers.{AreFour, AreIntegers, IsInside, IsLowest};
+ghost use Rattle.lb_trace.specs.PlainRows.{BeginsWith, onto, plain_row};
 ghost use Rattle.lb_trace.specs.TruthCells.{GoesOn};
 
-use crate::front::value_of;
+use crate::front::{first_eight, value_of};
 use crate::header::Column;
+use crate::scan::ends_line;
 use crate::small::{cell_end, signed};
+use crate::words::values_of;
 use lb_syntax::Kind;
 use std::simd::prelude::*;
 
@@ -30,31 +38,173 @@ pub(crate) struct NumberAt {
     pub(crate) is_last: bool,
 }
 
-/// The values of the first four cells, where their columns are integers, each has at most seven
-/// digits, and a comma stands after each. None says nothing of the text.
+/// The values of the first four cells, where their columns are integers, each is short, and a comma
+/// stands after each. None says nothing of the text.
 #[inline(always)]
 pub(crate) fn four_numbers<'t>(columns: &[Column], text: &'t [u8]) -> Option<FourNumbers<'t>>
     ensures { IfSome result (λ found. (3 < length columns.now)
         × GoesOn columns.now text.now found.values (drop 4 columns.now) found.rest.now) }
 {
-    let [a, b, c, d, ..] = columns else {
-        return None;
-    };
-    if !is_int(a.kind) || !is_int(b.kind) || !is_int(c.kind) || !is_int(d.kind) {
+    if !are_integers(columns) || text.len() < 64 {
         return None;
     }
-    if text.len() < 64 {
+    let four = four_at(text)?;
+    if text[four.end] != b',' {
         return None;
     }
-    let stops = others_in(text);
-    let first = inner_at(text, stops, 0)?;
-    let second = inner_at(text, stops, first.end)?;
-    let third = inner_at(text, stops, second.end)?;
-    let fourth = inner_at(text, stops, third.end)?;
+    let values = four.values;
     Some(FourNumbers {
-        values: [first.value, second.value, third.value, fourth.value],
-        rest: &text[fourth.end..],
+        values,
+        rest: &text[four.end + 1..],
     })
+}
+
+/// The values of the last four cells of a record and what stands after it, where their columns are
+/// integers and each is short. None says nothing of the text.
+#[inline(always)]
+pub(crate) fn last_four<'t>(columns: &[Column], text: &'t [u8]) -> Option<FourNumbers<'t>>
+    ensures { IfSome result (λ found. ((row : List ℤ)
+        → onto row (plain_row columns.now (record_of text.now)) ≡ Some (row ++ found.values))
+        × (found.rest.now ≡ after_line text.now)) }
+{
+    if columns.len() != 4 || !are_integers(columns) || text.len() < 64 {
+        return None;
+    }
+    let four = four_at(text)?;
+    if !ends_line(text[four.end]) {
+        return None;
+    }
+    let values = four.values;
+    Some(FourNumbers {
+        values,
+        rest: &text[four.end + 1..],
+    })
+}
+
+// Whether there are four columns, and the first four hold integers.
+#[inline(always)]
+fn are_integers(columns: &[Column]) -> bool
+    ensures { IsTrue result → AreIntegers columns.now }
+{
+    let [a, b, c, d, ..] = columns else {
+        return false;
+    };
+    is_int(a.kind) && is_int(b.kind) && is_int(c.kind) && is_int(d.kind)
+}
+
+// The values of four cells, and where the last one ends.
+#[derive(Clone, Copy)]
+struct FourValues {
+    values: [i32; 4],
+    end: usize,
+}
+
+// The values of the first four cells, where each is a number of at most eight bytes, all stand
+// within the first 32, and a comma stands after each of the first three.
+#[inline(always)]
+fn four_at(text: &[u8]) -> Option<FourValues>
+    requires { 63 < length text.now }
+    ensures { IfSome result (λ four. (four.end < 32) × (length four.values ≡ 4)
+        × AreFour text.now four.values four.end) }
+{
+    let first = next_end(ends_in(text))?;
+    let second = next_end(first.others)?;
+    let third = next_end(second.others)?;
+    let fourth = next_end(third.others)?;
+    if !is_inner(text, 0, first.place)
+        || !is_inner(text, first.place + 1, second.place)
+        || !is_inner(text, second.place + 1, third.place)
+        || !is_short(third.place + 1, fourth.place)
+    {
+        return None;
+    }
+    let words = [
+        word_of(text, 0, first.place),
+        word_of(text, first.place + 1, second.place),
+        word_of(text, second.place + 1, third.place),
+        word_of(text, third.place + 1, fourth.place),
+    ];
+    let values = values_of(u64x4::from_array(words));
+    Some(FourValues {
+        values,
+        end: fourth.place,
+    })
+}
+
+// Those of the first 32 bytes that end a number, or stand in none: each that is no digit, but for a
+// minus sign before a digit that does not follow one.
+#[inline(always)]
+fn ends_in(text: &[u8]) -> u64
+    requires { 31 < length text.now }
+    ensures inside { (i : ℕ) → i < 31 → bit_at result i ≡ 0 → IsInside text.now i }
+    ensures past { (i : ℕ) → 31 < i → bit_at result i ≡ 0 }
+{
+    let others = others_in(text);
+    let minus = minus_in(text);
+    others ^ (minus & (2 * others + 1) & !(others / 2))
+}
+
+// Those of the first 32 bytes that are minus signs.
+#[inline(always)]
+fn minus_in(text: &[u8]) -> u64
+    requires { 31 < length text.now }
+    ensures { result ≡ mask_l (map (λ b. b == 45) (take 32 text.now)) }
+{
+    u8x32::from_slice(text)
+        .simd_eq(u8x32::splat(b'-'))
+        .to_bitmask()
+}
+
+// The lowest of some bits, and the others.
+#[derive(Clone, Copy)]
+struct NextEnd {
+    place: usize,
+    others: u64,
+}
+
+#[inline(always)]
+fn next_end(bits: u64) -> Option<NextEnd>
+    ensures { IfSome result (λ next. IsLowest bits next.place next.others) }
+{
+    if bits == 0 {
+        return None;
+    }
+    Some(NextEnd {
+        place: bits.trailing_zeros() as usize,
+        others: bits & (bits - 1),
+    })
+}
+
+// Whether a cell has one to eight bytes.
+#[inline(always)]
+fn is_short(start: usize, end: usize) -> bool
+    requires { start ≤ end }
+    ensures { IsTrue result → (start < end) × (end ≤ start + 8) }
+{
+    (end - start).wrapping_sub(1) < 8
+}
+
+// Whether a cell has one to eight bytes, and a comma stands after it.
+#[inline(always)]
+fn is_inner(text: &[u8], start: usize, end: usize) -> bool
+    requires order { start ≤ end }
+    requires within { end < length text.now }
+    ensures { IsTrue result → (start < end) × (end ≤ start + 8) × (get_or text.now end 0 ≡ 44) }
+{
+    is_short(start, end) && text[end] == b','
+}
+
+// The bytes of a cell as the highest ones of a word.
+#[inline(always)]
+fn word_of(text: &[u8], start: usize, end: usize) -> u64
+    requires long { 63 < length text.now }
+    requires within { end < 32 }
+    requires some { start < end }
+    requires short { end ≤ start + 8 }
+    ensures { bytes_of result
+        ≡ replicate (8 - (end - start)) 0 ++ take (end - start) (drop start text.now) }
+{
+    first_eight(&text[start..]) << (64 - 8 * (end - start))
 }
 
 // Whether columns of a kind hold integers.
@@ -76,22 +226,6 @@ pub(crate) fn others_in(text: &[u8]) -> u64
 {
     let from_zero = u8x32::from_slice(text) - u8x32::splat(b'0');
     from_zero.simd_ge(u8x32::splat(10)).to_bitmask()
-}
-
-// The cell at a place, where a comma stands after it.
-#[inline(always)]
-fn inner_at(text: &[u8], stops: u64, at: usize) -> Option<NumberAt>
-    requires long { 63 < length text.now }
-    requires within { at ≤ 32 }
-    requires stops { stops ≡ others (take 32 text.now) }
-    ensures { IfSome result (λ n. (n.end ≤ 32)
-        × BeginsWith Kind.Int (drop at text.now) n.value (drop n.end text.now) false) }
-{
-    let number = number_at(text, stops, at, true)?;
-    if number.is_last {
-        return None;
-    }
-    Some(number)
 }
 
 // The cell at a place, where it is a number of at most seven digits that ends within the first 32

@@ -15,6 +15,7 @@ use std::alloc::AllocError;
 /// Reads the cells of a record into `row`, in the order of the signature, and gives what stands
 /// after the record; None where they spell no row. `values` is room for the cells in the order of
 /// the text.
+#[inline(always)]
 pub(crate) fn read_cells<'t>(
     table: &ColumnTable,
     text: &'t [u8],
@@ -42,6 +43,7 @@ pub(crate) fn read_cells<'t>(
 }
 
 // The same by the columns in the order of the text.
+#[inline(always)]
 fn read_placed<'t>(
     placed: &[Column],
     columns: &[Column],

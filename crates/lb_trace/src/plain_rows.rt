@@ -8,7 +8,7 @@ ghost use Rattle.lb_trace.specs.Scan.{cell_of};
 
 use crate::cells::cell_value;
 use crate::header::Column;
-use crate::numbers::{cell_at, four_numbers, others_in};
+use crate::numbers::{cell_at, four_numbers, last_four, others_in};
 use crate::scan::next_cell;
 use crate::small::{Value, small_cell};
 use crate::truths::four_cells;
@@ -53,6 +53,10 @@ pub(crate) fn read_line<'t>(
             return Ok(None);
         }
         rest = cell.rest;
+    }
+    if let Some(numbers) = last_four(&columns[i..], rest) {
+        row.extend_from_slice(&numbers.values)?;
+        return Ok(Some(numbers.rest));
     }
     last_numbers(&columns[i..], rest, row)
 }

@@ -79,7 +79,7 @@ fn has_instants(set: &TraceSet) -> bool
 }
 
 /// One more row of the last trace, where the limits have room for it.
-#[inline]
+#[inline(always)]
 pub(crate) fn push_to(rows: &mut TraceRows, row: &[i32], number: u64) -> Result<(), TraceError>
     requires started { 0 < length rows.old.traces }
     requires row { IsRow rows.old.signature row.now }
@@ -207,6 +207,7 @@ impl Recorder {
 
     /// Adds the first record of a text without quotes, and gives what stands after it; otherwise as
     /// `add`. A record whose cells spell a row is read in one pass; `entry` is room for another.
+    #[inline(always)]
     pub(crate) fn add_line<'t>(
         &mut self,
         alloc: Global,
@@ -248,6 +249,7 @@ impl Recorder {
 
     // Adds the first record of a text in one pass, and gives what stands after it; None where its
     // cells spell no row.
+    #[inline(always)]
     fn add_row<'t>(
         &mut self,
         alloc: Global,
@@ -335,6 +337,7 @@ impl Recorder {
     }
 
     // The same of a record with this name, whose cells stand after it.
+    #[inline(always)]
     fn add_cells<'t>(
         &mut self,
         alloc: Global,
@@ -402,6 +405,7 @@ impl Recorder {
     }
 
     // The same where it is known whether the last trace has the name.
+    #[inline(always)]
     fn add_named(
         &mut self,
         alloc: Global,
@@ -451,6 +455,7 @@ impl Recorder {
     }
 
     // One more instant of the last trace, whose row was read.
+    #[inline(always)]
     fn push_row(&mut self, number: u64) -> Result<(), TraceError>
         requires started { 0 < length self.old.rows.traces }
         requires row { IsRow self.old.rows.signature self.old.row.items }

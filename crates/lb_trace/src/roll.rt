@@ -4,10 +4,12 @@
 //! instants the last trace has, and how many all have together.
 
 ghost use Rattle.std.specs.Prelude.{◌≡◌, ◌<◌, ◌≤◌, ◌+◌, ◌-◌, ◌*◌, nat_le, nat_lt, length};
-ghost use Rattle.std.specs.Prelude.{IfOk, [], get_or, vec_len};
+ghost use Rattle.std.specs.Prelude.{IfOk, OnOk, [], get_or, true, false};
 ghost use Rattle.csv.specs.Records.{fields_of};
-ghost use Rattle.lb_trace.specs.Errors.{IsRefusal};
+ghost use Rattle.lb_traces.specs.Traces.{IsTraceName};
+ghost use Rattle.lb_trace.specs.Errors.{IsRefusal, error_number};
 ghost use Rattle.lb_trace.specs.Mirrors.{row_by};
+ghost use Rattle.lb_trace.specs.Refusals.{is_last};
 ghost use Rattle.lb_trace.specs.Spelling.{after_first};
 ghost use Rattle.lb_trace.specs.RowRefusals.{room_by};
 
@@ -74,6 +76,19 @@ fn refusal_of_cells(
     }
 }
 
+// Why a trace is refused whose name is there. No record with the name of the last trace is refused
+// for it, so that one is given up.
+fn refusal_of_name(names: &TraceSet, name: &str, record: u64) -> TraceError
+    ensures last { is_last name.now names.now.traces ≡ true → error_number result ≡ 0 }
+    ensures other { is_last name.now names.now.traces ≡ false → error_number result ≡ 17 }
+{
+    if is_last(names, name.as_bytes()) {
+        TraceError::Memory(AllocError)
+    } else {
+        TraceError::Trace { record }
+    }
+}
+
 impl Roll {
     ghost use Rattle.std.specs.Prelude.{ℕ, List, ◌++◌, ◌∷◌, IfErr, map};
     ghost use Rattle.std.specs.List.{AllZip};
@@ -119,7 +134,7 @@ impl Roll {
         let _ = set.signature();
         let mut roll = self;
         for k in 0..set.len() {
-            roll = roll.append_trace(alloc, set.name(k).as_bytes(), set.length(k))?;
+            roll.append_trace(alloc, set.name(k), set.length(k))?;
         }
         Ok(roll)
     }
@@ -136,60 +151,50 @@ impl Roll {
         ensures err { IfErr result (RefusesRoll self other.now) }
     {
         let set = other.names.set();
+        let _ = set.signature();
         let mut roll = self;
         for k in 0..set.len() {
             let length = other.lengths[k as usize];
-            roll = roll.append_trace(alloc, set.name(k).as_bytes(), length)?;
+            roll.append_trace(alloc, set.name(k), length)?;
         }
         Ok(roll)
     }
 
-    // Puts a trace of so many instants behind these, where none has its name.
-    fn append_trace(self, alloc: Global, name: &[u8], length: u32) -> Result<Roll, TraceError>
-        requires { IsRoll self }
-        ensures roll { IfOk result IsRoll }
-        ensures ok { IfOk result (TakesTrace self name.now length) }
-        ensures err { IfErr result (RefusesTrace self name.now length) }
+    // Puts a trace of so many instants behind these, where none has its name. After an error what
+    // they are is not known.
+    fn append_trace(&mut self, alloc: Global, name: &str, length: u32) -> Result<(), TraceError>
+        requires roll { IsRoll self.old }
+        requires name { IsTraceName name.now }
+        ensures roll { OnOk result (IsRoll self.new) }
+        ensures ok { OnOk result (TakesTrace self.old name.now length self.new) }
+        ensures err { IfErr result (RefusesTrace self.old name.now length) }
     {
-        let Roll {
-            mut names,
-            mut known,
-            mut lengths,
-            instants,
-            cells,
-        } = self;
-        let number = instants + 1;
-        if is_last(names.set(), name) {
-            return Err(TraceError::Memory(AllocError));
+        let number = self.instants + 1;
+        let names = self.names.set();
+        let is_new = self.known.takes(alloc, names, name)?;
+        if !is_new {
+            return Err(refusal_of_name(names, name, number));
         }
-        let Some(text) = known.take(alloc, names.set(), name)? else {
-            return Err(TraceError::Trace { record: number });
-        };
-        if names.set().len() >= MOST_TRACES {
+        if names.len() >= MOST_TRACES {
             return Err(TraceError::Limit {
                 record: Some(number),
             });
         }
         let count = u64::from(length);
-        let all = instants + count;
-        if all * cells > MOST_CELLS {
+        let all = self.instants + count;
+        if all * self.cells > MOST_CELLS {
             return Err(TraceError::Limit {
-                record: Some(first_past_cells(cells)),
+                record: Some(first_past_cells(self.cells)),
             });
         }
-        let Ok(()) = lengths.push(length) else {
+        let Ok(()) = self.lengths.push(length) else {
             return Err(TraceError::Memory(AllocError));
         };
-        let Ok(()) = names.start(text, &[]) else {
+        let Ok(()) = self.names.start(name, &[]) else {
             return Err(TraceError::Memory(AllocError));
         };
-        Ok(Roll {
-            names,
-            known,
-            lengths,
-            instants: all,
-            cells,
-        })
+        self.instants = all;
+        Ok(())
     }
 
     /// Why the first record of a text without quotes is refused behind these traces; E0 where it is

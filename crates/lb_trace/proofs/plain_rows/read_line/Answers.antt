@@ -1,5 +1,5 @@
 use Rattle.std.proofs.Common.{◌+◌, ◌<◌, ◌∙◌, List, ap, sym, refl, subst, drop, length, length-drop}
-use Rattle.std.proofs.Common.{arith, rules}
+use Rattle.std.proofs.Common.{arith, rules, Some}
 use Rattle.std.proofs.lemmas.List.{take_rest}
 use Rattle.lb_trace.specs.declared.header.Column.{Column}
 use Rattle.lb_trace.specs.Lines.{record_of}
@@ -67,3 +67,14 @@ returns-then-cell c =
     ∙ row-short c.args.columns.now c.loop-i.i _ _ c.loop-i.rest.now cell.rest.now cell.value
     c.loop-i.row.items cell.is_last (omega (arith, c.loop-i-test.true)) refl spelled
     c.if-cell.true (omega (arith, c.loop-i-test.true))
+
+pub returns-in-Some-last_four : goal.returns-in-Some-last_four
+returns-in-Some-last_four c =
+    let last = c.in-Some-last_four.ensures in
+    let row = c.loop-i.row.items in (
+      onto-start _ _ c.clear.ensures.items ∙ c.loop-i.invariant.cells
+          ∙ ap (λ ks. onto row (plain_row ks (record_of c.loop-i.rest.now)))
+          (sym (take_rest c.args.columns.now c.loop-i.i))
+          ∙ last.0 row ∙ ap Some (sym c.in_ok-extend_from_slice-3.ensures.items),
+      last.1 ∙ sym c.loop-i.invariant.after,
+    )

@@ -1,0 +1,30 @@
+use Rattle.std.proofs.Common.{arith}
+use Rattle.lb_trace.proofs.FourNumbers.{ends-past}
+use Rattle.lb_trace.proofs.NumberEnds.{inside-from, others-below}
+use Rattle.lb_trace.proofs.numbers.ends_in.Goals as goal
+
+pub overflow_mul-result : goal.overflow_mul-result
+overflow_mul-result c =
+    omega (
+      arith,
+      others-below c.args.text.now c.others_in-others.result c.requires
+          c.others_in-others.ensures,
+    )
+
+pub overflow_add-result : goal.overflow_add-result
+overflow_add-result c =
+    omega (
+      arith,
+      others-below c.args.text.now c.others_in-others.result c.requires
+          c.others_in-others.ensures,
+    )
+
+pub returns-clause-inside : goal.returns-clause-inside
+returns-clause-inside c = λ i below none.
+    inside-from c.args.text.now c.others_in-others.result c.minus_in-minus.result i c.requires
+    c.others_in-others.ensures c.minus_in-minus.ensures below none
+
+pub returns-clause-past : goal.returns-clause-past
+returns-clause-past c = λ i above.
+    ends-past c.args.text.now c.others_in-others.result c.minus_in-minus.result i c.requires
+    c.others_in-others.ensures c.minus_in-minus.ensures above

@@ -1,0 +1,128 @@
+//! The values of four numbers at once, each of at most eight bytes, which are the highest bytes of
+//! a word.
+//!
+//! ```text
+//! -12  |  0 0 0 0 0 - 1 2
+//! 345  |  0 0 0 0 0 3 4 5
+//! ```
+//!
+//! Neighbours are added up, by which there are half as many lanes each time: the pairs of digits,
+//! then the pairs of these, and the pairs of these in turn.
+
+ghost use Rattle.std.specs.Prelude.{◌≡◌, ℕ, ◌+◌, ◌-◌, ◌*◌, ◌<◌, ◌==◌, All, not, drop, get_or, length};
+ghost use Rattle.std.specs.Prelude.{map, take};
+ghost use Rattle.std.specs.List.{list_any};
+ghost use lib.Lanes.{zip2};
+ghost use Rattle.lb_trace.specs.Fronts.{bytes_of};
+ghost use Rattle.lb_trace.specs.WordValues.{signed_by, turned, value_in};
+
+use std::simd::prelude::*;
+
+/// The values of four words.
+#[inline(always)]
+pub(crate) fn values_of(words: u64x4) -> [i32; 4]
+    requires { All (λ w. All (λ b. b - 48 < 10) (bytes_of w)) words }
+    ensures { result ≡ map value_in words }
+{
+    let bytes = words.to_le_bytes();
+    let eights = eights_of(fours_of(pairs_of(digits_of(bytes))));
+    signed(minus_of(bytes), eights)
+}
+
+// The digits that bytes are; 0 for a minus sign, and where there is no byte.
+#[inline(always)]
+fn digits_of(bytes: u8x32) -> u8x32
+    requires { length bytes ≡ 32 }
+    ensures long { length result ≡ 32 }
+    ensures digits { result ≡ map (λ b. b - 48) bytes }
+{
+    bytes.saturating_sub(u8x32::splat(b'0'))
+}
+
+// What each two digits count.
+#[inline(always)]
+fn pairs_of(digits: u8x32) -> u16x16
+    requires long { length digits ≡ 32 }
+    requires small { All (λ d. d < 10) digits }
+    ensures long { length result ≡ 16 }
+    ensures pairs { (j : ℕ) → j < 16
+        → get_or result j 0 ≡ get_or digits (2 * j) 0 * 10 + get_or digits (2 * j + 1) 0 }
+    ensures small { All (λ p. p < 100) result }
+{
+    (u16x16::from_le_bytes(digits) * u16x16::splat(2561)) >> u16x16::splat(8)
+}
+
+// What each two pairs count.
+#[inline(always)]
+fn fours_of(pairs: u16x16) -> u32x8
+    requires long { length pairs ≡ 16 }
+    requires small { All (λ p. p < 100) pairs }
+    ensures long { length result ≡ 8 }
+    ensures fours { (j : ℕ) → j < 8
+        → get_or result j 0 ≡ get_or pairs (2 * j) 0 * 100 + get_or pairs (2 * j + 1) 0 }
+    ensures small { All (λ f. f < 10000) result }
+{
+    let both = u32x8::from_le_bytes(pairs.to_le_bytes());
+    (both * u32x8::splat(6_553_601)) >> u32x8::splat(16)
+}
+
+// What each two fours count.
+#[inline(always)]
+fn eights_of(fours: u32x8) -> u64x4
+    requires long { length fours ≡ 8 }
+    requires small { All (λ f. f < 10000) fours }
+    ensures long { length result ≡ 4 }
+    ensures eights { (j : ℕ) → j < 4
+        → get_or result j 0 ≡ get_or fours (2 * j) 0 * 10000 + get_or fours (2 * j + 1) 0 }
+    ensures small { All (λ n. n < 100000000) result }
+{
+    let both = u64x4::from_le_bytes(fours.to_le_bytes());
+    (both & u64x4::splat(0xFFFF_FFFF)) * u64x4::splat(10_000) + (both >> u64x4::splat(32))
+}
+
+// The words with 255 at each minus sign, and 0 elsewhere.
+#[inline(always)]
+fn minus_of(bytes: u8x32) -> u64x4
+    requires { length bytes ≡ 32 }
+    ensures long { length result ≡ 4 }
+    ensures minus { (j : ℕ) → j < 4 → (get_or result j 0 == 0)
+        ≡ not (list_any (λ b. b == 45) (take 8 (drop (8 * j) bytes))) }
+{
+    let hits = bytes
+        .simd_eq(u8x32::splat(b'-'))
+        .select(u8x32::splat(255), u8x32::splat(0));
+    u64x4::from_le_bytes(hits)
+}
+
+// Numbers, or 2^32 less them where a minus sign is set.
+#[inline(always)]
+fn turned_of(minus: u64x4, numbers: u64x4) -> u64x4
+    requires long { length numbers ≡ 4 }
+    requires minus { length minus ≡ 4 }
+    requires small { All (λ n. n < 100000000) numbers }
+    ensures long { length result ≡ 4 }
+    ensures lanes { (j : ℕ) → j < 4
+        → get_or result j 0 ≡ turned (get_or minus j 0) (get_or numbers j 0) }
+    ensures small { All (λ n. n < 4294967296) result }
+{
+    let is_negative = minus.simd_ne(u64x4::splat(0));
+    let turned = is_negative.select(u64x4::splat(0x1_0000_0000) - numbers, numbers);
+    turned & u64x4::splat(0xFFFF_FFFF)
+}
+
+// Numbers, each of them negative where a minus sign is set.
+#[inline(always)]
+fn signed(minus: u64x4, numbers: u64x4) -> [i32; 4]
+    requires long { length numbers ≡ 4 }
+    requires minus { length minus ≡ 4 }
+    requires small { All (λ n. n < 100000000) numbers }
+    ensures { result ≡ zip2 (λ m n. signed_by (not (m == 0)) n) minus numbers }
+{
+    let [a, b, c, d] = turned_of(minus, numbers).cast::<u32>().to_array();
+    [
+        a.cast_signed(),
+        b.cast_signed(),
+        c.cast_signed(),
+        d.cast_signed(),
+    ]
+}
