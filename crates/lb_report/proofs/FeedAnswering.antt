@@ -115,7 +115,8 @@ not_less m n is =
     ⊎_elim (λ (h : m < n). absurd (false≢true (sym is ∙ lt-ltb m n h)))
     (λ (h : n ≤ m). h) (cases_lt m n)
 
--- what is told of a text whose first part is refused so
+-- a trace text with the refusal `e` of its records: the bench answers `e`, or E18 where the text
+-- is too long
 trace_told : (source traces : Text) (options : Options) (tree : Source) (e : TraceError)
     (bytes : ℕ)
     → IsOnlyProgram tree source → IsAccepted (program_of tree options)
@@ -174,7 +175,7 @@ text_told source options w mid after x y z e bytes is bad rest over count =
     → IsRefusal (outcome (signature (program_of bad.tree options)) t) e) whole
     (first.refused rest.more (λ done. (rest.still done).0))))
 
--- the same where it is known of all traces
+-- as in trace_told, where `e` is the refusal of each text that the feed may give
 any_told : (source : Text) (options : Options) (w mid after : Window) (x y z : Left)
     (e : TraceError) (bytes : ℕ)
     → IsNew w → HasRefusedSource source options w mid x y (part.Trace e)
@@ -359,7 +360,7 @@ program_judged P p w after x y j is text =
           text.judged.verdicts);
     }
 
--- what is told where a text was not judged to its end
+-- judging that halts (a feed that failed, a refused record): the error that the bench answers
 pub judging_fault : (source : Text) (options : Options) (p : AcceptedProgram) (w after : Window)
     (x y : Left) (h : Halt)
     → OnlyProgram source options (IsAcceptedProgram p) → IsTextRefused p.signature w after x y h

@@ -21,9 +21,8 @@ pub mod PieceReads
 pub mod HeadReads
 pub mod SectionReads
 pub mod SectionJoins
-pub mod WindowJoins
-pub mod WindowTurns
-pub mod PlainHalts
+pub mod SlicedTexts
+pub mod PlacedFiles
 pub mod RangeReads
 pub mod RangeFiles
 pub mod RangeAnswering

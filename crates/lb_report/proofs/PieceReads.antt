@@ -444,7 +444,7 @@ piece_goes a b c x y count first second third taken behind read over within whol
     which true before false after = cc ((taken.read.still before).1, after)
     which true before true after = last (whole after) before (ap turn (over ∙ after))
 
--- so many bytes that are whole lines are some
+-- a text whose first `count` bytes end a line: `count` is not 0
 pub ended_some : (text : List ℕ) (count : ℕ) → is_ended (take count text) ≡ true → 0 < count
 ended_some text zero ended = absurd (false≢true ended)
 ended_some text (suc count) ended = omega arith

@@ -3,7 +3,6 @@ use Rattle.std.proofs.Common.{ℕ, ◌≡◌, ◌≤◌, true, List, [], ◌∷�
 use Rattle.std.proofs.Common.{◌∙◌, subst}
 use Rattle.std.proofs.Common.{append_assoc}
 use Rattle.std.proofs.lemmas.List.{append-nil}
-use Rattle.csv.specs.Reading.{default_config, records}
 use Rattle.csv.specs.Records.{fields_of}
 use Rattle.lb_static.specs.Signature.{Elements}
 use Rattle.lb_flat.specs.declared.program.FlatProgram.{FlatProgram}
@@ -16,10 +15,9 @@ use Rattle.lb_trace.specs.Spelling.{Record, after_first, is_header, records_of}
 use Rattle.lb_trace.specs.Tables.{columns_in}
 use Rattle.lb_trace.proofs.Outcomes.{outcome-records, reading-rows}
 use Rattle.lb_trace.proofs.TextReadings.{refused_on}
-use Rattle.lb_report.specs.JudgedParts.{BeginsWith, HasHaltedAt, HasRefusedText, IsHalt}
-use Rattle.lb_report.specs.JudgedParts.{IsHeadHalted}
+use Rattle.lb_report.specs.JudgedParts.{HasHaltedAt, HasRefusedText, IsHalt, IsHeadHalted}
 use Rattle.lb_report.specs.JudgedParts.{IsJudgedFrom, IsLastHalt, IsPartRead, IsTextJudged}
-use Rattle.lb_report.specs.JudgedParts.{IsJudgedPart, IsRestJudged, IsRestRefused, IsTextRefused}
+use Rattle.lb_report.specs.JudgedParts.{IsTextRefused}
 use Rattle.lb_report.specs.QuotedTexts.{IsWholeJudged, IsWholeRefused}
 use Rattle.lb_report.specs.Windows.{HasTaken, Left, text_in}
 use Rattle.lb_report.specs.declared.rounds.Halt.{Halt}
@@ -193,41 +191,6 @@ refused_further elements a b c x y z (halt.Early e) taken is =
 refused_further elements a b c x y z (halt.Stopped judged line) taken is =
     read_on a b c x y z taken.read is
 refused_further elements a b c x y z halt.Quoted taken is =
-    read_on a b c x y z taken.read is
-
--- ## A rest whose first bytes stood in the window
-
-pub rest_judged_on : (p : FlatProgram) (elements : Elements) (table : ColumnTable)
-    (rows : List Record) (a b c : Window) (x y z : Left) (j : Judged)
-    → HasTaken a b x y → IsRestJudged p elements table rows b c y z j
-    → IsRestJudged p elements table rows a c x z j
-unfolding read_on
-rest_judged_on p elements table rows a b c x y z j taken is = record {
-  read = read_on a b c x y z taken.read is.read;
-  over = is.over;
-  judged = subst (λ t. IsJudgedPart p elements table (rows ++ records default_config t) j)
-      (text_on a b x y is.read.more taken) is.judged;
-}
-
-pub rest_refused_on : (elements : Elements) (table : ColumnTable) (rows : List Record)
-    (a b c : Window) (x y z : Left) (h : Halt)
-    → HasTaken a b x y → IsRestRefused elements table rows b c y z h
-    → IsRestRefused elements table rows a c x z h
-unfolding read_on
-rest_refused_on elements table rows a b c x y z (halt.Load e) taken is =
-    fault_on a b x y z e taken.read is
-rest_refused_on elements table rows a b c x y z (halt.Refused e) taken is = record {
-  read = read_on a b c x y z taken.read is.read;
-  more = is.more;
-  begins = subst (λ t. BeginsWith c.is_over t is.more) (text_on a b x y is.read.more taken)
-      is.begins;
-  refused = is.refused;
-}
-rest_refused_on elements table rows a b c x y z (halt.Early e) taken is =
-    read_on a b c x y z taken.read is
-rest_refused_on elements table rows a b c x y z (halt.Stopped judged line) taken is =
-    read_on a b c x y z taken.read is
-rest_refused_on elements table rows a b c x y z halt.Quoted taken is =
     read_on a b c x y z taken.read is
 
 -- ## A header that is not there

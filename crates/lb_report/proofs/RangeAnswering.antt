@@ -1,6 +1,6 @@
 -- What the bench answers to a source and a file that is read in sections.
 use Rattle.std.proofs.Common.{ℕ, ◌≡◌, ◌∙◌, ◌≤◌, Result, Ok, Err, ap, arith, inl, inr, length}
-use Rattle.std.proofs.Common.{[], refl, subst, sym}
+use Rattle.std.proofs.Common.{List, None, Option, Some, [], refl, subst, sym}
 use Rattle.std.specs.Prelude.{IfErr, IfOk}
 use Rattle.lb_syntax.specs.Tokens.{Text}
 use Rattle.lb_static.specs.DataTypes.{signature}
@@ -19,7 +19,7 @@ use Rattle.lb_pool.specs.declared.text.Report.{Report}
 use Rattle.lb_report.specs.AcceptedPrograms.{IsAcceptedProgram}
 use Rattle.lb_report.specs.Bench.{IsBenchReport, OnlyProgram, program_of}
 use Rattle.lb_report.specs.FeedJudging.{IsLastFault, fault_by}
-use Rattle.lb_report.specs.RangeAnswers.{IsRangeAnswer}
+use Rattle.lb_report.specs.RangeAnswers.{IsFileAnswer, IsRangeAnswer}
 use Rattle.lb_report.specs.Ranges.{IsFileJudged, IsOutcomeJudged, IsOutcomeRefused}
 use Rattle.lb_report.specs.declared.answer.AcceptedProgram.{AcceptedProgram}
 use Rattle.lb_report.specs.declared.error.BenchError.TheVariants as part
@@ -36,13 +36,21 @@ use Rattle.lb_report.proofs.VerdictLists.{are_verdicts}
 -- ## The answer
 
 -- a verdict for each trace
-pub outcome_long : (p : FlatProgram) (elements : Elements) (j : Judged)
-    → IsOutcomeJudged p elements j → length j.verdicts.items ≡ length j.roll.names.traces
-outcome_long p elements j is =
+pub outcome_long : (p : FlatProgram) (elements : Elements) (bytes : Option (List ℕ)) (j : Judged)
+    → IsOutcomeJudged p elements bytes j → length j.verdicts.items ≡ length j.roll.names.traces
+outcome_long p elements bytes j is =
     is.judged.verdicts.count ∙ sym (names_long is.traces) ∙ ap length (sym is.judged.names.names)
     ∙ names_long j.roll.names.traces
 
-module _ (source : Text) (options : Options) (p : AcceptedProgram)
+-- a text of a file of which nothing else is said
+any_answer : (source : Text) (options : Options) (bytes : Option (List ℕ))
+    (r : Result Report FeedFault)
+    → ((text : Text) → IsRangeAnswer source text options r) → IsFileAnswer source bytes options r
+any_answer source options None r given = record { traces = []; is = tt; answer = given [] }
+any_answer source options (Some all) r given =
+    record { traces = all; is = refl; answer = given all }
+
+module _ (source : Text) (options : Options) (bytes : Option (List ℕ)) (p : AcceptedProgram)
     (found : OnlyProgram source options (IsAcceptedProgram p)) where
   abbrev P : Program
   P = program_of found.tree options
@@ -51,7 +59,7 @@ module _ (source : Text) (options : Options) (p : AcceptedProgram)
   elements = sym found.holds.inputs
 
   range_reported : (j : Judged) (report : Report)
-      → (is : IsOutcomeJudged p.ordered.program p.signature j)
+      → (is : IsOutcomeJudged p.ordered.program p.signature bytes j)
       → IsReport (trace_names j.roll.names.traces) j.verdicts.items report
       → IsBenchReport source is.text options report
   range_reported j report is listed =
@@ -82,41 +90,53 @@ module _ (source : Text) (options : Options) (p : AcceptedProgram)
         };
       }
 
+  -- memory ran out
+  no_memory : IsFileAnswer source bytes options (Err (fault.Refused part.Memory))
+  no_memory =
+      any_answer source options bytes (Err (fault.Refused part.Memory))
+      (λ text. answered source text options (Err part.Memory) tt tt)
+
   -- a report, or none for want of memory
-  pub range_answered : (j : Judged) (bytes : ℕ) (r : Result Report FeedFault)
-      → (is : IsOutcomeJudged p.ordered.program p.signature j) → bytes ≤ 1073741824
+  pub range_answered : (j : Judged) (size : ℕ) (r : Result Report FeedFault)
+      → IsOutcomeJudged p.ordered.program p.signature bytes j → size ≤ 1073741824
       → IfOk r (IsReport (trace_names j.roll.names.traces) j.verdicts.items)
-      → IfErr r (IsLastFault bytes)
-      → IsRangeAnswer source is.text options r
-  range_answered j bytes (Ok report) is short listed bad =
-      answered source is.text options (Ok report) (range_reported j report is listed) tt
-  range_answered j bytes (Err f) is short listed bad =
+      → IfErr r (IsLastFault size) → IsFileAnswer source bytes options r
+  range_answered j size (Ok report) is short listed bad = record {
+    traces = is.text;
+    is = is.is;
+    answer = answered source is.text options (Ok report) (range_reported j report is listed) tt;
+  }
+  range_answered j size (Err f) is short listed bad =
       elim bad [
         | inl long ↦ absurd (omega (arith, short, long.0))
         | inr memory ↦
-            subst (λ g. IsRangeAnswer source is.text options (Err g)) (sym memory)
-            (answered source is.text options (Err part.Memory) tt tt)
+            subst (λ g. IsFileAnswer source bytes options (Err g)) (sym memory)
+            no_memory
       ]
 
-  range_refused : (e : TraceError) → (is : IsOutcomeRefused p.signature e)
-      → IsRangeAnswer source is.text options (Err (fault.Refused (part.Trace e)))
-  range_refused e is =
-      answered source is.text options (Err (part.Trace e)) tt record {
-        tree = found.tree;
-        spelled = found.spelled;
-        holds = (
-          found.holds.accepted,
-          outcome_refused P is.text e
-              (subst (λ es. IsRefusal (outcome es is.text) e) elements is.refused),
-        );
-      }
+  range_refused : (e : TraceError) → IsOutcomeRefused p.signature bytes e
+      → IsFileAnswer source bytes options (Err (fault.Refused (part.Trace e)))
+  range_refused e is = record {
+    traces = is.text;
+    is = is.is;
+    answer =
+        answered source is.text options (Err (part.Trace e)) tt record {
+          tree = found.tree;
+          spelled = found.spelled;
+          holds = (
+            found.holds.accepted,
+            outcome_refused P is.text e
+                (subst (λ es. IsRefusal (outcome es is.text) e) elements is.refused),
+          );
+        };
+  }
 
   -- what is told where it was not judged to its end
-  pub range_faulted : (h : Halt) → IsFileJudged p.ordered.program p.signature (Err h)
-      → (text : Text) × IsRangeAnswer source text options (Err (fault_by h))
-  range_faulted (halt.Load e) bad = ([], tt)
-  range_faulted (halt.Refused e) bad = (bad.text, range_refused e bad)
-  range_faulted (halt.Early e) bad = ([], answered source [] options (Err part.Memory) tt tt)
-  range_faulted (halt.Stopped judged line) bad =
-      ([], answered source [] options (Err part.Memory) tt tt)
-  range_faulted halt.Quoted bad = ([], answered source [] options (Err part.Memory) tt tt)
+  pub range_faulted : (h : Halt) → IsFileJudged p.ordered.program p.signature bytes (Err h)
+      → IsFileAnswer source bytes options (Err (fault_by h))
+  range_faulted (halt.Load e) bad =
+      any_answer source options bytes (Err (fault.Load e)) (λ text. tt)
+  range_faulted (halt.Refused e) bad = range_refused e bad
+  range_faulted (halt.Early e) bad = no_memory
+  range_faulted (halt.Stopped judged line) bad = no_memory
+  range_faulted halt.Quoted bad = no_memory

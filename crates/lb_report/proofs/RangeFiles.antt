@@ -1,9 +1,10 @@
 -- A file whose header is read of its first bytes, and the rest in sections.
 use Rattle.std.proofs.Common.{ℕ, ◌≡◌, ◌⊎◌, ◌∙◌, ◌+◌, ◌-◌, ◌<◌, ◌≤◌, true, List, [], ◌++◌, None}
-use Rattle.std.proofs.Common.{Option, Some, Result, Ok, Err, ap, arith, inl, length, length-append}
-use Rattle.std.proofs.Common.{subst, sym, ⊎_elim}
+use Rattle.std.proofs.Common.{Option, Some, Result, Ok, Err, append_assoc, ap, arith, drop, inl}
+use Rattle.std.proofs.Common.{length, length-append, subst, sym, take, ⊎_elim}
+use Rattle.std.proofs.Math.Seq.{drop-append_seam, take_all}
 use Rattle.std.specs.Io.KnownBytes.{Consumes}
-use Rattle.std.specs.Prelude.{IfErr, IfOk}
+use Rattle.std.specs.Prelude.{IfErr, IfOk, IfSome}
 use Rattle.csv.specs.Reading.{default_config, records}
 use Rattle.lb_static.specs.Signature.{Elements}
 use Rattle.lb_flat.specs.declared.program.FlatProgram.{FlatProgram}
@@ -15,7 +16,8 @@ use Rattle.lb_trace.specs.declared.error.TraceError.{TraceError}
 use Rattle.lb_trace.specs.declared.table.ColumnTable.{ColumnTable}
 use Rattle.lb_trace.proofs.TextReadings.{head_outcome}
 use Rattle.lb_report.specs.JudgedParts.{IsHeadRead}
-use Rattle.lb_report.specs.Ranges.{AreRangesJudged, AreRangesRefused, IsFileJudged}
+use Rattle.lb_report.specs.PlacedFiles.{between}
+use Rattle.lb_report.specs.Ranges.{AreRangesJudged, AreRangesRefused, IsFileJudged, IsFileText}
 use Rattle.lb_report.specs.Ranges.{IsOutcomeJudged, IsOutcomeRefused, IsRangesHalt}
 use Rattle.lb_report.specs.Windows.{Left, text_in}
 use Rattle.lb_report.specs.declared.rounds.Halt.{Halt}
@@ -34,19 +36,53 @@ came_within text after more came = by after came
     by None came = absurd came
     by (Some rest) came = omega (arith, ap length came, length-append more rest)
 
-module _ (p : FlatProgram) (elements : Elements) (table : ColumnTable) (w after : Window)
-    (old new : Left) (nothing : text_in w ≡ []) (begun : w.read ≡ 0)
-    (head : IsHeadRead elements table w after old new) where
+-- a text is whole, where the rest of it stands behind its first bytes
+text_whole : (all head behind text : List ℕ) (from size : ℕ) → all ≡ head ++ behind
+    → from ≡ length head → size ≡ length all → text ≡ between from size all → head ++ text ≡ all
+text_whole all head behind text from size whole at long is =
+    let rest : drop from all ≡ behind =
+    ap (λ n. drop n all) at ∙ ap (drop (length head)) whole ∙ drop-append_seam head behind in
+    let fits : length behind ≤ size - from =
+    omega (arith, ap (length {A = ℕ}) whole, length-append head behind, at, long) in
+    ap (λ t. head ++ t)
+    (is ∙ ap (take (size - from)) rest ∙ take_all (size - from) behind fits)
+    ∙ sym whole
+
+-- it is all bytes of a file, of which the first were read
+file_text : (bytes rest left : Option (List ℕ)) (first more head behind text : List ℕ)
+    (from size : ℕ) → Consumes bytes rest first → Consumes (Some first) left more
+    → more ≡ head ++ behind → from ≡ length head → IfSome bytes (λ all. size ≡ length all)
+    → IfSome bytes (λ all. text ≡ between from size all) → IsFileText bytes (head ++ text)
+file_text None rest left first more head behind text from size came read parts at long is = tt
+file_text (Some all) None left first more head behind text from size came read parts at long is =
+    absurd came
+file_text (Some all) (Some rest) None first more head behind text from size came read parts at
+    long is =
+    absurd read
+file_text (Some all) (Some rest) (Some last) first more head behind text from size came read parts
+    at long is =
+    let whole : all ≡ head ++ ((behind ++ last) ++ rest) =
+    came ∙ ap (λ t. t ++ rest) (read ∙ ap (λ t. t ++ last) parts ∙ append_assoc head behind last)
+    ∙ append_assoc head (behind ++ last) rest in
+    text_whole all head ((behind ++ last) ++ rest) text from size whole at long is
+
+module _ (p : FlatProgram) (elements : Elements) (table : ColumnTable)
+    (bytes : Option (List ℕ)) (size : ℕ) (long : IfSome bytes (λ all. size ≡ length all))
+    (first : List ℕ) (others : Option (List ℕ)) (came : Consumes bytes others first)
+    (w after : Window) (old new : Left) (nothing : text_in w ≡ []) (begun : w.read ≡ 0)
+    (given_all : old.coming ≡ Some first) (head : IsHeadRead elements table w after old new) where
+  -- the bytes that were read
+  head_parts : head.read.more ≡ head.head ++ text_in after
+  head_parts = ap (λ t. t ++ head.read.more) (sym nothing) ∙ head.taken
+
   -- where the header ends
   pub head_long : after.read ≡ length head.head + length (text_in after)
   head_long =
-      let all : head.read.more ≡ head.head ++ text_in after =
-      ap (λ t. t ++ head.read.more) (sym nothing) ∙ head.taken in
       omega (
         arith,
         head.read.counted,
         begun,
-        ap length all,
+        ap length head_parts,
         length-append head.head (text_in after),
       )
 
@@ -66,24 +102,33 @@ module _ (p : FlatProgram) (elements : Elements) (table : ColumnTable) (w after 
         head.end)
         (omega (arith, short, from_long, length-append head.head text))
 
-    pub file_judged : (j : Judged) → AreRangesJudged p elements table [] from j
-        → IsOutcomeJudged p elements j
+    is_text : (text : List ℕ) → IfSome bytes (λ all. text ≡ between from size all)
+        → IsFileText bytes (head.head ++ text)
+    is_text text is =
+        file_text bytes others new.coming first head.read.more head.head (text_in after) text from
+        size came (subst (λ o. Consumes o new.coming head.read.more) given_all head.read.consumed)
+        head_parts from_long long is
+
+    file_judged : (j : Judged) → AreRangesJudged p elements table [] bytes from size j
+        → IsOutcomeJudged p elements bytes j
     file_judged j is = record {
       text = head.head ++ is.text;
+      is = is_text is.text is.range.is;
       traces = is.judged.traces;
-      given = given is.text is.short ∙ is.judged.read;
+      given = given is.text is.range.short ∙ is.judged.read;
       judged = is.judged.judged;
     }
 
-    file_refused : (e : TraceError) → AreRangesRefused elements table [] from e
-        → IsOutcomeRefused elements e
+    file_refused : (e : TraceError) → AreRangesRefused elements table [] bytes from size e
+        → IsOutcomeRefused elements bytes e
     file_refused e is = record {
       text = head.head ++ is.text;
-      refused = subst (λ o. IsRefusal o e) (sym (given is.text is.short)) is.refused;
+      is = is_text is.text is.range.is;
+      refused = subst (λ o. IsRefusal o e) (sym (given is.text is.range.short)) is.refused;
     }
 
-    file_halted : (h : Halt) → IsRangesHalt elements table [] from h
-        → IsFileJudged p elements (Err h)
+    file_halted : (h : Halt) → IsRangesHalt elements table [] bytes from size h
+        → IsFileJudged p elements bytes (Err h)
     file_halted (halt.Load e) bad = tt
     file_halted (halt.Refused e) bad = file_refused e bad
     file_halted (halt.Early e) bad = tt
@@ -91,7 +136,8 @@ module _ (p : FlatProgram) (elements : Elements) (table : ColumnTable) (w after 
     file_halted halt.Quoted bad = tt
 
     pub file_told : (told : Result Judged Halt)
-        → IfOk told (AreRangesJudged p elements table [] from)
-        → IfErr told (IsRangesHalt elements table [] from) → IsFileJudged p elements told
+        → IfOk told (AreRangesJudged p elements table [] bytes from size)
+        → IfErr told (IsRangesHalt elements table [] bytes from size)
+        → IsFileJudged p elements bytes told
     file_told (Ok j) ok err = file_judged j ok
     file_told (Err h) ok err = file_halted h err

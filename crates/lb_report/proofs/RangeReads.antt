@@ -2,20 +2,20 @@
 use Rattle.std.proofs.Common.{ℕ, zero, suc, ◌≡◌, ◌⊎◌, ◌∙◌, ◌+◌, ◌-◌, ◌<◌, ◌≤◌, ◌==◌, Bool, true}
 use Rattle.std.proofs.Common.{None, Option, Some, false, List, [], ◌∷◌, ◌++◌, Result, Ok, Err, ap}
 use Rattle.std.proofs.Common.{append_assoc, arith, get_or, inl, inr, length, length-append, min}
-use Rattle.std.proofs.Common.{refl, subst, sym, take, ⊎_elim}
+use Rattle.std.proofs.Common.{refl, subst, sym, take}
 use Rattle.std.proofs.lemmas.Bool.{cases_lt, false≢true, ne_eqb}
 use Rattle.std.proofs.lemmas.List.{append-nil, take_all}
 use Rattle.std.proofs.lemmas.List.FromFn.{length-range_with_len}
 use Rattle.std.proofs.lemmas.Slice.Zip.{AllZip-long}
 use Rattle.std.specs.List.{All, AllZip, range_with_len}
-use Rattle.std.specs.Prelude.{IfErr, IfOk}
+use Rattle.std.specs.Io.KnownBytes.{Consumes, IsAtEnd}
+use Rattle.std.specs.Prelude.{IfSome}
 use Rattle.std.specs.Result.{IsErrAnd}
 use Rattle.csv.specs.Reading.{default_config, records}
 use Rattle.lb_static.specs.Signature.{Elements}
 use Rattle.lb_flat.specs.declared.program.FlatProgram.{FlatProgram}
 use Rattle.lb_trace.specs.declared.error.TraceError.{TraceError}
 use Rattle.lb_trace.specs.declared.table.ColumnTable.{ColumnTable}
-use Rattle.lb_trace.specs.Chunks.{is_ended}
 use Rattle.lb_trace.specs.Errors.{IsRefusal, error_number}
 use Rattle.lb_trace.specs.Plain.{has_quote, plain_records}
 use Rattle.lb_trace.specs.Refusals.{with_records}
@@ -23,25 +23,25 @@ use Rattle.lb_trace.specs.Rolls.{IsRoll}
 use Rattle.lb_trace.specs.Spelling.{Record}
 use Rattle.lb_trace.specs.Tables.{columns_in}
 use Rattle.lb_trace.specs.Texts.{IsFront}
-use Rattle.lb_trace.proofs.Lines.{plain-none}
 use Rattle.lb_trace.proofs.PlainRecords.{plain_text}
 use Rattle.lb_trace.proofs.TextReadings.{front_ended, front_more, front_none, refused_on}
 use Rattle.lb_pool.specs.Counts.{count_more}
-use Rattle.lb_report.specs.JudgedParts.{HasRoll, IsJudgedPart, IsPiecesJudged}
-use Rattle.lb_report.specs.JudgedParts.{HasRefused, IsRestJudged, IsRestRefused}
-use Rattle.lb_report.specs.PlainHalts.{HasPlainHalted, IsPlainHalted}
+use Rattle.lb_report.specs.JudgedParts.{HasRefused, IsJudgedPart, IsPiecesJudged}
+use Rattle.lb_report.specs.JudgedParts.{IsRestJudged, IsRestRefused}
+use Rattle.lb_report.specs.PlacedFiles.{between, told_between}
 use Rattle.lb_report.specs.Ranges.{AreRangeEnds, AreRangesJudged, AreRangesRefused, IsRange}
-use Rattle.lb_report.specs.Ranges.{IsRangeTold, IsRangesHalt}
+use Rattle.lb_report.specs.Ranges.{IsRangeJudged, IsRangeTold, IsRangesHalt}
 use Rattle.lb_report.specs.SectionEnds.{AreEnds, start_of}
 use Rattle.lb_report.specs.Sections.{AreAppended, IsRefusedWithin, IsSection, KeepsRoll, lines_of}
-use Rattle.lb_report.specs.Sections.{IsHaltAfter, IsToldOn, told_at_seam}
+use Rattle.lb_report.specs.Sections.{IsHaltAfter, IsSetAside, IsToldOn}
 use Rattle.lb_report.specs.Windows.{HasRead, Left, ended_by, text_in}
 use Rattle.lb_report.specs.declared.rounds.Halt.{Halt}
 use Rattle.lb_report.specs.declared.rounds.Halt.TheVariants as halt
 use Rattle.lb_report.specs.declared.rounds.Judged.{Judged}
 use Rattle.lb_report.specs.declared.sections.Appended.{Appended}
 use Rattle.lb_report.specs.declared.window.Window.{Window}
-use Rattle.lb_report.proofs.PieceReads.{front_all}
+use Rattle.lb_report.proofs.PlacedFiles.{all_between, between_long, between_more, between_none}
+use Rattle.lb_report.proofs.PlacedFiles.{still, still_between, still_none, still_short}
 use Rattle.lb_report.proofs.SectionJoins.{ArePlain}
 use Rattle.lb_report.proofs.Sectioning.{joined}
 use Rattle.lb_report.proofs.WindowReads.{ended_all}
@@ -62,28 +62,12 @@ end_within from size ends are (suc left) i is =
     end_within from size ends are left (suc i) (omega (arith, is)) in
     omega (arith, up, on)
 
-pub range_past : (from : ℕ) (ends : List ℕ) → AreRangeEnds from ends → (i : ℕ) → i < length ends
-    → get_or ends i 0 ≤ 1073741824
-range_past from ends are i within =
-    let here : get_or ends i 0 ≤ are.size =
-    end_within from are.size ends are.follow (length ends - 1 - i) i (omega (arith, within)) in
-    omega (arith, here, are.short)
+pub range_past : (from size : ℕ) (ends : List ℕ) → AreRangeEnds from size ends → (i : ℕ)
+    → i < length ends → get_or ends i 0 ≤ size
+range_past from size ends are i within =
+    end_within from size ends are.follow (length ends - 1 - i) i (omega (arith, within))
 
-pub range_start : (from : ℕ) (ends : List ℕ) → AreRangeEnds from ends → (i : ℕ)
-    → i ≤ length ends → start_of from ends i ≤ 1073741824
-range_start from ends are zero within =
-    let first : from ≤ get_or ends 0 0 = are.follow.ordered 0 are.follow.some in
-    let on : get_or ends 0 0 ≤ 1073741824 = range_past from ends are 0 are.follow.some in
-    omega (arith, first, on)
-range_start from ends are (suc i) within = range_past from ends are i (omega (arith, within))
-
--- the last place
-pub last_past : (from : ℕ) (ends : List ℕ) → AreRangeEnds from ends
-    → get_or ends (length ends - 1) 0 ≤ 1073741824
-last_past from ends are =
-    range_past from ends are (length ends - 1) (omega (arith, are.follow.some))
-
--- each section begins before it
+-- each section begins before the end
 start_within : (from size : ℕ) (ends : List ℕ) → AreEnds from size ends → (left i : ℕ)
     → i + left ≡ length ends → start_of from ends i ≤ size
 start_within from size ends are left zero is =
@@ -94,12 +78,10 @@ start_within from size ends are left zero is =
 start_within from size ends are left (suc i) is =
     end_within from size ends are left i (omega (arith, is))
 
-pub start_last : (from : ℕ) (ends : List ℕ) → AreRangeEnds from ends → (i : ℕ) → i ≤ length ends
-    → start_of from ends i ≤ get_or ends (length ends - 1) 0
-start_last from ends are i within =
-    let here : start_of from ends i ≤ are.size =
-    start_within from are.size ends are.follow (length ends - i) i (omega (arith, within)) in
-    omega (arith, here, are.follow.last)
+pub range_start : (from size : ℕ) (ends : List ℕ) → AreRangeEnds from size ends → (i : ℕ)
+    → i ≤ length ends → start_of from ends i ≤ size
+range_start from size ends are i within =
+    start_within from size ends are.follow (length ends - i) i (omega (arith, within))
 
 next_start : (from : ℕ) (ends : List ℕ) (k : ℕ) → start_of from ends (k + 1) ≡ get_or ends k 0
 next_start from ends k = let one : k + 1 ≡ suc k = omega arith in ap (start_of from ends) one
@@ -116,168 +98,126 @@ pub read_from : (start count at : ℕ) → at ≡ count_more start count → at 
 read_from start count at is short =
     count_from 18446744073709551615 start count at is (omega (arith, short))
 
-module _ (p : FlatProgram) (elements : Elements) (table : ColumnTable) (start past : ℕ)
-    (last : Bool) (ordered : start ≤ past) (short : past ≤ 1073741824) where
-  -- nothing is known of the bytes
-  nothing_told : (h : Halt) → IsSection p elements table [] (Err h)
-      → IsRangeTold p elements table start past last (Err h)
-  nothing_told h section = record {
-    text = [];
-    range = record {
-      short = omega (arith, ordered, short);
-      front = λ more. subst (IsFront []) (sym plain-none) front_none;
-      within = λ more. omega (arith, ordered);
-    };
-    section = section;
-  }
+module _ (p : FlatProgram) (elements : Elements) (table : ColumnTable)
+    (bytes : Option (List ℕ)) (start past : ℕ) (last : Bool) (w after : Window) (old new : Left)
+    (nothing : text_in w ≡ []) (begun : w.is_ended ≡ false) (goes_on : w.is_over ≡ false)
+    (whole : old.coming ≡ told_between start past bytes) (at : old.given ≡ start)
+    (fits : new.given ≤ 1073741824) where
+  abbrev IsJoined : Type 0
+  IsJoined = (last ≡ true) ⊎ ((after.is_ended ≡ true) × (new.given ≡ past))
 
-  to_judge_again : IsRangeTold p elements table start past last (Err halt.Quoted)
-  to_judge_again = nothing_told halt.Quoted record { plain = tt; halt = tt; kept = tt }
-
-  pub out_of_memory_told : (e : TraceError) → error_number e ≡ 0
-      → IsRangeTold p elements table start past last (Err (halt.Refused e))
-  out_of_memory_told e none =
-      nothing_told (halt.Refused e) record { plain = tt; halt = none; kept = tt }
-
-  module _ (w after : Window) (old new : Left) (nothing : text_in w ≡ [])
-      (begun : w.is_ended ≡ false) (from : old.given ≡ start) (fits : new.given ≤ 1073741824) where
-    abbrev IsJoined : Type 0
-    IsJoined = (last ≡ true) ⊎ ((after.is_ended ≡ true) × (new.given ≡ past))
-
-    abbrev HasMore : Type 0
-    HasMore = (last ≡ true) ⊎ ((after.is_over ≡ false) × (new.given < past))
-
-    count : (read : HasRead w after old new) → new.given ≡ start + length read.more
-    count read =
-        read_from start (length read.more) new.given
-        (read.given ∙ ap (λ n. count_more n (length read.more)) from) fits
-
-    range_judged : (j : Judged) → IsPiecesJudged p elements table [] w after old new j
-        → IsRoll j.roll → IsJoined → IsRangeTold p elements table start past last (Ok j)
-    range_judged j is roll joins =
-        let more : List ℕ = is.rest.read.more in
-        let all : text_in w ++ more ≡ more = ap (λ t. t ++ more) nothing in
-        let plain : has_quote more ≡ false = ap has_quote (sym all) ∙ is.plain in
-        let given : new.given ≡ start + length more = count is.rest.read in
-        record {
-          text = more;
-          range = record {
-            short = omega (arith, given, fits);
-            front = λ (others : last ≡ false).
-                elim joins [
-                  | inl end ↦ absurd (false≢true (sym others ∙ end))
-                  | inr seam ↦
-                      front_ended more plain
-                      (sym (ended_all more) ∙ ap (λ b. ended_by b more) (sym begun)
-                      ∙ sym is.rest.read.ended ∙ seam.0)
-                ];
-            within = λ (others : last ≡ false).
-                elim joins [
-                  | inl end ↦ absurd (false≢true (sym others ∙ end))
-                  | inr seam ↦ omega (arith, given, seam.1)
-                ];
-          };
-          section = record {
-            plain = plain;
-            part = subst (λ rs. IsJudgedPart p elements table rs j)
-                (ap (records default_config) all ∙ plain_text more plain) is.rest.judged;
-            roll = roll;
-          };
-        }
-
-    range_halted : (h : Halt) → (is : HasPlainHalted elements table [] w after old new h)
-        → IsSection p elements table is.front (Err h)
-        → HasMore → IsRangeTold p elements table start past last (Err h)
-    range_halted h is section more =
-        let all : text_in w ++ is.read.more ≡ is.read.more =
-        ap (λ t. t ++ is.read.more) nothing in
-        let given : new.given ≡ start + length is.read.more = count is.read in
-        let long : length is.read.more ≡ length is.front + length is.rest =
-        ap length (sym all ∙ is.taken) ∙ length-append is.front is.rest in
-        record {
-          text = is.front;
-          range = record {
-            short = omega (arith, given, fits, long);
-            front = λ (others : last ≡ false).
-                elim more [
-                  | inl end ↦ absurd (false≢true (sym others ∙ end))
-                  | inr left ↦ is.whole left.0
-                ];
-            within = λ (others : last ≡ false).
-                elim more [
-                  | inl end ↦ absurd (false≢true (sym others ∙ end))
-                  | inr left ↦ omega (arith, given, left.1, long)
-                ];
-          };
-          section = section;
-        }
-
-    pub range_told : (told : Result Judged Halt) (joins more : Bool)
-        → IfOk told (IsPiecesJudged p elements table [] w after old new)
-        → IfOk told (λ j. IsRoll j.roll)
-        → IfErr told (IsPlainHalted elements table [] w after old new) → IfErr told HasRoll
-        → (joins ≡ true → IsJoined) → (more ≡ true → HasMore)
-        → IsRangeTold p elements table start past last (told_at_seam joins more told)
-    range_told (Ok j) true more ok roll err kept joined left =
-        range_judged j ok roll (joined refl)
-    range_told (Ok j) false more ok roll err kept joined left = to_judge_again
-    range_told (Err (halt.Load e)) joins more ok roll err kept joined left = to_judge_again
-    range_told (Err (halt.Refused e)) joins more ok roll err kept joined left =
-        out_of_memory_told e err
-    range_told (Err (halt.Early e)) joins true ok roll err kept joined left =
-        range_halted (halt.Early e) err record { plain = err.plain; halt = err.halt; kept = tt }
-        (left refl)
-    range_told (Err (halt.Early e)) joins false ok roll err kept joined left = to_judge_again
-    range_told (Err (halt.Stopped judged line)) joins true ok roll err kept joined left =
-        range_halted (halt.Stopped judged line) err
-        record { plain = err.plain; halt = err.halt; kept = kept } (left refl)
-    range_told (Err (halt.Stopped judged line)) joins false ok roll err kept joined left =
-        to_judge_again
-    range_told (Err halt.Quoted) joins more ok roll err kept joined left = to_judge_again
+  pub range_judged : (j : Judged) → IsPiecesJudged p elements table [] w after old new j
+      → IsRoll j.roll → IsJoined → IsRangeJudged p elements table bytes start past last j
+  range_judged j is roll joins =
+      let read = is.rest.read in
+      let more : List ℕ = read.more in
+      let all : text_in w ++ more ≡ more = ap (λ t. t ++ more) nothing in
+      let plain : has_quote more ≡ false = ap has_quote (sym all) ∙ is.plain in
+      let long : new.given ≡ start + length more =
+      read_from start (length more) new.given
+      (read.given ∙ ap (λ n. count_more n (length more)) at) fits in
+      let end : IsAtEnd new.coming =
+      read.over (λ over. absurd (false≢true (sym goes_on ∙ over))) is.rest.over in
+      let came : Consumes (told_between start past bytes) new.coming more =
+      subst (λ o. Consumes o new.coming more) whole read.consumed in
+      record {
+        text = more;
+        range = record {
+          short = omega (arith, long, fits);
+          is = all_between bytes new.coming start past more came end;
+        };
+        front = λ (others : last ≡ false).
+            elim joins [
+              | inl alone ↦ absurd (false≢true (sym others ∙ alone))
+              | inr seam ↦
+                  front_ended more plain
+                  (sym (ended_all more) ∙ ap (λ b. ended_by b more) (sym begun)
+                  ∙ sym read.ended ∙ seam.0)
+            ];
+        within = λ (others : last ≡ false).
+            elim joins [
+              | inl alone ↦ absurd (false≢true (sym others ∙ alone))
+              | inr seam ↦ omega (arith, long, seam.1)
+            ];
+        judged = record {
+          plain = plain;
+          part = subst (λ rs. IsJudgedPart p elements table rs j)
+              (ap (records default_config) all ∙ plain_text more plain) is.rest.judged;
+          roll = roll;
+        };
+      }
 
 -- ## All sections
 
-module _ (p : FlatProgram) (elements : Elements) (table : ColumnTable) (from : ℕ)
-    (ends : List ℕ) where
+-- a text that tells nothing
+abbrev quote : List ℕ
+quote = 34 ∷ []
+
+module _ (p : FlatProgram) (elements : Elements) (table : ColumnTable)
+    (bytes : Option (List ℕ)) (from : ℕ) (ends : List ℕ) where
+  -- the bytes of a section that is judged
+  pub record IsRangeAt (i : ℕ) (text : List ℕ) : Type 0 where
+    pub range : IsRange bytes (start_of from ends i) (get_or ends i 0) text
+    pub front : (i + 1 == length ends) ≡ false → IsFront text (plain_records text)
+    pub within : (i + 1 == length ends) ≡ false → start_of from ends i + length text ≤ get_or ends i 0
+
   abbrev RangeAt : ℕ → List ℕ → Type 0
-  RangeAt i text = IsRange (start_of from ends i) (get_or ends i 0) (i + 1 == length ends) text
+  RangeAt i text = has_quote text ≡ false → IsRangeAt i text
 
   abbrev ToldAt : ℕ → Result Judged Halt → Type 0
   ToldAt i told =
-      IsRangeTold p elements table (start_of from ends i) (get_or ends i 0) (i + 1 == length ends)
-      told
+      IsRangeTold p elements table bytes (start_of from ends i) (get_or ends i 0)
+      (i + 1 == length ends) told
 
-  -- some bytes for each section
+  -- some bytes for each section; with a quote where it is not judged
   pub record AreTexts (is : List ℕ) (told : List (Result Judged Halt)) : Type 0 where
     pub texts : List (List ℕ)
     pub sections : AllZip (IsSection p elements table) texts told
     pub ranges : AllZip RangeAt is texts
     pub long : length texts ≡ length told
 
+  set_aside : (text : List ℕ) (h : Halt) → IsSetAside h → IsSection p elements table text (Err h)
+  set_aside text (halt.Load e) told = absurd told
+  set_aside text (halt.Refused e) told = record { plain = tt; halt = told; kept = tt }
+  set_aside text (halt.Early e) told = absurd told
+  set_aside text (halt.Stopped judged line) told = absurd told
+  set_aside text halt.Quoted told = record { plain = tt; halt = tt; kept = tt }
+
   pub texts_of : (is : List ℕ) (told : List (Result Judged Halt)) → AllZip ToldAt is told
       → AreTexts is told
   texts_of [] [] zip = record { texts = []; sections = tt; ranges = tt; long = refl }
   texts_of [] (one ∷ told) zip = absurd zip
   texts_of (i ∷ is) [] zip = absurd zip
-  texts_of (i ∷ is) (one ∷ told) zip =
+  texts_of (i ∷ is) (Ok j ∷ told) zip =
+      let rest = texts_of is told zip.1 in
+      let one = zip.0 in
+      record {
+        texts = one.text ∷ rest.texts;
+        sections = (one.judged, rest.sections);
+        ranges = (
+          λ plain. record { range = one.range; front = one.front; within = one.within },
+          rest.ranges,
+        );
+        long = ap suc rest.long;
+      }
+  texts_of (i ∷ is) (Err h ∷ told) zip =
       let rest = texts_of is told zip.1 in
       record {
-        texts = zip.0.text ∷ rest.texts;
-        sections = (zip.0.section, rest.sections);
-        ranges = (zip.0.range, rest.ranges);
+        texts = quote ∷ rest.texts;
+        sections = (set_aside quote h zip.0, rest.sections);
+        ranges = (λ plain. absurd (false≢true (sym plain)), rest.ranges);
         long = ap suc rest.long;
       }
 
-  roll_of : (text : List ℕ) (one : Result Judged Halt) → IsSection p elements table text one
-      → KeepsRoll one
-  roll_of text (Ok j) section = section.roll
-  roll_of text (Err h) section = section.kept
+  roll_of : (i : ℕ) (one : Result Judged Halt) → ToldAt i one → KeepsRoll one
+  roll_of i (Ok j) told = told.judged.roll
+  roll_of i (Err h) told = (set_aside [] h told).kept
 
   pub rolls_of : (is : List ℕ) (told : List (Result Judged Halt)) → AllZip ToldAt is told
       → All KeepsRoll told
   rolls_of is [] zip k d within = absurd (omega arith)
   rolls_of [] (one ∷ told) zip k d within = absurd zip
-  rolls_of (i ∷ is) (one ∷ told) zip zero d within = roll_of zip.0.text one zip.0.section
+  rolls_of (i ∷ is) (one ∷ told) zip zero d within = roll_of i one zip.0
   rolls_of (i ∷ is) (one ∷ told) zip (suc k) d within =
       rolls_of is told zip.1 k d (omega (arith, within))
 
@@ -287,246 +227,391 @@ module _ (p : FlatProgram) (elements : Elements) (table : ColumnTable) (from : �
       AllZip-long ToldAt (range_with_len 0 (length ends)) told zip
       ∙ length-range_with_len 0 (length ends)
 
-  -- the first of them are whole lines, up to where the next one begins
-  front_from : (k : ℕ) (texts : List (List ℕ)) (n : ℕ) → k + length texts ≡ length ends
-      → n < length texts → AllZip RangeAt (range_with_len k (length texts)) texts
-      → IsFront (joined (take n texts)) (lines_of (take n texts))
-      × (start_of from ends k + length (joined (take n texts)) ≤ start_of from ends (k + n))
-  unfolding joined
-  front_from k texts zero long below zip =
-      let same : start_of from ends k ≡ start_of from ends (k + 0) =
-      ap (start_of from ends) (omega arith) in
-      (front_none, omega (arith, same))
-  front_from k [] (suc n) long below zip = absurd (omega (arith, below))
-  front_from k (text ∷ texts) (suc n) long below zip =
-      let others : (k + 1 == length ends) ≡ false =
-      ne_eqb (k + 1) (length ends) (λ same. omega (arith, same, long, below)) in
-      let one = zip.0 in
-      let rest = front_from (k + 1) texts n (omega (arith, long)) (omega (arith, below)) zip.1 in
-      let here : start_of from ends k + length text ≤ get_or ends k 0 = one.within others in
-      let next : start_of from ends (k + 1) ≡ get_or ends k 0 = next_start from ends k in
-      let last : start_of from ends (k + 1 + n) ≡ start_of from ends (k + suc n) =
-      ap (start_of from ends) (omega arith) in (
-        front_more text (joined (take n texts)) (plain_records text) (lines_of (take n texts))
-            (one.front others) rest.0,
-        omega (
-          arith,
-          here,
-          next,
-          last,
-          rest.1,
-          length-append text (joined (take n texts)),
-        ),
-      )
+  -- one section and those behind it are a range
+  range_more : (start mid past : ℕ) (first rest : List ℕ) → start ≤ mid → mid ≤ past
+      → IfSome bytes (λ all. first ≡ between start mid all)
+      → IfSome bytes (λ all. rest ≡ between mid past all)
+      → IfSome bytes (λ all. first ++ rest ≡ between start past all)
+  range_more start mid past first rest one two here behind = by bytes here behind
+    where
+      by : (o : Option (List ℕ)) → IfSome o (λ all. first ≡ between start mid all)
+          → IfSome o (λ all. rest ≡ between mid past all)
+          → IfSome o (λ all. first ++ rest ≡ between start past all)
+      by None here behind = tt
+      by (Some all) here behind =
+          ap (λ t. t ++ rest) here ∙ ap (λ t. between start mid all ++ t) behind
+          ∙ sym (between_more start mid past all one two)
 
-  -- all of them
-  whole_from : (k : ℕ) (text : List ℕ) (texts : List (List ℕ))
-      → k + suc (length texts) ≡ length ends
-      → AllZip RangeAt (range_with_len k (suc (length texts))) (text ∷ texts)
-      → ArePlain (text ∷ texts)
-      → (records default_config (joined (text ∷ texts)) ≡ lines_of (text ∷ texts))
-      × (start_of from ends k + length (joined (text ∷ texts)) ≤ 1073741824)
-  unfolding joined
-  whole_from k text [] long zip plain =
-      let quotes : has_quote text ≡ false = plain 0 [] (omega arith) in (
-        ap (records default_config) (append-nil text) ∙ plain_text text quotes
-            ∙ sym (append-nil (plain_records text)),
-        omega (arith, zip.0.short, length-append text []),
-      )
-  whole_from k text (next ∷ texts) long zip plain =
-      let others : (k + 1 == length ends) ≡ false =
-      ne_eqb (k + 1) (length ends) (λ same. omega (arith, same, long)) in
-      let one = zip.0 in
-      let rest = whole_from (k + 1) next texts (omega (arith, long)) zip.1
-      (λ j d below. plain (suc j) d (omega (arith, below))) in
-      let here : start_of from ends k + length text ≤ get_or ends k 0 = one.within others in
-      let start : start_of from ends (k + 1) ≡ get_or ends k 0 = next_start from ends k in (
-        (one.front others).gives (joined (next ∷ texts))
-            ∙ ap (λ rs. plain_records text ++ rs) rest.0,
-        omega (arith, here, start, rest.1, length-append text (joined (next ∷ texts))),
-      )
+  range_none : (place : ℕ) → IfSome bytes (λ all. [] ≡ between place place all)
+  range_none place = by bytes
+    where
+      by : (o : Option (List ℕ)) → IfSome o (λ all. [] ≡ between place place all)
+      by None = tt
+      by (Some all) = sym (between_none place all)
 
-  module _ (are : AreRangeEnds from ends) (told : List (Result Judged Halt))
-      (t : AreTexts (range_with_len 0 (length ends)) told) (all : length told ≡ length ends) where
-    ranged : AllZip RangeAt (range_with_len 0 (length t.texts)) t.texts
-    ranged =
-        subst (λ n. AllZip RangeAt (range_with_len 0 n) t.texts) (sym (t.long ∙ all)) t.ranges
+  module _ (size : ℕ) (are : AreRangeEnds from size ends) where
+    -- the first of some sections are whole lines between two places
+    record AreFirst (start past n : ℕ) (texts : List (List ℕ)) : Type 0 where
+      pub front : IsFront (joined (take n texts)) (lines_of (take n texts))
+      pub within : start + length (joined (take n texts)) ≤ past
+      pub ordered : start ≤ past
+      pub is : IfSome bytes (λ all. joined (take n texts) ≡ between start past all)
 
-    front : (n : ℕ) → n < length t.texts
-        → IsFront (joined (take n t.texts)) (lines_of (take n t.texts))
-        × (from + length (joined (take n t.texts)) ≤ start_of from ends n)
-    front n below =
-        let found = front_from 0 t.texts n (omega (arith, t.long, all)) below ranged in
-        let same : start_of from ends (0 + n) ≡ start_of from ends n =
+    front_from : (k : ℕ) (texts : List (List ℕ)) (n : ℕ) → k + length texts ≡ length ends
+        → n < length texts → AllZip RangeAt (range_with_len k (length texts)) texts
+        → ArePlain (take n texts)
+        → AreFirst (start_of from ends k) (start_of from ends (k + n)) n texts
+    unfolding joined
+    front_from k texts zero long below zip plain =
+        let same : start_of from ends k ≡ start_of from ends (k + 0) =
         ap (start_of from ends) (omega arith) in
-        (found.0, omega (arith, found.1, same))
-
-    whole : ArePlain t.texts
-        → (records default_config (joined t.texts) ≡ lines_of t.texts)
-        × (from + length (joined t.texts) ≤ 1073741824)
-    whole plain = by t.texts refl
-      where
-        by : (texts : List (List ℕ)) → t.texts ≡ texts
-            → (records default_config (joined t.texts) ≡ lines_of t.texts)
-            × (from + length (joined t.texts) ≤ 1073741824)
-        by [] none =
-            absurd (omega (arith, ap (length {A = List ℕ}) none, t.long, all, are.follow.some))
-        by (text ∷ texts) is =
-            let Is : List (List ℕ) → Type 0 =
-            λ ts. (records default_config (joined ts) ≡ lines_of ts)
-            × (from + length (joined ts) ≤ 1073741824) in
-            subst Is (sym is)
-            (whole_from 0 text texts
-            (omega (arith, ap (length {A = List ℕ}) is, t.long, all))
-            (subst (λ ts. AllZip RangeAt (range_with_len 0 (length ts)) ts) is ranged)
-            (subst ArePlain is plain))
-
-    -- the first of them, which have no quotes
-    first : (n : ℕ) → n ≤ length t.texts → ArePlain (take n t.texts)
-        → (records default_config (joined (take n t.texts)) ≡ lines_of (take n t.texts))
-        × (from + length (joined (take n t.texts)) ≤ 1073741824)
-    first n within plain =
-        ⊎_elim
-        (λ (below : n < length t.texts).
-        let found = front n below in
-        let start : start_of from ends n ≤ 1073741824 =
-        range_start from ends are n (omega (arith, below, t.long, all)) in (
-          front_all (joined (take n t.texts)) (lines_of (take n t.texts)) found.0,
-          omega (arith, found.1, start),
-        ))
-        (λ (past : length t.texts ≤ n).
-        let same : take n t.texts ≡ t.texts = take_all n t.texts past in
-        let Is : List (List ℕ) → Type 0 =
-        λ ts. (records default_config (joined ts) ≡ lines_of ts)
-        × (from + length (joined ts) ≤ 1073741824) in
-        subst Is (sym same) (whole (subst ArePlain same plain)))
-        (cases_lt n (length t.texts))
-
-    -- ## What is found of all of them
-
-    pub ranges_judged : (a : Appended) → AreAppended p elements table [] t.texts a
-        → a.count ≤ length t.texts → AreRangesJudged p elements table [] from a.all
-    ranges_judged a is within =
-        let found = first a.count within is.plain in
         record {
-          text = joined (take a.count t.texts);
-          short = found.1;
-          judged = subst (λ rs. IsJudgedPart p elements table rs a.all) (sym found.0) is.part;
+          front = front_none;
+          within = omega (arith, same);
+          ordered = omega (arith, same);
+          is = subst (λ past. IfSome bytes (λ all. [] ≡ between (start_of from ends k) past all))
+              same (range_none (start_of from ends k));
+        }
+    front_from k [] (suc n) long below zip plain = absurd (omega (arith, below))
+    front_from k (text ∷ texts) (suc n) long below zip plain =
+        let others : (k + 1 == length ends) ≡ false =
+        ne_eqb (k + 1) (length ends) (λ same. omega (arith, same, long, below)) in
+        let one = zip.0 (plain 0 [] (omega arith)) in
+        let rest = front_from (k + 1) texts n (omega (arith, long)) (omega (arith, below)) zip.1
+        (λ j d there. plain (suc j) d (omega (arith, there))) in
+        let here : start_of from ends k + length text ≤ get_or ends k 0 = one.within others in
+        let up : start_of from ends k ≤ get_or ends k 0 =
+        are.follow.ordered k (omega (arith, long)) in
+        let next : start_of from ends (k + 1) ≡ get_or ends k 0 = next_start from ends k in
+        let last : start_of from ends (k + 1 + n) ≡ start_of from ends (k + suc n) =
+        ap (start_of from ends) (omega arith) in
+        record {
+          front = front_more text (joined (take n texts)) (plain_records text)
+              (lines_of (take n texts)) (one.front others) rest.front;
+          within = omega (
+            arith,
+            here,
+            next,
+            last,
+            rest.within,
+            length-append text (joined (take n texts)),
+          );
+          ordered = omega (arith, up, next, last, rest.ordered);
+          is = range_more (start_of from ends k) (get_or ends k 0) (start_of from ends (k + suc n))
+              text (joined (take n texts)) up (omega (arith, next, last, rest.ordered))
+              one.range.is
+              (subst (λ past. IfSome bytes (λ all.
+              joined (take n texts) ≡ between (get_or ends k 0) past all)) last
+              (subst (λ mid. IfSome bytes (λ all.
+              joined (take n texts) ≡ between mid (start_of from ends (k + 1 + n)) all)) next
+              rest.is));
         }
 
-    pub ranges_refused : (e : TraceError) → IsRefusedWithin elements table [] t.texts e
-        → AreRangesRefused elements table [] from e
-    ranges_refused e is =
-        let found = first is.count is.within is.plain in
+    -- all of them
+    record AreAll (k : ℕ) (texts : List (List ℕ)) : Type 0 where
+      pub gives : records default_config (joined texts) ≡ lines_of texts
+      pub range : IsRange bytes (start_of from ends k) size (joined texts)
+
+    whole_from : (k : ℕ) (text : List ℕ) (texts : List (List ℕ))
+        → k + suc (length texts) ≡ length ends
+        → AllZip RangeAt (range_with_len k (suc (length texts))) (text ∷ texts)
+        → ArePlain (text ∷ texts) → AreAll k (text ∷ texts)
+    unfolding joined
+    whole_from k text [] long zip plain =
+        let quotes : has_quote text ≡ false = plain 0 [] (omega arith) in
+        let one = zip.0 quotes in
+        let at : length ends - 1 ≡ k = omega (arith, long) in
+        let last : get_or ends k 0 ≡ size =
+        ap (λ i. get_or ends i 0) (sym at) ∙ are.follow.last in
         record {
-          text = joined (take is.count t.texts);
-          short = found.1;
-          refused =
-              subst (λ rs. IsRefusal (with_records elements (columns_in table) [] rs) e)
-              (sym found.0) is.refused;
+          gives =
+              ap (records default_config) (append-nil text) ∙ plain_text text quotes
+              ∙ sym (append-nil (plain_records text));
+          range = subst (IsRange bytes (start_of from ends k) size) (sym (append-nil text))
+              (subst (λ past. IsRange bytes (start_of from ends k) past text) last one.range);
+        }
+    whole_from k text (next ∷ texts) long zip plain =
+        let others : (k + 1 == length ends) ≡ false =
+        ne_eqb (k + 1) (length ends) (λ same. omega (arith, same, long)) in
+        let one = zip.0 (plain 0 [] (omega arith)) in
+        let rest = whole_from (k + 1) next texts (omega (arith, long)) zip.1
+        (λ j d below. plain (suc j) d (omega (arith, below))) in
+        let here : start_of from ends k + length text ≤ get_or ends k 0 = one.within others in
+        let start : start_of from ends (k + 1) ≡ get_or ends k 0 = next_start from ends k in
+        record {
+          gives =
+              (one.front others).gives (joined (next ∷ texts))
+              ∙ ap (λ rs. plain_records text ++ rs) rest.gives;
+          range = record {
+            short = omega (
+              arith,
+              here,
+              start,
+              rest.range.short,
+              length-append text (joined (next ∷ texts)),
+            );
+            is = range_more (start_of from ends k) (get_or ends k 0) size text
+                (joined (next ∷ texts)) (are.follow.ordered k (omega (arith, long)))
+                (range_past from size ends are k (omega (arith, long))) one.range.is
+                (subst (λ mid. IfSome bytes (λ all.
+                joined (next ∷ texts) ≡ between mid size all)) start rest.range.is);
+          };
         }
 
-    -- the rest of them is judged behind the first
-    pub onward_judged : (n : ℕ) (j : Judged) → n < length t.texts
-        → AreRangesJudged p elements table (lines_of (take n t.texts)) (start_of from ends n) j
-        → AreRangesJudged p elements table [] from j
-    onward_judged n j below is =
-        let found = front n below in
-        let text : List ℕ = joined (take n t.texts) in
-        record {
-          text = text ++ is.text;
-          short = omega (arith, found.1, is.short, length-append text is.text);
-          judged = subst (λ rs. IsJudgedPart p elements table rs j) (sym (found.0.gives is.text))
-              is.judged;
-        }
+    module _ (told : List (Result Judged Halt))
+        (t : AreTexts (range_with_len 0 (length ends)) told) (all : length told ≡ length ends) where
+      ranged : AllZip RangeAt (range_with_len 0 (length t.texts)) t.texts
+      ranged =
+          subst (λ n. AllZip RangeAt (range_with_len 0 n) t.texts) (sym (t.long ∙ all)) t.ranges
 
-    refused_onward : (n : ℕ) (e : TraceError) → n < length t.texts
-        → AreRangesRefused elements table (lines_of (take n t.texts)) (start_of from ends n) e
-        → AreRangesRefused elements table [] from e
-    refused_onward n e below is =
-        let found = front n below in
-        let text : List ℕ = joined (take n t.texts) in
-        record {
-          text = text ++ is.text;
-          short = omega (arith, found.1, is.short, length-append text is.text);
-          refused =
-              subst (λ rs. IsRefusal (with_records elements (columns_in table) [] rs) e)
-              (sym (found.0.gives is.text)) is.refused;
-        }
+      front : (n : ℕ) → n < length t.texts → ArePlain (take n t.texts)
+          → AreFirst from (start_of from ends n) n t.texts
+      front n below plain =
+          let same : start_of from ends (0 + n) ≡ start_of from ends n =
+          ap (start_of from ends) (omega arith) in
+          subst (λ past. AreFirst from past n t.texts) same
+          (front_from 0 t.texts n (omega (arith, t.long, all)) below ranged plain)
 
-    pub onward_halted : (n : ℕ) (h : Halt) → n < length t.texts
-        → IsRangesHalt elements table (lines_of (take n t.texts)) (start_of from ends n) h
-        → IsRangesHalt elements table [] from h
-    onward_halted n (halt.Load e) below bad = tt
-    onward_halted n (halt.Refused e) below bad = refused_onward n e below bad
-    onward_halted n (halt.Early e) below bad = tt
-    onward_halted n (halt.Stopped judged line) below bad = tt
-    onward_halted n halt.Quoted below bad = tt
+      whole : ArePlain t.texts → AreAll 0 t.texts
+      whole plain = by t.texts refl
+        where
+          by : (texts : List (List ℕ)) → t.texts ≡ texts → AreAll 0 t.texts
+          by [] none =
+              absurd (omega (arith, ap (length {A = List ℕ}) none, t.long, all, are.follow.some))
+          by (text ∷ texts) is =
+              subst (AreAll 0) (sym is)
+              (whole_from 0 text texts
+              (omega (arith, ap (length {A = List ℕ}) is, t.long, all))
+              (subst (λ ts. AllZip RangeAt (range_with_len 0 (length ts)) ts) is ranged)
+              (subst ArePlain is plain))
+
+      -- a text behind the first of them
+      behind : (n : ℕ) (text : List ℕ) → AreFirst from (start_of from ends n) n t.texts
+          → IsRange bytes (start_of from ends n) size text → n ≤ length ends
+          → IsRange bytes from size (joined (take n t.texts) ++ text)
+      behind n text first range within = record {
+        short = omega (
+          arith,
+          first.within,
+          range.short,
+          length-append (joined (take n t.texts)) text,
+        );
+        is = range_more from (start_of from ends n) size (joined (take n t.texts)) text
+            first.ordered (range_start from size ends are n within) first.is range.is;
+      }
+
+      -- what the file has behind the first of them, where it tells its bytes
+      rest_of : (n : ℕ) → n ≤ length ends
+          → (text : List ℕ) × IsRange bytes (start_of from ends n) size text
+      rest_of n within = by bytes refl
+        where
+          start : start_of from ends n ≤ size
+          start = range_start from size ends are n within
+
+          by : (o : Option (List ℕ)) → bytes ≡ o
+              → (text : List ℕ) × IsRange bytes (start_of from ends n) size text
+          by None none = (
+            [],
+            record {
+              short = omega (arith, start, are.short);
+              is = subst (λ o. IfSome o (λ all. [] ≡ between (start_of from ends n) size all))
+                  (sym none) tt;
+            },
+          )
+          by (Some all) some = (
+            between (start_of from ends n) size all,
+            record {
+              short = omega (
+                arith,
+                start,
+                are.short,
+                between_long (start_of from ends n) size all,
+              );
+              is = subst (λ o. IfSome o (λ all'.
+                  between (start_of from ends n) size all
+                  ≡ between (start_of from ends n) size all')) (sym some) refl;
+            },
+          )
+
+      -- ## What is found of all of them
+
+      pub ranges_judged : (a : Appended) → AreAppended p elements table [] t.texts a
+          → length t.texts ≤ a.count → AreRangesJudged p elements table [] bytes from size a.all
+      ranges_judged a is past =
+          let same : take a.count t.texts ≡ t.texts = take_all a.count t.texts past in
+          let found = whole (subst ArePlain same is.plain) in
+          record {
+            text = joined t.texts;
+            range = found.range;
+            judged = subst (λ rs. IsJudgedPart p elements table rs a.all)
+                (ap lines_of same ∙ sym found.gives) is.part;
+          }
+
+      pub ranges_refused : (e : TraceError) → IsRefusedWithin elements table [] t.texts e
+          → AreRangesRefused elements table [] bytes from size e
+      ranges_refused e is =
+          elim (cases_lt is.count (length t.texts)) [
+            | inl below ↦
+                let found = front is.count below is.plain in
+                let within : is.count ≤ length ends = omega (arith, below, t.long, all) in
+                let more = rest_of is.count within in
+                let rows = lines_of (take is.count t.texts) in
+                record {
+                  text = joined (take is.count t.texts) ++ more.0;
+                  range = behind is.count more.0 found more.1 within;
+                  refused =
+                      subst (λ rs. IsRefusal (with_records elements (columns_in table) [] rs) e)
+                      (sym (found.front.gives more.0))
+                      (refused_on elements (columns_in table) [] rows
+                      (records default_config more.0) e is.refused);
+                }
+            | inr past ↦
+                let same : take is.count t.texts ≡ t.texts = take_all is.count t.texts past in
+                let found = whole (subst ArePlain same is.plain) in
+                record {
+                  text = joined t.texts;
+                  range = found.range;
+                  refused =
+                      subst (λ rs. IsRefusal (with_records elements (columns_in table) [] rs) e)
+                      (ap lines_of same ∙ sym found.gives) is.refused;
+                }
+          ]
+
+      -- the rest of them is judged behind the first
+      pub onward_judged : (n : ℕ) (j : Judged) → n < length t.texts → ArePlain (take n t.texts)
+          → AreRangesJudged p elements table (lines_of (take n t.texts)) bytes
+          (start_of from ends n) size j
+          → AreRangesJudged p elements table [] bytes from size j
+      onward_judged n j below plain is =
+          let found = front n below plain in
+          record {
+            text = joined (take n t.texts) ++ is.text;
+            range = behind n is.text found is.range (omega (arith, below, t.long, all));
+            judged = subst (λ rs. IsJudgedPart p elements table rs j)
+                (sym (found.front.gives is.text)) is.judged;
+          }
+
+      refused_onward : (n : ℕ) (e : TraceError) → n < length t.texts → ArePlain (take n t.texts)
+          → AreRangesRefused elements table (lines_of (take n t.texts)) bytes
+          (start_of from ends n) size e
+          → AreRangesRefused elements table [] bytes from size e
+      refused_onward n e below plain is =
+          let found = front n below plain in
+          record {
+            text = joined (take n t.texts) ++ is.text;
+            range = behind n is.text found is.range (omega (arith, below, t.long, all));
+            refused =
+                subst (λ rs. IsRefusal (with_records elements (columns_in table) [] rs) e)
+                (sym (found.front.gives is.text)) is.refused;
+          }
+
+      pub onward_halted : (n : ℕ) (h : Halt) → n < length t.texts → ArePlain (take n t.texts)
+          → IsRangesHalt elements table (lines_of (take n t.texts)) bytes (start_of from ends n)
+          size h
+          → IsRangesHalt elements table [] bytes from size h
+      onward_halted n (halt.Load e) below plain bad = tt
+      onward_halted n (halt.Refused e) below plain bad = refused_onward n e below plain bad
+      onward_halted n (halt.Early e) below plain bad = tt
+      onward_halted n (halt.Stopped judged line) below plain bad = tt
+      onward_halted n halt.Quoted below plain bad = tt
 
 -- memory ran out
-pub ranges_memory : (elements : Elements) (table : ColumnTable) (rows : List Record) (from : ℕ)
-    (e : TraceError) → from ≤ 1073741824 → error_number e ≡ 0
-    → AreRangesRefused elements table rows from e
-ranges_memory elements table rows from e short none = record {
-  text = [];
-  short = omega (arith, short);
-  refused = inl none;
-}
+pub ranges_memory : (elements : Elements) (table : ColumnTable) (rows : List Record)
+    (bytes : Option (List ℕ)) (from size : ℕ) (e : TraceError) → from ≤ size
+    → size ≤ 1073741824 → error_number e ≡ 0
+    → AreRangesRefused elements table rows bytes from size e
+ranges_memory elements table rows bytes from size e ordered short none = by bytes
+  where
+    by : (o : Option (List ℕ)) → AreRangesRefused elements table rows o from size e
+    by None = record {
+      text = [];
+      range = record { short = omega (arith, ordered, short); is = tt };
+      refused = inl none;
+    }
+    by (Some all) = record {
+      text = between from size all;
+      range = record {
+        short = omega (arith, ordered, short, between_long from size all);
+        is = refl;
+      };
+      refused = inl none;
+    }
 
 -- ## The rest by one worker
 
-module _ (p : FlatProgram) (elements : Elements) (table : ColumnTable) (start : ℕ)
-    (rows : List Record) (w after : Window) (old new : Left) (nothing : text_in w ≡ [])
-    (from : old.given ≡ start) (fits : new.given ≤ 1073741824) where
-  onward_count : (read : HasRead w after old new) → new.given ≡ start + length read.more
+module _ (p : FlatProgram) (elements : Elements) (table : ColumnTable)
+    (bytes : Option (List ℕ)) (start size : ℕ) (rows : List Record) (w after : Window)
+    (old new : Left) (nothing : text_in w ≡ []) (goes_on : w.is_over ≡ false)
+    (whole : old.coming ≡ told_between start size bytes) (from : old.given ≡ start)
+    (fits : new.given ≤ 1073741824) where
+  onward_count : (read : HasRead w after old new) → start + length read.more ≤ 1073741824
   onward_count read =
+      let long : new.given ≡ start + length read.more =
       read_from start (length read.more) new.given
-      (read.given ∙ ap (λ n. count_more n (length read.more)) from) fits
+      (read.given ∙ ap (λ n. count_more n (length read.more)) from) fits in
+      omega (arith, long, fits)
+
+  at_end : HasRead w after old new → after.is_over ≡ true → IsAtEnd new.coming
+  at_end read over =
+      read.over (λ before. absurd (false≢true (sym goes_on ∙ before))) over
+
+  onward_came : (read : HasRead w after old new)
+      → Consumes (told_between start size bytes) new.coming read.more
+  onward_came read = subst (λ o. Consumes o new.coming read.more) whole read.consumed
 
   pub rest_judged : (j : Judged) → IsRestJudged p elements table rows w after old new j
-      → AreRangesJudged p elements table rows start j
+      → AreRangesJudged p elements table rows bytes start size j
   rest_judged j is = record {
     text = is.read.more;
-    short = omega (arith, onward_count is.read, fits);
+    range = record {
+      short = onward_count is.read;
+      is = all_between bytes new.coming start size is.read.more (onward_came is.read)
+          (at_end is.read is.over);
+    };
     judged = subst (λ t. IsJudgedPart p elements table (rows ++ records default_config t) j)
         (ap (λ t. t ++ is.read.more) nothing) is.judged;
   }
 
-  rest_refused : (e : TraceError) → HasRefused elements table rows w after old new e
-      → AreRangesRefused elements table rows start e
-  rest_refused e is =
-      let more : List ℕ = is.read.more in
-      let others = is.begins [] (λ over. refl) in
-      let all : records default_config more ≡ is.more ++ others.0 =
-      ap (records default_config)
-      (sym (append-nil (text_in w ++ more) ∙ ap (λ t. t ++ more) nothing))
-      ∙ others.1 in
-      record {
-        text = more;
-        short = omega (arith, onward_count is.read, fits);
-        refused =
-            subst (λ rs. IsRefusal (with_records elements (columns_in table) [] rs) e)
-            (append_assoc rows is.more others.0 ∙ ap (λ rs. rows ++ rs) (sym all))
-            (refused_on elements (columns_in table) [] (rows ++ is.more) others.0 e is.refused);
-      }
+  module _ (ordered : start ≤ size) (short : size ≤ 1073741824) where
+    rest_refused : (e : TraceError) → HasRefused elements table rows w after old new e
+        → AreRangesRefused elements table rows bytes start size e
+    rest_refused e is =
+        let more : List ℕ = is.read.more in
+        let tail : List ℕ = still bytes new.coming in
+        let others = is.begins tail (λ over. still_none bytes new.coming (at_end is.read over)) in
+        let all : records default_config (more ++ tail) ≡ is.more ++ others.0 =
+        ap (records default_config) (ap (λ t. (t ++ more) ++ tail) (sym nothing)) ∙ others.1 in
+        record {
+          text = more ++ tail;
+          range = record {
+            short = still_short bytes new.coming start size more (onward_came is.read)
+                ordered short (onward_count is.read);
+            is = still_between bytes new.coming start size more (onward_came is.read);
+          };
+          refused =
+              subst (λ rs. IsRefusal (with_records elements (columns_in table) [] rs) e)
+              (append_assoc rows is.more others.0 ∙ ap (λ rs. rows ++ rs) (sym all))
+              (refused_on elements (columns_in table) [] (rows ++ is.more) others.0 e is.refused);
+        }
 
-  pub rest_halted : (h : Halt) → IsRestRefused elements table rows w after old new h
-      → IsRangesHalt elements table rows start h
-  rest_halted (halt.Load e) bad = tt
-  rest_halted (halt.Refused e) bad = rest_refused e bad
-  rest_halted (halt.Early e) bad = tt
-  rest_halted (halt.Stopped judged line) bad = tt
-  rest_halted halt.Quoted bad = tt
+    pub rest_halted : (h : Halt) → IsRestRefused elements table rows w after old new h
+        → IsRangesHalt elements table rows bytes start size h
+    rest_halted (halt.Load e) bad = tt
+    rest_halted (halt.Refused e) bad = rest_refused e bad
+    rest_halted (halt.Early e) bad = tt
+    rest_halted (halt.Stopped judged line) bad = tt
+    rest_halted halt.Quoted bad = tt
 
 -- what stopped the sections is told
-pub halt_told : (elements : Elements) (table : ColumnTable) (rows : List Record) (from : ℕ)
-    (h : Halt) → from ≤ 1073741824 → IsToldOn h → IsRangesHalt elements table rows from h
-halt_told elements table rows from (halt.Load e) short told = absurd told
-halt_told elements table rows from (halt.Refused e) short told =
-    ranges_memory elements table rows from e short told
-halt_told elements table rows from (halt.Early e) short told = tt
-halt_told elements table rows from (halt.Stopped judged line) short told = tt
-halt_told elements table rows from halt.Quoted short told = tt
+pub halt_told : (elements : Elements) (table : ColumnTable) (rows : List Record)
+    (bytes : Option (List ℕ)) (from size : ℕ) (h : Halt) → from ≤ size → size ≤ 1073741824
+    → IsToldOn h → IsRangesHalt elements table rows bytes from size h
+halt_told elements table rows bytes from size (halt.Load e) ordered short told = absurd told
+halt_told elements table rows bytes from size (halt.Refused e) ordered short told =
+    ranges_memory elements table rows bytes from size e ordered short told
+halt_told elements table rows bytes from size (halt.Early e) ordered short told = tt
+halt_told elements table rows bytes from size (halt.Stopped judged line) ordered short told = tt
+halt_told elements table rows bytes from size halt.Quoted ordered short told = tt
 
 -- how many of the sections are judged
 pub halt_within : (count all : ℕ) (h : Option Halt) → IsHaltAfter count all h → count ≤ all

@@ -113,10 +113,3 @@ read_behind xs items buffer rest more size start end count same ordered within f
     with_more items (take size (all ++ more)) (take count buffer) start end count ordered front
     (range_in all more size end count room long
     ∙ stands_behind xs buffer rest end count within fits)
-
--- from the begin of a list
-pub from_begin : (items more : List ℕ) → take (length more) (drop 0 items) ≡ more
-    → take (length more - 0) (drop 0 items) ≡ more
-from_begin items more there =
-    let all : length more - 0 ≡ length more = omega arith in
-    ap (λ n. take n (drop 0 items)) all ∙ there

@@ -15,6 +15,6 @@ pub mod FeedJudging
 pub mod SectionEnds
 pub mod Sections
 pub mod QuotedTexts
-pub mod PlainHalts
+pub mod PlacedFiles
 pub mod Ranges
 pub mod RangeAnswers

@@ -1,9 +1,10 @@
 -- What the bench answers to a source and a file that is read in ranges.
 -- Source: this project's rule.
-use Rattle.std.specs.Prelude.{Result, Ok, Err}
+use Rattle.std.specs.Prelude.{ℕ, List, Option, Result, Ok, Err}
 use Rattle.lb_syntax.specs.Tokens.{Text}
 use Rattle.lb_pool.specs.declared.text.Report.{Report}
 use Rattle.lb_report.specs.Correct.{IsBenchAnswer}
+use Rattle.lb_report.specs.Ranges.{IsFileText}
 use Rattle.lb_report.specs.declared.feeding.FeedFault.{FeedFault}
 use Rattle.lb_report.specs.declared.feeding.FeedFault.TheVariants as fault
 use Rattle.lb_report.specs.declared.options.Options.{Options}
@@ -16,3 +17,11 @@ IsRangeAnswer source traces options (Ok report) = IsBenchAnswer source traces op
 IsRangeAnswer source traces options (Err (fault.Load e)) = Unit {0}
 IsRangeAnswer source traces options (Err (fault.Refused e)) =
     IsBenchAnswer source traces options (Err e)
+
+-- the same of a file's bytes; of some text where the file does not tell its bytes
+pub record IsFileAnswer (source : Text) (bytes : Option (List ℕ)) (options : Options)
+    (found : Result Report FeedFault)
+    : Type 0 where
+  pub traces : Text
+  pub is : IsFileText bytes traces
+  pub answer : IsRangeAnswer source traces options found

@@ -1,7 +1,7 @@
 -- Sections of a file, of which each is judged by itself.
 -- This file says what data of the program mean; no definition of the language stands on it.
-use Rattle.std.specs.Prelude.{ℕ, ◌≡◌, ◌≤◌, ◌+◌, List, [], ◌++◌, length, Result, Ok, Err}
-use Rattle.std.specs.Prelude.{Bool as Truth, false}
+use Rattle.std.specs.Prelude.{ℕ, ◌≡◌, ◌≤◌, ◌+◌, List, [], ◌++◌, length, Option, Result, Ok, Err}
+use Rattle.std.specs.Prelude.{Bool as Truth, false, IfSome}
 use Rattle.csv.specs.Reading.{default_config, records}
 use Rattle.lb_static.specs.Signature.{Elements}
 use Rattle.lb_traces.specs.Traces.{Traces}
@@ -15,80 +15,100 @@ use Rattle.lb_trace.specs.Texts.{IsFront}
 use Rattle.lb_trace.specs.declared.error.TraceError.{TraceError}
 use Rattle.lb_trace.specs.declared.table.ColumnTable.{ColumnTable}
 use Rattle.lb_report.specs.JudgedParts.{IsJudged, IsJudgedPart}
+use Rattle.lb_report.specs.PlacedFiles.{between}
 use Rattle.lb_report.specs.SectionEnds.{AreEnds}
-use Rattle.lb_report.specs.Sections.{IsSection}
+use Rattle.lb_report.specs.Sections.{IsSectionJudged, IsSetAside}
 use Rattle.lb_report.specs.declared.rounds.Halt.{Halt}
 use Rattle.lb_report.specs.declared.rounds.Halt.TheVariants as halt
 use Rattle.lb_report.specs.declared.rounds.Judged.{Judged}
 
--- sections follow one another from a place of a file on, to a place that is not too far
-pub record AreRangeEnds (from : ℕ) (ends : List ℕ) : Type 0 where
-  pub size : ℕ
+-- sections follow one another from a place of a file to its size, which is not too large
+pub record AreRangeEnds (from size : ℕ) (ends : List ℕ) : Type 0 where
   pub follow : AreEnds from size ends
   pub short : size ≤ 1073741824
 
--- the bytes from a place of a file on, so many that a trace text may have them; where other
--- sections stand behind it, they are whole lines that end before the next one begins
-pub record IsRange (start past : ℕ) (last : Truth) (text : List ℕ) : Type 0 where
+-- all bytes of a file between two places, so many that a trace text may have them
+pub record IsRange (bytes : Option (List ℕ)) (start past : ℕ) (text : List ℕ) : Type 0 where
   pub short : start + length text ≤ 1073741824
+  pub is : IfSome bytes (λ all. text ≡ between start past all)
+
+-- a section of a file is judged by itself; where other sections stand behind it, its bytes are
+-- whole lines that end before the next one begins
+pub record IsRangeJudged (p : FlatProgram) (elements : Elements) (table : ColumnTable)
+    (bytes : Option (List ℕ)) (start past : ℕ) (last : Truth) (j : Judged)
+    : Type 0 where
+  pub text : List ℕ
+  pub range : IsRange bytes start past text
   pub front : last ≡ false → IsFront text (plain_records text)
   pub within : last ≡ false → start + length text ≤ past
+  pub judged : IsSectionJudged p elements table text j
 
--- what a worker tells of a section of a file is so of some such bytes
-pub record IsRangeTold (p : FlatProgram) (elements : Elements) (table : ColumnTable)
-    (start past : ℕ) (last : Truth) (told : Result Judged Halt)
-    : Type 0 where
-  pub text : List ℕ
-  pub range : IsRange start past last text
-  pub section : IsSection p elements table text told
+-- what a worker tells of a section
+abbrev pub IsRangeTold :
+    FlatProgram → Elements → ColumnTable → (bytes : Option (List ℕ)) → (start past : ℕ)
+    → (last : Truth) → Result Judged Halt → Type 0
+IsRangeTold p elements table bytes start past last (Ok j) =
+    IsRangeJudged p elements table bytes start past last j
+IsRangeTold p elements table bytes start past last (Err h) = IsSetAside h
 
--- behind some records, the bytes from a place of a file on are judged
+-- behind some records, the bytes of a file between two places are judged
 pub record AreRangesJudged (p : FlatProgram) (elements : Elements) (table : ColumnTable)
-    (rows : List Record) (from : ℕ) (j : Judged)
+    (rows : List Record) (bytes : Option (List ℕ)) (from size : ℕ) (j : Judged)
     : Type 0 where
   pub text : List ℕ
-  pub short : from + length text ≤ 1073741824
+  pub range : IsRange bytes from size text
   pub judged : IsJudgedPart p elements table (rows ++ records default_config text) j
 
 -- they are refused
 pub record AreRangesRefused (elements : Elements) (table : ColumnTable) (rows : List Record)
-    (from : ℕ) (e : TraceError)
+    (bytes : Option (List ℕ)) (from size : ℕ) (e : TraceError)
     : Type 0 where
   pub text : List ℕ
-  pub short : from + length text ≤ 1073741824
+  pub range : IsRange bytes from size text
   pub refused :
       IsRefusal
       (with_records elements (columns_in table) [] (rows ++ records default_config text)) e
 
 -- nothing is said where they could not be read
 abbrev pub IsRangesHalt :
-    Elements → ColumnTable → (rows : List Record) → (from : ℕ) → Halt → Type 0
-IsRangesHalt elements table rows from (halt.Load e) = Unit {0}
-IsRangesHalt elements table rows from (halt.Refused e) =
-    AreRangesRefused elements table rows from e
-IsRangesHalt elements table rows from (halt.Early e) = Unit {0}
-IsRangesHalt elements table rows from (halt.Stopped judged line) = Unit {0}
-IsRangesHalt elements table rows from halt.Quoted = Unit {0}
+    Elements → ColumnTable → (rows : List Record) → (bytes : Option (List ℕ)) → (from size : ℕ)
+    → Halt → Type 0
+IsRangesHalt elements table rows bytes from size (halt.Load e) = Unit {0}
+IsRangesHalt elements table rows bytes from size (halt.Refused e) =
+    AreRangesRefused elements table rows bytes from size e
+IsRangesHalt elements table rows bytes from size (halt.Early e) = Unit {0}
+IsRangesHalt elements table rows bytes from size (halt.Stopped judged line) = Unit {0}
+IsRangesHalt elements table rows bytes from size halt.Quoted = Unit {0}
 
 -- ## A whole file
 
--- a text is judged
-pub record IsOutcomeJudged (p : FlatProgram) (elements : Elements) (j : Judged) : Type 0 where
+-- all bytes of a file, where it tells them
+abbrev pub IsFileText : (bytes : Option (List ℕ)) → (text : List ℕ) → Type 0
+IsFileText bytes text = IfSome bytes (λ all. text ≡ all)
+
+-- they are judged, as a text
+pub record IsOutcomeJudged (p : FlatProgram) (elements : Elements) (bytes : Option (List ℕ))
+    (j : Judged)
+    : Type 0 where
   pub text : List ℕ
+  pub is : IsFileText bytes text
   pub traces : Traces
   pub given : outcome elements text ≡ Ok traces
   pub judged : IsJudged p elements traces j
 
--- a text is refused
-pub record IsOutcomeRefused (elements : Elements) (e : TraceError) : Type 0 where
+-- the text is refused
+pub record IsOutcomeRefused (elements : Elements) (bytes : Option (List ℕ)) (e : TraceError)
+    : Type 0 where
   pub text : List ℕ
+  pub is : IsFileText bytes text
   pub refused : IsRefusal (outcome elements text) e
 
 -- nothing is said where it could not be read
-abbrev pub IsFileJudged : FlatProgram → Elements → Result Judged Halt → Type 0
-IsFileJudged p elements (Ok j) = IsOutcomeJudged p elements j
-IsFileJudged p elements (Err (halt.Load e)) = Unit {0}
-IsFileJudged p elements (Err (halt.Refused e)) = IsOutcomeRefused elements e
-IsFileJudged p elements (Err (halt.Early e)) = Unit {0}
-IsFileJudged p elements (Err (halt.Stopped judged line)) = Unit {0}
-IsFileJudged p elements (Err halt.Quoted) = Unit {0}
+abbrev pub IsFileJudged :
+    FlatProgram → Elements → (bytes : Option (List ℕ)) → Result Judged Halt → Type 0
+IsFileJudged p elements bytes (Ok j) = IsOutcomeJudged p elements bytes j
+IsFileJudged p elements bytes (Err (halt.Load e)) = Unit {0}
+IsFileJudged p elements bytes (Err (halt.Refused e)) = IsOutcomeRefused elements bytes e
+IsFileJudged p elements bytes (Err (halt.Early e)) = Unit {0}
+IsFileJudged p elements bytes (Err (halt.Stopped judged line)) = Unit {0}
+IsFileJudged p elements bytes (Err halt.Quoted) = Unit {0}

@@ -1,7 +1,7 @@
 -- A text in sections, of which each is judged by itself.
 -- This file says what data of the program mean; no definition of the language stands on it.
 use Rattle.std.specs.Prelude.{ℕ, ◌≡◌, ◌<◌, ◌≤◌, ◌++◌, List, [], Option, None, Some, Result, Ok, Err}
-use Rattle.std.specs.Prelude.{Bool as Truth, ◌⊎◌, drop, false, true, flat_map, length, map, take}
+use Rattle.std.specs.Prelude.{Bool as Truth, false, true, flat_map, length, map, take}
 use Rattle.std.specs.List.{All, range_with_len}
 use Rattle.lb_static.specs.Signature.{Elements}
 use Rattle.lb_flat.specs.declared.program.FlatProgram.{FlatProgram}
@@ -15,12 +15,10 @@ use Rattle.lb_trace.specs.declared.error.TraceError.{TraceError}
 use Rattle.lb_trace.specs.declared.table.ColumnTable.{ColumnTable}
 use Rattle.lb_report.specs.JudgedParts.{HasRoll, IsHalt, IsJudgedPart}
 use Rattle.lb_report.specs.SectionEnds.{section}
-use Rattle.lb_report.specs.Windows.{HasRead, IsLoadFault, Left, text_in}
 use Rattle.lb_report.specs.declared.rounds.Halt.{Halt}
 use Rattle.lb_report.specs.declared.rounds.Halt.TheVariants as halt
 use Rattle.lb_report.specs.declared.rounds.Judged.{Judged}
 use Rattle.lb_report.specs.declared.sections.Appended.{Appended}
-use Rattle.lb_report.specs.declared.window.Window.{Window}
 
 -- ## What is told of a section
 
@@ -63,19 +61,14 @@ is_alone (halt.Early e) = true
 is_alone (halt.Stopped judged line) = false
 is_alone halt.Quoted = true
 
--- what is told of a section of a file, which is joined to what stands behind it or not, and of
--- which some is left or not: it is to be judged again where it could not be read, or is neither
--- judged and joined nor refused before its end
-abbrev pub told_at_seam : (joined more : Truth) → Result Judged Halt → Result Judged Halt
-told_at_seam true more (Ok j) = Ok j
-told_at_seam false more (Ok j) = Err halt.Quoted
-told_at_seam joined more (Err (halt.Load e)) = Err halt.Quoted
-told_at_seam joined more (Err (halt.Refused e)) = Err (halt.Refused e)
-told_at_seam joined true (Err (halt.Early e)) = Err (halt.Early e)
-told_at_seam joined false (Err (halt.Early e)) = Err halt.Quoted
-told_at_seam joined true (Err (halt.Stopped judged line)) = Err (halt.Stopped judged line)
-told_at_seam joined false (Err (halt.Stopped judged line)) = Err halt.Quoted
-told_at_seam joined more (Err halt.Quoted) = Err halt.Quoted
+-- a worker does not judge its section, and tells nothing of the bytes: memory ran out, or it is to
+-- be judged again
+abbrev pub IsSetAside : Halt → Type 0
+IsSetAside (halt.Load e) = ⊥
+IsSetAside (halt.Refused e) = error_number e ≡ 0
+IsSetAside (halt.Early e) = ⊥
+IsSetAside (halt.Stopped judged line) = ⊥
+IsSetAside halt.Quoted = Unit {0}
 
 -- ## Sections one after the other
 
@@ -114,27 +107,6 @@ pub record IsRefusedWithin (elements : Elements) (table : ColumnTable) (rows : L
       IsRefusal (with_records elements (columns_in table) [] (rows ++ lines_of (take count texts)))
       e
 
--- ## Sections of a window
-
 -- the sections of a text
 abbrev pub sections_in : (text : List ℕ) → (ends : List ℕ) → List (List ℕ)
 sections_in text ends = map (section text ends) (range_with_len 0 (length ends))
-
--- a window has let go of so many bytes at its front, and has read on
-pub record HasTurned (count : ℕ) (before after : Window) (old new : Left) : Type 0 where
-  pub read : HasRead before after old new
-  pub text : text_in after ≡ drop count (text_in before) ++ read.more
-
--- why the sections of the bytes at its front were not judged: the feed is at fault, memory ran out,
--- or a line is refused
-abbrev pub IsTurnHalted :
-    Elements → ColumnTable → List Record → (texts : List (List ℕ)) → (count : ℕ)
-    → (before after : Window) → (old new : Left) → Halt → Type 0
-IsTurnHalted elements table rows texts count before after old new (halt.Load e) =
-    IsLoadFault before old new e
-IsTurnHalted elements table rows texts count before after old new (halt.Refused e) =
-    ((error_number e ≡ 0) × HasRead before after old new)
-    ⊎ (HasTurned count before after old new × IsRefusedWithin elements table rows texts e)
-IsTurnHalted elements table rows texts count before after old new (halt.Early e) = ⊥
-IsTurnHalted elements table rows texts count before after old new (halt.Stopped judged line) = ⊥
-IsTurnHalted elements table rows texts count before after old new halt.Quoted = ⊥

@@ -29,10 +29,6 @@ IsWithin w = w.read ≤ INPUT_LIMIT
 abbrev pub bytes_left : Window → ℕ
 bytes_left w = (INPUT_LIMIT - w.read) + (w.end - w.start)
 
--- a window without so many bytes at its front
-abbrev pub let_go_of : ℕ → Window → Window
-let_go_of count w = record w { start = w.start + count }
-
 -- how often it may still be read, at most, with what is in it
 abbrev pub turns_left : Window → ℕ
 turns_left w = bytes_left w + (if w.is_over then 0 else 1)

@@ -1,7 +1,6 @@
 //! The bench on traces that come from a feed.
 
-ghost use Rattle.std.specs.Prelude.{◌≡◌, ◌<◌, ◌≤◌, IfErr, IfOk, IfSome, OnOk, length, vec_len};
-ghost use Rattle.lb_syntax.specs.Tokens.{Text};
+ghost use Rattle.std.specs.Prelude.{◌≡◌, ◌<◌, ◌≤◌, IfErr, IfOk, IfSome, OnOk, length};
 ghost use Rattle.lb_traces.specs.Traces.{trace_names};
 ghost use Rattle.lb_pool.specs.Reports.{IsReport};
 ghost use Rattle.lb_report.specs.Bench.{OnlyProgram};
@@ -9,15 +8,15 @@ ghost use Rattle.lb_report.specs.FeedAnswers.{IsFeedAnswer};
 ghost use Rattle.lb_report.specs.FeedJudging.{IsJudgingFault, IsLastFault, IsProgramJudged};
 ghost use Rattle.lb_report.specs.FeedJudging.{fault_by, told_first, too_long};
 ghost use Rattle.lb_report.specs.JudgedParts.{IsTextJudged, IsTextRefused};
-ghost use Rattle.lb_report.specs.RangeAnswers.{IsRangeAnswer};
+ghost use Rattle.lb_report.specs.RangeAnswers.{IsFileAnswer};
 ghost use Rattle.lb_report.specs.Ranges.{IsFileJudged};
 ghost use Rattle.lb_report.specs.Windows.{IsWindow, left};
 
 use crate::answer::{AcceptedProgram, accept};
 use crate::error::BenchError;
 use crate::feed::{Feed, LoadError};
-use crate::file_chunks::size_of;
 use crate::options::Options;
+use crate::placed::{PlacedFile, first_bytes};
 use crate::rounds::{Halt, Judged, Rounds, row_bytes};
 use crate::sections::{TextFeed, ends_in_file, judge_by, judge_ranges};
 use crate::window::Window;
@@ -25,8 +24,6 @@ use lb_pool::{LaneProgram, Report, SetRunner, compile};
 use lb_trace::TraceError;
 use rayon::current_num_threads;
 use std::alloc::Global;
-use std::fs::OpenFile;
-use std::os::unix::fs::FileExt;
 use std::rt::Runtime;
 use std::thread::Threads;
 
@@ -146,20 +143,6 @@ where
     }
 }
 
-/// The bytes at the begin of a file of so many bytes, as far as its header is looked for.
-fn first_bytes<F: FileExt>(alloc: Global, file: &F, size: u64) -> Option<Vec<u8>>
-    ensures { IfSome result (λ bytes. vec_len bytes ≤ size) }
-{
-    let mut bytes = Vec::new(alloc);
-    let Ok(()) = bytes.resize(size.min(HEAD as u64) as usize, 0) else {
-        return None;
-    };
-    let Ok(()) = file.read_exact_at(bytes.as_mut_slice(), 0) else {
-        return None;
-    };
-    Some(bytes)
-}
-
 /// Judges the traces of a file of so many bytes by a program, in sections. None where nothing
 /// stands behind a header within the first bytes, and where the header has a quote, is refused or
 /// could not be read.
@@ -174,15 +157,17 @@ fn judged_file<R, F>(
 ) -> Option<Result<Judged, Halt>>
 where
     R: Threads + Sync,
-    F: FileExt + Sync,
-    requires { size ≤ 1073741824 }
-    ensures { IfSome result (IsFileJudged program.now.ordered.program program.now.signature) }
+    F: PlacedFile + Sync,
+    requires short { size ≤ 1073741824 }
+    requires size { IfSome (F.bytes file.now) (λ bytes. size ≡ length bytes) }
+    ensures { IfSome result (IsFileJudged program.now.ordered.program program.now.signature
+        (F.bytes file.now)) }
 {
     let Ok(lanes) = compile(alloc, &program.ordered) else {
         return None;
     };
     let rounds = rounds_of(alloc, program, &lanes, options, sizes);
-    let bytes = first_bytes(alloc, file, size)?;
+    let bytes = first_bytes(alloc, file, size.min(HEAD as u64) as usize)?;
     let Ok(mut window) = Window::new(alloc, HEAD) else {
         return None;
     };
@@ -198,7 +183,7 @@ where
     let Ok(ends) = ends_in_file(alloc, file, from, size, count) else {
         return None;
     };
-    Some(judge_ranges(rt, &rounds, &table, file, from, ends.as_slice()))
+    Some(judge_ranges(rt, &rounds, &table, file, from, size, ends.as_slice()))
 }
 
 /// As [`bench`](crate::bench) on the traces of a large file that is open, which several workers
@@ -215,12 +200,11 @@ pub fn bench_ranges<R, F>(
 ) -> Option<Result<Report, FeedFault>>
 where
     R: Runtime + AllocGlobal + Threads + Sync,
-    F: OpenFile + FileExt + Sync,
-    ensures { IfSome result (λ found. (traces : Text)
-        × IsRangeAnswer source.now traces options.now found) }
+    F: PlacedFile + Sync,
+    ensures { IfSome result (IsFileAnswer source.now (F.bytes file.now) options.now) }
 {
     let alloc = rt.alloc();
-    let size = size_of(file);
+    let size = file.size();
     if workers_of(rt, options) == 1 || size < sizes.least || size > MOST_BYTES as u64 {
         return None;
     }

@@ -11,6 +11,7 @@ mod judging;
 mod laws;
 mod live;
 mod options;
+mod placed;
 mod quoted;
 mod refusal;
 mod rounds;
@@ -29,4 +30,5 @@ pub use lb_pool::{
 };
 pub use live::{FollowFault, follow, follow_file};
 pub use options::Options;
+pub use placed::{FilePlaces, PlacedFile};
 pub use refusal::word;

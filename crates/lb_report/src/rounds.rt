@@ -162,11 +162,10 @@ impl Rounds<'_, '_> {
     ghost use Rattle.lb_report.specs.JudgedParts.{HasRoll, IsHalt, IsHeadHalted, IsHeadRead};
     ghost use Rattle.lb_report.specs.JudgedParts.{IsJudgedPart, IsLastHalt};
     ghost use Rattle.lb_report.specs.JudgedParts.{IsPartRead, IsPiecesJudged, IsReading, IsReadOn};
-    ghost use Rattle.lb_report.specs.JudgedParts.{IsRestDone, IsRestHalted, IsRestRead, IsState};
+    ghost use Rattle.lb_report.specs.JudgedParts.{IsRestDone, IsRestRead, IsState};
     ghost use Rattle.lb_report.specs.declared.rounds.Halt.TheVariants.{Load};
     ghost use Rattle.lb_report.specs.declared.feed.LoadError.{LoadError};
-    ghost use Rattle.lb_report.specs.PlainHalts.{IsPlainHalted, IsPlainReading};
-    ghost use Rattle.lb_report.specs.Sections.{IsPlainHalt};
+    ghost use Rattle.lb_report.specs.Sections.{IsPlainHalt, IsSetAside};
     ghost use Rattle.lb_report.specs.Windows.{HasTaken, IsLoadFault, IsWindow, left};
     ghost use Rattle.lb_report.specs.Windows.{text_in, turns_left};
 
@@ -493,12 +492,6 @@ impl Rounds<'_, '_> {
         ensures on { IfErr result (IsReadOn self.now.signature.now window.new
             (left (F.coming feed.old) (F.given feed.old) (F.failures feed.old))
             (left (F.coming feed.new) (F.given feed.new) (F.failures feed.new))) }
-        ensures plain { IfErr result (λ reading. (rows : List Record)
-            → IsPartRead self.now.runner.program.now.program.now self.now.signature.now table.now
-            rows state
-            → IsPlainReading self.now.signature.now table.now rows window.old window.new
-            (left (F.coming feed.old) (F.given feed.old) (F.failures feed.old))
-            (left (F.coming feed.new) (F.given feed.new) (F.failures feed.new)) reading) }
     {
         let mut state = state;
         let count = match self.next_piece(feed, window) {
@@ -548,12 +541,6 @@ impl Rounds<'_, '_> {
         ensures on { IfErr result (IsReadOn self.now.signature.now window.new
             (left (F.coming feed.old) (F.given feed.old) (F.failures feed.old))
             (left (F.coming feed.new) (F.given feed.new) (F.failures feed.new))) }
-        ensures plain { IfErr result (λ reading. (rows : List Record)
-            → IsPartRead self.now.runner.program.now.program.now self.now.signature.now table.now
-            rows begun
-            → IsPlainReading self.now.signature.now table.now rows window.old window.new
-            (left (F.coming feed.old) (F.given feed.old) (F.failures feed.old))
-            (left (F.coming feed.new) (F.given feed.new) (F.failures feed.new)) reading) }
     {
         let mut state = self.read_piece(feed, window, table, begun)?;
         'pieces: while !window.is_done() {
@@ -563,7 +550,8 @@ impl Rounds<'_, '_> {
         Ok(self.last_round(state)?)
     }
 
-    /// Judges all traces of a section of a text.
+    /// Judges all traces of a section of a text. Where they are not judged, memory ran out, or the
+    /// section is to be judged again with what follows it.
     pub(crate) fn judge_section<F: Feed>(
         &self,
         feed: &mut F,
@@ -580,20 +568,12 @@ impl Rounds<'_, '_> {
             [] window.old window.new
             (left (F.coming feed.old) (F.given feed.old) (F.failures feed.old))
             (left (F.coming feed.new) (F.given feed.new) (F.failures feed.new)) judged) }
-        ensures err { IfErr result (λ halt. IsRestHalted self.now.signature.now table.now
-            [] window.old window.new
-            (left (F.coming feed.old) (F.given feed.old) (F.failures feed.old))
-            (left (F.coming feed.new) (F.given feed.new) (F.failures feed.new)) halt) }
-        ensures kept { IfErr result HasRoll }
-        ensures plain { IfErr result (IsPlainHalted self.now.signature.now table.now
-            [] window.old window.new
-            (left (F.coming feed.old) (F.given feed.old) (F.failures feed.old))
-            (left (F.coming feed.new) (F.given feed.new) (F.failures feed.new))) }
+        ensures err { IfErr result IsSetAside }
     {
         match self.judge_pieces(feed, window, table, self.begin()?) {
             Ok(judged) => Ok(judged),
-            Err(Reading::Quoted(_)) => Err(Halt::Quoted),
-            Err(Reading::Halted(halt)) => Err(halt),
+            Err(Reading::Halted(Halt::Refused(cause))) => Err(Halt::Refused(cause)),
+            Err(_) => Err(Halt::Quoted),
         }
     }
 

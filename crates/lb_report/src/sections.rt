@@ -19,23 +19,21 @@ ghost use Rattle.lb_trace.specs.Spelling.{Record};
 ghost use Rattle.lb_trace.specs.Tables.{IsColumnTable};
 ghost use Rattle.lb_report.specs.JudgedParts.{IsJudgedPart, IsRestJudged, IsRestRefused};
 ghost use Rattle.lb_report.specs.JudgedParts.{IsTextJudged, IsTextRefused};
+ghost use Rattle.lb_report.specs.PlacedFiles.{told_between};
 ghost use Rattle.lb_report.specs.Ranges.{AreRangeEnds, AreRangesJudged, IsRangeTold, IsRangesHalt};
 ghost use Rattle.lb_report.specs.SectionEnds.{AreEnds, AreSections, section, start_of};
 ghost use Rattle.lb_report.specs.Sections.{AreAppended, IsRefusedWithin, IsSection, KeepsRoll};
-ghost use Rattle.lb_report.specs.Sections.{HasTurned, IsTurnHalted, is_alone, sections_in};
-ghost use Rattle.lb_report.specs.Sections.{told_at_seam};
-ghost use Rattle.lb_report.specs.Windows.{HasTaken, IsLoadFault, IsWindow, left, let_go_of};
-ghost use Rattle.lb_report.specs.Windows.{Left, text_in};
+ghost use Rattle.lb_report.specs.Sections.{is_alone, sections_in};
+ghost use Rattle.lb_report.specs.Windows.{IsWindow, left};
 
-use crate::feed::{Feed, FeedFailed, LoadError};
+use crate::feed::{Feed, FeedFailed};
+use crate::placed::PlacedFile;
 use crate::rounds::{Halt, Judged, Rounds};
 use crate::window::Window;
 use lb_trace::{ColumnTable, TraceError, whole_traces};
 use rayon::prelude::*;
 use std::alloc::{AllocError, Global};
-use std::mem;
-use std::os::unix::fs::FileExt;
-use std::thread::{Threads, join_mut};
+use std::thread::Threads;
 
 /// How far the end of a trace is looked for at first, and at most.
 const PROBE: usize = 1 << 16;
@@ -99,11 +97,13 @@ pub(crate) struct RangeFeed<'f, F> {
     ghost short: { past ≤ 1073741824 },
 }
 
-impl<'f, F: FileExt> RangeFeed<'f, F> {
+impl<'f, F: PlacedFile> RangeFeed<'f, F> {
     /// A feed that has given nothing and has not failed yet.
     pub(crate) fn new(file: &'f F, at: u64, past: u64) -> RangeFeed<'f, F>
         requires ordered { at ≤ past }
         requires short { past ≤ 1073741824 }
+        ensures coming { ⟦<RangeFeed<'f, F> as Feed>⟧.coming result
+            ≡ told_between at past (F.bytes file.now) }
         ensures failures { ⟦<RangeFeed<'f, F> as Feed>⟧.failures result ≡ 0 }
         ensures given { ⟦<RangeFeed<'f, F> as Feed>⟧.given result ≡ at }
     {
@@ -116,7 +116,11 @@ impl<'f, F: FileExt> RangeFeed<'f, F> {
     }
 }
 
-impl<F: FileExt> Feed for RangeFeed<'_, F> {
+impl<F: PlacedFile> Feed for RangeFeed<'_, F> {
+    ghost use Rattle.lb_report.specs.PlacedFiles.{told_between};
+
+    ghost coming = { λ feed. told_between feed.at feed.past (F.bytes feed.file.now) };
+
     ghost failures = { λ feed. feed.failures };
 
     ghost given = { λ feed. feed.at };
@@ -128,9 +132,9 @@ impl<F: FileExt> Feed for RangeFeed<'_, F> {
                 self.at += count as u64;
                 Ok(count)
             }
-            Err(_) => {
+            Err(cause) => {
                 self.failures += 1;
-                Err(FeedFailed)
+                Err(cause)
             }
         }
     }
@@ -141,7 +145,7 @@ impl<F: FileExt> Feed for RangeFeed<'_, F> {
 }
 
 /// Where sections of a file end, each with a whole trace, the last one at its size.
-pub(crate) fn ends_in_file<F: FileExt>(
+pub(crate) fn ends_in_file<F: PlacedFile>(
     alloc: Global,
     file: &F,
     from: u64,
@@ -168,7 +172,7 @@ pub(crate) fn ends_in_file<F: FileExt>(
 
 // Where a trace ends that stands behind a place of a file; the last end where the place is not
 // behind it, or none is found.
-fn end_behind<F: FileExt>(alloc: Global, file: &F, last: u64, place: u64, size: u64) -> u64
+fn end_behind<F: PlacedFile>(alloc: Global, file: &F, last: u64, place: u64, size: u64) -> u64
     requires last { last ≤ size }
     requires place { place ≤ size }
     requires size { size ≤ 1073741824 }
@@ -185,7 +189,7 @@ fn end_behind<F: FileExt>(alloc: Global, file: &F, last: u64, place: u64, size: 
 }
 
 // Where a trace ends that stands behind a place of a file.
-fn end_in_file<F: FileExt>(alloc: Global, file: &F, place: u64, size: u64) -> Option<u64>
+fn end_in_file<F: PlacedFile>(alloc: Global, file: &F, place: u64, size: u64) -> Option<u64>
     requires within { place ≤ size }
     requires size { size ≤ 1073741824 }
     ensures { IfSome result (λ end. (place ≤ end) × (end ≤ size)) }
@@ -284,24 +288,10 @@ fn goes_on_alone(halt: &Halt) -> bool
     matches!(halt, Halt::Quoted | Halt::Early(_))
 }
 
-/// What is told of a section of a file, which is joined to what stands behind it or not, and of
-/// which some is left to read or not. In a file that has changed its bytes may not end with a line
-/// at the place where the next one begins; then it is judged again with what follows it. So it is
-/// where it could not be read, and where it is refused at its end, where a line may go on.
-fn at_seam(judged: Result<Judged, Halt>, is_joined: bool, has_more: bool) -> Result<Judged, Halt>
-    ensures { result ≡ told_at_seam is_joined has_more judged }
-{
-    match judged {
-        Ok(judged) if is_joined => Ok(judged),
-        Err(Halt::Refused(cause)) => Err(Halt::Refused(cause)),
-        Err(Halt::Early(cause)) if has_more => Err(Halt::Early(cause)),
-        Err(Halt::Stopped { judged, record }) if has_more => Err(Halt::Stopped { judged, record }),
-        _ => Err(Halt::Quoted),
-    }
-}
-
-/// Judges a section of a file by itself, the last one or another.
-fn judge_range<F: FileExt>(
+/// Judges a section of a file by itself, the last one or another. In a file that has changed its
+/// bytes may not end with a line at the place where the next one begins; then it is judged again
+/// with what follows it. So it is where it could not be read or is refused.
+fn judge_range<F: PlacedFile>(
     rounds: &Rounds<'_, '_>,
     table: &ColumnTable,
     file: &F,
@@ -313,14 +303,16 @@ fn judge_range<F: FileExt>(
     requires ordered { start ≤ past }
     requires short { past ≤ 1073741824 }
     ensures { IsRangeTold rounds.now.runner.program.now.program.now rounds.now.signature.now
-        table.now start past is_last result }
+        table.now (F.bytes file.now) start past is_last result }
 {
     let mut window = Window::new(rounds.alloc, rounds.window)?;
     let mut feed = RangeFeed::new(file, start, past);
-    let judged = rounds.judge_section(&mut feed, &mut window, table);
-    let is_joined = is_last || (window.is_ended() && feed.at == past);
-    let has_more = is_last || (!window.is_over() && feed.at < past);
-    at_seam(judged, is_joined, has_more)
+    let judged = rounds.judge_section(&mut feed, &mut window, table)?;
+    if is_last || (window.is_ended() && feed.at == past) {
+        Ok(judged)
+    } else {
+        Err(Halt::Quoted)
+    }
 }
 
 /// Where a section of a file begins.
@@ -332,7 +324,7 @@ fn start_at(from: u64, ends: &[u64], i: usize) -> u64
 }
 
 /// What is told of each section of a file behind its header.
-fn told_ranges<R: Threads + Sync, F: FileExt + Sync>(
+fn told_ranges<R: Threads + Sync, F: PlacedFile + Sync>(
     rt: &R,
     rounds: &Rounds<'_, '_>,
     table: &ColumnTable,
@@ -341,10 +333,11 @@ fn told_ranges<R: Threads + Sync, F: FileExt + Sync>(
     ends: &[u64],
 ) -> Result<Vec<Result<Judged, Halt>>, AllocError>
     requires table { IsColumnTable rounds.now.signature.now table.now }
-    requires ends { AreRangeEnds from ends.now }
+    requires ends { (size : ℕ) × AreRangeEnds from size ends.now }
     ensures { IfOk result (λ judged. AllZip (λ i one.
         IsRangeTold rounds.now.runner.program.now.program.now rounds.now.signature.now table.now
-        (start_of from ends.now i) (get_or ends.now i 0) (i + 1 == length ends.now) one)
+        (F.bytes file.now) (start_of from ends.now i) (get_or ends.now i 0)
+        (i + 1 == length ends.now) one)
         (range_with_len 0 (length ends.now)) judged.items) }
 {
     (0..ends.len())
@@ -353,9 +346,9 @@ fn told_ranges<R: Threads + Sync, F: FileExt + Sync>(
         .map(
             |i: usize| -> Result<Judged, Halt>
                 requires { IsColumnTable rounds.now.signature.now table.now
-                    × AreRangeEnds from ends.now × (i < length ends.now) }
+                    × ((size : ℕ) × AreRangeEnds from size ends.now) × (i < length ends.now) }
                 ensures { IsRangeTold rounds.entry.now.runner.program.now.program.now
-                    rounds.entry.now.signature.now table.entry.now
+                    rounds.entry.now.signature.now table.entry.now (F.bytes file.entry.now)
                     (start_of from ends.entry.now i) (get_or ends.entry.now i 0)
                     (i + 1 == length ends.entry.now) result }
             {
@@ -366,48 +359,52 @@ fn told_ranges<R: Threads + Sync, F: FileExt + Sync>(
         .collect::<Vec<_>>(rt, rounds.alloc)
 }
 
-/// Judges the bytes of a file between two places by one worker, behind what was judged before.
-fn judge_onward<F: FileExt>(
+/// Judges the bytes of a file of so many bytes from a place on by one worker, behind what was
+/// judged before.
+fn judge_onward<F: PlacedFile>(
     rounds: &Rounds<'_, '_>,
     table: &ColumnTable,
     file: &F,
     start: u64,
-    past: u64,
+    size: u64,
     judged: Judged,
 ) -> Result<Judged, Halt>
     requires table { IsColumnTable rounds.now.signature.now table.now }
-    requires ordered { start ≤ past }
-    requires short { past ≤ 1073741824 }
+    requires ordered { start ≤ size }
+    requires short { size ≤ 1073741824 }
     requires judged { IsRoll judged.roll }
     ensures ok { IfOk result (λ all. (rows : List Record)
         → IsJudgedPart rounds.now.runner.program.now.program.now rounds.now.signature.now table.now
         rows judged
         → AreRangesJudged rounds.now.runner.program.now.program.now rounds.now.signature.now
-        table.now rows start all) }
+        table.now rows (F.bytes file.now) start size all) }
     ensures err { IfErr result (λ halt. (rows : List Record)
         → IsJudgedPart rounds.now.runner.program.now.program.now rounds.now.signature.now table.now
         rows judged
-        → IsRangesHalt rounds.now.signature.now table.now rows start halt) }
+        → IsRangesHalt rounds.now.signature.now table.now rows (F.bytes file.now) start size
+        halt) }
 {
-    let mut feed = RangeFeed::new(file, start, past);
+    let mut feed = RangeFeed::new(file, start, size);
     let mut window = Window::new(rounds.alloc, rounds.window)?;
     rounds.judge_rest(&mut feed, &mut window, table, rounds.begin_with(judged)?)
 }
 
-/// Judges the sections of a file behind its header.
-pub(crate) fn judge_ranges<R: Threads + Sync, F: FileExt + Sync>(
+/// Judges the sections of a file of so many bytes behind its header.
+pub(crate) fn judge_ranges<R: Threads + Sync, F: PlacedFile + Sync>(
     rt: &R,
     rounds: &Rounds<'_, '_>,
     table: &ColumnTable,
     file: &F,
     from: u64,
+    size: u64,
     ends: &[u64],
 ) -> Result<Judged, Halt>
     requires table { IsColumnTable rounds.now.signature.now table.now }
-    requires ends { AreRangeEnds from ends.now }
+    requires ends { AreRangeEnds from size ends.now }
     ensures ok { IfOk result (AreRangesJudged rounds.now.runner.program.now.program.now
-        rounds.now.signature.now table.now [] from) }
-    ensures err { IfErr result (IsRangesHalt rounds.now.signature.now table.now [] from) }
+        rounds.now.signature.now table.now [] (F.bytes file.now) from size) }
+    ensures err { IfErr result (IsRangesHalt rounds.now.signature.now table.now []
+        (F.bytes file.now) from size) }
 {
     let alloc = rounds.alloc;
     let told = told_ranges(rt, rounds, table, file, from, ends)?;
@@ -420,7 +417,7 @@ pub(crate) fn judge_ranges<R: Threads + Sync, F: FileExt + Sync>(
         return Err(halt);
     }
     let start = start_at(from, ends, count);
-    judge_onward(rounds, table, file, start, ends[ends.len() - 1], all)
+    judge_onward(rounds, table, file, start, size, all)
 }
 
 // Where the whole traces end that stand between two places of a text; the first place where there
@@ -498,192 +495,6 @@ fn judge_slices<R: Threads + Sync>(
         .collect::<Vec<_>>(rt, rounds.alloc)
 }
 
-/// Judges slices of a text, and fills a window meanwhile.
-fn judge_and_fill<R: Threads + Sync, F: Feed + Send>(
-    rt: &R,
-    rounds: &Rounds<'_, '_>,
-    table: &ColumnTable,
-    text: &[u8],
-    ends: &[usize],
-    feed: &mut F,
-    next: &mut Window,
-) -> (
-    Result<Vec<Result<Judged, Halt>>, AllocError>,
-    Result<(), LoadError>,
-)
-    requires table { IsColumnTable rounds.now.signature.now table.now }
-    requires ends { AreSections text.now ends.now }
-    requires window { IsWindow next.old }
-    requires failures { F.failures feed.old < u64.MAX }
-    ensures judged { IfOk result.0 (λ judged. AllZip
-        (IsSection rounds.now.runner.program.now.program.now rounds.now.signature.now table.now)
-        (sections_in text.now ends.now) judged.items) }
-    ensures window { OnOk result.1 (IsWindow next.new) }
-    ensures taken { OnOk result.1 (HasTaken next.old next.new
-        (left (F.coming feed.old) (F.given feed.old) (F.failures feed.old))
-        (left (F.coming feed.new) (F.given feed.new) (F.failures feed.new))) }
-    ensures err { IfErr result.1 (IsLoadFault next.old
-        (left (F.coming feed.old) (F.given feed.old) (F.failures feed.old))
-        (left (F.coming feed.new) (F.given feed.new) (F.failures feed.new))) }
-{
-    join_mut(
-        rt,
-        &mut || -> Result<Vec<Result<Judged, Halt>>, AllocError>
-            requires { IsColumnTable rounds.now.signature.now table.now
-                × AreSections text.now ends.now }
-            ensures { IfOk result (λ judged. AllZip
-                (IsSection rounds.entry.now.runner.program.now.program.now
-                rounds.entry.now.signature.now table.entry.now)
-                (sections_in text.entry.now ends.entry.now) judged.items) }
-        { judge_slices(rt, rounds, table, text, ends) },
-        &mut || next.fill(&mut *feed),
-    )
-}
-
-/// Judges the sections of the bytes at the front of a window, so many. What stands behind them is
-/// put into another window, which is filled meanwhile; then the two change places.
-fn judge_window<R: Threads + Sync, F: Feed + Send>(
-    rt: &R,
-    rounds: &Rounds<'_, '_>,
-    table: &ColumnTable,
-    feed: &mut F,
-    window: &mut Window,
-    next: &mut Window,
-    ends: &[usize],
-    count: usize,
-    before: Judged,
-) -> Result<Appended, Halt>
-    requires window { IsWindow window.old }
-    requires failures { F.failures feed.old < u64.MAX }
-    requires table { IsColumnTable rounds.now.signature.now table.now }
-    requires before { IsRoll before.roll }
-    requires count { count ≤ length (text_in window.old) }
-    requires ends { AreSections (take count (text_in window.old)) ends.now }
-    ensures window { OnOk result (IsWindow window.new) }
-    ensures other { OnOk result (next.new ≡ window.old) }
-    ensures turned { OnOk result (HasTurned count window.old window.new
-        (left (F.coming feed.old) (F.given feed.old) (F.failures feed.old))
-        (left (F.coming feed.new) (F.given feed.new) (F.failures feed.new))) }
-    ensures roll { IfOk result (λ a. IsRoll a.all.roll) }
-    ensures ok { IfOk result (λ a. (rows : List Record)
-        → IsJudgedPart rounds.now.runner.program.now.program.now rounds.now.signature.now table.now
-        rows before
-        → AreAppended rounds.now.runner.program.now.program.now rounds.now.signature.now table.now
-        rows (sections_in (take count (text_in window.old)) ends.now) a) }
-    ensures err { IfErr result (λ halt. (rows : List Record)
-        → IsJudgedPart rounds.now.runner.program.now.program.now rounds.now.signature.now table.now
-        rows before
-        → IsTurnHalted rounds.now.signature.now table.now rows
-        (sections_in (take count (text_in window.old)) ends.now) count window.old window.new
-        (left (F.coming feed.old) (F.given feed.old) (F.failures feed.old))
-        (left (F.coming feed.new) (F.given feed.new) (F.failures feed.new)) halt) }
-{
-    next.begin_with(window, count)?;
-    let text = &window.text()[..count];
-    let (judged, filled) = judge_and_fill(rt, rounds, table, text, ends, feed, next);
-    // From here on the window is the one that has read as far as the feed has given.
-    mem::swap(window, next);
-    filled?;
-    Ok(append_all(rounds.alloc, judged?, table, before)?)
-}
-
-/// Judges the rest of a feed by one worker, from a place of a window. Another window has read on;
-/// it begins with what stands in that one behind so many bytes.
-fn judge_alone<F: Feed>(
-    rounds: &Rounds<'_, '_>,
-    table: &ColumnTable,
-    feed: &mut F,
-    window: &mut Window,
-    next: &mut Window,
-    start: usize,
-    count: usize,
-    judged: Judged,
-) -> Result<Judged, Halt>
-    requires window { IsWindow window.old }
-    requires next { IsWindow next.old }
-    requires failures { F.failures feed.old < u64.MAX }
-    requires table { IsColumnTable rounds.now.signature.now table.now }
-    requires judged { IsRoll judged.roll }
-    requires start { start ≤ count }
-    requires count { count ≤ length (text_in next.old) }
-    requires behind { length (text_in next.old) - count ≤ length (text_in window.old) }
-    ensures window { OnOk result (IsWindow window.new) }
-    ensures ok { IfOk result (λ all. (at : Left) → (rows : List Record)
-        → HasTurned count next.old window.old at
-        (left (F.coming feed.old) (F.given feed.old) (F.failures feed.old))
-        → IsJudgedPart rounds.now.runner.program.now.program.now rounds.now.signature.now table.now
-        rows judged
-        → IsRestJudged rounds.now.runner.program.now.program.now rounds.now.signature.now table.now
-        rows (let_go_of start next.old) window.new at
-        (left (F.coming feed.new) (F.given feed.new) (F.failures feed.new)) all) }
-    ensures err { IfErr result (λ halt. (at : Left) → (rows : List Record)
-        → HasTurned count next.old window.old at
-        (left (F.coming feed.old) (F.given feed.old) (F.failures feed.old))
-        → IsJudgedPart rounds.now.runner.program.now.program.now rounds.now.signature.now table.now
-        rows judged
-        → IsRestRefused rounds.now.signature.now table.now rows (let_go_of start next.old)
-        window.new at (left (F.coming feed.new) (F.given feed.new) (F.failures feed.new)) halt) }
-{
-    let carried = next.text().len() - count;
-    next.let_go(start);
-    next.go_on_with(&*window, carried)?;
-    mem::swap(window, next);
-    rounds.judge_rest(feed, window, table, rounds.begin_with(judged)?)
-}
-
-/// Judges the rest of a feed behind its header, in slices of a window. While they are judged
-/// another window is filled.
-pub(crate) fn judge_windows<R: Threads + Sync, F: Feed + Send>(
-    rt: &R,
-    rounds: &Rounds<'_, '_>,
-    table: &ColumnTable,
-    feed: &mut F,
-    window: &mut Window,
-    workers: usize,
-) -> Result<Judged, Halt>
-    requires window { IsWindow window.old }
-    requires failures { F.failures feed.old < u64.MAX }
-    requires table { IsColumnTable rounds.now.signature.now table.now }
-    ensures window { OnOk result (IsWindow window.new) }
-    ensures ok { IfOk result (λ judged.
-        IsRestJudged rounds.now.runner.program.now.program.now rounds.now.signature.now table.now
-        [] window.old window.new
-        (left (F.coming feed.old) (F.given feed.old) (F.failures feed.old))
-        (left (F.coming feed.new) (F.given feed.new) (F.failures feed.new)) judged) }
-    ensures err { IfErr result (λ halt.
-        IsRestRefused rounds.now.signature.now table.now [] window.old window.new
-        (left (F.coming feed.old) (F.given feed.old) (F.failures feed.old))
-        (left (F.coming feed.new) (F.given feed.new) (F.failures feed.new)) halt) }
-{
-    let alloc = rounds.alloc;
-    let mut all = Judged::new(alloc, rounds.signature)?;
-    let mut next = Window::new(alloc, window.size())?;
-    'windows: loop {
-        let count = rounds.next_piece(feed, window)?;
-        if count == 0 {
-            return Ok(all);
-        }
-        let ends = ends_in_text(alloc, &window.text()[..count], workers)?;
-        let ends = ends.as_slice();
-        let done = judge_window(rt, rounds, table, feed, window, &mut next, ends, count, all)?;
-        let Appended {
-            all: so_far,
-            count: judged,
-            halt,
-        } = done;
-        all = match halt {
-            None => so_far,
-            Some(halt) => {
-                if !goes_on_alone(&halt) {
-                    return Err(halt);
-                }
-                let start = start_in(ends, judged);
-                return judge_alone(rounds, table, feed, window, &mut next, start, count, so_far);
-            }
-        };
-    }
-}
-
 /// Judges the rest of a feed behind its header, with several workers: it is read to its end, and
 /// the text is cut among them.
 fn judge_among<R: Threads + Sync, F: Feed + Send>(
@@ -709,7 +520,20 @@ fn judge_among<R: Threads + Sync, F: Feed + Send>(
         (left (F.coming feed.new) (F.given feed.new) (F.failures feed.new)) halt) }
 {
     window.fill_all(feed)?;
-    judge_windows(rt, rounds, table, feed, window, workers)
+    let alloc = rounds.alloc;
+    let begun = Judged::new(alloc, rounds.signature)?;
+    let ends = ends_in_text(alloc, window.text(), workers)?;
+    let ends = ends.as_slice();
+    let told = judge_slices(rt, rounds, table, window.text(), ends)?;
+    let Appended { all, count, halt } = append_all(alloc, told, table, begun)?;
+    let Some(halt) = halt else {
+        return Ok(all);
+    };
+    if !goes_on_alone(&halt) {
+        return Err(halt);
+    }
+    window.let_go(start_in(ends, count));
+    rounds.judge_rest(feed, window, table, rounds.begin_with(all)?)
 }
 
 /// Where a section of a text begins.

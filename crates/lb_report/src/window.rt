@@ -5,8 +5,8 @@
 //!                 start               end
 //! ```
 
-ghost use Rattle.std.specs.Prelude.{◌≡◌, ◌<◌, ◌≤◌, ◌+◌, ◌-◌, ◌⊎◌, ◌++◌, [], drop, false, true};
-ghost use Rattle.std.specs.Prelude.{length, take, IfOk, OnOk, vec_len};
+ghost use Rattle.std.specs.Prelude.{◌≡◌, ◌<◌, ◌≤◌, ◌+◌, ◌-◌, ◌⊎◌, [], drop, false, true};
+ghost use Rattle.std.specs.Prelude.{length, IfOk, OnOk, vec_len};
 ghost use Rattle.lb_report.specs.Windows.{ended_by};
 
 use crate::feed::{Feed, INPUT_LIMIT, LoadError};
@@ -24,40 +24,6 @@ pub(crate) struct Window {
     pub(crate) is_over: bool,
     /// Whether the last of them ends a line.
     pub(crate) is_ended: bool,
-}
-
-// Makes a list so long, where it is shorter.
-fn make_long(bytes: &mut Vec<u8>, size: usize) -> Result<(), AllocError>
-    ensures long { OnOk result (size ≤ vec_len bytes.new) }
-    ensures kept { OnOk result
-        (take (vec_len bytes.old) bytes.new.items ≡ bytes.old.items) }
-{
-    if bytes.len() < size {
-        bytes.resize(size, 0)?;
-    }
-    Ok(())
-}
-
-// Copies bytes into a list, behind so many that stay.
-fn copy_behind(bytes: &mut Vec<u8>, count: usize, more: &[u8])
-    requires { count + length more.now ≤ vec_len bytes.old }
-    ensures len { vec_len bytes.new ≡ vec_len bytes.old }
-    ensures front { take count bytes.new.items ≡ take count bytes.old.items }
-    ensures more { take (length more.now) (drop count bytes.new.items) ≡ more.now }
-{
-    bytes[count..count + more.len()].copy_from_slice(more);
-}
-
-// The same, into a list that is made longer where it is too short.
-fn put_behind(bytes: &mut Vec<u8>, count: usize, more: &[u8]) -> Result<(), AllocError>
-    requires { count ≤ vec_len bytes.old }
-    ensures long { OnOk result (count + length more.now ≤ vec_len bytes.new) }
-    ensures front { OnOk result (take count bytes.new.items ≡ take count bytes.old.items) }
-    ensures more { OnOk result (take (length more.now) (drop count bytes.new.items) ≡ more.now) }
-{
-    make_long(bytes, count + more.len())?;
-    copy_behind(bytes, count, more);
-    Ok(())
 }
 
 // Whether a text ends with a line, of which these are the last bytes.
@@ -268,53 +234,5 @@ impl Window {
     {
         self.start = 0;
         self.end = 0;
-    }
-
-    /// How many bytes it has room for.
-    pub(crate) fn size(&self) -> usize
-        ensures { result ≡ vec_len self.now.bytes }
-    {
-        self.bytes.len()
-    }
-
-    /// Holds what stands in another window behind so many bytes, and nothing else.
-    pub(crate) fn begin_with(&mut self, before: &Window, count: usize) -> Result<(), AllocError>
-        requires window { IsWindow before.now }
-        requires count { count ≤ length (text_in before.now) }
-        ensures window { OnOk result (IsWindow self.new) }
-        ensures rest { OnOk result (text_in self.new ≡ drop count (text_in before.now)) }
-        ensures read { OnOk result (self.new.read ≡ before.now.read) }
-        ensures over { OnOk result (self.new.is_over ≡ before.now.is_over) }
-        ensures ended { OnOk result (self.new.is_ended ≡ before.now.is_ended) }
-    {
-        let rest = &before.text()[count..];
-        put_behind(&mut self.bytes, 0, rest)?;
-        self.start = 0;
-        self.end = rest.len();
-        self.read = before.read;
-        self.is_over = before.is_over;
-        self.is_ended = before.is_ended;
-        Ok(())
-    }
-
-    /// Takes what another window has behind so many bytes, which has read on.
-    pub(crate) fn go_on_with(&mut self, next: &Window, count: usize) -> Result<(), AllocError>
-        requires window { IsWindow self.old }
-        requires next { IsWindow next.now }
-        requires count { count ≤ length (text_in next.now) }
-        ensures window { OnOk result (IsWindow self.new) }
-        ensures text { OnOk result
-            (text_in self.new ≡ text_in self.old ++ drop count (text_in next.now)) }
-        ensures read { OnOk result (self.new.read ≡ next.now.read) }
-        ensures over { OnOk result (self.new.is_over ≡ next.now.is_over) }
-        ensures ended { OnOk result (self.new.is_ended ≡ next.now.is_ended) }
-    {
-        let more = &next.text()[count..];
-        put_behind(&mut self.bytes, self.end, more)?;
-        self.end += more.len();
-        self.read = next.read;
-        self.is_over = next.is_over;
-        self.is_ended = next.is_ended;
-        Ok(())
     }
 }

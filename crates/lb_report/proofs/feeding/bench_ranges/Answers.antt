@@ -1,7 +1,6 @@
 -- The report on a file that is judged in sections, or the refusal of its traces.
 use Rattle.std.proofs.Common.{◌≤◌, Err, arith, subst, sym}
-use Rattle.lb_syntax.specs.Tokens.{Text}
-use Rattle.lb_report.specs.RangeAnswers.{IsRangeAnswer}
+use Rattle.lb_report.specs.RangeAnswers.{IsFileAnswer}
 use Rattle.lb_report.specs.Ranges.{IsFileJudged}
 use Rattle.lb_report.specs.declared.feeding.FeedFault.{FeedFault}
 use Rattle.lb_report.proofs.RangeAnswering.{outcome_long, range_answered, range_faulted}
@@ -11,21 +10,20 @@ pub report_of-requires : goal.report_of-requires
 report_of-requires g c =
     let p = c.in-Ok.program.ordered.program in
     let elements = c.in-Ok.program.signature in
-    outcome_long p elements c.in-Ok-found.judged
-    (subst (IsFileJudged p elements) c.in-Ok-found.is c.in_ok-found.ensures)
+    let bytes = g.F.PlacedFile.bytes c.args.file.now in
+    outcome_long p elements bytes c.in-Ok-found.judged
+    (subst (IsFileJudged p elements bytes) c.in-Ok-found.is c.in_ok-found.ensures)
 
 pub returns-in-Ok-found : goal.returns-in-Ok-found
 returns-in-Ok-found g c =
     let p = c.in-Ok.program.ordered.program in
     let elements = c.in-Ok.program.signature in
-    let is = subst (IsFileJudged p elements) c.in-Ok-found.is c.in_ok-found.ensures in
-    let short : c.size_of-size.result ≤ 1073741824 =
-    omega (arith, c.if-size.false) in (
-      is.text,
-      range_answered c.args.source.now c.args.options.now c.in-Ok.program c.in-Ok.ensures.ok
-          c.in-Ok-found.judged c.size_of-size.result c.report_of.result is short
-          c.report_of.ensures.ok c.report_of.ensures.err,
-    )
+    let bytes = g.F.PlacedFile.bytes c.args.file.now in
+    let is = subst (IsFileJudged p elements bytes) c.in-Ok-found.is c.in_ok-found.ensures in
+    let short : c.size-size.result ≤ 1073741824 = omega (arith, c.if-size.false) in
+    range_answered c.args.source.now c.args.options.now bytes c.in-Ok.program c.in-Ok.ensures.ok
+    c.in-Ok-found.judged c.size-size.result c.report_of.result is short c.report_of.ensures.ok
+    c.report_of.ensures.err
 
 pub returns : goal.returns
 returns g c =
@@ -33,8 +31,8 @@ returns g c =
     let elements = c.in-Ok.program.signature in
     let source = c.args.source.now in
     let options = c.args.options.now in
-    let Is : FeedFault → Type 0 =
-    λ f. (text : Text) × IsRangeAnswer source text options (Err f) in
+    let bytes = g.F.PlacedFile.bytes c.args.file.now in
+    let Is : FeedFault → Type 0 = λ f. IsFileAnswer source bytes options (Err f) in
     subst Is (sym c.fault_of.ensures)
-    (range_faulted source options c.in-Ok.program c.in-Ok.ensures.ok c.in-Err.halt
-    (subst (IsFileJudged p elements) c.in-Err.is c.in_ok-found.ensures))
+    (range_faulted source options bytes c.in-Ok.program c.in-Ok.ensures.ok c.in-Err.halt
+    (subst (IsFileJudged p elements bytes) c.in-Err.is c.in_ok-found.ensures))

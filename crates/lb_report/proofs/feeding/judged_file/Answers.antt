@@ -25,15 +25,14 @@ ends_in_file-requires-clause-within g c =
       head.read.counted,
       c.in-Ok-new.ensures.begun.0,
       came,
-      c.in_ok-bytes.ensures,
+      c.in_ok-bytes.ensures.within,
     )
 
 pub judge_ranges-requires-clause-ends : goal.judge_ranges-requires-clause-ends
 judge_ranges-requires-clause-ends g c κs lawful = record {
-  size = c.args.size;
   follow = subst (AreEnds (c.read.result - length c.text.result.now) c.args.size)
       (sym c.as_slice-2.ensures.value) c.in-Ok-ends_in_file.ensures;
-  short = c.requires;
+  short = c.requires.short;
 }
 
 pub returns : goal.returns
@@ -45,13 +44,16 @@ returns g c =
     let first = c.new-head.result in
     let last = c.read_header.new.feed in
     let long : length c.text.result.now ≡ length (text_in after) = ap length c.text.ensures in
-    let told = file_told p elements c.in-Ok-read_header.table c.in-Ok-new.window after
+    let bytes = g.F.PlacedFile.bytes c.args.file.now in
+    let told = file_told p elements c.in-Ok-read_header.table bytes c.args.size c.requires.size
+    c.in_ok-bytes.bytes.items _ c.in_ok-bytes.ensures.first c.in-Ok-new.window after
     (left (Some first.rest.now) first.given 0) (left (Some last.rest.now) last.given 0)
-    c.in-Ok-new.ensures.empty c.in-Ok-new.ensures.begun.0 c.in-Ok-read_header.ensures.ok
+    c.in-Ok-new.ensures.empty c.in-Ok-new.ensures.begun.0
+    (c.new-head.ensures.coming ∙ ap Some c.as_slice.ensures.value) c.in-Ok-read_header.ensures.ok
     (c.is_done.ensures.left c.if-is_done.false) (c.read.result - length c.text.result.now)
     (omega (arith, c.read.ensures, long)) c.judge_ranges.result
     c.judge_ranges.ensures.ok c.judge_ranges.ensures.err in
-    subst (λ es. IsFileJudged c.args.program.now.ordered.program es c.judge_ranges.result)
+    subst (λ es. IsFileJudged c.args.program.now.ordered.program es bytes c.judge_ranges.result)
     c.rounds_of-rounds.ensures.signature
-    (subst (λ q. IsFileJudged q elements c.judge_ranges.result)
+    (subst (λ q. IsFileJudged q elements bytes c.judge_ranges.result)
     (c.rounds_of-rounds.ensures.program ∙ c.in-Ok.ensures) told)

@@ -1,5 +1,5 @@
 -- One section after the other, until one is not judged by itself.
-use Rattle.std.proofs.Common.{ℕ, ◌≡◌, ◌∙◌, ◌+◌, ◌++◌, ◌∷◌, [], List, Result, ap, arith}
+use Rattle.std.proofs.Common.{ℕ, ◌≡◌, ◌∙◌, ◌++◌, ◌∷◌, [], List, Result, ap, arith}
 use Rattle.std.proofs.Common.{append_assoc, append-nil, length, length-append, refl, subst, sym}
 use Rattle.std.proofs.Common.{rules}
 use Rattle.std.specs.List.{All, AllZip}

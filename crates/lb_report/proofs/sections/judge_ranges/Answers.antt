@@ -14,7 +14,7 @@ use Rattle.lb_report.specs.declared.rounds.Halt.TheVariants.{Refused}
 use Rattle.lb_report.proofs.PartReads.{judged_none}
 use Rattle.lb_report.proofs.RangeReads.{halt_told, halt_within, onward_halted, onward_judged}
 use Rattle.lb_report.proofs.RangeReads.{range_start, ranges_judged, ranges_memory, ranges_refused}
-use Rattle.lb_report.proofs.RangeReads.{rolls_of, start_last, texts_of, told_long}
+use Rattle.lb_report.proofs.RangeReads.{rolls_of, texts_of, told_long}
 use Rattle.lb_report.proofs.sections.judge_ranges.Goals as goal
 
 pub returns-in_err-told-clause-err : goal.returns-in_err-told-clause-err
@@ -22,21 +22,27 @@ returns-in_err-told-clause-err g c =
     let elements = c.args.rounds.now.signature.now in
     let table = c.args.table.now in
     let e = c.in_err-told.field-0.0 in
-    let Is : Halt → Type 0 = IsRangesHalt elements table [] c.args.from in
+    let bytes = g.F.PlacedFile.bytes c.args.file.now in
+    let Is : Halt → Type 0 =
+    IsRangesHalt elements table [] bytes c.args.from c.args.size in
     passes_on c.from_residual.result (Refused (Memory e)) Is c.from_residual.ensures.1
-    (ranges_memory elements table [] c.args.from (Memory e)
-    (range_start c.args.from c.args.ends.now c.requires.ends 0 (omega arith)) refl)
+    (ranges_memory elements table [] bytes c.args.from c.args.size (Memory e)
+    (range_start c.args.from c.args.size c.args.ends.now c.requires.ends 0 (omega arith))
+    c.requires.ends.short refl)
 
 pub returns-in_err-begun-clause-err : goal.returns-in_err-begun-clause-err
 returns-in_err-begun-clause-err g c =
     let elements = c.args.rounds.now.signature.now in
     let table = c.args.table.now in
     let e = c.in_err-begun.field-0.0 in
-    let Is : Halt → Type 0 = IsRangesHalt elements table [] c.args.from in
+    let bytes = g.F.PlacedFile.bytes c.args.file.now in
+    let Is : Halt → Type 0 =
+    IsRangesHalt elements table [] bytes c.args.from c.args.size in
     passes_on c.from_residual-in_err-begun.result (Refused (Memory e)) Is
     c.from_residual-in_err-begun.ensures.1
-    (ranges_memory elements table [] c.args.from (Memory e)
-    (range_start c.args.from c.args.ends.now c.requires.ends 0 (omega arith)) refl)
+    (ranges_memory elements table [] bytes c.args.from c.args.size (Memory e)
+    (range_start c.args.from c.args.size c.args.ends.now c.requires.ends 0 (omega arith))
+    c.requires.ends.short refl)
 
 pub append_all-requires-clause-before : goal.append_all-requires-clause-before
 append_all-requires-clause-before g c =
@@ -48,7 +54,8 @@ append_all-requires-clause-rolls g c =
     let p = c.args.rounds.now.runner.program.now.program.now in
     let elements = c.args.rounds.now.signature.now in
     let ends = c.args.ends.now in
-    rolls_of p elements c.args.table.now c.args.from ends (range_with_len 0 (length ends))
+    let bytes = g.F.PlacedFile.bytes c.args.file.now in
+    rolls_of p elements c.args.table.now bytes c.args.from ends (range_with_len 0 (length ends))
     c.in_ok-told.told.items c.in_ok-told.ensures
 
 pub returns-in_err-all-clause-err : goal.returns-in_err-all-clause-err
@@ -56,18 +63,20 @@ returns-in_err-all-clause-err g c =
     let p = c.args.rounds.now.runner.program.now.program.now in
     let elements = c.args.rounds.now.signature.now in
     let table = c.args.table.now in
+    let bytes = g.F.PlacedFile.bytes c.args.file.now in
     let from = c.args.from in
+    let size = c.args.size in
     let ends = c.args.ends.now in
     let told = c.in_ok-told.told.items in
-    let t = texts_of p elements table from ends (range_with_len 0 (length ends)) told
+    let t = texts_of p elements table bytes from ends (range_with_len 0 (length ends)) told
     c.in_ok-told.ensures in
-    let all = told_long p elements table from ends told c.in_ok-told.ensures in
+    let all = told_long p elements table bytes from ends told c.in_ok-told.ensures in
     let part = judged_none p elements table c.in_ok-begun.begun (c.in_ok-begun.ensures p) in
     let e = c.in_err-all.field-0.0 in
-    let Is : Halt → Type 0 = IsRangesHalt elements table [] from in
+    let Is : Halt → Type 0 = IsRangesHalt elements table [] bytes from size in
     passes_on c.from_residual-in_err-all.result (Refused e) Is
     c.from_residual-in_err-all.ensures.1
-    (ranges_refused p elements table from ends c.requires.ends told t all e
+    (ranges_refused p elements table bytes from ends size c.requires.ends told t all e
     (c.in_err-all.ensures.err p elements [] t.texts c.requires.table part t.sections))
 
 pub returns-in_default-clause-ok : goal.returns-in_default-clause-ok
@@ -75,50 +84,56 @@ returns-in_default-clause-ok g c =
     let p = c.args.rounds.now.runner.program.now.program.now in
     let elements = c.args.rounds.now.signature.now in
     let table = c.args.table.now in
+    let bytes = g.F.PlacedFile.bytes c.args.file.now in
     let from = c.args.from in
+    let size = c.args.size in
     let ends = c.args.ends.now in
     let told = c.in_ok-told.told.items in
-    let t = texts_of p elements table from ends (range_with_len 0 (length ends)) told
+    let t = texts_of p elements table bytes from ends (range_with_len 0 (length ends)) told
     c.in_ok-told.ensures in
-    let all = told_long p elements table from ends told c.in_ok-told.ensures in
+    let all = told_long p elements table bytes from ends told c.in_ok-told.ensures in
     let part = judged_none p elements table c.in_ok-begun.begun (c.in_ok-begun.ensures p) in
     let a = c.in_ok-all.field-0 in
     let known = c.in_ok-all.ensures.ok p elements [] t.texts c.requires.table part t.sections in
-    let within : a.count ≤ length t.texts =
-    halt_within a.count (length t.texts) a.halt known.stopped
-    in
-    ranges_judged p elements table from ends c.requires.ends told t all a known within
+    let count : a.count ≡ length t.texts =
+    subst (IsHaltAfter a.count (length t.texts)) c.in_default.is known.stopped in
+    ranges_judged p elements table bytes from ends size c.requires.ends told t all a known
+    (omega (arith, count))
 
 pub returns-then-not-goes_on_alone-clause-err : goal.returns-then-not-goes_on_alone-clause-err
 returns-then-not-goes_on_alone-clause-err g c =
     let p = c.args.rounds.now.runner.program.now.program.now in
     let elements = c.args.rounds.now.signature.now in
     let table = c.args.table.now in
+    let bytes = g.F.PlacedFile.bytes c.args.file.now in
     let from = c.args.from in
+    let size = c.args.size in
     let ends = c.args.ends.now in
     let told = c.in_ok-told.told.items in
-    let t = texts_of p elements table from ends (range_with_len 0 (length ends)) told
+    let t = texts_of p elements table bytes from ends (range_with_len 0 (length ends)) told
     c.in_ok-told.ensures in
-    let all = told_long p elements table from ends told c.in_ok-told.ensures in
+    let all = told_long p elements table bytes from ends told c.in_ok-told.ensures in
     let part = judged_none p elements table c.in_ok-begun.begun (c.in_ok-begun.ensures p) in
     let a = c.in_ok-all.field-0 in
     let known = c.in_ok-all.ensures.ok p elements [] t.texts c.requires.table part t.sections in
     let is : a.halt ≡ Some c.in-Some.halt = c.in-Some.is in
     let stopped = subst (IsHaltAfter a.count (length t.texts)) is known.stopped in
-    halt_told elements table [] from c.in-Some.halt
-    (range_start from ends c.requires.ends 0 (omega arith)) stopped.1
+    halt_told elements table [] bytes from size c.in-Some.halt
+    (range_start from size ends c.requires.ends 0 (omega arith)) c.requires.ends.short stopped.1
 
 pub start_at-start-requires : goal.start_at-start-requires
 start_at-start-requires g c =
     let p = c.args.rounds.now.runner.program.now.program.now in
     let elements = c.args.rounds.now.signature.now in
     let table = c.args.table.now in
+    let bytes = g.F.PlacedFile.bytes c.args.file.now in
     let from = c.args.from in
+    let size = c.args.size in
     let ends = c.args.ends.now in
     let told = c.in_ok-told.told.items in
-    let t = texts_of p elements table from ends (range_with_len 0 (length ends)) told
+    let t = texts_of p elements table bytes from ends (range_with_len 0 (length ends)) told
     c.in_ok-told.ensures in
-    let all = told_long p elements table from ends told c.in_ok-told.ensures in
+    let all = told_long p elements table bytes from ends told c.in_ok-told.ensures in
     let part = judged_none p elements table c.in_ok-begun.begun (c.in_ok-begun.ensures p) in
     let a = c.in_ok-all.field-0 in
     let known = c.in_ok-all.ensures.ok p elements [] t.texts c.requires.table part t.sections in
@@ -132,12 +147,14 @@ judge_onward-requires-clause-ordered g c =
     let p = c.args.rounds.now.runner.program.now.program.now in
     let elements = c.args.rounds.now.signature.now in
     let table = c.args.table.now in
+    let bytes = g.F.PlacedFile.bytes c.args.file.now in
     let from = c.args.from in
+    let size = c.args.size in
     let ends = c.args.ends.now in
     let told = c.in_ok-told.told.items in
-    let t = texts_of p elements table from ends (range_with_len 0 (length ends)) told
+    let t = texts_of p elements table bytes from ends (range_with_len 0 (length ends)) told
     c.in_ok-told.ensures in
-    let all = told_long p elements table from ends told c.in_ok-told.ensures in
+    let all = told_long p elements table bytes from ends told c.in_ok-told.ensures in
     let part = judged_none p elements table c.in_ok-begun.begun (c.in_ok-begun.ensures p) in
     let a = c.in_ok-all.field-0 in
     let known = c.in_ok-all.ensures.ok p elements [] t.texts c.requires.table part t.sections in
@@ -146,19 +163,21 @@ judge_onward-requires-clause-ordered g c =
     in
     let below : a.count ≤ length ends = omega (arith, within, t.long, all) in
     let start : c.start_at-start.result ≡ start_of from ends a.count = c.start_at-start.ensures in
-    omega (arith, start, start_last from ends c.requires.ends a.count below)
+    omega (arith, start, range_start from size ends c.requires.ends a.count below)
 
 pub returns-clause-ok : goal.returns-clause-ok
 returns-clause-ok g c =
     let p = c.args.rounds.now.runner.program.now.program.now in
     let elements = c.args.rounds.now.signature.now in
     let table = c.args.table.now in
+    let bytes = g.F.PlacedFile.bytes c.args.file.now in
     let from = c.args.from in
+    let size = c.args.size in
     let ends = c.args.ends.now in
     let told = c.in_ok-told.told.items in
-    let t = texts_of p elements table from ends (range_with_len 0 (length ends)) told
+    let t = texts_of p elements table bytes from ends (range_with_len 0 (length ends)) told
     c.in_ok-told.ensures in
-    let all = told_long p elements table from ends told c.in_ok-told.ensures in
+    let all = told_long p elements table bytes from ends told c.in_ok-told.ensures in
     let part = judged_none p elements table c.in_ok-begun.begun (c.in_ok-begun.ensures p) in
     let a = c.in_ok-all.field-0 in
     let known = c.in_ok-all.ensures.ok p elements [] t.texts c.requires.table part t.sections in
@@ -172,8 +191,10 @@ returns-clause-ok g c =
     c.start_at-start.ensures in
     IfOk-weaker c.judge_onward.result _ _
     (λ j is.
-    onward_judged p elements table from ends c.requires.ends told t all a.count j stopped.0
-    (subst (λ s. AreRangesJudged p elements table rows s j) start (is rows known.part)))
+    onward_judged p elements table bytes from ends size c.requires.ends told t all a.count j
+    stopped.0 known.plain
+    (subst (λ s. AreRangesJudged p elements table rows bytes s size j) start
+    (is rows known.part)))
     c.judge_onward.ensures.ok
 
 pub returns-clause-err : goal.returns-clause-err
@@ -181,12 +202,14 @@ returns-clause-err g c =
     let p = c.args.rounds.now.runner.program.now.program.now in
     let elements = c.args.rounds.now.signature.now in
     let table = c.args.table.now in
+    let bytes = g.F.PlacedFile.bytes c.args.file.now in
     let from = c.args.from in
+    let size = c.args.size in
     let ends = c.args.ends.now in
     let told = c.in_ok-told.told.items in
-    let t = texts_of p elements table from ends (range_with_len 0 (length ends)) told
+    let t = texts_of p elements table bytes from ends (range_with_len 0 (length ends)) told
     c.in_ok-told.ensures in
-    let all = told_long p elements table from ends told c.in_ok-told.ensures in
+    let all = told_long p elements table bytes from ends told c.in_ok-told.ensures in
     let part = judged_none p elements table c.in_ok-begun.begun (c.in_ok-begun.ensures p) in
     let a = c.in_ok-all.field-0 in
     let known = c.in_ok-all.ensures.ok p elements [] t.texts c.requires.table part t.sections in
@@ -200,6 +223,7 @@ returns-clause-err g c =
     c.start_at-start.ensures in
     IfErr-weaker c.judge_onward.result _ _
     (λ h is.
-    onward_halted p elements table from ends c.requires.ends told t all a.count h stopped.0
-    (subst (λ s. IsRangesHalt elements table rows s h) start (is rows known.part)))
+    onward_halted p elements table bytes from ends size c.requires.ends told t all a.count h
+    stopped.0 known.plain
+    (subst (λ s. IsRangesHalt elements table rows bytes s size h) start (is rows known.part)))
     c.judge_onward.ensures.err

@@ -11,7 +11,7 @@ use Rattle.lb_report.specs.SectionEnds.{AreSections, section}
 use Rattle.lb_report.specs.Sections.{IsSection}
 use Rattle.lb_report.specs.declared.rounds.Halt.{Halt}
 use Rattle.lb_report.specs.declared.rounds.Judged.{Judged}
-use Rattle.lb_report.proofs.WindowTurns.{zip_map}
+use Rattle.lb_report.proofs.SlicedTexts.{zip_map}
 use Rattle.lb_report.proofs.sections.judge_slices.Goals as goal
 
 pub collect-requires-clause-ready : goal.collect-requires-clause-ready

@@ -1,7 +1,7 @@
 -- A section ends behind its begin, and within the text.
 use Rattle.std.proofs.Common.{◌≤◌, arith, get_or, length}
 use Rattle.lb_report.specs.SectionEnds.{start_of}
-use Rattle.lb_report.proofs.WindowTurns.{end_within}
+use Rattle.lb_report.proofs.SlicedTexts.{end_within}
 use Rattle.lb_report.proofs.sections.section_bytes.Goals as goal
 
 pub slice_bounds-result-end : goal.slice_bounds-result-end

@@ -19,8 +19,8 @@ collect-requires-clause-ready g c κs lawful =
     let ends = c.args.ends.now in
     let range = c.into_par_iter.ensures in
     let inside = nat_range-All
-    (λ i. IsColumnTable elements c.args.table.now × AreRangeEnds c.args.from ends
-    × (i < length ends))
+    (λ i. IsColumnTable elements c.args.table.now
+    × ((size : ℕ) × AreRangeEnds c.args.from size ends) × (i < length ends))
     0 (length ends)
     (λ i low high. (c.requires.table, c.requires.ends, omega (arith, high))) in
     rw (
@@ -38,8 +38,8 @@ returns g c =
     let p = c.args.rounds.now.runner.program.now.program.now in
     let elements = c.args.rounds.now.signature.now in
     let R : ℕ → Result Judged Halt → Type 0 =
-    λ i one. IsRangeTold p elements c.args.table.now (start_of c.args.from ends i) (get_or ends i 0)
-    (i + 1 == length ends) one in
+    λ i one. IsRangeTold p elements c.args.table.now (g.F.PlacedFile.bytes c.args.file.now)
+    (start_of c.args.from ends i) (get_or ends i 0) (i + 1 == length ends) one in
     let range = c.into_par_iter.ensures in
     let whole : length ends - 0 ≡ length ends = omega arith in
     let base = ap min_len_base c.map.ensures.base ∙ c.with_min_len.ensures.base in

@@ -3,13 +3,11 @@ use Rattle.std.proofs.Common.{ℕ, ◌∙◌, List, ap, arith, inl, inr, length}
 use Rattle.lb_trace.specs.Spelling.{Record}
 use Rattle.lb_pool.proofs.GoingOut.{passes_on}
 use Rattle.lb_report.specs.JudgedParts.{IsPartRead, IsReading}
-use Rattle.lb_report.specs.PlainHalts.{IsPlainReading}
 use Rattle.lb_report.specs.Windows.{left}
 use Rattle.lb_report.specs.declared.rounds.Reading.{Reading}
 use Rattle.lb_report.specs.declared.rounds.Reading.TheVariants.{Halted}
 use Rattle.lb_report.proofs.PieceReads.{done_halted, pieces_done, pieces_halted, pieces_judged}
 use Rattle.lb_report.proofs.PieceReads.{pieces_more, reading_on}
-use Rattle.lb_report.proofs.PlainHalts.{done_plain, pieces_plain, reading_plain}
 use Rattle.lb_report.proofs.rounds.Rounds.judge_pieces.Goals as goal
 
 pub pieces-init : goal.pieces-init
@@ -153,85 +151,4 @@ returns-clause-ok g c = λ rows part.
           (c.is_done.ensures.over c.pieces-test.false)
           (c.is_done.ensures.nothing c.pieces-test.false)
       | inr done ↦ done
-    ])
-
-pub returns-in_err-state-2-clause-plain : goal.returns-in_err-state-2-clause-plain
-returns-in_err-state-2-clause-plain g c =
-    let p = c.args.self.now.runner.program.now.program.now in
-    let elements = c.args.self.now.signature.now in
-    let table = c.args.table.now in
-    let f = c.args.feed.now in
-    let h = c.pieces.feed in
-    let old = left (g.F.Feed.coming f) (g.F.Feed.given f) (g.F.Feed.failures f) in
-    let new = left (g.F.Feed.coming h) (g.F.Feed.given h) (g.F.Feed.failures h) in
-    let e = c.in_err-state-2.field-0.0 in
-    let Is : Reading → Type 0 = λ reading. (rows : List Record) → IsPartRead p elements table rows
-    c.args.begun
-    → IsPlainReading elements table rows
-    c.args.window.now c.pieces.window old new reading in
-    passes_on c.from_residual-in_err-state-2.result (Halted e) Is
-    c.from_residual-in_err-state-2.ensures.1
-    (λ rows part.
-    elim (c.pieces.invariant.known rows part) [
-      | inl at ↦
-          pieces_plain p elements table rows _ _ _ _ _ e
-          (λ rs q. c.in_err-state-2.ensures.err table rs q) at
-      | inr done ↦
-          done_plain p elements table rows _ _ _ _ _ e
-          (λ rs q. c.in_err-state-2.ensures.err table rs q) done
-    ])
-
-pub returns-in_err-state-3-clause-plain : goal.returns-in_err-state-3-clause-plain
-returns-in_err-state-3-clause-plain g c =
-    let p = c.args.self.now.runner.program.now.program.now in
-    let elements = c.args.self.now.signature.now in
-    let table = c.args.table.now in
-    let f = c.args.feed.now in
-    let h = c.read_piece-in-pieces.new.feed in
-    let old = left (g.F.Feed.coming f) (g.F.Feed.given f) (g.F.Feed.failures f) in
-    let new = left (g.F.Feed.coming h) (g.F.Feed.given h) (g.F.Feed.failures h) in
-    let e = c.in_err-state-3.field-0.0 in
-    let Is : Reading → Type 0 = λ reading. (rows : List Record) → IsPartRead p elements table rows
-    c.args.begun
-    → IsPlainReading elements table rows
-    c.args.window.now c.read_piece-in-pieces.new.window old new reading in
-    passes_on c.from_residual-in_err-state-3.result e Is
-    c.from_residual-in_err-state-3.ensures.1
-    (λ rows part.
-    elim (c.pieces.invariant.known rows part) [
-      | inl at ↦
-          reading_plain p elements table rows _ _ _ _ _ _ _ e at
-          (c.in_err-state-3.ensures.plain _ (c.in_ok-state-2.ensures.ok table _ at.part))
-      | inr done ↦
-          absurd (omega (
-            arith,
-            c.is_done.ensures.left c.pieces-test.true done.over,
-            ap (length {A = ℕ}) done.nothing,
-          ))
-    ])
-
-pub returns-in_err-last_round-clause-plain : goal.returns-in_err-last_round-clause-plain
-returns-in_err-last_round-clause-plain g c =
-    let p = c.args.self.now.runner.program.now.program.now in
-    let elements = c.args.self.now.signature.now in
-    let table = c.args.table.now in
-    let f = c.args.feed.now in
-    let h = c.pieces.feed in
-    let old = left (g.F.Feed.coming f) (g.F.Feed.given f) (g.F.Feed.failures f) in
-    let new = left (g.F.Feed.coming h) (g.F.Feed.given h) (g.F.Feed.failures h) in
-    let e = c.in_err-last_round.field-0.0 in
-    let Is : Reading → Type 0 = λ reading. (rows : List Record) → IsPartRead p elements table rows
-    c.args.begun
-    → IsPlainReading elements table rows
-    c.args.window.now c.pieces.window old new reading in
-    passes_on c.from_residual-in_err-last_round.result (Halted e) Is
-    c.from_residual-in_err-last_round.ensures.1
-    (λ rows part.
-    elim (c.pieces.invariant.known rows part) [
-      | inl at ↦
-          pieces_plain p elements table rows _ _ _ _ _ e
-          (λ rs q. c.in_err-last_round.ensures.err table rs q) at
-      | inr done ↦
-          done_plain p elements table rows _ _ _ _ _ e
-          (λ rs q. c.in_err-last_round.ensures.err table rs q) done
     ])

@@ -4,7 +4,6 @@ use Rattle.lb_trace.specs.Plain.{has_quote}
 use Rattle.lb_report.specs.Windows.{text_in}
 use Rattle.lb_report.proofs.PieceReads.{ended_some, piece_added, piece_goes, piece_quoted}
 use Rattle.lb_report.proofs.PieceReads.{piece_stopped}
-use Rattle.lb_report.proofs.PlainHalts.{stopped_plain}
 use Rattle.lb_report.proofs.rounds.Rounds.read_piece.Goals as goal
 
 pub returns-then-not-is_plain-clause-err : goal.returns-then-not-is_plain-clause-err
@@ -41,13 +40,3 @@ returns-clause-goes g c =
     piece_goes c.args.window.now w c.let_go.new.self _ _ c.in-Ok.count c.requires.window took.window
     gone.window took.taken gone.rest gone.read gone.over took.within took.whole
     (λ still. ended_some (text_in w) c.in-Ok.count (took.ended still))
-
-pub returns-in-Err-add_lines-clause-plain : goal.returns-in-Err-add_lines-clause-plain
-returns-in-Err-add_lines-clause-plain g c = λ rows part.
-    let took = c.in-Ok.ensures in
-    let plain : has_quote (take c.in-Ok.count c.text.result.now) ≡ false = search rules in
-    stopped_plain c.args.self.now.runner.program.now.program.now c.args.self.now.signature.now
-    c.args.table.now rows _ _ _ _ c.args.state _ c.text.result.now c.in-Ok.count took.taken
-    c.text.ensures took.ended plain part refl c.in-Err-add_lines.stopped.rest.now c.stop.result
-    c.in-Err-add_lines.ensures.err c.in-Err-add_lines.ensures.signature
-    (λ rs more q. c.stop.ensures.halt c.args.table.now rs more q)

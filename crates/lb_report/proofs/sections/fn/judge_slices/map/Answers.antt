@@ -1,7 +1,7 @@
 -- A section is judged by itself.
 use Rattle.std.proofs.Common.{subst}
 use Rattle.lb_report.specs.Sections.{IsSection}
-use Rattle.lb_report.proofs.WindowTurns.{section_told}
+use Rattle.lb_report.proofs.SlicedTexts.{section_told}
 use Rattle.lb_report.proofs.sections.fn.judge_slices.map.Goals as goal
 
 pub returns : goal.returns

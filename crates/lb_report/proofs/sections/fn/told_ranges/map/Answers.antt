@@ -12,11 +12,13 @@ judge_range-requires g c =
     let i = c.args.i in
     let start : c.start_at-start.result ≡ start_of from ends i = c.start_at-start.ensures in
     let up : start_of from ends i ≤ get_or ends i 0 =
-    c.requires.1.follow.ordered i c.requires.2 in
+    c.requires.1.1.follow.ordered i c.requires.2 in
+    let down : get_or ends i 0 ≤ c.requires.1.0 =
+    range_past from c.requires.1.0 ends c.requires.1.1 i c.requires.2 in
     record {
       table = c.requires.0;
       ordered = omega (arith, start, up);
-      short = range_past from ends c.requires.1 i c.requires.2;
+      short = omega (arith, down, c.requires.1.1.short);
     }
 
 pub returns : goal.returns
@@ -26,5 +28,6 @@ returns g c =
     let start : c.start_at-start.result ≡ start_of c.captures.from ends i =
     c.start_at-start.ensures in
     subst (λ s. IsRangeTold c.captures.rounds.now.runner.program.now.program.now
-    c.captures.rounds.now.signature.now c.captures.table.now s (get_or ends i 0)
-    (i + 1 == length ends) c.judge_range.result) start c.judge_range.ensures
+    c.captures.rounds.now.signature.now c.captures.table.now
+    (g.F.PlacedFile.bytes c.captures.file.now) s (get_or ends i 0) (i + 1 == length ends)
+    c.judge_range.result) start c.judge_range.ensures
