@@ -49,7 +49,7 @@ range_outcome Are source traces options (Err (fault.Refused e)) (Ok told) are an
 range_outcome Are source traces options (Err (fault.Refused e)) (Err refusal) are answer is =
     judged source traces are e answer is
 
--- the same of a feed
+-- the report or refusal that a program prints, from what the bench answers on a feed
 pub feed_outcome : (source : Text) (options : Options) (old new : Left)
     (found : Result Report FeedFault) (told : Result (Warned Report) Refusal)
     → IsFeedAnswer source options old new found → IsReported found told

@@ -123,8 +123,8 @@ abbrev pub IsOutcomeOn : (Text → Text → Type 0) → Options → Result (Warn
 IsOutcomeOn Are options (Ok found) = IsReportOn Are options found.value
 IsOutcomeOn Are options (Err refusal) = IsRefusedOn Are options refusal
 
--- what is told of what the bench found on the traces of a feed: its report, or a refusal with the
--- number and the place of what is wrong with the feed or with the texts
+-- a report of the bench on a feed is printed as it is; an error of it becomes a refusal with the
+-- number of the error (E21: the feed failed) and its place in the texts
 abbrev pub IsReported : (found : Result Report FeedFault) → Result (Warned Report) Refusal → Type 0
 IsReported (Ok report) (Ok told) = told.value ≡ report
 IsReported (Ok report) (Err refusal) = ⊥

@@ -22,7 +22,9 @@ use crate::refusal::{Refusal, Texts};
 use crate::request::{Aim, Request, Task, read_words};
 use crate::showing::run_showing;
 use lb_listing::Listing;
-use lb_report::{Feed, FeedFault, Reader, Report, Sink, Sizes, bench, bench_feed, bench_ranges};
+use lb_report::{
+    Feed, FeedFault, FilePlaces, Reader, Report, Sink, Sizes, bench, bench_feed, bench_ranges,
+};
 use std::alloc::{AllocError, Global};
 use std::os::unix::fs::FileExt;
 use std::rt::Runtime;
@@ -122,7 +124,8 @@ where
         return report_on(rt, words, task, Texts::Two { source, traces });
     }
     let sizes = Sizes::usual(task.options.workers);
-    match bench_ranges(rt, source.as_slice(), &file, &task.options, sizes) {
+    let places = FilePlaces::new(&file);
+    match bench_ranges(rt, source.as_slice(), &places, &task.options, sizes) {
         Some(found) => reported(rt.alloc(), source, found),
         None => report_on_feed(rt, task, source, &mut Reader::new(file)),
     }

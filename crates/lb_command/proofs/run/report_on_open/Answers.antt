@@ -13,8 +13,8 @@ returns-then-asks_to_explain-clause-outcome g c =
 pub returns-in-Some-clause-outcome : goal.returns-in-Some-clause-outcome
 returns-in-Some-clause-outcome g c =
     let found = c.in-Some.ensures in
-    range_outcome (λ _ _. Unit {0}) c.as_slice.result.now found.0 c.args.task.now.options
-    c.in-Some.found c.reported.result tt found.1 c.reported.ensures.outcome
+    range_outcome (λ _ _. Unit {0}) c.as_slice.result.now found.traces c.args.task.now.options
+    c.in-Some.found c.reported.result tt found.answer c.reported.ensures.outcome
 
 pub returns-in-Some-clause-warned : goal.returns-in-Some-clause-warned
 returns-in-Some-clause-warned g c =
