@@ -1,6 +1,6 @@
 //! What is answered on a case text: the report and the status, or why there is none.
 
-ghost use Rattle.std.specs.Prelude.{◌≡◌, ◌≤◌, IfOk};
+ghost use Rattle.std.specs.Prelude.{◌<◌, IfOk};
 
 use crate::rounds;
 use lb_check::CheckError;
@@ -23,20 +23,18 @@ pub fn push_refusal(said: &mut String, error: &BenchError) -> Result<(), AllocEr
     }
 }
 
-/// The node `main`, and how its runs are spread.
+/// The node `main`, and how its runs are spread: over 64 workers and 64 lanes at most.
 pub fn spread(
     alloc: Global,
     workers: u32,
-    batch: u32,
+    lanes: u32,
     by_length: bool,
 ) -> Result<Options, AllocError>
-    requires workers { workers ≤ 64 }
-    requires some_lanes { 1 ≤ batch }
-    requires few_lanes { batch ≤ 64 }
-    ensures { IfOk result (λ options. options.workers ≡ workers) }
+    ensures { 0 < workers → IfOk result (λ options. 0 < options.workers) }
 {
     let node = String::from_str(alloc, "main")?;
-    Ok(Options::new(node, None, workers, batch, by_length))
+    let lanes = lanes.max(1).min(64);
+    Ok(Options::new(node, None, workers.min(64), lanes, by_length))
 }
 
 /// The node under test, `main`, and an observer. An empty name is none.

@@ -90,7 +90,7 @@ fn push_judged(
     said.push('\n')
 }
 
-// The verdict of each member in its lane.
+// The verdict of each member in its lane, if there are such traces.
 fn push_members(
     alloc: Global,
     ordered: &Ordered,
@@ -98,10 +98,10 @@ fn push_members(
     set: &TraceSet,
     members: &[u32],
     said: &mut String,
-) -> Result<(), AllocError>
-    requires members { All (λ k. k < length set.now.traces) members.now }
-    requires few { length members.now ≤ 64 }
-{
+) -> Result<(), AllocError> {
+    if !are_members(set, members) {
+        return said.push_str("no members");
+    }
     let done = run_batch(alloc, program, set, members)?;
     if done.members().len() != members.len() || done.verdicts().len() != members.len() {
         return said.push_str("another count");
@@ -112,7 +112,7 @@ fn push_members(
     Ok(())
 }
 
-// The verdict of each member where about three of them run in each lane, one after the other.
+// The same where about three members run in each lane, one after the other.
 fn push_queue(
     alloc: Global,
     ordered: &Ordered,
@@ -120,10 +120,10 @@ fn push_queue(
     set: &TraceSet,
     members: &[u32],
     said: &mut String,
-) -> Result<(), AllocError>
-    requires members { All (λ k. k < length set.now.traces) members.now }
-    requires few { length members.now ≤ 64 }
-{
+) -> Result<(), AllocError> {
+    if !are_members(set, members) {
+        return said.push_str("no members");
+    }
     let mut verdicts = vec![in alloc; Verdict::Passed; members.len()]?;
     let lanes = members.len() as u32 / 3 + 1;
     let room = BatchRoom::new(alloc, program)?;
@@ -132,36 +132,6 @@ fn push_queue(
         push_judged(alloc, ordered, set, members[i], verdicts[i], said)?;
     }
     Ok(())
-}
-
-// The same of members that are given by number, if there are such traces.
-fn push_waiting(
-    alloc: Global,
-    ordered: &Ordered,
-    program: &LaneProgram<'_>,
-    set: &TraceSet,
-    numbers: &[u32],
-    said: &mut String,
-) -> Result<(), AllocError> {
-    if !are_members(set, numbers) {
-        return said.push_str("no members");
-    }
-    push_queue(alloc, ordered, program, set, numbers, said)
-}
-
-// The verdicts of members that are given by number, if there are such traces.
-fn push_numbers(
-    alloc: Global,
-    ordered: &Ordered,
-    program: &LaneProgram<'_>,
-    set: &TraceSet,
-    numbers: &[u32],
-    said: &mut String,
-) -> Result<(), AllocError> {
-    if !are_members(set, numbers) {
-        return said.push_str("no members");
-    }
-    push_members(alloc, ordered, program, set, numbers, said)
 }
 
 // The same of all traces, 64 at a time.
@@ -176,11 +146,11 @@ fn push_all(
     for k in 0..set.len() {
         members.push(k)?;
         if members.len() == 64 {
-            push_waiting(alloc, ordered, program, set, members.as_slice(), said)?;
+            push_queue(alloc, ordered, program, set, members.as_slice(), said)?;
             members.clear();
         }
     }
-    push_waiting(alloc, ordered, program, set, members.as_slice(), said)
+    push_queue(alloc, ordered, program, set, members.as_slice(), said)
 }
 
 // The numbers that a text spells.
@@ -203,7 +173,7 @@ fn push_batches(
 ) -> Result<(), AllocError> {
     for batch in batches.split(';') {
         let numbers = numbers_of(alloc, batch)?;
-        push_numbers(alloc, ordered, program, set, numbers.as_slice(), said)?;
+        push_members(alloc, ordered, program, set, numbers.as_slice(), said)?;
     }
     Ok(())
 }
@@ -301,27 +271,8 @@ fn push_steps(
     Ok(())
 }
 
-// The same of a batch, if its members and the inputs of the program are those of the traces.
+// The same of all traces of a set, if they are few and the inputs of the program are theirs.
 fn push_run(
-    alloc: Global,
-    program: &LaneProgram<'_>,
-    set: &TraceSet,
-    members: &[u32],
-    said: &mut String,
-) -> Result<(), AllocError> {
-    let mut inputs = Inputs::new(alloc, program)?;
-    if !are_members(set, members) {
-        return said.push_str("no members");
-    }
-    if !has_kinds(set.signature(), inputs.columns.kinds.as_slice()) {
-        return said.push_str("no inputs");
-    }
-    let mut run = BatchRun::new(alloc, program, members.len() as u32)?;
-    push_steps(&mut run, &mut inputs, set, members, said)
-}
-
-// The same of all traces of a set.
-fn push_run_of_all(
     alloc: Global,
     program: &LaneProgram<'_>,
     set: &TraceSet,
@@ -331,7 +282,13 @@ fn push_run_of_all(
     for k in 0..set.len() {
         members.push(k)?;
     }
-    push_run(alloc, program, set, members.as_slice(), said)
+    let members = members.as_slice();
+    let mut inputs = Inputs::new(alloc, program)?;
+    if !are_members(set, members) || !has_kinds(set.signature(), inputs.columns.kinds.as_slice()) {
+        return said.push_str("no run");
+    }
+    let mut run = BatchRun::new(alloc, program, members.len() as u32)?;
+    push_steps(&mut run, &mut inputs, set, members, said)
 }
 
 // ## Cases
@@ -347,12 +304,12 @@ fn push_on_set(
     match question {
         Question::All => push_all(alloc, ordered, &program, set, said),
         Question::Members(batches) => { push_batches(alloc, ordered, &program, set, batches, said) }
-        Question::Steps => push_run_of_all(alloc, &program, set, said),
+        Question::Steps => push_run(alloc, &program, set, said),
     }
 }
 
 // The equations of a tree, and the signature of its traces. An empty name is no observer.
-pub fn ordered_of(alloc: Global, tree: &Source, observer: &str) -> Option<(Signature, Ordered)> {
+fn ordered_of(alloc: Global, tree: &Source, observer: &str) -> Option<(Signature, Ordered)> {
     let observer = if observer.is_empty() {
         None
     } else {
@@ -366,21 +323,13 @@ pub fn ordered_of(alloc: Global, tree: &Source, observer: &str) -> Option<(Signa
     Some((signature, ordered))
 }
 
-fn push_on_tree(
-    alloc: Global,
-    tree: &Source,
-    observer: &str,
-    traces: &[u8],
-    question: Question<'_>,
-    said: &mut String,
-) -> Result<(), AllocError> {
-    let Some((signature, ordered)) = &ordered_of(alloc, tree, observer) else {
-        return said.push_str("refused");
-    };
-    match &read_traces(alloc, signature, traces) {
-        Ok(set) => push_on_set(alloc, ordered, set, question, said),
-        Err(_) => said.push_str("refused"),
-    }
+/// The equations of a case and its traces, if its texts are accepted. An empty name is no observer.
+pub fn prepared(alloc: Global, case: &str, observer: &str) -> Option<(Ordered, TraceSet)> {
+    let (source, traces) = split_case(case.as_bytes());
+    let tree = parse(alloc, source).ok()?;
+    let (signature, ordered) = ordered_of(alloc, &tree, observer)?;
+    let set = read_traces(alloc, &signature, traces).ok()?;
+    Some((ordered, set))
 }
 
 fn push_on_case(
@@ -390,10 +339,9 @@ fn push_on_case(
     question: Question<'_>,
     said: &mut String,
 ) -> Result<(), AllocError> {
-    let (source, traces) = split_case(case.as_bytes());
-    match &parse(alloc, source) {
-        Ok(tree) => push_on_tree(alloc, tree, observer, traces, question, said),
-        Err(_) => said.push_str("refused"),
+    match &prepared(alloc, case, observer) {
+        Some((ordered, set)) => push_on_set(alloc, ordered, set, question, said),
+        None => said.push_str("refused"),
     }
 }
 

@@ -1,6 +1,8 @@
 //! Trace files that are read in sections side by side.
 
-use lb_report::{BenchError, FeedFault, Options, Report, Sizes, bench, bench_ranges};
+use crate::rounds::push_whole;
+use crate::sections::push_ranges;
+use lb_report::Sizes;
 use std::alloc::{AllocError, Global};
 use std::os::unix::fs::FileExt;
 use std::rt::Runtime;
@@ -11,8 +13,8 @@ use std::{env, fs};
 /// A node whose verdict is false where an integer is 12.
 const SOURCE: &str = "node main(x: int) returns (ok: bool); let ok = x < 12; tel";
 
-/// A trace text of so many instants, and what stands behind them.
-fn traces_of(alloc: Global, count: u32, last: &str) -> Result<String, AllocError> {
+/// A trace text of so many instants.
+fn traces_of(alloc: Global, count: u32) -> Result<String, AllocError> {
     let mut text = String::from_str(alloc, "trace,x\n")?;
     for k in 0..count {
         write!(text, "t{},{}\n", k / 7, k % 11)?;
@@ -20,76 +22,21 @@ fn traces_of(alloc: Global, count: u32, last: &str) -> Result<String, AllocError
             write!(text, "t{},12\n", k / 7)?;
         }
     }
-    text.push_str(last)?;
     Ok(text)
 }
 
-/// What a run by so many workers is asked for.
-fn options_of(alloc: Global, workers: u32) -> Result<Option<Options>, AllocError> {
-    let node = String::from_str(alloc, "main")?;
-    if workers > 64 {
-        return Ok(None);
-    }
-    Ok(Some(Options::new(node, None, workers, 64, false)))
-}
-
-/// What is found on a trace file by so many workers, where it is read in sections.
-fn found_in<R>(
-    rt: &R,
-    path: &str,
-    workers: u32,
-    sizes: Sizes,
-) -> Result<Option<Result<Report, FeedFault>>, AllocError>
+/// Whether what is answered on a trace file by so many workers is what is wanted.
+fn is_found<R>(rt: &R, path: &str, workers: u32, wanted: &str) -> Result<bool, AllocError>
 where
     R: Runtime + AllocGlobal + Threads + Sync,
     R::File: FileExt + Sync,
 {
-    let Some(options) = options_of(rt.alloc(), workers)? else {
-        return Ok(None);
-    };
-    let Ok(file) = fs::File::open(rt, path) else {
-        return Ok(None);
-    };
-    Ok(bench_ranges(rt, SOURCE.as_bytes(), &file, &options, sizes))
-}
-
-/// Whether what is found on a file is what is found on its text.
-fn is_same(found: &Result<Report, FeedFault>, whole: &Result<Report, BenchError>) -> bool {
-    match found {
-        Ok(found) => match whole {
-            Ok(whole) => {
-                found.status == whole.status && found.text.as_slice() == whole.text.as_slice()
-            }
-            Err(_) => false,
-        },
-        Err(FeedFault::Refused(found)) => match whole {
-            Ok(_) => false,
-            Err(whole) => found.number() == whole.number(),
-        },
-        Err(FeedFault::Load(_)) => false,
+    let mut said = String::new(rt.alloc());
+    match &fs::File::open(rt, path) {
+        Ok(file) => push_ranges(rt, SOURCE, file, workers, Sizes::usual(workers), &mut said)?,
+        Err(_) => said.push_str("no file")?,
     }
-}
-
-/// Whether what is found on a trace file in sections is what one worker finds on its text.
-fn is_read<R>(
-    rt: &R,
-    path: &str,
-    text: &str,
-    workers: u32,
-    sizes: Sizes,
-) -> Result<bool, AllocError>
-where
-    R: Runtime + AllocGlobal + Threads + Sync,
-    R::File: FileExt + Sync,
-{
-    let Some(options) = options_of(rt.alloc(), 1)? else {
-        return Ok(false);
-    };
-    let whole = bench(rt, SOURCE.as_bytes(), text.as_bytes(), &options);
-    match &found_in(rt, path, workers, sizes)? {
-        Some(found) => Ok(is_same(found, &whole)),
-        None => Ok(false),
-    }
+    Ok(said.as_str() == wanted)
 }
 
 /// Whether a large file is read in sections as its text is judged, but not by one worker.
@@ -98,12 +45,11 @@ where
     R: Runtime + AllocGlobal + Threads + Sync,
     R::File: FileExt + Sync,
 {
-    let text = traces_of(rt.alloc(), 320_000, "")?;
+    let text = traces_of(rt.alloc(), 320_000)?;
     fs::write(rt, path, text.as_str())?;
-    if !is_read(rt, path, text.as_str(), 3, Sizes::usual(3))? {
-        return Ok(false);
-    }
-    Ok(found_in(rt, path, 1, Sizes::usual(1))?.is_none())
+    let mut whole = String::new(rt.alloc());
+    push_whole(rt, SOURCE, text.as_str().as_bytes(), &mut whole)?;
+    Ok(is_found(rt, path, 3, whole.as_str())? && is_found(rt, path, 1, "as a whole")?)
 }
 
 /// Whether a file that is not large is left to one worker.
@@ -112,9 +58,9 @@ where
     R: Runtime + AllocGlobal + Threads + Sync,
     R::File: FileExt + Sync,
 {
-    let text = traces_of(rt.alloc(), 100, "")?;
+    let text = traces_of(rt.alloc(), 100)?;
     fs::write(rt, path, text.as_str())?;
-    Ok(found_in(rt, path, 4, Sizes::usual(4))?.is_none())
+    Ok(is_found(rt, path, 4, "as a whole")?)
 }
 
 /// Whether a large file is read in sections, and whether a short one is left to one worker.
@@ -136,7 +82,7 @@ fn files(rt: HostRuntime) -> Result<(), Fail> {
     let (is_large, is_left) = are_read?;
     assert!(rt; is_large, "sections of a large file");
     assert!(rt; is_left, "one worker");
-    let none = found_in(&rt, path.as_str(), 4, Sizes::usual(4))?;
-    assert!(rt; none.is_none(), "no file");
+    let is_none = is_found(&rt, path.as_str(), 4, "no file")?;
+    assert!(rt; is_none, "no file");
     Ok(())
 }

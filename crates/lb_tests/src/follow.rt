@@ -1,12 +1,12 @@
 //! The live report: what goes out, and when.
 
-ghost use Rattle.std.specs.Prelude.{◌<◌, ◌≤◌};
+ghost use Rattle.std.specs.Prelude.{◌<◌};
 
 use crate::answers::spread;
-use crate::pool::{Hold, SPREADS, TURNS, push_case};
+use crate::pool::{Hold, LANES, SPREADS, TURNS, first_case, push_case};
 use crate::tables::write_out;
 use lb_report::{FollowError, FollowFault, Gate, NoGate, Options, Writer, follow, split_case};
-use std::alloc::{AllocError, Global};
+use std::alloc::AllocError;
 use std::hint::spin_loop;
 use std::io::{ErrorKind, Write};
 use std::rt::Runtime;
@@ -57,53 +57,24 @@ fn push_other<R: Runtime + AllocGlobal + Threads + Wait + Sync>(
     write!(said, "\n{workers} workers, {batch} lanes: {printed}")
 }
 
-// The same for each of three widths.
-fn push_widths<R: Runtime + AllocGlobal + Threads + Wait + Sync>(
+// The same for each of these numbers of workers and of lanes, in order and by
+// length.
+fn push_others<R: Runtime + AllocGlobal + Threads + Wait + Sync>(
     rt: &R,
     case: &str,
     report: &str,
-    workers: u32,
-    by_length: bool,
-    said: &mut String,
-) -> Result<(), AllocError>
-    requires some { 0 < workers }
-    requires few { workers ≤ 64 }
-{
-    push_other(
-        rt,
-        case,
-        report,
-        &spread(rt.alloc(), workers, 1, by_length)?,
-        said,
-    )?;
-    push_other(
-        rt,
-        case,
-        report,
-        &spread(rt.alloc(), workers, 7, by_length)?,
-        said,
-    )?;
-    push_other(
-        rt,
-        case,
-        report,
-        &spread(rt.alloc(), workers, 64, by_length)?,
-        said,
-    )
-}
-
-// The same for these numbers of workers, and for batches in order and by length.
-fn push_spread<R: Runtime + AllocGlobal + Threads + Wait + Sync>(
-    rt: &R,
-    case: &str,
-    report: &str,
-    by_length: bool,
     said: &mut String,
 ) -> Result<(), AllocError> {
-    push_widths(rt, case, report, 1, by_length, said)?;
-    push_widths(rt, case, report, 2, by_length, said)?;
-    push_widths(rt, case, report, 7, by_length, said)?;
-    push_widths(rt, case, report, 64, by_length, said)
+    for workers in [1u32, 2, 7, 64] {
+        let workers = workers.max(1);
+        for lanes in LANES {
+            let options = spread(rt.alloc(), workers, lanes, false)?;
+            push_other(rt, case, report, &options, said)?;
+            let options = spread(rt.alloc(), workers, lanes, true)?;
+            push_other(rt, case, report, &options, said)?;
+        }
+    }
+    Ok(())
 }
 
 /// The report goes out whole, whatever its verdicts are.
@@ -115,8 +86,7 @@ fn every_worker_and_width(rt: HostRuntime) -> Result<(), AllocError> {
     let mut said = String::new(rt.alloc());
     for short in SPREADS.split("\n%case\n") {
         write_case(short, &mut row, &mut case, &mut report)?;
-        push_spread(&rt, case.as_str(), report.as_str(), false, &mut said)?;
-        push_spread(&rt, case.as_str(), report.as_str(), true, &mut said)?;
+        push_others(&rt, case.as_str(), report.as_str(), &mut said)?;
     }
     assert_eq!(rt; said.as_str(), "");
     Ok(())
@@ -191,19 +161,10 @@ fn push_gated<R: Runtime + AllocGlobal + Threads + Wait + Sync, G: Gate + Sync>(
     Ok(())
 }
 
-// The case of sixty-five lengths.
-fn write_lengths(alloc: Global, case: &mut String) -> Result<(), AllocError> {
-    let (short, _) = SPREADS.split_once("\n%case\n").unwrap_or((SPREADS, ""));
-    let mut row = String::new(alloc);
-    let mut report = String::new(alloc);
-    write_case(short, &mut row, case, &mut report)
-}
-
 /// A body that writes everything at the end does not pass the gate.
 #[test]
 fn lines_while_a_batch_waits(rt: HostRuntime) -> Result<(), AllocError> {
-    let mut case = String::new(rt.alloc());
-    write_lengths(rt.alloc(), &mut case)?;
+    let case = first_case(rt.alloc())?;
     let lines = AtomicU64::new(0);
     let gate = UntilWritten {
         lines: &lines,
@@ -222,8 +183,7 @@ fn lines_while_a_batch_waits(rt: HostRuntime) -> Result<(), AllocError> {
 /// A body that runs all batches on one thread does not pass the gate.
 #[test]
 fn one_thread_for_all_lines(rt: HostRuntime) -> Result<(), AllocError> {
-    let mut case = String::new(rt.alloc());
-    write_lengths(rt.alloc(), &mut case)?;
+    let case = first_case(rt.alloc())?;
     let lines = AtomicU64::new(0);
     let gate = Hold::new();
     let mut said = String::new(rt.alloc());

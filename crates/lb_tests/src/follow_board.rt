@@ -7,17 +7,12 @@ ghost use Rattle.lb_flat.specs.Standing.{HasKindsOf};
 ghost use Rattle.lb_pool.specs.FollowSeats.{IsFollowSeatOf, right_of};
 ghost use Rattle.lb_pool.specs.Settlements.{IsRight};
 
-use crate::batches::ordered_of;
-use crate::pool::{SPREADS, push_case};
-use crate::tables::write_out;
+use crate::batches::prepared;
+use crate::pool::first_case;
 use lb_check::Verdict;
 use lb_flat::{Ordered, eval_trace};
 use lb_pool::{FollowBoard, FollowSeat, Look, Plan};
-use lb_report::split_case;
 use lb_sim::has_kinds;
-use lb_static::Signature;
-use lb_syntax::parse;
-use lb_trace::read_traces;
 use lb_traces::TraceSet;
 use std::alloc::{AllocError, Global};
 
@@ -161,33 +156,12 @@ fn push_steps(
     write!(said, "shares {}", seat.shares())
 }
 
-// The steps on the board of a program and a trace text.
-fn push_steps_on(
-    alloc: Global,
-    program: &(Signature, Ordered),
-    traces: &[u8],
-    said: &mut String,
-) -> Result<(), AllocError> {
-    match &read_traces(alloc, &program.0, traces) {
-        Ok(set) => push_steps(alloc, &program.1, set, said),
-        Err(_) => said.push_str("no traces"),
-    }
-}
-
 // The steps on the first case of the table, which has sixty-five traces.
 fn push_steps_of_row(alloc: Global, said: &mut String) -> Result<(), AllocError> {
-    let (short, _) = SPREADS.split_once("%answer\n").unwrap_or(("", ""));
-    let mut row = String::new(alloc);
-    let mut case = String::new(alloc);
-    let _ = write_out(&mut row, short)?;
-    push_case(&mut case, row.as_str())?;
-    let (source, traces) = split_case(case.as_str().as_bytes());
-    match &parse(alloc, source) {
-        Ok(tree) => match &ordered_of(alloc, tree, "") {
-            Some(program) => push_steps_on(alloc, program, traces, said),
-            None => said.push_str("no program"),
-        },
-        Err(_) => said.push_str("no source"),
+    let case = first_case(alloc)?;
+    match &prepared(alloc, case.as_str(), "") {
+        Some((ordered, set)) => push_steps(alloc, ordered, set, said),
+        None => said.push_str("refused"),
     }
 }
 

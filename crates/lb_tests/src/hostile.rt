@@ -1,6 +1,7 @@
 //! Texts that are cut short or damaged, and programs at their limits.
 
-use lb_report::{BenchError, Options, Report, run_case};
+use crate::answers::spread;
+use lb_report::{BenchError, Report, run_case};
 use std::alloc::{AllocError, Global};
 use std::rt::Runtime;
 use std::thread::Threads;
@@ -21,10 +22,16 @@ a,6
 b,0
 ";
 
-/// What is answered on a text, in one number: that of the refusal, or 0 for a report.
-fn outcome(answer: &Result<Report, BenchError>) -> u8 {
+/// The answer that is a report without its last line.
+const CUT_OFF: u8 = 99;
+
+/// An answer in one number: that of the refusal, or 0 for a report with its last line.
+fn number_of(answer: &Result<Report, BenchError>) -> u8 {
     match answer {
-        Ok(_) => 0,
+        Ok(report) => {
+            let is_whole = report.text.as_slice().ends_with(b"\n") && report.status < 2;
+            if is_whole { 0 } else { CUT_OFF }
+        }
         Err(error) => error.number(),
     }
 }
@@ -33,10 +40,9 @@ fn outcome(answer: &Result<Report, BenchError>) -> u8 {
 fn answer<R: Runtime + AllocGlobal + Threads + Sync>(
     rt: &R,
     case: &[u8],
-) -> Result<Result<Report, BenchError>, AllocError> {
-    let node = String::from_str(rt.alloc(), "main")?;
-    let options = Options::new(node, None, 1, 64, false);
-    Ok(run_case(rt, case, &options))
+) -> Result<u8, AllocError> {
+    let options = spread(rt.alloc(), 1, 64, false)?;
+    Ok(number_of(&run_case(rt, case, &options)))
 }
 
 /// What the last line of a trace text calls for: a trace name alone is a record without its cell
@@ -52,18 +58,18 @@ fn of_last_line(text: &str) -> u8 {
 
 /// What is to be answered on the case text where it ends after some bytes.
 fn wanted_of(text: &str) -> u8 {
-    let (source, rest) = text.split_once("tel").unwrap_or((text, "no end"));
-    if source.is_empty() {
-        return 4;
+    let Some((_, rest)) = text.split_once("tel") else {
+        return if text.is_empty() { 4 } else { 2 };
+    };
+    if rest.len() < 2 {
+        return 14;
     }
-    match rest {
-        "no end" => 2,
-        "" | "\n" => 14,
-        "\n%" | "\n%t" | "\n%tr" | "\n%tra" | "\n%trac" | "\n%trace" => 1,
-        _ => match rest.split_once("trace,x") {
-            None => 14,
-            Some((_, records)) => of_last_line(records),
-        },
+    if "\n%trace".starts_with(rest) {
+        return 1;
+    }
+    match rest.split_once("trace,x") {
+        None => 14,
+        Some((_, records)) => of_last_line(records),
     }
 }
 
@@ -75,7 +81,7 @@ fn first_wrong_cut<R: Runtime + AllocGlobal + Threads + Sync>(
         let Some(text) = CASE.get(..length) else {
             return Ok(Some(length));
         };
-        if outcome(&answer(rt, text.as_bytes())?) != wanted_of(text) {
+        if answer(rt, text.as_bytes())? != wanted_of(text) {
             return Ok(Some(length));
         }
     }
@@ -89,19 +95,11 @@ fn cut_texts(rt: HostRuntime) -> Result<(), AllocError> {
     Ok(())
 }
 
-/// Whether a text is answered by a refusal with a number of the texts, or by a report with its last
-/// line.
-fn is_whole_answer(answer: &Result<Report, BenchError>) -> bool {
-    match answer {
-        Ok(report) => report.text.as_slice().ends_with(b"\n") && report.status < 2,
-        Err(error) => 0 < error.number() && error.number() < 19,
-    }
-}
-
 /// The bytes that are put in place of each byte.
 const DAMAGE: [u8; 3] = [0, 0xFF, b'('];
 
-/// The first place at which the case text gets no whole answer when one of its bytes is another.
+/// The first place at which the case text is answered neither by a refusal with a number of the
+/// texts nor by a whole report when one of its bytes is another.
 fn first_wrong_damage<R: Runtime + AllocGlobal + Threads + Sync>(
     rt: &R,
 ) -> Result<Option<usize>, AllocError> {
@@ -112,7 +110,7 @@ fn first_wrong_damage<R: Runtime + AllocGlobal + Threads + Sync>(
                 return Ok(Some(place));
             };
             *damaged = byte;
-            if !is_whole_answer(&answer(rt, text.as_slice())?) {
+            if answer(rt, text.as_slice())? >= 19 {
                 return Ok(Some(place));
             }
         }
@@ -154,7 +152,7 @@ fn outcome_of_chain<R: Runtime + AllocGlobal + Threads + Sync>(
 ) -> Result<u8, AllocError> {
     let mut case = chain_of(rt.alloc(), count)?;
     case.push_str("%traces\ntrace,a\nt,1\n")?;
-    Ok(outcome(&answer(rt, case.as_bytes())?))
+    answer(rt, case.as_bytes())
 }
 
 #[test]

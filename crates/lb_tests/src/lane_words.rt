@@ -1,7 +1,7 @@
 //! Worked values of lane words, from the rules of the operators and not from the kernels.
 
 use crate::lanes::operator;
-use lb_lanes::{LaneWord, Plane};
+use lb_lanes::{LaneWord, Plane, Width};
 use std::alloc::AllocError;
 
 // Puts the value of `lane:value` into its lane.
@@ -33,38 +33,45 @@ fn plane_of(spelled: &str) -> Option<Plane> {
     Some(Plane(spelled.parse::<u64>().ok()?))
 }
 
-// What a kernel puts into `out`, and the plane that it gives.
-fn put(kernel: &[u8], a: &LaneWord, b: &LaneWord, active: Plane, out: &mut LaneWord) -> Plane {
+// What a kernel puts into the lanes of a width of `out`, and the plane that it gives.
+fn put(
+    kernel: &[u8],
+    a: &LaneWord,
+    b: &LaneWord,
+    active: Plane,
+    width: Width,
+    out: &mut LaneWord,
+) -> Plane {
     match kernel {
-        [b'=', ..] => return a.eq(b),
-        [b'<', ..] => return a.lt(b),
-        [b'l', ..] => return a.le(b),
-        [b'E', ..] => return out.set_where_eq(a, b, a, b),
-        [b'B', ..] => return out.set_where_lt(a, b, a, b),
-        [b'M', ..] => return out.set_where_le(a, b, a, b),
+        [b'=', ..] => return a.eq(b, width),
+        [b'<', ..] => return a.lt(b, width),
+        [b'l', ..] => return a.le(b, width),
+        [b'E', ..] => return out.set_where_eq(a, b, a, b, width),
+        [b'B', ..] => return out.set_where_lt(a, b, a, b, width),
+        [b'M', ..] => return out.set_where_le(a, b, a, b, width),
         [b'c', ..] => out.copy_from(a),
-        [b's', ..] => out.set_blend(active, a, b),
-        [sign, ..] => return a.operate(operator(*sign), b, active, out),
+        [b's', ..] => out.set_blend(active, a, b, width),
+        [sign, ..] => return a.operate(operator(*sign), b, active, width, out),
         [] => {}
     }
     Plane(0)
 }
 
 // What the kernel of a row makes of its two words; it puts it into lanes that hold 0.
-fn put_row(asked: &str) -> Option<(LaneWord, Plane)> {
+fn put_row(asked: &str, width: Width) -> Option<(LaneWord, Plane)> {
     let mut words = asked.split(' ');
     let kernel = words.next()?;
     let a = word_of(words.next()?)?;
     let b = word_of(words.next()?)?;
     let active = plane_of(words.next()?)?;
     let mut out = LaneWord::splat(0);
-    let plane = put(kernel.as_bytes(), &a, &b, active, &mut out);
+    let plane = put(kernel.as_bytes(), &a, &b, active, width, &mut out);
     Some((out, plane))
 }
 
 /// Lanes 0, 1, 31 and 63 of what a kernel makes of two words, and its plane.
 pub fn push_words(asked: &str, said: &mut String) -> Result<(), AllocError> {
-    match put_row(asked) {
+    match put_row(asked, Width::all()) {
         Some((out, plane)) => {
             for lane in [0u32, 1, 31, 63] {
                 write!(said, "{} ", out.get(lane))?;
@@ -73,6 +80,29 @@ pub fn push_words(asked: &str, said: &mut String) -> Result<(), AllocError> {
         }
         None => said.push_str("no numbers"),
     }
+}
+
+// The lanes of a row that are told, and what its kernel makes of the words in the least width with
+// these.
+fn put_narrow_row(asked: &str) -> Option<(Plane, LaneWord, Plane)> {
+    let (row, told) = asked.rsplit_once(' ')?;
+    let told = plane_of(told)?;
+    let (out, plane) = put_row(row, Width::of(told))?;
+    Some((told, out, plane))
+}
+
+/// The lanes that are told of what a kernel makes of two words in the least width with these, and
+/// of its plane.
+pub fn push_narrow(asked: &str, said: &mut String) -> Result<(), AllocError> {
+    let Some((told, out, plane)) = put_narrow_row(asked) else {
+        return said.push_str("no numbers");
+    };
+    for lane in 0..64u32 {
+        if told.get(lane) {
+            write!(said, "{} ", out.get(lane))?;
+        }
+    }
+    write!(said, "{}", plane.and(told).0)
 }
 
 // Kernels, two words, and the lanes that count or are taken; then lanes 0, 1, 31 and 63 of the
@@ -124,3 +154,45 @@ M 4,1:-4,63:9 4,1:3,63:-9 0 => 4 -4 4 -9 9223372036854775807
 set 1,63:2 3,1:-4 9223372036854775809 => 1 -4 3 2 0
 set 1,63:2 3,1:-4 all => 1 1 1 2 0
 copy -1,31:2147483647,63:-2147483648 0 0 => -1 -1 2147483647 -2147483648 0";
+
+// Kernels, two words, the lanes that count or are taken, and those that are told; then these lanes
+// of the result, and the faults or where it holds in them. Only the least width with the lanes that
+// are told is computed, and what stands in others is to change nothing.
+pub const NARROW: &str = "\
+= 4,15:-4,16:9 4 0 32769 => 0 0 1
+= 4,15:-4,31:9 4,16:0,31:9 0 2147581952 => 0 0 0 2147483648
+= 4,32:-4,47:9 4,47:9 0 140741783388160 => 0 0 0 140737488420864
+= 4,48:-4 4,63:9 0 9223653511831486464 => 0 0 0
+< -1,15:0,16:-5 0 0 32769 => 0 0 1
+< -1,16:2147483647 0,31:-2147483648 0 2147581952 => 0 0 0 32768
+< -1,47:-2147483648 -1,32:0,48:7 0 140741783388160 => 0 0 0 140741783322624
+< 3,16:-2147483648 -3 0 65536 => 0 65536
+le 4,15:2147483647 4 0 32769 => 0 0 1
+le 4,16:-2147483648,31:5 4 0 2147581952 => 0 0 0 98304
+le 4,32:5,47:4 4 0 140741783388160 => 0 0 0 140737488420864
+le 4,48:5 4 0 281474976710656 => 0 0
+E 4,15:-4 4,0:3 0 32769 => 3 4 0
+B 4,16:-4,31:9 4,31:10 0 2147581952 => 4 -4 9 2147549184
+M 4,32:9,47:-9 4,16:3 0 140741783388160 => 3 4 -9 140737488355328
+set 1,15:2 3,0:-4 32768 32769 => -4 2 0
+set 1,31:2 3,16:-4 2147483648 2147581952 => 3 -4 2 0
+set 1,47:2,48:5 3,32:-4 all 140741783388160 => 1 1 2 0
+set 1,32:2 3,32:-4 18446744069414584319 4294967296 => -4 0
++ 2147483647,15:5 1 all 32769 => 0 6 1
++ 2147483647,15:5 1 18446744073709551614 32769 => 0 6 0
++ 5,16:2147483647,48:2147483647 7,16:1,48:1 all 140741783388160 => 0 12 12 65536
++ 5,48:2147483647,63:-8 7 all 9223653511831486464 => 0 -1 281474976710656
+- -2147483648,15:3,31:0 1 all 2147581952 => 2 0 -1 65536
+* 3,15:65536,16:46341 32768,0:-7 all 32769 => -21 0 32768
+* 65536,16:3,31:-65536 32768,16:7 all 2147581952 => 0 21 -2147483648 32768
+* 46340,47:46341 46340,47:46341 all 140741783388160 => 2147395600 2147395600 0 140737488355328
+/ 7,15:-7 2,16:0,48:0 all 32769 => 3 -3 0
+/ 9 0,15:2 32768 32769 => 0 4 0
+/ 100,15:9 9,15:0,16:3 all 32769 => 11 0 32768
+/ 7,31:-2147483648 -1,32:5 all 2147581952 => -7 -7 0 2147483648
+/ 700,47:-701 7,32:8,63:0 all 140741783388160 => 100 87 -100 0
+/ 8388608,16:-9,47:2147483647 10,16:2,47:-641,48:0 all 140741783388160 => -4 838860 -3350208 0
+% 7,0:-7 2,48:0 all 32769 => -1 1 0
+% 699,16:-699,31:701 7,32:0 all 2147581952 => 6 -6 1 0
+% 100,32:-100,47:5 9,16:-3,47:0 all 140741783388160 => 1 -1 0 140737488355328
+% -2147483648,32:7 -1,47:2147483647 all 140741783388160 => 0 0 -1 65536";

@@ -5,7 +5,7 @@ ghost use Rattle.std.specs.Prelude.{◌≡◌, ◌<◌, ◌≤◌, ◌+◌, IfSo
 ghost use Rattle.lb_machine.specs.Correct.{HasRoom};
 
 use crate::lanes::{number, operator};
-use lb_lanes::{IntOperator, LaneWord};
+use lb_lanes::{IntOperator, LaneWord, Width};
 use lb_machine::{
     Code, Comparison, EVERYWHERE, NOWHERE, PlaneId, PlaneOperator, WordId, carry_planes,
     carry_words,
@@ -284,7 +284,7 @@ fn push_run(
     if planes.len() != code.planes as usize || words.len() != code.words as usize {
         return said.push_str("no room");
     }
-    code.run(planes, words);
+    code.run(planes, words, Width::all());
     write!(said, "{}:", instructions(code))?;
     push_made(planes, words, all, said)
 }

@@ -1,17 +1,16 @@
 //! Plans, claim boards, and runs by workers.
 
-ghost use Rattle.std.specs.Prelude.{◌≡◌, ◌≤◌};
+ghost use Rattle.std.specs.Prelude.{◌≡◌};
 ghost use Rattle.lb_pool.specs.Seats.{IsSeatOf, shares_of};
 
 use crate::answers::{push_answer, push_outcome, spread};
-use crate::batches::ordered_of;
+use crate::batches::prepared;
 use crate::tables::write_out;
 use lb_check::Verdict;
 use lb_flat::{Ordered, eval_trace};
 use lb_pool::{ClaimBoard, ClaimSeat, Gate, Plan, run_claims};
-use lb_report::{Options, run_case, split_case, status};
+use lb_report::{Options, run_case, status};
 use lb_static::Signature;
-use lb_syntax::parse;
 use lb_trace::read_traces;
 use lb_traces::TraceSet;
 use std::alloc::{AllocError, Global};
@@ -236,16 +235,18 @@ pub fn push_case(case: &mut String, short: &str) -> Result<(), AllocError> {
     Ok(())
 }
 
+/// How many lanes a batch has.
+pub const LANES: [u32; 3] = [1, 7, 64];
+
 // What a run on a case answers, where that is otherwise than was said.
 fn push_other<R: Runtime + AllocGlobal + Threads + Sync>(
     rt: &R,
     case: &str,
     options: &Options,
     said: &mut String,
-    other: &mut String,
 ) -> Result<(), AllocError> {
-    other.clear();
-    push_outcome(other, &run_case(rt, case.as_bytes(), options))?;
+    let mut other = String::new(rt.alloc());
+    push_outcome(&mut other, &run_case(rt, case.as_bytes(), options))?;
     if other.as_str() == said.as_str() {
         return Ok(());
     }
@@ -253,52 +254,19 @@ fn push_other<R: Runtime + AllocGlobal + Threads + Sync>(
     write!(said, "\n{workers} workers, {batch} lanes: {other}")
 }
 
-// The same for each of three widths.
-fn push_widths<R: Runtime + AllocGlobal + Threads + Sync>(
+// The same for each of these numbers of workers and lanes, in order and by length.
+fn push_others<R: Runtime + AllocGlobal + Threads + Sync>(
     rt: &R,
     case: &str,
-    workers: u32,
-    by_length: bool,
     said: &mut String,
-    other: &mut String,
-) -> Result<(), AllocError>
-    requires { workers ≤ 64 }
-{
-    push_other(
-        rt,
-        case,
-        &spread(rt.alloc(), workers, 1, by_length)?,
-        said,
-        other,
-    )?;
-    push_other(
-        rt,
-        case,
-        &spread(rt.alloc(), workers, 7, by_length)?,
-        said,
-        other,
-    )?;
-    push_other(
-        rt,
-        case,
-        &spread(rt.alloc(), workers, 64, by_length)?,
-        said,
-        other,
-    )
-}
-
-// The same for batches in order and by length.
-fn push_orders<R: Runtime + AllocGlobal + Threads + Sync>(
-    rt: &R,
-    case: &str,
-    workers: u32,
-    said: &mut String,
-    other: &mut String,
-) -> Result<(), AllocError>
-    requires { workers ≤ 64 }
-{
-    push_widths(rt, case, workers, false, said, other)?;
-    push_widths(rt, case, workers, true, said, other)
+) -> Result<(), AllocError> {
+    for workers in [0, 1, 2, 7, 64] {
+        for lanes in LANES {
+            push_other(rt, case, &spread(rt.alloc(), workers, lanes, false)?, said)?;
+            push_other(rt, case, &spread(rt.alloc(), workers, lanes, true)?, said)?;
+        }
+    }
+    Ok(())
 }
 
 /// What runs with all these numbers of workers and widths, in order and by length, answer on a case
@@ -309,14 +277,9 @@ pub fn push_spread<R: Runtime + AllocGlobal + Threads + Sync>(
     said: &mut String,
 ) -> Result<(), AllocError> {
     let mut case = String::new(rt.alloc());
-    let mut other = String::new(rt.alloc());
     push_case(&mut case, asked)?;
     push_answer(rt, case.as_str(), "", said)?;
-    push_orders(rt, case.as_str(), 0, said, &mut other)?;
-    push_orders(rt, case.as_str(), 1, said, &mut other)?;
-    push_orders(rt, case.as_str(), 2, said, &mut other)?;
-    push_orders(rt, case.as_str(), 7, said, &mut other)?;
-    push_orders(rt, case.as_str(), 64, said, &mut other)
+    push_others(rt, case.as_str(), said)
 }
 
 // Sixty-five lengths, so that at width 64 the second batch has one trace; traces of which some end
@@ -464,52 +427,28 @@ fn push_verdicts<R: Threads + Sync>(
     push_last(alloc, ordered, set, said)
 }
 
-// The same of a program and a trace text.
-fn push_gated_traces<R: Threads + Sync>(
-    rt: &R,
-    alloc: Global,
-    program: &(Signature, Ordered),
-    traces: &[u8],
-    gate: &Hold,
-    said: &mut String,
-) -> Result<(), AllocError> {
-    match &read_traces(alloc, &program.0, traces) {
-        Ok(set) => push_verdicts(rt, alloc, &program.1, set, gate, said),
-        Err(_) => said.push_str("no traces"),
-    }
-}
-
-// The same of a case.
-fn push_gated<R: Threads + Sync>(
-    rt: &R,
-    alloc: Global,
-    case: &str,
-    gate: &Hold,
-    said: &mut String,
-) -> Result<(), AllocError> {
-    let (source, traces) = split_case(case.as_bytes());
-    match &parse(alloc, source) {
-        Ok(tree) => match &ordered_of(alloc, tree, "") {
-            Some(program) => push_gated_traces(rt, alloc, program, traces, gate, said),
-            None => said.push_str("no program"),
-        },
-        Err(_) => said.push_str("no source"),
-    }
-}
-
-// The same of the first case of a table whose records are told by their count.
-fn push_gated_row<R: Threads + Sync>(
-    rt: &R,
-    alloc: Global,
-    gate: &Hold,
-    said: &mut String,
-) -> Result<(), AllocError> {
+/// The first case of the table, which has sixty-five traces.
+pub fn first_case(alloc: Global) -> Result<String, AllocError> {
     let (short, _) = SPREADS.split_once("%answer\n").unwrap_or(("", ""));
     let mut row = String::new(alloc);
     let mut case = String::new(alloc);
     let _ = write_out(&mut row, short)?;
     push_case(&mut case, row.as_str())?;
-    push_gated(rt, alloc, case.as_str(), gate, said)
+    Ok(case)
+}
+
+// The same of the first case.
+fn push_gated<R: Threads + Sync>(
+    rt: &R,
+    alloc: Global,
+    gate: &Hold,
+    said: &mut String,
+) -> Result<(), AllocError> {
+    let case = first_case(alloc)?;
+    match &prepared(alloc, case.as_str(), "") {
+        Some((ordered, set)) => push_verdicts(rt, alloc, ordered, set, gate, said),
+        None => said.push_str("refused"),
+    }
 }
 
 /// A body that runs all batches on one thread does not pass the gate.
@@ -517,7 +456,7 @@ fn push_gated_row<R: Threads + Sync>(
 fn one_thread_for_all(rt: HostRuntime) -> Result<(), AllocError> {
     let gate = Hold::new();
     let mut said = String::new(rt.alloc());
-    push_gated_row(&rt, rt.alloc(), &gate, &mut said)?;
+    push_gated(&rt, rt.alloc(), &gate, &mut said)?;
     assert!(rt; !gate.has_given_up(), "batch 1 was not entered");
     assert_eq!(rt; said.as_str(), "65 verdicts, status 1, last false 64");
     Ok(())

@@ -1,8 +1,6 @@
 //! Traces that come from a feed and are judged in rounds of a few bytes: what is answered is what
 //! the text as a whole calls for.
 
-ghost use Rattle.std.specs.Prelude.{◌≤◌};
-
 use crate::answers::{push_refusal, spread};
 use crate::readings::push_text;
 use lb_report::{BenchError, FeedFault, LoadError, Reader, Report, Sizes, bench, bench_feed};
@@ -113,6 +111,16 @@ pub fn push_whole<R: Runtime + AllocGlobal + Threads + Sync>(
     }
 }
 
+/// What is found on a feed or a file, in one line.
+pub fn push_found(said: &mut String, found: &Result<Report, FeedFault>) -> Result<(), AllocError> {
+    match found {
+        Ok(report) => push_report(said, report),
+        Err(FeedFault::Refused(cause)) => push_cause(said, cause),
+        Err(FeedFault::Load(LoadError::Read)) => said.push_str("E21"),
+        Err(FeedFault::Load(LoadError::Memory)) => said.push_str("E0"),
+    }
+}
+
 /// What is answered on a source and a feed by so many workers, in rounds of these sizes.
 pub fn push_judged<R: Runtime + AllocGlobal + Threads + Sync>(
     rt: &R,
@@ -121,17 +129,13 @@ pub fn push_judged<R: Runtime + AllocGlobal + Threads + Sync>(
     workers: u32,
     sizes: Sizes,
     said: &mut String,
-) -> Result<(), AllocError>
-    requires { workers ≤ 64 }
-{
+) -> Result<(), AllocError> {
     let options = spread(rt.alloc(), workers, 64, false)?;
     let mut feed = Reader::new(pieces);
-    match bench_feed(rt, source.as_bytes(), &mut feed, &options, sizes) {
-        Ok(report) => push_report(said, &report),
-        Err(FeedFault::Refused(cause)) => push_cause(said, &cause),
-        Err(FeedFault::Load(LoadError::Read)) => said.push_str("E21"),
-        Err(FeedFault::Load(LoadError::Memory)) => said.push_str("E0"),
-    }
+    push_found(
+        said,
+        &bench_feed(rt, source.as_bytes(), &mut feed, &options, sizes),
+    )
 }
 
 /// What is answered on a feed in rounds, where that is not what is given, and nothing is said yet.
@@ -143,9 +147,7 @@ fn push_unlike<R: Runtime + AllocGlobal + Threads + Sync>(
     sizes: Sizes,
     given: &str,
     said: &mut String,
-) -> Result<(), AllocError>
-    requires { workers ≤ 64 }
-{
+) -> Result<(), AllocError> {
     if !said.is_empty() {
         return Ok(());
     }
@@ -178,17 +180,9 @@ pub fn push_other<R: Runtime + AllocGlobal + Threads + Sync>(
     for sizes in SIZES {
         push_unlike(rt, source, Pieces::new(text, first), 1, sizes, given, said)?;
     }
-    let workers = WORKERS[first % 4].min(64);
-    let sizes = SIZES[first % 3];
-    push_unlike(
-        rt,
-        source,
-        Pieces::new(text, first),
-        workers,
-        sizes,
-        given,
-        said,
-    )
+    let (workers, sizes) = (WORKERS[first % 4], SIZES[first % 3]);
+    let pieces = Pieces::new(text, first);
+    push_unlike(rt, source, pieces, workers, sizes, given, said)
 }
 
 /// A sum over the instants of a trace.
@@ -303,7 +297,7 @@ fn first_told<R: Runtime + AllocGlobal + Threads + Sync>(
             said.clear();
             let pieces = Pieces::failing(given, count / 2);
             let sizes = SIZES[count % 3];
-            push_judged(rt, source, pieces, workers.min(64), sizes, &mut said)?;
+            push_judged(rt, source, pieces, workers, sizes, &mut said)?;
             if said.as_str() != "E21" {
                 return Ok(Some((count, workers)));
             }

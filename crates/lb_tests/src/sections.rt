@@ -1,12 +1,10 @@
 //! Trace files that several workers read in sections: as they stand, in short reads, and changed
 //! between two reads.
 
-ghost use Rattle.std.specs.Prelude.{◌≤◌};
-
 use crate::answers::spread;
 use crate::readings::push_text;
-use crate::rounds::{FAILING, SIZES, SUM, push_cause, push_report};
-use lb_report::{FeedFault, LoadError, Report, Sizes, bench_ranges};
+use crate::rounds::{FAILING, SIZES, SUM, push_found};
+use lb_report::{FilePlaces, Sizes, bench_ranges};
 use std::alloc::{AllocError, Global};
 use std::fs::{Metadata, OpenFile};
 use std::io::{Error, ErrorKind};
@@ -98,35 +96,24 @@ impl FileExt for Held<'_> {
 /// How many workers judge.
 const WORKERS: [u32; 3] = [0, 2, 7];
 
-/// What is answered on a file by so many workers; none where it is not read in sections.
-fn judged<R: Runtime + AllocGlobal + Threads + Sync>(
+/// What is answered on a source and a file by so many workers.
+pub fn push_ranges<R, F>(
     rt: &R,
-    file: &Held<'_>,
-    workers: u32,
-    sizes: Sizes,
-) -> Result<Option<Result<Report, FeedFault>>, AllocError>
-    requires { workers ≤ 64 }
-{
-    let options = spread(rt.alloc(), workers, 64, false)?;
-    Ok(bench_ranges(rt, SUM.as_bytes(), file, &options, sizes))
-}
-
-// The same in words.
-fn push_judged<R: Runtime + AllocGlobal + Threads + Sync>(
-    rt: &R,
-    file: &Held<'_>,
+    source: &str,
+    file: &F,
     workers: u32,
     sizes: Sizes,
     said: &mut String,
 ) -> Result<(), AllocError>
-    requires { workers ≤ 64 }
+where
+    R: Runtime + AllocGlobal + Threads + Sync,
+    F: OpenFile + FileExt + Sync,
 {
-    match judged(rt, file, workers, sizes)? {
+    let options = spread(rt.alloc(), workers, 64, false)?;
+    let places = FilePlaces::new(file);
+    match &bench_ranges(rt, source.as_bytes(), &places, &options, sizes) {
         None => said.push_str("as a whole"),
-        Some(Ok(report)) => push_report(said, &report),
-        Some(Err(FeedFault::Refused(cause))) => push_cause(said, &cause),
-        Some(Err(FeedFault::Load(LoadError::Read))) => said.push_str("E21"),
-        Some(Err(FeedFault::Load(LoadError::Memory))) => said.push_str("E0"),
+        Some(found) => push_found(said, found),
     }
 }
 
@@ -139,10 +126,10 @@ pub fn push_other<R: Runtime + AllocGlobal + Threads + Sync>(
     wanted: &str,
     said: &mut String,
 ) -> Result<(), AllocError> {
-    let workers = WORKERS[most % 3].min(64);
+    let (workers, sizes) = (WORKERS[most % 3], SIZES[most / 3 % 3]);
     let mut other = String::new(rt.alloc());
     let file = Held::new(text, most);
-    push_judged(rt, &file, workers, SIZES[most / 3 % 3], &mut other)?;
+    push_ranges(rt, SUM, &file, workers, sizes, &mut other)?;
     if other.as_str() == wanted {
         return Ok(());
     }
@@ -160,7 +147,8 @@ pub fn push_sections<R: Runtime + AllocGlobal + Threads + Sync>(
     let mut text = String::new(rt.alloc());
     push_text(asked, &mut text)?;
     let bytes = text.as_str().as_bytes();
-    push_judged(rt, &Held::new(bytes, usize::MAX), 2, SIZES[0], said)?;
+    let file = Held::new(bytes, usize::MAX);
+    push_ranges(rt, SUM, &file, 2, SIZES[0], said)?;
     let mut other = String::new(rt.alloc());
     for most in 1..50usize {
         push_other(rt, bytes, most, said.as_str(), &mut other)?;
@@ -181,66 +169,67 @@ fn numbered_text(alloc: Global, letter: char, count: u32) -> Result<String, Allo
     Ok(text)
 }
 
-/// The number behind one of two letters.
-fn number_behind(name: &str, letters: (char, char)) -> Option<usize> {
-    let number = match name.strip_prefix(letters.0) {
+/// The number behind the letter `a` or another.
+fn number_behind(name: &str, letter: char) -> Option<usize> {
+    let number = match name.strip_prefix('a') {
         Some(number) => number,
-        None => name.strip_prefix(letters.1)?,
+        None => name.strip_prefix(letter)?,
     };
     number.parse::<usize>().ok()
 }
 
-/// Whether the traces of a report passed and have the numbers from 0 on, behind one of two letters.
-fn is_numbered(report: &Report, letters: (char, char)) -> bool {
-    let text = std::str::from_utf8(report.text.as_slice()).unwrap_or("no text");
-    for (k, line) in text.split_terminator('\n').enumerate() {
+/// Whether what is said is a report on so many traces or more that all passed, with the numbers from
+/// 0 on behind the letter `a` or another.
+fn is_numbered(said: &str, letter: char, least: usize) -> bool {
+    for (k, line) in said.split("; ").enumerate() {
         let Some(name) = line.strip_suffix(" passed") else {
-            return line.starts_with("total ");
+            return k >= least && line.starts_with("total ");
         };
-        if number_behind(name, letters) != Some(k) {
+        if number_behind(name, letter) != Some(k) {
             return false;
         }
     }
     false
 }
 
-/// Whether the report on a file that changes after so many reads has each line of the file once,
-/// as it was at some read. There may be no report where the file is not read in sections.
+/// Whether the report on a file that changes has each of so many lines once, as it was at some
+/// read. There may be no report where the file is not read in sections.
 fn is_whole_report<R: Runtime + AllocGlobal + Threads + Sync>(
     rt: &R,
     file: &Held<'_>,
-    letters: (char, char),
+    letter: char,
+    least: usize,
     workers: u32,
-) -> Result<bool, AllocError>
-    requires { workers ≤ 64 }
-{
+) -> Result<bool, AllocError> {
     let sizes = Sizes {
         window: 1024,
         round: 1024,
         least: 1,
     };
-    match judged(rt, file, workers, sizes)? {
-        Some(Ok(report)) => Ok(is_numbered(&report, letters)),
-        Some(Err(_)) => Ok(false),
-        None => Ok(true),
-    }
+    let mut said = String::new(rt.alloc());
+    push_ranges(rt, SUM, file, workers, sizes, &mut said)?;
+    Ok(said.as_str() == "as a whole" || is_numbered(said.as_str(), letter, least))
 }
 
-/// The file that a file becomes: the letter of its traces, and how many they are.
-const LATER: [(char, u32); 4] = [('b', 3_000), ('c', 5_000), ('d', 200), ('e', 0)];
+/// How many lines a file has at first.
+const LINES: u32 = 3_000;
+
+/// What it becomes: the letter of its traces, and how many they are.
+const LATER: [(char, u32); 4] = [('b', LINES), ('c', 5_000), ('d', 200), ('e', 0)];
 
 /// Files that become another one between two reads: as long, longer, shorter and empty.
 #[test]
 fn changing_files(rt: HostRuntime) -> Result<(), AllocError> {
     let alloc = rt.alloc();
-    let text = numbered_text(alloc, 'a', 3_000)?;
+    let text = numbered_text(alloc, 'a', LINES)?;
     let text = text.as_str().as_bytes();
     for (letter, count) in LATER {
         let later = numbered_text(alloc, letter, count)?;
+        let least = count.min(LINES) as usize;
         for reads in 0..50u64 {
             for workers in [2, 7] {
                 let file = Held::changing(text, Some(later.as_str().as_bytes()), reads);
-                let is_whole = is_whole_report(&rt, &file, ('a', letter), workers)?;
+                let is_whole = is_whole_report(&rt, &file, letter, least, workers)?;
                 assert!(rt; is_whole, "{letter} after {reads} reads, {workers} workers");
             }
         }
@@ -253,15 +242,13 @@ fn is_failure_told<R: Runtime + AllocGlobal + Threads + Sync>(
     rt: &R,
     file: &Held<'_>,
     workers: u32,
-) -> Result<bool, AllocError>
-    requires { workers ≤ 64 }
-{
-    match judged(rt, file, workers, SIZES[1])? {
-        Some(Ok(_)) => Ok(!file.has_changed()),
-        Some(Err(FeedFault::Load(LoadError::Read))) => Ok(true),
-        Some(Err(_)) => Ok(false),
-        None => Ok(true),
+) -> Result<bool, AllocError> {
+    let mut said = String::new(rt.alloc());
+    push_ranges(rt, SUM, file, workers, SIZES[1], &mut said)?;
+    if said.as_str() == "E21" || said.as_str() == "as a whole" {
+        return Ok(true);
     }
+    Ok(!said.as_str().starts_with("E") && !file.has_changed())
 }
 
 /// Files of which no more can be read after so many reads.

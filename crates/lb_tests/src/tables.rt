@@ -70,6 +70,8 @@ enum Asks<'a> {
     Ints,
     /// A kernel on words of 64 integers, and its operands.
     Words,
+    /// The same, and the lanes of a width.
+    NarrowWords,
     /// A kernel on planes, and its operands.
     Planes,
     /// The rows of a matrix of bits.
@@ -172,11 +174,12 @@ static CAUSE_TABLES: [Table; 10] = [
 ];
 
 /// Kernels, code, cycles, batches and what is claimed of them.
-static LANE_TABLES: [Table; 11] = [
+static LANE_TABLES: [Table; 12] = [
     (Asks::Ints, LINES, lanes::INTEGERS),
     (Asks::Planes, LINES, lanes::PLANES),
     (Asks::Matrices, LINES, lanes::MATRICES),
     (Asks::Words, LINES, lane_words::WORDS),
+    (Asks::NarrowWords, LINES, lane_words::NARROW),
     (Asks::Codes, LINES, machine::CODES),
     (Asks::Carries, LINES, machine::CARRIES),
     (Asks::Batches, BATCHES, batches::BATCHES),
@@ -295,6 +298,7 @@ fn push_answer<R: Runtime + AllocGlobal + Threads + Sync>(
         Asks::Files => sections::push_sections(rt, asked, said),
         Asks::Ints => lanes::push_ints(asked, said),
         Asks::Words => lane_words::push_words(asked, said),
+        Asks::NarrowWords => lane_words::push_narrow(asked, said),
         Asks::Planes => lanes::push_plane(asked, said),
         Asks::Matrices => lanes::push_transposed(asked, said),
         Asks::Codes => machine::push_results(rt.alloc(), asked, said),
