@@ -46,3 +46,4 @@ pub mod LowestBits
 pub mod NumberEnds
 pub mod NumberWords
 pub mod FourNumbers
+pub mod WrittenCells

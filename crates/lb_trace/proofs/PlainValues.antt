@@ -1,10 +1,13 @@
 -- Rows, one cell after the other.
 use Rattle.std.proofs.Common.{ℕ, ◌≡◌, ◌+◌, ◌<◌, ◌≤◌, Bool, true, false, if◌then◌else◌, List, []}
 use Rattle.std.proofs.Common.{◌∷◌, ◌++◌, length, get_or, drop, Option, Some, None, ℤ, refl, sym, ap}
-use Rattle.std.proofs.Common.{◌∙◌, arith, append_assoc}
+use Rattle.std.proofs.Common.{◌-◌, ◌∙◌, arith, append_assoc, length-drop, take}
 use Rattle.std.proofs.lemmas.List.{append-nil, drop_all, drop_more}
+use Rattle.std.specs.Borrow.{Bor}
 use Rattle.std.specs.Int.{w32}
+use Rattle.std.specs.Prelude.{MatchOption}
 use Rattle.std.proofs.lemmas.Int.{to_z-of_z}
+use borrow.Rule.Slice.PartMut.{put_mid}
 use mir.Val.{SFits, of_z, to_z}
 use Rattle.std.specs.Option.{option_and_then, option_map}
 use Rattle.lb_syntax.specs.declared.tree.Kind.{Kind}
@@ -143,3 +146,27 @@ after-last k text rest v is_last b e =
     let end : is_last_cell text ≡ true = sym b.2 ∙ e in
     b.1 ∙ sym (after-cell text
     ∙ ap (λ t. if t then after_cell text else after_line (after_cell text)) end)
+
+-- what is read of the last cells is read of all
+pub tail-read : (r : Option (Bor (List ℕ))) (columns some : List Column) (i : ℕ)
+    (text rest : List ℕ) (row more all : List ℤ) → some ≡ drop i columns
+    → plain_row columns (record_of text) ≡ onto row (plain_row (drop i columns) (record_of rest))
+    → after_line text ≡ after_line rest → all ≡ row ++ more
+    → MatchOption r (plain_row some (record_of rest) ≡ None)
+    (λ after. (plain_row some (record_of rest) ≡ Some more) × (after.now ≡ after_line rest))
+    → MatchOption r (plain_row columns (record_of text) ≡ None)
+    (λ after. (plain_row columns (record_of text) ≡ Some all) × (after.now ≡ after_line text))
+tail-read None columns some i text rest row more all is cells after joined read =
+    cells ∙ ap (λ ks. onto row (plain_row ks (record_of rest))) (sym is) ∙ ap (onto row) read
+tail-read (Some left) columns some i text rest row more all is cells after joined read = (
+  cells ∙ ap (λ ks. onto row (plain_row ks (record_of rest))) (sym is) ∙ ap (onto row) read.0
+      ∙ ap Some (sym joined),
+  read.1 ∙ sym after,
+)
+
+-- a row whose last cells are written
+pub put-tail : (xs ys : List ℤ) (a : ℕ) → put_mid a (length xs - a) xs ys ≡ take a xs ++ ys
+put-tail xs ys a =
+    let none : drop (length xs - a) (drop a xs) ≡ [] =
+    drop_all (length xs - a) (drop a xs) (omega (arith, length-drop a xs)) in
+    ap (λ l. take a xs ++ (ys ++ l)) none ∙ ap (λ l. take a xs ++ l) (append-nil ys)

@@ -62,6 +62,13 @@ impl Known {
         }
     }
 
+    /// Lets all names go.
+    pub(crate) fn clear(&mut self)
+        ensures { knows self.new [] }
+    {
+        self.rising = true;
+    }
+
     /// Takes a name among those of some traces, where it is lawful and new.
     pub(crate) fn take<'a>(
         &mut self,

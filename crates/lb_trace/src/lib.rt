@@ -26,6 +26,7 @@ mod record;
 mod recorder;
 mod roll;
 mod round;
+mod row_cells;
 mod rows;
 mod scan;
 mod small;

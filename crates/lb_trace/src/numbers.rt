@@ -63,7 +63,7 @@ pub(crate) fn four_numbers<'t>(columns: &[Column], text: &'t [u8]) -> Option<Fou
 /// integers and each is short. None says nothing of the text.
 #[inline(always)]
 pub(crate) fn last_four<'t>(columns: &[Column], text: &'t [u8]) -> Option<FourNumbers<'t>>
-    ensures { IfSome result (λ found. ((row : List ℤ)
+    ensures { IfSome result (λ found. (length columns.now ≡ 4) × ((row : List ℤ)
         → onto row (plain_row columns.now (record_of text.now)) ≡ Some (row ++ found.values))
         × (found.rest.now ≡ after_line text.now)) }
 {

@@ -9,6 +9,7 @@ ghost use Rattle.lb_trace.specs.PlainRows.{AreInOrder, ArePlaced};
 
 use crate::header::Column;
 use crate::plain_rows::read_line;
+use crate::row_cells::make_long;
 use crate::table::ColumnTable;
 use std::alloc::AllocError;
 
@@ -70,10 +71,7 @@ fn take_places(columns: &[Column], values: &[i32], row: &mut Vec<i32>) -> Result
     ensures { OnOk result
         (row.new.items ≡ map (λ column. get_or values.now column.at (pos 0)) columns.now) }
 {
-    if row.len() != columns.len() {
-        row.clear();
-        row.resize(columns.len(), 0)?;
-    }
+    make_long(row, columns.len())?;
     fill_places(columns, values, row.as_mut_slice());
     Ok(())
 }

@@ -1,14 +1,15 @@
 //! The row that the cells of a record without quotes spell, in one pass over its bytes.
 
-ghost use Rattle.std.specs.Prelude.{◌≡◌, Some, None, IfOk, MatchOption};
+ghost use Rattle.std.specs.Prelude.{◌≡◌, Some, None, IfOk, MatchOption, length};
 ghost use Rattle.lb_trace.specs.Cells.{cell_value};
 ghost use Rattle.lb_trace.specs.Lines.{after_line, record_of};
-ghost use Rattle.lb_trace.specs.PlainRows.{BeginsWith, onto, plain_row};
+ghost use Rattle.lb_trace.specs.PlainRows.{BeginsWith, plain_row};
 ghost use Rattle.lb_trace.specs.Scan.{cell_of};
 
 use crate::cells::cell_value;
 use crate::header::Column;
 use crate::numbers::{cell_at, four_numbers, last_four, others_in};
+use crate::row_cells::{make_long, put_four, put_one};
 use crate::scan::next_cell;
 use crate::small::{Value, small_cell};
 use crate::truths::four_cells;
@@ -17,7 +18,7 @@ use std::alloc::AllocError;
 
 /// Reads the cells of a record into `row`, one for each column, and gives what stands after the
 /// record; None where the cells spell no such row.
-#[inline(never)]
+#[inline(always)]
 pub(crate) fn read_line<'t>(
     columns: &[Column],
     text: &'t [u8],
@@ -28,103 +29,121 @@ pub(crate) fn read_line<'t>(
         (λ rest. (plain_row columns.now (record_of text.now) ≡ Some row.new.items)
         × (rest.now ≡ after_line text.now))) }
 {
-    row.clear();
+    make_long(row, columns.len())?;
+    Ok(fill_line(columns, text, row.as_mut_slice()))
+}
+
+// The same into a row that has a cell for each column.
+#[inline(never)]
+fn fill_line<'t>(columns: &[Column], text: &'t [u8], cells: &mut [i32]) -> Option<&'t [u8]>
+    requires { length cells.old ≡ length columns.now }
+    ensures { MatchOption result
+        (plain_row columns.now (record_of text.now) ≡ None)
+        (λ rest. (plain_row columns.now (record_of text.now) ≡ Some cells.new)
+        × (rest.now ≡ after_line text.now)) }
+{
     let mut rest = text;
     let mut i = 0;
     while columns.len() - i > 4 {
         if let Some(values) = four_cells(&columns[i..], rest) {
-            row.extend_from_slice(&values)?;
+            put_four(cells, i, values);
             rest = &rest[8..];
             i += 4;
             continue;
         }
         if let Some(numbers) = four_numbers(&columns[i..], rest) {
-            row.extend_from_slice(&numbers.values)?;
+            let values = numbers.values;
+            put_four(cells, i, values);
             rest = numbers.rest;
             i += 4;
             continue;
         }
         let Some(cell) = small_cell(columns[i].kind, rest, true) else {
-            return other_row(&columns[i..], rest, row);
+            return other_cells(&columns[i..], rest, &mut cells[i..]);
         };
-        row.push(cell.value)?;
+        put_one(cells, i, cell.value);
         i += 1;
         if cell.is_last {
-            return Ok(None);
+            return None;
         }
         rest = cell.rest;
     }
-    if let Some(numbers) = last_four(&columns[i..], rest) {
-        row.extend_from_slice(&numbers.values)?;
-        return Ok(Some(numbers.rest));
-    }
-    last_numbers(&columns[i..], rest, row)
+    last_cells(&columns[i..], rest, &mut cells[i..])
 }
 
-// The same for the last few cells, after the values that `row` has already; from the first on that
-// is no short number they are left to `other_row`.
+// The same for the last few cells.
 #[inline(always)]
-fn last_numbers<'t>(
-    columns: &[Column],
-    text: &'t [u8],
-    row: &mut Vec<i32>,
-) -> Result<Option<&'t [u8]>, AllocError>
-    ensures { IfOk result (λ after. MatchOption after
-        (onto row.old.items (plain_row columns.now (record_of text.now)) ≡ None)
-        (λ rest. (onto row.old.items (plain_row columns.now (record_of text.now))
-        ≡ Some row.new.items)
-        × (rest.now ≡ after_line text.now))) }
+fn last_cells<'t>(columns: &[Column], text: &'t [u8], cells: &mut [i32]) -> Option<&'t [u8]>
+    requires { length cells.old ≡ length columns.now }
+    ensures { MatchOption result
+        (plain_row columns.now (record_of text.now) ≡ None)
+        (λ rest. (plain_row columns.now (record_of text.now) ≡ Some cells.new)
+        × (rest.now ≡ after_line text.now)) }
+{
+    if let Some(numbers) = last_four(columns, text) {
+        let values = numbers.values;
+        put_four(cells, 0, values);
+        return Some(numbers.rest);
+    }
+    last_numbers(columns, text, cells)
+}
+
+// The same where the cells are short numbers; from the first on that is none they are left to
+// `other_cells`.
+#[inline(always)]
+fn last_numbers<'t>(columns: &[Column], text: &'t [u8], cells: &mut [i32]) -> Option<&'t [u8]>
+    requires { length cells.old ≡ length columns.now }
+    ensures { MatchOption result
+        (plain_row columns.now (record_of text.now) ≡ None)
+        (λ rest. (plain_row columns.now (record_of text.now) ≡ Some cells.new)
+        × (rest.now ≡ after_line text.now)) }
 {
     if text.len() < 64 {
-        return other_row(columns, text, row);
+        return other_cells(columns, text, cells);
     }
     let stops = others_in(text);
     let mut at = 0;
     for (i, column) in columns.iter().enumerate() {
         let Some(cell) = cell_at(column.kind, text, stops, at, i + 1 < columns.len()) else {
-            return other_row(&columns[i..], &text[at..], row);
+            return other_cells(&columns[i..], &text[at..], &mut cells[i..]);
         };
-        row.push(cell.value)?;
+        put_one(cells, i, cell.value);
         at = cell.end;
         if cell.is_last {
             if i + 1 != columns.len() {
-                return Ok(None);
+                return None;
             }
-            return Ok(Some(&text[at..]));
+            return Some(&text[at..]);
         }
     }
-    Ok(None)
+    None
 }
 
-// The same for cells of any length, after the values that `row` has already.
+// The same for cells of any length.
 // It stays a call, so that the loop over inner cells keeps what it has in registers.
 #[inline(never)]
-fn other_row<'t>(
-    columns: &[Column],
-    text: &'t [u8],
-    row: &mut Vec<i32>,
-) -> Result<Option<&'t [u8]>, AllocError>
-    ensures { IfOk result (λ after. MatchOption after
-        (onto row.old.items (plain_row columns.now (record_of text.now)) ≡ None)
-        (λ rest. (onto row.old.items (plain_row columns.now (record_of text.now))
-        ≡ Some row.new.items)
-        × (rest.now ≡ after_line text.now))) }
+fn other_cells<'t>(columns: &[Column], text: &'t [u8], cells: &mut [i32]) -> Option<&'t [u8]>
+    requires { length cells.old ≡ length columns.now }
+    ensures { MatchOption result
+        (plain_row columns.now (record_of text.now) ≡ None)
+        (λ rest. (plain_row columns.now (record_of text.now) ≡ Some cells.new)
+        × (rest.now ≡ after_line text.now)) }
 {
     let mut rest = text;
     for (i, column) in columns.iter().enumerate() {
         let Some(cell) = any_cell(column.kind, rest) else {
-            return Ok(None);
+            return None;
         };
-        row.push(cell.value)?;
+        put_one(cells, i, cell.value);
         if cell.is_last {
             if i + 1 != columns.len() {
-                return Ok(None);
+                return None;
             }
-            return Ok(Some(cell.rest));
+            return Some(cell.rest);
         }
         rest = cell.rest;
     }
-    Ok(None)
+    None
 }
 
 // The value of the first cell; None where it spells none.

@@ -161,6 +161,15 @@ impl Recorder {
         let _ = self.rows.reserve((bytes / 2 + 1).min(MOST_CELLS));
     }
 
+    /// Lets all traces go, and keeps their memory for others.
+    pub(crate) fn clear(&mut self)
+        ensures rows { self.new.rows ≡ record self.old.rows { traces = [] } }
+        ensures names { knows self.new.names [] }
+    {
+        self.rows.clear();
+        self.names.clear();
+    }
+
     /// Adds a record, of a text whose header has so many columns; `number` is that of the record.
     pub(crate) fn add(
         &mut self,

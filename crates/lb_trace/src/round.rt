@@ -50,6 +50,13 @@ impl RoundReader {
         })
     }
 
+    /// Lets all traces go, and keeps their memory for others.
+    pub fn clear(&mut self)
+        ensures { IsRound self.old.recorder.rows.signature [] self.new }
+    {
+        self.recorder.clear();
+    }
+
     /// The traces.
     pub fn set(&self) -> &TraceSet
         ensures { result.now ≡ self.now.recorder.rows }

@@ -11,3 +11,5 @@ pub mod FoundCells
 pub mod Extending
 pub mod RowsFound
 pub mod BitRows
+pub mod SixteenLanes
+pub mod SixteenRows

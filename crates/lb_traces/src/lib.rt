@@ -2,6 +2,7 @@
 #![tactic(auto)]
 
 mod names;
+mod neighbours;
 mod row_columns;
 mod traces;
 

@@ -67,6 +67,15 @@ impl Names {
         Ok(())
     }
 
+    /// Lets all names go, and keeps the memory.
+    pub(crate) fn clear(&mut self)
+        ensures { self.new ≡ [] }
+    {
+        self.text.clear();
+        self.ends.clear();
+        self.ends.push_reserved(0);
+    }
+
     /// How many names there are.
     pub(crate) fn len(&self) -> u32
         ensures count { result ≡ length self.now }

@@ -27,6 +27,7 @@ ghost use Rattle.lb_traces.specs.BitRows.{AreTruths, row_of_bits};
 
 use crate::names::Names;
 pub use crate::names::is_trace_name;
+use crate::neighbours::{are_neighbours, truths_in};
 use crate::row_columns::{RowColumns, row_columns};
 use lb_static::Signature;
 use lb_syntax::Kind;
@@ -95,8 +96,16 @@ fn push_numbers(numbers: &mut Vec<i32>, row: &[i32], columns: &[u32])
         let _ = numbers.extend_from_slice(row);
         return;
     }
-    for w in 0..columns.len() {
-        numbers.push_reserved(cell_in(row, columns, w));
+    let mut w = 0;
+    while w < columns.len() {
+        if columns.len() - w >= 16 && are_neighbours(columns, w) {
+            let start = columns[w] as usize;
+            let _ = numbers.extend_from_slice(&row[start..start + 16]);
+            w += 16;
+        } else {
+            numbers.push_reserved(cell_in(row, columns, w));
+            w += 1;
+        }
     }
 }
 
@@ -121,14 +130,23 @@ fn with_bit(word: u64, i: usize, b: bool) -> u64
 fn packed(row: &[i32], columns: &[u32], first: usize) -> u64
     requires first { first ≤ length columns.now }
     requires columns { All (λ j. j < length row.now) columns.now }
+    requires ints { All IsInt row.now }
     ensures { (i : ℕ) → i < 64
         → (bit_at result i == 1) ≡ truth_in row.now columns.now (first + i) }
 {
     let mut word = 0u64;
     let count = (columns.len() - first).min(64);
-    for i in 0..count {
-        let b = cell_in(row, columns, first + i) >= 1;
-        word = with_bit(word, i, b);
+    let mut i = 0;
+    while i < count {
+        if count - i >= 16 && are_neighbours(columns, first + i) {
+            let start = columns[first + i] as usize;
+            word |= truths_in(&row[start..]) << i;
+            i += 16;
+        } else {
+            let b = cell_in(row, columns, first + i) >= 1;
+            word = with_bit(word, i, b);
+            i += 1;
+        }
     }
     word
 }
@@ -137,6 +155,7 @@ fn packed(row: &[i32], columns: &[u32], first: usize) -> u64
 fn push_words(words: &mut Vec<u64>, row: &[i32], columns: &[u32])
     requires room { vec_len words.old + words_of_row (length columns.now) ≤ vec_capacity words.old }
     requires columns { All (λ j. j < length row.now) columns.now }
+    requires ints { All IsInt row.now }
     ensures { HasPushed words.old.items row.now columns.now words.new.items }
 {
     for g in 0..words_of_row(columns.len()) {
@@ -284,6 +303,17 @@ impl TraceSet {
         self.words.reserve(rows.saturating_mul(words_of_row(self.columns.truths.len())))
     }
 
+    // Lets all traces go.
+    fn clear(&mut self)
+        ensures { self.new ≡ record self.old { traces = [] } }
+    {
+        self.names.clear();
+        self.numbers.clear();
+        self.words.clear();
+        self.row_ends.clear();
+        self.row_ends.push_reserved(0);
+    }
+
     // One more trace, with its first row.
     fn start(&mut self, name: &str, row: &[i32]) -> Result<(), AllocError>
         requires name { IsTraceName name.now }
@@ -423,6 +453,13 @@ impl TraceRows {
         ensures { self.new ≡ self.old }
     {
         self.set.reserve(cells)
+    }
+
+    /// Lets all traces go, and keeps their memory for others.
+    pub fn clear(&mut self)
+        ensures { self.new ≡ record self.old { traces = [] } }
+    {
+        self.set.clear();
     }
 
     /// One more trace, with its first row: its cells in the order of the signature, a Boolean as 0

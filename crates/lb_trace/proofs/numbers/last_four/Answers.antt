@@ -9,4 +9,8 @@ returns c =
     let four = c.in_ok-four.ensures in
     let end = c.in_ok-four.four.end in
     let last = four-last c.args.columns.now c.args.text.now c.in_ok-four.four.values end c.if-columns-ne4.false ints
-    four.1 four.2 (sym c.ends_line.ensures ∙ c.if-not-ends_line.false) in (last.0, take_rest c.args.text.now (end + 1) ∙ last.1)
+    four.1 four.2 (sym c.ends_line.ensures ∙ c.if-not-ends_line.false) in (
+      c.if-columns-ne4.false,
+      last.0,
+      take_rest c.args.text.now (end + 1) ∙ last.1,
+    )

@@ -6,6 +6,7 @@ use Rattle.lb_traces.specs.Packed.{cells_of, numbers_in, HasPushed}
 use Rattle.lb_traces.proofs.Ledgers.{read_last}
 use Rattle.lb_traces.proofs.Storing.{rows_fit_of}
 use Rattle.lb_traces.proofs.AddedRows.{Changed, set_pushed, integers_in, truths_in, alone_in}
+use Rattle.lb_traces.proofs.SixteenRows.{ints-of}
 use Rattle.lb_traces.proofs.traces.TraceSet.push.Goals as goal
 
 rows_are : (c : goal.After-self-1) → c.index_mut.result.now
@@ -120,3 +121,7 @@ invariant_of-self-2 c = rw (numbers_are c, rows_are c) (changed c).is
 
 pub returns-clause-ok : goal.returns-clause-ok
 returns-clause-ok c = rw (numbers_are c, rows_are c) (changed c).view
+
+pub push_words-requires-clause-ints : goal.push_words-requires-clause-ints
+push_words-requires-clause-ints c =
+    ints-of c.args.self.now.signature c.args.row.now c.requires.row

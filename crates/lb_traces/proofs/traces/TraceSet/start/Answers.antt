@@ -8,6 +8,7 @@ use Rattle.lb_traces.proofs.Ledgers.{read_last}
 use Rattle.lb_traces.proofs.StoredRows.{length-stored}
 use Rattle.lb_traces.proofs.Storing.{rows_fit_of}
 use Rattle.lb_traces.proofs.AddedRows.{Changed, set_started, integers_in, truths_in, alone_in}
+use Rattle.lb_traces.proofs.SixteenRows.{ints-of}
 use Rattle.lb_traces.proofs.traces.TraceSet.start.Goals as goal
 
 pub push-requires-clause-room : goal.push-requires-clause-room
@@ -148,3 +149,7 @@ invariant_of-self-2 c = rw (names_are c, numbers_are c, ends_are c) (changed c).
 
 pub returns-clause-ok : goal.returns-clause-ok
 returns-clause-ok c = rw (names_are c, numbers_are c, ends_are c) (changed c).view
+
+pub push_words-requires-clause-ints : goal.push_words-requires-clause-ints
+push_words-requires-clause-ints c =
+    ints-of c.args.self.now.signature c.args.row.now c.requires.row

@@ -1,0 +1,41 @@
+//! The cells of a row, which are written one after the other.
+
+ghost use Rattle.std.specs.Prelude.{◌≡◌, ◌<◌, ◌≤◌, ◌+◌, ◌++◌, ◌∷◌, [], OnOk, length, take};
+
+use std::alloc::AllocError;
+
+/// Makes a row as long as it has to be. What stands in it is of no use.
+#[inline(always)]
+pub(crate) fn make_long(row: &mut Vec<i32>, count: usize) -> Result<(), AllocError>
+    ensures { OnOk result (length row.new.items ≡ count) }
+{
+    if row.len() != count {
+        row.clear();
+        row.resize(count, 0)?;
+    }
+    Ok(())
+}
+
+/// Writes the cell at a place.
+#[inline(always)]
+pub(crate) fn put_one(cells: &mut [i32], i: usize, value: i32)
+    requires { i < length cells.old }
+    ensures front { take (i + 1) cells.new ≡ take i cells.old ++ value ∷ [] }
+    ensures long { length cells.new ≡ length cells.old }
+{
+    cells[i] = value;
+}
+
+/// Writes four cells from a place on.
+#[inline(always)]
+pub(crate) fn put_four(cells: &mut [i32], i: usize, values: [i32; 4])
+    requires { i + 4 ≤ length cells.old }
+    ensures front { take (i + 4) cells.new ≡ take i cells.old ++ values }
+    ensures long { length cells.new ≡ length cells.old }
+{
+    let [a, b, c, d] = values;
+    cells[i] = a;
+    cells[i + 1] = b;
+    cells[i + 2] = c;
+    cells[i + 3] = d;
+}
