@@ -20,11 +20,11 @@ use Rattle.lb_check.specs.PlacedClocks.{placed_arguments, placed_all, placed_eac
 use Rattle.lb_check.specs.PlacedClocks.{placed_call, operand_clock, call_clocks, side_clocks}
 use Rattle.lb_check.specs.PlacedClocks.{determined_clock, nested_call, side_call}
 use Rattle.lb_check.specs.TermClocks.{Context, infer_clock, operands_in, operands_of, left_clock}
+use Rattle.lb_check.specs.TermOperands.{IsLeaf}
 use Rattle.lb_check.specs.declared.clock_set.Operand.{Operand}
 use Rattle.lb_check.specs.declared.own_clock.Clock.{Clock}
 use Rattle.lb_check.proofs.ClockRows.{same_operands}
 use Rattle.lb_check.proofs.TypeRows.{row_in, row_is}
-use Rattle.lb_check.proofs.TypeWalks.{IsLeaf}
 use Rattle.lb_check.proofs.WalkedClocks.{IsPlain, IsPlainRow, wide_row}
 
 -- ## What is found grows

@@ -216,7 +216,7 @@ met_apart ws os apart = by (are_met ws os) refl
 
 -- ## Lists
 
-same_sizes_are : (ns ms : List ℕ) → same_sizes ns ms ≡ true → ns ≡ ms
+pub same_sizes_are : (ns ms : List ℕ) → same_sizes ns ms ≡ true → ns ≡ ms
 same_sizes_are [] [] e = refl
 same_sizes_are [] (m ∷ ms) e = absurd cc
 same_sizes_are (n ∷ ns) [] e = absurd cc

@@ -15,6 +15,7 @@ use Rattle.lb_static.specs.declared.resolved.StaticId.{StaticId}
 use Rattle.lb_static.specs.declared.resolved.Term.{Term, AtMostOne, Nor, Call, IterateNode}
 use Rattle.lb_static.specs.declared.resolved.Term.{IterateSymbol}
 use Rattle.lb_static.specs.DataTypes.{DataType, are_types, int, is_type, truth}
+use Rattle.lb_check.specs.TermOperands.{IsGiven}
 use Rattle.lb_check.specs.TermSignatures.{Signature, are_met, are_one, arrays, evaluated, given_of}
 use Rattle.lb_check.specs.TermSignatures.{iterated, iterated_by, outcome, pair_of, rest_arrays}
 use Rattle.lb_check.specs.TermSignatures.{scalars, symbol_signature, type_at}
@@ -370,14 +371,6 @@ truths_given os =
     by (Some ts) = last (list_all (is_type truth) ts)
 
 -- ## Terms
-
--- a term with a row of operands, but a list
-abbrev pub IsGiven : Term → Vec Term Global → Type 0
-IsGiven t es =
-    (t ≡ AtMostOne es) ⊎ ((t ≡ Nor es) ⊎ (((c : CallId) × (t ≡ Call c es))
-    ⊎ (((it : ArrayIterator) × (c : CallId) × (t ≡ IterateNode it c es))
-    ⊎ ((it : ArrayIterator) × (op : BinaryOperator) × (n : StaticId)
-    × (t ≡ IterateSymbol it op n es)))))
 
 symbol_types_are : (op : BinaryOperator) → symbol_types op ≡ evaluated (symbol_signature op)
 symbol_types_are op = by (is_arithmetic op) (is_logical op)

@@ -13,6 +13,7 @@ use Rattle.lb_static.specs.declared.resolved.VariableId.{VariableId}
 use Rattle.lb_static.specs.TermForms.{IsSingle, IsPair, IsRow}
 use Rattle.lb_check.specs.PlacedTypes.{FoundNode, FoundTypes, with_term, with_terms, placed_types}
 use Rattle.lb_check.specs.PlacedTypes.{placed_row_types, placed_all_types}
+use Rattle.lb_check.specs.TermOperands.{IsLeaf}
 use Rattle.lb_check.specs.TermTypes.{Context, results}
 use Rattle.lb_check.proofs.TypeRows.{row_in, row_is}
 
@@ -40,13 +41,6 @@ module _ {A : Type 0} (f : A → List FoundTypes) (whole now : FoundNode) (all :
   flat_end le = known ∙ ap (λ l. with_terms now (flat_map f l)) (drop_all i all le)
 
 -- ## Terms by their forms
-
--- a term without operands
-abbrev pub IsLeaf : Term → Type 0
-IsLeaf t =
-    ((n : ℕ) × (t ≡ Literal n))
-    ⊎ (((b : Bool) × (t ≡ Truth b))
-    ⊎ (((i : StaticId) × (t ≡ Value i)) ⊎ ((x : VariableId) × (t ≡ Variable x))))
 
 module _ (ctx : Context) where
   pub leaf_placed : (t : Term) → IsLeaf t → placed_types ctx t ≡ results ctx t ∷ []

@@ -19,6 +19,7 @@ use Rattle.lb_static.specs.declared.resolved.VariableId.{VariableId}
 use Rattle.lb_check.specs.CallClocks.{variable_of}
 use Rattle.lb_check.specs.TermClocks.{Context, both, infer_clock, operand_of, operands_of}
 use Rattle.lb_check.specs.TermClocks.{row_clock_set, unary_clock_set}
+use Rattle.lb_check.specs.TermOperands.{IsLeaf}
 use Rattle.lb_check.specs.WalkedClocks.{IsRowWalked, IsWalked, known_among, known_in}
 use Rattle.lb_check.specs.WalkedClocks.{known_operands}
 use Rattle.lb_check.specs.declared.clock_set.ClockSet.{ClockSet}
@@ -30,7 +31,6 @@ use Rattle.lb_check.proofs.ClockRows.{same_operands, stands_row}
 use Rattle.lb_check.proofs.TurnedLists.{all_last, further, more_last, none_last}
 use Rattle.lb_check.proofs.TypeParts.{IsSingle}
 use Rattle.lb_check.proofs.TypeRows.{row_in, row_is}
-use Rattle.lb_check.proofs.TypeWalks.{IsLeaf}
 
 -- what is known the other way round
 pub known_turned : (before known own : List Operand) → before ≡ [] → known ≡ before ++ reverse own →

@@ -13,6 +13,7 @@ use Rattle.lb_static.specs.declared.data_type.DataType as stored
 use Rattle.lb_static.specs.TermForms.{IsSingle, IsPair}
 use Rattle.lb_check.specs.PlacedTypes.{FoundTypes, IsWalked, Kept, kept, noted, placed_types}
 use Rattle.lb_check.specs.PlacedTypes.{placed_all_types}
+use Rattle.lb_check.specs.TermOperands.{IsGiven, IsLeaf}
 use Rattle.lb_check.specs.TermSignatures.{Signature, evaluated, given_of, list_of}
 use Rattle.lb_check.specs.TermTypes.{Context, leaf_type, one_type, results, type_of}
 use Rattle.lb_check.specs.TermTypes.{when_both, when_truth}
@@ -21,10 +22,10 @@ use Rattle.lb_check.proofs.BrokenRules.{both_found, if_found}
 use Rattle.lb_check.proofs.OneType.{list_results, list_type_is, type_is_only}
 use Rattle.lb_check.proofs.PartSizes.{kept_both}
 use Rattle.lb_check.proofs.SignatureRows.{list_is}
-use Rattle.lb_check.proofs.TermSignatures.{IsGiven, results_given}
+use Rattle.lb_check.proofs.TermSignatures.{results_given}
 use Rattle.lb_check.proofs.TurnedLists.{all_last, more_last, none_last}
 use Rattle.lb_check.proofs.TypeParts.{single_none, single_type}
-use Rattle.lb_check.proofs.TypeWalks.{IsLeaf, group_placed, row_placed}
+use Rattle.lb_check.proofs.TypeWalks.{group_placed, row_placed}
 
 -- some parts, and then those that stand before them
 pub further : (before mid after : Kept) (xs ys : List FoundTypes) → mid ≡ kept before ys →

@@ -1,8 +1,9 @@
 -- What a term with a row of operands takes and gives, type by type.
 -- This file mirrors code (src/signature.rt); no definition of the language stands on it.
-use Rattle.std.specs.Prelude.{ℕ, ℤ, Bool, true, false, ◌&&◌, nat_eq, nat_lt, Option, Some, None}
-use Rattle.std.specs.Prelude.{option_map, List, [], ◌∷◌, map, length, take, drop, replicate}
-use Rattle.std.specs.Prelude.{slice_get, if◌then◌else◌}
+use Rattle.std.specs.Prelude.{ℕ, ℤ, Bool, true, false, ◌&&◌, ◌==◌, nat_eq, nat_lt, Option, Some}
+use Rattle.std.specs.Prelude.{None, option_map, List, [], ◌∷◌, map, length, take, drop, replicate}
+use Rattle.std.specs.Prelude.{reverse, slice_get, if◌then◌else◌}
+use Rattle.std.specs.List.{list_all, zip}
 use Rattle.lb_syntax.specs.declared.tree.ArrayIterator.{ArrayIterator}
 use Rattle.lb_syntax.specs.declared.tree.ArrayIterator.TheVariants.{Map, Red, Fill}
 use Rattle.lb_syntax.specs.declared.tree.BinaryOperator.{BinaryOperator}
@@ -18,7 +19,8 @@ use Rattle.lb_static.specs.declared.table.Specialization.{Specialization}
 use Rattle.lb_static.specs.declared.table.Table.{Table}
 use Rattle.lb_static.specs.CalledSpecializations.{called_by}
 use Rattle.lb_static.specs.DataTypes.{DataType, is_type}
-use Rattle.lb_static.specs.StoredTypes.{declared_type, view_type}
+use Rattle.lb_static.specs.StaticValues.{natural}
+use Rattle.lb_static.specs.StoredTypes.{declared_type, naturals, view_type}
 use Rattle.lb_check.specs.TermTypes.{CallTypes, Context, when_both}
 use Rattle.lb_check.specs.Types.{array_of, common_type, is_arithmetic, is_logical, singly}
 use Rattle.lb_check.specs.declared.signature.Arrays.{Arrays}
@@ -50,6 +52,24 @@ type_at os i = either_or (slice_get os i) None
 -- whether there are two types, and they are one
 abbrev pub are_one : Option DataType → Option DataType → Bool
 are_one o p = holds (λ s. holds (λ t. is_type s t) p) o
+
+-- the type with these values as its sizes, the outermost last, where all are without a sign
+abbrev pub type_with : Kind → List ℤ → Option DataType
+type_with kind values =
+    option_map (λ ns. record { kind = kind; sizes = reverse ns }) (naturals values)
+
+-- whether there is a type, and it is the one with these sizes, the outermost last
+abbrev pub is_type_with : Option DataType → Kind → List ℕ → Bool
+is_type_with o kind sizes = are_one o (Some (record { kind = kind; sizes = reverse sizes }))
+
+-- whether a value is this size
+abbrev pub is_size : ℤ → ℕ → Bool
+is_size value size = holds (λ n. n == size) (natural value)
+
+-- whether these values are these sizes
+abbrev pub are_sizes : List ℤ → List ℕ → Bool
+are_sizes values sizes =
+    list_all (λ p. is_size p.0 p.1) (zip values sizes) && (length values == length sizes)
 
 -- whether there are the types that are wanted, and no others
 abbrev pub are_met : (wanted given : List (Option DataType)) → Bool

@@ -13,7 +13,7 @@ const LONGEST: u64 = 4096;
 
 /// Whether an array may have this length.
 #[inline(always)]
-fn is_length(size: u64) -> bool
+pub fn is_length(size: u64) -> bool
     ensures { result ≡ (nat_le 1 size && nat_le size 4096) }
 {
     1 <= size && size <= LONGEST

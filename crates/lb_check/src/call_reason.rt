@@ -51,7 +51,7 @@ fn of_arguments<'t>(
 ) -> Result<TypeReason<'t>, AllocError> {
     for (place, term) in terms.iter().enumerate() {
         let own = type_of(alloc, env, term)?;
-        if !is_wanted(alloc, inputs, place, &own)? {
+        if !is_wanted(inputs, place, &own) {
             return of_argument(alloc, site, inputs, place, term);
         }
     }

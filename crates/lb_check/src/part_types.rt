@@ -61,6 +61,7 @@ impl PartTypes {
     }
 
     /// One more part.
+    #[inline(always)]
     fn note(&mut self, data_type: &DataType, elements: u32) -> Result<(), AllocError>
         ensures { OnOk result (placed_mirror.kept_in self.new
             ≡ placed_mirror.noted_part (placed_mirror.kept_in self.old)
@@ -92,6 +93,7 @@ impl PartTypes {
     }
 
     /// One more part, whose one result has this type, if it has one.
+    #[inline(always)]
     pub fn note_one(&mut self, alloc: Global, own: &Option<DataType>) -> Result<(), AllocError>
         ensures { OnOk result (placed_mirror.kept_in self.new
             ≡ placed_mirror.noted (placed_mirror.kept_in self.old)

@@ -6,7 +6,8 @@
 //! where f              takes int and bool,     gives int
 //! ```
 
-ghost use Rattle.std.specs.Prelude.{◌≡◌, ◌&&◌, length, map, option_map, IfOk};
+ghost use Rattle.std.specs.Prelude.{◌≡◌, ◌&&◌, ◌==◌, Some, length, map, nat_le, option_map, IfOk};
+ghost use Rattle.std.specs.List.{list_all, zip};
 ghost use Rattle.lb_syntax.specs.Lists as lists;
 ghost use Rattle.lb_syntax.specs.Lists.{all_some};
 ghost use Rattle.lb_static.specs.StoredTypes.{declared_type, view_type};
@@ -14,7 +15,7 @@ ghost use Rattle.lb_check.specs.StoredTypes.{context_in};
 ghost use Rattle.lb_check.specs.TermSignatures as mirror;
 ghost use Rattle.lb_check.specs.Types as types;
 
-use crate::array_types::array_of;
+use crate::array_types::{array_of, is_length};
 use crate::operand_types::are_one;
 use crate::type_env::TypeEnv;
 use lb_static::{CallId, DataType, ResolvedNode, StaticInt, Term, Variable, part_of};
@@ -92,6 +93,50 @@ fn declared_at(
     }
 }
 
+/// Whether a value is this size.
+fn is_size(value: StaticInt, size: u64) -> bool
+    ensures { result ≡ mirror.is_size value size }
+{
+    match value.natural() {
+        Some(number) => number == size,
+        None => false,
+    }
+}
+
+/// Whether each of these values is the size at its place, as far as both go.
+fn all_sizes(values: &[StaticInt], sizes: &[u64]) -> bool
+    ensures { result ≡ list_all (λ p. mirror.is_size p.0 p.1) (zip values.now sizes.now) }
+{
+    values
+        .iter()
+        .zip(sizes.iter())
+        .all(|(value, size)| is_size(*value, *size))
+}
+
+/// Whether these values are these sizes.
+fn are_sizes(values: &[StaticInt], sizes: &[u64]) -> bool
+    ensures { result ≡ mirror.are_sizes values.now sizes.now }
+{
+    all_sizes(values, sizes) && values.len() == sizes.len()
+}
+
+/// Whether the type with these values as its sizes is the one with the other sizes, the outermost
+/// last in both.
+fn is_type_of(own: Kind, values: &[StaticInt], kind: Kind, sizes: &[u64]) -> bool
+    ensures { result ≡ mirror.is_type_with (mirror.type_with own values.now) kind sizes.now }
+{
+    own == kind && are_sizes(values, sizes)
+}
+
+/// Whether this is an array of this length, by its outermost size and whether its elements are
+/// those that are wanted.
+fn is_array_of(size: u64, outermost: u64, has_elements: bool) -> bool
+    ensures { result
+        ≡ ((size == outermost) && ((nat_le 1 size && nat_le size 4096) && has_elements)) }
+{
+    size == outermost && (is_length(size) && has_elements)
+}
+
 impl Elements<'_> {
     /// How many types there are.
     fn len(&self) -> usize
@@ -113,6 +158,37 @@ impl Elements<'_> {
             Elements::Declared(variables, statics) => {
                 declared_at(alloc, variables, statics, place)
             }
+        }
+    }
+
+    /// Whether the type at a place is the one with these sizes, the outermost last.
+    fn is_at(&self, place: usize, kind: Kind, sizes: &[u64]) -> bool
+        ensures { result ≡ mirror.is_type_with
+            (mirror.type_at (mirror.elements_in self.now) place) kind sizes.now }
+    {
+        match self {
+            Elements::Scalars(own, count) => place < *count && is_type_of(*own, &[], kind, sizes),
+            Elements::Declared(variables, statics) => match variables.get(place) {
+                Some(variable) => {
+                    let values = part_of(statics, variable.first_size.0, variable.sizes);
+                    is_type_of(variable.kind, values, kind, sizes)
+                }
+                None => false,
+            },
+        }
+    }
+
+    /// Whether the array of this length with elements of the type at a place is the given one.
+    fn is_array_at(&self, size: u64, place: usize, given: &DataType) -> bool
+        ensures { result ≡ mirror.are_one
+            (mirror.arrays size (mirror.type_at (mirror.elements_in self.now) place))
+            (Some (view_type given.now)) }
+    {
+        match given.sizes.split_last() {
+            Some((outermost, sizes)) => {
+                is_array_of(size, *outermost, self.is_at(place, given.kind, sizes))
+            }
+            None => false,
         }
     }
 }
@@ -150,6 +226,25 @@ impl TypeRow<'_> {
                     Ok(element)
                 } else {
                     array_type(size, element)
+                }
+            }
+        }
+    }
+
+    /// Whether the type at a place is the given one.
+    fn is_at(&self, place: usize, given: &DataType) -> bool
+        ensures { result ≡ mirror.are_one (mirror.type_at (mirror.row_in self.now) place)
+            (Some (view_type given.now)) }
+    {
+        let elements = &self.elements;
+        match self.arrays {
+            Arrays::No => elements.is_at(place, given.kind, &given.sizes),
+            Arrays::All(size) => elements.is_array_at(size, place, given),
+            Arrays::Rest(size) => {
+                if place == 0 {
+                    elements.is_at(place, given.kind, &given.sizes)
+                } else {
+                    elements.is_array_at(size, place, given)
                 }
             }
         }
@@ -324,18 +419,16 @@ pub fn signature_of<'a>(
     }
 }
 
-/// Whether a type, if there is one, is the one that is wanted at a place.
-pub fn is_wanted(
-    alloc: Global,
-    wanted: &TypeRow,
-    place: usize,
-    given: &Option<DataType>,
-) -> Result<bool, AllocError>
-    ensures { IfOk result (λ b. b ≡ mirror.are_one
-        (mirror.type_at (mirror.row_in wanted.now) place) (option_map view_type given.now)) }
+/// Whether a type, if there is one, is the one that is wanted at a place: the wanted one is not
+/// made.
+pub fn is_wanted(wanted: &TypeRow, place: usize, given: &Option<DataType>) -> bool
+    ensures { result ≡ mirror.are_one
+        (mirror.type_at (mirror.row_in wanted.now) place) (option_map view_type given.now) }
 {
-    let wanted = wanted.get(alloc, place)?;
-    Ok(are_one(&wanted, given))
+    match given {
+        Some(given) => wanted.is_at(place, given),
+        None => false,
+    }
 }
 
 /// The type of a row of one.

@@ -56,7 +56,7 @@ fn typed_row<'t>(
         };
         match typed_term(alloc, env, operand)? {
             Typing::Typed(data_type) => {
-                fits = fits_too(alloc, fits, &signature.takes, place, &Some(data_type))?;
+                fits = fits_too(fits, &signature.takes, place, &Some(data_type));
             }
             untyped => return Ok(untyped),
         }

@@ -53,6 +53,9 @@ impl TypeEnv<'_, '_> {
             option_map view_type o ≡ (context_in self.now).variable x) }
     {
         match self.node.variables.get(x.0) {
+            Some(variable) if variable.sizes == 0 => {
+                Ok(Some(DataType::scalar(alloc, variable.kind)))
+            }
             Some(variable) => DataType::of(alloc, variable, &self.specialization.statics),
             None => Ok(None),
         }

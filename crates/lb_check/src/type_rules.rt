@@ -29,7 +29,7 @@ use lb_static::{
 };
 use std::alloc::{AllocError, Global};
 
-/// Whether variables have the types that are given. Those of both are made one at a time.
+/// Whether variables have the types that are given. Those of the variables are made one at a time.
 fn have_types(
     alloc: Global,
     env: &TypeEnv,
@@ -44,7 +44,7 @@ fn have_types(
     }
     for (i, variable) in variables.iter().enumerate() {
         let declared = env.variable(alloc, *variable)?;
-        if !is_wanted(alloc, given, i, &declared)? {
+        if !is_wanted(given, i, &declared) {
             return Ok(false);
         }
     }

@@ -1,11 +1,14 @@
 //! The types of terms (E9), each found once from those of its operands.
 
-ghost use Rattle.std.specs.Prelude.{◌≡◌, ◌↔◌, ◌&&◌, option_map};
+ghost use Rattle.std.specs.Prelude.{◌≡◌, ◌<◌, ◌↔◌, ◌&&◌, option_map};
 ghost use Rattle.std.specs.Prelude.{IfOk, IsTrue, OnOk};
 ghost use Rattle.lb_syntax.specs.Lists as lists;
 ghost use Rattle.lb_static.specs.StoredTypes.{view_type};
+ghost use Rattle.lb_static.specs.declared.resolved.Term.{size-Term};
 ghost use Rattle.lb_check.specs.PlacedTypes as placed_mirror;
 ghost use Rattle.lb_check.specs.StoredTypes.{context_in};
+ghost use Rattle.lb_check.specs.TermOperands.{HasBranches, HasElements, HasOperand, HasOperands};
+ghost use Rattle.lb_check.specs.TermOperands.{HasRow, IsLeaf};
 ghost use Rattle.lb_check.specs.TermSignatures as signatures;
 ghost use Rattle.lb_check.specs.TermTypes as mirror;
 ghost use Rattle.lb_check.specs.Types as types;
@@ -36,6 +39,7 @@ fn leaf_type(alloc: Global, env: &TypeEnv, term: &Term) -> Result<Option<DataTyp
 }
 
 /// The type of a term with one operand of this type.
+#[inline(always)]
 pub fn one_type(
     alloc: Global,
     env: &TypeEnv,
@@ -73,6 +77,7 @@ fn single_type(
 }
 
 /// The type of a term whose two operands have these types.
+#[inline(always)]
 pub fn two_types(
     alloc: Global,
     term: &Term,
@@ -90,6 +95,7 @@ pub fn two_types(
 }
 
 /// Notes a term with one result, and gives its type again.
+#[inline(always)]
 fn note_one(
     alloc: Global,
     own: Option<DataType>,
@@ -102,6 +108,22 @@ fn note_one(
 {
     parts.note_one(alloc, &own)?;
     Ok(own)
+}
+
+/// Notes a term without operands, and gives its type.
+fn walk_leaf(
+    alloc: Global,
+    env: &TypeEnv,
+    term: &Term,
+    parts: &mut PartTypes,
+) -> Result<Option<DataType>, AllocError>
+    requires { IsLeaf term.now }
+    ensures { IfOk result (λ o. placed_mirror.IsWalked (context_in env.now) term.now
+        (placed_mirror.kept_in parts.old) (placed_mirror.kept_in parts.new)
+        (option_map view_type o)) }
+{
+    let own = leaf_type(alloc, env, term)?;
+    note_one(alloc, own, parts)
 }
 
 /// The type of the elements of a list, of which this is known from the later ones.
@@ -117,22 +139,11 @@ pub fn like_later(seen: usize, own: Option<DataType>, later: Option<DataType>) -
 }
 
 /// Whether an operand has the type that is wanted at its place, and those after it have theirs.
-pub fn fits_too(
-    alloc: Global,
-    fits: bool,
-    wanted: &TypeRow,
-    place: usize,
-    own: &Option<DataType>,
-) -> Result<bool, AllocError>
-    ensures { IfOk result (λ b. b ≡ (fits && signatures.are_one
-        (signatures.type_at (signatures.row_in wanted.now) place)
-        (option_map view_type own.now))) }
+pub fn fits_too(fits: bool, wanted: &TypeRow, place: usize, own: &Option<DataType>) -> bool
+    ensures { result ≡ (fits && signatures.are_one
+        (signatures.type_at (signatures.row_in wanted.now) place) (option_map view_type own.now)) }
 {
-    if fits {
-        is_wanted(alloc, wanted, place, own)
-    } else {
-        Ok(false)
-    }
+    fits && is_wanted(wanted, place, own)
 }
 
 /// Whether this number of operands may be given.
@@ -205,9 +216,116 @@ fn walk_row<'a>(
         }
         let place = terms.len() - 1 - seen;
         let own = walk(alloc, env, &terms[place], parts)?;
-        fits = fits_too(alloc, fits, &signature.takes, place, &own)?;
+        fits = fits_too(fits, &signature.takes, place, &own);
     }
     Ok(given_where(fits, signature.gives))
+}
+
+/// Notes the elements of a list, and then the list, and gives its type.
+#[cycle(walking)]
+fn walk_array(
+    alloc: Global,
+    env: &TypeEnv,
+    terms: &[Term],
+    term: &Term,
+    parts: &mut PartTypes,
+) -> Result<Option<DataType>, AllocError>
+    ensures { HasElements term.now terms.now → IfOk result (λ o.
+        placed_mirror.IsWalked (context_in env.now) term.now
+        (placed_mirror.kept_in parts.old) (placed_mirror.kept_in parts.new)
+        (option_map view_type o)) }
+{
+    let own = walk_list(alloc, env, terms, parts)?;
+    note_one(alloc, own, parts)
+}
+
+/// Notes the operands of a term with a row of them, a list apart, and then the term, and gives its
+/// one type.
+#[cycle(walking)]
+fn walk_given(
+    alloc: Global,
+    env: &TypeEnv,
+    terms: &[Term],
+    term: &Term,
+    parts: &mut PartTypes,
+) -> Result<Option<DataType>, AllocError>
+    ensures { HasRow term.now terms.now → IfOk result (λ o.
+        placed_mirror.IsWalked (context_in env.now) term.now
+        (placed_mirror.kept_in parts.old) (placed_mirror.kept_in parts.new)
+        (option_map view_type o)) }
+{
+    let given = walk_row(alloc, env, terms, term, parts)?;
+    parts.note_given(alloc, &given)
+}
+
+/// Notes the operand of a term with one, and then the term, and gives its type.
+#[cycle(walking)]
+fn walk_single(
+    alloc: Global,
+    env: &TypeEnv,
+    term: &Term,
+    operand: &Term,
+    parts: &mut PartTypes,
+) -> Result<Option<DataType>, AllocError>
+    requires { size-Term operand.now < size-Term term.now }
+    ensures { HasOperand term.now operand.now → IfOk result (λ o.
+        placed_mirror.IsWalked (context_in env.now) term.now
+        (placed_mirror.kept_in parts.old) (placed_mirror.kept_in parts.new)
+        (option_map view_type o)) }
+{
+    let operand = walk(alloc, env, operand, parts)?;
+    let own = single_type(alloc, env, term, operand)?;
+    note_one(alloc, own, parts)
+}
+
+/// Notes the operands of a term with two, the right one first, and then the term, and gives its
+/// type.
+#[cycle(walking)]
+fn walk_pair(
+    alloc: Global,
+    env: &TypeEnv,
+    term: &Term,
+    left: &Term,
+    right: &Term,
+    parts: &mut PartTypes,
+) -> Result<Option<DataType>, AllocError>
+    requires left_smaller { size-Term left.now < size-Term term.now }
+    requires right_smaller { size-Term right.now < size-Term term.now }
+    ensures { HasOperands term.now left.now right.now → IfOk result (λ o.
+        placed_mirror.IsWalked (context_in env.now) term.now
+        (placed_mirror.kept_in parts.old) (placed_mirror.kept_in parts.new)
+        (option_map view_type o)) }
+{
+    let right = walk(alloc, env, right, parts)?;
+    let left = walk(alloc, env, left, parts)?;
+    let own = two_types(alloc, term, left, right)?;
+    note_one(alloc, own, parts)
+}
+
+/// Notes the operands of a choice, its condition last, and then the choice, and gives its type.
+#[cycle(walking)]
+fn walk_choice(
+    alloc: Global,
+    env: &TypeEnv,
+    term: &Term,
+    condition: &Term,
+    left: &Term,
+    right: &Term,
+    parts: &mut PartTypes,
+) -> Result<Option<DataType>, AllocError>
+    requires condition_smaller { size-Term condition.now < size-Term term.now }
+    requires left_smaller { size-Term left.now < size-Term term.now }
+    requires right_smaller { size-Term right.now < size-Term term.now }
+    ensures { HasBranches term.now condition.now left.now right.now → IfOk result (λ o.
+        placed_mirror.IsWalked (context_in env.now) term.now
+        (placed_mirror.kept_in parts.old) (placed_mirror.kept_in parts.new)
+        (option_map view_type o)) }
+{
+    let right = walk(alloc, env, right, parts)?;
+    let left = walk(alloc, env, left, parts)?;
+    let condition = walk(alloc, env, condition, parts)?;
+    let own = when_truth(condition, common_type(left, right));
+    note_one(alloc, own, parts)
 }
 
 /// Notes the parts of a term against the order of the text, each after its operands, and gives the
@@ -226,8 +344,7 @@ pub fn walk(
     match term {
         Term::Group(e) => walk(alloc, env, e, parts),
         Term::Literal(_) | Term::Truth(_) | Term::Value(_) | Term::Variable(_) => {
-            let own = leaf_type(alloc, env, term)?;
-            note_one(alloc, own, parts)
+            walk_leaf(alloc, env, term, parts)
         }
         Term::Unary(_, e)
         | Term::Pre(e)
@@ -235,36 +352,17 @@ pub fn walk(
         | Term::When(e, _, _)
         | Term::Replicate(e, _)
         | Term::Index(e, _)
-        | Term::Slice(e, _, _) => {
-            let operand = walk(alloc, env, e, parts)?;
-            let own = single_type(alloc, env, term, operand)?;
-            note_one(alloc, own, parts)
-        }
+        | Term::Slice(e, _, _) => walk_single(alloc, env, term, e, parts),
         Term::Binary(_, a, b) | Term::Arrow(a, b) | Term::Fby(a, b) | Term::Join(a, b) => {
-            let right = walk(alloc, env, b, parts)?;
-            let left = walk(alloc, env, a, parts)?;
-            let own = two_types(alloc, term, left, right)?;
-            note_one(alloc, own, parts)
+            walk_pair(alloc, env, term, a, b, parts)
         }
-        Term::If(c, a, b) => {
-            let right = walk(alloc, env, b, parts)?;
-            let left = walk(alloc, env, a, parts)?;
-            let condition = walk(alloc, env, c, parts)?;
-            let own = when_truth(condition, common_type(left, right));
-            note_one(alloc, own, parts)
-        }
-        Term::Array(terms) => {
-            let own = walk_list(alloc, env, terms, parts)?;
-            note_one(alloc, own, parts)
-        }
+        Term::If(c, a, b) => walk_choice(alloc, env, term, c, a, b, parts),
+        Term::Array(terms) => walk_array(alloc, env, terms, term, parts),
         Term::AtMostOne(terms)
         | Term::Nor(terms)
         | Term::Call(_, terms)
         | Term::IterateNode(_, _, terms)
-        | Term::IterateSymbol(_, _, _, terms) => {
-            let given = walk_row(alloc, env, terms, term, parts)?;
-            parts.note_given(alloc, &given)
-        }
+        | Term::IterateSymbol(_, _, _, terms) => walk_given(alloc, env, terms, term, parts),
     }
 }
 

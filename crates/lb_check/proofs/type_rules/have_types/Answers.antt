@@ -13,19 +13,19 @@ returns-then-variables-len c =
     met_apart (row_in c.args.given.now) types
     (λ e. c.if-variables-len.true (sym many ∙ e ∙ sym own))
 
-pub returns-then-not-branch : goal.returns-then-not-branch
-returns-then-not-branch c =
+pub returns-then-not-is_wanted : goal.returns-then-not-is_wanted
+returns-then-not-is_wanted c =
     sym (met_next (context_in c.args.env.now).variable (row_in c.args.given.now)
     c.args.variables.now c.loop-i.i (c.if-variables-len.false ∙ c.len.ensures)
     c.loop-i.invariant false _ _ c.loop-i-test.true
-    (sym c.if-not-branch.true ∙ c.in_ok-is_wanted.ensures) c.in_ok-declared.ensures)
+    (sym c.if-not-is_wanted.true ∙ c.is_wanted.ensures) c.in_ok-declared.ensures)
 
 pub loop-i-preserved : goal.loop-i-preserved
 loop-i-preserved c =
     met_next (context_in c.args.env.now).variable (row_in c.args.given.now)
     c.args.variables.now c.loop-i.i (c.if-variables-len.false ∙ c.len.ensures)
     c.loop-i.invariant true _ _ c.loop-i-test.true
-    (sym c.if-not-branch.false ∙ c.in_ok-is_wanted.ensures) c.in_ok-declared.ensures
+    (sym c.if-not-is_wanted.false ∙ c.is_wanted.ensures) c.in_ok-declared.ensures
 
 pub returns : goal.returns
 returns c =

@@ -117,7 +117,7 @@ walk_row-loop-seen-preserved t c =
     let after : at ≡ n - (l.seen + 1) = omega (arith, lt) in
     record {
       fits =
-          c.in_ok-fits.ensures
+          c.fits_too-fits.ensures
           ∙ ap (λ b. b && are_one (type_at s.takes at) (option_map view_type c.in_ok-own.own))
           l.invariant.fits
           ∙ ap (λ o. (has_arity s n && are_met (drop (n - l.seen) s.takes) later_ones)
@@ -174,6 +174,116 @@ walk_row-returns t c =
       noted_all ctx all (kept_in c.args.parts.now) l.seen (kept_in l.parts) le l.invariant.noted,
     )
 
+-- ## Terms by their operands
+
+pub walk_array-returns : goal.walk_array-returns
+walk_array-returns t c = λ h.
+    let ctx = context_in c.args.env.now in
+    let term = c.args.term.now in
+    let es = h.0 in
+    let before = kept_in c.args.parts.now in
+    let mid = kept_in c.walk_list.new.parts in
+    let own = option_map view_type c.in_ok-own.own in
+    let w : IsRowWalked ctx es.items before mid own list_of =
+    subst (λ l. IsRowWalked ctx l before mid own list_of) h.2 c.in_ok-own.ensures in
+    returns_one ctx before mid (kept_in c.note_one.new.parts) c.note_one.result term
+    (placed_all_types ctx es.items) own (row_placed ctx term es (inl h.1))
+    (list_one ctx term es h.1) (w.0 ∙ list_from ctx term es h.1) w.1
+    c.note_one.ensures.same c.note_one.ensures.noted
+
+pub walk_given-returns : goal.walk_given-returns
+walk_given-returns t c = λ h.
+    let env = c.args.env.now in
+    let ctx = context_in env in
+    let term = c.args.term.now in
+    let es = h.0 in
+    let before = kept_in c.args.parts.now in
+    let mid = kept_in c.walk_row.new.parts in
+    let given = option_map row_in c.in_ok-given.given in
+    let of = given_of (calls_in env) ctx term in
+    let w : IsRowWalked ctx es.items before mid given of =
+    subst (λ l. IsRowWalked ctx l before mid given of) h.2 c.in_ok-given.ensures in
+    returns_given ctx before mid (kept_in c.note_given.new.self) (calls_in env)
+    c.note_given.result term es given (calls_are env) h.1 w.0 w.1 c.note_given.ensures.one
+    c.note_given.ensures.noted
+
+pub walk_single-returns : goal.walk_single-returns
+walk_single-returns t c = λ h.
+    let ctx = context_in c.args.env.now in
+    let term = c.args.term.now in
+    let e = h.0 in
+    let is = h.1 in
+    let before = kept_in c.args.parts.now in
+    let mid = kept_in c.walk.new.parts in
+    let operand = option_map view_type c.in_ok-operand.operand in
+    let w : IsWalked ctx e.value before mid operand =
+    subst (λ x. IsWalked ctx x before mid operand) h.2 c.in_ok-operand.ensures in
+    returns_one ctx before mid (kept_in c.note_one.new.parts) c.note_one.result term
+    (placed_types ctx e.value) (option_map view_type c.in_ok-own.own)
+    (operand_placed ctx term e is) (single_one ctx term e is)
+    (c.in_ok-own.ensures ∙ ap (λ o. o >>= one_type ctx term) w.0 ∙ single_from ctx term e is)
+    w.1 c.note_one.ensures.same c.note_one.ensures.noted
+
+pub walk_pair-returns : goal.walk_pair-returns
+walk_pair-returns t c = λ h.
+    let ctx = context_in c.args.env.now in
+    let term = c.args.term.now in
+    let a = h.0 in
+    let b = h.1 in
+    let is = h.2 in
+    let before = kept_in c.args.parts.now in
+    let first = kept_in c.walk.new.parts in
+    let second = kept_in c.walk-2.new.parts in
+    let right = option_map view_type c.in_ok-right.right in
+    let left = option_map view_type c.in_ok-left.left in
+    let wb : IsWalked ctx b.value before first right =
+    subst (λ x. IsWalked ctx x before first right) h.4 c.in_ok-right.ensures in
+    let wa : IsWalked ctx a.value first second left =
+    subst (λ x. IsWalked ctx x first second left) h.3 c.in_ok-left.ensures in
+    returns_one ctx before second (kept_in c.note_one.new.parts) c.note_one.result term
+    (placed_types ctx a.value ++ placed_types ctx b.value) (option_map view_type c.in_ok-own.own)
+    (operands_placed ctx term a b is) (pair_one ctx term a b is)
+    (c.in_ok-own.ensures ∙ pair_type ctx term a b left right is wa.0 wb.0)
+    (further before first second (placed_types ctx a.value) (placed_types ctx b.value) wb.1 wa.1)
+    c.note_one.ensures.same c.note_one.ensures.noted
+
+pub walk_choice-returns : goal.walk_choice-returns
+walk_choice-returns t c = λ h.
+    let ctx = context_in c.args.env.now in
+    let term = c.args.term.now in
+    let z = h.0 in
+    let a = h.1 in
+    let b = h.2 in
+    let is = h.3 in
+    let before = kept_in c.args.parts.now in
+    let first = kept_in c.walk.new.parts in
+    let second = kept_in c.walk-2.new.parts in
+    let third = kept_in c.walk-3.new.parts in
+    let right = option_map view_type c.in_ok-right.right in
+    let left = option_map view_type c.in_ok-left.left in
+    let condition = option_map view_type c.in_ok-condition.condition in
+    let wb : IsWalked ctx b.value before first right =
+    subst (λ x. IsWalked ctx x before first right) h.6 c.in_ok-right.ensures in
+    let wa : IsWalked ctx a.value first second left =
+    subst (λ x. IsWalked ctx x first second left) h.5 c.in_ok-left.ensures in
+    let wc : IsWalked ctx z.value second third condition =
+    subst (λ x. IsWalked ctx x second third condition) h.4 c.in_ok-condition.ensures in
+    returns_one ctx before third (kept_in c.note_one.new.parts) c.note_one.result term
+    (placed_types ctx z.value ++ (placed_types ctx a.value ++ placed_types ctx b.value))
+    (option_map view_type c.when_truth-own.result) (choice_placed ctx term z a b is)
+    (choice_one ctx term z a b is)
+    (c.when_truth-own.ensures ∙ ap (when_truth condition) c.common_type.ensures
+    ∙ ap (λ o. when_truth o (when_both left right common_type)) wc.0
+    ∙ ap (λ o. when_truth (type_of ctx z.value) (when_both o right common_type)) wa.0
+    ∙ ap (λ o. when_truth (type_of ctx z.value) (when_both (type_of ctx a.value) o common_type))
+    wb.0
+    ∙ choice_type ctx term z a b is)
+    (further before second third (placed_types ctx z.value)
+    (placed_types ctx a.value ++ placed_types ctx b.value)
+    (further before first second (placed_types ctx a.value) (placed_types ctx b.value) wb.1 wa.1)
+    wc.1)
+    c.note_one.ensures.same c.note_one.ensures.noted
+
 -- ## Terms
 
 pub walk-returns-in-Group : goal.walk-returns-in-Group
@@ -183,131 +293,33 @@ walk-returns-in-Group t c =
     c.walk.result c.args.term.now c.deref.result.now c.in-Group.e c.in-Group.is c.deref.ensures
     c.walk.ensures
 
-pub walk-returns-in_ok-own-in-Literal : goal.walk-returns-in_ok-own-in-Literal
-walk-returns-in_ok-own-in-Literal t c =
-    let ctx = context_in c.args.env.now in
-    let term = c.args.term.now in
-    let before = kept_in c.args.parts.now in
-    returns_one ctx before before (kept_in c.note_one-in-Literal.new.parts)
-    c.note_one-in-Literal.result term [] (option_map view_type c.in_ok-own-in-Literal.own)
-    (leaf_placed ctx term c.in-Literal.is) (leaf_one ctx term c.in-Literal.is)
-    (c.in_ok-own-in-Literal.ensures ∙ leaf_is ctx term c.in-Literal.is) refl
-    c.note_one-in-Literal.ensures.same c.note_one-in-Literal.ensures.noted
+pub walk-returns-in-Unary : goal.walk-returns-in-Unary
+walk-returns-in-Unary t c =
+    c.walk_single.ensures (c.in-Unary.e, c.in-Unary.is, c.deref-in-Unary.ensures)
 
-pub walk-returns-in_ok-own-in-Unary : goal.walk-returns-in_ok-own-in-Unary
-walk-returns-in_ok-own-in-Unary t c =
-    let ctx = context_in c.args.env.now in
-    let term = c.args.term.now in
-    let e = c.in-Unary.e in
-    let before = kept_in c.args.parts.now in
-    let mid = kept_in c.walk-in-Unary.new.parts in
-    let operand = option_map view_type c.in_ok-operand-in-Unary.operand in
-    let w : IsWalked ctx e.value before mid operand =
-    subst (λ x. IsWalked ctx x before mid operand) c.deref-in-Unary.ensures
-    c.in_ok-operand-in-Unary.ensures in
-    returns_one ctx before mid (kept_in c.note_one-in-Unary.new.parts)
-    c.note_one-in-Unary.result term (placed_types ctx e.value)
-    (option_map view_type c.in_ok-own-in-Unary.own) (operand_placed ctx term e c.in-Unary.is)
-    (single_one ctx term e c.in-Unary.is)
-    (c.in_ok-own-in-Unary.ensures ∙ ap (λ o. o >>= one_type ctx term) w.0
-    ∙ single_from ctx term e c.in-Unary.is)
-    w.1 c.note_one-in-Unary.ensures.same c.note_one-in-Unary.ensures.noted
+pub walk-returns-in-Binary : goal.walk-returns-in-Binary
+walk-returns-in-Binary t c =
+    let b = c.in-Binary in
+    c.walk_pair.ensures (b.a, b.b, b.is, c.deref-in-Binary.ensures, c.deref-in-Binary-2.ensures)
 
-pub walk-returns-in_ok-own-in-Binary : goal.walk-returns-in_ok-own-in-Binary
-walk-returns-in_ok-own-in-Binary t c =
-    let ctx = context_in c.args.env.now in
-    let term = c.args.term.now in
-    let a = c.in-Binary.a in
-    let b = c.in-Binary.b in
-    let before = kept_in c.args.parts.now in
-    let first = kept_in c.walk-in-Binary.new.parts in
-    let second = kept_in c.walk-in-Binary-2.new.parts in
-    let right = option_map view_type c.in_ok-right-in-Binary.right in
-    let left = option_map view_type c.in_ok-left-in-Binary.left in
-    let wb : IsWalked ctx b.value before first right =
-    subst (λ x. IsWalked ctx x before first right) c.deref-in-Binary.ensures
-    c.in_ok-right-in-Binary.ensures in
-    let wa : IsWalked ctx a.value first second left =
-    subst (λ x. IsWalked ctx x first second left) c.deref-in-Binary-2.ensures
-    c.in_ok-left-in-Binary.ensures in
-    returns_one ctx before second (kept_in c.note_one-in-Binary.new.parts)
-    c.note_one-in-Binary.result term (placed_types ctx a.value ++ placed_types ctx b.value)
-    (option_map view_type c.in_ok-own-in-Binary.own) (operands_placed ctx term a b c.in-Binary.is)
-    (pair_one ctx term a b c.in-Binary.is)
-    (c.in_ok-own-in-Binary.ensures
-    ∙ pair_type ctx term a b left right c.in-Binary.is wa.0 wb.0)
-    (further before first second (placed_types ctx a.value) (placed_types ctx b.value) wb.1 wa.1)
-    c.note_one-in-Binary.ensures.same c.note_one-in-Binary.ensures.noted
-
-pub walk-returns-in_ok-condition-in-If : goal.walk-returns-in_ok-condition-in-If
-walk-returns-in_ok-condition-in-If t c =
-    let ctx = context_in c.args.env.now in
-    let term = c.args.term.now in
+pub walk-returns-in-If : goal.walk-returns-in-If
+walk-returns-in-If t c =
     let i = c.in-If in
-    let before = kept_in c.args.parts.now in
-    let first = kept_in c.walk-in-If.new.parts in
-    let second = kept_in c.walk-in-If-2.new.parts in
-    let third = kept_in c.walk-in-If-3.new.parts in
-    let right = option_map view_type c.in_ok-right-in-If.right in
-    let left = option_map view_type c.in_ok-left-in-If.left in
-    let condition = option_map view_type c.in_ok-condition-in-If.condition in
-    let wb : IsWalked ctx i.b.value before first right =
-    subst (λ x. IsWalked ctx x before first right) c.deref-in-If.ensures
-    c.in_ok-right-in-If.ensures in
-    let wa : IsWalked ctx i.a.value first second left =
-    subst (λ x. IsWalked ctx x first second left) c.deref-in-If-2.ensures
-    c.in_ok-left-in-If.ensures in
-    let wc : IsWalked ctx i.c.value second third condition =
-    subst (λ x. IsWalked ctx x second third condition) c.deref-in-If-3.ensures
-    c.in_ok-condition-in-If.ensures in
-    returns_one ctx before third (kept_in c.note_one.new.parts)
-    c.note_one.result term
-    (placed_types ctx i.c.value ++ (placed_types ctx i.a.value ++ placed_types ctx i.b.value))
-    (option_map view_type c.when_truth-own.result) (choice_placed ctx term i.c i.a i.b i.is)
-    (choice_one ctx term i.c i.a i.b i.is)
-    (c.when_truth-own.ensures ∙ ap (when_truth condition) c.common_type.ensures
-    ∙ ap (λ o. when_truth o (when_both left right common_type)) wc.0
-    ∙ ap (λ o. when_truth (type_of ctx i.c.value) (when_both o right common_type)) wa.0
-    ∙ ap (λ o. when_truth (type_of ctx i.c.value) (when_both (type_of ctx i.a.value) o common_type))
-    wb.0
-    ∙ choice_type ctx term i.c i.a i.b i.is)
-    (further before second third (placed_types ctx i.c.value)
-    (placed_types ctx i.a.value ++ placed_types ctx i.b.value)
-    (further before first second (placed_types ctx i.a.value) (placed_types ctx i.b.value) wb.1
-    wa.1)
-    wc.1)
-    c.note_one.ensures.same c.note_one.ensures.noted
+    c.walk_choice.ensures (
+      i.c,
+      i.a,
+      i.b,
+      i.is,
+      c.deref-in-If.ensures,
+      c.deref-in-If-2.ensures,
+      c.deref-in-If-3.ensures,
+    )
 
-pub walk-returns-in_ok-own-in-Array : goal.walk-returns-in_ok-own-in-Array
-walk-returns-in_ok-own-in-Array t c =
-    let ctx = context_in c.args.env.now in
-    let term = c.args.term.now in
-    let es = c.in-Array.terms in
-    let before = kept_in c.args.parts.now in
-    let mid = kept_in c.walk_list.new.parts in
-    let own = option_map view_type c.in_ok-own-in-Array.own in
-    let w : IsRowWalked ctx es.items before mid own list_of =
-    subst (λ l. IsRowWalked ctx l before mid own list_of) c.deref-in-Array.ensures.value
-    c.in_ok-own-in-Array.ensures in
-    returns_one ctx before mid (kept_in c.note_one-in-Array.new.parts)
-    c.note_one-in-Array.result term (placed_all_types ctx es.items) own
-    (row_placed ctx term es (inl c.in-Array.is)) (list_one ctx term es c.in-Array.is)
-    (w.0 ∙ list_from ctx term es c.in-Array.is) w.1
-    c.note_one-in-Array.ensures.same c.note_one-in-Array.ensures.noted
+pub walk-returns-in-Array : goal.walk-returns-in-Array
+walk-returns-in-Array t c =
+    c.walk_array.ensures (c.in-Array.terms, c.in-Array.is, c.deref-in-Array.ensures.value)
 
-pub walk-returns-in_ok-given-in-AtMostOne : goal.walk-returns-in_ok-given-in-AtMostOne
-walk-returns-in_ok-given-in-AtMostOne t c =
-    let env = c.args.env.now in
-    let ctx = context_in env in
-    let term = c.args.term.now in
-    let es = c.in-AtMostOne.terms in
-    let before = kept_in c.args.parts.now in
-    let mid = kept_in c.walk_row.new.parts in
-    let given = option_map row_in c.in_ok-given-in-AtMostOne.given in
-    let of = given_of (calls_in env) ctx term in
-    let w : IsRowWalked ctx es.items before mid given of =
-    subst (λ l. IsRowWalked ctx l before mid given of) c.deref-in-AtMostOne.ensures.value
-    c.in_ok-given-in-AtMostOne.ensures in
-    returns_given ctx before mid (kept_in c.note_given.new.self) (calls_in env)
-    c.note_given.result term es given (calls_are env) c.in-AtMostOne.is w.0 w.1
-    c.note_given.ensures.one c.note_given.ensures.noted
+pub walk-returns-in-AtMostOne : goal.walk-returns-in-AtMostOne
+walk-returns-in-AtMostOne t c =
+    let row = c.in-AtMostOne in
+    c.walk_given.ensures (row.terms, row.is, c.deref-in-AtMostOne.ensures.value)

@@ -1,0 +1,18 @@
+use Rattle.std.proofs.Common.{[], refl, ◌∙◌}
+use Rattle.std.specs.Prelude.{option_map}
+use Rattle.lb_static.specs.StoredTypes.{view_type}
+use Rattle.lb_check.specs.PlacedTypes.{kept_in}
+use Rattle.lb_check.specs.StoredTypes.{context_in}
+use Rattle.lb_check.proofs.TypeWalks.{leaf_placed}
+use Rattle.lb_check.proofs.WalkedTypes.{leaf_is, leaf_one, returns_one}
+use Rattle.lb_check.proofs.types.walk_leaf.Goals as goal
+
+pub returns : goal.returns
+returns c =
+    let ctx = context_in c.args.env.now in
+    let term = c.args.term.now in
+    let before = kept_in c.args.parts.now in
+    returns_one ctx before before (kept_in c.note_one.new.parts) c.note_one.result term []
+    (option_map view_type c.in_ok-own.own) (leaf_placed ctx term c.requires)
+    (leaf_one ctx term c.requires) (c.in_ok-own.ensures ∙ leaf_is ctx term c.requires) refl
+    c.note_one.ensures.same c.note_one.ensures.noted
