@@ -23,6 +23,7 @@ pub mod SectionReads
 pub mod SectionJoins
 pub mod SlicedTexts
 pub mod PlacedFiles
+mod PlacedTexts
 pub mod RangeReads
 pub mod RangeFiles
 pub mod RangeAnswering

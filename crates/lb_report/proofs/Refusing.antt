@@ -11,8 +11,8 @@ use Rattle.lb_static.specs.Instantiation.{static_refusal}
 use Rattle.lb_check.specs.Acceptance.{check_refusal, refusal, IsAccepted}
 use Rattle.lb_check.specs.Needs.{IsCausal}
 use Rattle.lb_check.specs.TypeRules.{is_small}
-use Rattle.lb_flat.specs.Correct.{IsCycleFound, IsExpansionAnswer, IsExpansionOf, IsOrderOf}
-use Rattle.lb_flat.specs.Correct.{IsPlaced}
+use Rattle.lb_flat.specs.Correct.{IsCycleFound, IsExpansionAnswer, IsExpansionOf, IsPlaced}
+use Rattle.lb_flat.specs.CyclicPrograms.{AreOfCyclic}
 use Rattle.lb_flat.specs.FlatPrograms.{IsFlatOf}
 use Rattle.lb_flat.specs.Judging.{FlatProgram}
 use Rattle.lb_flat.specs.Programs.{numbers_of}
@@ -21,8 +21,6 @@ use Rattle.lb_flat.specs.declared.error.FlatError.{FlatError}
 use Rattle.lb_flat.specs.declared.error.FlatError.TheVariants as flat
 use Rattle.lb_flat.specs.declared.error.OrderError.{OrderError}
 use Rattle.lb_flat.specs.declared.error.OrderError.TheVariants.{Memory, Cycle}
-use Rattle.lb_flat.proofs.Certificates.{cyclic_of}
-use Rattle.lb_flat.proofs.StandingRuns.{flat_in_order}
 use Rattle.lb_report.specs.Bench.{IsCycle, IsTooLarge, program_of}
 use Rattle.lb_report.specs.declared.options.Options.{Options}
 
@@ -53,13 +51,10 @@ too_large P (flat.Large fault) s c h =
 pub is_cycle :
     (P : Program) (f : FlatProgram) (e : OrderError) → static_refusal P ≡ None →
     check_refusal P ≡ None → is_small P ≡ true → IsExpansionOf P f →
-    IsCycleFound f e → IsCycle P e
-is_cycle P f Memory s c z expansion found = tt
-is_cycle P f (Cycle cycle) s c z expansion found = (
-  (
-    size_decides P s c ∙ ap (λ b. unless b E12) z,
-    cyclic_of P (numbers_of cycle.value.elements.items) (found.1 P expansion),
-  ),
+    IsCycleFound f e → AreOfCyclic f e → IsCycle P e
+is_cycle P f Memory s c z expansion found cyclic = tt
+is_cycle P f (Cycle cycle) s c z expansion found cyclic = (
+  (size_decides P s c ∙ ap (λ b. unless b E12) z, cyclic P expansion),
   found.1 P expansion,
 )
 
@@ -73,10 +68,7 @@ placed_cycle P (Cycle cycle) (Cycle placed) same h =
 
 -- a causal program whose equations are put in order is accepted, and these are its equations
 pub accepted_is :
-    (P : Program) (f g : FlatProgram) → static_refusal P ≡ None → check_refusal P ≡ None →
-    is_small P ≡ true → IsExpansionOf P f → IsOrderOf f g → IsCausal P →
-    IsAccepted P × IsFlatOf P g
-accepted_is P f g s c z expansion order causal = (
-  record { rules = size_decides P s c ∙ ap (λ b. unless b E12) z; causal = causal },
-  flat_in_order P f expansion.flat g order,
-)
+    (P : Program) (g : FlatProgram) → static_refusal P ≡ None → check_refusal P ≡ None →
+    is_small P ≡ true → IsFlatOf P g → IsCausal P → IsAccepted P × IsFlatOf P g
+accepted_is P g s c z stands causal =
+    (record { rules = size_decides P s c ∙ ap (λ b. unless b E12) z; causal = causal }, stands)

@@ -28,7 +28,6 @@ use lb_pool::Report;
 use lb_static::{Signature, elaborate};
 use lb_syntax::{Source, parse};
 use std::alloc::Global;
-use std::rt::Runtime;
 use std::thread::Threads;
 
 /// A program that keeps all rules: its signature is that of its traces, its equations run.
@@ -92,7 +91,7 @@ fn refusal_of_long(alloc: Global, source: &[u8], options: &Options) -> BenchErro
 /// of the text side by side: 1 to 64, or with 0 as many as there are processors. The report is the
 /// same each time. An error is the refusal of the first part that refuses: E1 to E18, or E0 where
 /// memory ran out. The text is judged as [`bench_feed`](crate::bench_feed) judges one that is read.
-pub fn bench<R: Runtime + AllocGlobal + Threads + Sync>(
+pub fn bench<R: AllocGlobal + Threads + Sync>(
     rt: &R,
     source: &[u8],
     traces: &[u8],
@@ -125,7 +124,7 @@ pub fn bench<R: Runtime + AllocGlobal + Threads + Sync>(
 /// trace,x
 /// a,1
 /// ```
-pub fn run_case<R: Runtime + AllocGlobal + Threads + Sync>(
+pub fn run_case<R: AllocGlobal + Threads + Sync>(
     rt: &R,
     case: &[u8],
     options: &Options,

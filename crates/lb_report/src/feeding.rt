@@ -24,7 +24,6 @@ use lb_pool::{LaneProgram, Report, SetRunner, compile};
 use lb_trace::TraceError;
 use rayon::current_num_threads;
 use std::alloc::Global;
-use std::rt::Runtime;
 use std::thread::Threads;
 
 /// How much of a text is judged at once. What a report says does not hang on it.
@@ -41,11 +40,17 @@ pub struct Sizes {
 }
 
 impl Sizes {
-    /// Enough rows for some times 64 lanes, and so few that all take some 20 MB.
+    /// Rounds that fill many lanes, and are so small that a run takes 24 MB and 2 MB for each of up
+    /// to four workers.
     pub fn usual(workers: u32) -> Sizes {
         Sizes {
             window: if workers == 1 { 1 << 20 } else { 1 << 19 },
-            round: if workers == 1 { 16 << 20 } else { 6 << 20 },
+            round: match workers {
+                1 => 16 << 20,
+                2 => 9 << 20,
+                3 => 6 << 20,
+                _ => 19 << 18,
+            },
             least: 1 << 21,
         }
     }
@@ -199,7 +204,7 @@ pub fn bench_ranges<R, F>(
     sizes: Sizes,
 ) -> Option<Result<Report, FeedFault>>
 where
-    R: Runtime + AllocGlobal + Threads + Sync,
+    R: AllocGlobal + Threads + Sync,
     F: PlacedFile + Sync,
     ensures { IfSome result (IsFileAnswer source.now (F.bytes file.now) options.now) }
 {
@@ -313,7 +318,7 @@ pub fn bench_feed<R, F>(
     sizes: Sizes,
 ) -> Result<Report, FeedFault>
 where
-    R: Runtime + AllocGlobal + Threads + Sync,
+    R: AllocGlobal + Threads + Sync,
     F: Feed + Send,
     requires { F.failures feed.old < u64.MAX }
     ensures { IsFeedAnswer source.now options.now

@@ -30,5 +30,5 @@ pub use lb_pool::{
 };
 pub use live::{FollowFault, follow, follow_file};
 pub use options::Options;
-pub use placed::{FilePlaces, PlacedFile};
+pub use placed::{FilePlaces, PlacedFile, TextPlaces};
 pub use refusal::word;

@@ -21,7 +21,6 @@ use lb_traces::TraceSet;
 use std::alloc::{AllocError, Global};
 use std::fs::OpenFile;
 use std::os::unix::fs::FileExt;
-use std::rt::Runtime;
 use std::sync::Wait;
 use std::thread::Threads;
 use std::time::Clock;
@@ -97,7 +96,7 @@ fn prepare_loaded<R, F>(
     options: &Options,
 ) -> Option<Prepared>
 where
-    R: Runtime + AllocGlobal + Threads + Sync,
+    R: AllocGlobal + Threads + Sync,
     F: Fn(usize) -> Option<Vec<u8>> + Sync,
     requires load { F.IsAlwaysCallable load.now }
     requires workers { 0 < options.now.workers }
@@ -122,7 +121,7 @@ where
 /// and where it is not large.
 fn prepare_file<R, F>(rt: &R, source: &[u8], file: &F, options: &Options) -> Option<Prepared>
 where
-    R: Runtime + AllocGlobal + Threads + Sync,
+    R: AllocGlobal + Threads + Sync,
     F: OpenFile + FileExt + Sync,
     requires { 0 < options.now.workers }
     ensures { IfSome result (λ p. (traces : Text) × IsPrepared source.now traces options.now p) }
@@ -186,7 +185,7 @@ pub fn follow<R, G, S>(
     sink: &mut S,
 ) -> Result<(), FollowFault>
 where
-    R: Runtime + AllocGlobal + Threads + Wait + Sync,
+    R: AllocGlobal + Threads + Wait + Clock + Sync,
     G: Gate + Sync,
     S: Sink,
     requires workers { 0 < options.now.workers }
@@ -214,7 +213,7 @@ pub fn follow_file<R, F, G, S>(
     sink: &mut S,
 ) -> Option<Result<(), FollowError>>
 where
-    R: Runtime + AllocGlobal + Threads + Wait + Sync,
+    R: AllocGlobal + Threads + Wait + Clock + Sync,
     F: OpenFile + FileExt + Sync,
     G: Gate + Sync,
     S: Sink,

@@ -1,7 +1,7 @@
 //! Files that are read at places.
 
 ghost use Rattle.std.specs.Prelude.{◌≡◌, ℕ, List, Option, None, ◌+◌, ◌<◌, ◌≤◌, IfOk, IfSome};
-ghost use Rattle.std.specs.Prelude.{OnOk, drop, length, take, vec_len};
+ghost use Rattle.std.specs.Prelude.{OnOk, Some, drop, length, take, vec_len};
 ghost use Rattle.std.specs.Io.KnownBytes.{Consumes, IsAtEnd};
 ghost use Rattle.lb_report.specs.PlacedFiles.{told_from};
 
@@ -53,6 +53,30 @@ impl<F: OpenFile + FileExt> PlacedFile for FilePlaces<'_, F> {
             Ok(count) => Ok(count),
             Err(_) => Err(FeedFailed),
         }
+    }
+}
+
+/// A text in memory, which is read at places as a file is. It tells its bytes.
+#[derive(Clone, Copy)]
+pub struct TextPlaces<'t> {
+    pub text: &'t [u8],
+}
+
+impl PlacedFile for TextPlaces<'_> {
+    ghost bytes = { λ places. Some places.text.now };
+
+    fn size(&self) -> u64 {
+        self.text.len() as u64
+    }
+
+    fn read_at(&self, buffer: &mut [u8], place: u64) -> Result<usize, FeedFailed> {
+        if place >= self.text.len() as u64 {
+            return Ok(0);
+        }
+        let rest = &self.text[place as usize..];
+        let count = rest.len().min(buffer.len());
+        buffer[..count].copy_from_slice(&rest[..count]);
+        Ok(count)
     }
 }
 

@@ -210,8 +210,9 @@ impl Rounds<'_, '_> {
         set.instants() >= self.instants || set.len() >= MOST_TRACES
     }
 
-    /// Runs the traces of the round, and puts their names and verdicts behind the others.
-    fn settle(&self, state: State) -> Result<(Judged, Option<RoundRoom>), Halt>
+    /// Runs the traces of the round, and puts their names and verdicts behind the others; gives the
+    /// round back too.
+    fn settle(&self, state: State) -> Result<(Judged, Option<RoundRoom>, RoundReader), Halt>
         requires { IsState self.now.signature.now state }
         ensures roll { IfOk result (λ found. IsRoll found.0.roll) }
         ensures ok { IfOk result (λ found. (table : Table) → (rows : List Record)
@@ -219,6 +220,8 @@ impl Rounds<'_, '_> {
             rows state
             → IsJudgedPart self.now.runner.program.now.program.now self.now.signature.now table
             rows found.0) }
+        ensures round { IfOk result (λ found.
+            found.2.recorder.rows.signature ≡ self.now.signature.now) }
         ensures err { IfErr result (λ halt. (table : Table) → (rows : List Record)
             → IsPartRead self.now.runner.program.now.program.now self.now.signature.now table
             rows state
@@ -238,7 +241,7 @@ impl Rounds<'_, '_> {
         };
         let found = self.runner.run(self.alloc, set, &mut room)?;
         verdicts.extend_from_slice(found.as_slice())?;
-        Ok((Judged { roll, verdicts }, room))
+        Ok((Judged { roll, verdicts }, room, round))
     }
 
     /// The same, and begins another round.
@@ -256,8 +259,8 @@ impl Rounds<'_, '_> {
             → IsHalt self.now.signature.now table rows halt) }
         ensures kept { IfErr result HasRoll }
     {
-        let (judged, room) = self.settle(state)?;
-        let round = self.new_round()?;
+        let (judged, room, mut round) = self.settle(state)?;
+        round.clear();
         Ok(State {
             judged,
             room,
@@ -302,7 +305,7 @@ impl Rounds<'_, '_> {
             → IsHalt self.now.signature.now table rows halt) }
         ensures kept { IfErr result HasRoll }
     {
-        let (judged, _room) = self.settle(state)?;
+        let (judged, _room, _round) = self.settle(state)?;
         Ok(judged)
     }
 

@@ -78,7 +78,7 @@ returns-in-Err-clause-err c =
     c.in_ok-flat.ensures in
     let refused = placed_cycle P c.in-Err.cause c.with_places.result c.with_places.ensures
     (is_cycle P (flat.program_of c.in_ok-flat.flat.program) c.in-Err.cause accepted checked
-    answer.0 answer.1 c.in-Err.ensures.cycle) in
+    answer.0 answer.1 c.in-Err.ensures.cycle c.in-Err.ensures.cyclic) in
     λ source traces only. record { tree = tree; spelled = only; holds = refused }
 
 pub returns-in-Ok-clause-ok : goal.returns-in-Ok-clause-ok
@@ -95,9 +95,8 @@ returns-in-Ok-clause-ok c =
     let checked = subst (λ (P : Program). check_refusal P ≡ None) of law.accepted in
     let answer = subst (λ (P : Program). IsExpansionAnswer P (Ok c.in_ok-flat.flat)) of
     c.in_ok-flat.ensures in
-    let found = accepted_is P (flat.program_of c.in_ok-flat.flat.program)
-    (flat.program_of c.in-Ok.ordered.program) here.accepted checked answer.0 answer.1
-    c.in-Ok.ensures.order (c.in-Ok.ensures.causal P answer.1) in
+    let found = accepted_is P (flat.program_of c.in-Ok.ordered.program) here.accepted checked
+    answer.0 (c.in-Ok.ensures.stands P answer.1) (c.in-Ok.ensures.causal P answer.1) in
     record {
       accepted = found.0;
       inputs = here.inputs ∙ sym c.into_signature.ensures.value;
