@@ -11,7 +11,7 @@ use Rattle.lb_command.specs.Merging.{IsMergeRun}
 use Rattle.lb_command.specs.Outcomes.{AreTexts, HasPath, IsDelivered, IsRefusedOn, IsReportOn}
 use Rattle.lb_command.specs.Outcomes.{IsTold, TellsOfInput, refusal_status}
 use Rattle.lb_command.specs.Showing.{IsShowingRun}
-use Rattle.lb_command.specs.Streams.{Change, Input, IsUntouched, NeverFailed}
+use Rattle.lb_command.specs.Streams.{Change, Input, IsUnread, IsUntouched, NeverFailed}
 use Rattle.lb_command.specs.Warnings.{AreRemarks}
 use Rattle.lb_command.specs.Words.{AsksForHelp, AsksForVersion, IsAsked, IsUnlawful}
 use Rattle.lb_command.specs.declared.answer.Answer.{Answer}
@@ -44,7 +44,8 @@ IsToldOutcome words task known (Err refusal) =
 
 -- a run of a task whose report is written at once: no read of the input failed, and what its terms
 -- ask for of the report is delivered; or the input or the texts are refused, or what the terms name
--- is no report; then the output is as it was, and the refusal is told
+-- is no report, and nothing of the input was read; then the output is as it was, and the refusal is
+-- told
 pub data IsWholeRun
     (words : List Text) (task : Task) (i : Input) (status : ℕ) (output errors : Change)
     : Type 0 where
@@ -56,7 +57,7 @@ pub data IsWholeRun
       → status ≡ refusal_status refusal.number → IsUntouched output
       → IsTold words errors (line refusal.number refusal.position)
       → IsWholeRun words task i status output errors
-  no_baseline : (refusal : Refusal) → IsBaselineRefused task.terms refusal → NeverFailed i
+  no_baseline : (refusal : Refusal) → IsBaselineRefused task.terms refusal → IsUnread i
       → status ≡ refusal_status refusal.number → IsUntouched output
       → IsTold words errors (line refusal.number refusal.position)
       → IsWholeRun words task i status output errors
@@ -71,7 +72,7 @@ IsRunFor aim.LiveReport words task i status output errors =
 IsRunFor aim.OneTrace words task i status output errors =
     IsShowingRun words task i status output errors
 IsRunFor aim.Merge words task i status output errors =
-    NeverFailed i × IsMergeRun words task status output errors
+    IsUnread i × IsMergeRun words task status output errors
 IsRunFor _ words task i status output errors = IsJudgingRun words task i status output errors
 
 abbrev pub IsTaskRun : (words : List Text) → Task → Input → (status : ℕ)
@@ -92,16 +93,16 @@ IsRefusal words refusal =
     (refusal.number ≡ 0) ⊎ ((refusal.number ≡ 20) × IsUnlawful words)
 
 -- a run with these words, this input and this exit status: a run of the task that they ask for; or
--- the help text or the version is delivered; or the words are refused, nothing was read, the output
--- is as it was, and the refusal is told
+-- the help text or the version is delivered; or the words are refused, the output is as it was, and
+-- the refusal is told. Of both of these nothing of the input was read
 pub data IsRun
     (words : List Text) (i : Input) (status : ℕ) (output errors : Change)
     : Type 0 where
   asked : (task : Task) → IsAsked words task → IsTaskRun words task i status output errors
       → IsRun words i status output errors
-  told : (answer : Answer) → TellsOfProgram words answer → NeverFailed i
+  told : (answer : Answer) → TellsOfProgram words answer → IsUnread i
       → IsDelivered words answer [] status output errors → IsRun words i status output errors
-  refused : (refusal : Refusal) → IsRefusal words refusal → NeverFailed i
+  refused : (refusal : Refusal) → IsRefusal words refusal → IsUnread i
       → status ≡ refusal_status refusal.number → IsUntouched output
       → IsTold words errors (line refusal.number refusal.position)
       → IsRun words i status output errors

@@ -58,6 +58,10 @@ input coming given_before given_after failures_before failures_after = record {
 abbrev pub NeverFailed : Input → Type 0
 NeverFailed i = i.failures_after ≡ i.failures_before
 
+-- the input gave nothing, and no read of it failed
+abbrev pub IsUnread : Input → Type 0
+IsUnread i = (i.given_after ≡ i.given_before) × NeverFailed i
+
 -- a read of the input failed, or it gave more bytes than are read
 abbrev pub IsUnreadable : Input → Type 0
 IsUnreadable i = (i.failures_before < i.failures_after)

@@ -15,7 +15,7 @@ use crate::terms::{Format, Terms};
 use lb_listing::{Listing, ListingError, compare, junit, read_listing, status_by};
 use lb_report::Report;
 use std::alloc::{AllocError, Global};
-use std::rt::Runtime;
+use std::fs::Files;
 
 /// What goes out of a report: its text and the status of its run, and what is said beside it.
 #[derive(Drop)]
@@ -46,7 +46,7 @@ struct Measured {
 }
 
 /// The text of the earlier report that the terms name, if they name one. The errors are E0 and E21.
-pub fn load_baseline<R: Runtime + AllocGlobal>(
+pub fn load_baseline<R: Files + AllocGlobal>(
     rt: &R,
     terms: &Terms<'_>,
 ) -> Result<Option<Vec<u8>>, Refusal>

@@ -11,7 +11,6 @@ use crate::answer::Answer;
 use crate::explanation::tell;
 use crate::refusal::Refusal;
 use lb_report::{Sent, Sink, send};
-use std::rt::Runtime;
 
 /// Writes a text to its end, and hands it on.
 fn put<S: Sink>(sink: &mut S, text: &[u8]) -> Result<(), Sent>
@@ -50,7 +49,7 @@ pub fn deliver<R, W, E>(
     errors: &mut E,
 ) -> u8
 where
-    R: Runtime + AllocGlobal,
+    R: AllocGlobal,
     W: Sink,
     E: Sink,
     requires writer { W.failures writer.old < u64.MAX }

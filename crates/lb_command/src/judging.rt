@@ -16,7 +16,7 @@ use crate::request::{Aim, Task};
 use lb_report::{Feed, Sink, judge};
 use lb_static::Signature;
 use std::alloc::{AllocError, Global};
-use std::rt::Runtime;
+use std::fs::Files;
 
 /// The header of traces of these scalar inputs: `trace`, then the name of each, in order.
 fn header_of(alloc: Global, inputs: &Signature) -> Result<Vec<u8>, AllocError>
@@ -74,7 +74,7 @@ fn judge_source<R, F>(
     reader: &mut F,
 ) -> Result<Warned<Vec<u8>>, Refusal>
 where
-    R: Runtime + AllocGlobal,
+    R: Files + AllocGlobal,
     F: Feed,
     requires { F.failures reader.old < u64.MAX }
     ensures outcome { spec.IsOutcome task.now (F.coming reader.old) result }
@@ -99,7 +99,7 @@ pub fn run_judging<R, F, W, E>(
     errors: &mut E,
 ) -> u8
 where
-    R: Runtime + AllocGlobal,
+    R: Files + AllocGlobal,
     F: Feed,
     W: Sink,
     E: Sink,

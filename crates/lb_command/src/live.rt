@@ -12,11 +12,12 @@ use crate::loading::{Loaded, load_open, load_texts};
 use crate::refusal::{Refusal, Texts};
 use crate::request::Task;
 use lb_report::{Feed, FollowError, FollowFault, NoGate, Sink, follow, follow_file};
+use std::fs::Files;
 use std::io::Read;
 use std::os::unix::fs::FileExt;
-use std::rt::Runtime;
 use std::sync::Wait;
 use std::thread::Threads;
+use std::time::Clock;
 
 /// Why a live report did not go out whole.
 #[derive(Drop)]
@@ -36,7 +37,7 @@ fn follow_texts<R, W>(
     writer: &mut W,
 ) -> Result<Vec<u8>, LiveFault>
 where
-    R: Runtime + AllocGlobal + Threads + Wait + Sync,
+    R: AllocGlobal + Threads + Wait + Clock + Sync,
     W: Sink,
     requires workers { 0 < task.now.options.workers }
     requires failures { W.failures writer.old < u64.MAX }
@@ -69,7 +70,7 @@ fn follow_loaded<R, F, W>(
     writer: &mut W,
 ) -> Result<Vec<u8>, LiveFault>
 where
-    R: Runtime + AllocGlobal + Threads + Wait + Sync,
+    R: AllocGlobal + Threads + Wait + Clock + Sync,
     F: Read,
     W: Sink,
     requires workers { 0 < task.now.options.workers }
@@ -98,7 +99,7 @@ fn follow_open<R, W>(
     writer: &mut W,
 ) -> Result<Vec<u8>, LiveFault>
 where
-    R: Runtime + AllocGlobal + Threads + Wait + Sync,
+    R: Files + AllocGlobal + Threads + Wait + Clock + Sync,
     R::File: FileExt + Sync,
     W: Sink,
     requires workers { 0 < task.now.options.workers }
@@ -128,7 +129,7 @@ fn follow_task<R, F, W>(
     writer: &mut W,
 ) -> Result<Vec<u8>, LiveFault>
 where
-    R: Runtime + AllocGlobal + Threads + Wait + Sync,
+    R: Files + AllocGlobal + Threads + Wait + Clock + Sync,
     R::File: FileExt + Sync,
     F: Feed,
     W: Sink,
@@ -166,7 +167,7 @@ pub fn run_live<R, F, W, E>(
     errors: &mut E,
 ) -> u8
 where
-    R: Runtime + AllocGlobal + Threads + Wait + Sync,
+    R: Files + AllocGlobal + Threads + Wait + Clock + Sync,
     R::File: FileExt + Sync,
     F: Feed,
     W: Sink,

@@ -9,10 +9,9 @@ use crate::request::Task;
 use lb_part::{FileRanges, Part, PartError, load_part};
 use lb_report::{Feed, Reader, load};
 use std::alloc::Global;
-use std::fs::{File, OpenFile};
+use std::fs::{File, Files, OpenFile};
 use std::io::{self, Read};
 use std::os::unix::fs::FileExt;
-use std::rt::Runtime;
 
 /// What a report is on.
 #[derive(Drop)]
@@ -70,7 +69,7 @@ fn unopened(alloc: Global, path: &str, cause: &io::Error) -> Refusal
 }
 
 /// The file at a path. The error is E21.
-fn open_file<R: Runtime + AllocGlobal>(rt: &R, path: &str) -> Result<R::File, Refusal>
+fn open_file<R: Files + AllocGlobal>(rt: &R, path: &str) -> Result<R::File, Refusal>
     ensures { IfErr result (λ refusal. refusal.number ≡ 21) }
 {
     match File::open(rt, path) {
@@ -80,7 +79,7 @@ fn open_file<R: Runtime + AllocGlobal>(rt: &R, path: &str) -> Result<R::File, Re
 }
 
 /// The bytes of the file at a path. The errors are E0 and E21.
-pub fn load_file<R: Runtime + AllocGlobal>(rt: &R, path: &str) -> Result<Vec<u8>, Refusal>
+pub fn load_file<R: Files + AllocGlobal>(rt: &R, path: &str) -> Result<Vec<u8>, Refusal>
     ensures { IfErr result spec.IsUnread }
 {
     match open_file(rt, path) {
@@ -115,7 +114,7 @@ pub fn load_texts<'a, R, F>(
     reader: &mut F,
 ) -> Result<Loaded<'a, R::File>, Refusal>
 where
-    R: Runtime + AllocGlobal,
+    R: Files + AllocGlobal,
     R::File: FileExt,
     F: Feed,
     requires { F.failures reader.old < u64.MAX }
@@ -150,7 +149,7 @@ where
 /// The errors are E0 and E21.
 pub fn load_source<R, F>(rt: &R, task: &Task<'_>, reader: &mut F) -> Result<Texts, Refusal>
 where
-    R: Runtime + AllocGlobal,
+    R: Files + AllocGlobal,
     F: Feed,
     requires { F.failures reader.old < u64.MAX }
     ensures ok { IfOk result (λ texts.

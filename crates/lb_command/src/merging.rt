@@ -17,7 +17,7 @@ use crate::request::Task;
 use lb_listing::{Listing, MergeError, merge};
 use lb_report::{Report, Sink};
 use std::alloc::{AllocError, Global};
-use std::rt::Runtime;
+use std::fs::Files;
 
 /// Adds a text.
 fn keep(texts: &mut Vec<Vec<u8>>, text: Vec<u8>) -> Result<(), AllocError> {
@@ -26,7 +26,7 @@ fn keep(texts: &mut Vec<Vec<u8>>, text: Vec<u8>) -> Result<(), AllocError> {
 }
 
 /// The reports at some paths. The errors are E0 and E21.
-fn load_reports<R: Runtime + AllocGlobal>(rt: &R, paths: &[&str]) -> Result<Vec<Vec<u8>>, Refusal>
+fn load_reports<R: Files + AllocGlobal>(rt: &R, paths: &[&str]) -> Result<Vec<Vec<u8>>, Refusal>
     ensures { IfErr result IsUnread }
 {
     let mut texts = Vec::new(rt.alloc());
@@ -63,7 +63,7 @@ fn merge_texts(alloc: Global, paths: &[&str], texts: &[Vec<u8>]) -> Result<Vec<u
 }
 
 /// One report in place of those at some paths. The errors are E0, E17, E20 and E21.
-fn merge_files<R: Runtime + AllocGlobal>(rt: &R, paths: &[&str]) -> Result<Vec<u8>, Refusal>
+fn merge_files<R: Files + AllocGlobal>(rt: &R, paths: &[&str]) -> Result<Vec<u8>, Refusal>
     ensures ok { IfOk result (λ text. (texts : List (List ℕ)) × IsMerged texts text.items) }
     ensures err { IfErr result spec.IsMergeRefused }
 {
@@ -75,7 +75,7 @@ fn merge_files<R: Runtime + AllocGlobal>(rt: &R, paths: &[&str]) -> Result<Vec<u
 }
 
 /// What goes out of the reports that a task names.
-fn conclude_merge<R: Runtime + AllocGlobal>(
+fn conclude_merge<R: Files + AllocGlobal>(
     rt: &R,
     task: &Task<'_>,
     baseline: Option<&Listing<'_>>,
@@ -108,7 +108,7 @@ fn run_measured<R, W, E>(
     errors: &mut E,
 ) -> u8
 where
-    R: Runtime + AllocGlobal,
+    R: Files + AllocGlobal,
     W: Sink,
     E: Sink,
     requires baseline { IsBaseline task.now.terms baseline }
@@ -141,7 +141,7 @@ fn run_compared<R, W, E>(
     errors: &mut E,
 ) -> u8
 where
-    R: Runtime + AllocGlobal,
+    R: Files + AllocGlobal,
     W: Sink,
     E: Sink,
     requires baseline { IsSome task.now.terms.baseline }
@@ -169,7 +169,7 @@ pub fn run_merge<R, W, E>(
     errors: &mut E,
 ) -> u8
 where
-    R: Runtime + AllocGlobal,
+    R: Files + AllocGlobal,
     W: Sink,
     E: Sink,
     requires writer { W.failures writer.old < u64.MAX }

@@ -26,10 +26,11 @@ use lb_report::{
     Feed, FeedFault, FilePlaces, Reader, Report, Sink, Sizes, bench, bench_feed, bench_ranges,
 };
 use std::alloc::{AllocError, Global};
+use std::fs::Files;
 use std::os::unix::fs::FileExt;
-use std::rt::Runtime;
 use std::sync::Wait;
 use std::thread::Threads;
+use std::time::Clock;
 
 /// The report on some texts.
 fn report_on<R>(
@@ -39,7 +40,7 @@ fn report_on<R>(
     texts: Texts,
 ) -> Result<Warned<Report>, Refusal>
 where
-    R: Runtime + AllocGlobal + Threads + Sync,
+    R: AllocGlobal + Threads + Sync,
     ensures outcome { spec.IsOutcomeOn (spec.AreIn texts) task.now.options result }
     ensures not_read { IfErr result (λ refusal. refusal.number ≢ 21) }
     ensures warned { IfOk result (λ found.
@@ -88,7 +89,7 @@ fn report_on_feed<R, F>(
     feed: &mut F,
 ) -> Result<Warned<Report>, Refusal>
 where
-    R: Runtime + AllocGlobal + Threads + Sync,
+    R: AllocGlobal + Threads + Sync,
     F: Feed + Send,
     requires { F.failures feed.old < u64.MAX }
     ensures outcome { spec.IsOutcomeOn (λ _ traces. spec.IsInput (F.coming feed.old) traces)
@@ -113,7 +114,7 @@ fn report_on_open<R>(
     mut file: R::File,
 ) -> Result<Warned<Report>, Refusal>
 where
-    R: Runtime + AllocGlobal + Threads + Sync,
+    R: Files + AllocGlobal + Threads + Sync,
     R::File: FileExt + Sync + Send,
     ensures outcome { spec.IsOutcomeOn (λ _ _. Unit {0}) task.now.options result }
     ensures warned { IfOk result (λ found.
@@ -151,7 +152,7 @@ fn report<R, F>(
     reader: &mut F,
 ) -> Result<Warned<Report>, Refusal>
 where
-    R: Runtime + AllocGlobal + Threads + Sync,
+    R: Files + AllocGlobal + Threads + Sync,
     R::File: FileExt + Sync + Send,
     F: Feed + Send,
     requires { F.failures reader.old < u64.MAX }
@@ -216,7 +217,7 @@ fn told_report<R, F>(
     reader: &mut F,
 ) -> Result<Warned<Report>, Refusal>
 where
-    R: Runtime + AllocGlobal + Threads + Sync,
+    R: Files + AllocGlobal + Threads + Sync,
     R::File: FileExt + Sync + Send,
     F: Feed + Send,
     requires baseline { IsBaseline task.now.terms baseline }
@@ -243,7 +244,7 @@ fn run_measured<R, F, W, E>(
     errors: &mut E,
 ) -> u8
 where
-    R: Runtime + AllocGlobal + Threads + Sync,
+    R: Files + AllocGlobal + Threads + Sync,
     R::File: FileExt + Sync + Send,
     F: Feed + Send,
     W: Sink,
@@ -282,7 +283,7 @@ fn run_compared<R, F, W, E>(
     errors: &mut E,
 ) -> u8
 where
-    R: Runtime + AllocGlobal + Threads + Sync,
+    R: Files + AllocGlobal + Threads + Sync,
     R::File: FileExt + Sync + Send,
     F: Feed + Send,
     W: Sink,
@@ -316,7 +317,7 @@ fn run_whole<R, F, W, E>(
     errors: &mut E,
 ) -> u8
 where
-    R: Runtime + AllocGlobal + Threads + Sync,
+    R: Files + AllocGlobal + Threads + Sync,
     R::File: FileExt + Sync + Send,
     F: Feed + Send,
     W: Sink,
@@ -351,7 +352,7 @@ fn run_task<R, F, W, E>(
     errors: &mut E,
 ) -> u8
 where
-    R: Runtime + AllocGlobal + Threads + Wait + Sync,
+    R: Files + AllocGlobal + Threads + Wait + Clock + Sync,
     R::File: FileExt + Sync + Send,
     F: Feed + Send,
     W: Sink,
@@ -400,7 +401,7 @@ pub fn command<R, F, W, E>(
     errors: &mut E,
 ) -> u8
 where
-    R: Runtime + AllocGlobal + Threads + Wait + Sync,
+    R: Files + AllocGlobal + Threads + Wait + Clock + Sync,
     R::File: FileExt + Sync + Send,
     F: Feed + Send,
     W: Sink,

@@ -16,8 +16,8 @@ use crate::values_request::Values;
 use lb_report::{Feed, FollowError, Sink};
 use lb_values::{Selection, ShowOptions, ValuesFault, show_values};
 use std::alloc::{AllocError, Global};
+use std::fs::Files;
 use std::os::unix::fs::FileExt;
-use std::rt::Runtime;
 
 /// Why values did not go out whole.
 #[derive(Drop)]
@@ -115,7 +115,7 @@ fn show_texts<W: Sink>(
 /// The texts of a task.
 fn load_both<R, F>(rt: &R, task: &Task<'_>, reader: &mut F) -> Result<Texts, Refusal>
 where
-    R: Runtime + AllocGlobal,
+    R: Files + AllocGlobal,
     R::File: FileExt,
     F: Feed,
     requires { F.failures reader.old < u64.MAX }
@@ -153,7 +153,7 @@ fn show_task<R, F, W>(
     writer: &mut W,
 ) -> Result<Vec<u8>, ShowingFault>
 where
-    R: Runtime + AllocGlobal,
+    R: Files + AllocGlobal,
     R::File: FileExt,
     F: Feed,
     W: Sink,
@@ -184,7 +184,7 @@ pub fn run_showing<R, F, W, E>(
     errors: &mut E,
 ) -> u8
 where
-    R: Runtime + AllocGlobal,
+    R: Files + AllocGlobal,
     R::File: FileExt,
     F: Feed,
     W: Sink,

@@ -19,14 +19,14 @@ returns-in-Help g c =
     let words = map string_bytes c.args.words.now in
     let Is : Request → Type 0 = IsRequest words in
     let asks : AsksForHelp words = subst Is c.in-Help.is c.in-Ok.ensures.ok in
-    told (Help c.in-Help.text) asks refl c.deliver.ensures
+    told (Help c.in-Help.text) asks (refl, refl) c.deliver.ensures
 
 pub returns-in-Version : goal.returns-in-Version
 returns-in-Version g c =
     let words = map string_bytes c.args.words.now in
     let Is : Request → Type 0 = IsRequest words in
     let asks : AsksForVersion words = subst Is c.in-Version.is c.in-Ok.ensures.ok in
-    told Version asks refl c.deliver-in-Version.ensures
+    told Version asks (refl, refl) c.deliver-in-Version.ensures
 
 pub returns-in-Run : goal.returns-in-Run
 returns-in-Run g c =
@@ -37,5 +37,5 @@ returns-in-Run g c =
 
 pub returns-in-Err : goal.returns-in-Err
 returns-in-Err g c =
-    refused c.in-Err.refusal c.in-Err.ensures.err refl c.tell.ensures.status
+    refused c.in-Err.refusal c.in-Err.ensures.err (refl, refl) c.tell.ensures.status
     (record { kept = takes_nothing _; never_failed = refl }) c.tell.ensures.told

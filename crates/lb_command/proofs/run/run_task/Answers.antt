@@ -93,4 +93,4 @@ returns-in-Merge g c =
     (g.W.Sink.failures args.writer.now) (g.W.Sink.failures new.writer))
     (change (g.E.Sink.taken args.errors.now) (g.E.Sink.taken new.errors)
     (g.E.Sink.failures args.errors.now) (g.E.Sink.failures new.errors)) in
-    subst Is (sym c.in-Merge.is) (refl, c.run_merge.ensures)
+    subst Is (sym c.in-Merge.is) ((refl, refl), c.run_merge.ensures)
