@@ -7,6 +7,8 @@
 #![tactic(auto)]
 
 #[cfg(test)]
+mod colours;
+#[cfg(test)]
 mod command_lines;
 #[cfg(test)]
 mod commands;

@@ -3,10 +3,10 @@
 ghost use Rattle.std.specs.Prelude.{◌<◌, IfOk};
 
 use crate::rounds;
+use crate::texts::{around, first_line, push_unlike};
 use lb_check::CheckError;
 use lb_report::{BenchError, Options, Report, run_case};
 use std::alloc::{AllocError, Global};
-use std::rt::Runtime;
 use std::thread::Threads;
 
 /// A refusal: its number and its word, and the place or the node that it names.
@@ -49,10 +49,7 @@ fn options(alloc: Global, observer: &str) -> Result<Options, AllocError> {
 }
 
 /// The lines of a report and the status, or the refusal.
-pub fn push_outcome(
-    said: &mut String,
-    outcome: &Result<Report, BenchError>,
-) -> Result<(), AllocError> {
+fn push_outcome(said: &mut String, outcome: &Result<Report, BenchError>) -> Result<(), AllocError> {
     match outcome {
         Ok(report) => {
             let text = std::str::from_utf8(report.text.as_slice()).unwrap_or("no text");
@@ -62,59 +59,106 @@ pub fn push_outcome(
     }
 }
 
+/// The same, and lets it go.
+fn push_last(said: &mut String, outcome: Result<Report, BenchError>) -> Result<(), AllocError> {
+    push_outcome(said, &outcome)
+}
+
+/// What a run on a case text answers.
+pub fn push_run<R: AllocGlobal + Threads + Sync>(
+    rt: &R,
+    case: &[u8],
+    options: &Options,
+    said: &mut String,
+) -> Result<(), AllocError> {
+    push_last(said, run_case(rt, case, options))
+}
+
 /// What is answered on a case text. An empty name is no observer.
-pub fn push_answer<R: Runtime + AllocGlobal + Threads + Sync>(
+pub fn push_answer<R: AllocGlobal + Threads + Sync>(
     rt: &R,
     case: &str,
     observer: &str,
     said: &mut String,
 ) -> Result<(), AllocError> {
     let options = options(rt.alloc(), observer)?;
-    push_outcome(said, &run_case(rt, case.as_bytes(), &options))
+    push_run(rt, case.as_bytes(), &options, said)
 }
 
-/// A line of traces with each cell in quotes, if none has a quote or a carriage return.
+/// Whether a line of traces can stand with each cell in quotes: it has no quote and no carriage
+/// return.
+fn is_plain(line: &str) -> bool {
+    for letter in line.chars() {
+        if letter == '"' || letter == '\r' {
+            return false;
+        }
+    }
+    !line.is_empty()
+}
+
+/// A line of traces with each cell in quotes.
 fn push_quoted_line(line: &str, quoted: &mut String) -> Result<(), AllocError> {
-    if line.is_empty() || line.split_once('"').is_some() || line.split_once('\r').is_some() {
-        return write!(quoted, "{line}\n");
+    quoted.push('"')?;
+    for letter in line.chars() {
+        if letter == ',' {
+            quoted.push_str("\",\"")?;
+        } else {
+            quoted.push(letter)?;
+        }
     }
-    let mut cells = line.split(',');
-    write!(quoted, "\"{}\"", cells.next().unwrap_or(""))?;
-    for cell in cells {
-        write!(quoted, ",\"{cell}\"")?;
+    quoted.push_str("\"\n")
+}
+
+/// A line of traces with each cell in quotes, or as it stands.
+fn push_line(line: &str, quoted: &mut String) -> Result<(), AllocError> {
+    if is_plain(line) {
+        return push_quoted_line(line, quoted);
     }
-    quoted.push('\n')
+    write!(quoted, "{line}\n")
 }
 
 /// A case text with each cell of its traces in quotes.
 fn push_quoted(case: &str, quoted: &mut String) -> Result<(), AllocError> {
-    let (source, traces) = case.split_once("%traces\n").unwrap_or((case, ""));
+    let (source, traces) = around(case, "%traces\n");
     write!(quoted, "{source}%traces\n")?;
     for line in traces.split('\n') {
-        push_quoted_line(line, quoted)?;
+        push_line(line, quoted)?;
+    }
+    Ok(())
+}
+
+/// What is answered on a case text with each cell of its traces in quotes, or on both texts in
+/// rounds, where that is not what is wanted.
+fn push_unlike_quoted<R: AllocGlobal + Threads + Sync>(
+    rt: &R,
+    case: &str,
+    observer: &str,
+    wanted: &str,
+    unlike: &mut String,
+) -> Result<(), AllocError> {
+    let mut quoted = String::new(rt.alloc());
+    let mut other = String::new(rt.alloc());
+    push_quoted(case, &mut quoted)?;
+    push_answer(rt, quoted.as_str(), observer, &mut other)?;
+    push_unlike(wanted, other.as_str(), 1, 0, unlike)?;
+    if observer.is_empty() {
+        rounds::push_case_in_rounds(rt, case, unlike)?;
+        rounds::push_case_in_rounds(rt, quoted.as_str(), unlike)?;
     }
     Ok(())
 }
 
 /// What is answered on a case text after its first line, which may name an observer; and what is
 /// answered with each cell in quotes, or in rounds, where that is something else.
-pub fn push_case<R: Runtime + AllocGlobal + Threads + Sync>(
+pub fn push_case<R: AllocGlobal + Threads + Sync>(
     rt: &R,
     asked: &str,
     said: &mut String,
 ) -> Result<(), AllocError> {
-    let (observer, case) = asked.split_once('\n').unwrap_or(("", asked));
-    push_answer(rt, case, observer.trim(), said)?;
-    let mut quoted = String::new(rt.alloc());
-    let mut other = String::new(rt.alloc());
-    push_quoted(case, &mut quoted)?;
-    push_answer(rt, quoted.as_str(), observer.trim(), &mut other)?;
-    if other.as_str() != said.as_str() {
-        return write!(said, ", and quoted {other}");
-    }
-    if observer.trim().is_empty() {
-        rounds::push_case_in_rounds(rt, case, said)?;
-        rounds::push_case_in_rounds(rt, quoted.as_str(), said)?;
-    }
-    Ok(())
+    let (observer, case) = first_line(asked);
+    let observer = observer.trim();
+    push_answer(rt, case, observer, said)?;
+    let mut unlike = String::new(rt.alloc());
+    push_unlike_quoted(rt, case, observer, said.as_str(), &mut unlike)?;
+    said.push_str(unlike.as_str())
 }

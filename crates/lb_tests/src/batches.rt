@@ -6,19 +6,21 @@ ghost use Rattle.lb_sim.specs.BatchRuns.{flat_of};
 ghost use Rattle.lb_sim.specs.InputRows.{HaveInstant};
 
 use crate::pool::push_case;
+use crate::sources::checked_of;
+use crate::texts::{around, expect, first_line, is_same};
 use crate::{forms, random, runs};
-use lb_check::{Verdict, check as check_rules};
+use lb_check::Verdict;
 use lb_flat::{Ordered, eval_trace, expand, order};
 use lb_lanes::Plane;
 use lb_report::split_case;
 use lb_sim::{
     BatchRoom, BatchRun, Inputs, LaneProgram, compile, has_kinds, run_batch, run_queue_in,
 };
-use lb_static::{Signature, elaborate};
-use lb_syntax::{Source, parse};
+use lb_syntax::parse;
 use lb_trace::read_traces;
 use lb_traces::TraceSet;
 use std::alloc::{AllocError, Global};
+use std::test::Fail;
 
 // ## What is asked
 
@@ -308,28 +310,14 @@ fn push_on_set(
     }
 }
 
-// The equations of a tree, and the signature of its traces. An empty name is no observer.
-fn ordered_of(alloc: Global, tree: &Source, observer: &str) -> Option<(Signature, Ordered)> {
-    let observer = if observer.is_empty() {
-        None
-    } else {
-        Some(observer)
-    };
-    let elab = elaborate(alloc, tree, "main", observer).ok()?;
-    let checked = check_rules(alloc, elab).ok()?;
-    let flat = expand(alloc, &checked).ok();
-    let signature = checked.into_signature();
-    let ordered = order(alloc, flat?).ok()?;
-    Some((signature, ordered))
-}
-
 /// The equations of a case and its traces, if its texts are accepted. An empty name is no observer.
 pub fn prepared(alloc: Global, case: &str, observer: &str) -> Option<(Ordered, TraceSet)> {
     let (source, traces) = split_case(case.as_bytes());
     let tree = parse(alloc, source).ok()?;
-    let (signature, ordered) = ordered_of(alloc, &tree, observer)?;
-    let set = read_traces(alloc, &signature, traces).ok()?;
-    Some((ordered, set))
+    let checked = checked_of(alloc, &tree, observer)?;
+    let flat = expand(alloc, &checked).ok();
+    let set = read_traces(alloc, &checked.into_signature(), traces).ok()?;
+    Some((order(alloc, flat?).ok()?, set))
 }
 
 fn push_on_case(
@@ -348,12 +336,12 @@ fn push_on_case(
 /// What is answered on a case whose records are told by their count: its first line has the members
 /// of some batches, `steps`, or nothing.
 pub fn push_lanes_of(alloc: Global, asked: &str, said: &mut String) -> Result<(), AllocError> {
-    let (line, short) = asked.split_once('\n').unwrap_or(("", asked));
+    let (line, short) = first_line(asked);
     let mut case = String::new(alloc);
     push_case(&mut case, short)?;
     let question = if line.is_empty() {
         Question::All
-    } else if line == "steps" {
+    } else if is_same(line, "steps") {
         Question::Steps
     } else {
         Question::Members(line)
@@ -604,13 +592,13 @@ start:
 
 // Whether each trace of a case has the verdict of its report in its lane, and alone.
 fn is_same_in_lanes(alloc: Global, row: &str, said: &mut String) -> Result<bool, AllocError> {
-    let (asked, wanted) = row.split_once("%answer\n").unwrap_or(("", ""));
-    let (observer, case) = asked.split_once('\n').unwrap_or(("", asked));
+    let (asked, wanted) = around(row, "%answer\n");
+    let (observer, case) = first_line(asked);
     said.clear();
     push_on_case(alloc, case, observer.trim(), Question::All, said)?;
     Ok(match wanted.strip_prefix(said.as_str()) {
         Some(rest) => rest.starts_with("total "),
-        None => said.as_str() == "refused" && wanted.starts_with("E"),
+        None => is_same(said.as_str(), "refused") && wanted.starts_with("E"),
     })
 }
 
@@ -628,13 +616,19 @@ fn other_in_lanes<'a>(
     Ok(None)
 }
 
+// The first of all cases that has other verdicts in lanes, and these. Nothing where there is none.
+fn first_in_lanes(alloc: Global) -> Result<String, AllocError> {
+    let mut said = String::new(alloc);
+    for rows in [runs::REPORTS, forms::FORMS, random::PROGRAMS] {
+        if let Some(row) = other_in_lanes(alloc, rows, &mut said)? {
+            return format!(in alloc; "{said}, in lanes: {row}");
+        }
+    }
+    Ok(String::new(alloc))
+}
+
 /// Each program of the whole language has the same verdicts in lanes.
 #[test]
-fn programs_in_lanes(rt: HostRuntime) -> Result<(), AllocError> {
-    let mut said = String::new(rt.alloc());
-    for rows in [runs::REPORTS, forms::FORMS, random::PROGRAMS] {
-        let other = other_in_lanes(rt.alloc(), rows, &mut said)?.unwrap_or("");
-        assert!(rt; other.is_empty(), "{other}, in lanes: {said}");
-    }
-    Ok(())
+fn programs_in_lanes(rt: HostRuntime) -> Result<(), Fail> {
+    expect(&first_in_lanes(rt.alloc()), "")
 }

@@ -5,12 +5,13 @@
 //! Places are lines and columns; the first is that of the statement or declaration, the second that
 //! of what is at fault, and one of a sign stands in brackets.
 
+use crate::texts::{around, last_line, named};
 use lb_check::{
-    CheckError, ClockFault, DefinitionFault, Part, SourceClock, SourceType, TypeFault, TypeRule,
-    check,
+    CheckError, Checked, ClockFault, DefinitionFault, Part, SourceClock, SourceType, TypeFault,
+    TypeRule, check,
 };
 use lb_static::{CallPath, Start, elaborate};
-use lb_syntax::{line_column, parse};
+use lb_syntax::{Source, line_column, parse};
 use std::alloc::{AllocError, Global};
 
 /// Sources, each with its node under test, and perhaps an observer, in the last line.
@@ -329,34 +330,39 @@ fn push_error(text: &str, error: &CheckError, said: &mut String) -> Result<(), A
     }
 }
 
-/// What is answered on a text with this node under test, and this observer unless it is empty.
+/// What breaks a rule, if a rule is broken.
+fn push_checked(
+    text: &str,
+    checked: &Result<Checked, CheckError>,
+    said: &mut String,
+) -> Result<(), AllocError> {
+    match checked {
+        Ok(_) => said.push_str("accepted"),
+        Err(error) => push_error(text, error, said),
+    }
+}
+
+/// What is answered on a tree with this node under test, and this observer unless it is empty.
 fn push_cause(
     alloc: Global,
     text: &str,
+    tree: &Source,
     node: &str,
     observer: &str,
     said: &mut String,
 ) -> Result<(), AllocError> {
-    let observer = if observer.is_empty() {
-        None
-    } else {
-        Some(observer)
-    };
-    let Ok(source) = parse(alloc, text.as_bytes()) else {
-        return said.push_str("no text");
-    };
-    let Ok(elab) = elaborate(alloc, &source, node, observer) else {
+    let Ok(elab) = elaborate(alloc, tree, node, named(observer)) else {
         return said.push_str("no program");
     };
-    match check(alloc, elab) {
-        Ok(_) => said.push_str("accepted"),
-        Err(error) => push_error(text, &error, said),
-    }
+    push_checked(text, &check(alloc, elab), said)
 }
 
 /// What is answered on a source, of which the last line is no part.
 pub fn push_answer(alloc: Global, asked: &str, said: &mut String) -> Result<(), AllocError> {
-    let (text, last) = asked.rsplit_once('\n').unwrap_or(("", asked));
-    let (node, observer) = last.split_once(',').unwrap_or((last, ""));
-    push_cause(alloc, text, node.trim(), observer.trim(), said)
+    let (text, last) = last_line(asked);
+    let (node, observer) = around(last, ",");
+    match &parse(alloc, text.as_bytes()) {
+        Ok(tree) => push_cause(alloc, text, tree, node.trim(), observer.trim(), said),
+        Err(_) => said.push_str("no text"),
+    }
 }

@@ -3,16 +3,15 @@
 //! Elements are numbered as variables are declared, those of arrays one after the other. Each of a
 //! cycle needs the next one at the same instant, and the last one the first.
 
-use lb_check::check;
+use crate::sources::checked_of;
 use lb_flat::{ElementId, OrderError, expand, order};
-use lb_static::elaborate;
-use lb_syntax::{Source, parse};
+use lb_syntax::parse;
 use std::alloc::{AllocError, Global};
 
-// The cycle of a tree, or none where it has an order or is refused sooner.
-fn cycle_of(alloc: Global, tree: &Source) -> Option<Vec<ElementId>> {
-    let elab = elaborate(alloc, tree, "main", None).ok()?;
-    let checked = check(alloc, elab).ok()?;
+// The cycle of a source, or none where it has an order or is refused sooner.
+fn cycle_of(alloc: Global, source: &str) -> Option<Vec<ElementId>> {
+    let tree = parse(alloc, source.as_bytes()).ok()?;
+    let checked = checked_of(alloc, &tree, "")?;
     match order(alloc, expand(alloc, &checked).ok()?) {
         Err(OrderError::Cycle(cycle)) => Some(Box::into_inner(cycle).elements),
         _ => None,
@@ -42,10 +41,7 @@ fn push_cycle(cycle: &[ElementId], said: &mut String) -> Result<(), AllocError> 
 
 /// The cycle of a source.
 pub fn push_answer(alloc: Global, asked: &str, said: &mut String) -> Result<(), AllocError> {
-    let Ok(tree) = &parse(alloc, asked.as_bytes()) else {
-        return said.push_str("refused");
-    };
-    match cycle_of(alloc, tree) {
+    match &cycle_of(alloc, asked) {
         Some(cycle) => push_cycle(cycle.as_slice(), said),
         None => said.push_str("no cycle"),
     }

@@ -2,10 +2,11 @@
 
 use crate::rounds::push_whole;
 use crate::sections::push_ranges;
-use lb_report::Sizes;
+use crate::texts::{expect, push_unlike};
+use lb_report::{FilePlaces, Sizes};
 use std::alloc::{AllocError, Global};
+use std::fs::Files;
 use std::os::unix::fs::FileExt;
-use std::rt::Runtime;
 use std::test::Fail;
 use std::thread::Threads;
 use std::{env, fs};
@@ -25,64 +26,75 @@ fn traces_of(alloc: Global, count: u32) -> Result<String, AllocError> {
     Ok(text)
 }
 
-/// Whether what is answered on a trace file by so many workers is what is wanted.
-fn is_found<R>(rt: &R, path: &str, workers: u32, wanted: &str) -> Result<bool, AllocError>
+/// Says of a trace file what so many workers answer, where that is not what is wanted.
+fn push_other<R>(
+    rt: &R,
+    path: &str,
+    workers: u32,
+    wanted: &str,
+    said: &mut String,
+) -> Result<(), AllocError>
 where
-    R: Runtime + AllocGlobal + Threads + Sync,
+    R: Files + AllocGlobal + Threads + Sync,
     R::File: FileExt + Sync,
 {
-    let mut said = String::new(rt.alloc());
+    let mut other = String::new(rt.alloc());
     match &fs::File::open(rt, path) {
-        Ok(file) => push_ranges(rt, SOURCE, file, workers, Sizes::usual(workers), &mut said)?,
-        Err(_) => said.push_str("no file")?,
+        Ok(file) => {
+            let (places, sizes) = (FilePlaces::new(file), Sizes::usual(workers));
+            push_ranges(rt, SOURCE, &places, workers, sizes, &mut other)?
+        }
+        Err(_) => other.push_str("no file")?,
     }
-    Ok(said.as_str() == wanted)
+    push_unlike(wanted, other.as_str(), workers, 0, said)
 }
 
-/// Whether a large file is read in sections as its text is judged, but not by one worker.
-fn is_large_read<R>(rt: &R, path: &str) -> Result<bool, Fail>
+/// Says what is otherwise where a large file is not read in sections as its text is judged, or is
+/// read so by one worker.
+fn push_large<R>(rt: &R, path: &str, said: &mut String) -> Result<(), Fail>
 where
-    R: Runtime + AllocGlobal + Threads + Sync,
+    R: Files + AllocGlobal + Threads + Sync,
     R::File: FileExt + Sync,
 {
     let text = traces_of(rt.alloc(), 320_000)?;
     fs::write(rt, path, text.as_str())?;
     let mut whole = String::new(rt.alloc());
     push_whole(rt, SOURCE, text.as_str().as_bytes(), &mut whole)?;
-    Ok(is_found(rt, path, 3, whole.as_str())? && is_found(rt, path, 1, "as a whole")?)
+    push_other(rt, path, 3, whole.as_str(), said)?;
+    push_other(rt, path, 1, "as a whole", said)?;
+    Ok(())
 }
 
-/// Whether a file that is not large is left to one worker.
-fn is_short_left<R>(rt: &R, path: &str) -> Result<bool, Fail>
+/// Says what is otherwise where a file that is not large is not left to one worker.
+fn push_short<R>(rt: &R, path: &str, said: &mut String) -> Result<(), Fail>
 where
-    R: Runtime + AllocGlobal + Threads + Sync,
+    R: Files + AllocGlobal + Threads + Sync,
     R::File: FileExt + Sync,
 {
     let text = traces_of(rt.alloc(), 100)?;
     fs::write(rt, path, text.as_str())?;
-    Ok(is_found(rt, path, 4, "as a whole")?)
+    push_other(rt, path, 4, "as a whole", said)?;
+    Ok(())
 }
 
-/// Whether a large file is read in sections, and whether a short one is left to one worker.
-fn are_read<R>(rt: &R, path: &str) -> Result<(bool, bool), Fail>
+/// The same of a large file, and then of a short one.
+fn push_both<R>(rt: &R, path: &str, said: &mut String) -> Result<(), Fail>
 where
-    R: Runtime + AllocGlobal + Threads + Sync,
+    R: Files + AllocGlobal + Threads + Sync,
     R::File: FileExt + Sync,
 {
-    let is_large = is_large_read(rt, path)?;
-    Ok((is_large, is_short_left(rt, path)?))
+    push_large(rt, path, said)?;
+    push_short(rt, path, said)
 }
 
 #[test]
 fn files(rt: HostRuntime) -> Result<(), Fail> {
     let mut path = String::new(rt.alloc());
     write!(path, "{}/lb_tests_sections", env::temp_dir(&rt)?.as_str())?;
-    let are_read = are_read(&rt, path.as_str());
+    let mut said = String::new(rt.alloc());
+    let both = push_both(&rt, path.as_str(), &mut said);
     let _ = fs::remove_file(&rt, path.as_str());
-    let (is_large, is_left) = are_read?;
-    assert!(rt; is_large, "sections of a large file");
-    assert!(rt; is_left, "one worker");
-    let is_none = is_found(&rt, path.as_str(), 4, "no file")?;
-    assert!(rt; is_none, "no file");
-    Ok(())
+    both?;
+    push_other(&rt, path.as_str(), 4, "no file", &mut said)?;
+    expect(&Ok(said), "")
 }

@@ -4,10 +4,11 @@
 //! way to its instance: the node under test or the observer, and each call from there. They stand
 //! as they need one another, from the one with the least number on.
 
-use lb_check::{Checked, check};
+use crate::sources::checked_of;
+use lb_check::Checked;
 use lb_flat::{Cycle, FlatError, OrderError, expand, order, with_places};
-use lb_static::{CallPath, elaborate};
-use lb_syntax::{Source, line_column, parse};
+use lb_static::CallPath;
+use lb_syntax::{line_column, parse};
 use std::alloc::{AllocError, Global};
 
 /// ` at 3:5`: where the byte at an offset stands.
@@ -95,27 +96,6 @@ fn push_order(
     }
 }
 
-fn push_tree(
-    alloc: Global,
-    text: &str,
-    tree: &Source,
-    observer: &str,
-    said: &mut String,
-) -> Result<(), AllocError> {
-    let observer = if observer.is_empty() {
-        None
-    } else {
-        Some(observer)
-    };
-    let Ok(elab) = elaborate(alloc, tree, "main", observer) else {
-        return said.push_str("\n refused before");
-    };
-    match check(alloc, elab) {
-        Ok(checked) => push_order(alloc, text, &checked, said),
-        Err(_) => said.push_str("\n refused before"),
-    }
-}
-
 /// Why a source is refused, with an observer that is named; an empty name is none.
 pub fn push_cause(
     alloc: Global,
@@ -123,9 +103,12 @@ pub fn push_cause(
     text: &str,
     said: &mut String,
 ) -> Result<(), AllocError> {
-    match parse(alloc, text.as_bytes()) {
-        Ok(tree) => push_tree(alloc, text, &tree, observer, said),
-        Err(_) => said.push_str("\n refused before"),
+    let Ok(tree) = &parse(alloc, text.as_bytes()) else {
+        return said.push_str("\n refused before");
+    };
+    match &checked_of(alloc, tree, observer) {
+        Some(checked) => push_order(alloc, text, checked, said),
+        None => said.push_str("\n refused before"),
     }
 }
 

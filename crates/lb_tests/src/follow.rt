@@ -5,91 +5,151 @@ ghost use Rattle.std.specs.Prelude.{◌<◌};
 use crate::answers::spread;
 use crate::pool::{Hold, LANES, SPREADS, TURNS, first_case, push_case};
 use crate::tables::write_out;
-use lb_report::{FollowError, FollowFault, Gate, NoGate, Options, Writer, follow, split_case};
+use crate::texts::{around, expect, push_unlike};
+use lb_report::{FollowFault, Gate, NoGate, Options, Sink, Writer, follow, split_case};
 use std::alloc::AllocError;
 use std::hint::spin_loop;
 use std::io::{ErrorKind, Write};
-use std::rt::Runtime;
 use std::sync::Wait;
 use std::sync::atomic::{AtomicBool, AtomicU64, Ordering};
+use std::test::Fail;
 use std::thread::Threads;
+use std::time::Clock;
 
 // ## Whatever the workers and the batches
 
-// The case of a row whose records are told by their count, and its report.
+// The case of a row whose records are told by their count, and how its live report ends, with the
+// report.
 fn write_case(
     short: &str,
     row: &mut String,
     case: &mut String,
     report: &mut String,
 ) -> Result<(), AllocError> {
-    let (asked, answer) = short.split_once("%answer\n").unwrap_or((short, ""));
+    let (asked, answer) = around(short, "%answer\n");
     let _ = write_out(row, asked)?;
     case.clear();
     push_case(case, row.as_str())?;
     let _ = write_out(row, answer)?;
     report.clear();
-    match row.as_str().split_once("status ") {
-        Some((lines, _)) => report.push_str(lines),
-        None => Ok(()),
+    report.push_str("whole:\n")?;
+    report.push_str(around(row.as_str(), "status ").0)
+}
+
+// How a live report ended.
+fn push_end(answer: &Result<(), FollowFault>, said: &mut String) -> Result<(), AllocError> {
+    match answer {
+        Ok(()) => said.push_str("whole"),
+        Err(FollowFault::Refused(cause)) => write!(said, "E{}", cause.number()),
+        Err(FollowFault::Stopped(cause)) => write!(said, "{cause}"),
     }
 }
 
-// What goes out of a live report on a case, where that is not a report.
-fn push_other<R: Runtime + AllocGlobal + Threads + Wait + Sync>(
+// The same, and lets it go.
+fn push_last(answer: Result<(), FollowFault>, said: &mut String) -> Result<(), AllocError> {
+    push_end(&answer, said)
+}
+
+// How a live report on a case ends that goes out behind a gate.
+fn push_followed<R, G, S>(
     rt: &R,
     case: &str,
-    report: &str,
+    options: &Options,
+    gate: &G,
+    sink: &mut S,
+    said: &mut String,
+) -> Result<(), AllocError>
+where
+    R: AllocGlobal + Threads + Wait + Clock + Sync,
+    G: Gate + Sync,
+    S: Sink,
+    requires workers { 0 < options.now.workers }
+    requires failures { S.failures sink.old < u64.MAX }
+{
+    let (source, traces) = split_case(case.as_bytes());
+    push_last(follow(rt, source, traces, options, gate, sink), said)
+}
+
+// How a live report ends, and what went out of it.
+fn push_live<R: AllocGlobal + Threads + Wait + Clock + Sync>(
+    rt: &R,
+    case: &str,
     options: &Options,
     said: &mut String,
 ) -> Result<(), AllocError>
     requires { 0 < options.now.workers }
 {
-    let (source, traces) = split_case(case.as_bytes());
     let mut output: Vec<u8> = Vec::new(rt.alloc());
-    let mut sink = Writer::new(&mut output);
-    let is_whole = follow(rt, source, traces, options, &NoGate, &mut sink).is_ok();
-    if is_whole && output.as_slice() == report.as_bytes() {
-        return Ok(());
-    }
-    let printed = std::str::from_utf8(output.as_slice()).unwrap_or("no text");
-    let (workers, batch) = (options.workers, options.batch);
-    write!(said, "\n{workers} workers, {batch} lanes: {printed}")
+    push_followed(
+        rt,
+        case,
+        options,
+        &NoGate,
+        &mut Writer::new(&mut output),
+        said,
+    )?;
+    let text = std::str::from_utf8(output.as_slice()).unwrap_or("no text");
+    write!(said, ":\n{text}")
 }
 
-// The same for each of these numbers of workers and of lanes, in order and by
-// length.
-fn push_others<R: Runtime + AllocGlobal + Threads + Wait + Sync>(
+// What goes out of a live report on a case, where that is not a report.
+fn push_other<R: AllocGlobal + Threads + Wait + Clock + Sync>(
     rt: &R,
     case: &str,
     report: &str,
-    said: &mut String,
+    options: Options,
+    unlike: &mut String,
+) -> Result<(), AllocError>
+    requires { 0 < options.workers }
+{
+    let mut other = String::new(rt.alloc());
+    push_live(rt, case, &options, &mut other)?;
+    push_unlike(
+        report,
+        other.as_str(),
+        options.workers,
+        options.batch as usize,
+        unlike,
+    )
+}
+
+// The same for each of these numbers of workers and of lanes, in order and by length.
+fn push_others<R: AllocGlobal + Threads + Wait + Clock + Sync>(
+    rt: &R,
+    case: &str,
+    report: &str,
+    unlike: &mut String,
 ) -> Result<(), AllocError> {
     for workers in [1u32, 2, 7, 64] {
-        let workers = workers.max(1);
         for lanes in LANES {
-            let options = spread(rt.alloc(), workers, lanes, false)?;
-            push_other(rt, case, report, &options, said)?;
-            let options = spread(rt.alloc(), workers, lanes, true)?;
-            push_other(rt, case, report, &options, said)?;
+            for by_length in [false, true] {
+                let options = spread(rt.alloc(), workers.max(1), lanes, by_length)?;
+                push_other(rt, case, report, options, unlike)?;
+            }
         }
     }
     Ok(())
 }
 
-/// The report goes out whole, whatever its verdicts are.
-#[test]
-fn every_worker_and_width(rt: HostRuntime) -> Result<(), AllocError> {
+// What goes out of live reports on the cases of a table, where that is not a report.
+fn unlike_reports<R: AllocGlobal + Threads + Wait + Clock + Sync>(
+    rt: &R,
+) -> Result<String, AllocError> {
     let mut row = String::new(rt.alloc());
     let mut case = String::new(rt.alloc());
     let mut report = String::new(rt.alloc());
-    let mut said = String::new(rt.alloc());
+    let mut unlike = String::new(rt.alloc());
     for short in SPREADS.split("\n%case\n") {
         write_case(short, &mut row, &mut case, &mut report)?;
-        push_others(&rt, case.as_str(), report.as_str(), &mut said)?;
+        push_others(rt, case.as_str(), report.as_str(), &mut unlike)?;
     }
-    assert_eq!(rt; said.as_str(), "");
-    Ok(())
+    Ok(unlike)
+}
+
+/// The report goes out whole, whatever its verdicts are.
+#[test]
+fn every_worker_and_width(rt: HostRuntime) -> Result<(), Fail> {
+    expect(&unlike_reports(&rt), "")
 }
 
 // ## While batches run
@@ -141,55 +201,43 @@ impl Gate for UntilWritten<'_> {
     }
 }
 
-// What goes out of a live report with two workers and a gate, and whether it was the whole.
-fn push_gated<R: Runtime + AllocGlobal + Threads + Wait + Sync, G: Gate + Sync>(
+// How a live report on sixty-five lengths ends, with two workers and a gate, and how many lines
+// went out.
+fn gated<R: AllocGlobal + Threads + Wait + Clock + Sync, G: Gate + Sync>(
     rt: &R,
-    case: &str,
     gate: &G,
     lines: &AtomicU64,
-    said: &mut String,
-) -> Result<(), AllocError> {
-    let (source, traces) = split_case(case.as_bytes());
+) -> Result<String, AllocError> {
+    let case = first_case(rt.alloc())?;
     let options = spread(rt.alloc(), 2, 64, false)?;
+    let mut said = String::new(rt.alloc());
     let text = Vec::new(rt.alloc());
     let mut sink = Writer::new(CountedLines { text, lines });
-    let is_whole = follow(rt, source, traces, &options, gate, &mut sink).is_ok();
-    write!(said, "{} lines", lines.load(Ordering::SeqCst))?;
-    if is_whole {
-        said.push_str(", whole")?;
-    }
-    Ok(())
+    push_followed(rt, case.as_str(), &options, gate, &mut sink, &mut said)?;
+    write!(said, ", {} lines", lines.load(Ordering::SeqCst))?;
+    Ok(said)
 }
 
 /// A body that writes everything at the end does not pass the gate.
 #[test]
-fn lines_while_a_batch_waits(rt: HostRuntime) -> Result<(), AllocError> {
-    let case = first_case(rt.alloc())?;
+fn lines_while_a_batch_waits(rt: HostRuntime) -> Result<(), Fail> {
     let lines = AtomicU64::new(0);
     let gate = UntilWritten {
         lines: &lines,
         has_given_up: AtomicBool::new(false),
     };
-    let mut said = String::new(rt.alloc());
-    push_gated(&rt, case.as_str(), &gate, &lines, &mut said)?;
-    assert!(rt;
-        !gate.has_given_up.load(Ordering::SeqCst),
-        "no line of batch 0 came out"
-    );
-    assert_eq!(rt; said.as_str(), "66 lines, whole");
+    expect(&gated(&rt, &gate, &lines), "whole, 66 lines")?;
+    assert!(rt; !gate.has_given_up.load(Ordering::SeqCst));
     Ok(())
 }
 
 /// A body that runs all batches on one thread does not pass the gate.
 #[test]
-fn one_thread_for_all_lines(rt: HostRuntime) -> Result<(), AllocError> {
-    let case = first_case(rt.alloc())?;
+fn one_thread_for_all_lines(rt: HostRuntime) -> Result<(), Fail> {
     let lines = AtomicU64::new(0);
     let gate = Hold::new();
-    let mut said = String::new(rt.alloc());
-    push_gated(&rt, case.as_str(), &gate, &lines, &mut said)?;
-    assert!(rt; !gate.has_given_up(), "batch 1 was not entered");
-    assert_eq!(rt; said.as_str(), "66 lines, whole");
+    expect(&gated(&rt, &gate, &lines), "whole, 66 lines")?;
+    assert!(rt; !gate.has_given_up());
     Ok(())
 }
 
@@ -221,44 +269,63 @@ impl Write for Brittle<'_> {
     }
 }
 
-// Whether a live report stops once the sink has taken `fails_at` bytes, and these are the first
-// bytes of the report.
-fn is_stopped<R: Runtime + AllocGlobal + Threads + Wait + Sync>(
+// How a live report ends whose sink takes so many bytes, and these bytes.
+fn push_brittle<R: AllocGlobal + Threads + Wait + Clock + Sync>(
     rt: &R,
     case: &str,
-    report: &str,
     fails_at: usize,
-) -> Result<bool, AllocError> {
-    let (source, traces) = split_case(case.as_bytes());
+    said: &mut String,
+) -> Result<(), AllocError> {
     let options = spread(rt.alloc(), 2, 64, false)?;
     let mut taken: Vec<u8> = Vec::new(rt.alloc());
     let mut sink = Writer::new(Brittle {
         taken: &mut taken,
         fails_at,
     });
-    let count = match follow(rt, source, traces, &options, &NoGate, &mut sink) {
-        Err(FollowFault::Stopped(FollowError::Write { count })) => count,
-        _ => return Ok(false),
-    };
+    push_followed(rt, case, &options, &NoGate, &mut sink, said)?;
     drop(sink);
-    Ok(count == fails_at && report.as_bytes().starts_with(taken.as_slice()))
+    let text = std::str::from_utf8(taken.as_slice()).unwrap_or("no text");
+    write!(said, ":\n{text}")
+}
+
+// The same, where the report does not stop once the sink has taken so many bytes, or these are not
+// its first ones.
+fn push_not_stopped<R: AllocGlobal + Threads + Wait + Clock + Sync>(
+    rt: &R,
+    case: &str,
+    report: &str,
+    fails_at: usize,
+    unlike: &mut String,
+) -> Result<(), AllocError> {
+    let mut said = String::new(rt.alloc());
+    push_brittle(rt, case, fails_at, &mut said)?;
+    let first = report.get(..fails_at).unwrap_or("no text");
+    let wanted = format!(in rt.alloc(); "the output failed after {fails_at} bytes:\n{first}")?;
+    push_unlike(wanted.as_str(), said.as_str(), 2, fails_at, unlike)
+}
+
+// What is otherwise where each write of a report fails in turn.
+fn not_stopped<R: AllocGlobal + Threads + Wait + Clock + Sync>(
+    rt: &R,
+) -> Result<String, AllocError> {
+    let mut row = String::new(rt.alloc());
+    let mut case = String::new(rt.alloc());
+    let mut report = String::new(rt.alloc());
+    let mut unlike = String::new(rt.alloc());
+    let (short, _) = around(around(SPREADS, "\n%case\n").1, "\n%case\n");
+    write_case(short, &mut row, &mut case, &mut report)?;
+    let report = around(report.as_str(), ":\n").1;
+    for fails_at in 0..report.len() {
+        push_not_stopped(rt, case.as_str(), report, fails_at, &mut unlike)?;
+    }
+    write!(unlike, "{} bytes", report.len())?;
+    Ok(unlike)
 }
 
 /// Each write of the report on lanes that retire fails in turn.
 #[test]
-fn each_write_fails(rt: HostRuntime) -> Result<(), AllocError> {
-    let mut row = String::new(rt.alloc());
-    let mut case = String::new(rt.alloc());
-    let mut report = String::new(rt.alloc());
-    let (_, rows) = SPREADS.split_once("\n%case\n").unwrap_or(("", ""));
-    let (short, _) = rows.split_once("\n%case\n").unwrap_or(("", ""));
-    write_case(short, &mut row, &mut case, &mut report)?;
-    assert!(rt; !report.is_empty());
-    for fails_at in 0..report.len() {
-        let is_stopped = is_stopped(&rt, case.as_str(), report.as_str(), fails_at)?;
-        assert!(rt; is_stopped, "byte {fails_at}");
-    }
-    Ok(())
+fn each_write_fails(rt: HostRuntime) -> Result<(), Fail> {
+    expect(&not_stopped(&rt), "755 bytes")
 }
 
 // ## Refused texts
@@ -273,24 +340,16 @@ trace,x,y,c
 a,1,2,1
 ";
 
+// How a live report on refused texts ends, and what goes out of it.
+fn refused<R: AllocGlobal + Threads + Wait + Clock + Sync>(rt: &R) -> Result<String, AllocError> {
+    let options = spread(rt.alloc(), 1, 64, false)?;
+    let mut said = String::new(rt.alloc());
+    push_live(rt, REFUSED, &options, &mut said)?;
+    Ok(said)
+}
+
 /// No byte goes out where the texts are refused.
 #[test]
-fn refused_texts(rt: HostRuntime) -> Result<(), AllocError> {
-    let (source, traces) = split_case(REFUSED.as_bytes());
-    let options = spread(rt.alloc(), 1, 64, false)?;
-    let mut taken: Vec<u8> = Vec::new(rt.alloc());
-    let answer = follow(
-        &rt,
-        source,
-        traces,
-        &options,
-        &NoGate,
-        &mut Writer::new(&mut taken),
-    );
-    let number = match &answer {
-        Err(FollowFault::Refused(cause)) => cause.number(),
-        _ => 0,
-    };
-    assert!(rt; number == 9 && taken.is_empty());
-    Ok(())
+fn refused_texts(rt: HostRuntime) -> Result<(), Fail> {
+    expect(&refused(&rt), "E9:\n")
 }

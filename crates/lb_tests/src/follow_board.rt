@@ -9,12 +9,14 @@ ghost use Rattle.lb_pool.specs.Settlements.{IsRight};
 
 use crate::batches::prepared;
 use crate::pool::first_case;
+use crate::texts::expect;
 use lb_check::Verdict;
 use lb_flat::{Ordered, eval_trace};
 use lb_pool::{FollowBoard, FollowSeat, Look, Plan};
 use lb_sim::has_kinds;
 use lb_traces::TraceSet;
 use std::alloc::{AllocError, Global};
+use std::test::Fail;
 
 // What a trace is settled with.
 fn push_settled(settled: Option<Verdict>, said: &mut String) -> Result<(), AllocError> {
@@ -157,12 +159,14 @@ fn push_steps(
 }
 
 // The steps on the first case of the table, which has sixty-five traces.
-fn push_steps_of_row(alloc: Global, said: &mut String) -> Result<(), AllocError> {
+fn steps_of_row(alloc: Global) -> Result<String, AllocError> {
+    let mut said = String::new(alloc);
     let case = first_case(alloc)?;
     match &prepared(alloc, case.as_str(), "") {
-        Some((ordered, set)) => push_steps(alloc, ordered, set, said),
-        None => said.push_str("refused"),
+        Some((ordered, set)) => push_steps(alloc, ordered, set, &mut said)?,
+        None => said.push_str("refused")?,
     }
+    Ok(said)
 }
 
 const STEPS: &str = "\
@@ -183,9 +187,6 @@ shares 64";
 
 /// A trace is settled once, and a look tells with what.
 #[test]
-fn settled_once(rt: HostRuntime) -> Result<(), AllocError> {
-    let mut said = String::new(rt.alloc());
-    push_steps_of_row(rt.alloc(), &mut said)?;
-    assert_eq!(rt; said.as_str(), STEPS);
-    Ok(())
+fn settled_once(rt: HostRuntime) -> Result<(), Fail> {
+    expect(&steps_of_row(rt.alloc()), STEPS)
 }

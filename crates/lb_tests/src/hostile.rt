@@ -1,9 +1,9 @@
 //! Texts that are cut short or damaged, and programs at their limits.
 
-use crate::answers::spread;
-use lb_report::{BenchError, Report, run_case};
+use crate::answers::{push_run, spread};
+use crate::texts::{around, expect};
 use std::alloc::{AllocError, Global};
-use std::rt::Runtime;
+use std::test::Fail;
 use std::thread::Threads;
 
 /// A case text; each of its parts ends with a newline.
@@ -22,27 +22,24 @@ a,6
 b,0
 ";
 
-/// The answer that is a report without its last line.
-const CUT_OFF: u8 = 99;
+/// The number of an answer that is neither a refusal nor a whole report.
+const NO_ANSWER: u8 = 99;
 
 /// An answer in one number: that of the refusal, or 0 for a report with its last line.
-fn number_of(answer: &Result<Report, BenchError>) -> u8 {
-    match answer {
-        Ok(report) => {
-            let is_whole = report.text.as_slice().ends_with(b"\n") && report.status < 2;
-            if is_whole { 0 } else { CUT_OFF }
-        }
-        Err(error) => error.number(),
+fn number_of(said: &str) -> u8 {
+    match said.strip_prefix("E") {
+        Some(refusal) => around(refusal, " ").0.parse::<u8>().unwrap_or(NO_ANSWER),
+        None if said.ends_with("\nstatus 0") || said.ends_with("\nstatus 1") => 0,
+        None => NO_ANSWER,
     }
 }
 
 /// What is answered on a case text by one worker.
-fn answer<R: Runtime + AllocGlobal + Threads + Sync>(
-    rt: &R,
-    case: &[u8],
-) -> Result<u8, AllocError> {
+fn answer<R: AllocGlobal + Threads + Sync>(rt: &R, case: &[u8]) -> Result<u8, AllocError> {
     let options = spread(rt.alloc(), 1, 64, false)?;
-    Ok(number_of(&run_case(rt, case, &options)))
+    let mut said = String::new(rt.alloc());
+    push_run(rt, case, &options, &mut said)?;
+    Ok(number_of(said.as_str()))
 }
 
 /// What the last line of a trace text calls for: a trace name alone is a record without its cell
@@ -74,55 +71,55 @@ fn wanted_of(text: &str) -> u8 {
 }
 
 /// The first length at which the case text is answered otherwise than wanted when it is cut there.
-fn first_wrong_cut<R: Runtime + AllocGlobal + Threads + Sync>(
-    rt: &R,
-) -> Result<Option<usize>, AllocError> {
-    for length in 0..=CASE.len() {
-        let Some(text) = CASE.get(..length) else {
-            return Ok(Some(length));
-        };
-        if answer(rt, text.as_bytes())? != wanted_of(text) {
-            return Ok(Some(length));
+/// Nothing where there is none.
+fn first_wrong_cut<R: AllocGlobal + Threads + Sync>(rt: &R) -> Result<String, AllocError> {
+    for length in 0..CASE.len() + 1 {
+        let text = CASE.get(..length).unwrap_or("no text");
+        let number = answer(rt, text.as_bytes())?;
+        if number != wanted_of(text) {
+            return format!(in rt.alloc(); "{number} at byte {length}");
         }
     }
-    Ok(None)
+    Ok(String::new(rt.alloc()))
 }
 
 #[test]
-fn cut_texts(rt: HostRuntime) -> Result<(), AllocError> {
-    let first_wrong = first_wrong_cut(&rt)?;
-    assert_eq!(rt; first_wrong, None);
-    Ok(())
+fn cut_texts(rt: HostRuntime) -> Result<(), Fail> {
+    expect(&first_wrong_cut(&rt), "")
 }
 
 /// The bytes that are put in place of each byte.
 const DAMAGE: [u8; 3] = [0, 0xFF, b'('];
 
-/// The first place at which the case text is answered neither by a refusal with a number of the
-/// texts nor by a whole report when one of its bytes is another.
-fn first_wrong_damage<R: Runtime + AllocGlobal + Threads + Sync>(
+/// What is answered on the case text where one of its bytes is another.
+fn answer_damaged<R: AllocGlobal + Threads + Sync>(
     rt: &R,
-) -> Result<Option<usize>, AllocError> {
+    place: usize,
+    byte: u8,
+) -> Result<u8, AllocError> {
+    let mut text = Vec::from_slice(rt.alloc(), CASE.as_bytes())?;
+    if let Some(damaged) = text.get_mut(place) {
+        *damaged = byte;
+    }
+    answer(rt, text.as_slice())
+}
+
+/// The first place at which the case text is answered neither by a refusal with a number of the
+/// texts nor by a whole report when its byte is another. Nothing where there is none.
+fn first_wrong_damage<R: AllocGlobal + Threads + Sync>(rt: &R) -> Result<String, AllocError> {
     for place in 0..CASE.len() {
         for byte in DAMAGE {
-            let mut text = Vec::from_slice(rt.alloc(), CASE.as_bytes())?;
-            let Some(damaged) = text.get_mut(place) else {
-                return Ok(Some(place));
-            };
-            *damaged = byte;
-            if answer(rt, text.as_slice())? >= 19 {
-                return Ok(Some(place));
+            if answer_damaged(rt, place, byte)? >= 19 {
+                return format!(in rt.alloc(); "byte {place} is {byte}");
             }
         }
     }
-    Ok(None)
+    Ok(String::new(rt.alloc()))
 }
 
 #[test]
-fn damaged_texts(rt: HostRuntime) -> Result<(), AllocError> {
-    let first_wrong = first_wrong_damage(&rt)?;
-    assert_eq!(rt; first_wrong, None);
-    Ok(())
+fn damaged_texts(rt: HostRuntime) -> Result<(), Fail> {
+    expect(&first_wrong_damage(&rt), "")
 }
 
 /// A source of `count` nodes. Each node calls the next, but for the last.
@@ -146,21 +143,22 @@ fn chain_of(alloc: Global, count: u32) -> Result<String, AllocError> {
 }
 
 /// What is answered on a chain of `count` nodes, which runs over one trace.
-fn outcome_of_chain<R: Runtime + AllocGlobal + Threads + Sync>(
-    rt: &R,
-    count: u32,
-) -> Result<u8, AllocError> {
+fn answer_on_chain<R: AllocGlobal + Threads + Sync>(rt: &R, count: u32) -> Result<u8, AllocError> {
     let mut case = chain_of(rt.alloc(), count)?;
     case.push_str("%traces\ntrace,a\nt,1\n")?;
     answer(rt, case.as_bytes())
 }
 
+/// What is answered on the longest chain, and on a longer one.
+fn answers_on_chains<R: AllocGlobal + Threads + Sync>(rt: &R) -> Result<String, AllocError> {
+    let longest = answer_on_chain(rt, 64)?;
+    let longer = answer_on_chain(rt, 65)?;
+    format!(in rt.alloc(); "{longest} and {longer}")
+}
+
 #[test]
-fn chains(rt: HostRuntime) -> Result<(), AllocError> {
-    let longest = outcome_of_chain(&rt, 64)?;
-    let longer = outcome_of_chain(&rt, 65)?;
-    assert_eq!(rt; (longest, longer), (0, 12));
-    Ok(())
+fn chains(rt: HostRuntime) -> Result<(), Fail> {
+    expect(&answers_on_chains(&rt), "0 and 12")
 }
 
 /// Programs and trace texts at their limits, and just beyond: instances, size, traces.

@@ -1,6 +1,7 @@
 //! Worked values of lane words, from the rules of the operators and not from the kernels.
 
 use crate::lanes::operator;
+use crate::texts::is_same;
 use lb_lanes::{LaneWord, Plane, Width};
 use std::alloc::AllocError;
 
@@ -27,7 +28,7 @@ fn word_of(spelled: &str) -> Option<LaneWord> {
 
 // The plane of a number, or of `all`.
 fn plane_of(spelled: &str) -> Option<Plane> {
-    if spelled == "all" {
+    if is_same(spelled, "all") {
         return Some(Plane(u64::MAX));
     }
     Some(Plane(spelled.parse::<u64>().ok()?))

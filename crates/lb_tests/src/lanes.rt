@@ -3,6 +3,7 @@
 ghost use Rattle.std.specs.Prelude.{◌≡◌, length};
 ghost use Rattle.lb_lanes.specs.Kernels.{AreInts};
 
+use crate::texts::around;
 use lb_lanes::{
     IntLanes, IntOperator, Plane, and_slices, any_outside, commit_ints, commit_planes, or_slices,
     transpose, xor_slices,
@@ -176,7 +177,7 @@ select 5 12 => 13";
 // Rows that are not 0, each with its number, as `3:5;`. Others stay as they are.
 fn set_rows(words: &mut [u64; 64], asked: &str) {
     for row in asked.split(';') {
-        let (number, word) = row.split_once(':').unwrap_or(("", ""));
+        let (number, word) = around(row, ":");
         let number = number.parse::<usize>().unwrap_or(64);
         if number < 64 {
             words[number] = word.parse::<u64>().unwrap_or(0);
@@ -231,20 +232,35 @@ fn are_transposed(old: &[u64; 64], new: &[u64; 64]) -> bool {
     true
 }
 
-#[test]
-fn a_full_matrix(rt: HostRuntime) {
-    assert!(rt; Plane(4).get(2) && !Plane(4).get(3));
-    let mut old = [0; 64];
-    let mut seed = 7u64;
-    for k in 0..64 {
-        seed = seed
+// Numbers that look drawn at random.
+fn drawn(seed: u64) -> [u64; 65] {
+    let mut all = [0; 65];
+    let mut state = seed;
+    for k in 0..65 {
+        state = state
             .wrapping_mul(6364136223846793005)
             .wrapping_add(1442695040888963407);
-        old[k] = seed;
+        all[k] = state;
+    }
+    all
+}
+
+// Whether a matrix in which rows and columns are full is transposed.
+fn is_full_transposed() -> bool {
+    let drawn = drawn(7);
+    let mut old = [0; 64];
+    for k in 0..64 {
+        old[k] = drawn[k];
     }
     let mut new = old;
     transpose(&mut new);
-    assert!(rt; are_transposed(&old, &new));
+    are_transposed(&old, &new)
+}
+
+#[test]
+fn a_full_matrix(rt: HostRuntime) {
+    assert!(rt; Plane(4).get(2) && !Plane(4).get(3));
+    assert!(rt; is_full_transposed());
 }
 
 const LENGTHS: [usize; 5] = [0, 1, 63, 64, 65];
@@ -289,24 +305,17 @@ fn are_as_alone(a: &[u64], b: &[u64], out: &mut [u64]) -> bool
     true
 }
 
-#[test]
-fn words_of_each_length(rt: HostRuntime) {
-    let mut a = [0; 65];
-    let mut b = [0; 65];
-    let mut seed = 1u64;
-    for k in 0..65 {
-        seed = seed
-            .wrapping_mul(6364136223846793005)
-            .wrapping_add(1442695040888963407);
-        a[k] = seed;
-        b[k] = seed.rotate_left(17);
-    }
+// The same for each length.
+fn are_words_as_alone() -> bool {
+    let (a, b) = (drawn(1), drawn(2));
     let mut out = [0; 65];
     for n in LENGTHS {
-        assert!(rt; n <= 65);
-        let are_as_alone = are_as_alone(&a[..n], &b[..n], &mut out[..n]);
-        assert!(rt; are_as_alone, "{n}");
+        let n = n.min(65);
+        if !are_as_alone(&a[..n], &b[..n], &mut out[..n]) {
+            return false;
+        }
     }
+    true
 }
 
 // 65 elements with `from`, and each next number, in every lane.
@@ -345,12 +354,11 @@ fn are_committed(old: &mut [IntLanes], new: &[IntLanes]) -> bool {
     true
 }
 
-#[test]
-fn ints_of_each_length(rt: HostRuntime) -> Result<(), AllocError> {
-    let mut old = counted(rt.alloc(), 0)?;
-    let new = counted(rt.alloc(), 1000)?;
-    assert!(rt; are_committed(&mut old, &new));
-    Ok(())
+// The same of elements in which each number follows on the one before.
+fn are_counted_committed(alloc: Global) -> Result<bool, AllocError> {
+    let mut old = counted(alloc, 0)?;
+    let new = counted(alloc, 1000)?;
+    Ok(are_committed(&mut old, &new))
 }
 
 // Whether a value is outside that stands at the end of so many.
@@ -371,11 +379,22 @@ fn outside_lanes() -> Plane {
     lanes.outside()
 }
 
-#[test]
-fn outside_at_each_length(rt: HostRuntime) {
-    assert!(rt; outside_lanes().0 == 1);
+// Whether a value is found outside just where one is, for each length.
+fn are_outside_found() -> bool {
     for n in LENGTHS {
-        assert!(rt; !is_outside(n, 0) && !is_outside(n, -2147483648), "{n}");
-        assert!(rt; is_outside(n, 2147483648) == (n > 0), "{n}");
+        if is_outside(n, 0) || is_outside(n, -2147483648) || is_outside(n, 2147483648) != (n > 0) {
+            return false;
+        }
     }
+    true
+}
+
+#[test]
+fn slices_of_each_length(rt: HostRuntime) -> Result<(), AllocError> {
+    let are_committed = are_counted_committed(rt.alloc())?;
+    assert!(rt; are_committed);
+    assert!(rt; are_words_as_alone());
+    assert!(rt; are_outside_found());
+    assert!(rt; outside_lanes().0 == 1);
+    Ok(())
 }

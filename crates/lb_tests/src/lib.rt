@@ -66,4 +66,6 @@ mod streams;
 #[cfg(test)]
 mod tables;
 #[cfg(test)]
+mod texts;
+#[cfg(test)]
 mod traces;

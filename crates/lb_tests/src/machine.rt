@@ -5,6 +5,7 @@ ghost use Rattle.std.specs.Prelude.{◌≡◌, ◌<◌, ◌≤◌, ◌+◌, IfSo
 ghost use Rattle.lb_machine.specs.Correct.{HasRoom};
 
 use crate::lanes::{number, operator};
+use crate::texts::{around, is_same};
 use lb_lanes::{IntOperator, LaneWord, Width};
 use lb_machine::{
     Code, Comparison, EVERYWHERE, NOWHERE, PlaneId, PlaneOperator, WordId, carry_planes,
@@ -188,32 +189,39 @@ fn pair(first: i32, second: i32) -> LaneWord {
     word
 }
 
-// The word 0, two further ones, and words of 0 behind them.
-fn words_for(
-    alloc: Global,
-    first: LaneWord,
-    second: LaneWord,
-    count: u32,
-) -> Result<Vec<LaneWord>, AllocError> {
+// The word 0, two that are given by their lanes 0 and 1, and words of 0 behind them.
+fn word_at(k: u32, given: &[i32; 4]) -> LaneWord {
+    match k {
+        1 => pair(given[0], given[1]),
+        2 => pair(given[2], given[3]),
+        _ => LaneWord::splat(0),
+    }
+}
+
+// Planes false and true everywhere, two that are given, and planes of false behind them.
+fn plane_at(k: u32, given: (u32, u32)) -> u64 {
+    match k {
+        1 => u64::MAX,
+        2 => u64::from(given.0),
+        3 => u64::from(given.1),
+        _ => 0,
+    }
+}
+
+// So many words.
+fn words_for(alloc: Global, given: &[i32; 4], count: u32) -> Result<Vec<LaneWord>, AllocError> {
     let mut words = Vec::new(alloc);
-    words.push(LaneWord::splat(0))?;
-    words.push(first)?;
-    words.push(second)?;
-    for _ in 3..count {
-        words.push(LaneWord::splat(0))?;
+    for k in 0..count {
+        words.push(word_at(k, given))?;
     }
     Ok(words)
 }
 
-// Planes false and true everywhere, two further ones, and planes of false behind them.
-fn planes_for(alloc: Global, first: u32, second: u32, count: u32) -> Result<Vec<u64>, AllocError> {
+// So many planes.
+fn planes_for(alloc: Global, given: (u32, u32), count: u32) -> Result<Vec<u64>, AllocError> {
     let mut planes = Vec::new(alloc);
-    planes.push(0)?;
-    planes.push(u64::MAX)?;
-    planes.push(u64::from(first))?;
-    planes.push(u64::from(second))?;
-    for _ in 4..count {
-        planes.push(0)?;
+    for k in 0..count {
+        planes.push(plane_at(k, given))?;
     }
     Ok(planes)
 }
@@ -289,24 +297,32 @@ fn push_run(
     push_made(planes, words, all, said)
 }
 
+// A number that a word spells, or 0.
+fn value(word: Option<&str>) -> i32 {
+    number(word).unwrap_or(0)
+}
+
+// The two planes and the lanes 0 and 1 of the two words that a text spells.
+fn given_by(text: &str) -> ((u32, u32), [i32; 4]) {
+    let mut numbers = text.split(' ');
+    let planes = (place(numbers.next()), place(numbers.next()));
+    let words = [
+        value(numbers.next()),
+        value(numbers.next()),
+        value(numbers.next()),
+        value(numbers.next()),
+    ];
+    (planes, words)
+}
+
 /// The number of instructions of some commands, and what each makes, after a run on two planes and
 /// lanes 0 and 1 of two words.
 pub fn push_results(alloc: Global, asked: &str, said: &mut String) -> Result<(), AllocError> {
-    let (given, commands) = asked.split_once(" | ").unwrap_or((asked, ""));
+    let (given, commands) = around(asked, " | ");
+    let (given_planes, given_words) = given_by(given);
     let (code, all) = built(alloc, commands)?;
-    let mut numbers = given.split(' ');
-    let first = place(numbers.next());
-    let second = place(numbers.next());
-    let mut planes = planes_for(alloc, first, second, code.planes)?;
-    let a = pair(
-        number(numbers.next()).unwrap_or(0),
-        number(numbers.next()).unwrap_or(0),
-    );
-    let b = pair(
-        number(numbers.next()).unwrap_or(0),
-        number(numbers.next()).unwrap_or(0),
-    );
-    let mut words = words_for(alloc, a, b, code.words)?;
+    let mut planes = planes_for(alloc, given_planes, code.planes)?;
+    let mut words = words_for(alloc, &given_words, code.words)?;
     push_run(
         &code,
         planes.as_mut_slice(),
@@ -393,7 +409,7 @@ pub fn push_carried(asked: &str, said: &mut String) -> Result<(), AllocError> {
     let a = place(words.next());
     let b = place(words.next());
     said.push_str("now")?;
-    if kind == "planes" {
+    if is_same(kind, "planes") {
         return push_planes(first, a, b, said);
     }
     push_words(first, a, b, said)

@@ -3,20 +3,21 @@
 ghost use Rattle.std.specs.Prelude.{◌≡◌};
 ghost use Rattle.lb_pool.specs.Seats.{IsSeatOf, shares_of};
 
-use crate::answers::{push_answer, push_outcome, spread};
+use crate::answers::{push_answer, push_run, spread};
 use crate::batches::prepared;
 use crate::tables::write_out;
+use crate::texts::{around, expect, push_unlike};
 use lb_check::Verdict;
 use lb_flat::{Ordered, eval_trace};
 use lb_pool::{ClaimBoard, ClaimSeat, Gate, Plan, run_claims};
-use lb_report::{Options, run_case, status};
+use lb_report::{Options, status};
 use lb_static::Signature;
 use lb_trace::read_traces;
 use lb_traces::TraceSet;
 use std::alloc::{AllocError, Global};
 use std::hint::spin_loop;
-use std::rt::Runtime;
 use std::sync::atomic::{AtomicBool, Ordering};
+use std::test::Fail;
 use std::thread::Threads;
 
 // ## Plans
@@ -70,7 +71,7 @@ fn push_plan_of(
 
 /// The plan of a width and the lengths of some traces.
 pub fn push_plan(alloc: Global, asked: &str, said: &mut String) -> Result<(), AllocError> {
-    let (width, lengths) = asked.split_once(':').unwrap_or((asked, ""));
+    let (width, lengths) = around(asked, ":");
     let mut text = String::from_str(alloc, "trace\n")?;
     push_traces(&mut text, lengths)?;
     let signature = Signature::new(alloc);
@@ -133,7 +134,7 @@ fn push_draws(
 
 /// What two seats of a board draw in turn, and whether it is all.
 pub fn push_claims(alloc: Global, asked: &str, said: &mut String) -> Result<(), AllocError> {
-    let (limit, turns) = asked.split_once(' ').unwrap_or((asked, ""));
+    let (limit, turns) = around(asked, " ");
     let (board, seat) = ClaimBoard::new(alloc, limit.parse::<u32>().unwrap_or(0))?;
     let (mut first, mut second) = board.split(seat);
     push_draws(&board, &mut first, &mut second, turns, said)?;
@@ -217,7 +218,7 @@ bbbbaaaaaa => 64: 32 32, 48 16, 56 8, 60 4, 62 2, 31 33, 15 49, 7 57, 3 61, 1 63
 // The records of a line: `a 2,7` is `a,7` twice. A line without a space is one record.
 fn push_records(case: &mut String, line: &str) -> Result<(), AllocError> {
     let (name, records) = line.split_once(' ').unwrap_or((line, "1"));
-    let (count, cells) = records.split_once(',').unwrap_or((records, ""));
+    let (count, cells) = around(records, ",");
     let comma = if cells.is_empty() { "" } else { "," };
     for _ in 0..count.parse::<u32>().unwrap_or(0) {
         write!(case, "{name}{comma}{cells}\n")?;
@@ -227,7 +228,7 @@ fn push_records(case: &mut String, line: &str) -> Result<(), AllocError> {
 
 /// A case whose records are told by their count.
 pub fn push_case(case: &mut String, short: &str) -> Result<(), AllocError> {
-    let (source, traces) = short.split_once("%traces\n").unwrap_or((short, ""));
+    let (source, traces) = around(short, "%traces\n");
     write!(case, "{source}%traces\n")?;
     for line in traces.split('\n') {
         push_records(case, line)?;
@@ -238,32 +239,38 @@ pub fn push_case(case: &mut String, short: &str) -> Result<(), AllocError> {
 /// How many lanes a batch has.
 pub const LANES: [u32; 3] = [1, 7, 64];
 
-// What a run on a case answers, where that is otherwise than was said.
-fn push_other<R: Runtime + AllocGlobal + Threads + Sync>(
+// What a run on a case answers, where that is not what is wanted.
+fn push_other<R: AllocGlobal + Threads + Sync>(
     rt: &R,
     case: &str,
-    options: &Options,
-    said: &mut String,
+    options: Options,
+    wanted: &str,
+    unlike: &mut String,
 ) -> Result<(), AllocError> {
     let mut other = String::new(rt.alloc());
-    push_outcome(&mut other, &run_case(rt, case.as_bytes(), options))?;
-    if other.as_str() == said.as_str() {
-        return Ok(());
-    }
-    let (workers, batch) = (options.workers, options.batch);
-    write!(said, "\n{workers} workers, {batch} lanes: {other}")
+    push_run(rt, case.as_bytes(), &options, &mut other)?;
+    push_unlike(
+        wanted,
+        other.as_str(),
+        options.workers,
+        options.batch as usize,
+        unlike,
+    )
 }
 
 // The same for each of these numbers of workers and lanes, in order and by length.
-fn push_others<R: Runtime + AllocGlobal + Threads + Sync>(
+fn push_others<R: AllocGlobal + Threads + Sync>(
     rt: &R,
     case: &str,
-    said: &mut String,
+    wanted: &str,
+    unlike: &mut String,
 ) -> Result<(), AllocError> {
     for workers in [0, 1, 2, 7, 64] {
         for lanes in LANES {
-            push_other(rt, case, &spread(rt.alloc(), workers, lanes, false)?, said)?;
-            push_other(rt, case, &spread(rt.alloc(), workers, lanes, true)?, said)?;
+            for by_length in [false, true] {
+                let options = spread(rt.alloc(), workers, lanes, by_length)?;
+                push_other(rt, case, options, wanted, unlike)?;
+            }
         }
     }
     Ok(())
@@ -271,15 +278,17 @@ fn push_others<R: Runtime + AllocGlobal + Threads + Sync>(
 
 /// What runs with all these numbers of workers and widths, in order and by length, answer on a case
 /// whose records are told by their count.
-pub fn push_spread<R: Runtime + AllocGlobal + Threads + Sync>(
+pub fn push_spread<R: AllocGlobal + Threads + Sync>(
     rt: &R,
     asked: &str,
     said: &mut String,
 ) -> Result<(), AllocError> {
     let mut case = String::new(rt.alloc());
+    let mut unlike = String::new(rt.alloc());
     push_case(&mut case, asked)?;
     push_answer(rt, case.as_str(), "", said)?;
-    push_others(rt, case.as_str(), said)
+    push_others(rt, case.as_str(), said.as_str(), &mut unlike)?;
+    said.push_str(unlike.as_str())
 }
 
 // Sixty-five lengths, so that at width 64 the second batch has one trace; traces of which some end
@@ -429,7 +438,7 @@ fn push_verdicts<R: Threads + Sync>(
 
 /// The first case of the table, which has sixty-five traces.
 pub fn first_case(alloc: Global) -> Result<String, AllocError> {
-    let (short, _) = SPREADS.split_once("%answer\n").unwrap_or(("", ""));
+    let (short, _) = around(SPREADS, "%answer\n");
     let mut row = String::new(alloc);
     let mut case = String::new(alloc);
     let _ = write_out(&mut row, short)?;
@@ -438,26 +447,22 @@ pub fn first_case(alloc: Global) -> Result<String, AllocError> {
 }
 
 // The same of the first case.
-fn push_gated<R: Threads + Sync>(
-    rt: &R,
-    alloc: Global,
-    gate: &Hold,
-    said: &mut String,
-) -> Result<(), AllocError> {
+fn gated<R: Threads + Sync>(rt: &R, alloc: Global, gate: &Hold) -> Result<String, AllocError> {
+    let mut said = String::new(alloc);
     let case = first_case(alloc)?;
     match &prepared(alloc, case.as_str(), "") {
-        Some((ordered, set)) => push_verdicts(rt, alloc, ordered, set, gate, said),
-        None => said.push_str("refused"),
+        Some((ordered, set)) => push_verdicts(rt, alloc, ordered, set, gate, &mut said)?,
+        None => said.push_str("refused")?,
     }
+    Ok(said)
 }
 
 /// A body that runs all batches on one thread does not pass the gate.
 #[test]
-fn one_thread_for_all(rt: HostRuntime) -> Result<(), AllocError> {
+fn one_thread_for_all(rt: HostRuntime) -> Result<(), Fail> {
     let gate = Hold::new();
-    let mut said = String::new(rt.alloc());
-    push_gated(&rt, rt.alloc(), &gate, &mut said)?;
-    assert!(rt; !gate.has_given_up(), "batch 1 was not entered");
-    assert_eq!(rt; said.as_str(), "65 verdicts, status 1, last false 64");
+    let said = gated(&rt, rt.alloc(), &gate);
+    expect(&said, "65 verdicts, status 1, last false 64")?;
+    assert!(rt; !gate.has_given_up());
     Ok(())
 }

@@ -2,12 +2,11 @@
 
 use crate::answers;
 use std::alloc::AllocError;
-use std::rt::Runtime;
 use std::thread::Threads;
 
 /// What is answered on the nodes, the front and the end of a program. One that keeps the rules is
 /// refused later, since it has no traces.
-pub fn push_answer<R: Runtime + AllocGlobal + Threads + Sync>(
+pub fn push_answer<R: AllocGlobal + Threads + Sync>(
     rt: &R,
     front: &str,
     end: &str,

@@ -1,36 +1,28 @@
-//! Random texts with a mistake in one record: in rounds and in sections the answer is the one on the
-//! text as a whole.
+//! Random texts with a mistake in one record: in rounds and in sections the answer is the one on
+//! the text as a whole.
 
-use crate::rounds::{SUM, push_other, push_whole};
-use crate::sections;
+use crate::rounds::{SUM, push_unlike_rounds, push_whole};
+use crate::sections::push_unlike_reads;
+use crate::texts::expect;
 use std::alloc::AllocError;
-use std::rt::Runtime;
+use std::test::Fail;
 use std::thread::Threads;
 
-/// What is wrong with a record, or written otherwise.
-#[derive(Clone, Copy)]
-enum Mistake {
-    None,
-    MoreCells,
-    FewerCells,
-    Cell,
-    Name,
-    NameComesBack,
-    QuotedName,
-    QuotedCell,
-    OpenQuote,
-}
+/// A record: `#` is the number of its trace, `x` and `c` are its cells.
+const RECORD: &str = "t#,x,c";
 
-const MISTAKES: [Mistake; 9] = [
-    Mistake::None,
-    Mistake::MoreCells,
-    Mistake::FewerCells,
-    Mistake::Cell,
-    Mistake::Name,
-    Mistake::NameComesBack,
-    Mistake::QuotedName,
-    Mistake::QuotedCell,
-    Mistake::OpenQuote,
+/// What stands in its place: itself, a cell more or less, a cell that is none, a name that is none
+/// or comes back, and quotes.
+const MISTAKES: [&str; 9] = [
+    RECORD,
+    "t#,x,c,1",
+    "t#,x",
+    "t#,x,xc",
+    "t #,x,c",
+    "t0,x,c",
+    "\"t#\",x,c",
+    "t#,\"x\",c",
+    "t#,x,\"c",
 ];
 
 /// Numbers that follow from a seed.
@@ -53,31 +45,29 @@ fn push_record(
     text: &mut String,
     numbers: &mut Numbers,
     trace: u64,
-    mistake: Mistake,
+    record: &str,
 ) -> Result<(), AllocError> {
     let x = numbers.below(12);
     let c = numbers.below(2);
-    match mistake {
-        Mistake::None => write!(text, "t{trace},{x},{c}"),
-        Mistake::MoreCells => write!(text, "t{trace},{x},{c},1"),
-        Mistake::FewerCells => write!(text, "t{trace},{x}"),
-        Mistake::Cell => write!(text, "t{trace},{x},{x}{c}"),
-        Mistake::Name => write!(text, "t {trace},{x},{c}"),
-        Mistake::NameComesBack => write!(text, "t0,{x},{c}"),
-        Mistake::QuotedName => write!(text, "\"t{trace}\",{x},{c}"),
-        Mistake::QuotedCell => write!(text, "t{trace},\"{x}\",{c}"),
-        Mistake::OpenQuote => write!(text, "t{trace},{x},\"{c}"),
+    for letter in record.chars() {
+        match letter {
+            '#' => write!(text, "{trace}")?,
+            'x' => write!(text, "{x}")?,
+            'c' => write!(text, "{c}")?,
+            _ => text.push(letter)?,
+        }
     }
+    Ok(())
 }
 
 // The end of a line.
 fn push_line_end(text: &mut String, numbers: &mut Numbers) -> Result<(), AllocError> {
-    match numbers.below(8) {
-        0 => text.push_str("\r\n"),
-        1 => text.push_str("\n\n"),
-        2 => text.push_str("\r"),
-        _ => text.push_str("\n"),
-    }
+    text.push_str(match numbers.below(8) {
+        0 => "\r\n",
+        1 => "\n\n",
+        2 => "\r",
+        _ => "\n",
+    })
 }
 
 // A text of twenty records, one of which has a mistake.
@@ -85,7 +75,7 @@ fn push_random(
     text: &mut String,
     numbers: &mut Numbers,
     wrong: u64,
-    mistake: Mistake,
+    mistake: &str,
 ) -> Result<(), AllocError> {
     text.push_str("trace,x,c\n")?;
     let mut trace = 0u64;
@@ -93,48 +83,45 @@ fn push_random(
         if numbers.below(3) == 0 {
             trace = trace.saturating_add(1);
         }
-        let here = if k == wrong { mistake } else { Mistake::None };
+        let here = if k == wrong { mistake } else { RECORD };
         push_record(text, numbers, trace, here)?;
         push_line_end(text, numbers)?;
     }
     Ok(())
 }
 
-/// What is answered on a random text in rounds or in sections, where that is not what is answered on
-/// it as a whole.
-fn push_differing<R: Runtime + AllocGlobal + Threads + Sync>(
+/// What is answered on a random text in rounds or in sections, where that is not what is answered
+/// on it as a whole.
+fn push_differing<R: AllocGlobal + Threads + Sync>(
     rt: &R,
-    text: &str,
+    text: &[u8],
     first: usize,
-    said: &mut String,
+    unlike: &mut String,
 ) -> Result<(), AllocError> {
-    let bytes = text.as_bytes();
     let mut whole = String::new(rt.alloc());
-    push_whole(rt, SUM, bytes, &mut whole)?;
-    push_other(rt, SUM, bytes, first, whole.as_str(), said)?;
-    if said.is_empty() {
-        sections::push_other(rt, bytes, first, whole.as_str(), said)?;
-    }
-    if said.is_empty() {
-        return Ok(());
-    }
-    write!(said, ", and whole {} of\n{text}", whole.as_str())
+    push_whole(rt, SUM, text, &mut whole)?;
+    push_unlike_rounds(rt, SUM, text, first, whole.as_str(), unlike)?;
+    push_unlike_reads(rt, text, first, whole.as_str(), unlike)
 }
 
-/// Random texts with each mistake in each record.
-#[test]
-fn random_texts(rt: HostRuntime) -> Result<(), AllocError> {
+/// The answers on random texts with each mistake in each record that are others in rounds or in
+/// sections.
+fn differing<R: AllocGlobal + Threads + Sync>(rt: &R) -> Result<String, AllocError> {
     let mut numbers = Numbers { state: 47 };
     let mut text = String::new(rt.alloc());
-    let mut said = String::new(rt.alloc());
+    let mut unlike = String::new(rt.alloc());
     for mistake in MISTAKES {
         for wrong in 0..20u64 {
             text.clear();
             push_random(&mut text, &mut numbers, wrong, mistake)?;
             let first = numbers.below(200).saturating_add(1) as usize;
-            push_differing(&rt, text.as_str(), first, &mut said)?;
-            assert!(rt; said.is_empty(), "{said}");
+            push_differing(rt, text.as_bytes(), first, &mut unlike)?;
         }
     }
-    Ok(())
+    Ok(unlike)
+}
+
+#[test]
+fn random_texts(rt: HostRuntime) -> Result<(), Fail> {
+    expect(&differing(&rt), "")
 }

@@ -1,5 +1,6 @@
 //! Trace texts: what is read of them, whichever way their records end and their cells are written.
 
+use crate::texts::{around, is_same};
 use lb_static::Signature;
 use lb_syntax::Kind;
 use lb_trace::{TraceError, read_loaded, read_traces, read_traces_by};
@@ -67,8 +68,7 @@ fn two_columns(alloc: Global) -> Result<Signature, AllocError> {
 
 /// What is read of a text whose columns are an integer `x` and a Boolean `c`, or its refusal.
 pub fn push_answer(alloc: Global, asked: &str, said: &mut String) -> Result<(), AllocError> {
-    let signature = two_columns(alloc)?;
-    push_read(alloc, &signature, asked, said)
+    push_read(alloc, &two_columns(alloc)?, asked, said)
 }
 
 /// The same of a text whose columns are integers `x` and `y` and a Boolean `c`.
@@ -92,38 +92,43 @@ fn push_outcome(
     }
 }
 
-// Three chunks of a text: what stands before a place, the line that begins there, and the rest.
-fn chunks_at(alloc: Global, text: &[u8], at: usize) -> Result<Vec<Vec<u8>>, AllocError> {
-    let mut chunks = Vec::new(alloc);
-    let mut first = Vec::new(alloc);
-    let mut line = Vec::new(alloc);
-    let mut rest = Vec::new(alloc);
-    let mut is_behind = false;
-    for (i, b) in text.iter().enumerate() {
-        if i < at {
-            first.push(*b)?;
-        } else if is_behind {
-            rest.push(*b)?;
-        } else {
-            line.push(*b)?;
-            is_behind = *b == b'\n';
+// The place behind the line that begins at a place, if it has an end.
+fn line_end(text: &[u8], at: usize) -> Option<usize> {
+    for (k, b) in text.iter().enumerate() {
+        if k >= at && *b == b'\n' {
+            return Some(k.saturating_add(1));
         }
     }
-    chunks.push(first)?;
-    chunks.push(line)?;
-    if is_behind {
-        chunks.push(rest)?;
-    }
-    Ok(chunks)
+    None
 }
 
-// The bytes of one of some chunks.
-fn chunk_at(alloc: Global, chunks: &[Vec<u8>], k: usize) -> Option<Vec<u8>> {
-    let chunk = chunks.get(k)?;
-    let Ok(copy) = chunk.as_slice().to_vec(alloc) else {
+// Chunk 1 or 2 of a text: the line that begins at a place, up to an end, or the rest.
+fn chunk_at(alloc: Global, text: &[u8], at: usize, end: usize, k: usize) -> Option<Vec<u8>> {
+    let chunk = if k == 1 {
+        text.get(at..end)
+    } else {
+        text.get(end..)
+    };
+    let Ok(copy) = chunk?.to_vec(alloc) else {
         return None;
     };
     Some(copy)
+}
+
+// What is read of a text in three chunks, of which the second is the line that begins at a place;
+// none where they are not read as chunks.
+fn read_at<R: Threads + Sync>(
+    rt: &R,
+    alloc: Global,
+    signature: &Signature,
+    body: &[u8],
+    at: usize,
+) -> Option<TraceSet> {
+    let end = line_end(body, at);
+    let numbers: &[usize] = if end.is_some() { &[1, 2] } else { &[1] };
+    let end = end.unwrap_or(body.len());
+    let load = |k: usize| -> Option<Vec<u8>> { chunk_at(alloc, body, at, end, k) };
+    read_loaded(rt, alloc, signature, body.get(..at)?, &load, numbers, 2)
 }
 
 // What is read of a text in chunks, cut at each of its places, where anything is read and that is
@@ -137,53 +142,66 @@ fn push_by_chunks<R: Threads + Sync>(
 ) -> Result<(), AllocError> {
     let mut other = String::new(alloc);
     for at in 0..body.len() {
-        let chunks = chunks_at(alloc, body, at)?;
-        let places = chunks.as_slice();
-        let Some(first) = places.first() else {
-            continue;
-        };
-        let numbers: &[usize] = if places.len() > 2 { &[1, 2] } else { &[1] };
-        let load = |k: usize| -> Option<Vec<u8>> { chunk_at(alloc, places, k) };
-        let Some(set) = read_loaded(rt, alloc, signature, first.as_slice(), &load, numbers, 2)
-        else {
+        let Some(set) = &read_at(rt, alloc, signature, body, at) else {
             continue;
         };
         other.clear();
-        push_traces(alloc, &set, &mut other)?;
-        if other.as_str() != said.as_str() {
+        push_traces(alloc, set, &mut other)?;
+        if !is_same(other.as_str(), said.as_str()) {
             return write!(said, " and cut at {at} {other}");
         }
     }
     Ok(())
 }
 
-/// What is read of a text whose columns are an integer `x` and a Boolean `c`, or its refusal, by
-/// each number of workers and in chunks; or the first that makes a difference.
+// Whether what is read of a text by so many workers is what was said; else it is said too.
+fn is_read_by<R: Threads + Sync>(
+    rt: &R,
+    alloc: Global,
+    signature: &Signature,
+    body: &[u8],
+    workers: u32,
+    said: &mut String,
+) -> Result<bool, AllocError> {
+    let mut other = String::new(alloc);
+    let read = read_traces_by(rt, alloc, signature, body, workers);
+    push_outcome(alloc, &read, &mut other)?;
+    if is_same(other.as_str(), said.as_str()) {
+        return Ok(true);
+    }
+    write!(said, " and with {workers} workers {other}")?;
+    Ok(false)
+}
+
+// What is read of a text, or its refusal, by each number of workers and in chunks; or the first
+// that makes a difference.
+fn push_each_reading<R: Threads + Sync>(
+    rt: &R,
+    alloc: Global,
+    signature: &Signature,
+    body: &[u8],
+    said: &mut String,
+) -> Result<(), AllocError> {
+    push_outcome(alloc, &read_traces(alloc, signature, body), said)?;
+    for workers in 0..24u32 {
+        if !is_read_by(rt, alloc, signature, body, workers, said)? {
+            return Ok(());
+        }
+    }
+    push_by_chunks(rt, alloc, signature, body, said)
+}
+
+/// The same of a text whose columns are an integer `x` and a Boolean `c`.
 pub fn push_by_workers<R: Threads + Sync>(
     rt: &R,
     alloc: Global,
     asked: &str,
     said: &mut String,
 ) -> Result<(), AllocError> {
-    let signature = two_columns(alloc)?;
     let mut text = String::new(alloc);
     push_text(asked, &mut text)?;
     let body = text.as_str().as_bytes();
-    push_outcome(alloc, &read_traces(alloc, &signature, body), said)?;
-    let mut other = String::new(alloc);
-    for workers in 0..24u32 {
-        other.clear();
-        push_outcome(
-            alloc,
-            &read_traces_by(rt, alloc, &signature, body, workers),
-            &mut other,
-        )?;
-        if other.as_str() != said.as_str() {
-            write!(said, " and with {workers} workers {other}")?;
-            return Ok(());
-        }
-    }
-    push_by_chunks(rt, alloc, &signature, body, said)
+    push_each_reading(rt, alloc, &two_columns(alloc)?, body, said)
 }
 
 // Records that end in each way, with and without an end of the last; empty lines; a byte order
@@ -296,7 +314,7 @@ fn signature_of(alloc: Global, kinds: &str, text: &mut String) -> Result<Signatu
 
 /// What is kept of the Booleans of some records, which stand behind the kinds of their columns.
 pub fn push_bits(alloc: Global, asked: &str, said: &mut String) -> Result<(), AllocError> {
-    let (kinds, records) = asked.split_once(' ').unwrap_or((asked, ""));
+    let (kinds, records) = around(asked, " ");
     let mut text = String::new(alloc);
     let signature = signature_of(alloc, kinds, &mut text)?;
     for record in records.split(' ') {

@@ -1,8 +1,10 @@
 //! Case texts in their two parts, statuses and options.
 
+use crate::texts::expect;
 use lb_check::Verdict;
 use lb_report::{Options, split_case, status};
-use std::alloc::AllocError;
+use std::alloc::{AllocError, Global};
+use std::test::Fail;
 
 /// The source and the traces of a case text, each with a `|` at its end.
 pub fn push_parts(case: &str, said: &mut String) -> Result<(), AllocError> {
@@ -46,24 +48,34 @@ a
 ----
  => ||";
 
-fn is_as_given(options: &Options) -> bool {
-    options.node.as_str() == "main"
-        && options.observer_name().is_none()
-        && options.workers == 1
-        && options.batch == 64
-        && options.by_length
+// The statuses of some verdicts, and the parts of options.
+fn told(alloc: Global) -> Result<String, AllocError> {
+    let mut said = String::new(alloc);
+    for verdict in [
+        Verdict::Passed,
+        Verdict::Assertion(0),
+        Verdict::Fault(1999999999),
+        Verdict::Undefined(0),
+    ] {
+        write!(said, "{} ", status(&[verdict]))?;
+    }
+    let options = Options::new(String::from_str(alloc, "main")?, None, 1, 64, true);
+    push_options(&options, &mut said)?;
+    Ok(said)
+}
+
+fn push_options(options: &Options, said: &mut String) -> Result<(), AllocError> {
+    let observer = options.observer_name().unwrap_or("alone");
+    let (workers, batch, by_length) = (options.workers, options.batch, options.by_length);
+    write!(
+        said,
+        "{} {observer} {workers} {batch} {by_length}",
+        options.node
+    )
 }
 
 #[test]
-fn statuses_and_options(rt: HostRuntime) -> Result<(), AllocError> {
-    let statuses = [
-        status(&[]),
-        status(&[Verdict::Assertion(0)]),
-        status(&[Verdict::Fault(1999999999)]),
-        status(&[Verdict::Undefined(0)]),
-    ];
-    assert!(rt; statuses == [0, 0, 1, 1]);
-    let options = Options::new(String::from_str(rt.alloc(), "main")?, None, 1, 64, true);
-    assert!(rt; is_as_given(&options));
-    Ok(())
+fn statuses_and_options(rt: HostRuntime) -> Result<(), Fail> {
+    assert!(rt; status(&[]) == 0);
+    expect(&told(rt.alloc()), "0 0 1 1 main alone 1 64 true")
 }

@@ -3,10 +3,11 @@
 
 use crate::answers::{push_refusal, spread};
 use crate::readings::push_text;
+use crate::texts::{around, expect, push_unlike};
 use lb_report::{BenchError, FeedFault, LoadError, Reader, Report, Sizes, bench, bench_feed};
 use std::alloc::AllocError;
 use std::io::{ErrorKind, Read};
-use std::rt::Runtime;
+use std::test::Fail;
 use std::thread::Threads;
 
 /// Sizes by which a round has one instant, three or five of two columns, and a window less than a
@@ -97,22 +98,32 @@ pub fn push_cause(said: &mut String, cause: &BenchError) -> Result<(), AllocErro
     }
 }
 
+/// What is answered on a text as a whole, in one line.
+fn push_answered(said: &mut String, answer: &Result<Report, BenchError>) -> Result<(), AllocError> {
+    match answer {
+        Ok(report) => push_report(said, report),
+        Err(cause) => push_cause(said, cause),
+    }
+}
+
+/// The same, and lets it go.
+fn push_answer(said: &mut String, answer: Result<Report, BenchError>) -> Result<(), AllocError> {
+    push_answered(said, &answer)
+}
+
 /// What is answered on a source and a text as a whole.
-pub fn push_whole<R: Runtime + AllocGlobal + Threads + Sync>(
+pub fn push_whole<R: AllocGlobal + Threads + Sync>(
     rt: &R,
     source: &str,
     text: &[u8],
     said: &mut String,
 ) -> Result<(), AllocError> {
     let options = spread(rt.alloc(), 1, 64, false)?;
-    match bench(rt, source.as_bytes(), text, &options) {
-        Ok(report) => push_report(said, &report),
-        Err(cause) => push_cause(said, &cause),
-    }
+    push_answer(said, bench(rt, source.as_bytes(), text, &options))
 }
 
 /// What is found on a feed or a file, in one line.
-pub fn push_found(said: &mut String, found: &Result<Report, FeedFault>) -> Result<(), AllocError> {
+fn push_judgement(said: &mut String, found: &Result<Report, FeedFault>) -> Result<(), AllocError> {
     match found {
         Ok(report) => push_report(said, report),
         Err(FeedFault::Refused(cause)) => push_cause(said, cause),
@@ -121,68 +132,48 @@ pub fn push_found(said: &mut String, found: &Result<Report, FeedFault>) -> Resul
     }
 }
 
-/// What is answered on a source and a feed by so many workers, in rounds of these sizes.
-pub fn push_judged<R: Runtime + AllocGlobal + Threads + Sync>(
-    rt: &R,
-    source: &str,
-    pieces: Pieces<'_>,
-    workers: u32,
-    sizes: Sizes,
-    said: &mut String,
-) -> Result<(), AllocError> {
-    let options = spread(rt.alloc(), workers, 64, false)?;
-    let mut feed = Reader::new(pieces);
-    push_found(
-        said,
-        &bench_feed(rt, source.as_bytes(), &mut feed, &options, sizes),
-    )
+/// The same, and lets it go.
+pub fn push_found(said: &mut String, found: Result<Report, FeedFault>) -> Result<(), AllocError> {
+    push_judgement(said, &found)
 }
 
-/// What is answered on a feed in rounds, where that is not what is given, and nothing is said yet.
-fn push_unlike<R: Runtime + AllocGlobal + Threads + Sync>(
+/// What is answered on a source and a feed by so many workers, in rounds of these sizes, where that
+/// is not what is wanted.
+fn push_unlike_feed<R: AllocGlobal + Threads + Sync>(
     rt: &R,
     source: &str,
     pieces: Pieces<'_>,
-    workers: u32,
-    sizes: Sizes,
-    given: &str,
-    said: &mut String,
+    run: (u32, Sizes),
+    wanted: &str,
+    unlike: &mut String,
 ) -> Result<(), AllocError> {
-    if !said.is_empty() {
-        return Ok(());
-    }
+    let (workers, sizes) = run;
     let first = pieces.first;
-    let size = sizes.round;
-    let mut other = String::new(rt.alloc());
-    push_judged(rt, source, pieces, workers, sizes, &mut other)?;
-    if other.as_str() == given {
-        return Ok(());
-    }
-    let other = other.as_str();
-    write!(
-        said,
-        " cut at {first}, {workers} workers, rounds of {size}: {other}"
-    )
+    let options = spread(rt.alloc(), workers, 64, false)?;
+    let mut said = String::new(rt.alloc());
+    let mut feed = Reader::new(pieces);
+    let found = bench_feed(rt, source.as_bytes(), &mut feed, &options, sizes);
+    push_found(&mut said, found)?;
+    push_unlike(wanted, said.as_str(), workers, first, unlike)
 }
 
-/// The first answer in rounds that is not the one given, on a text that is cut at a byte: by one
+/// The answers in rounds that are not what is wanted, on a text that is cut at a byte: by one
 /// worker with each of the sizes, and by several, whose number and sizes take turns from byte to
-/// byte. Nothing where there is none.
-pub fn push_other<R: Runtime + AllocGlobal + Threads + Sync>(
+/// byte.
+pub fn push_unlike_rounds<R: AllocGlobal + Threads + Sync>(
     rt: &R,
     source: &str,
     text: &[u8],
     first: usize,
-    given: &str,
-    said: &mut String,
+    wanted: &str,
+    unlike: &mut String,
 ) -> Result<(), AllocError> {
-    said.clear();
     for sizes in SIZES {
-        push_unlike(rt, source, Pieces::new(text, first), 1, sizes, given, said)?;
+        let pieces = Pieces::new(text, first);
+        push_unlike_feed(rt, source, pieces, (1, sizes), wanted, unlike)?;
     }
-    let (workers, sizes) = (WORKERS[first % 4], SIZES[first % 3]);
-    let pieces = Pieces::new(text, first);
-    push_unlike(rt, source, pieces, workers, sizes, given, said)
+    let run = (WORKERS[first % 4], SIZES[first % 3]);
+    push_unlike_feed(rt, source, Pieces::new(text, first), run, wanted, unlike)
 }
 
 /// A sum over the instants of a trace.
@@ -191,25 +182,29 @@ node main(x: int; c: bool) returns (ok: bool);
 var n: int;
 let n = (0 -> pre n) + x; ok = n < 40 or c; tel";
 
-/// What is answered on a text whose columns are an integer `x` and a Boolean `c`, whole and in
-/// rounds, cut at each of its bytes.
-pub fn push_cut<R: Runtime + AllocGlobal + Threads + Sync>(
+/// What is answered on a text, whole and in rounds, cut at each of its bytes.
+fn push_cuts<R: AllocGlobal + Threads + Sync>(
+    rt: &R,
+    text: &[u8],
+    said: &mut String,
+) -> Result<(), AllocError> {
+    push_whole(rt, SUM, text, said)?;
+    let mut unlike = String::new(rt.alloc());
+    for first in 0..text.len() {
+        push_unlike_rounds(rt, SUM, text, first, said.as_str(), &mut unlike)?;
+    }
+    said.push_str(unlike.as_str())
+}
+
+/// The same of a text whose columns are an integer `x` and a Boolean `c`.
+pub fn push_cut<R: AllocGlobal + Threads + Sync>(
     rt: &R,
     asked: &str,
     said: &mut String,
 ) -> Result<(), AllocError> {
     let mut text = String::new(rt.alloc());
     push_text(asked, &mut text)?;
-    let bytes = text.as_str().as_bytes();
-    push_whole(rt, SUM, bytes, said)?;
-    let mut other = String::new(rt.alloc());
-    for first in 0..bytes.len() {
-        push_other(rt, SUM, bytes, first, said.as_str(), &mut other)?;
-        if !other.as_str().is_empty() {
-            return said.push_str(other.as_str());
-        }
-    }
-    Ok(())
+    push_cuts(rt, text.as_str().as_bytes(), said)
 }
 
 // Texts of twenty records. One trace, twenty and two; a fault; lines that end in each way, and
@@ -253,57 +248,51 @@ total 20 passed 20 fault 0 undefined 0 assertion 0 false 0; status 0";
 /// The longest trace text of a case that is judged in rounds.
 const SHORT: usize = 2_000;
 
-/// What is answered on a case text with short traces in rounds, by each number of workers; said
-/// only where that is not what is answered on it as a whole.
-pub fn push_case_in_rounds<R: Runtime + AllocGlobal + Threads + Sync>(
+/// What is answered on a text in rounds, cut behind its first bytes, where that is not what is
+/// answered on it as a whole.
+fn push_first_cuts<R: AllocGlobal + Threads + Sync>(
     rt: &R,
-    case: &str,
-    said: &mut String,
+    source: &str,
+    text: &[u8],
+    unlike: &mut String,
 ) -> Result<(), AllocError> {
-    let (source, traces) = case.split_once("%traces\n").unwrap_or((case, ""));
-    if traces.len() > SHORT {
-        return Ok(());
-    }
     let mut whole = String::new(rt.alloc());
-    push_whole(rt, source, traces.as_bytes(), &mut whole)?;
-    let mut other = String::new(rt.alloc());
+    push_whole(rt, source, text, &mut whole)?;
     for first in 4..8usize {
-        push_other(
-            rt,
-            source,
-            traces.as_bytes(),
-            first,
-            whole.as_str(),
-            &mut other,
-        )?;
-        said.push_str(other.as_str())?;
+        push_unlike_rounds(rt, source, text, first, whole.as_str(), unlike)?;
     }
     Ok(())
 }
 
-/// The first number of bytes behind which a feed fails, and how many workers there are, where that
-/// is not answered with E21.
-fn first_told<R: Runtime + AllocGlobal + Threads + Sync>(
+/// The same of a case text with short traces.
+pub fn push_case_in_rounds<R: AllocGlobal + Threads + Sync>(
+    rt: &R,
+    case: &str,
+    unlike: &mut String,
+) -> Result<(), AllocError> {
+    let (source, traces) = around(case, "%traces\n");
+    if traces.len() > SHORT {
+        return Ok(());
+    }
+    push_first_cuts(rt, source, traces.as_bytes(), unlike)
+}
+
+/// What is answered on a feed that fails behind each number of bytes of a text, by each number of
+/// workers, where that is not E21.
+fn push_not_told<R: AllocGlobal + Threads + Sync>(
     rt: &R,
     source: &str,
     text: &[u8],
-) -> Result<Option<(usize, u32)>, AllocError> {
-    let mut said = String::new(rt.alloc());
+    unlike: &mut String,
+) -> Result<(), AllocError> {
     for count in 0..=text.len() {
         for workers in WORKERS {
-            let Some(given) = text.get(..count) else {
-                return Ok(Some((count, workers)));
-            };
-            said.clear();
-            let pieces = Pieces::failing(given, count / 2);
-            let sizes = SIZES[count % 3];
-            push_judged(rt, source, pieces, workers, sizes, &mut said)?;
-            if said.as_str() != "E21" {
-                return Ok(Some((count, workers)));
-            }
+            let pieces = Pieces::failing(text.get(..count).unwrap_or(text), count / 2);
+            let run = (workers, SIZES[count % 3]);
+            push_unlike_feed(rt, source, pieces, run, "E21", unlike)?;
         }
     }
-    Ok(None)
+    Ok(())
 }
 
 /// Texts whose feed fails: one that is accepted, one that is refused, one with quotes.
@@ -313,18 +302,26 @@ pub const FAILING: [&str; 3] = [
     "trace,x,c\na,1,0\nb,2,0\nc,\"3\",1\n\"d\",4,1\nd,5,1\n",
 ];
 
-/// A feed that fails is E21, also where the texts before are refused, and gives no report.
-#[test]
-fn failing_feeds(rt: HostRuntime) -> Result<(), AllocError> {
+/// Sources: one that is accepted, and two that are refused.
+const SOURCES: [&str; 3] = [
+    SUM,
+    "node main(x: int) returns (ok: bool); let ok = x; tel",
+    "",
+];
+
+/// What is answered on feeds that fail, where that is not E21.
+fn not_told<R: AllocGlobal + Threads + Sync>(rt: &R) -> Result<String, AllocError> {
+    let mut said = String::new(rt.alloc());
     for text in FAILING {
-        for source in [
-            SUM,
-            "node main(x: int) returns (ok: bool); let ok = x; tel",
-            "",
-        ] {
-            let told = first_told(&rt, source, text.as_bytes())?;
-            assert!(rt; told.is_none(), "{text} by {source}");
+        for source in SOURCES {
+            push_not_told(rt, source, text.as_bytes(), &mut said)?;
         }
     }
-    Ok(())
+    Ok(said)
+}
+
+/// A feed that fails is E21, also where the texts before are refused, and gives no report.
+#[test]
+fn failing_feeds(rt: HostRuntime) -> Result<(), Fail> {
+    expect(&not_told(&rt), "")
 }

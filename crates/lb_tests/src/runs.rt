@@ -1,23 +1,29 @@
 //! Case texts and what the program answers: the report and the status, or the refusal.
 
 use crate::answers::push_refusal;
+use crate::texts::expect;
 use lb_report::BenchError;
 use lb_syntax::SyntaxError;
 use lb_trace::TraceError;
-use std::alloc::AllocError;
+use std::alloc::{AllocError, Global};
+use std::test::Fail;
 
 /// Refusals that no case has.
-#[test]
-fn refusals(rt: HostRuntime) -> Result<(), AllocError> {
-    let mut said = String::new(rt.alloc());
+// Refusals that no text brings about in little time.
+fn rare_refusals(alloc: Global) -> Result<String, AllocError> {
+    let mut said = String::new(alloc);
     push_refusal(&mut said, &BenchError::Memory)?;
     push_refusal(
         &mut said,
         &BenchError::Trace(TraceError::Limit { record: None }),
     )?;
     push_refusal(&mut said, &BenchError::Syntax(SyntaxError::Memory))?;
-    assert_eq!(rt; said.as_str(), "E0 memoryE18 limitE0 memory");
-    Ok(())
+    Ok(said)
+}
+
+#[test]
+fn refusals(rt: HostRuntime) -> Result<(), Fail> {
+    expect(&rare_refusals(rt.alloc()), "E0 memoryE18 limitE0 memory")
 }
 
 /// The verdicts of traces. Among them: a counter, with an assumption and without; sums and

@@ -4,13 +4,14 @@
 use crate::answers::spread;
 use crate::readings::push_text;
 use crate::rounds::{FAILING, SIZES, SUM, push_found};
-use lb_report::{FilePlaces, Sizes, bench_ranges};
+use crate::texts::{expect, is_same, push_unlike};
+use lb_report::{FilePlaces, PlacedFile, Sizes, TextPlaces, bench_ranges};
 use std::alloc::{AllocError, Global};
 use std::fs::{Metadata, OpenFile};
 use std::io::{Error, ErrorKind};
 use std::os::unix::fs::FileExt;
-use std::rt::Runtime;
 use std::sync::atomic::{AtomicU64, Ordering};
+use std::test::Fail;
 use std::thread::Threads;
 
 /// A file that is held in memory. A read gives so many bytes at most; after so many reads the file
@@ -106,12 +107,11 @@ pub fn push_ranges<R, F>(
     said: &mut String,
 ) -> Result<(), AllocError>
 where
-    R: Runtime + AllocGlobal + Threads + Sync,
-    F: OpenFile + FileExt + Sync,
+    R: AllocGlobal + Threads + Sync,
+    F: PlacedFile + Sync,
 {
     let options = spread(rt.alloc(), workers, 64, false)?;
-    let places = FilePlaces::new(file);
-    match &bench_ranges(rt, source.as_bytes(), &places, &options, sizes) {
+    match bench_ranges(rt, source.as_bytes(), file, &options, sizes) {
         None => said.push_str("as a whole"),
         Some(found) => push_found(said, found),
     }
@@ -119,44 +119,44 @@ where
 
 /// What is answered on a text by so many bytes a read, where that is not what is wanted: the number
 /// of workers and the sizes take turns.
-pub fn push_other<R: Runtime + AllocGlobal + Threads + Sync>(
+pub fn push_unlike_reads<R: AllocGlobal + Threads + Sync>(
     rt: &R,
     text: &[u8],
     most: usize,
     wanted: &str,
-    said: &mut String,
+    unlike: &mut String,
 ) -> Result<(), AllocError> {
     let (workers, sizes) = (WORKERS[most % 3], SIZES[most / 3 % 3]);
-    let mut other = String::new(rt.alloc());
+    let mut said = String::new(rt.alloc());
     let file = Held::new(text, most);
-    push_ranges(rt, SUM, &file, workers, sizes, &mut other)?;
-    if other.as_str() == wanted {
-        return Ok(());
-    }
-    let other = other.as_str();
-    write!(said, " by {workers} workers, reads of {most}: {other}")
+    push_ranges(rt, SUM, &FilePlaces::new(&file), workers, sizes, &mut said)?;
+    push_unlike(wanted, said.as_str(), workers, most, unlike)
 }
 
-/// What is answered on a file whose columns are an integer `x` and a Boolean `c`, by several
-/// workers and in reads of each length up to fifty.
-pub fn push_sections<R: Runtime + AllocGlobal + Threads + Sync>(
+/// What is answered on a text in memory by several workers, and on a file in reads of each length
+/// up to fifty.
+fn push_reads<R: AllocGlobal + Threads + Sync>(
+    rt: &R,
+    text: &[u8],
+    said: &mut String,
+) -> Result<(), AllocError> {
+    push_ranges(rt, SUM, &TextPlaces { text }, 2, SIZES[0], said)?;
+    let mut unlike = String::new(rt.alloc());
+    for most in 1..50usize {
+        push_unlike_reads(rt, text, most, said.as_str(), &mut unlike)?;
+    }
+    said.push_str(unlike.as_str())
+}
+
+/// The same of a file whose columns are an integer `x` and a Boolean `c`.
+pub fn push_sections<R: AllocGlobal + Threads + Sync>(
     rt: &R,
     asked: &str,
     said: &mut String,
 ) -> Result<(), AllocError> {
     let mut text = String::new(rt.alloc());
     push_text(asked, &mut text)?;
-    let bytes = text.as_str().as_bytes();
-    let file = Held::new(bytes, usize::MAX);
-    push_ranges(rt, SUM, &file, 2, SIZES[0], said)?;
-    let mut other = String::new(rt.alloc());
-    for most in 1..50usize {
-        push_other(rt, bytes, most, said.as_str(), &mut other)?;
-        if !other.as_str().is_empty() {
-            return said.push_str(other.as_str());
-        }
-    }
-    Ok(())
+    push_reads(rt, text.as_str().as_bytes(), said)
 }
 
 /// A text of so many traces of one instant each. Their names are a letter and a number, and all
@@ -178,8 +178,8 @@ fn number_behind(name: &str, letter: char) -> Option<usize> {
     number.parse::<usize>().ok()
 }
 
-/// Whether what is said is a report on so many traces or more that all passed, with the numbers from
-/// 0 on behind the letter `a` or another.
+/// Whether what is said is a report on so many traces or more that all passed, with the numbers
+/// from 0 on behind the letter `a` or another.
 fn is_numbered(said: &str, letter: char, least: usize) -> bool {
     for (k, line) in said.split("; ").enumerate() {
         let Some(name) = line.strip_suffix(" passed") else {
@@ -194,7 +194,7 @@ fn is_numbered(said: &str, letter: char, least: usize) -> bool {
 
 /// Whether the report on a file that changes has each of so many lines once, as it was at some
 /// read. There may be no report where the file is not read in sections.
-fn is_whole_report<R: Runtime + AllocGlobal + Threads + Sync>(
+fn is_whole_report<R: AllocGlobal + Threads + Sync>(
     rt: &R,
     file: &Held<'_>,
     letter: char,
@@ -207,8 +207,8 @@ fn is_whole_report<R: Runtime + AllocGlobal + Threads + Sync>(
         least: 1,
     };
     let mut said = String::new(rt.alloc());
-    push_ranges(rt, SUM, file, workers, sizes, &mut said)?;
-    Ok(said.as_str() == "as a whole" || is_numbered(said.as_str(), letter, least))
+    push_ranges(rt, SUM, &FilePlaces::new(file), workers, sizes, &mut said)?;
+    Ok(is_same(said.as_str(), "as a whole") || is_numbered(said.as_str(), letter, least))
 }
 
 /// How many lines a file has at first.
@@ -217,51 +217,85 @@ const LINES: u32 = 3_000;
 /// What it becomes: the letter of its traces, and how many they are.
 const LATER: [(char, u32); 4] = [('b', LINES), ('c', 5_000), ('d', 200), ('e', 0)];
 
-/// Files that become another one between two reads: as long, longer, shorter and empty.
-#[test]
-fn changing_files(rt: HostRuntime) -> Result<(), AllocError> {
-    let alloc = rt.alloc();
-    let text = numbered_text(alloc, 'a', LINES)?;
-    let text = text.as_str().as_bytes();
-    for (letter, count) in LATER {
-        let later = numbered_text(alloc, letter, count)?;
-        let least = count.min(LINES) as usize;
-        for reads in 0..50u64 {
-            for workers in [2, 7] {
-                let file = Held::changing(text, Some(later.as_str().as_bytes()), reads);
-                let is_whole = is_whole_report(&rt, &file, letter, least, workers)?;
-                assert!(rt; is_whole, "{letter} after {reads} reads, {workers} workers");
+/// Whether all reports are whole on a file that becomes another one after so many reads.
+fn are_whole_reports<R: AllocGlobal + Threads + Sync>(
+    rt: &R,
+    text: &[u8],
+    letter: char,
+    later: &[u8],
+    least: usize,
+) -> Result<bool, AllocError> {
+    for reads in 0..50u64 {
+        for workers in [2, 7] {
+            let file = Held::changing(text, Some(later), reads);
+            if !is_whole_report(rt, &file, letter, least, workers)? {
+                return Ok(false);
             }
         }
     }
-    Ok(())
+    Ok(true)
+}
+
+/// The letters of the files on which a report is not whole.
+fn torn_reports<R: AllocGlobal + Threads + Sync>(rt: &R) -> Result<String, AllocError> {
+    let mut said = String::new(rt.alloc());
+    let text = numbered_text(rt.alloc(), 'a', LINES)?;
+    for (letter, count) in LATER {
+        let later = numbered_text(rt.alloc(), letter, count)?;
+        let least = count.min(LINES) as usize;
+        let (text, later) = (text.as_bytes(), later.as_bytes());
+        if !are_whole_reports(rt, text, letter, later, least)? {
+            said.push(letter)?;
+        }
+    }
+    Ok(said)
+}
+
+/// Files that become another one between two reads: as long, longer, shorter and empty.
+#[test]
+fn changing_files(rt: HostRuntime) -> Result<(), Fail> {
+    expect(&torn_reports(&rt), "")
 }
 
 /// Whether no report is made of a file of which a read failed.
-fn is_failure_told<R: Runtime + AllocGlobal + Threads + Sync>(
+fn is_failure_told<R: AllocGlobal + Threads + Sync>(
     rt: &R,
     file: &Held<'_>,
     workers: u32,
 ) -> Result<bool, AllocError> {
     let mut said = String::new(rt.alloc());
-    push_ranges(rt, SUM, file, workers, SIZES[1], &mut said)?;
-    if said.as_str() == "E21" || said.as_str() == "as a whole" {
+    push_ranges(
+        rt,
+        SUM,
+        &FilePlaces::new(file),
+        workers,
+        SIZES[1],
+        &mut said,
+    )?;
+    if is_same(said.as_str(), "E21") || is_same(said.as_str(), "as a whole") {
         return Ok(true);
     }
     Ok(!said.as_str().starts_with("E") && !file.has_changed())
 }
 
-/// Files of which no more can be read after so many reads.
-#[test]
-fn failing_files(rt: HostRuntime) -> Result<(), AllocError> {
+/// The numbers of reads after which no more can be read, where a report is made.
+fn not_told<R: AllocGlobal + Threads + Sync>(rt: &R) -> Result<String, AllocError> {
+    let mut said = String::new(rt.alloc());
     for reads in 0..80u64 {
         for workers in [2, 7] {
             let file = Held::changing(FAILING[0].as_bytes(), None, reads);
-            let is_told = is_failure_told(&rt, &file, workers)?;
-            assert!(rt; is_told, "{reads} reads, {workers} workers");
+            if !is_failure_told(rt, &file, workers)? {
+                write!(said, "{reads} ")?;
+            }
         }
     }
-    Ok(())
+    Ok(said)
+}
+
+/// Files of which no more can be read after so many reads.
+#[test]
+fn failing_files(rt: HostRuntime) -> Result<(), Fail> {
+    expect(&not_told(&rt), "")
 }
 
 // Texts of twenty records, as files: what a run as a whole answers, but where the header is none,

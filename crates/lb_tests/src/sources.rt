@@ -4,6 +4,8 @@
 //! a comma. Of a text its constants and nodes are counted; of a program its instances and its
 //! specializations, before the nodes that are reached and the scalar inputs.
 
+use crate::texts::{around, is_same, last_line, named};
+use lb_check::{Checked, check};
 use lb_static::{Elab, StaticError, elaborate};
 use lb_syntax::{Source, SyntaxError, parse};
 use std::alloc::{AllocError, Global};
@@ -42,18 +44,36 @@ fn push_about(
     word: &str,
     said: &mut String,
 ) -> Result<(), AllocError> {
-    if word == "text" {
+    if is_same(word, "text") {
         let constants = source.constants.len();
         return write!(said, "{constants} constants, {} nodes", source.nodes.len());
     }
-    let (node, observer) = match word.split_once(", ") {
-        Some((node, observer)) => (node, Some(observer)),
-        None => (word, None),
-    };
-    push_elaborated(said, &elaborate(alloc, source, node, observer))
+    let (node, observer) = around(word, ", ");
+    push_elaborated(said, &elaborate(alloc, source, node, named(observer)))
 }
 
-/// The place at which the text of a front and an end is refused as E2, as `2:9`.
+/// What is answered about a text that was parsed.
+fn push_parsed(
+    alloc: Global,
+    parsed: &Result<Source, SyntaxError>,
+    word: &str,
+    said: &mut String,
+) -> Result<(), AllocError> {
+    match parsed {
+        Ok(source) => push_about(alloc, source, word, said),
+        Err(error) => write!(said, "{error}"),
+    }
+}
+
+/// The place at which a text is refused as E2, as `2:9`.
+fn push_refused(parsed: &Result<Source, SyntaxError>, said: &mut String) -> Result<(), AllocError> {
+    match parsed {
+        Err(SyntaxError::Syntax { line, column }) => write!(said, "{line}:{column}"),
+        _ => said.push_str("no place"),
+    }
+}
+
+/// The place at which the text of a front and an end is refused as E2.
 pub fn push_place(
     alloc: Global,
     front: &str,
@@ -61,17 +81,17 @@ pub fn push_place(
     said: &mut String,
 ) -> Result<(), AllocError> {
     let text = format!(in alloc; "{front}{end}")?;
-    match &parse(alloc, text.as_str().as_bytes()) {
-        Err(SyntaxError::Syntax { line, column }) => write!(said, "{line}:{column}"),
-        _ => said.push_str("no place"),
-    }
+    push_refused(&parse(alloc, text.as_str().as_bytes()), said)
 }
 
 /// What is answered about a text, by its last line.
 pub fn push_answer(alloc: Global, asked: &str, said: &mut String) -> Result<(), AllocError> {
-    let (text, word) = asked.rsplit_once('\n').unwrap_or(("", asked));
-    match &parse(alloc, text.as_bytes()) {
-        Ok(source) => push_about(alloc, source, word, said),
-        Err(error) => write!(said, "{error}"),
-    }
+    let (text, word) = last_line(asked);
+    push_parsed(alloc, &parse(alloc, text.as_bytes()), word, said)
+}
+
+/// The program of a tree that keeps all rules, with `main` under test and perhaps an observer.
+pub fn checked_of<'t>(alloc: Global, tree: &'t Source, observer: &'t str) -> Option<Checked<'t>> {
+    let elab = elaborate(alloc, tree, "main", named(observer)).ok()?;
+    check(alloc, elab).ok()
 }

@@ -4,8 +4,9 @@
 //! comma. A place is told by line and column, which were counted by hand. A way to an instance is
 //! told by the start and then the calls, as `main > f 5:12[0]`, with the index of an iterated call.
 
+use crate::texts::{around, last_line, named};
 use lb_static::{
-    CallCycle, CallPath, LimitFault, NameFault, NameRule, RangeFault, RootFault, Start,
+    CallCycle, CallPath, Elab, LimitFault, NameFault, NameRule, RangeFault, RootFault, Start,
     StaticError, ValueFault, ValueRule, elaborate,
 };
 use lb_syntax::{BinaryOperator, line_column, parse};
@@ -144,20 +145,27 @@ fn push_error(text: &[u8], error: &StaticError, said: &mut String) -> Result<(),
     }
 }
 
+/// What breaks a rule, if a rule is broken.
+fn push_elaborated(
+    text: &[u8],
+    elaborated: &Result<Elab, StaticError>,
+    said: &mut String,
+) -> Result<(), AllocError> {
+    match elaborated {
+        Ok(_) => said.push_str("accepted"),
+        Err(error) => push_error(text, error, said),
+    }
+}
+
 /// What breaks a rule in a text, by its last line.
 pub fn push_answer(alloc: Global, asked: &str, said: &mut String) -> Result<(), AllocError> {
-    let (text, word) = asked.rsplit_once('\n').unwrap_or(("", asked));
-    let (node, observer) = match word.split_once(", ") {
-        Some((node, observer)) => (node, Some(observer)),
-        None => (word, None),
-    };
-    let Ok(tree) = &parse(alloc, text.as_bytes()) else {
+    let (text, word) = last_line(asked);
+    let (node, observer) = around(word, ", ");
+    let text = text.as_bytes();
+    let Ok(tree) = &parse(alloc, text) else {
         return said.push_str("no tree");
     };
-    match &elaborate(alloc, tree, node, observer) {
-        Ok(_) => said.push_str("accepted"),
-        Err(error) => push_error(text.as_bytes(), error, said),
-    }
+    push_elaborated(text, &elaborate(alloc, tree, node, named(observer)), said)
 }
 
 /// Names.

@@ -1,8 +1,10 @@
 //! Reading an input and writing an output, where they work and where they fail.
 
+use crate::texts::expect;
 use lb_report::{Feed, LoadError, Reader, Sent, Sink, Writer, load, send};
 use std::alloc::{AllocError, Global};
 use std::io::{ErrorKind, Read, Write};
+use std::test::Fail;
 
 /// Gives a few bytes at a time, and is interrupted once it has given so many.
 #[derive(Drop)]
@@ -80,27 +82,26 @@ fn is_refused(alloc: Global, fails_at: usize) -> bool {
     is_refused && feed.failures() == 1
 }
 
-/// The first length of an input that is not read whole, or that fails and is not refused.
-fn first_wrong(alloc: Global) -> Result<Option<usize>, AllocError> {
+/// The first length of an input that is not read whole, or that fails and is not refused. Nothing
+/// where there is none.
+fn first_wrong(alloc: Global) -> Result<String, AllocError> {
     for length in WHOLE {
         let text = vec![in alloc; b'x'; length]?;
         if !is_whole(alloc, text.as_slice()) {
-            return Ok(Some(length));
+            return format!(in alloc; "{length}");
         }
     }
     for length in FAILING {
         if !is_refused(alloc, length) {
-            return Ok(Some(length));
+            return format!(in alloc; "{length} and no more");
         }
     }
-    Ok(None)
+    Ok(String::new(alloc))
 }
 
 #[test]
-fn inputs(rt: HostRuntime) -> Result<(), AllocError> {
-    let first_wrong = first_wrong(rt.alloc())?;
-    assert_eq!(rt; first_wrong, None);
-    Ok(())
+fn inputs(rt: HostRuntime) -> Result<(), Fail> {
+    expect(&first_wrong(rt.alloc()), "")
 }
 
 /// How many bytes went out before the output failed, or none where all did, and how often it
@@ -118,18 +119,23 @@ fn sent(bytes: &[u8], fails_at: u32, fails: Fails) -> (Option<usize>, u64) {
     (failed_after, sink.failures())
 }
 
+/// The first write at which a failure is told otherwise. Nothing where there is none.
+fn first_untold(alloc: Global) -> Result<String, AllocError> {
+    for k in 0..LINE.len() {
+        for fails in [Fails::Interrupted, Fails::Full] {
+            if sent(LINE, k as u32 + 1, fails) != (Some(k), 1) {
+                return format!(in alloc; "write {k}");
+            }
+        }
+    }
+    Ok(String::new(alloc))
+}
+
 #[test]
-fn outputs(rt: HostRuntime) {
+fn outputs(rt: HostRuntime) -> Result<(), Fail> {
     let mut bytes: Vec<u8> = Vec::new(rt.alloc());
     assert!(rt; send(&mut Writer::new(&mut bytes), LINE).is_ok() && bytes.as_slice() == LINE);
     assert!(rt; sent(LINE, 0, Fails::Interrupted) == (None, 0));
-    for k in 0..LINE.len() {
-        for fails in [Fails::Interrupted, Fails::Full] {
-            assert!(rt;
-                sent(LINE, k as u32 + 1, fails) == (Some(k), 1),
-                "write {k}"
-            );
-        }
-    }
     assert!(rt; sent(b"", 1, Fails::Full) == (None, 0));
+    expect(&first_untold(rt.alloc()), "")
 }

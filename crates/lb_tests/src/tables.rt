@@ -12,18 +12,19 @@
 //!
 //! `{2 x@, }` stands for `x0, x1, `, `{3 a}` for `aaa`, and `{1..2 x@ @, }` for `x1 1, x2 2, `.
 
+use crate::texts::{expect, is_same};
 use crate::{
     answers, batches, check_causes, cycles, elaboration, flat_causes, forms, hostile, lane_words,
     lanes, machine, offsets, pool, programs, random, readings, reports, rounds, runs, sections,
     source_places, source_texts, sources, static_causes,
 };
-use std::alloc::AllocError;
-use std::rt::Runtime;
+use std::alloc::{AllocError, Global};
+use std::test::Fail;
 use std::thread::Threads;
 
-/// What the rows of a table ask about.
+/// What the rows of a table ask about, which one thread answers.
 #[derive(Clone, Copy)]
-enum Asks<'a> {
+enum Alone<'a> {
     /// A source: its text, or its node under test.
     Sources,
     /// A source: what breaks a rule of names, static values and instances.
@@ -36,10 +37,6 @@ enum Asks<'a> {
     CheckCauses,
     /// A source, with an observer that is named: why it is too large, or has no order.
     FlatCauses(&'a str),
-    /// A case text.
-    Cases,
-    /// What stands behind some nodes and this front.
-    Programs(&'a str),
     /// The two parts of a case text.
     Parts,
     /// A source: its cycle of elements.
@@ -50,8 +47,6 @@ enum Asks<'a> {
     Claims,
     /// The shares of two seats that give to one another.
     Shares,
-    /// A case text, whatever the workers and the batches.
-    Spreads,
     /// A trace text under the signature `x: int, c: bool`.
     Readings,
     /// A trace text under the signature `x: int, y: int, c: bool`.
@@ -60,12 +55,6 @@ enum Asks<'a> {
     Bits,
     /// A case whose records are told by their count, in lanes.
     Batches,
-    /// A trace text under the signature `x: int, c: bool`, whatever the workers.
-    Parted,
-    /// A trace text of a sum of `x` where `c` is not, in rounds, cut at each byte.
-    Cuts,
-    /// The same as a file, in sections, whatever the reads.
-    Files,
     /// A kernel on integers, and its operands.
     Ints,
     /// A kernel on words of 64 integers, and its operands.
@@ -80,6 +69,25 @@ enum Asks<'a> {
     Codes,
     /// Planes, or words, and those that are carried to the front.
     Carries,
+}
+
+/// What the rows of a table ask about.
+#[derive(Clone, Copy)]
+enum Asks<'a> {
+    /// What one thread answers.
+    Alone(Alone<'a>),
+    /// A case text.
+    Cases,
+    /// What stands behind some nodes and this front.
+    Programs(&'a str),
+    /// A case text, whatever the workers and the batches.
+    Spreads,
+    /// A trace text under the signature `x: int, c: bool`, whatever the workers.
+    Parted,
+    /// A trace text of a sum of `x` where `c` is not, in rounds, cut at each byte.
+    Cuts,
+    /// The same as a file, in sections, whatever the reads.
+    Files,
 }
 
 /// How the rows of a table stand.
@@ -138,63 +146,95 @@ type Table = (Asks<'static>, Form, &'static str);
 
 /// Texts: what is read of them, and where they are refused.
 static TEXT_TABLES: [Table; 7] = [
-    (Asks::Sources, TEXTS, source_texts::CASES),
-    (Asks::Places(""), PLACES, source_places::PARTS),
+    (Asks::Alone(Alone::Sources), TEXTS, source_texts::CASES),
+    (Asks::Alone(Alone::Places("")), PLACES, source_places::PARTS),
     (
-        Asks::Places(source_places::BODY),
+        Asks::Alone(Alone::Places(source_places::BODY)),
         PLACES,
         source_places::STATEMENTS,
     ),
     (
-        Asks::Places(source_places::TERM),
+        Asks::Alone(Alone::Places(source_places::TERM)),
         PLACES,
         source_places::EXPRESSIONS,
     ),
     (
-        Asks::Places(source_places::CONSTANT),
+        Asks::Alone(Alone::Places(source_places::CONSTANT)),
         PLACES,
         source_places::STATICS,
     ),
-    (Asks::Sources, TEXTS, elaboration::CASES),
-    (Asks::Parts, TEXTS, reports::CASES),
+    (Asks::Alone(Alone::Sources), TEXTS, elaboration::CASES),
+    (Asks::Alone(Alone::Parts), TEXTS, reports::CASES),
 ];
 
 /// Sources: where their names and forms stand, and what a refusal holds.
 static CAUSE_TABLES: [Table; 10] = [
-    (Asks::Offsets, OFFSETS, offsets::OFFSETS),
-    (Asks::FlatCauses(""), OFFSETS, flat_causes::CAUSES),
-    (Asks::FlatCauses("watch"), OFFSETS, flat_causes::OBSERVED),
-    (Asks::StaticCauses, TEXTS, static_causes::NAMES),
-    (Asks::StaticCauses, TEXTS, static_causes::VALUES),
-    (Asks::StaticCauses, TEXTS, static_causes::RANGES),
-    (Asks::StaticCauses, TEXTS, static_causes::RECURSIONS),
-    (Asks::StaticCauses, TEXTS, static_causes::ROOTS),
-    (Asks::StaticCauses, TEXTS, static_causes::LIMITS),
-    (Asks::CheckCauses, TEXTS, check_causes::CASES),
+    (Asks::Alone(Alone::Offsets), OFFSETS, offsets::OFFSETS),
+    (
+        Asks::Alone(Alone::FlatCauses("")),
+        OFFSETS,
+        flat_causes::CAUSES,
+    ),
+    (
+        Asks::Alone(Alone::FlatCauses("watch")),
+        OFFSETS,
+        flat_causes::OBSERVED,
+    ),
+    (
+        Asks::Alone(Alone::StaticCauses),
+        TEXTS,
+        static_causes::NAMES,
+    ),
+    (
+        Asks::Alone(Alone::StaticCauses),
+        TEXTS,
+        static_causes::VALUES,
+    ),
+    (
+        Asks::Alone(Alone::StaticCauses),
+        TEXTS,
+        static_causes::RANGES,
+    ),
+    (
+        Asks::Alone(Alone::StaticCauses),
+        TEXTS,
+        static_causes::RECURSIONS,
+    ),
+    (
+        Asks::Alone(Alone::StaticCauses),
+        TEXTS,
+        static_causes::ROOTS,
+    ),
+    (
+        Asks::Alone(Alone::StaticCauses),
+        TEXTS,
+        static_causes::LIMITS,
+    ),
+    (Asks::Alone(Alone::CheckCauses), TEXTS, check_causes::CASES),
 ];
 
 /// Kernels, code, cycles, batches and what is claimed of them.
 static LANE_TABLES: [Table; 12] = [
-    (Asks::Ints, LINES, lanes::INTEGERS),
-    (Asks::Planes, LINES, lanes::PLANES),
-    (Asks::Matrices, LINES, lanes::MATRICES),
-    (Asks::Words, LINES, lane_words::WORDS),
-    (Asks::NarrowWords, LINES, lane_words::NARROW),
-    (Asks::Codes, LINES, machine::CODES),
-    (Asks::Carries, LINES, machine::CARRIES),
-    (Asks::Batches, BATCHES, batches::BATCHES),
-    (Asks::Cycles, LINES, cycles::CYCLES),
-    (Asks::Plans, LINES, pool::PLANS),
-    (Asks::Claims, LINES, pool::CLAIMS),
-    (Asks::Shares, LINES, pool::SHARES),
+    (Asks::Alone(Alone::Ints), LINES, lanes::INTEGERS),
+    (Asks::Alone(Alone::Planes), LINES, lanes::PLANES),
+    (Asks::Alone(Alone::Matrices), LINES, lanes::MATRICES),
+    (Asks::Alone(Alone::Words), LINES, lane_words::WORDS),
+    (Asks::Alone(Alone::NarrowWords), LINES, lane_words::NARROW),
+    (Asks::Alone(Alone::Codes), LINES, machine::CODES),
+    (Asks::Alone(Alone::Carries), LINES, machine::CARRIES),
+    (Asks::Alone(Alone::Batches), BATCHES, batches::BATCHES),
+    (Asks::Alone(Alone::Cycles), LINES, cycles::CYCLES),
+    (Asks::Alone(Alone::Plans), LINES, pool::PLANS),
+    (Asks::Alone(Alone::Claims), LINES, pool::CLAIMS),
+    (Asks::Alone(Alone::Shares), LINES, pool::SHARES),
 ];
 
 /// Trace texts.
 static TRACE_TABLES: [Table; 5] = [
-    (Asks::Readings, LINES, readings::READINGS),
-    (Asks::Orders, LINES, readings::ORDERS),
-    (Asks::Bits, LINES, readings::BITS),
-    (Asks::Bits, LINES, readings::TRUTHS),
+    (Asks::Alone(Alone::Readings), LINES, readings::READINGS),
+    (Asks::Alone(Alone::Orders), LINES, readings::ORDERS),
+    (Asks::Alone(Alone::Bits), LINES, readings::BITS),
+    (Asks::Alone(Alone::Bits), LINES, readings::TRUTHS),
     (Asks::Parted, LINES, readings::PARTS),
 ];
 
@@ -267,47 +307,59 @@ static ROUND_TABLES: [Table; 2] = [
     (Asks::Files, LINES, sections::FILES),
 ];
 
+/// What is answered on what a row asks of one thread.
+fn push_alone(
+    alloc: Global,
+    asks: Alone<'_>,
+    asked: &str,
+    said: &mut String,
+) -> Result<(), AllocError> {
+    match asks {
+        Alone::Sources => sources::push_answer(alloc, asked, said),
+        Alone::StaticCauses => static_causes::push_answer(alloc, asked, said),
+        Alone::Places(front) => sources::push_place(alloc, front, asked, said),
+        Alone::Offsets => offsets::push_offsets(alloc, asked, said),
+        Alone::CheckCauses => check_causes::push_answer(alloc, asked, said),
+        Alone::FlatCauses(observer) => flat_causes::push_cause(alloc, observer, asked, said),
+        Alone::Parts => reports::push_parts(asked, said),
+        Alone::Cycles => cycles::push_answer(alloc, asked, said),
+        Alone::Plans => pool::push_plan(alloc, asked, said),
+        Alone::Claims => pool::push_claims(alloc, asked, said),
+        Alone::Shares => pool::push_shares(alloc, asked, said),
+        Alone::Readings => readings::push_answer(alloc, asked, said),
+        Alone::Orders => readings::push_three(alloc, asked, said),
+        Alone::Bits => readings::push_bits(alloc, asked, said),
+        Alone::Batches => batches::push_lanes_of(alloc, asked, said),
+        Alone::Ints => lanes::push_ints(asked, said),
+        Alone::Words => lane_words::push_words(asked, said),
+        Alone::NarrowWords => lane_words::push_narrow(asked, said),
+        Alone::Planes => lanes::push_plane(asked, said),
+        Alone::Matrices => lanes::push_transposed(asked, said),
+        Alone::Codes => machine::push_results(alloc, asked, said),
+        Alone::Carries => machine::push_carried(asked, said),
+    }
+}
+
 /// What is answered on what a row asks.
-fn push_answer<R: Runtime + AllocGlobal + Threads + Sync>(
+fn push_answer<R: AllocGlobal + Threads + Sync>(
     rt: &R,
     asks: Asks<'_>,
     asked: &str,
     said: &mut String,
 ) -> Result<(), AllocError> {
     match asks {
-        Asks::Sources => sources::push_answer(rt.alloc(), asked, said),
-        Asks::StaticCauses => static_causes::push_answer(rt.alloc(), asked, said),
-        Asks::Places(front) => sources::push_place(rt.alloc(), front, asked, said),
-        Asks::Offsets => offsets::push_offsets(rt.alloc(), asked, said),
-        Asks::CheckCauses => check_causes::push_answer(rt.alloc(), asked, said),
-        Asks::FlatCauses(observer) => flat_causes::push_cause(rt.alloc(), observer, asked, said),
+        Asks::Alone(alone) => push_alone(rt.alloc(), alone, asked, said),
         Asks::Cases => answers::push_case(rt, asked, said),
         Asks::Programs(front) => programs::push_answer(rt, front, asked, said),
-        Asks::Parts => reports::push_parts(asked, said),
-        Asks::Cycles => cycles::push_answer(rt.alloc(), asked, said),
-        Asks::Plans => pool::push_plan(rt.alloc(), asked, said),
-        Asks::Claims => pool::push_claims(rt.alloc(), asked, said),
-        Asks::Shares => pool::push_shares(rt.alloc(), asked, said),
         Asks::Spreads => pool::push_spread(rt, asked, said),
-        Asks::Readings => readings::push_answer(rt.alloc(), asked, said),
-        Asks::Orders => readings::push_three(rt.alloc(), asked, said),
-        Asks::Bits => readings::push_bits(rt.alloc(), asked, said),
-        Asks::Batches => batches::push_lanes_of(rt.alloc(), asked, said),
         Asks::Parted => readings::push_by_workers(rt, rt.alloc(), asked, said),
         Asks::Cuts => rounds::push_cut(rt, asked, said),
         Asks::Files => sections::push_sections(rt, asked, said),
-        Asks::Ints => lanes::push_ints(asked, said),
-        Asks::Words => lane_words::push_words(asked, said),
-        Asks::NarrowWords => lane_words::push_narrow(asked, said),
-        Asks::Planes => lanes::push_plane(asked, said),
-        Asks::Matrices => lanes::push_transposed(asked, said),
-        Asks::Codes => machine::push_results(rt.alloc(), asked, said),
-        Asks::Carries => machine::push_carried(asked, said),
     }
 }
 
 /// Whether a row is answered as it wants, with the answer. A row without the mark is not.
-fn is_right<R: Runtime + AllocGlobal + Threads + Sync>(
+fn is_right<R: AllocGlobal + Threads + Sync>(
     rt: &R,
     table: Table,
     row: &str,
@@ -319,12 +371,12 @@ fn is_right<R: Runtime + AllocGlobal + Threads + Sync>(
         return Ok(false);
     };
     push_answer(rt, asks, asked, said)?;
-    Ok(said.as_str() == wanted)
+    Ok(is_same(said.as_str(), wanted))
 }
 
 /// Whether each row of a table is answered as it wants. The first that is not stays in `row`, with
 /// its answer in `said`; a row with a brace without a number of turns is one.
-fn is_answered<R: Runtime + AllocGlobal + Threads + Sync>(
+fn is_answered<R: AllocGlobal + Threads + Sync>(
     rt: &R,
     table: Table,
     row: &mut String,
@@ -341,7 +393,7 @@ fn is_answered<R: Runtime + AllocGlobal + Threads + Sync>(
 
 /// The first row of some tables that is answered otherwise than it wants, and its answer. Nothing
 /// where there is none.
-fn first_wrong<R: Runtime + AllocGlobal + Threads + Sync>(
+fn first_wrong<R: AllocGlobal + Threads + Sync>(
     rt: &R,
     tables: &[Table],
 ) -> Result<String, AllocError> {
@@ -349,57 +401,43 @@ fn first_wrong<R: Runtime + AllocGlobal + Threads + Sync>(
     let mut said = String::new(rt.alloc());
     for table in tables {
         if !is_answered(rt, *table, &mut row, &mut said)? {
-            return format!(in rt.alloc(); "{row}, and not: {said}");
+            return format!(in rt.alloc(); "{said}, and not: {row}");
         }
     }
     Ok(String::new(rt.alloc()))
 }
 
 #[test]
-fn text_tables(rt: HostRuntime) -> Result<(), AllocError> {
-    let wrong = first_wrong(&rt, &TEXT_TABLES)?;
-    assert!(rt; wrong.is_empty(), "{wrong}");
-    Ok(())
+fn text_tables(rt: HostRuntime) -> Result<(), Fail> {
+    expect(&first_wrong(&rt, &TEXT_TABLES), "")
 }
 
 #[test]
-fn cause_tables(rt: HostRuntime) -> Result<(), AllocError> {
-    let wrong = first_wrong(&rt, &CAUSE_TABLES)?;
-    assert!(rt; wrong.is_empty(), "{wrong}");
-    Ok(())
+fn cause_tables(rt: HostRuntime) -> Result<(), Fail> {
+    expect(&first_wrong(&rt, &CAUSE_TABLES), "")
 }
 
 #[test]
-fn lane_tables(rt: HostRuntime) -> Result<(), AllocError> {
-    let wrong = first_wrong(&rt, &LANE_TABLES)?;
-    assert!(rt; wrong.is_empty(), "{wrong}");
-    Ok(())
+fn lane_tables(rt: HostRuntime) -> Result<(), Fail> {
+    expect(&first_wrong(&rt, &LANE_TABLES), "")
 }
 
 #[test]
-fn trace_tables(rt: HostRuntime) -> Result<(), AllocError> {
-    let wrong = first_wrong(&rt, &TRACE_TABLES)?;
-    assert!(rt; wrong.is_empty(), "{wrong}");
-    Ok(())
+fn trace_tables(rt: HostRuntime) -> Result<(), Fail> {
+    expect(&first_wrong(&rt, &TRACE_TABLES), "")
 }
 
 #[test]
-fn case_tables(rt: HostRuntime) -> Result<(), AllocError> {
-    let wrong = first_wrong(&rt, &CASE_TABLES)?;
-    assert!(rt; wrong.is_empty(), "{wrong}");
-    Ok(())
+fn case_tables(rt: HostRuntime) -> Result<(), Fail> {
+    expect(&first_wrong(&rt, &CASE_TABLES), "")
 }
 
 #[test]
-fn limit_tables(rt: HostRuntime) -> Result<(), AllocError> {
-    let wrong = first_wrong(&rt, &LIMIT_TABLES)?;
-    assert!(rt; wrong.is_empty(), "a row of the limits");
-    Ok(())
+fn limit_tables(rt: HostRuntime) -> Result<(), Fail> {
+    expect(&first_wrong(&rt, &LIMIT_TABLES), "")
 }
 
 #[test]
-fn round_tables(rt: HostRuntime) -> Result<(), AllocError> {
-    let wrong = first_wrong(&rt, &ROUND_TABLES)?;
-    assert!(rt; wrong.is_empty(), "{wrong}");
-    Ok(())
+fn round_tables(rt: HostRuntime) -> Result<(), Fail> {
+    expect(&first_wrong(&rt, &ROUND_TABLES), "")
 }
