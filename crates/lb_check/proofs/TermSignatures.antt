@@ -1,5 +1,5 @@
 -- What a term with a row of operands takes and gives, type by type, gives the types of its results.
-use Rattle.std.proofs.Common.{◌≡◌, ◌⊎◌, inl, inr, ℕ, Bool, true, false, List, [], ◌∷◌, length, map}
+use Rattle.std.proofs.Common.{◌≡◌, inl, inr, ℕ, Bool, true, false, List, [], ◌∷◌, length, map}
 use Rattle.std.proofs.Common.{Option, Some, None, Vec, Global, refl, ap, sym, subst, ◌∙◌, arith}
 use Rattle.std.specs.Prelude.{◌&&◌, nat_eq, nat_lt, option_map, replicate, if◌then◌else◌}
 use Rattle.std.specs.List.{list_all}
@@ -11,7 +11,6 @@ use Rattle.lb_syntax.specs.declared.tree.BinaryOperator.{BinaryOperator}
 use Rattle.lb_syntax.specs.declared.tree.Kind.TheVariants.{Int as Int_kind, Bool as Bool_kind}
 use Rattle.lb_syntax.specs.Lists.{◌>>=◌, all_some, holds, where_true}
 use Rattle.lb_static.specs.declared.resolved.CallId.{CallId}
-use Rattle.lb_static.specs.declared.resolved.StaticId.{StaticId}
 use Rattle.lb_static.specs.declared.resolved.Term.{Term, AtMostOne, Nor, Call, IterateNode}
 use Rattle.lb_static.specs.declared.resolved.Term.{IterateSymbol}
 use Rattle.lb_static.specs.DataTypes.{DataType, are_types, int, is_type, truth}

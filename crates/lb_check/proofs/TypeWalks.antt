@@ -1,15 +1,12 @@
 -- What is kept of the types of the parts of a term, from what is kept of its operands, and of rows
 -- of terms from a place on.
-use Rattle.std.proofs.Common.{◌≡◌, ◌⊎◌, inl, inr, ℕ, ◌+◌, ◌<◌, ◌≤◌, Bool, List, [], ◌∷◌, ◌++◌}
+use Rattle.std.proofs.Common.{◌≡◌, inl, inr, ℕ, ◌+◌, ◌<◌, ◌≤◌, List, [], ◌∷◌, ◌++◌}
 use Rattle.std.proofs.Common.{length, drop, flat_map, get_or, Box, Global, Vec, refl, ap}
 use Rattle.std.proofs.Common.{sym, ◌∙◌}
 use Rattle.std.proofs.lemmas.List.{drop_all, drop_more}
-use Rattle.lb_static.specs.declared.resolved.StaticId.{StaticId}
-use Rattle.lb_static.specs.declared.resolved.Term.{Term, Literal, Truth, Variable, Value, Group}
-use Rattle.lb_static.specs.declared.resolved.Term.{If}
+use Rattle.lb_static.specs.declared.resolved.Term.{Term, Group, If}
 use Rattle.lb_static.specs.declared.resolved.Term.{Row_of-Term, end_of-Term, more_of-Term}
 use Rattle.lb_static.specs.declared.resolved.Term.{items-the_row-Term}
-use Rattle.lb_static.specs.declared.resolved.VariableId.{VariableId}
 use Rattle.lb_static.specs.TermForms.{IsSingle, IsPair, IsRow}
 use Rattle.lb_check.specs.PlacedTypes.{FoundNode, FoundTypes, with_term, with_terms, placed_types}
 use Rattle.lb_check.specs.PlacedTypes.{placed_row_types, placed_all_types}

@@ -26,7 +26,7 @@ pub struct DataType {
 fn naturals(alloc: Global, values: &[StaticInt]) -> Result<Option<Vec<u64>>, AllocError>
     ensures { IfOk result (λ o. option_map (λ numbers. numbers.items) o ≡ naturals values.now) }
 {
-    let mut numbers = Vec::new(alloc);
+    let mut numbers = Vec::with_capacity(alloc, values.len())?;
     for value in values {
         match value.natural() {
             Some(number) => numbers.push(number)?,

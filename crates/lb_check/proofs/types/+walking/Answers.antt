@@ -1,5 +1,5 @@
 -- What is noted for a term, by its forms.
-use Rattle.std.proofs.Common.{◌≡◌, ◌+◌, ◌++◌, ◌-◌, [], ◌∷◌, length, map, drop, inl, refl, ap, sym}
+use Rattle.std.proofs.Common.{◌≡◌, ◌+◌, ◌++◌, ◌-◌, ◌∷◌, length, map, drop, inl, ap, sym}
 use Rattle.std.proofs.Common.{subst, ◌∙◌, arith}
 use Rattle.std.specs.Prelude.{◌&&◌, option_map}
 use Rattle.std.proofs.lemmas.List.{length-map}
@@ -17,10 +17,10 @@ use Rattle.lb_check.proofs.BrokenRules.{if_found}
 use Rattle.lb_check.proofs.DecidedRows.{list_decided, row_decided}
 use Rattle.lb_check.proofs.SignatureRows.{calls_are, fits_end, fits_more, fits_start, like_next}
 use Rattle.lb_check.proofs.TypeParts.{pair_type}
-use Rattle.lb_check.proofs.TypeWalks.{choice_placed, leaf_placed, operand_placed, operands_placed}
+use Rattle.lb_check.proofs.TypeWalks.{choice_placed, operand_placed, operands_placed}
 use Rattle.lb_check.proofs.TypeWalks.{row_placed}
 use Rattle.lb_check.proofs.WalkedTypes.{choice_one, choice_type, further, later, later_all}
-use Rattle.lb_check.proofs.WalkedTypes.{later_length, later_more, later_none, leaf_is, leaf_one}
+use Rattle.lb_check.proofs.WalkedTypes.{later_length, later_more, later_none}
 use Rattle.lb_check.proofs.WalkedTypes.{list_from, list_one, noted_all, noted_more, noted_none}
 use Rattle.lb_check.proofs.WalkedTypes.{pair_one, returns_given, returns_group, returns_one}
 use Rattle.lb_check.proofs.WalkedTypes.{single_from, single_one}
