@@ -106,7 +106,7 @@ ended-at text i b h e end =
 
 -- ## A line that is not empty
 
-or_false : (a b : Bool) → (a || b) ≡ false → (a ≡ false) × (b ≡ false)
+pub or_false : (a b : Bool) → (a || b) ≡ false → (a ≡ false) × (b ≡ false)
 or_false true b h = cc h
 or_false false b h = (refl, h)
 
@@ -118,7 +118,7 @@ split-none (b ∷ rest) none =
     rw parts.0 (ap (at_front b) (split-none rest parts.1))
 
 -- a line is one record
-one_line : (b : ℕ) (rest : List ℕ) → list_any ends_line (b ∷ rest) ≡ false
+pub one_line : (b : ℕ) (rest : List ℕ) → list_any ends_line (b ∷ rest) ≡ false
     → plain_records (b ∷ rest) ≡ split_at is_comma (b ∷ rest) ∷ []
 unfolding plain_records
 one_line b rest none =

@@ -47,3 +47,4 @@ pub mod NumberEnds
 pub mod NumberWords
 pub mod FourNumbers
 pub mod WrittenCells
+pub mod LastLines

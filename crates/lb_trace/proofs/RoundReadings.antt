@@ -1,14 +1,18 @@
 -- How far the records of a text have been read.
 use Rattle.std.proofs.Common.{ℕ, ◌≡◌, ◌==◌, true, false, List, [], ◌∷◌, ◌++◌, length, map, Ok, refl}
-use Rattle.std.proofs.Common.{sym, ap, ◌∙◌, append_assoc}
+use Rattle.std.proofs.Common.{sym, ap, ◌∙◌, append_assoc, subst, Some, None}
 use Rattle.std.proofs.lemmas.List.{append-nil}
+use Rattle.csv.specs.Records.{field_at}
 use Rattle.lb_static.specs.Signature.{Elements}
 use Rattle.lb_traces.specs.Traces.{Traces}
+use Rattle.lb_trace.specs.declared.error.TraceError.{TraceError}
 use Rattle.lb_trace.specs.declared.header.Column.{Column}
+use Rattle.lb_trace.specs.Errors.{IsRefusal}
 use Rattle.lb_trace.specs.Lines.{after_line, record_of}
 use Rattle.lb_trace.specs.Mirrors.{column_of, record_by}
 use Rattle.lb_trace.specs.Plain.{plain_records}
-use Rattle.lb_trace.specs.Refusals.{then_read, with_records}
+use Rattle.lb_trace.specs.Refusals.{is_last, then_read, with_record, with_records}
+use Rattle.lb_trace.specs.RoundReaders.{goes_on}
 use Rattle.lb_trace.specs.Rounds.{ReadsUpTo, StopsAt}
 use Rattle.lb_trace.specs.Scan.{begun_records}
 use Rattle.lb_trace.specs.Spelling.{Record}
@@ -71,3 +75,31 @@ reads-stop elements columns first traces text rest begun so_far skipped some = r
   cut = so_far.cut ∙ ap (λ rs. so_far.done ++ rs) skipped;
   some = some;
 }
+
+-- why it was not
+pub reads-refused :
+    (elements : Elements) (columns : Record) (table : List Column) (width : ℕ)
+    (before after : Traces) (r : Record) (e : TraceError) →
+    table ≡ map (column_of columns) elements → width ≡ length columns → after ≡ before →
+    IsRefusal (record_by elements table width before r) e →
+    IsRefusal (with_record elements columns after r) e
+reads-refused elements columns table width before after r e same wide kept bad =
+    subst (λ o. IsRefusal o e)
+    (record_by-table elements columns table width before r same wide
+    ∙ ap (λ traces. with_record elements columns traces r) (sym kept))
+    bad
+
+-- ## The last trace
+
+-- a record with a name goes on if that is the name of the last trace
+pub goes_on-some : (r : Record) (name : List ℕ) (traces : Traces) → field_at r 0 ≡ Some name
+    → goes_on r traces ≡ is_last name traces
+unfolding field_at
+goes_on-some [] name traces found = cc found
+goes_on-some (first ∷ cells) name traces found = ap (λ n. is_last n traces) (cc found)
+
+-- a record without one goes on
+pub goes_on-none : (r : Record) (traces : Traces) → field_at r 0 ≡ None → goes_on r traces ≡ true
+unfolding field_at
+goes_on-none [] traces missing = refl
+goes_on-none (first ∷ cells) traces missing = cc missing

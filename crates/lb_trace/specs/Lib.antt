@@ -25,3 +25,4 @@ pub mod Texts
 pub mod RoundReaders
 pub mod WordValues
 pub mod Numbers
+pub mod WholeTraces

@@ -2,9 +2,10 @@
 
 ghost use Rattle.std.specs.Prelude.{◌≡◌, Ok, OnOk, IfErr};
 ghost use Rattle.lb_trace.specs.Errors.{IsRefusal};
+ghost use Rattle.lb_trace.specs.Lines.{record_of};
 ghost use Rattle.lb_trace.specs.Mirrors.{knows};
 ghost use Rattle.lb_trace.specs.Plain.{plain_records};
-ghost use Rattle.lb_trace.specs.Refusals.{with_records};
+ghost use Rattle.lb_trace.specs.Refusals.{with_record, with_records};
 ghost use Rattle.lb_trace.specs.Rounds.{StopsAt};
 ghost use Rattle.lb_trace.specs.Tables.{IsColumnTable, columns_in};
 
@@ -68,6 +69,9 @@ impl Recorder {
         ensures err { IfErr result (λ stopped.
             StopsAt self.old.rows.signature (columns_in table.now) self.old.rows.traces
             self.new.rows.traces text.now stopped.rest.now) }
+        ensures cause { IfErr result (λ stopped. IsRefusal
+            (with_record self.old.rows.signature (columns_in table.now) self.new.rows.traces
+            (record_of stopped.rest.now)) stopped.cause) }
     {
         let read = u64::from(self.rows.set().instants());
         let mut rest = text;

@@ -9,13 +9,14 @@
 //! read, so that the next one takes its room.
 
 ghost use Rattle.std.specs.Prelude.{◌≡◌, ◌≤◌, ◌+◌, ◌*◌, ◌<◌, ◌++◌, ℕ, List, Vec, Some};
-ghost use Rattle.std.specs.Prelude.{All, IfOk, IfSome, IsTrue, length};
+ghost use Rattle.std.specs.Prelude.{All, IfOk, IfSome, IsTrue, Ok, length};
 ghost use Rattle.std.specs.Global.{Global as Heap};
 ghost use Rattle.std.specs.List.{AllZip};
 ghost use Rattle.lb_trace.specs.Chunks.{text_of};
+ghost use Rattle.lb_trace.specs.Correct.{IsTraceReading};
 ghost use Rattle.lb_trace.specs.Loads.{AreRead, AreReadFrom, IsChunk, IsJoined, IsRead};
 ghost use Rattle.lb_trace.specs.Loads.{IsRecorder};
-ghost use Rattle.lb_trace.specs.Spelling.{Instant, Spells, instants};
+ghost use Rattle.lb_trace.specs.Spelling.{Instant, instants};
 ghost use Rattle.lb_trace.specs.Tables.{IsColumnTable};
 
 use crate::begun::begin;
@@ -259,10 +260,9 @@ pub fn read_loaded<R: Threads + Sync, F: Fn(usize) -> Option<Vec<u8>> + Sync>(
 ) -> Option<TraceSet>
     requires load { F.IsAlwaysCallable load.now }
     requires workers { 0 < workers }
-    ensures signature { IfSome result (λ set. set.signature ≡ signature.now) }
-    ensures spelled { IfSome result (λ set. (chunks : List (Vec ℕ Heap))
+    ensures { IfSome result (λ set. (chunks : List (Vec ℕ Heap))
         × AllZip (λ k chunk. F.post load.now k (Some chunk)) numbers.now chunks
-        × Spells signature.now (first.now ++ text_of chunks) set.traces) }
+        × IsTraceReading signature.now (first.now ++ text_of chunks) (Ok set)) }
 {
     let body = strip_bom(first);
     if first.len() < 3 || !is_ended(first) || !is_plain(body) {

@@ -3,6 +3,7 @@
 ghost use Rattle.std.specs.Prelude.{◌≡◌, [], IfErr, IfOk, Ok, OnErr, OnOk};
 ghost use Rattle.csv.specs.Records.{fields_of};
 ghost use Rattle.lb_trace.specs.Errors.{IsRefusal};
+ghost use Rattle.lb_trace.specs.Lines.{record_of};
 ghost use Rattle.lb_trace.specs.Mirrors.{knows};
 ghost use Rattle.lb_trace.specs.Plain.{plain_records};
 ghost use Rattle.lb_trace.specs.Refusals.{with_record, with_records};
@@ -32,7 +33,7 @@ pub struct RoundReader {
 }
 
 impl RoundReader {
-    ghost use Rattle.lb_trace.specs.RoundReaders.{IsRound};
+    ghost use Rattle.lb_trace.specs.RoundReaders.{IsRound, goes_on};
 
     /// No trace yet, with room for so many cells.
     pub fn new(
@@ -83,6 +84,9 @@ impl RoundReader {
             StopsAt self.old.recorder.rows.signature (columns_in table.now)
             self.old.recorder.rows.traces self.new.recorder.rows.traces text.now
             stopped.rest.now) }
+        ensures cause { IfErr result (λ stopped. IsRefusal
+            (with_record self.old.recorder.rows.signature (columns_in table.now)
+            self.new.recorder.rows.traces (record_of stopped.rest.now)) stopped.cause) }
     {
         self.recorder.add_until(alloc, table, text, &mut self.entry)
     }
@@ -114,7 +118,9 @@ impl RoundReader {
     }
 
     /// Whether a record is one of the last trace, or has no name.
-    pub fn goes_on(&self, entry: &ByteRecord) -> bool {
+    pub fn goes_on(&self, entry: &ByteRecord) -> bool
+        ensures { result ≡ goes_on (fields_of entry.now) self.now.recorder.rows.traces }
+    {
         match entry.get(0) {
             Some(name) => is_last(self.set(), name),
             None => true,

@@ -8,9 +8,12 @@
 //! A trace is known to be whole once a line of another trace follows it. So the text is cut before
 //! the lines of its last trace, which a binary search finds.
 
-ghost use Rattle.std.specs.Prelude.{◌≡◌, ◌-◌, ◌<◌, ◌≤◌, true, get_or, length, take, IfSome};
+ghost use Rattle.std.specs.Prelude.{◌≡◌, ◌-◌, ◌<◌, ◌≤◌, ℕ, true, false, drop, get_or, length, take};
+ghost use Rattle.std.specs.Prelude.{MatchOption};
 ghost use Rattle.lb_trace.specs.Chunks.{is_ended};
 ghost use Rattle.lb_trace.specs.Plain.{ends_line};
+ghost use Rattle.lb_trace.specs.Scan.{cell_of};
+ghost use Rattle.lb_trace.specs.WholeTraces.{EndsTrace, IsBlankBefore, IsLineBefore};
 
 use crate::scan::{ends_line, next_cell};
 use memchr::memrchr2;
@@ -18,7 +21,9 @@ use memchr::memrchr2;
 // Where the last line ends that is not empty, of the bytes before a place: after its last byte.
 fn past_line(text: &[u8], before: usize) -> usize
     requires { before ≤ length text.now }
-    ensures { result ≤ before }
+    ensures within { result ≤ before }
+    ensures filled { 0 < result → ends_line (get_or text.now (result - 1) 0) ≡ false }
+    ensures blank { (i : ℕ) → result ≤ i → i < before → ends_line (get_or text.now i 0) ≡ true }
 {
     let mut past = before;
     while past > 0 && ends_line(text[past - 1]) {
@@ -32,6 +37,7 @@ fn line_start(text: &[u8], past: usize) -> usize
     requires { past ≤ length text.now }
     ensures within { result ≤ past }
     ensures after_end { 0 < result → ends_line (get_or text.now (result - 1) 0) ≡ true }
+    ensures inside { (i : ℕ) → result ≤ i → i < past → ends_line (get_or text.now i 0) ≡ false }
 {
     match memrchr2(b'\r', b'\n', &text[..past]) {
         Some(end) => end + 1,
@@ -42,8 +48,8 @@ fn line_start(text: &[u8], past: usize) -> usize
 // Where the last line begins that is not empty, of those that begin before a place.
 fn line_before(text: &[u8], place: usize) -> Option<usize>
     requires { place ≤ length text.now }
-    ensures { IfSome result (λ start. (start < place)
-        × (0 < start → ends_line (get_or text.now (start - 1) 0) ≡ true)) }
+    ensures { MatchOption result (IsBlankBefore text.now place)
+        (λ start. IsLineBefore text.now place start) }
 {
     let past = past_line(text, place);
     if past == 0 {
@@ -55,6 +61,7 @@ fn line_before(text: &[u8], place: usize) -> Option<usize>
 // The bytes of the first cell of the line that begins at a place.
 fn name_at(text: &[u8], start: usize) -> &[u8]
     requires { start ≤ length text.now }
+    ensures { result.now ≡ cell_of (drop start text.now) }
 {
     next_cell(&text[start..]).bytes
 }
@@ -69,6 +76,7 @@ fn is_quoted(cell: &[u8]) -> bool {
 pub fn whole_traces(text: &[u8]) -> usize
     ensures within { result ≤ length text.now }
     ensures ended { 0 < result → is_ended (take result text.now) ≡ true }
+    ensures whole { 0 < result → EndsTrace text.now result }
 {
     let unfinished = line_start(text, text.len());
     let Some(last) = line_before(text, unfinished) else {
@@ -90,8 +98,8 @@ pub fn whole_traces(text: &[u8]) -> usize
         }
     }
     // No trace ends before the first line.
-    if past_line(text, start) == 0 {
-        return 0;
+    match line_before(text, start) {
+        Some(_) => start,
+        None => 0,
     }
-    start
 }

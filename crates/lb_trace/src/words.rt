@@ -6,8 +6,17 @@
 //! 345  |  0 0 0 0 0 3 4 5
 //! ```
 //!
-//! Neighbours are added up, by which there are half as many lanes each time: the pairs of digits,
-//! then the pairs of these, and the pairs of these in turn.
+//! The digits of each become one number in three steps. Eight digits, for example:
+//!
+//! ```text
+//! digits  |  1  2  3  4  5  6  7  8
+//! pairs   |  12    34    56    78
+//! fours   |  1234        5678
+//! eights  |  12345678
+//! ```
+//!
+//! Each step makes one number of two neighbours: the first times 10, 100 or 10,000, plus the second.
+//! So it leaves half as many lanes, each of them twice as wide.
 
 ghost use Rattle.std.specs.Prelude.{◌≡◌, ℕ, ◌+◌, ◌-◌, ◌*◌, ◌<◌, ◌==◌, All, not, drop, get_or, length};
 ghost use Rattle.std.specs.Prelude.{map, take};

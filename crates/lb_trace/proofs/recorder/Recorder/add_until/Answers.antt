@@ -6,7 +6,7 @@ use Rattle.lb_trace.specs.Mirrors.{RowsFollow}
 use Rattle.lb_trace.specs.Tables.{columns_in}
 use Rattle.lb_trace.proofs.LineReadings.{lines-counted}
 use Rattle.lb_trace.proofs.Readings.{rows_follow}
-use Rattle.lb_trace.proofs.RoundReadings.{reads-more, reads-none}
+use Rattle.lb_trace.proofs.RoundReadings.{reads-more, reads-none, reads-refused}
 use Rattle.lb_trace.proofs.recorder.Recorder.add_until.Goals as goal
 
 pub records-init : goal.records-init
@@ -46,3 +46,12 @@ records-preserved c =
       follows = c.in-Ok.ensures.signature ∙ c.records.invariant.follows;
       known = c.in-Ok.ensures.names;
     }
+
+pub returns-in-Err-clause-cause : goal.returns-in-Err-clause-cause
+returns-in-Err-clause-cause c =
+    reads-refused c.args.self.now.rows.signature (columns_in c.args.table.now)
+    c.args.table.now.columns.items c.args.table.now.count c.records.self.rows.traces
+    c.add_line.new.self.rows.traces (record_of c.skip_line_ends-begun.result.now)
+    c.in-Err.cause c.requires.table.columns c.requires.table.count
+    (ap (λ (r : Recording). r.traces) c.in-Err.ensures.kept)
+    (rw (c.records.invariant.follows) at c.in-Err.ensures.err)
