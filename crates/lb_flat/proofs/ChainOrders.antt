@@ -42,7 +42,7 @@ later_turn q Q i e = later (eqb_tells q.element i)
 
 module _ (size : ℕ) where
   -- what is done is not given again
-  new_later :
+  pub new_later :
       (done : List ℕ) (Q : List FlatEquation) → Ready size done Q → (q : FlatEquation) → In q Q →
       In q.element done → ⊥
   new_later done [] ready q i d = absurd i

@@ -137,6 +137,7 @@ pub mod NumberedFits
 pub mod NumberedStanding
 pub mod NumberedBound
 pub mod ExpansionReads
+pub mod OrderedExpansions
 pub mod NumberedExpansion
 pub mod AcceptedExpansion
 pub mod KnownClocks

@@ -50,6 +50,9 @@ pub fn order(alloc: Global, flat: Flat) -> Result<Ordered, OrderError>
     ensures stands { IfOk result (λ o.
         (P : Program) → IsExpansionOf P (program_of flat.program)
         → IsFlatOf P (program_of o.program)) }
+    ensures kept { IfOk result (λ o.
+        (P : Program) → IsExpansionOf P (program_of flat.program)
+        → IsExpansionOf P (program_of o.program)) }
     ensures determined { IfOk result (λ o.
         (P : Program) → IsFlatOf P (program_of o.program) → IsDetermined P) }
     ensures causal { IfOk result (λ o.

@@ -13,6 +13,7 @@ use Rattle.lb_flat.specs.declared.program.FlatProgram.{FlatProgram}
 use Rattle.lb_flat.proofs.Certificates.{cyclic_of}
 use Rattle.lb_flat.proofs.ExpansionReads.{expansion_causal}
 use Rattle.lb_flat.proofs.InOrder.{ready_of}
+use Rattle.lb_flat.proofs.OrderedExpansions.{expansion_in_order}
 use Rattle.lb_flat.proofs.RightVerdicts.{stands_in_order}
 use Rattle.lb_flat.proofs.StandingRuns.{flat_in_order, standing_determined}
 use Rattle.lb_flat.proofs.scheduling.order.Goals as goal
@@ -39,6 +40,12 @@ returns-clause-stands c P expansion =
     let p = c.args.flat.program in
     flat_in_order P (program_of p) expansion.flat _
     (is_order p c.in_ok-equations.equations.items c.in_ok-equations.ensures.order)
+
+pub returns-clause-kept : goal.returns-clause-kept
+returns-clause-kept c P expansion =
+    let p = c.args.flat.program in
+    expansion_in_order P (program_of p) _
+    (is_order p c.in_ok-equations.equations.items c.in_ok-equations.ensures.order) expansion
 
 pub returns-clause-determined : goal.returns-clause-determined
 returns-clause-determined c P flat =
