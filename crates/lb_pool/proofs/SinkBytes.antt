@@ -3,7 +3,7 @@ use Rattle.std.proofs.Common.{◌≡◌, ℕ, ◌+◌, ◌-◌, ◌<◌, ◌≤�
 use Rattle.std.proofs.Common.{length, take, drop, refl, sym, ap, subst, ◌∙◌, append_assoc}
 use Rattle.std.proofs.Common.{append-nil, arith, length-append, length-drop}
 use Rattle.std.proofs.Math.Seq.{take-add}
-use Rattle.std.proofs.lemmas.List.{length-take-le, take_rest}
+use Rattle.std.proofs.lemmas.List.{take_rest}
 use Rattle.std.specs.Io.KnownBytes.{Appends, Keeps}
 use Rattle.lb_pool.specs.Counts.{count_more}
 use Rattle.lb_pool.specs.Taken.{Taken, Takes, TakesNothing}
@@ -57,15 +57,19 @@ takes_more before between after first second whole p q joined = record {
       count_more-twice before.count between.count after.count (length first) (length second)
       p.count q.count
       ∙ ap (count_more before.count) (sym (ap length joined ∙ length-append first second));
+  same = q.same ∙ p.same;
 }
 
 -- no write
 pub takes_no_byte : (a : Taken) → Takes a a []
-takes_no_byte a =
-    record { bytes = appends_nothing a.bytes; count = sym (count_more-none a.count) }
+takes_no_byte a = record {
+  bytes = appends_nothing a.bytes;
+  count = sym (count_more-none a.count);
+  same = refl;
+}
 
 pub takes_nothing : (a : Taken) → TakesNothing a a
-takes_nothing a = record { bytes = keeps_all a.bytes; count = refl }
+takes_nothing a = record { bytes = keeps_all a.bytes; count = refl; same = refl }
 
 -- what was taken stays so where the rest takes nothing
 pub taken_and_kept : (a b c : Taken) (text : List ℕ) → Takes a b text → TakesNothing b c
@@ -73,6 +77,7 @@ pub taken_and_kept : (a b c : Taken) (text : List ℕ) → Takes a b text → Ta
 taken_and_kept a b c text took kept = record {
   bytes = appends_and_keeps a.bytes b.bytes c.bytes text took.bytes kept.bytes;
   count = kept.count ∙ took.count;
+  same = kept.same ∙ took.same;
 }
 
 -- a text without a byte
@@ -80,6 +85,7 @@ pub nothing_by_none : (a b : Taken) → Takes a b [] → TakesNothing a b
 nothing_by_none a b took = record {
   bytes = kept_by_nothing a.bytes b.bytes took.bytes;
   count = took.count ∙ count_more-none a.count;
+  same = took.same;
 }
 
 -- the front of a list that went out grows by what went out of the rest, `bytes[count..]`
@@ -101,12 +107,3 @@ further bytes count more within lt =
     let rest : length (take (length bytes - count) (drop count bytes)) ≡ length bytes - count =
     ap length (take_rest bytes count) ∙ length-drop count bytes in
     omega (arith, within, lt, rest)
-
--- one write
-pub takes_front : (before after : Taken) (bytes : List ℕ) (n : ℕ) → n ≤ length bytes
-    → Appends before.bytes after.bytes (take n bytes) → after.count ≡ count_more before.count n
-    → Takes before after (take n bytes)
-takes_front before after bytes n within took count = record {
-  bytes = took;
-  count = count ∙ ap (count_more before.count) (sym (length-take-le n bytes within));
-}

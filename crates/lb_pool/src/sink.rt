@@ -15,7 +15,7 @@ pub struct SinkFailed;
 /// Where an output goes.
 pub trait Sink {
     /// What it has taken: how many bytes, as far as a `u64` counts, and which ones where the sink
-    /// tells them.
+    /// tells them; and the writer that it lends them to.
     ghost taken: { Self → Taken };
 
     /// How often it has failed.
@@ -58,18 +58,19 @@ pub trait Sink {
 
 /// One of std's writers, as a sink.
 #[derive(Drop)]
-pub struct Writer<W> {
-    writer: W,
+pub struct Writer<'a, W> {
+    pub writer: &'a mut W,
     count: u64,
     failures: u64,
 }
 
-impl<W: Write> Writer<W> {
+impl<'a, W: Write> Writer<'a, W> {
     /// A sink that has taken no byte and has not failed yet.
-    pub fn new(writer: W) -> Writer<W>
-        ensures bytes { (⟦<Writer<W> as Sink>⟧.taken result).bytes ≡ W.contents writer }
-        ensures count { (⟦<Writer<W> as Sink>⟧.taken result).count ≡ 0 }
-        ensures failures { ⟦<Writer<W> as Sink>⟧.failures result ≡ 0 }
+    pub fn new(writer: &'a mut W) -> Writer<'a, W>
+        ensures same { result.writer.ghost_name ≡ writer.entry.ghost_name }
+        ensures bytes { (⟦<Writer<'a, W> as Sink>⟧.taken result).bytes ≡ W.contents writer.old }
+        ensures count { (⟦<Writer<'a, W> as Sink>⟧.taken result).count ≡ 0 }
+        ensures failures { ⟦<Writer<'a, W> as Sink>⟧.failures result ≡ 0 }
     {
         Writer {
             writer,
@@ -79,8 +80,12 @@ impl<W: Write> Writer<W> {
     }
 }
 
-impl<W: Write> Sink for Writer<W> {
-    ghost taken = { λ sink. record { bytes = W.contents sink.writer; count = sink.count } };
+impl<W: Write> Sink for Writer<'_, W> {
+    ghost taken = { λ sink. record {
+      bytes = W.contents sink.writer.now;
+      count = sink.count;
+      writer = sink.writer.ghost_name;
+    } };
 
     ghost failures = { λ sink. sink.failures };
 
@@ -126,6 +131,7 @@ pub struct Sent {
 /// Writes a text to a sink, all of it unless the sink fails.
 pub fn send<S: Sink>(sink: &mut S, bytes: &[u8]) -> Result<(), Sent>
     requires { S.failures sink.old < u64.MAX }
+    ensures same { (S.taken sink.new).writer ≡ (S.taken sink.old).writer }
 
     // What `Ok` holds: all bytes went out.
     ensures all { OnOk result (Takes (S.taken sink.old) (S.taken sink.new) bytes.now) }
