@@ -27,3 +27,4 @@ mod PlacedTexts
 pub mod RangeReads
 pub mod RangeFiles
 pub mod RangeAnswering
+pub mod FileTexts

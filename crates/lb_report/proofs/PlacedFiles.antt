@@ -4,7 +4,7 @@ use Rattle.std.proofs.Common.{Some, IfSome, ap, append-nil, arith, drop, length,
 use Rattle.std.proofs.Common.{inl, inr, refl, subst, sym, take}
 use Rattle.std.proofs.Math.Seq.{drop-drop, take-add, take-append-add, take_all}
 use Rattle.std.proofs.lemmas.Bool.{cases_lt}
-use Rattle.std.proofs.lemmas.List.{length-take}
+use Rattle.std.proofs.lemmas.List.{length-take, take_at}
 use Rattle.std.specs.Io.KnownBytes.{Consumes, IsAtEnd}
 use Rattle.lb_report.specs.PlacedFiles.{between, told_between, told_from}
 
@@ -31,10 +31,30 @@ pub between_long : (start past : ℕ) (all : List ℕ) → length (between start
 between_long start past all =
     let long = length-take (past - start) (drop start all) in omega (arith, long)
 
--- all bytes of a file are those from its begin on
-pub told_all : (bytes : Option (List ℕ)) → Consumes bytes (told_from 0 bytes) []
-told_all None = tt
-told_all (Some all) = refl
+-- ## What is read of a file
+
+-- what is read from its first place on
+pub from_begin : (bytes rest : Option (List ℕ)) (given : List ℕ)
+    → Consumes (told_from 0 bytes) rest given → Consumes bytes rest given
+from_begin None rest given came = tt
+from_begin (Some all) None given came = absurd came
+from_begin (Some all) (Some rest) given came = came
+
+-- what is read before the first read
+pub told_none : (bytes : Option (List ℕ)) (place : ℕ)
+    → Consumes (told_from place bytes) (told_from (place + 0) bytes) []
+told_none None place = tt
+told_none (Some all) place =
+    let at : place ≡ place + 0 = omega arith in ap (λ n. drop n all) at
+
+-- as many bytes as stand between two places
+pub read_whole : (bytes : Option (List ℕ)) (start past n : ℕ) (given : List ℕ)
+    → length given ≡ past - start
+    → Consumes (told_from start bytes) (told_from (start + n) bytes) given
+    → IfSome bytes (λ all. given ≡ between start past all)
+read_whole None start past n given long came = tt
+read_whole (Some all) start past n given long came =
+    sym (ap (take (past - start)) came ∙ take_at given (drop (start + n) all) (past - start) long)
 
 -- ## What a feed of a range gives
 

@@ -1,5 +1,5 @@
 -- What the bench answers to a source and a file that is read in sections.
-use Rattle.std.proofs.Common.{ℕ, ◌≡◌, ◌∙◌, ◌≤◌, Result, Ok, Err, ap, arith, inl, inr, length}
+use Rattle.std.proofs.Common.{Bool, ℕ, ◌≡◌, ◌∙◌, ◌≤◌, Result, Ok, Err, ap, arith, inl, inr, length}
 use Rattle.std.proofs.Common.{List, None, Option, Some, [], refl, subst, sym}
 use Rattle.std.specs.Prelude.{IfErr, IfOk}
 use Rattle.lb_syntax.specs.Tokens.{Text}
@@ -19,7 +19,7 @@ use Rattle.lb_pool.specs.declared.text.Report.{Report}
 use Rattle.lb_report.specs.AcceptedPrograms.{IsAcceptedProgram}
 use Rattle.lb_report.specs.Bench.{IsBenchReport, OnlyProgram, program_of}
 use Rattle.lb_report.specs.FeedJudging.{IsLastFault, fault_by}
-use Rattle.lb_report.specs.RangeAnswers.{IsFileAnswer, IsRangeAnswer}
+use Rattle.lb_report.specs.RangeAnswers.{IsFileAnswer, IsRangeAnswer, IsReadingFault}
 use Rattle.lb_report.specs.Ranges.{IsFileJudged, IsOutcomeJudged, IsOutcomeRefused}
 use Rattle.lb_report.specs.declared.answer.AcceptedProgram.{AcceptedProgram}
 use Rattle.lb_report.specs.declared.error.BenchError.TheVariants as part
@@ -43,15 +43,17 @@ outcome_long p elements bytes j is =
     ∙ names_long j.roll.names.traces
 
 -- a text of a file of which nothing else is said
-any_answer : (source : Text) (options : Options) (bytes : Option (List ℕ))
+any_answer : (source : Text) (options : Options) (bytes : Option (List ℕ)) (may_fail : Bool)
     (r : Result Report FeedFault)
-    → ((text : Text) → IsRangeAnswer source text options r) → IsFileAnswer source bytes options r
-any_answer source options None r given = record { traces = []; is = tt; answer = given [] }
-any_answer source options (Some all) r given =
-    record { traces = all; is = refl; answer = given all }
+    → ((text : Text) → IsRangeAnswer source text options r) → IsReadingFault may_fail r
+    → IsFileAnswer source bytes may_fail options r
+any_answer source options None may_fail r given fault =
+    record { traces = []; is = tt; answer = given []; fault = fault }
+any_answer source options (Some all) may_fail r given fault =
+    record { traces = all; is = refl; answer = given all; fault = fault }
 
-module _ (source : Text) (options : Options) (bytes : Option (List ℕ)) (p : AcceptedProgram)
-    (found : OnlyProgram source options (IsAcceptedProgram p)) where
+module _ (source : Text) (options : Options) (bytes : Option (List ℕ)) (may_fail : Bool)
+    (p : AcceptedProgram) (found : OnlyProgram source options (IsAcceptedProgram p)) where
   abbrev P : Program
   P = program_of found.tree options
 
@@ -91,31 +93,32 @@ module _ (source : Text) (options : Options) (bytes : Option (List ℕ)) (p : Ac
       }
 
   -- memory ran out
-  no_memory : IsFileAnswer source bytes options (Err (fault.Refused part.Memory))
+  no_memory : IsFileAnswer source bytes may_fail options (Err (fault.Refused part.Memory))
   no_memory =
-      any_answer source options bytes (Err (fault.Refused part.Memory))
-      (λ text. answered source text options (Err part.Memory) tt tt)
+      any_answer source options bytes may_fail (Err (fault.Refused part.Memory))
+      (λ text. answered source text options (Err part.Memory) tt tt) tt
 
   -- a report, or none for want of memory
   pub range_answered : (j : Judged) (size : ℕ) (r : Result Report FeedFault)
       → IsOutcomeJudged p.ordered.program p.signature bytes j → size ≤ 1073741824
       → IfOk r (IsReport (trace_names j.roll.names.traces) j.verdicts.items)
-      → IfErr r (IsLastFault size) → IsFileAnswer source bytes options r
+      → IfErr r (IsLastFault size) → IsFileAnswer source bytes may_fail options r
   range_answered j size (Ok report) is short listed bad = record {
     traces = is.text;
     is = is.is;
     answer = answered source is.text options (Ok report) (range_reported j report is listed) tt;
+    fault = tt;
   }
   range_answered j size (Err f) is short listed bad =
       elim bad [
         | inl long ↦ absurd (omega (arith, short, long.0))
         | inr memory ↦
-            subst (λ g. IsFileAnswer source bytes options (Err g)) (sym memory)
+            subst (λ g. IsFileAnswer source bytes may_fail options (Err g)) (sym memory)
             no_memory
       ]
 
   range_refused : (e : TraceError) → IsOutcomeRefused p.signature bytes e
-      → IsFileAnswer source bytes options (Err (fault.Refused (part.Trace e)))
+      → IsFileAnswer source bytes may_fail options (Err (fault.Refused (part.Trace e)))
   range_refused e is = record {
     traces = is.text;
     is = is.is;
@@ -129,13 +132,15 @@ module _ (source : Text) (options : Options) (bytes : Option (List ℕ)) (p : Ac
                 (subst (λ es. IsRefusal (outcome es is.text) e) elements is.refused),
           );
         };
+    fault = tt;
   }
 
   -- what is told where it was not judged to its end
-  pub range_faulted : (h : Halt) → IsFileJudged p.ordered.program p.signature bytes (Err h)
-      → IsFileAnswer source bytes options (Err (fault_by h))
+  pub range_faulted : (h : Halt)
+      → IsFileJudged p.ordered.program p.signature bytes may_fail (Err h)
+      → IsFileAnswer source bytes may_fail options (Err (fault_by h))
   range_faulted (halt.Load e) bad =
-      any_answer source options bytes (Err (fault.Load e)) (λ text. tt)
+      any_answer source options bytes may_fail (Err (fault.Load e)) (λ text. tt) bad
   range_faulted (halt.Refused e) bad = range_refused e bad
   range_faulted (halt.Early e) bad = no_memory
   range_faulted (halt.Stopped judged line) bad = no_memory

@@ -1,7 +1,7 @@
 -- A file whose header is read of its first bytes, and the rest in sections.
-use Rattle.std.proofs.Common.{ℕ, ◌≡◌, ◌⊎◌, ◌∙◌, ◌+◌, ◌-◌, ◌<◌, ◌≤◌, true, List, [], ◌++◌, None}
-use Rattle.std.proofs.Common.{Option, Some, Result, Ok, Err, append_assoc, ap, arith, drop, inl}
-use Rattle.std.proofs.Common.{length, length-append, subst, sym, take, ⊎_elim}
+use Rattle.std.proofs.Common.{ℕ, Bool, ◌≡◌, ◌⊎◌, ◌∙◌, ◌+◌, ◌-◌, ◌<◌, ◌≤◌, true, List, [], ◌++◌}
+use Rattle.std.proofs.Common.{None, Option, Some, Result, Ok, Err, append_assoc, ap, arith, drop}
+use Rattle.std.proofs.Common.{inl, length, length-append, subst, sym, take, ⊎_elim}
 use Rattle.std.proofs.Math.Seq.{drop-append_seam, take_all}
 use Rattle.std.specs.Io.KnownBytes.{Consumes}
 use Rattle.std.specs.Prelude.{IfErr, IfOk, IfSome}
@@ -127,17 +127,18 @@ module _ (p : FlatProgram) (elements : Elements) (table : ColumnTable)
       refused = subst (λ o. IsRefusal o e) (sym (given is.text is.range.short)) is.refused;
     }
 
-    file_halted : (h : Halt) → IsRangesHalt elements table [] bytes from size h
-        → IsFileJudged p elements bytes (Err h)
-    file_halted (halt.Load e) bad = tt
-    file_halted (halt.Refused e) bad = file_refused e bad
-    file_halted (halt.Early e) bad = tt
-    file_halted (halt.Stopped judged line) bad = tt
-    file_halted halt.Quoted bad = tt
+    file_halted : (may_fail : Bool) (h : Halt)
+        → IsRangesHalt elements table [] bytes may_fail from size h
+        → IsFileJudged p elements bytes may_fail (Err h)
+    file_halted may_fail (halt.Load e) bad = bad
+    file_halted may_fail (halt.Refused e) bad = file_refused e bad
+    file_halted may_fail (halt.Early e) bad = tt
+    file_halted may_fail (halt.Stopped judged line) bad = tt
+    file_halted may_fail halt.Quoted bad = tt
 
-    pub file_told : (told : Result Judged Halt)
+    pub file_told : (may_fail : Bool) (told : Result Judged Halt)
         → IfOk told (AreRangesJudged p elements table [] bytes from size)
-        → IfErr told (IsRangesHalt elements table [] bytes from size)
-        → IsFileJudged p elements bytes told
-    file_told (Ok j) ok err = file_judged j ok
-    file_told (Err h) ok err = file_halted h err
+        → IfErr told (IsRangesHalt elements table [] bytes may_fail from size)
+        → IsFileJudged p elements bytes may_fail told
+    file_told may_fail (Ok j) ok err = file_judged j ok
+    file_told may_fail (Err h) ok err = file_halted may_fail h err

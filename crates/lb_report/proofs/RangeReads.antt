@@ -30,11 +30,13 @@ use Rattle.lb_report.specs.JudgedParts.{HasRefused, IsJudgedPart, IsPiecesJudged
 use Rattle.lb_report.specs.JudgedParts.{IsRestJudged, IsRestRefused}
 use Rattle.lb_report.specs.PlacedFiles.{between, told_between}
 use Rattle.lb_report.specs.Ranges.{AreRangeEnds, AreRangesJudged, AreRangesRefused, IsRange}
-use Rattle.lb_report.specs.Ranges.{IsRangeJudged, IsRangeTold, IsRangesHalt}
+use Rattle.lb_report.specs.Ranges.{IsFileFault, IsRangeJudged, IsRangeTold, IsRangesHalt}
 use Rattle.lb_report.specs.SectionEnds.{AreEnds, start_of}
 use Rattle.lb_report.specs.Sections.{AreAppended, IsRefusedWithin, IsSection, KeepsRoll, lines_of}
 use Rattle.lb_report.specs.Sections.{IsHaltAfter, IsSetAside, IsToldOn}
-use Rattle.lb_report.specs.Windows.{HasRead, Left, ended_by, text_in}
+use Rattle.lb_report.specs.Windows.{HasRead, IsLoadFault, Left, ended_by, text_in}
+use Rattle.lb_report.specs.declared.feed.LoadError.{LoadError}
+use Rattle.lb_report.specs.declared.feed.LoadError.TheVariants as load
 use Rattle.lb_report.specs.declared.rounds.Halt.{Halt}
 use Rattle.lb_report.specs.declared.rounds.Halt.TheVariants as halt
 use Rattle.lb_report.specs.declared.rounds.Judged.{Judged}
@@ -48,7 +50,7 @@ use Rattle.lb_report.proofs.WindowReads.{ended_all}
 
 -- ## Where sections begin and end
 
-end_within : (from size : ℕ) (ends : List ℕ) → AreEnds from size ends → (left i : ℕ)
+pub end_within : (from size : ℕ) (ends : List ℕ) → AreEnds from size ends → (left i : ℕ)
     → i + left + 1 ≡ length ends → get_or ends i 0 ≤ size
 end_within from size ends are zero i is =
     let at : length ends - 1 ≡ i = omega (arith, is) in
@@ -505,15 +507,17 @@ module _ (p : FlatProgram) (elements : Elements) (table : ColumnTable)
                 (sym (found.front.gives is.text)) is.refused;
           }
 
-      pub onward_halted : (n : ℕ) (h : Halt) → n < length t.texts → ArePlain (take n t.texts)
-          → IsRangesHalt elements table (lines_of (take n t.texts)) bytes (start_of from ends n)
-          size h
-          → IsRangesHalt elements table [] bytes from size h
-      onward_halted n (halt.Load e) below plain bad = tt
-      onward_halted n (halt.Refused e) below plain bad = refused_onward n e below plain bad
-      onward_halted n (halt.Early e) below plain bad = tt
-      onward_halted n (halt.Stopped judged line) below plain bad = tt
-      onward_halted n halt.Quoted below plain bad = tt
+      pub onward_halted : (may_fail : Bool) (n : ℕ) (h : Halt) → n < length t.texts
+          → ArePlain (take n t.texts)
+          → IsRangesHalt elements table (lines_of (take n t.texts)) bytes may_fail
+          (start_of from ends n) size h
+          → IsRangesHalt elements table [] bytes may_fail from size h
+      onward_halted may_fail n (halt.Load e) below plain bad = bad
+      onward_halted may_fail n (halt.Refused e) below plain bad =
+          refused_onward n e below plain bad
+      onward_halted may_fail n (halt.Early e) below plain bad = tt
+      onward_halted may_fail n (halt.Stopped judged line) below plain bad = tt
+      onward_halted may_fail n halt.Quoted below plain bad = tt
 
 -- memory ran out
 pub ranges_memory : (elements : Elements) (table : ColumnTable) (rows : List Record)
@@ -594,24 +598,40 @@ module _ (p : FlatProgram) (elements : Elements) (table : ColumnTable)
               (refused_on elements (columns_in table) [] (rows ++ is.more) others.0 e is.refused);
         }
 
-    pub rest_halted : (h : Halt) → IsRestRefused elements table rows w after old new h
-        → IsRangesHalt elements table rows bytes start size h
-    rest_halted (halt.Load e) bad = tt
-    rest_halted (halt.Refused e) bad = rest_refused e bad
-    rest_halted (halt.Early e) bad = tt
-    rest_halted (halt.Stopped judged line) bad = tt
-    rest_halted halt.Quoted bad = tt
+    module _ (may_fail : Bool) (unread : w.read ≡ 0) (never : old.failures ≡ 0)
+        (failed : 0 < new.failures → may_fail ≡ true) where
+      rest_fault : (e : LoadError) → IsLoadFault w old new e → IsFileFault may_fail e
+      rest_fault load.Memory bad = tt
+      rest_fault load.Read (inl more) = failed (omega (arith, more, never))
+      rest_fault load.Read (inr over) =
+          let many : 1100000000 < w.read + length over.more = over.many in
+          let long : new.given ≡ start + length over.more =
+          read_from start (length over.more) new.given
+          (over.given ∙ ap (λ n. count_more n (length over.more)) from) fits in
+          absurd (omega (arith, many, unread, long, fits))
+
+      pub rest_halted : (h : Halt) → IsRestRefused elements table rows w after old new h
+          → IsRangesHalt elements table rows bytes may_fail start size h
+      rest_halted (halt.Load e) bad = rest_fault e bad
+      rest_halted (halt.Refused e) bad = rest_refused e bad
+      rest_halted (halt.Early e) bad = tt
+      rest_halted (halt.Stopped judged line) bad = tt
+      rest_halted halt.Quoted bad = tt
 
 -- what stopped the sections is told
 pub halt_told : (elements : Elements) (table : ColumnTable) (rows : List Record)
-    (bytes : Option (List ℕ)) (from size : ℕ) (h : Halt) → from ≤ size → size ≤ 1073741824
-    → IsToldOn h → IsRangesHalt elements table rows bytes from size h
-halt_told elements table rows bytes from size (halt.Load e) ordered short told = absurd told
-halt_told elements table rows bytes from size (halt.Refused e) ordered short told =
+    (bytes : Option (List ℕ)) (may_fail : Bool) (from size : ℕ) (h : Halt) → from ≤ size
+    → size ≤ 1073741824 → IsToldOn h
+    → IsRangesHalt elements table rows bytes may_fail from size h
+halt_told elements table rows bytes may_fail from size (halt.Load e) ordered short told =
+    absurd told
+halt_told elements table rows bytes may_fail from size (halt.Refused e) ordered short told =
     ranges_memory elements table rows bytes from size e ordered short told
-halt_told elements table rows bytes from size (halt.Early e) ordered short told = tt
-halt_told elements table rows bytes from size (halt.Stopped judged line) ordered short told = tt
-halt_told elements table rows bytes from size halt.Quoted ordered short told = tt
+halt_told elements table rows bytes may_fail from size (halt.Early e) ordered short told = tt
+halt_told elements table rows bytes may_fail from size (halt.Stopped judged line) ordered short
+    told =
+    tt
+halt_told elements table rows bytes may_fail from size halt.Quoted ordered short told = tt
 
 -- how many of the sections are judged
 pub halt_within : (count all : ℕ) (h : Option Halt) → IsHaltAfter count all h → count ≤ all

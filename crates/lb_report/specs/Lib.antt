@@ -18,3 +18,4 @@ pub mod QuotedTexts
 pub mod PlacedFiles
 pub mod Ranges
 pub mod RangeAnswers
+pub mod FileChunks

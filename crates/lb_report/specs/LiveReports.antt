@@ -1,6 +1,6 @@
 -- What a live report of a source and a trace text comes to.
 -- Source: this project's rule.
-use Rattle.std.specs.Prelude.{◌≡◌, ℕ, List, length, Some, None, Result, Ok, Err}
+use Rattle.std.specs.Prelude.{◌≡◌, ℕ, List, length, Option, Some, None, Result, Ok, Err}
 use Rattle.lb_syntax.specs.Tokens.{Text}
 use Rattle.lb_static.specs.Instances.{Program}
 use Rattle.lb_check.specs.Acceptance.{IsAccepted}
@@ -17,6 +17,7 @@ use Rattle.lb_pool.specs.declared.follow_error.FollowError.{FollowError}
 use Rattle.lb_report.specs.AcceptedPrograms.{IsAcceptedProgram}
 use Rattle.lb_report.specs.Bench.{AreVerdicts, IsOnlyRecording, IsRefused, OnlyProgram}
 use Rattle.lb_report.specs.Correct.{IsFirstTold, first_of}
+use Rattle.lb_report.specs.Ranges.{IsFileText}
 use Rattle.lb_report.specs.Refusals.{number_of}
 use Rattle.lb_report.specs.declared.error.BenchError.{BenchError}
 use Rattle.lb_report.specs.declared.live.FollowFault.{FollowFault}
@@ -50,6 +51,16 @@ pub record IsUnderWay
   pub nothing_refuses : first_of source traces options ≡ None
   pub followed : IsFollowed report before after failures_before failures_after run
 
+-- the same of a file's bytes; of some text where the file does not tell its bytes
+pub record IsFileUnderWay
+    (source : Text) (bytes : Option (List ℕ)) (options : Options) (before after : Taken)
+    (failures_before failures_after : ℕ) (run : Result (Unit {0}) FollowError)
+    : Type 0 where
+  pub traces : Text
+  pub is : IsFileText bytes traces
+  pub goes :
+      IsUnderWay source traces options before after failures_before failures_after run
+
 -- the texts are refused, and the sink is left as it was
 pub record IsTurnedAway
     (source traces : Text) (options : Options) (before after : Taken)
@@ -77,3 +88,11 @@ pub record IsPrepared (source traces : Text) (options : Options) (p : Prepared) 
   pub reading : IsTraceReading p.program.signature traces (Ok p.set)
   pub over_all : length (numbers_in p.plan) ≡ length p.set.traces
   pub kinds : HasKindsOf (flat.program_of p.program.ordered.program) p.set
+
+-- the same of a file's bytes
+pub record IsPreparedFile (source : Text) (bytes : Option (List ℕ)) (options : Options)
+    (p : Prepared)
+    : Type 0 where
+  pub traces : Text
+  pub is : IsFileText bytes traces
+  pub ready : IsPrepared source traces options p

@@ -1,16 +1,16 @@
 -- What the bench answers to a source and a file that is read in ranges.
 -- Source: this project's rule.
-use Rattle.std.specs.Prelude.{ℕ, List, Option, Result, Ok, Err}
+use Rattle.std.specs.Prelude.{ℕ, List, Option, Result, Ok, Err, Bool as Truth}
 use Rattle.lb_syntax.specs.Tokens.{Text}
 use Rattle.lb_pool.specs.declared.text.Report.{Report}
 use Rattle.lb_report.specs.Correct.{IsBenchAnswer}
-use Rattle.lb_report.specs.Ranges.{IsFileText}
+use Rattle.lb_report.specs.Ranges.{IsFileFault, IsFileText}
 use Rattle.lb_report.specs.declared.feeding.FeedFault.{FeedFault}
 use Rattle.lb_report.specs.declared.feeding.FeedFault.TheVariants as fault
 use Rattle.lb_report.specs.declared.options.Options.{Options}
 
--- a report on a trace text, or a refusal of the source and that text; nothing is said of a fault in
--- reading
+-- a report on a trace text, or a refusal of the source and that text; a fault in reading says
+-- nothing of them
 abbrev pub IsRangeAnswer :
     (source traces : Text) → Options → Result Report FeedFault → Type 0
 IsRangeAnswer source traces options (Ok report) = IsBenchAnswer source traces options (Ok report)
@@ -18,10 +18,17 @@ IsRangeAnswer source traces options (Err (fault.Load e)) = Unit {0}
 IsRangeAnswer source traces options (Err (fault.Refused e)) =
     IsBenchAnswer source traces options (Err e)
 
--- the same of a file's bytes; of some text where the file does not tell its bytes
-pub record IsFileAnswer (source : Text) (bytes : Option (List ℕ)) (options : Options)
-    (found : Result Report FeedFault)
+-- a fault in reading is told where memory ran out, or a read may fail
+abbrev pub IsReadingFault : (may_fail : Truth) → Result Report FeedFault → Type 0
+IsReadingFault may_fail (Ok report) = Unit {0}
+IsReadingFault may_fail (Err (fault.Load e)) = IsFileFault may_fail e
+IsReadingFault may_fail (Err (fault.Refused e)) = Unit {0}
+
+-- the answer to a file's bytes; to some text where the file does not tell its bytes
+pub record IsFileAnswer (source : Text) (bytes : Option (List ℕ)) (may_fail : Truth)
+    (options : Options) (found : Result Report FeedFault)
     : Type 0 where
   pub traces : Text
   pub is : IsFileText bytes traces
   pub answer : IsRangeAnswer source traces options found
+  pub fault : IsReadingFault may_fail found

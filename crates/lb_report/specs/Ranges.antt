@@ -1,7 +1,7 @@
 -- Sections of a file, of which each is judged by itself.
 -- This file says what data of the program mean; no definition of the language stands on it.
 use Rattle.std.specs.Prelude.{ℕ, ◌≡◌, ◌≤◌, ◌+◌, List, [], ◌++◌, length, Option, Result, Ok, Err}
-use Rattle.std.specs.Prelude.{Bool as Truth, false, IfSome}
+use Rattle.std.specs.Prelude.{Bool as Truth, true, false, IfSome}
 use Rattle.csv.specs.Reading.{default_config, records}
 use Rattle.lb_static.specs.Signature.{Elements}
 use Rattle.lb_traces.specs.Traces.{Traces}
@@ -18,6 +18,8 @@ use Rattle.lb_report.specs.JudgedParts.{IsJudged, IsJudgedPart}
 use Rattle.lb_report.specs.PlacedFiles.{between}
 use Rattle.lb_report.specs.SectionEnds.{AreEnds}
 use Rattle.lb_report.specs.Sections.{IsSectionJudged, IsSetAside}
+use Rattle.lb_report.specs.declared.feed.LoadError.{LoadError}
+use Rattle.lb_report.specs.declared.feed.LoadError.TheVariants as load
 use Rattle.lb_report.specs.declared.rounds.Halt.{Halt}
 use Rattle.lb_report.specs.declared.rounds.Halt.TheVariants as halt
 use Rattle.lb_report.specs.declared.rounds.Judged.{Judged}
@@ -69,16 +71,21 @@ pub record AreRangesRefused (elements : Elements) (table : ColumnTable) (rows : 
       IsRefusal
       (with_records elements (columns_in table) [] (rows ++ records default_config text)) e
 
--- nothing is said where they could not be read
+-- why a file was not read: memory ran out, or a read of it failed, as it may
+abbrev pub IsFileFault : (may_fail : Truth) → LoadError → Type 0
+IsFileFault may_fail load.Memory = Unit {0}
+IsFileFault may_fail load.Read = may_fail ≡ true
+
+-- they are refused, or could not be read
 abbrev pub IsRangesHalt :
-    Elements → ColumnTable → (rows : List Record) → (bytes : Option (List ℕ)) → (from size : ℕ)
-    → Halt → Type 0
-IsRangesHalt elements table rows bytes from size (halt.Load e) = Unit {0}
-IsRangesHalt elements table rows bytes from size (halt.Refused e) =
+    Elements → ColumnTable → (rows : List Record) → (bytes : Option (List ℕ)) → (may_fail : Truth)
+    → (from size : ℕ) → Halt → Type 0
+IsRangesHalt elements table rows bytes may_fail from size (halt.Load e) = IsFileFault may_fail e
+IsRangesHalt elements table rows bytes may_fail from size (halt.Refused e) =
     AreRangesRefused elements table rows bytes from size e
-IsRangesHalt elements table rows bytes from size (halt.Early e) = Unit {0}
-IsRangesHalt elements table rows bytes from size (halt.Stopped judged line) = Unit {0}
-IsRangesHalt elements table rows bytes from size halt.Quoted = Unit {0}
+IsRangesHalt elements table rows bytes may_fail from size (halt.Early e) = Unit {0}
+IsRangesHalt elements table rows bytes may_fail from size (halt.Stopped judged line) = Unit {0}
+IsRangesHalt elements table rows bytes may_fail from size halt.Quoted = Unit {0}
 
 -- ## A whole file
 
@@ -103,12 +110,13 @@ pub record IsOutcomeRefused (elements : Elements) (bytes : Option (List ℕ)) (e
   pub is : IsFileText bytes text
   pub refused : IsRefusal (outcome elements text) e
 
--- nothing is said where it could not be read
+-- it is judged or refused, or could not be read
 abbrev pub IsFileJudged :
-    FlatProgram → Elements → (bytes : Option (List ℕ)) → Result Judged Halt → Type 0
-IsFileJudged p elements bytes (Ok j) = IsOutcomeJudged p elements bytes j
-IsFileJudged p elements bytes (Err (halt.Load e)) = Unit {0}
-IsFileJudged p elements bytes (Err (halt.Refused e)) = IsOutcomeRefused elements bytes e
-IsFileJudged p elements bytes (Err (halt.Early e)) = Unit {0}
-IsFileJudged p elements bytes (Err (halt.Stopped judged line)) = Unit {0}
-IsFileJudged p elements bytes (Err halt.Quoted) = Unit {0}
+    FlatProgram → Elements → (bytes : Option (List ℕ)) → (may_fail : Truth) → Result Judged Halt
+    → Type 0
+IsFileJudged p elements bytes may_fail (Ok j) = IsOutcomeJudged p elements bytes j
+IsFileJudged p elements bytes may_fail (Err (halt.Load e)) = IsFileFault may_fail e
+IsFileJudged p elements bytes may_fail (Err (halt.Refused e)) = IsOutcomeRefused elements bytes e
+IsFileJudged p elements bytes may_fail (Err (halt.Early e)) = Unit {0}
+IsFileJudged p elements bytes may_fail (Err (halt.Stopped judged line)) = Unit {0}
+IsFileJudged p elements bytes may_fail (Err halt.Quoted) = Unit {0}

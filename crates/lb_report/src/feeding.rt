@@ -1,6 +1,6 @@
 //! The bench on traces that come from a feed.
 
-ghost use Rattle.std.specs.Prelude.{◌≡◌, ◌<◌, ◌≤◌, IfErr, IfOk, IfSome, OnOk, length};
+ghost use Rattle.std.specs.Prelude.{◌≡◌, ◌<◌, ◌≤◌, ◌*◌, IfErr, IfOk, IfSome, OnOk, length};
 ghost use Rattle.lb_traces.specs.Traces.{trace_names};
 ghost use Rattle.lb_pool.specs.Reports.{IsReport};
 ghost use Rattle.lb_report.specs.Bench.{OnlyProgram};
@@ -16,7 +16,7 @@ use crate::answer::{AcceptedProgram, accept};
 use crate::error::BenchError;
 use crate::feed::{Feed, LoadError};
 use crate::options::Options;
-use crate::placed::{PlacedFile, first_bytes};
+use crate::placed::{PlacedFile, bytes_from};
 use crate::rounds::{Halt, Judged, Rounds, row_bytes};
 use crate::sections::{TextFeed, ends_in_file, judge_by, judge_ranges};
 use crate::window::Window;
@@ -42,7 +42,12 @@ pub struct Sizes {
 impl Sizes {
     /// Rounds that fill many lanes, and are so small that a run takes 24 MB and 2 MB for each of up
     /// to four workers.
-    pub fn usual(workers: u32) -> Sizes {
+    pub fn usual(workers: u32) -> Sizes
+        ensures window { result.window ≤ 1048576 }
+        ensures filled { 4980736 ≤ result.round }
+        ensures rounds { workers ≤ 4 → workers * result.round ≤ 19922944 }
+        ensures least { result.least ≡ 2097152 }
+    {
         Sizes {
             window: if workers == 1 { 1 << 20 } else { 1 << 19 },
             round: match workers {
@@ -166,13 +171,13 @@ where
     requires short { size ≤ 1073741824 }
     requires size { IfSome (F.bytes file.now) (λ bytes. size ≡ length bytes) }
     ensures { IfSome result (IsFileJudged program.now.ordered.program program.now.signature
-        (F.bytes file.now)) }
+        (F.bytes file.now) F.may_fail) }
 {
     let Ok(lanes) = compile(alloc, &program.ordered) else {
         return None;
     };
     let rounds = rounds_of(alloc, program, &lanes, options, sizes);
-    let bytes = first_bytes(alloc, file, size.min(HEAD as u64) as usize)?;
+    let bytes = bytes_from(alloc, file, 0, size.min(HEAD as u64) as usize)?;
     let Ok(mut window) = Window::new(alloc, HEAD) else {
         return None;
     };
@@ -195,7 +200,8 @@ where
 /// read in sections side by side, each at places of its own. None says nothing of the texts:
 /// [`bench_feed`] of the file's bytes then tells. It is answered where one worker is to read the
 /// file, where it is no regular file, not large or longer than a trace text may be, and where the
-/// source or the header is not plainly accepted.
+/// source or the header is not plainly accepted. E21 is told only of a file of which a read may
+/// fail.
 pub fn bench_ranges<R, F>(
     rt: &R,
     source: &[u8],
@@ -206,7 +212,7 @@ pub fn bench_ranges<R, F>(
 where
     R: AllocGlobal + Threads + Sync,
     F: PlacedFile + Sync,
-    ensures { IfSome result (IsFileAnswer source.now (F.bytes file.now) options.now) }
+    ensures { IfSome result (IsFileAnswer source.now (F.bytes file.now) F.may_fail options.now) }
 {
     let alloc = rt.alloc();
     let size = file.size();

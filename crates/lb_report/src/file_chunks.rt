@@ -5,10 +5,15 @@
 //! chunk   0 ......... | 1 ....... | 2 ...
 //! ```
 
+ghost use Rattle.std.specs.Prelude.{◌≡◌, ◌≤◌, ◌<◌, IfOk, IfSome, length};
+ghost use Rattle.std.specs.List.{range_with_len};
+ghost use Rattle.lb_report.specs.FileChunks.{AreChunks, IsChunkAt};
+ghost use Rattle.lb_report.specs.SectionEnds.{AreEnds};
+
 use crate::feed::INPUT_LIMIT;
+use crate::placed::{PlacedFile, bytes_between};
+use crate::sections::start_at;
 use std::alloc::{AllocError, Global};
-use std::fs::OpenFile;
-use std::os::unix::fs::FileExt;
 
 /// The least bytes of a file that is worth several threads.
 const LEAST: u64 = 1 << 21;
@@ -22,18 +27,10 @@ const FIRST: u64 = 1 << 16;
 /// How far the end of a line is looked for.
 const PROBE: usize = 4096;
 
-/// The bytes of a regular file; 0 where that is not known.
-pub(crate) fn size_of<F: OpenFile>(file: &F) -> u64 {
-    match file.metadata() {
-        Ok(found) if found.is_file() => found.len(),
-        _ => 0,
-    }
-}
-
 /// Where the first line begins behind a place of a file; None where no line ends soon.
 // Out of line, lest its buffer stand on the stack of a whole run.
 #[inline(never)]
-fn line_start<F: FileExt>(file: &F, from: u64) -> Option<u64> {
+fn line_start<F: PlacedFile>(file: &F, from: u64) -> Option<u64> {
     let mut probe = [0u8; PROBE];
     let Ok(count) = file.read_at(&mut probe, from) else {
         return None;
@@ -42,88 +39,84 @@ fn line_start<F: FileExt>(file: &F, from: u64) -> Option<u64> {
     from.checked_add(found as u64 + 1)
 }
 
-/// Where the chunks of a large file begin, and then where the last one ends; none where the file is
-/// not large, or does not end with a line.
-fn chunk_starts<F: OpenFile + FileExt>(alloc: Global, file: &F) -> Result<Vec<u64>, AllocError> {
-    let mut starts = Vec::new(alloc);
-    let size = size_of(file);
-    if size < LEAST || size > INPUT_LIMIT as u64 {
-        return Ok(starts);
-    }
-    if line_start(file, size - 1).is_none() {
-        return Ok(starts);
-    }
-    starts.push(0)?;
+/// Where the chunks of a file of so many bytes end, each with a line, the last one at its size.
+fn chunk_ends<F: PlacedFile>(alloc: Global, file: &F, size: u64) -> Result<Vec<u64>, AllocError>
+    requires { size ≤ INPUT_LIMIT }
+    ensures { IfOk result (λ ends. AreEnds 0 size ends.items) }
+{
+    let mut ends = Vec::new(alloc);
     let mut last = 0;
-    for k in 0..size / CHUNK {
-        if let Some(start) = line_start(file, FIRST + CHUNK * k)
-            && start > last
-            && start < size
+    'chunks: for k in 0..size / CHUNK {
+        if let Some(end) = line_start(file, FIRST + CHUNK * k)
+            && end > last
+            && end < size
         {
-            starts.push(start)?;
-            last = start;
+            ends.push(end)?;
+            last = end;
         }
     }
-    starts.push(size)?;
-    Ok(starts)
+    ends.push(size)?;
+    Ok(ends)
 }
 
-/// The numbers of so many chunks, but for the first.
-fn numbers_after_first(alloc: Global, count: usize) -> Result<Vec<usize>, AllocError> {
+/// The numbers from 1 to a count.
+fn numbers_to(alloc: Global, count: usize) -> Result<Vec<usize>, AllocError>
+    ensures { IfOk result (λ numbers. numbers.items ≡ range_with_len 1 count) }
+{
     let mut numbers = Vec::new(alloc);
-    for k in 1..count {
-        numbers.push(k)?;
+    for k in 0..count {
+        numbers.push(k + 1)?;
     }
     Ok(numbers)
-}
-
-/// The bytes of a chunk of a file, by where all of them begin and the last one ends; None where
-/// they could not be read.
-fn load_chunk<F: FileExt>(alloc: Global, file: &F, starts: &[u64], k: usize) -> Option<Vec<u8>> {
-    let start = starts.get(k)?;
-    let past = starts.get(k.saturating_add(1))?;
-    let mut chunk = Vec::new(alloc);
-    let Ok(()) = chunk.resize(past.saturating_sub(*start) as usize, 0) else {
-        return None;
-    };
-    let Ok(()) = file.read_exact_at(chunk.as_mut_slice(), *start) else {
-        return None;
-    };
-    Some(chunk)
 }
 
 /// A large file in chunks, of which the first is loaded.
 #[derive(Drop)]
 pub(crate) struct FileChunks<'f, F> {
     file: &'f F,
-    /// Where they begin, and then where the last one ends.
-    starts: Vec<u64>,
+    /// Where they end.
+    ends: Vec<u64>,
     pub(crate) first: Vec<u8>,
     /// The numbers of the others.
     pub(crate) numbers: Vec<usize>,
 }
 
-impl<'f, F: OpenFile + FileExt> FileChunks<'f, F> {
+impl<'f, F: PlacedFile> FileChunks<'f, F> {
     /// The chunks of a file; None where it is not large, does not end with a line, or could not be
     /// read.
-    pub(crate) fn of_file(alloc: Global, file: &'f F) -> Option<FileChunks<'f, F>> {
-        let Ok(starts) = chunk_starts(alloc, file) else {
+    pub(crate) fn of_file(alloc: Global, file: &'f F) -> Option<FileChunks<'f, F>>
+        ensures file { IfSome result (λ chunks. chunks.file.now ≡ file.now) }
+        ensures chunks { IfSome result (λ chunks. AreChunks (F.bytes file.now)
+            chunks.ends.items chunks.first.items chunks.numbers.items) }
+    {
+        let size = file.size();
+        if size < LEAST || size > INPUT_LIMIT as u64 || line_start(file, size - 1).is_none() {
+            return None;
+        }
+        let Ok(ends) = chunk_ends(alloc, file, size) else {
             return None;
         };
-        let Ok(numbers) = numbers_after_first(alloc, starts.len().saturating_sub(1)) else {
+        let Ok(numbers) = numbers_to(alloc, ends.len() - 1) else {
             return None;
         };
-        let first = load_chunk(alloc, file, starts.as_slice(), 0)?;
+        let first = bytes_between(alloc, file, 0, ends[0])?;
         Some(FileChunks {
             file,
-            starts,
+            ends,
             first,
             numbers,
         })
     }
 
     /// The bytes of a chunk; None where they could not be read.
-    pub(crate) fn load(&self, alloc: Global, k: usize) -> Option<Vec<u8>> {
-        load_chunk(alloc, self.file, self.starts.as_slice(), k)
+    pub(crate) fn load(&self, alloc: Global, k: usize) -> Option<Vec<u8>>
+        ensures { IfSome result (λ chunk.
+            IsChunkAt (F.bytes self.now.file.now) self.now.ends.items k chunk.items) }
+    {
+        let ends = self.ends.as_slice();
+        if k >= ends.len() {
+            return None;
+        }
+        bytes_between(alloc, self.file, start_at(0, ends, k), ends[k])
     }
 }

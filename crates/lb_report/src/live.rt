@@ -1,26 +1,30 @@
 //! The live report: from a source and a trace text to a sink, line by line.
 
-ghost use Rattle.std.specs.Prelude.{◌≡◌, ◌<◌, ◌≤◌, IfErr, IfNone, IfOk, IfSome, length};
-ghost use Rattle.lb_syntax.specs.Tokens.{Text};
+ghost use Rattle.std.specs.Prelude.{◌≡◌, ◌<◌, ◌≤◌, ◌++◌, ℕ, IfErr, IfNone, IfOk, IfSome, List};
+ghost use Rattle.std.specs.Prelude.{Some, Vec, length};
+ghost use Rattle.std.specs.Global.{Global as Heap};
+ghost use Rattle.std.specs.List.{AllZip};
 ghost use Rattle.lb_flat.specs.Programs.{program_of};
 ghost use Rattle.lb_flat.specs.RightVerdicts.{right_verdicts};
 ghost use Rattle.lb_flat.specs.Standing.{HasKindsOf};
+ghost use Rattle.lb_trace.specs.Chunks.{text_of};
 ghost use Rattle.lb_pool.specs.Correct.{AreVerdicts};
 ghost use Rattle.lb_pool.specs.Follows.{IsFollowed, right_report};
 ghost use Rattle.lb_pool.specs.Plans.{numbers_in};
 ghost use Rattle.lb_report.specs.Bench.{IsRefused};
-ghost use Rattle.lb_report.specs.LiveReports.{IsFollowAnswer, IsPrepared, IsUnderWay};
+ghost use Rattle.lb_report.specs.FileChunks.{IsChunkAt};
+ghost use Rattle.lb_report.specs.LiveReports.{IsFileUnderWay, IsFollowAnswer, IsPrepared};
+ghost use Rattle.lb_report.specs.LiveReports.{IsPreparedFile};
 
 use crate::answer::{AcceptedProgram, accept};
 use crate::error::BenchError;
 use crate::file_chunks::FileChunks;
 use crate::options::Options;
+use crate::placed::PlacedFile;
 use lb_pool::{FollowError, Gate, Plan, Sink, run_follow};
 use lb_trace::{read_loaded, read_traces_by};
 use lb_traces::TraceSet;
 use std::alloc::{AllocError, Global};
-use std::fs::OpenFile;
-use std::os::unix::fs::FileExt;
 use std::sync::Wait;
 use std::thread::Threads;
 use std::time::Clock;
@@ -100,7 +104,9 @@ where
     F: Fn(usize) -> Option<Vec<u8>> + Sync,
     requires load { F.IsAlwaysCallable load.now }
     requires workers { 0 < options.now.workers }
-    ensures { IfSome result (λ p. (traces : Text) × IsPrepared source.now traces options.now p) }
+    ensures { IfSome result (λ p. (chunks : List (Vec ℕ Heap))
+        × AllZip (λ k chunk. F.post load.now k (Some chunk)) numbers.now chunks
+        × IsPrepared source.now (first.now ++ text_of chunks) options.now p) }
 {
     let alloc = rt.alloc();
     let Ok(program) = accept(alloc, source, options) else {
@@ -122,16 +128,19 @@ where
 fn prepare_file<R, F>(rt: &R, source: &[u8], file: &F, options: &Options) -> Option<Prepared>
 where
     R: AllocGlobal + Threads + Sync,
-    F: OpenFile + FileExt + Sync,
+    F: PlacedFile + Sync,
     requires { 0 < options.now.workers }
-    ensures { IfSome result (λ p. (traces : Text) × IsPrepared source.now traces options.now p) }
+    ensures { IfSome result (IsPreparedFile source.now (F.bytes file.now) options.now) }
 {
     if options.workers == 1 {
         return None;
     }
     let alloc = rt.alloc();
-    let chunks = FileChunks::of_file(alloc, file)?;
-    let load = |k: usize| -> Option<Vec<u8>> { chunks.load(alloc, k) };
+    let chunks = &FileChunks::of_file(alloc, file)?;
+    let load = |k: usize| -> Option<Vec<u8>>
+        ensures { IfSome result (λ chunk. IsChunkAt (F.bytes chunks.entry.now.file.now)
+            chunks.entry.now.ends.items k chunk.items) }
+    { chunks.load(alloc, k) };
     prepare_loaded(
         rt,
         source,
@@ -201,9 +210,9 @@ where
     }
 }
 
-/// As [`follow`] of a source and the traces of a large file that is open, which is read in chunks.
-/// None, and no byte went out, where one worker is to read it, where it is not large, and where
-/// anything is refused: [`follow`] of its bytes then tells what refuses first.
+/// As [`follow`] of a source and the traces of a large file, which is read in chunks, each at its
+/// place. None, and no byte went out, where one worker is to read it, where it is not large, and
+/// where anything is refused: [`follow`] of its bytes then tells what refuses first.
 pub fn follow_file<R, F, G, S>(
     rt: &R,
     source: &[u8],
@@ -214,13 +223,13 @@ pub fn follow_file<R, F, G, S>(
 ) -> Option<Result<(), FollowError>>
 where
     R: AllocGlobal + Threads + Wait + Clock + Sync,
-    F: OpenFile + FileExt + Sync,
+    F: PlacedFile + Sync,
     G: Gate + Sync,
     S: Sink,
     requires workers { 0 < options.now.workers }
     requires failures { S.failures sink.old < u64.MAX }
-    ensures some { IfSome result (λ run. (traces : Text) × IsUnderWay source.now traces options.now
-        (S.taken sink.old) (S.taken sink.new) (S.failures sink.old) (S.failures sink.new) run) }
+    ensures some { IfSome result (IsFileUnderWay source.now (F.bytes file.now) options.now
+        (S.taken sink.old) (S.taken sink.new) (S.failures sink.old) (S.failures sink.new)) }
     ensures none { IfNone result (sink.new ≡ sink.old) }
 {
     let Some(prepared) = prepare_file(rt, source, file, options) else {

@@ -86,15 +86,16 @@ impl Feed for TextFeed<'_> {
 }
 
 /// The bytes of a file between two places, as a feed. What it has given is counted from the begin
-/// of the file.
+/// of the file. It fails only where a read of such a file may.
 #[derive(Drop)]
-pub(crate) struct RangeFeed<'f, F> {
+pub(crate) struct RangeFeed<'f, F: PlacedFile> {
     file: &'f F,
     at: u64,
     past: u64,
     failures: u64,
     ghost ordered: { at ≤ past },
     ghost short: { past ≤ 1073741824 },
+    ghost failed: { 0 < failures → F.may_fail ≡ true },
 }
 
 impl<'f, F: PlacedFile> RangeFeed<'f, F> {
@@ -316,7 +317,7 @@ fn judge_range<F: PlacedFile>(
 }
 
 /// Where a section of a file begins.
-fn start_at(from: u64, ends: &[u64], i: usize) -> u64
+pub(crate) fn start_at(from: u64, ends: &[u64], i: usize) -> u64
     requires { i ≤ length ends.now }
     ensures { result ≡ start_of from ends.now i }
 {
@@ -381,8 +382,8 @@ fn judge_onward<F: PlacedFile>(
     ensures err { IfErr result (λ halt. (rows : List Record)
         → IsJudgedPart rounds.now.runner.program.now.program.now rounds.now.signature.now table.now
         rows judged
-        → IsRangesHalt rounds.now.signature.now table.now rows (F.bytes file.now) start size
-        halt) }
+        → IsRangesHalt rounds.now.signature.now table.now rows (F.bytes file.now) F.may_fail start
+        size halt) }
 {
     let mut feed = RangeFeed::new(file, start, size);
     let mut window = Window::new(rounds.alloc, rounds.window)?;
@@ -404,7 +405,7 @@ pub(crate) fn judge_ranges<R: Threads + Sync, F: PlacedFile + Sync>(
     ensures ok { IfOk result (AreRangesJudged rounds.now.runner.program.now.program.now
         rounds.now.signature.now table.now [] (F.bytes file.now) from size) }
     ensures err { IfErr result (IsRangesHalt rounds.now.signature.now table.now []
-        (F.bytes file.now) from size) }
+        (F.bytes file.now) F.may_fail from size) }
 {
     let alloc = rounds.alloc;
     let told = told_ranges(rt, rounds, table, file, from, ends)?;

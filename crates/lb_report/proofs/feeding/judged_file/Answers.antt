@@ -4,6 +4,7 @@ use Rattle.std.specs.Io.KnownBytes.{Consumes}
 use Rattle.lb_report.specs.Ranges.{IsFileJudged}
 use Rattle.lb_report.specs.SectionEnds.{AreEnds}
 use Rattle.lb_report.specs.Windows.{left, text_in}
+use Rattle.lb_report.proofs.PlacedFiles.{from_begin}
 use Rattle.lb_report.proofs.RangeFiles.{came_within, file_told}
 use Rattle.lb_report.proofs.feeding.judged_file.Goals as goal
 
@@ -45,15 +46,18 @@ returns g c =
     let last = c.read_header.new.feed in
     let long : length c.text.result.now ≡ length (text_in after) = ap length c.text.ensures in
     let bytes = g.F.PlacedFile.bytes c.args.file.now in
+    let may_fail = g.F.PlacedFile.may_fail in
     let told = file_told p elements c.in-Ok-read_header.table bytes c.args.size c.requires.size
-    c.in_ok-bytes.bytes.items _ c.in_ok-bytes.ensures.first c.in-Ok-new.window after
+    c.in_ok-bytes.bytes.items _ (from_begin bytes _ _ c.in_ok-bytes.ensures.next)
+    c.in-Ok-new.window after
     (left (Some first.rest.now) first.given 0) (left (Some last.rest.now) last.given 0)
     c.in-Ok-new.ensures.empty c.in-Ok-new.ensures.begun.0
     (c.new-head.ensures.coming ∙ ap Some c.as_slice.ensures.value) c.in-Ok-read_header.ensures.ok
     (c.is_done.ensures.left c.if-is_done.false) (c.read.result - length c.text.result.now)
-    (omega (arith, c.read.ensures, long)) c.judge_ranges.result
+    (omega (arith, c.read.ensures, long)) may_fail c.judge_ranges.result
     c.judge_ranges.ensures.ok c.judge_ranges.ensures.err in
-    subst (λ es. IsFileJudged c.args.program.now.ordered.program es bytes c.judge_ranges.result)
+    let found = c.judge_ranges.result in
+    subst (λ es. IsFileJudged c.args.program.now.ordered.program es bytes may_fail found)
     c.rounds_of-rounds.ensures.signature
-    (subst (λ q. IsFileJudged q elements bytes c.judge_ranges.result)
+    (subst (λ q. IsFileJudged q elements bytes may_fail found)
     (c.rounds_of-rounds.ensures.program ∙ c.in-Ok.ensures) told)

@@ -24,7 +24,7 @@ returns-in_err-told-clause-err g c =
     let e = c.in_err-told.field-0.0 in
     let bytes = g.F.PlacedFile.bytes c.args.file.now in
     let Is : Halt → Type 0 =
-    IsRangesHalt elements table [] bytes c.args.from c.args.size in
+    IsRangesHalt elements table [] bytes g.F.PlacedFile.may_fail c.args.from c.args.size in
     passes_on c.from_residual.result (Refused (Memory e)) Is c.from_residual.ensures.1
     (ranges_memory elements table [] bytes c.args.from c.args.size (Memory e)
     (range_start c.args.from c.args.size c.args.ends.now c.requires.ends 0 (omega arith))
@@ -37,7 +37,7 @@ returns-in_err-begun-clause-err g c =
     let e = c.in_err-begun.field-0.0 in
     let bytes = g.F.PlacedFile.bytes c.args.file.now in
     let Is : Halt → Type 0 =
-    IsRangesHalt elements table [] bytes c.args.from c.args.size in
+    IsRangesHalt elements table [] bytes g.F.PlacedFile.may_fail c.args.from c.args.size in
     passes_on c.from_residual-in_err-begun.result (Refused (Memory e)) Is
     c.from_residual-in_err-begun.ensures.1
     (ranges_memory elements table [] bytes c.args.from c.args.size (Memory e)
@@ -73,7 +73,8 @@ returns-in_err-all-clause-err g c =
     let all = told_long p elements table bytes from ends told c.in_ok-told.ensures in
     let part = judged_none p elements table c.in_ok-begun.begun (c.in_ok-begun.ensures p) in
     let e = c.in_err-all.field-0.0 in
-    let Is : Halt → Type 0 = IsRangesHalt elements table [] bytes from size in
+    let may_fail = g.F.PlacedFile.may_fail in
+    let Is : Halt → Type 0 = IsRangesHalt elements table [] bytes may_fail from size in
     passes_on c.from_residual-in_err-all.result (Refused e) Is
     c.from_residual-in_err-all.ensures.1
     (ranges_refused p elements table bytes from ends size c.requires.ends told t all e
@@ -118,7 +119,7 @@ returns-then-not-goes_on_alone-clause-err g c =
     let known = c.in_ok-all.ensures.ok p elements [] t.texts c.requires.table part t.sections in
     let is : a.halt ≡ Some c.in-Some.halt = c.in-Some.is in
     let stopped = subst (IsHaltAfter a.count (length t.texts)) is known.stopped in
-    halt_told elements table [] bytes from size c.in-Some.halt
+    halt_told elements table [] bytes g.F.PlacedFile.may_fail from size c.in-Some.halt
     (range_start from size ends c.requires.ends 0 (omega arith)) c.requires.ends.short stopped.1
 
 pub start_at-start-requires : goal.start_at-start-requires
@@ -203,6 +204,7 @@ returns-clause-err g c =
     let elements = c.args.rounds.now.signature.now in
     let table = c.args.table.now in
     let bytes = g.F.PlacedFile.bytes c.args.file.now in
+    let may_fail = g.F.PlacedFile.may_fail in
     let from = c.args.from in
     let size = c.args.size in
     let ends = c.args.ends.now in
@@ -223,7 +225,8 @@ returns-clause-err g c =
     c.start_at-start.ensures in
     IfErr-weaker c.judge_onward.result _ _
     (λ h is.
-    onward_halted p elements table bytes from ends size c.requires.ends told t all a.count h
-    stopped.0 known.plain
-    (subst (λ s. IsRangesHalt elements table rows bytes s size h) start (is rows known.part)))
+    onward_halted p elements table bytes from ends size c.requires.ends told t all may_fail a.count
+    h stopped.0 known.plain
+    (subst (λ s. IsRangesHalt elements table rows bytes may_fail s size h) start
+    (is rows known.part)))
     c.judge_onward.ensures.err

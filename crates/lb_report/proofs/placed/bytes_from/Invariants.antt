@@ -1,13 +1,14 @@
-use Rattle.std.proofs.Common.{◌≤◌, ◌-◌, take, vec_len}
+use Rattle.std.proofs.Common.{◌≤◌, ◌+◌, ◌-◌, take, vec_len}
 use Rattle.std.specs.Io.KnownBytes.{Consumes}
 use Rattle.lb_report.specs.PlacedFiles.{told_from}
-use Rattle.lb_report.proofs.placed.first_bytes.Given as goal
+use Rattle.lb_report.proofs.placed.bytes_from.Given as goal
 
 abbrev pub invariant-reads : goal.invariant-reads
 invariant-reads g l = record {
   within : l.filled ≤ vec_len l.bytes;
   most : vec_len l.bytes ≤ l.most;
-  came : Consumes (g.F.PlacedFile.bytes l.file) (told_from l.filled (g.F.PlacedFile.bytes l.file))
+  came : Consumes (told_from l.place (g.F.PlacedFile.bytes l.file))
+      (told_from (l.place + l.filled) (g.F.PlacedFile.bytes l.file))
       (take l.filled l.bytes.items);
 }
 
