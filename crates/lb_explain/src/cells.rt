@@ -149,6 +149,13 @@ pub fn explain_length(
     put_length(page, alloc, text, &record, cells, columns)
 }
 
+/// Puts how many cells a record has, and how many the header has.
+fn put_lengths(page: &mut String, cells: usize, columns: usize) -> Result<(), AllocError> {
+    page.push_str("this record has ")?;
+    put_count(page, cells, "cell")?;
+    write!(page, ", and the header has {columns}\n")
+}
+
 /// Puts the explanation of E15 for a record.
 fn put_length(
     page: &mut String,
@@ -161,9 +168,7 @@ fn put_length(
     let found = marked(text.bytes, record, columns);
     let place = stretch_of(text, record, found.start, found.end);
     put_place(page, text, &place, "error")?;
-    page.push_str("this record has ")?;
-    put_count(page, cells, "cell")?;
-    write!(page, ", and the header has {columns}\n")?;
+    put_lengths(page, cells, columns)?;
     put_excerpt(page, text, &place)?;
     put_length_mend(page, text.bytes, record, cells, columns)?;
     put_record(page, alloc, text.bytes, record)
@@ -214,6 +219,11 @@ fn natural_of(cell: &[u8]) -> u64 {
     n
 }
 
+/// Whether a cell begins or ends with white space.
+pub fn is_padded(cell: &[u8]) -> bool {
+    matches!(cell, [b' ' | b'\t', ..] | [.., b' ' | b'\t'])
+}
+
 /// How to mend a cell of an integer column; nothing where the cell is an integer in range.
 fn mend_of_int(cell: &[u8]) -> &'static str {
     if is_integer(cell) {
@@ -222,7 +232,7 @@ fn mend_of_int(cell: &[u8]) -> &'static str {
     match cell {
         [] => "an empty cell is no value; write a number",
         [b'+', ..] => "write the number without `+`",
-        [b' ' | b'\t', ..] | [.., b' ' | b'\t'] => "no space may stand beside a value",
+        _ if is_padded(cell) => "no space may stand beside a value",
         [b'0'..=b'9' | b'-', b'x' | b'X', ..] => "write the number in decimal digits",
         _ => mend_of_digits(cell),
     }
@@ -262,7 +272,7 @@ fn mend_of_bool(cell: &[u8]) -> &'static str {
     }
     match cell {
         [] => "an empty cell is no value; write 0, 1, false or true",
-        [b' ' | b'\t', ..] | [.., b' ' | b'\t'] => "no space may stand beside a value",
+        _ if is_padded(cell) => "no space may stand beside a value",
         _ => "write 0, 1, false or true",
     }
 }
@@ -311,6 +321,20 @@ fn mend_of(kind: Kind, cell: &[u8]) -> &'static str {
     }
 }
 
+/// Puts where a cell stands that is no value of its column.
+fn put_wrong_value(
+    page: &mut String,
+    text: &Text<'_>,
+    place: &Stretch,
+    column: &[u8],
+    kind: Kind,
+    cell: &[u8],
+) -> Result<(), AllocError> {
+    put_place(page, text, place, "error")?;
+    put_no_value(page, column, kind, cell)?;
+    put_excerpt(page, text, place)
+}
+
 /// Puts the explanation of E16 for a cell of a record.
 fn put_value(
     page: &mut String,
@@ -327,9 +351,7 @@ fn put_value(
         return Ok(());
     }
     let place = stretch_of(text, record, found.start, found.end);
-    put_place(page, text, &place, "error")?;
-    put_no_value(page, column, kind, cell.as_slice())?;
-    put_excerpt(page, text, &place)?;
+    put_wrong_value(page, text, &place, column, kind, cell.as_slice())?;
     write!(page, "help: {mend}\n")?;
     put_record(page, alloc, text.bytes, record)
 }

@@ -1,7 +1,7 @@
 //! E14: a header that does not name the inputs.
 
 use crate::bytes::part;
-use crate::cells::{cell_of, input_named, put_cell, put_other_separator, stretch_of};
+use crate::cells::{cell_of, input_named, is_padded, put_cell, put_other_separator, stretch_of};
 use crate::excerpt::{put_excerpt, put_place};
 use crate::near::{Nearest, differ_in_case};
 use crate::quoted::{cell_at, end_of_record, width};
@@ -76,11 +76,6 @@ fn first_fault(signature: &Signature, header: &Header) -> Option<(usize, Fault)>
         }
     }
     None
-}
-
-/// Whether a name begins or ends with white space.
-fn is_padded(name: &[u8]) -> bool {
-    matches!(name, [b' ' | b'\t', ..] | [.., b' ' | b'\t'])
 }
 
 /// Puts the names of inputs that no column has, if there are any.

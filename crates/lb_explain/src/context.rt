@@ -61,21 +61,21 @@ impl Context {
     /// After a reserved word.
     fn after_word(&self, text: &[u8], token: &Lexeme) -> Context {
         let inner = self.part == Section::Heading || self.part == Section::Body;
-        match token.of(text) {
-            b"node" | b"function" => Context {
+        match token.word(text) {
+            "node" | "function" => Context {
                 part: Section::Heading,
                 start: token.start,
                 node: token.start,
                 depth: 0,
             },
-            b"const" if !inner => Context {
+            "const" if !inner => Context {
                 part: Section::Constants,
                 start: token.end,
                 node: token.start,
                 depth: 0,
             },
-            b"let" => self.at(Section::Body, token.end),
-            b"tel" => self.at(Section::Top, token.end),
+            "let" => self.at(Section::Body, token.end),
+            "tel" => self.at(Section::Top, token.end),
             _ => *self,
         }
     }

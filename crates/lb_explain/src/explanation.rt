@@ -15,7 +15,7 @@ use crate::texts::Text;
 use crate::trace_limits::explain_limit;
 use crate::trace_names::explain_trace_name;
 use lb_report::{BenchError, Options};
-use lb_static::{Signature, elaborate};
+use lb_static::{Elab, Signature, StaticError, elaborate};
 use lb_syntax::{SyntaxError, parse};
 use lb_trace::TraceError;
 use std::alloc::{AllocError, Global};
@@ -49,6 +49,17 @@ fn explain_syntax_error(
     }
 }
 
+/// The inputs of the node under test, where the program was accepted.
+fn copy_of_signature(
+    alloc: Global,
+    elaborated: &Result<Elab, StaticError>,
+) -> Result<Option<Signature>, AllocError> {
+    match elaborated {
+        Ok(elab) => Ok(Some(elab.signature().copy(alloc)?)),
+        Err(_) => Ok(None),
+    }
+}
+
 /// The inputs of the node under test of a source that was accepted.
 fn signature_of(
     alloc: Global,
@@ -58,10 +69,10 @@ fn signature_of(
     let Ok(tree) = parse(alloc, source) else {
         return Ok(None);
     };
-    match elaborate(alloc, &tree, options.node.as_str(), options.observer_name()) {
-        Ok(elab) => Ok(Some(elab.signature().copy(alloc)?)),
-        Err(_) => Ok(None),
-    }
+    let elaborated = elaborate(alloc, &tree, options.node.as_str(), options.observer_name());
+    let signature = copy_of_signature(alloc, &elaborated);
+    drop(elaborated);
+    signature
 }
 
 /// Explains E14 or E16, which need the inputs of the node under test.

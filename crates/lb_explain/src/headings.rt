@@ -95,12 +95,12 @@ impl Place {
     }
 
     /// After a token of a size or a clock.
-    fn inner(&self, bytes: &[u8]) -> Place {
-        match bytes {
-            b"(" => self.nest(self.nested.saturating_add(1)),
-            b")" if self.nested > 1 => self.nest(self.nested.saturating_sub(1)),
-            b")" => self.after_inner(),
-            b"not" => *self,
+    fn inner(&self, word: &str) -> Place {
+        match word {
+            "(" => self.nest(self.nested.saturating_add(1)),
+            ")" if self.nested > 1 => self.nest(self.nested.saturating_sub(1)),
+            ")" => self.after_inner(),
+            "not" => *self,
             _ if self.nested > 0 => *self,
             _ => self.after_inner(),
         }
@@ -115,55 +115,55 @@ impl Place {
     }
 
     /// After the token that stands behind a type, a clock or a name.
-    fn ended(&self, bytes: &[u8]) -> Place {
-        match bytes {
-            b"^" => self.to(Step::Size),
-            b"when" => self.to(Step::Clock),
-            b";" => self.after_semicolon(),
-            b")" => self.after_list(),
-            b":" => self.to(Step::Type),
+    fn ended(&self, word: &str) -> Place {
+        match word {
+            "^" => self.to(Step::Size),
+            "when" => self.to(Step::Clock),
+            ";" => self.after_semicolon(),
+            ")" => self.after_list(),
+            ":" => self.to(Step::Type),
             _ => self.to(Step::Variable),
         }
     }
 
     /// After a token of the static parameters.
-    fn parameter(&self, bytes: &[u8]) -> Place {
+    fn parameter(&self, word: &str) -> Place {
         match self.step {
             Step::Const => self.to(Step::Parameter),
             Step::Parameter => self.to(Step::ParameterColon),
             Step::ParameterColon => self.to(Step::ParameterType),
             Step::ParameterType => self.to(Step::AfterParameter),
-            _ if bytes == b">>".as_slice() => self.to(Step::Inputs),
+            _ if word == ">>" => self.to(Step::Inputs),
             _ => self.to(Step::Const),
         }
     }
 
     /// After a token between the lists.
-    fn between(&self, bytes: &[u8]) -> Place {
-        match bytes {
-            b"<<" => self.into(List::Parameters, Step::Const),
-            b"(" if self.step == Step::Outputs => self.into(List::Outputs, Step::Variable),
-            b"(" => self.into(List::Inputs, Step::NextVariable),
-            b"returns" => self.to(Step::Outputs),
-            b"var" => self.into(List::Locals, Step::Variable),
-            b";" => self.to(Step::Sections),
+    fn between(&self, word: &str) -> Place {
+        match word {
+            "<<" => self.into(List::Parameters, Step::Const),
+            "(" if self.step == Step::Outputs => self.into(List::Outputs, Step::Variable),
+            "(" => self.into(List::Inputs, Step::NextVariable),
+            "returns" => self.to(Step::Outputs),
+            "var" => self.into(List::Locals, Step::Variable),
+            ";" => self.to(Step::Sections),
             _ => self.to(Step::AfterVariable),
         }
     }
 
     /// After a token.
-    fn after(&self, bytes: &[u8]) -> Place {
+    fn after(&self, word: &str) -> Place {
         match self.step {
             Step::Node => self.to(Step::AfterNode),
-            Step::Const | Step::Parameter | Step::ParameterColon => self.parameter(bytes),
-            Step::ParameterType | Step::AfterParameter => self.parameter(bytes),
+            Step::Const | Step::Parameter | Step::ParameterColon => self.parameter(word),
+            Step::ParameterType | Step::AfterParameter => self.parameter(word),
             Step::Variable => self.to(Step::AfterVariable),
-            Step::NextVariable if bytes == b")".as_slice() => self.after_list(),
+            Step::NextVariable if word == ")" => self.after_list(),
             Step::NextVariable => self.to(Step::AfterVariable),
             Step::Type => self.to(Step::AfterType),
-            Step::AfterVariable | Step::AfterType | Step::AfterClock => self.ended(bytes),
-            Step::Size | Step::Clock => self.inner(bytes),
-            _ => self.between(bytes),
+            Step::AfterVariable | Step::AfterType | Step::AfterClock => self.ended(word),
+            Step::Size | Step::Clock => self.inner(word),
+            _ => self.between(word),
         }
     }
 
@@ -225,7 +225,7 @@ pub fn expected_in_heading(text: &[u8], start: usize, place: usize) -> &'static 
         if token.start >= place {
             return here.expected();
         }
-        here = here.after(token.of(text));
+        here = here.after(token.word(text));
         at = token.end;
     }
     here.expected()
@@ -240,9 +240,9 @@ pub enum InConstant {
 
 /// What could stand after a token of a constant.
 fn after_constant_token(text: &[u8], token: &Lexeme) -> &'static str {
-    match token.of(text) {
-        b":" => "`int`",
-        b"int" => "`=`",
+    match token.word(text) {
+        ":" => "`int`",
+        "int" => "`=`",
         _ if token.sort == Sort::Name => "`:` or `=`",
         _ => "",
     }

@@ -33,6 +33,11 @@ impl Lexeme {
         part(text, self.start, self.end)
     }
 
+    /// Its text; empty where its bytes are none.
+    pub fn word<'t>(&self, text: &'t [u8]) -> &'t str {
+        std::str::from_utf8(self.of(text)).unwrap_or("")
+    }
+
     /// Whether it is this reserved word or symbol.
     pub fn is(&self, text: &[u8], mark: &[u8]) -> bool {
         self.sort == Sort::Mark && self.of(text) == mark

@@ -135,44 +135,71 @@ impl Reading {
     }
 
     /// Takes a bracket or an operator.
-    fn bracket(&mut self, bytes: &[u8]) -> Result<(), AllocError> {
-        match bytes {
-            b"(" => self.open_group()?,
-            b"[" => self.open_bracket()?,
-            b"<<" => self.open_static()?,
-            b">>" => self.closed(Last::Arguments),
-            b")" | b"]" => self.closed(Last::Operand),
+    fn bracket(&mut self, word: &str) -> Result<(), AllocError> {
+        match word {
+            "(" => self.open_group()?,
+            "[" => self.open_bracket()?,
+            "<<" => self.open_static()?,
+            ">>" => self.closed(Last::Arguments),
+            ")" | "]" => self.closed(Last::Operand),
             _ => self.operator(),
         }
         Ok(())
     }
 
-    /// Takes a reserved word or a symbol.
-    fn mark(&mut self, bytes: &[u8]) -> Result<(), AllocError> {
-        match bytes {
-            b"if" => self.put(Open::Condition, Last::Operator)?,
-            b"then" => self.choose(Some(Open::Choice))?,
-            b"else" => self.choose(None)?,
-            b"=" | b"assert" => self.equal(),
-            b"true" | b"false" => self.last = Last::Operand,
-            b"when" => self.last = Last::When,
-            b"^" => self.last = Last::Caret,
-            b"#" | b"nor" => self.last = Last::Counted,
-            b"not" if self.last == Last::When => {}
-            b"," | b";" => self.last = Last::Operator,
-            _ => self.bracket(bytes)?,
+    /// Takes a symbol.
+    fn symbol(&mut self, word: &str) -> Result<(), AllocError> {
+        match word {
+            "=" => self.equal(),
+            "^" => self.last = Last::Caret,
+            "#" => self.last = Last::Counted,
+            "," | ";" => self.last = Last::Operator,
+            _ => return self.bracket(word),
         }
         Ok(())
     }
 
+    /// Takes a reserved word that opens and closes nothing.
+    fn plain_word(&mut self, word: &str) {
+        match word {
+            "assert" => self.equal(),
+            "true" | "false" => self.last = Last::Operand,
+            "when" => self.last = Last::When,
+            "nor" => self.last = Last::Counted,
+            "not" if self.last == Last::When => {}
+            _ => self.operator(),
+        }
+    }
+
+    /// Takes a reserved word.
+    fn reserved(&mut self, word: &str) -> Result<(), AllocError> {
+        match word {
+            "if" => self.put(Open::Condition, Last::Operator),
+            "then" => self.choose(Some(Open::Choice)),
+            "else" => self.choose(None),
+            _ => {
+                self.plain_word(word);
+                Ok(())
+            }
+        }
+    }
+
+    /// Takes a reserved word or a symbol.
+    fn mark(&mut self, word: &str) -> Result<(), AllocError> {
+        match word.as_bytes() {
+            [b'a'..=b'z', ..] => self.reserved(word),
+            _ => self.symbol(word),
+        }
+    }
+
     /// Takes a token.
     fn take(&mut self, text: &[u8], token: &Lexeme) -> Result<(), AllocError> {
-        let bytes = token.of(text);
+        let word = token.word(text);
         match token.sort {
-            Sort::Mark => self.mark(bytes)?,
+            Sort::Mark => self.mark(word)?,
             Sort::Name => {
                 self.last = Last::Name;
-                self.is_iterator = matches!(bytes, b"map" | b"red" | b"fill");
+                self.is_iterator = matches!(word, "map" | "red" | "fill");
             }
             _ => self.last = Last::Operand,
         }

@@ -7,7 +7,7 @@ use crate::headings::{InConstant, constant_at, expected_in_heading};
 use crate::lexeme::{Lexeme, Sort, last_before, piece_at, token_at};
 use crate::statements::{expected_in_body, expected_in_value};
 use crate::texts::{Stretch, Text, line_at, offset_of, spot};
-use crate::words::mend_of_word;
+use crate::words::{is_same, mend_of_word};
 use std::alloc::{AllocError, Global};
 
 /// The most bytes of a token that are shown.
@@ -73,18 +73,34 @@ fn is_infix(text: &[u8], token: &Lexeme) -> bool {
     token.is_among(text, &WORDS) || token.is_among(text, &SIGNS)
 }
 
+/// Two texts, and how to mend them where they stand together.
+type Mend = (&'static str, &'static str, &'static str);
+
+/// How to mend two texts; empty where the table does not have them.
+fn mend_among(mends: &[Mend], first: &str, second: &str) -> &'static str {
+    for (one, other, mend) in mends {
+        if is_same(*one, first) && is_same(*other, second) {
+            return *mend;
+        }
+    }
+    ""
+}
+
+/// Two tokens that other languages write together.
+static PAIRS: [Mend; 4] = [
+    ("|", "|", "disjunction is written `or`"),
+    ("=", "=", "equality is written `=`"),
+    ("/", "=", "unequal is written `<>`"),
+    ("=", ">=", "`=>` is the implication"),
+];
+
 /// How to mend two tokens that other languages write together; empty for other tokens.
 fn mend_of_pair(text: &[u8], last: &Lexeme, found: &Lexeme) -> &'static str {
-    match (last.of(text), found.of(text)) {
-        (b"|", b"|") => "disjunction is written `or`",
-        (b"=", b"=") => "equality is written `=`",
-        (b"/", b"=") => "unequal is written `<>`",
-        (b"=", b">=") => "`=>` is the implication",
-        (_, b"." | b"..") if last.sort == Sort::Number => {
-            "real numbers are not in the language; scale them to int"
-        }
-        _ => "",
+    let word = found.word(text);
+    if last.sort == Sort::Number && (is_same(word, ".") || is_same(word, "..")) {
+        return "real numbers are not in the language; scale them to int";
     }
+    mend_among(&PAIRS, last.word(text), word)
 }
 
 /// Whether an operator is refused where operators could stand: it does not group with those before.
@@ -92,22 +108,35 @@ fn does_not_group(expected: &str, text: &[u8], found: &Lexeme) -> bool {
     expected.ends_with("or an operator") && is_infix(text, found)
 }
 
-/// How to mend a token, by what could stand there; empty where nothing is known.
-fn mend_of_place(text: &[u8], found: &Lexeme, expected: &str) -> &'static str {
-    match (expected, found.of(text)) {
-        ("`,` or `=`", b":") => "an equation is written `x = e;`",
-        ("`,` or `=`", b"[") => "an equation defines a whole array: `x = [a, b];`",
-        ("a name, `(`, `assert` or `tel`", b"if") => {
-            "`if` chooses a value: `x = if c then a else b;`"
-        }
-        ("`^`, `when`, `;` or `)`", b",") => {
-            "variables of one type are parted by `,`, and others by `;`"
-        }
-        ("`var` or `let`", b"const") => "constants are declared outside of nodes",
-        ("`;` or an operator", b".") => "structures are not in the language",
-        _ => "",
-    }
-}
+/// What could stand at a place, and a token that stands there.
+static PLACES: [Mend; 6] = [
+    ("`,` or `=`", ":", "an equation is written `x = e;`"),
+    (
+        "`,` or `=`",
+        "[",
+        "an equation defines a whole array: `x = [a, b];`",
+    ),
+    (
+        "a name, `(`, `assert` or `tel`",
+        "if",
+        "`if` chooses a value: `x = if c then a else b;`",
+    ),
+    (
+        "`^`, `when`, `;` or `)`",
+        ",",
+        "variables of one type are parted by `,`, and others by `;`",
+    ),
+    (
+        "`var` or `let`",
+        "const",
+        "constants are declared outside of nodes",
+    ),
+    (
+        "`;` or an operator",
+        ".",
+        "structures are not in the language",
+    ),
+];
 
 /// How to mend the token that was found; empty where that is no common mistake.
 fn mend_of(text: &[u8], last: &Lexeme, found: &Lexeme, expected: &str) -> &'static str {
@@ -115,7 +144,7 @@ fn mend_of(text: &[u8], last: &Lexeme, found: &Lexeme, expected: &str) -> &'stat
     if !pair.is_empty() {
         return pair;
     }
-    let place = mend_of_place(text, found, expected);
+    let place = mend_among(&PLACES, expected, found.word(text));
     if !place.is_empty() {
         return place;
     }

@@ -7,12 +7,17 @@ use crate::texts::Text;
 use lb_static::{RangeFault, RangeRole, ValueFault, ValueRule};
 use std::alloc::AllocError;
 
+/// Whether an operator divides.
+fn divides(sign: &[u8]) -> bool {
+    matches!(sign, b"/" | b"div" | b"mod")
+}
+
 /// Puts why an operator gives no value of its operands.
 fn put_operator(page: &mut String, sign: &[u8], left: i64, right: i64) -> Result<(), AllocError> {
     write!(page, "`{left} ")?;
     put_bytes(page, sign)?;
     write!(page, " {right}` ")?;
-    if right == 0 && matches!(sign, b"/" | b"div" | b"mod") {
+    if right == 0 && divides(sign) {
         return page.push_str("has no value: the divisor is 0\n");
     }
     page.push_str("is out of the range of int, -2147483648 to 2147483647\n")
