@@ -1,11 +1,11 @@
 -- Answers of which not all went out.
-use Rattle.std.proofs.Common.{◌≡◌, ◌∙◌, ◌≤◌, ℕ, List, Option, None, ap, length, subst, take}
+use Rattle.std.proofs.Common.{◌≡◌, ◌∙◌, ◌<◌, ◌≤◌, ℕ, List, Option, None, ap, length, subst, take}
 use Rattle.clap.specs.Words.{Text}
 use Rattle.lb_pool.specs.Taken.{Takes}
 use Rattle.lb_command.specs.Outcomes.{IsDelivered, IsTold, refusal_status, text_of}
 use Rattle.lb_command.specs.Outcomes.IsDelivered.{broken}
 use Rattle.lb_command.specs.Lines.{line}
-use Rattle.lb_command.specs.Streams.{Change, HasFailed}
+use Rattle.lb_command.specs.Streams.{Change}
 use Rattle.lb_command.specs.declared.refusal.Refusal.{Refusal}
 use Rattle.lb_command.specs.declared.answer.Answer.{Answer}
 
@@ -15,11 +15,13 @@ pub broken_by : (words : List Text) (answer : Answer) (warnings : List ℕ) (sta
     → count ≤ length (text_of answer)
     → Takes output.before output.after (take count (text_of answer))
     → status ≡ refusal_status r.number
-    → HasFailed output → IsTold words errors (line r.number r.position)
+    → output.failures_before < output.failures_after
+    → IsTold words errors (line r.number r.position)
     → IsDelivered words answer warnings status output errors
 broken_by words answer warnings status output errors r count number position within took is failed
     told =
     let numbered =
     subst (λ (n : ℕ). IsTold words errors (line n r.position)) number told in
-    broken count within took (is ∙ ap refusal_status number) failed
+    broken count within took (is ∙ ap refusal_status number)
+    (record { more = failed; same = took.same })
     (subst (λ (p : Option (ℕ × ℕ)). IsTold words errors (line 19 p)) position numbered)

@@ -13,3 +13,5 @@ pub mod Showings
 pub mod Reported
 pub mod Concluding
 pub mod Ranges
+pub mod SameWriters
+pub mod OnStreams

@@ -64,12 +64,12 @@ module _ (source traces : Text) (task : Task) (asked : ShowOptions) (output : Ch
       OnlyProgram source task.options (λ P. IsNoTrace P traces name) in
       record {
         cause = no_trace told (subst Is are.trace answer.0);
-        not_read = twenty refusal.number told;
+        not_read = twenty refusal.number told.0;
         untouched = left answer.1;
       }
   unshown_of T (values.UnknownVariable place) (Refused refusal) are told answer = record {
     cause = no_variable told answer.0;
-    not_read = twenty refusal.number told;
+    not_read = twenty refusal.number told.0;
     untouched = left answer.1;
   }
   unshown_of T (values.Stopped e) fault are told answer =

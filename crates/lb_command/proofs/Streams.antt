@@ -5,7 +5,7 @@ use Rattle.std.specs.Prelude.{IfErr, OnOk, OnErr}
 use Rattle.lb_pool.specs.Taken.{Taken, Takes}
 use Rattle.lb_pool.specs.declared.sink.Sent.{Sent}
 use Rattle.lb_pool.proofs.SinkBytes.{nothing_by_none, takes_more}
-use Rattle.lb_command.specs.Streams.{Change, HasFailed, TookOrFailed}
+use Rattle.lb_command.specs.Streams.{Change, HasSameWriter, TookOrFailed}
 use Rattle.lb_command.specs.Warnings.{IsWarned}
 
 pub then_takes : (a b c : Taken) (x y : List ℕ) → Takes a b x → Takes b c y → Takes a c (x ++ y)
@@ -18,9 +18,10 @@ on_any_ok (Err e) P p = tt
 -- both ways in which a text is written
 pub took_or_failed : {T E : Type 0} (r : Result T E) (c : Change) (text : List ℕ)
     → OnOk r (Takes c.before c.after text) → OnOk r (c.failures_after ≡ c.failures_before)
-    → OnErr r (HasFailed c) → TookOrFailed c text
-took_or_failed (Ok x) c text all ok failed = inl (record { all = all; never_failed = ok })
-took_or_failed (Err e) c text all ok failed = inr failed
+    → OnErr r (c.failures_before < c.failures_after) → HasSameWriter c → TookOrFailed c text
+took_or_failed (Ok x) c text all ok failed same =
+    inl (record { all = all; never_failed = ok })
+took_or_failed (Err e) c text all ok failed same = inr (record { more = failed; same = same })
 
 -- one failure more is a failure
 pub failed_once : {T E : Type 0} (r : Result T E) (before after : ℕ) → OnErr r (after ≡ before + 1)
@@ -37,8 +38,10 @@ few_failures (Err e) before after ok once = omega (arith, once)
 -- warnings that were written
 pub warned : (r : Result (Unit {0}) Sent) (c : Change) (text : List ℕ)
     → OnOk r (Takes c.before c.after text) → OnOk r (c.failures_after ≡ c.failures_before)
-    → IfErr r (λ sent. sent.count < length text) → OnErr r (HasFailed c) → IsWarned c text
-warned (Ok x) c [] all ok within failed =
+    → IfErr r (λ sent. sent.count < length text)
+    → OnErr r (c.failures_before < c.failures_after) → HasSameWriter c → IsWarned c text
+warned (Ok x) c [] all ok within failed same =
     record { kept = nothing_by_none c.before c.after all; never_failed = ok }
-warned (Err e) c [] all ok within failed = absurd (omega (arith, within))
-warned r c (x ∷ xs) all ok within failed = took_or_failed r c (x ∷ xs) all ok failed
+warned (Err e) c [] all ok within failed same = absurd (omega (arith, within))
+warned r c (x ∷ xs) all ok within failed same =
+    took_or_failed r c (x ∷ xs) all ok failed same

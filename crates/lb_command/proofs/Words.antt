@@ -1,17 +1,20 @@
 -- What the parser of words answers at the command line that the program knows.
 use Rattle.std.proofs.Common.{◌≡◌, ◌≢◌, ◌∙◌, ◌⊎◌, List, Result, Ok, Err, true, false}
 use Rattle.std.proofs.Common.{ap, subst, refl, sym}
-use Rattle.std.proofs.Common.{ℕ, inl, inr}
+use Rattle.std.proofs.Common.{inl, inr}
 use Rattle.std.specs.Prelude.{[], IfErr, OnOk, codes}
 use Rattle.clap.specs.Words.{App, FailsBy, HasMatchesOf, IsAmong, Row, Text, fault_of, found_of}
 use Rattle.clap.specs.Words.{is_simple, is_simple_and_free, kind_of, matches_of, rows_of}
 use Rattle.clap.specs.declared.parser.matches.ArgMatches.{ArgMatches}
 use Rattle.clap.specs.declared.error.Error.{Error}
 use Rattle.clap.specs.declared.error.kind.ErrorKind.TheVariants.{DisplayHelp, OutOfMemory}
+use Rattle.lb_command.specs.Correct.{IsRefusal}
+use Rattle.lb_command.specs.Outcomes.{IsUsage}
 use Rattle.lb_command.specs.Words.{AsksForHelp, IsRequest, IsRequestOf, IsTask, IsUnlawful}
 use Rattle.lb_command.specs.WordValues.{has_switch}
 use Rattle.lb_command.specs.Words.{IsWrongValue, command_line, faults_of, values_of}
 use Rattle.lb_command.specs.Words.IsUnlawful.{fault, wrong_value}
+use Rattle.lb_command.specs.declared.refusal.Refusal.{Refusal}
 use Rattle.lb_command.specs.declared.request.Request.{Request}
 use Rattle.lb_command.specs.declared.request.Request.TheVariants.{Help, Version, Run}
 
@@ -71,13 +74,13 @@ is_unlawful words e among not_help not_memory =
     fault (kind_of e) (among not_memory) not_help
 
 -- the refusal of words that are no request for help
-pub refused_by : (words : List Text) (e : Error) (number : ℕ)
+pub refused_by : (words : List Text) (e : Error) (refusal : Refusal)
     → (kind_of e ≢ OutOfMemory → IsAmong (kind_of e) (faults_of words))
-    → (number ≡ 0)
-    ⊎ ((number ≡ 20) × (kind_of e ≢ DisplayHelp) × (kind_of e ≢ OutOfMemory))
-    → (number ≡ 0) ⊎ ((number ≡ 20) × IsUnlawful words)
-refused_by words e number among (inl memory) = inl memory
-refused_by words e number among (inr (usage, not_help, not_memory)) =
+    → (refusal.number ≡ 0)
+    ⊎ (IsUsage refusal × (kind_of e ≢ DisplayHelp) × (kind_of e ≢ OutOfMemory))
+    → IsRefusal words refusal
+refused_by words e refusal among (inl memory) = inl memory
+refused_by words e refusal among (inr (usage, not_help, not_memory)) =
     inr (usage, is_unlawful words e among not_help not_memory)
 
 -- what lawful words ask for, by their values
@@ -95,9 +98,9 @@ asked_by words rows (Run task) same lawful is = record {
 }
 
 -- the refusal of words that are lawful but for a number
-pub misnumbered : (words : List Text) (rows : List Row) (number : ℕ) → rows ≡ values_of words
-    → (number ≡ 0) ⊎ ((number ≡ 20) × IsWrongValue rows)
-    → (number ≡ 0) ⊎ ((number ≡ 20) × IsUnlawful words)
-misnumbered words rows number same (inl memory) = inl memory
-misnumbered words rows number same (inr (usage, wrong)) =
+pub misnumbered : (words : List Text) (rows : List Row) (refusal : Refusal)
+    → rows ≡ values_of words → (refusal.number ≡ 0) ⊎ (IsUsage refusal × IsWrongValue rows)
+    → IsRefusal words refusal
+misnumbered words rows refusal same (inl memory) = inl memory
+misnumbered words rows refusal same (inr (usage, wrong)) =
     inr (usage, wrong_value (subst (λ (r : List Row). IsWrongValue r) same wrong))

@@ -12,6 +12,7 @@ use Rattle.lb_listing.specs.Listings as listing
 use Rattle.lb_listing.specs.Verdicts as verdicts
 use Rattle.lb_listing.specs.declared.listing.Listing.{Listing}
 use Rattle.lb_listing.specs.declared.status.Measure.{Measure}
+use Rattle.lb_command.specs.Lines.{start_of}
 use Rattle.lb_command.specs.Terms.{are_usual}
 use Rattle.lb_command.specs.declared.refusal.Refusal.{Refusal}
 use Rattle.lb_command.specs.declared.terms.Format.{Format}
@@ -73,13 +74,14 @@ IsBaseline terms (Some before) =
     IsSome terms.baseline × IsIndexed before.now
     × ((text : Text) × listing.Lists text (listed before.now))
 
--- what the terms name is no report
+-- what the terms name is no report, and the first line that shows it is told
 pub record IsNoBaseline (terms : Terms) (refusal : Refusal) : Type 0 where
   pub usage : refusal.number ≡ 20
   pub named : IsSome terms.baseline
   pub text : Text
   pub line : ℕ
   pub fault : listing.IsFault text line
+  pub place : refusal.position ≡ start_of line
 
 -- the earlier report could not be read, or memory ran out, or it is no report
 abbrev pub IsBaselineRefused : Terms → Refusal → Type 0

@@ -9,7 +9,7 @@ use Rattle.lb_command.specs.Lines.{line}
 use Rattle.lb_command.specs.Live.{IsLiveRun}
 use Rattle.lb_command.specs.Merging.{IsMergeRun}
 use Rattle.lb_command.specs.Outcomes.{AreTexts, HasPath, IsDelivered, IsRefusedOn, IsReportOn}
-use Rattle.lb_command.specs.Outcomes.{IsTold, TellsOfInput, refusal_status}
+use Rattle.lb_command.specs.Outcomes.{IsTold, IsUsage, TellsOfInput, refusal_status}
 use Rattle.lb_command.specs.Showing.{IsShowingRun}
 use Rattle.lb_command.specs.Streams.{Change, Input, IsUnread, IsUntouched, NeverFailed}
 use Rattle.lb_command.specs.Warnings.{AreRemarks}
@@ -90,7 +90,7 @@ TellsOfProgram words Version = AsksForVersion words
 -- memory ran out, or the words are unlawful
 abbrev pub IsRefusal : List Text → Refusal → Type 0
 IsRefusal words refusal =
-    (refusal.number ≡ 0) ⊎ ((refusal.number ≡ 20) × IsUnlawful words)
+    (refusal.number ≡ 0) ⊎ (IsUsage refusal × IsUnlawful words)
 
 -- a run with these words, this input and this exit status: a run of the task that they ask for; or
 -- the help text or the version is delivered; or the words are refused, the output is as it was, and

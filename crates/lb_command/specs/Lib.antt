@@ -12,4 +12,5 @@ pub mod Judging
 pub mod Live
 pub mod Showing
 pub mod Correct
+pub mod StreamRuns
 pub mod Announcements

@@ -6,7 +6,7 @@ use Rattle.lb_pool.specs.declared.text.Report.{Report}
 use Rattle.lb_listing.specs.Listings.{IsFault, Line, Lists}
 use Rattle.lb_listing.specs.Merged.{HaveTwice, IsMerged}
 use Rattle.lb_command.specs.Conclusions.{IsBaselineRefused, IsTold}
-use Rattle.lb_command.specs.Lines.{line}
+use Rattle.lb_command.specs.Lines.{line, start_of}
 use Rattle.lb_command.specs.Outcomes.{IsDelivered, IsUnread, refusal_status}
 use Rattle.lb_command.specs.Outcomes as outcomes
 use Rattle.lb_command.specs.Streams.{Change, IsUntouched}
@@ -14,18 +14,26 @@ use Rattle.lb_command.specs.declared.answer.Answer.TheVariants.{OfTraces}
 use Rattle.lb_command.specs.declared.refusal.Refusal.{Refusal}
 use Rattle.lb_command.specs.declared.request.Task.{Task}
 
--- one of the texts is no report
+-- one of the texts is no report, and the first line that shows it is told
 pub record IsNoReport (texts : List Text) (refusal : Refusal) : Type 0 where
   pub usage : refusal.number ≡ 20
   pub file : ℕ
   pub within : file < length texts
   pub number : ℕ
   pub fault : IsFault (get_or texts file []) number
+  pub place : refusal.position ≡ start_of number
+
+-- two traces of the reports have one name, and a line is told
+pub record HaveOneName (texts : List Text) (refusal : Refusal) : Type 0 where
+  pub trace : refusal.number ≡ 17
+  pub twice : HaveTwice texts
+  pub number : ℕ
+  pub place : refusal.position ≡ start_of number
 
 -- why texts are not merged: memory ran out, one is no report, or two traces have one name
 abbrev pub AreNotMerged : (texts : List Text) → Refusal → Type 0
 AreNotMerged texts refusal = (refusal.number ≡ 0)
-    ⊎ (IsNoReport texts refusal ⊎ ((refusal.number ≡ 17) × HaveTwice texts))
+    ⊎ (IsNoReport texts refusal ⊎ HaveOneName texts refusal)
 
 -- the same, where no contract says what the files hold; or a file could not be read
 pub data IsMergeRefused (refusal : Refusal) : Type 0 where

@@ -97,6 +97,10 @@ load_number load.Read = 21
 abbrev pub IsUnread : Refusal → Type 0
 IsUnread refusal = (refusal.number ≡ 0) ⊎ (refusal.number ≡ 21)
 
+-- E20, and no place
+abbrev pub IsUsage : Refusal → Type 0
+IsUsage refusal = (refusal.number ≡ 20) × (refusal.position ≡ None)
+
 -- a refusal has the number and the place of an error of the bench
 pub record IsToldBy (e : BenchError) (refusal : Refusal) : Type 0 where
   pub number : refusal.number ≡ number_of e

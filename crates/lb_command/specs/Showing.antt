@@ -15,7 +15,7 @@ use Rattle.clap.specs.Words.{Text}
 use Rattle.lb_command.specs.Lines.{line}
 use Rattle.lb_command.specs.Live.{stop_number}
 use Rattle.lb_command.specs.Outcomes.{AreTexts, HasPath, IsToldBy, IsUnread, TellsOfInput}
-use Rattle.lb_command.specs.Outcomes.{IsTold, refusal_status}
+use Rattle.lb_command.specs.Outcomes.{IsTold, IsUsage, refusal_status}
 use Rattle.lb_command.specs.Streams.{Change, Input, IsUntouched, NeverFailed}
 use Rattle.lb_command.specs.Warnings.{AreWarnings, IsWarned}
 use Rattle.lb_command.specs.declared.refusal.Refusal.{Refusal}
@@ -45,15 +45,15 @@ pub record AreShown
       output.failures_after run
 
 -- why the values of two texts are not shown: memory ran out, or the texts are refused, or a name
--- that is asked for is that of no trace, or of no variable, which is E20
+-- that is asked for is that of no trace, or of no variable, which is E20 without a place
 pub data IsUnshown (source traces : Text) (task : Task) (refusal : Refusal) : Type 0 where
   memory : refusal.number ≡ 0 → IsUnshown source traces task refusal
   judged : (e : BenchError) → IsBenchAnswer source traces task.options (Err e)
       → IsToldBy e refusal → IsUnshown source traces task refusal
-  no_trace : refusal.number ≡ 20
+  no_trace : IsUsage refusal
       → OnlyProgram source task.options (λ P. IsNoTrace P traces task.values.trace.now)
       → IsUnshown source traces task refusal
-  no_variable : refusal.number ≡ 20 → OnlyProgram source task.options (λ P. IsAccepted P)
+  no_variable : IsUsage refusal → OnlyProgram source task.options (λ P. IsAccepted P)
       → IsUnshown source traces task refusal
 
 -- the values of two texts are not shown, and the output is as it was
@@ -66,8 +66,8 @@ pub record AreUnshown (source traces : Text) (task : Task) (output : Change) (re
 -- how the cause is told
 abbrev pub IsFaultTold : ValuesFault → ShowingFault → Type 0
 IsFaultTold (values.Refused e) (Refused refusal) = IsToldBy e refusal
-IsFaultTold values.UnknownTrace (Refused refusal) = refusal.number ≡ 20
-IsFaultTold (values.UnknownVariable place) (Refused refusal) = refusal.number ≡ 20
+IsFaultTold values.UnknownTrace (Refused refusal) = IsUsage refusal
+IsFaultTold (values.UnknownVariable place) (Refused refusal) = IsUsage refusal
 IsFaultTold (values.Stopped e) fault = fault ≡ Stopped e
 IsFaultTold cause (Stopped e) = ⊥
 

@@ -29,8 +29,14 @@ pub record IsUntouched (c : Change) : Type 0 where
   pub kept : TakesNothing c.before c.after
   pub never_failed : c.failures_after ≡ c.failures_before
 
-abbrev pub HasFailed : Change → Type 0
-HasFailed c = c.failures_before < c.failures_after
+-- the sink lends its bytes to the same writer as before
+abbrev pub HasSameWriter : Change → Type 0
+HasSameWriter c = c.after.writer ≡ c.before.writer
+
+-- the sink failed
+pub record HasFailed (c : Change) : Type 0 where
+  pub more : c.failures_before < c.failures_after
+  pub same : HasSameWriter c
 
 -- the sink took the whole text, or failed
 abbrev pub TookOrFailed : Change → List ℕ → Type 0

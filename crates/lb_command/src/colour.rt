@@ -11,11 +11,10 @@
 //! ```
 //! What is underlined here is painted; no other byte changes.
 
-ghost use Rattle.std.specs.Prelude.{◌≡◌, None};
-ghost use Rattle.lb_pool.specs.Counts.{count_more};
+ghost use Rattle.std.specs.Prelude.{◌≡◌};
 
-use lb_report::{Sink, SinkFailed, send};
 use std::alloc::{AllocError, Global};
+use std::io::{self, Write};
 use std::str;
 
 /// Bold red, yellow and cyan, and no colour again, as terminals know them.
@@ -95,62 +94,35 @@ fn in_colour(alloc: Global, bytes: &[u8]) -> Option<String> {
     paint(alloc, text).ok()
 }
 
-/// A sink that hands on what it is given in colour. What is not UTF-8 stays plain, and all does
-/// where memory ran out. It counts the bytes that it is given, without those of the colours.
+/// A writer that hands on what it is given in colour. What is not UTF-8 stays plain, and all does
+/// where memory ran out. It tells how many bytes it was given, without those of the colours.
 #[derive(Drop)]
-pub struct Painted<S> {
-    sink: S,
+pub struct Painted<W> {
+    writer: W,
     alloc: Global,
-    count: u64,
 }
 
-impl<S: Sink> Painted<S> {
-    /// A sink that hands on to this one.
-    pub fn new(alloc: Global, sink: S) -> Painted<S>
-        ensures count { (⟦<Painted<S> as Sink>⟧.taken result).count ≡ 0 }
-        ensures failures { ⟦<Painted<S> as Sink>⟧.failures result ≡ S.failures sink }
+impl<W: Write> Painted<W> {
+    /// A writer that hands on to this one.
+    pub fn new(alloc: Global, writer: W) -> Painted<W>
+        ensures { result.writer ≡ writer }
     {
-        Painted {
-            sink,
-            alloc,
-            count: 0,
-        }
-    }
-
-    /// Counts bytes that went out, and answers how many they are.
-    fn count_on(&mut self, bytes: usize) -> usize
-        ensures same { result ≡ bytes }
-        ensures sink { self.new.sink ≡ self.old.sink }
-        ensures count { self.new.count ≡ count_more self.old.count bytes }
-    {
-        self.count = self.count.saturating_add(bytes as u64);
-        bytes
+        Painted { writer, alloc }
     }
 }
 
-impl<S: Sink> Sink for Painted<S> {
-    ghost taken = { λ painted. record { bytes = None; count = painted.count } };
-
-    ghost failures = { λ painted. S.failures painted.sink };
-
-    fn write(&mut self, bytes: &[u8]) -> Result<usize, SinkFailed> {
+impl<W: Write> Write for Painted<W> {
+    fn write(&mut self, bytes: &[u8]) -> io::Result<usize> {
         match in_colour(self.alloc, bytes) {
-            Some(page) => match send(&mut self.sink, page.as_bytes()) {
-                Ok(()) => Ok(self.count_on(bytes.len())),
-                Err(_) => Err(SinkFailed),
-            },
-            None => match self.sink.write(bytes) {
-                Ok(count) => Ok(self.count_on(count)),
-                Err(failed) => Err(failed),
-            },
+            Some(page) => {
+                self.writer.write_all(page.as_bytes())?;
+                Ok(bytes.len())
+            }
+            None => self.writer.write(bytes),
         }
     }
 
-    fn flush(&mut self) -> Result<(), SinkFailed> {
-        self.sink.flush()
-    }
-
-    fn failures(&self) -> u64 {
-        self.sink.failures()
+    fn flush(&mut self) -> io::Result<()> {
+        self.writer.flush()
     }
 }

@@ -15,6 +15,7 @@ use lb_report::{Sent, Sink, send};
 /// Writes a text to its end, and hands it on.
 fn put<S: Sink>(sink: &mut S, text: &[u8]) -> Result<(), Sent>
     requires { S.failures sink.old < u64.MAX }
+    ensures same { (S.taken sink.new).writer ≡ (S.taken sink.old).writer }
     ensures all { OnOk result (Takes (S.taken sink.old) (S.taken sink.new) text.now) }
     ensures ok { OnOk result (S.failures sink.new ≡ S.failures sink.old) }
     ensures failed { OnErr result (S.failures sink.old < S.failures sink.new) }

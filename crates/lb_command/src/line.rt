@@ -14,6 +14,7 @@ use lb_report::{Sent, Sink, send, word};
 /// Writes a number in decimal.
 fn send_number<S: Sink>(sink: &mut S, n: u32) -> Result<(), Sent>
     requires { S.failures sink.old < u64.MAX }
+    ensures same { (S.taken sink.new).writer ≡ (S.taken sink.old).writer }
     ensures all { OnOk result (Takes (S.taken sink.old) (S.taken sink.new) (decimal n)) }
     ensures ok { OnOk result (S.failures sink.new ≡ S.failures sink.old) }
     ensures failed { OnErr result (S.failures sink.old < S.failures sink.new) }
@@ -25,6 +26,7 @@ fn send_number<S: Sink>(sink: &mut S, n: u32) -> Result<(), Sent>
 fn send_word<S: Sink>(sink: &mut S, number: u8) -> Result<(), Sent>
     requires number { number < 22 }
     requires failures { S.failures sink.old < u64.MAX }
+    ensures same { (S.taken sink.new).writer ≡ (S.taken sink.old).writer }
     ensures all { OnOk result (Takes (S.taken sink.old) (S.taken sink.new) (word_of number)) }
     ensures ok { OnOk result (S.failures sink.new ≡ S.failures sink.old) }
     ensures failed { OnErr result (S.failures sink.old < S.failures sink.new) }
@@ -35,6 +37,7 @@ fn send_word<S: Sink>(sink: &mut S, number: u8) -> Result<(), Sent>
 /// Writes a line and a column.
 fn send_place<S: Sink>(sink: &mut S, line: u32, column: u32) -> Result<(), Sent>
     requires { S.failures sink.old < u64.MAX }
+    ensures same { (S.taken sink.new).writer ≡ (S.taken sink.old).writer }
     ensures all { OnOk result (Takes (S.taken sink.old) (S.taken sink.new)
         (spec.place_at line column)) }
     ensures ok { OnOk result (S.failures sink.new ≡ S.failures sink.old) }
@@ -51,6 +54,7 @@ fn send_place<S: Sink>(sink: &mut S, line: u32, column: u32) -> Result<(), Sent>
 #[tactic(auto, using(lb_pool::proofs::SinkBytes::takes_no_byte))]
 fn send_position<S: Sink>(sink: &mut S, position: Option<(u32, u32)>) -> Result<(), Sent>
     requires { S.failures sink.old < u64.MAX }
+    ensures same { (S.taken sink.new).writer ≡ (S.taken sink.old).writer }
     ensures all { OnOk result (Takes (S.taken sink.old) (S.taken sink.new)
         (spec.place position)) }
     ensures ok { OnOk result (S.failures sink.new ≡ S.failures sink.old) }
@@ -65,6 +69,7 @@ fn send_position<S: Sink>(sink: &mut S, position: Option<(u32, u32)>) -> Result<
 /// Writes the line of a refusal.
 fn send_line<S: Sink>(sink: &mut S, refusal: &Refusal) -> Result<(), Sent>
     requires { S.failures sink.old < u64.MAX }
+    ensures same { (S.taken sink.new).writer ≡ (S.taken sink.old).writer }
     ensures all { OnOk result (Takes (S.taken sink.old) (S.taken sink.new)
         (spec.line refusal.now.number refusal.now.position)) }
     ensures ok { OnOk result (S.failures sink.new ≡ S.failures sink.old) }
@@ -82,6 +87,7 @@ fn send_line<S: Sink>(sink: &mut S, refusal: &Refusal) -> Result<(), Sent>
 /// Writes the line of a refusal and further lines.
 pub fn send_lines<S: Sink>(sink: &mut S, refusal: &Refusal, further: &[u8]) -> Result<(), Sent>
     requires { S.failures sink.old < u64.MAX }
+    ensures same { (S.taken sink.new).writer ≡ (S.taken sink.old).writer }
     ensures all { OnOk result (Takes (S.taken sink.old) (S.taken sink.new)
         (spec.line refusal.now.number refusal.now.position ++ further.now)) }
     ensures ok { OnOk result (S.failures sink.new ≡ S.failures sink.old) }

@@ -11,7 +11,7 @@ use crate::explanation::{tell, warnings_of};
 use crate::loading::{Loaded, load_open, load_texts};
 use crate::refusal::{Refusal, Texts};
 use crate::request::Task;
-use lb_report::{Feed, FollowError, FollowFault, NoGate, Sink, follow, follow_file};
+use lb_report::{Feed, FilePlaces, FollowError, FollowFault, NoGate, Sink, follow, follow_file};
 use std::fs::Files;
 use std::io::Read;
 use std::os::unix::fs::FileExt;
@@ -111,7 +111,8 @@ where
     ensures warned { IfOk result (λ warnings.
         AreWarnings (map string_bytes words.now) task.now.options warnings.items) }
 {
-    match follow_file(rt, source.as_slice(), &file, &task.options, &NoGate, writer) {
+    let (places, options) = (FilePlaces::new(&file), &task.options);
+    match follow_file(rt, source.as_slice(), &places, options, &NoGate, writer) {
         Some(run) => match run {
             Ok(()) => Ok(warnings_of(rt.alloc(), words, task, source.as_slice())),
             Err(cause) => Err(LiveFault::Stopped(cause)),

@@ -50,7 +50,8 @@ fn load_input<F: Feed>(alloc: Global, feed: &mut F) -> Result<Vec<u8>, Refusal>
 
 /// The bytes of the file at a path, which is open. The errors are E0 and E21.
 pub fn load_open<F: Read>(alloc: Global, path: &str, file: &mut F) -> Result<Vec<u8>, Refusal>
-    ensures { IfErr result spec.IsUnread }
+    ensures ok { IfOk result (λ bytes. spec.IsInput (F.remaining file.old) bytes.items) }
+    ensures err { IfErr result spec.IsUnread }
 {
     match load_input(alloc, &mut Reader::new(file)) {
         Err(refusal) if refusal.number == 21 => Err(Refusal::unread(alloc, path, UNREAD)),

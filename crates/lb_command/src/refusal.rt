@@ -1,6 +1,7 @@
 //! Why the program prints no report.
 
-ghost use Rattle.std.specs.Prelude.{◌≡◌, ◌<◌, None};
+ghost use Rattle.std.specs.Prelude.{◌≡◌, ◌<◌, None, true};
+ghost use Rattle.lb_command.specs.Lines.{is_placed, start_of};
 
 use lb_report::{BenchError, FollowError, LoadError, split_case};
 use std::alloc::{AllocError, Global};
@@ -72,19 +73,23 @@ pub struct Unknown {
     pub name: String,
 }
 
-/// The number of a line, or of the last one that can be told.
-fn line_number(line: usize) -> u32 {
-    u32::try_from(line).unwrap_or(u32::MAX)
+/// The first column of a line, counted from 1; a line past the greatest number has that number.
+fn start_of(line: usize) -> Option<(u32, u32)>
+    ensures { result ≡ start_of line }
+{
+    Some((u32::try_from(line).unwrap_or(u32::MAX), 1))
 }
 
-/// Why the program prints no report: the number of a refusal, 0 to 21, and for E1 to E3 the line
-/// and the column.
+/// Why the program prints no report: the number of a refusal, 0 to 21, and its place, if it has
+/// one: a line and a column of a source (E1 to E3), or of a file that is read as a report (E17 and
+/// E20).
 #[derive(Drop)]
 pub struct Refusal {
     pub number: u8,
     pub position: Option<(u32, u32)>,
     pub cause: Option<Cause>,
     pub ghost known: { number < 22 },
+    pub ghost placed: { is_placed number position ≡ true },
 }
 
 impl Refusal {
@@ -186,11 +191,12 @@ impl Refusal {
 
     /// E20: the file at this path is no report, as this line shows, counted from 1.
     pub fn no_report(alloc: Global, path: &str, line: usize) -> Refusal
-        ensures { result.number ≡ 20 }
+        ensures number { result.number ≡ 20 }
+        ensures position { result.position ≡ start_of line }
     {
         Refusal {
             number: 20,
-            position: Some((line_number(line), 1)),
+            position: start_of(line),
             cause: match String::from_str(alloc, path) {
                 Ok(path) => Some(Cause::NoReport { path, line }),
                 Err(_) => None,
@@ -200,11 +206,12 @@ impl Refusal {
 
     /// E17: a trace in this line of the report at this path is in an earlier one too.
     pub fn twice(alloc: Global, path: &str, line: usize) -> Refusal
-        ensures { result.number ≡ 17 }
+        ensures number { result.number ≡ 17 }
+        ensures position { result.position ≡ start_of line }
     {
         Refusal {
             number: 17,
-            position: Some((line_number(line), 1)),
+            position: start_of(line),
             cause: match String::from_str(alloc, path) {
                 Ok(path) => Some(Cause::Twice { path, line }),
                 Err(_) => None,

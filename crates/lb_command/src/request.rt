@@ -5,6 +5,7 @@ ghost use Rattle.std.specs.Prelude.{IfOk, IfErr, OnOk, OnErr};
 ghost use Rattle.std.specs.Prelude.{[], IsSome, None, map, option_map, slice_index, string_bytes};
 ghost use Rattle.clap.specs.Words.{IsAmong, app_of, first_of, found_of, kind_of, rows_of, rule_of};
 ghost use Rattle.lb_part.specs.Parts.{IsPartIn};
+ghost use Rattle.lb_command.specs.Outcomes.{IsUsage};
 ghost use Rattle.lb_command.specs.Terms.{are_usual};
 ghost use Rattle.lb_command.specs.ValuesWords.{names_trace};
 ghost use Rattle.lb_command.specs.WordValues as given;
@@ -204,7 +205,7 @@ fn has_plus(text: &str) -> bool
 /// The number that ASCII digits spell, if it is from `least` to `most`.
 fn number(text: &str, least: u32, most: u32) -> Result<u32, Refusal>
     ensures ok { IfOk result (given.IsNumber text.now least most) }
-    ensures usage { IfErr result (λ refusal. refusal.number ≡ 20) }
+    ensures usage { IfErr result IsUsage }
     ensures err { OnErr result ((n : ℕ) → given.IsNumber text.now least most n → ⊥) }
 {
     if has_plus(text) {
@@ -226,7 +227,7 @@ pub fn number_of(
 ) -> Result<u32, Refusal>
     ensures ok { IfOk result (given.HasNumber (rows_of (found_of matches.now)) id.now default.now
         least most) }
-    ensures usage { IfErr result (λ refusal. refusal.number ≡ 20) }
+    ensures usage { IfErr result IsUsage }
     ensures err { OnErr result ((n : ℕ) →
         given.HasNumber (rows_of (found_of matches.now)) id.now default.now least most n → ⊥) }
 {
@@ -247,7 +248,7 @@ pub fn is_given(matches: &ArgMatches<'_>, id: &str) -> bool
 fn options(alloc: Global, matches: &ArgMatches<'_>) -> Result<Options, Refusal>
     ensures ok { IfOk result (spec.IsOptions (rows_of (found_of matches.now))) }
     ensures err { IfErr result (λ refusal. (refusal.number ≡ 0)
-        ⊎ ((refusal.number ≡ 20) × spec.IsWrongValue (rows_of (found_of matches.now)))) }
+        ⊎ (IsUsage refusal × spec.IsWrongValue (rows_of (found_of matches.now)))) }
 {
     let workers = number_of(matches, "workers", "1", 0, 64)?;
     let batch = number_of(matches, "batch", "64", 1, 64)?;
@@ -326,7 +327,7 @@ fn is_unusual(aim: Aim, terms: &Terms<'_>) -> bool
 /// The part that a text names, if it names one.
 fn part_in(text: Option<&str>) -> Result<Option<Part>, Refusal>
     ensures ok { IfOk result (IsPartIn (option_map (λ s. s.now) text.entry)) }
-    ensures err { IfErr result (λ refusal. (refusal.number ≡ 20)
+    ensures err { IfErr result (λ refusal. IsUsage refusal
         × ((part : Option Part) → IsPartIn (option_map (λ s. s.now) text.entry) part → ⊥)) }
 {
     match text {
@@ -341,7 +342,7 @@ fn part_in(text: Option<&str>) -> Result<Option<Part>, Refusal>
 /// The part of the traces that the words name, if they name one.
 fn part_of(matches: &ArgMatches<'_>) -> Result<Option<Part>, Refusal>
     ensures ok { IfOk result (spec.IsPartOf (rows_of (found_of matches.now))) }
-    ensures err { IfErr result (λ refusal. (refusal.number ≡ 20)
+    ensures err { IfErr result (λ refusal. IsUsage refusal
         × ((part : Option Part) → spec.IsPartOf (rows_of (found_of matches.now)) part → ⊥)) }
 {
     part_in(text_of(matches, "part"))
@@ -359,7 +360,7 @@ fn is_stray_part(part: Option<Part>, traces: Option<&str>) -> bool
 fn part_of_file(matches: &ArgMatches<'_>) -> Result<Option<Part>, Refusal>
     ensures part { IfOk result (spec.IsPartOf (rows_of (found_of matches.now))) }
     ensures file { IfOk result (spec.HasFile (rows_of (found_of matches.now))) }
-    ensures err { IfErr result (λ refusal. (refusal.number ≡ 20)
+    ensures err { IfErr result (λ refusal. IsUsage refusal
         × spec.IsWrongValue (rows_of (found_of matches.now))) }
 {
     let part = part_of(matches)?;
@@ -386,7 +387,7 @@ fn task_with<'a>(
     requires { spec.IsOptions (rows_of (found_of matches.now)) options }
     ensures ok { IfOk result (spec.IsTask (rows_of (found_of matches.now))) }
     ensures err { IfErr result (λ refusal. (refusal.number ≡ 0)
-        ⊎ ((refusal.number ≡ 20) × spec.IsWrongValue (rows_of (found_of matches.now)))) }
+        ⊎ (IsUsage refusal × spec.IsWrongValue (rows_of (found_of matches.now)))) }
 {
     let aim = aim_of(matches);
     if lacks_worker(aim, options.workers) {
@@ -419,7 +420,7 @@ fn task_with<'a>(
 fn read_task<'a>(alloc: Global, matches: &ArgMatches<'a>) -> Result<Task<'a>, Refusal>
     ensures ok { IfOk result (spec.IsTask (rows_of (found_of matches.now))) }
     ensures err { IfErr result (λ refusal. (refusal.number ≡ 0)
-        ⊎ ((refusal.number ≡ 20) × spec.IsWrongValue (rows_of (found_of matches.now)))) }
+        ⊎ (IsUsage refusal × spec.IsWrongValue (rows_of (found_of matches.now)))) }
 {
     match options(alloc, matches) {
         Ok(options) => task_with(alloc, matches, options),
@@ -430,7 +431,7 @@ fn read_task<'a>(alloc: Global, matches: &ArgMatches<'a>) -> Result<Task<'a>, Re
 /// The help text, if the error of a command line is that it asks for help.
 fn help(alloc: Global, error: &Error) -> Result<String, Refusal>
     ensures ok { OnOk result (kind_of error.now ≡ ErrorKind.DisplayHelp) }
-    ensures err { IfErr result (λ refusal. (refusal.number ≡ 0) ⊎ ((refusal.number ≡ 20)
+    ensures err { IfErr result (λ refusal. (refusal.number ≡ 0) ⊎ (IsUsage refusal
         × (kind_of error.now ≢ ErrorKind.DisplayHelp)
         × (kind_of error.now ≢ ErrorKind.OutOfMemory))) }
 {
@@ -457,7 +458,7 @@ fn parse<'a>(command: Command<'a>, words: &'a [String]) -> Result<ArgMatches<'a>
 fn request_of<'a>(alloc: Global, matches: &ArgMatches<'a>) -> Result<Request<'a>, Refusal>
     ensures ok { IfOk result (spec.IsRequestOf (rows_of (found_of matches.now))) }
     ensures err { IfErr result (λ refusal. (refusal.number ≡ 0)
-        ⊎ ((refusal.number ≡ 20) × spec.IsWrongValue (rows_of (found_of matches.now)))) }
+        ⊎ (IsUsage refusal × spec.IsWrongValue (rows_of (found_of matches.now)))) }
 {
     if is_given(matches, "version") {
         return Ok(Request::Version);
@@ -472,7 +473,7 @@ fn request_of<'a>(alloc: Global, matches: &ArgMatches<'a>) -> Result<Request<'a>
 pub fn read_words(alloc: Global, words: &[String]) -> Result<Request<'_>, Refusal>
     ensures ok { IfOk result (spec.IsRequest (map string_bytes words.now)) }
     ensures err { IfErr result (λ refusal. (refusal.number ≡ 0)
-        ⊎ ((refusal.number ≡ 20) × spec.IsUnlawful (map string_bytes words.now))) }
+        ⊎ (IsUsage refusal × spec.IsUnlawful (map string_bytes words.now))) }
 {
     let command = command_line(alloc)?;
     match parse(command, words) {

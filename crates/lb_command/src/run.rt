@@ -379,21 +379,9 @@ where
     }
 }
 
-/// Runs the program on these words, the program's name first, and answers its exit status.
-///
-/// | Status | When |
-/// |---|---|
-/// | 0 | a report in which no trace fails |
-/// | 0 | with `--follow`: the whole report went out |
-/// | 0 | with `--show`: the values went out |
-/// | 0 | with `--check` and `--header`: the source is accepted |
-/// | 0 | `--help`, `--version` |
-/// | 1 | a report in which some trace fails: it has a fault, is undefined or false; with `--strict`
-///        also one that broke an assumption, and a report on no trace; with `--baseline` only one
-///        that passed in the earlier report, or is new |
-/// | 2 | refused: E1 to E18, E20 |
-/// | 3 | E0, E19, E21 |
-pub fn command<R, F, W, E>(
+/// Runs the program on these words, a feed and two sinks, and answers its exit status, as `command`
+/// does on streams of std. Feeds and sinks count their bytes, so this says how many bytes were read.
+pub fn run_command<R, F, W, E>(
     rt: &R,
     words: &[String],
     reader: &mut F,

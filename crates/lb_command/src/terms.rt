@@ -2,6 +2,7 @@
 
 ghost use Rattle.std.specs.Prelude.{◌≡◌, IfErr, IfOk, None, OnErr, Some, option_map};
 ghost use Rattle.clap.specs.Words.{first_of, found_of, rows_of};
+ghost use Rattle.lb_command.specs.Outcomes.{IsUsage};
 ghost use Rattle.lb_command.specs.Terms as spec;
 
 use crate::refusal::Refusal;
@@ -67,7 +68,7 @@ fn format_named(name: &str) -> Option<Format>
 fn format_of(matches: &ArgMatches<'_>) -> Result<Format, Refusal>
     ensures ok { IfOk result (λ format.
         spec.format_in (rows_of (found_of matches.now)) ≡ Some format) }
-    ensures usage { IfErr result (λ refusal. refusal.number ≡ 20) }
+    ensures usage { IfErr result IsUsage }
     ensures err { OnErr result (spec.format_in (rows_of (found_of matches.now)) ≡ None) }
 {
     if names_trace(matches) {
@@ -82,7 +83,7 @@ fn format_of(matches: &ArgMatches<'_>) -> Result<Format, Refusal>
 /// The terms that the words give.
 pub fn terms_of<'a>(matches: &ArgMatches<'a>) -> Result<Terms<'a>, Refusal>
     ensures ok { IfOk result (spec.IsTerms (rows_of (found_of matches.now))) }
-    ensures usage { IfErr result (λ refusal. refusal.number ≡ 20) }
+    ensures usage { IfErr result IsUsage }
     ensures err { OnErr result (spec.format_in (rows_of (found_of matches.now)) ≡ None) }
 {
     let format = format_of(matches)?;

@@ -2,6 +2,7 @@
 
 ghost use Rattle.std.specs.Prelude.{◌≡◌, IfErr, IfOk, OnErr};
 ghost use Rattle.clap.specs.Words.{app_of, found_of, rows_of};
+ghost use Rattle.lb_command.specs.Outcomes.{IsUsage};
 ghost use Rattle.lb_command.specs.ValuesWords as spec;
 ghost use Rattle.lb_command.specs.Words.{IsWrongValue};
 
@@ -87,7 +88,7 @@ fn format_named(name: &str) -> Option<Format>
 fn format_of(matches: &ArgMatches<'_>) -> Result<Format, Refusal>
     ensures ok { IfOk result (λ format.
         spec.format_in (rows_of (found_of matches.now)) ≡ Some format) }
-    ensures usage { IfErr result (λ refusal. refusal.number ≡ 20) }
+    ensures usage { IfErr result IsUsage }
     ensures err { OnErr result (spec.format_in (rows_of (found_of matches.now)) ≡ None) }
 {
     if !names_trace(matches) {
@@ -102,7 +103,7 @@ fn format_of(matches: &ArgMatches<'_>) -> Result<Format, Refusal>
 /// The values that the words ask for.
 pub fn values_of<'a>(matches: &ArgMatches<'a>) -> Result<Values<'a>, Refusal>
     ensures ok { IfOk result (spec.AreValues (rows_of (found_of matches.now))) }
-    ensures usage { IfErr result (λ refusal. refusal.number ≡ 20) }
+    ensures usage { IfErr result IsUsage }
     ensures err { OnErr result (IsWrongValue (rows_of (found_of matches.now))) }
 {
     let format = format_of(matches)?;

@@ -1,13 +1,11 @@
 //! The program: one node over many recorded traces, one verdict for each.
 #![tactic(auto)]
 
-ghost use Rattle.std.specs.Prelude.{◌+◌, ◌<◌, ◌≤◌};
-
 use lb_command::{Painted, Refusal, announce, command, refuse};
-use lb_report::{Reader, Sink, Writer};
+use lb_report::Writer;
 use std::alloc::Global;
 use std::env;
-use std::io::{self, ErrorKind, IsTerminal, Stderr, Stdin};
+use std::io::{self, ErrorKind, IsTerminal, Stderr, Stdin, Write};
 use std::os::unix::fs::FileExt;
 use std::process::ExitCode;
 use std::rt::Runtime;
@@ -25,32 +23,32 @@ fn words<R: Runtime + AllocGlobal>(rt: &R) -> Result<Vec<String>, Refusal> {
 
 /// Says that the traces are awaited, where these words ask for them and standard input is a
 /// terminal.
-fn say_awaited<E: Sink>(alloc: Global, words: &[String], stdin: Stdin, errors: &mut E)
-    requires { E.failures errors.old < u64.MAX }
-    ensures { E.failures errors.new ≤ E.failures errors.old + 1 }
-{
+fn say_awaited<E: Write>(alloc: Global, words: &[String], stdin: Stdin, errors: &mut E) {
     if stdin.is_terminal() {
-        let _ = announce(alloc, words, errors);
+        let _ = announce(alloc, words, &mut Writer::new(errors));
     }
 }
 
 /// Runs the program on the words of the command line and these streams, and answers its exit
 /// status.
-fn run<R, E>(rt: &R, stdin: Stdin, errors: &mut E) -> u8
+fn run<R, E>(rt: &R, mut stdin: Stdin, errors: &mut E) -> u8
 where
     R: Runtime + AllocGlobal + Threads + Wait + Sync,
     R::File: FileExt + Sync + Send,
-    E: Sink,
-    requires { E.failures errors.old + 1 < u64.MAX }
+    E: Write,
 {
     let words = match words(rt) {
         Ok(words) => words,
-        Err(refusal) => return refuse(&refusal, errors),
+        Err(refusal) => return refuse(&refusal, &mut Writer::new(errors)),
     };
     say_awaited(rt.alloc(), words.as_slice(), stdin, errors);
-    let mut reader = Reader::new(stdin);
-    let mut writer = Writer::new(io::writer(rt));
-    command(rt, words.as_slice(), &mut reader, &mut writer, errors)
+    command(
+        rt,
+        words.as_slice(),
+        &mut stdin,
+        &mut io::writer(rt),
+        errors,
+    )
 }
 
 /// Whether explanations are in colour: standard error is a terminal, and the environment has no
@@ -71,7 +69,7 @@ where
     R: Runtime + AllocGlobal + Threads + Wait + Sync,
     R::File: FileExt + Sync + Send,
 {
-    let mut errors = Writer::new(io::writer(&stderr));
+    let mut errors = io::writer(&stderr);
     if is_coloured(rt, &stderr) {
         run(rt, stdin, &mut Painted::new(rt.alloc(), errors))
     } else {

@@ -8,5 +8,5 @@ returns-clause-told g c =
     record {
       further = c.as_slice.result.now;
       unasked = λ no. c.as_slice.ensures.value ∙ c.lines_of-further.ensures no;
-      told = took_or_failed c.send_lines.result _ _ sent.all sent.ok sent.failed;
+      told = took_or_failed c.send_lines.result _ _ sent.all sent.ok sent.failed sent.same;
     }

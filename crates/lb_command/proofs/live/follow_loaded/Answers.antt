@@ -10,6 +10,6 @@ returns-in-Ok-clause-live g c = λ i never.
 
 pub returns-in-Err-clause-live : goal.returns-in-Err-clause-live
 returns-in-Err-clause-live g c = λ i never.
-    unread_with (λ source traces. Unit {0}) (Unit {0}) _ i _ c.in-Err.refusal c.in-Err.ensures
+    unread_with (λ source traces. Unit {0}) (Unit {0}) _ i _ c.in-Err.refusal c.in-Err.ensures.err
     (tells_of_file i c.in-Err.refusal never)
     (record { kept = takes_nothing _; never_failed = refl })

@@ -14,10 +14,10 @@ returns-in-Ok-clause-live g c = λ i never.
     let found = c.in-Some.ensures.some in
     let output = change (taken writer) (taken after) (failures writer) (failures after) in
     let Goes : Result (Unit {0}) FollowError → Type 0 =
-    GoesTo c.as_slice.result.now found.0 c.args.task.now.options output in
-    live_run {T = Vec ℕ Global} c.as_slice.result.now found.0 c.args.task.now.options i output
+    GoesTo c.as_slice.result.now found.traces c.args.task.now.options output in
+    live_run {T = Vec ℕ Global} c.as_slice.result.now found.traces c.args.task.now.options i output
     c.warnings_of.result never
-    (subst Goes c.in-Ok.is found.1)
+    (subst Goes c.in-Ok.is found.goes)
 
 pub returns-clause-live : goal.returns-clause-live
 returns-clause-live g c = λ i never.

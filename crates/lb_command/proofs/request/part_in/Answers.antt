@@ -17,7 +17,7 @@ returns-in-Some-named-clause-ok c =
 
 pub returns-in-None-named-clause-err : goal.returns-in-None-named-clause-err
 returns-in-None-named-clause-err c = (
-  refl,
+  (refl, refl),
   part_wrong (option_map (λ (s : Bor (List ℕ)). s.now) c.args.text) c.in-Some.text.now
       (ap (option_map (λ (s : Bor (List ℕ)). s.now)) c.in-Some.is) c.in-None-named.ensures.none,
 )

@@ -7,7 +7,7 @@ use Rattle.lb_command.proofs.request.part_of_file.Goals as goal
 pub returns-then-is_stray_part-clause-err : goal.returns-then-is_stray_part-clause-err
 returns-then-is_stray_part-clause-err c =
     let stray = c.if-is_stray_part.ensures.stray refl in (
-      refl,
+      (refl, refl),
       part_of_input (part_given _ _ c.in_ok-part.ensures.ok stray.0)
           (path_none _ _ c.text_of.ensures stray.1),
     )

@@ -7,7 +7,7 @@ pub returns-in_err-help-in-Err-clause-err : goal.returns-in_err-help-in-Err-clau
 returns-in_err-help-in-Err-clause-err c =
     let exit = c.from_residual-in_err-help-in-Err in
     let first = c.in_err-help-in-Err.field-0.0 in
-    let refused = refused_by _ c.in-Err.error first.number c.in-Err.ensures.err
+    let refused = refused_by _ c.in-Err.error first c.in-Err.ensures.err
     c.in_err-help-in-Err.ensures.err in
     passed_on exit.result first _ exit.ensures.1 refused
 
@@ -20,5 +20,5 @@ returns-in-Ok-clause-ok c =
 pub returns-in-Ok-clause-err : goal.returns-in-Ok-clause-err
 returns-in-Ok-clause-err c =
     IfErr-weaker c.request_of.result _ _
-    (λ refusal is. misnumbered _ _ refusal.number c.in-Ok.ensures.ok is)
+    (λ refusal is. misnumbered _ _ refusal c.in-Ok.ensures.ok is)
     c.request_of.ensures.err

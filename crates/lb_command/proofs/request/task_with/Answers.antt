@@ -7,7 +7,7 @@ pub returns-then-is_unusual-clause-err : goal.returns-then-is_unusual-clause-err
 returns-then-is_unusual-clause-err c =
     let stray = c.if-is_unusual.ensures.stray refl in
     inr (
-      refl,
+      (refl, refl),
       unusual c.in_ok-terms.terms (sym c.aim_of-aim.ensures ∙ stray.0)
           c.in_ok-terms.ensures.ok stray.1,
     )

@@ -5,7 +5,7 @@ use Rattle.lb_command.specs.Correct.IsRun.{asked, refused, told}
 use Rattle.lb_command.specs.Words.{AsksForHelp, AsksForVersion, IsAsked, IsRequest}
 use Rattle.lb_command.specs.declared.answer.Answer.TheVariants.{Help, Version}
 use Rattle.lb_command.specs.declared.request.Request.{Request}
-use Rattle.lb_command.proofs.run.command.Goals as goal
+use Rattle.lb_command.proofs.run.run_command.Goals as goal
 
 pub run_task-requires-clause-worker : goal.run_task-requires-clause-worker
 run_task-requires-clause-worker g c κs within =
