@@ -1,8 +1,8 @@
 //! Explanations in colour: what a terminal gets of the lines of a page.
 
 use lb_command::Painted;
-use lb_report::{Writer, send};
 use std::alloc::{AllocError, Global};
+use std::io::Write;
 use std::test::Fail;
 
 /// A page with each kind of line: a refusal, a line of the text, the marks under it, a warning,
@@ -33,7 +33,7 @@ const NO_TEXT: &[u8] = b"help: \xff\n";
 /// What a terminal gets of these bytes.
 fn painted(alloc: Global, bytes: &[u8]) -> Result<Vec<u8>, AllocError> {
     let mut terminal: Vec<u8> = Vec::new(alloc);
-    let sent = send(&mut Painted::new(alloc, Writer::new(&mut terminal)), bytes);
+    let sent = Painted::new(alloc, &mut terminal).write_all(bytes);
     if sent.is_err() {
         terminal.clear();
     }
@@ -57,8 +57,8 @@ fn bytes_that_are_no_text(rt: HostRuntime) -> Result<(), Fail> {
 #[test]
 fn terminal_that_fails(rt: HostRuntime) -> Result<(), Fail> {
     let mut room = [0u8; 20];
-    let mut terminal = Painted::new(rt.alloc(), Writer::new(room.as_mut_slice()));
-    let failed = send(&mut terminal, PAGE).is_err();
+    let mut terminal = Painted::new(rt.alloc(), room.as_mut_slice());
+    let failed = terminal.write_all(PAGE).is_err();
     assert!(rt; failed);
     Ok(())
 }

@@ -1,12 +1,13 @@
-//! Running a command line on an input, and what it prints.
+//! Running a command line on an input, what it prints, and what is wanted.
 
 use lb_command::command;
-use lb_report::{Reader, Writer};
 use std::alloc::{AllocError, Global};
+use std::fs::Files;
 use std::os::unix::fs::FileExt;
-use std::rt::Runtime;
 use std::sync::Wait;
+use std::test::Fail;
 use std::thread::Threads;
+use std::time::Clock;
 
 /// The words of a command line, as the program gets them.
 pub fn words_of(alloc: Global, line: &str) -> Result<Vec<String>, AllocError> {
@@ -32,7 +33,7 @@ fn text(bytes: &[u8]) -> &str {
 
 impl Run {
     /// A run of a command line on an input.
-    pub fn on<R: Runtime + AllocGlobal + Threads + Wait + Sync>(
+    pub fn on<R: Files + AllocGlobal + Threads + Wait + Clock + Sync>(
         rt: &R,
         line: &str,
         input: &str,
@@ -46,9 +47,9 @@ impl Run {
         let status = command(
             rt,
             words.as_slice(),
-            &mut Reader::new(input.as_bytes()),
-            &mut Writer::new(&mut output),
-            &mut Writer::new(&mut errors),
+            &mut input.as_bytes(),
+            &mut output,
+            &mut errors,
         );
         Ok(Run {
             output,
@@ -58,7 +59,7 @@ impl Run {
     }
 
     /// A run of what is asked: the first line has the words, and the others are the input.
-    pub fn new<R: Runtime + AllocGlobal + Threads + Wait + Sync>(
+    pub fn new<R: Files + AllocGlobal + Threads + Wait + Clock + Sync>(
         rt: &R,
         asked: &str,
     ) -> Result<Self, AllocError>
@@ -84,9 +85,43 @@ impl Run {
         said.push_str(" with output")
     }
 
+    /// What is printed as output, what is printed as an error, and the status, apart.
+    pub fn push_apart(&self, said: &mut String) -> Result<(), AllocError> {
+        let (output, errors) = (text(self.output.as_slice()), text(self.errors.as_slice()));
+        write!(said, "{output}|{errors}|{}\n", self.status)
+    }
+
     /// What is printed as output and then as an error, and the status.
     pub fn push_printed(&self, said: &mut String) -> Result<(), AllocError> {
         said.push_str(text(self.output.as_slice()))?;
         self.push_errors(said)
+    }
+}
+
+/// What a command line on an input prints, and its status.
+pub fn told<R: Files + AllocGlobal + Threads + Wait + Clock + Sync>(
+    rt: &R,
+    line: &str,
+    input: &str,
+) -> Result<String, AllocError>
+where
+    R::File: FileExt + Sync + Send,
+{
+    let mut said = String::new(rt.alloc());
+    Run::on(rt, line, input)?.push_apart(&mut said)?;
+    Ok(said)
+}
+
+/// Whether two texts are the same.
+pub fn is_same(one: &str, other: &str) -> bool {
+    one == other
+}
+
+/// Fails a test unless it says what is wanted. What it says instead is shown.
+pub fn expect(said: &Result<String, AllocError>, wanted: &str) -> Result<(), Fail> {
+    match said {
+        Ok(said) if is_same(said.as_str(), wanted) => Ok(()),
+        Ok(said) => Err(Fail::new(said.as_str())),
+        Err(_) => Err(Fail::new("no memory")),
     }
 }

@@ -15,6 +15,8 @@ mod commands;
 #[cfg(test)]
 mod controllers;
 #[cfg(test)]
+mod files;
+#[cfg(test)]
 mod formats;
 #[cfg(test)]
 mod helps;

@@ -3,16 +3,18 @@
 //! A row has the words of a command line in its first line, then the input, and after a mark what
 //! is wanted. `{3 a}` in a row stands for `aaa`, and `{1..2 x@ @, }` for `x1 1, x2 2, `.
 
-use crate::command_lines::Run;
+use crate::command_lines::{Run, expect, is_same};
 use crate::{
     commands, controllers, formats, helps, program_helps, programs, random_values, reasons, shown,
     texts,
 };
 use std::alloc::AllocError;
+use std::fs::Files;
 use std::os::unix::fs::FileExt;
-use std::rt::Runtime;
 use std::sync::Wait;
+use std::test::Fail;
 use std::thread::Threads;
+use std::time::Clock;
 
 /// What the rows of a table ask about a run.
 #[derive(Clone, Copy)]
@@ -104,7 +106,7 @@ fn write_out(row: &mut String, short: &str) -> Result<bool, AllocError> {
 }
 
 /// What a run answers on what a row asks.
-fn push_answer<R: Runtime + AllocGlobal + Threads + Wait + Sync>(
+fn push_answer<R: Files + AllocGlobal + Threads + Wait + Clock + Sync>(
     rt: &R,
     asks: Asks,
     asked: &str,
@@ -122,7 +124,7 @@ where
 }
 
 /// Whether a row is answered as it wants, with the answer. A row without the mark is not.
-fn is_right<R: Runtime + AllocGlobal + Threads + Wait + Sync>(
+fn is_right<R: Files + AllocGlobal + Threads + Wait + Clock + Sync>(
     rt: &R,
     table: Table,
     row: &str,
@@ -137,12 +139,12 @@ where
         return Ok(false);
     };
     push_answer(rt, asks, asked, said)?;
-    Ok(said.as_str() == wanted)
+    Ok(is_same(said.as_str(), wanted))
 }
 
 /// Whether each row of a table is answered as it wants. The first that is not stays in `row`, with
 /// its answer in `said`; a row with a brace without a number of turns is one.
-fn is_answered<R: Runtime + AllocGlobal + Threads + Wait + Sync>(
+fn is_answered<R: Files + AllocGlobal + Threads + Wait + Clock + Sync>(
     rt: &R,
     table: Table,
     row: &mut String,
@@ -162,7 +164,7 @@ where
 
 /// The first row of a table that is answered otherwise than it wants, and its answer. Nothing where
 /// there is none.
-fn first_wrong<R: Runtime + AllocGlobal + Threads + Wait + Sync>(
+fn first_wrong<R: Files + AllocGlobal + Threads + Wait + Clock + Sync>(
     rt: &R,
     table: Table,
 ) -> Result<String, AllocError>
@@ -178,71 +180,51 @@ where
 }
 
 #[test]
-fn explained_texts(rt: HostRuntime) -> Result<(), AllocError> {
-    let wrong = first_wrong(&rt, TEXTS)?;
-    assert!(rt; wrong.is_empty(), "{wrong}");
-    Ok(())
+fn explained_texts(rt: HostRuntime) -> Result<(), Fail> {
+    expect(&first_wrong(&rt, TEXTS), "")
 }
 
 #[test]
-fn explained_programs(rt: HostRuntime) -> Result<(), AllocError> {
-    let wrong = first_wrong(&rt, PROGRAMS)?;
-    assert!(rt; wrong.is_empty(), "{wrong}");
-    Ok(())
+fn explained_programs(rt: HostRuntime) -> Result<(), Fail> {
+    expect(&first_wrong(&rt, PROGRAMS), "")
 }
 
 #[test]
-fn explained_mistakes(rt: HostRuntime) -> Result<(), AllocError> {
-    let wrong = first_wrong(&rt, HELPS)?;
-    assert!(rt; wrong.is_empty(), "{wrong}");
-    Ok(())
+fn explained_mistakes(rt: HostRuntime) -> Result<(), Fail> {
+    expect(&first_wrong(&rt, HELPS), "")
 }
 
 #[test]
-fn explained_program_mistakes(rt: HostRuntime) -> Result<(), AllocError> {
-    let wrong = first_wrong(&rt, PROGRAM_HELPS)?;
-    assert!(rt; wrong.is_empty(), "{wrong}");
-    Ok(())
+fn explained_program_mistakes(rt: HostRuntime) -> Result<(), Fail> {
+    expect(&first_wrong(&rt, PROGRAM_HELPS), "")
 }
 
 #[test]
-fn runs(rt: HostRuntime) -> Result<(), AllocError> {
-    let wrong = first_wrong(&rt, RUNS)?;
-    assert!(rt; wrong.is_empty(), "{wrong}");
-    Ok(())
+fn runs(rt: HostRuntime) -> Result<(), Fail> {
+    expect(&first_wrong(&rt, RUNS), "")
 }
 
 #[test]
-fn shown_values(rt: HostRuntime) -> Result<(), AllocError> {
-    let wrong = first_wrong(&rt, SHOWN)?;
-    assert!(rt; wrong.is_empty(), "{wrong}");
-    Ok(())
+fn shown_values(rt: HostRuntime) -> Result<(), Fail> {
+    expect(&first_wrong(&rt, SHOWN), "")
 }
 
 #[test]
-fn shown_formats(rt: HostRuntime) -> Result<(), AllocError> {
-    let wrong = first_wrong(&rt, FORMATS)?;
-    assert!(rt; wrong.is_empty(), "{wrong}");
-    Ok(())
+fn shown_formats(rt: HostRuntime) -> Result<(), Fail> {
+    expect(&first_wrong(&rt, FORMATS), "")
 }
 
 #[test]
-fn values_of_random_programs(rt: HostRuntime) -> Result<(), AllocError> {
-    let wrong = first_wrong(&rt, RANDOM_VALUES)?;
-    assert!(rt; wrong.is_empty(), "{wrong}");
-    Ok(())
+fn values_of_random_programs(rt: HostRuntime) -> Result<(), Fail> {
+    expect(&first_wrong(&rt, RANDOM_VALUES), "")
 }
 
 #[test]
-fn explained_reports(rt: HostRuntime) -> Result<(), AllocError> {
-    let wrong = first_wrong(&rt, REASONS)?;
-    assert!(rt; wrong.is_empty(), "{wrong}");
-    Ok(())
+fn explained_reports(rt: HostRuntime) -> Result<(), Fail> {
+    expect(&first_wrong(&rt, REASONS), "")
 }
 
 #[test]
-fn explained_controllers(rt: HostRuntime) -> Result<(), AllocError> {
-    let wrong = first_wrong(&rt, CONTROLLERS)?;
-    assert!(rt; wrong.is_empty(), "{wrong}");
-    Ok(())
+fn explained_controllers(rt: HostRuntime) -> Result<(), Fail> {
+    expect(&first_wrong(&rt, CONTROLLERS), "")
 }

@@ -61,7 +61,9 @@ fn push_outcome(said: &mut String, outcome: &Result<Report, BenchError>) -> Resu
 
 /// The same, and lets it go.
 fn push_last(said: &mut String, outcome: Result<Report, BenchError>) -> Result<(), AllocError> {
-    push_outcome(said, &outcome)
+    let pushed = push_outcome(said, &outcome);
+    drop(outcome);
+    pushed
 }
 
 /// What a run on a case text answers.

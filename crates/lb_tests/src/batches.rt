@@ -10,13 +10,14 @@ use crate::sources::checked_of;
 use crate::texts::{around, expect, first_line, is_same};
 use crate::{forms, random, runs};
 use lb_check::Verdict;
-use lb_flat::{Ordered, eval_trace, expand, order};
+use lb_flat::{Flat, Ordered, eval_trace, expand, order};
 use lb_lanes::Plane;
 use lb_report::split_case;
 use lb_sim::{
     BatchRoom, BatchRun, Inputs, LaneProgram, compile, has_kinds, run_batch, run_queue_in,
 };
-use lb_syntax::parse;
+use lb_static::Signature;
+use lb_syntax::{Source, parse};
 use lb_trace::read_traces;
 use lb_traces::TraceSet;
 use std::alloc::{AllocError, Global};
@@ -290,10 +291,29 @@ fn push_run(
         return said.push_str("no run");
     }
     let mut run = BatchRun::new(alloc, program, members.len() as u32)?;
-    push_steps(&mut run, &mut inputs, set, members, said)
+    let pushed = push_steps(&mut run, &mut inputs, set, members, said);
+    drop(run);
+    drop(inputs);
+    pushed
 }
 
 // ## Cases
+
+// What the lanes of a program answer.
+fn push_in_lanes(
+    alloc: Global,
+    ordered: &Ordered,
+    program: &LaneProgram<'_>,
+    set: &TraceSet,
+    question: Question<'_>,
+    said: &mut String,
+) -> Result<(), AllocError> {
+    match question {
+        Question::All => push_all(alloc, ordered, program, set, said),
+        Question::Members(batches) => push_batches(alloc, ordered, program, set, batches, said),
+        Question::Steps => push_run(alloc, program, set, said),
+    }
+}
 
 fn push_on_set(
     alloc: Global,
@@ -303,21 +323,40 @@ fn push_on_set(
     said: &mut String,
 ) -> Result<(), AllocError> {
     let program = compile(alloc, ordered)?;
-    match question {
-        Question::All => push_all(alloc, ordered, &program, set, said),
-        Question::Members(batches) => { push_batches(alloc, ordered, &program, set, batches, said) }
-        Question::Steps => push_run(alloc, &program, set, said),
-    }
+    let pushed = push_in_lanes(alloc, ordered, &program, set, question, said);
+    drop(program);
+    pushed
+}
+
+/// The equations of a program, without an order, and its signature, if it is accepted.
+pub fn expanded(alloc: Global, tree: &Source, observer: &str) -> Option<(Flat, Signature)> {
+    let checked = checked_of(alloc, tree, observer)?;
+    let flat = expand(alloc, &checked).ok();
+    let signature = checked.into_signature();
+    Some((flat?, signature))
 }
 
 /// The equations of a case and its traces, if its texts are accepted. An empty name is no observer.
 pub fn prepared(alloc: Global, case: &str, observer: &str) -> Option<(Ordered, TraceSet)> {
     let (source, traces) = split_case(case.as_bytes());
     let tree = parse(alloc, source).ok()?;
-    let checked = checked_of(alloc, &tree, observer)?;
-    let flat = expand(alloc, &checked).ok();
-    let set = read_traces(alloc, &checked.into_signature(), traces).ok()?;
-    Some((order(alloc, flat?).ok()?, set))
+    let expanded = expanded(alloc, &tree, observer);
+    drop(tree);
+    let (flat, signature) = expanded?;
+    let ordered = order(alloc, flat).ok();
+    ordered.zip(read_traces(alloc, &signature, traces).ok())
+}
+
+fn push_on_prepared(
+    alloc: Global,
+    prepared: &Option<(Ordered, TraceSet)>,
+    question: Question<'_>,
+    said: &mut String,
+) -> Result<(), AllocError> {
+    match prepared {
+        Some((ordered, set)) => push_on_set(alloc, ordered, set, question, said),
+        None => said.push_str("refused"),
+    }
 }
 
 fn push_on_case(
@@ -327,10 +366,10 @@ fn push_on_case(
     question: Question<'_>,
     said: &mut String,
 ) -> Result<(), AllocError> {
-    match &prepared(alloc, case, observer) {
-        Some((ordered, set)) => push_on_set(alloc, ordered, set, question, said),
-        None => said.push_str("refused"),
-    }
+    let prepared = prepared(alloc, case, observer);
+    let pushed = push_on_prepared(alloc, &prepared, question, said);
+    drop(prepared);
+    pushed
 }
 
 /// What is answered on a case whose records are told by their count: its first line has the members

@@ -10,7 +10,7 @@ use lb_check::{
     CheckError, Checked, ClockFault, DefinitionFault, Part, SourceClock, SourceType, TypeFault,
     TypeRule, check,
 };
-use lb_static::{CallPath, Start, elaborate};
+use lb_static::{CallPath, CallStep, Start, elaborate};
 use lb_syntax::{Source, line_column, parse};
 use std::alloc::{AllocError, Global};
 
@@ -210,6 +210,16 @@ fn push_sign(text: &str, sign: Option<u32>, said: &mut String) -> Result<(), All
     Ok(())
 }
 
+/// `, add 2:9 #1`
+fn push_step(text: &str, step: &CallStep, said: &mut String) -> Result<(), AllocError> {
+    write!(said, ", {}", step.node.as_str())?;
+    push_place(text, step.offset, said)?;
+    match step.index {
+        Some(index) => write!(said, " #{index}"),
+        None => Ok(()),
+    }
+}
+
 /// `main`, or the way from there: `main, two 4:5, add 2:9 #1`.
 fn push_path(text: &str, path: &CallPath, said: &mut String) -> Result<(), AllocError> {
     let start = match path.start {
@@ -218,11 +228,7 @@ fn push_path(text: &str, path: &CallPath, said: &mut String) -> Result<(), Alloc
     };
     write!(said, " {start} {}", path.node.as_str())?;
     for step in &path.steps {
-        write!(said, ", {}", step.node.as_str())?;
-        push_place(text, step.offset, said)?;
-        if let Some(index) = step.index {
-            write!(said, " #{index}")?;
-        }
+        push_step(text, step, said)?;
     }
     Ok(())
 }
@@ -295,6 +301,15 @@ fn push_clocks(text: &str, fault: &ClockFault, said: &mut String) -> Result<(), 
     push_path(text, &fault.path, said)
 }
 
+/// Where a variable is defined.
+fn push_defined(text: &str, definitions: &[u32], said: &mut String) -> Result<(), AllocError> {
+    for definition in definitions {
+        said.push_str(" defined")?;
+        push_place(text, *definition, said)?;
+    }
+    Ok(())
+}
+
 /// What breaks a rule of definitions.
 fn push_definition(
     text: &str,
@@ -313,10 +328,7 @@ fn push_definition(
         write!(said, " {}", fault.name.as_str())?;
     }
     push_place(text, fault.offset, said)?;
-    for definition in &fault.definitions {
-        said.push_str(" defined")?;
-        push_place(text, *definition, said)?;
-    }
+    push_defined(text, &fault.definitions, said)?;
     push_path(text, &fault.path, said)
 }
 
@@ -351,10 +363,13 @@ fn push_cause(
     observer: &str,
     said: &mut String,
 ) -> Result<(), AllocError> {
-    let Ok(elab) = elaborate(alloc, tree, node, named(observer)) else {
+    let Some(elab) = elaborate(alloc, tree, node, named(observer)).ok() else {
         return said.push_str("no program");
     };
-    push_checked(text, &check(alloc, elab), said)
+    let checked = check(alloc, elab);
+    let pushed = push_checked(text, &checked, said);
+    drop(checked);
+    pushed
 }
 
 /// What is answered on a source, of which the last line is no part.

@@ -26,7 +26,7 @@ fn traces_of(alloc: Global, count: u32) -> Result<String, AllocError> {
     Ok(text)
 }
 
-/// Says of a trace file what so many workers answer, where that is not what is wanted.
+/// The answer on a trace file by a number of workers, where it is not the one that is wanted.
 fn push_other<R>(
     rt: &R,
     path: &str,
@@ -77,7 +77,8 @@ where
     Ok(())
 }
 
-/// The same of a large file, and then of a short one.
+/// A large file is not read as its text is judged, or a short one not left to one worker: what is
+/// answered then.
 fn push_both<R>(rt: &R, path: &str, said: &mut String) -> Result<(), Fail>
 where
     R: Files + AllocGlobal + Threads + Sync,

@@ -6,7 +6,7 @@
 
 use crate::sources::checked_of;
 use lb_check::Checked;
-use lb_flat::{Cycle, FlatError, OrderError, expand, order, with_places};
+use lb_flat::{Cycle, Flat, FlatError, OrderError, SizeFault, expand, order, with_places};
 use lb_static::CallPath;
 use lb_syntax::{line_column, parse};
 use std::alloc::{AllocError, Global};
@@ -73,26 +73,59 @@ fn push_cycle(text: &str, cycle: &Cycle, said: &mut String) -> Result<(), AllocE
     Ok(())
 }
 
+fn push_size(fault: &SizeFault, said: &mut String) -> Result<(), AllocError> {
+    let least = if fault.is_least { "at least " } else { "" };
+    write!(said, "\n size {least}{} of {}", fault.size, fault.limit)
+}
+
+/// A cycle that has its places.
+fn push_placed(text: &str, cause: &OrderError, said: &mut String) -> Result<(), AllocError> {
+    match cause {
+        OrderError::Cycle(cycle) => push_cycle(text, cycle, said),
+        OrderError::Memory => said.push_str("\n memory"),
+    }
+}
+
+/// Why equations have no order.
+fn push_disorder(
+    alloc: Global,
+    text: &str,
+    checked: &Checked,
+    flat: Flat,
+    said: &mut String,
+) -> Result<(), AllocError> {
+    let Some(cause) = order(alloc, flat).err() else {
+        return said.push_str("\n in order");
+    };
+    let placed = with_places(alloc, checked, cause);
+    let pushed = push_placed(text, &placed, said);
+    drop(placed);
+    pushed
+}
+
 fn push_order(
     alloc: Global,
     text: &str,
     checked: &Checked,
     said: &mut String,
 ) -> Result<(), AllocError> {
-    let flat = match expand(alloc, checked) {
-        Ok(flat) => flat,
-        Err(FlatError::Large(fault)) => {
-            let least = if fault.is_least { "at least " } else { "" };
-            return write!(said, "\n size {least}{} of {}", fault.size, fault.limit);
-        }
-        Err(FlatError::Memory) => return said.push_str("\n memory"),
-    };
-    match order(alloc, flat) {
-        Ok(_) => said.push_str("\n in order"),
-        Err(cause) => match with_places(alloc, checked, cause) {
-            OrderError::Cycle(cycle) => push_cycle(text, &cycle, said),
-            OrderError::Memory => said.push_str("\n memory"),
-        },
+    match expand(alloc, checked) {
+        Ok(flat) => push_disorder(alloc, text, checked, flat, said),
+        Err(FlatError::Large(fault)) => push_size(&fault, said),
+        Err(FlatError::Memory) => said.push_str("\n memory"),
+    }
+}
+
+/// Why a program is refused, if it is refused no sooner.
+fn push_refusal(
+    alloc: Global,
+    text: &str,
+    checked: &Option<Checked>,
+    said: &mut String,
+) -> Result<(), AllocError> {
+    match checked {
+        Some(checked) => push_order(alloc, text, checked, said),
+        None => said.push_str("\n refused before"),
     }
 }
 
@@ -106,10 +139,10 @@ pub fn push_cause(
     let Ok(tree) = &parse(alloc, text.as_bytes()) else {
         return said.push_str("\n refused before");
     };
-    match &checked_of(alloc, tree, observer) {
-        Some(checked) => push_order(alloc, text, checked, said),
-        None => said.push_str("\n refused before"),
-    }
+    let checked = checked_of(alloc, tree, observer);
+    let pushed = push_refusal(alloc, text, &checked, said);
+    drop(checked);
+    pushed
 }
 
 /// Sources without an observer. Cycles: after comments, tabs and carriage returns; in what is

@@ -6,7 +6,9 @@ use crate::answers::spread;
 use crate::pool::{Hold, LANES, SPREADS, TURNS, first_case, push_case};
 use crate::tables::write_out;
 use crate::texts::{around, expect, push_unlike};
-use lb_report::{FollowFault, Gate, NoGate, Options, Sink, Writer, follow, split_case};
+use lb_report::{
+    FollowFault, Gate, NoGate, Options, Sink, TextPlaces, Writer, follow, follow_file, split_case,
+};
 use std::alloc::AllocError;
 use std::hint::spin_loop;
 use std::io::{ErrorKind, Write};
@@ -47,7 +49,9 @@ fn push_end(answer: &Result<(), FollowFault>, said: &mut String) -> Result<(), A
 
 // The same, and lets it go.
 fn push_last(answer: Result<(), FollowFault>, said: &mut String) -> Result<(), AllocError> {
-    push_end(&answer, said)
+    let pushed = push_end(&answer, said);
+    drop(answer);
+    pushed
 }
 
 // How a live report on a case ends that goes out behind a gate.
@@ -212,7 +216,8 @@ fn gated<R: AllocGlobal + Threads + Wait + Clock + Sync, G: Gate + Sync>(
     let options = spread(rt.alloc(), 2, 64, false)?;
     let mut said = String::new(rt.alloc());
     let text = Vec::new(rt.alloc());
-    let mut sink = Writer::new(CountedLines { text, lines });
+    let mut output = CountedLines { text, lines };
+    let mut sink = Writer::new(&mut output);
     push_followed(rt, case.as_str(), &options, gate, &mut sink, &mut said)?;
     write!(said, ", {} lines", lines.load(Ordering::SeqCst))?;
     Ok(said)
@@ -269,7 +274,7 @@ impl Write for Brittle<'_> {
     }
 }
 
-// How a live report ends whose sink takes so many bytes, and these bytes.
+// A live report on a sink that takes a few bytes and then fails: how it ends, and these bytes.
 fn push_brittle<R: AllocGlobal + Threads + Wait + Clock + Sync>(
     rt: &R,
     case: &str,
@@ -278,18 +283,20 @@ fn push_brittle<R: AllocGlobal + Threads + Wait + Clock + Sync>(
 ) -> Result<(), AllocError> {
     let options = spread(rt.alloc(), 2, 64, false)?;
     let mut taken: Vec<u8> = Vec::new(rt.alloc());
-    let mut sink = Writer::new(Brittle {
+    let mut output = Brittle {
         taken: &mut taken,
         fails_at,
-    });
+    };
+    let mut sink = Writer::new(&mut output);
     push_followed(rt, case, &options, &NoGate, &mut sink, said)?;
     drop(sink);
+    drop(output);
     let text = std::str::from_utf8(taken.as_slice()).unwrap_or("no text");
     write!(said, ":\n{text}")
 }
 
-// The same, where the report does not stop once the sink has taken so many bytes, or these are not
-// its first ones.
+// Such a live report where it does not stop once its sink has failed, or where the bytes that went
+// out are not its first ones.
 fn push_not_stopped<R: AllocGlobal + Threads + Wait + Clock + Sync>(
     rt: &R,
     case: &str,
@@ -352,4 +359,57 @@ fn refused<R: AllocGlobal + Threads + Wait + Clock + Sync>(rt: &R) -> Result<Str
 #[test]
 fn refused_texts(rt: HostRuntime) -> Result<(), Fail> {
     expect(&refused(&rt), "E9:\n")
+}
+
+// ## A large text that is read in chunks
+
+/// A node that is false from ninety on.
+const NINETY: &[u8] = b"node main(x: int) returns (ok: bool); let ok = x < 90; tel\n";
+
+// A text of more than two megabytes, and its report: traces of a hundred instants, each of which
+// counts on from a number below twenty.
+fn push_counting(text: &mut String, report: &mut String) -> Result<(), AllocError> {
+    text.push_str("trace,x\n")?;
+    for k in 0..2600u32 {
+        let first = k % 20;
+        for t in 0..100u32 {
+            write!(text, "t{k},{}\n", first + t)?;
+        }
+        write!(report, "t{k} false {}\n", 90 - first)?;
+    }
+    report.push_str("total 2600 passed 0 fault 0 undefined 0 assertion 0 false 2600\n")
+}
+
+// What goes out of a live report on a text that is read at its places.
+fn placed<R: AllocGlobal + Threads + Wait + Clock + Sync>(
+    rt: &R,
+    text: &[u8],
+) -> Result<String, AllocError> {
+    let options = spread(rt.alloc(), 2, 64, false)?;
+    let mut output: Vec<u8> = Vec::new(rt.alloc());
+    let mut sink = Writer::new(&mut output);
+    let found = follow_file(
+        rt,
+        NINETY,
+        &TextPlaces { text },
+        &options,
+        &NoGate,
+        &mut sink,
+    );
+    let is_whole = matches!(found, Some(Ok(())));
+    drop(sink);
+    if !is_whole {
+        output.clear();
+    }
+    let mut said = String::new(rt.alloc());
+    said.push_str(std::str::from_utf8(output.as_slice()).unwrap_or("no text"))?;
+    Ok(said)
+}
+
+#[test]
+fn live_report_in_chunks(rt: HostRuntime) -> Result<(), Fail> {
+    let mut text = String::new(rt.alloc());
+    let mut report = String::new(rt.alloc());
+    push_counting(&mut text, &mut report)?;
+    expect(&placed(&rt, text.as_bytes()), report.as_str())
 }

@@ -7,8 +7,7 @@ ghost use Rattle.lb_flat.specs.Standing.{HasKindsOf};
 ghost use Rattle.lb_pool.specs.FollowSeats.{IsFollowSeatOf, right_of};
 ghost use Rattle.lb_pool.specs.Settlements.{IsRight};
 
-use crate::batches::prepared;
-use crate::pool::first_case;
+use crate::pool::first_prepared;
 use crate::texts::expect;
 use lb_check::Verdict;
 use lb_flat::{Ordered, eval_trace};
@@ -158,14 +157,25 @@ fn push_steps(
     write!(said, "shares {}", seat.shares())
 }
 
+// The same of a case.
+fn push_steps_of(
+    alloc: Global,
+    case: &Option<(Ordered, TraceSet)>,
+    said: &mut String,
+) -> Result<(), AllocError> {
+    match case {
+        Some((ordered, set)) => push_steps(alloc, ordered, set, said),
+        None => said.push_str("refused"),
+    }
+}
+
 // The steps on the first case of the table, which has sixty-five traces.
 fn steps_of_row(alloc: Global) -> Result<String, AllocError> {
     let mut said = String::new(alloc);
-    let case = first_case(alloc)?;
-    match &prepared(alloc, case.as_str(), "") {
-        Some((ordered, set)) => push_steps(alloc, ordered, set, &mut said)?,
-        None => said.push_str("refused")?,
-    }
+    let case = first_prepared(alloc)?;
+    let pushed = push_steps_of(alloc, &case, &mut said);
+    drop(case);
+    pushed?;
     Ok(said)
 }
 

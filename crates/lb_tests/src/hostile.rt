@@ -122,22 +122,21 @@ fn damaged_texts(rt: HostRuntime) -> Result<(), Fail> {
     expect(&first_wrong_damage(&rt), "")
 }
 
-/// A source of `count` nodes. Each node calls the next, but for the last.
+/// A source of `count` nodes, 2 or more. Each node calls the next, but for the last.
 fn chain_of(alloc: Global, count: u32) -> Result<String, AllocError> {
     let mut source = String::new(alloc);
-    let mut name = String::from_str(alloc, "main")?;
-    for k in 1..count {
-        let node = name.as_str();
+    source.push_str("node main(a: int) returns (b: bool); let b = n1(a); tel\n")?;
+    for k in 2..count {
         write!(
             source,
-            "node {node}(a: int) returns (b: bool); let b = n{k}(a); tel\n"
+            "node n{}(a: int) returns (b: bool); let b = n{k}(a); tel\n",
+            k.saturating_sub(1)
         )?;
-        name = format!(in alloc; "n{k}")?;
     }
-    let node = name.as_str();
     write!(
         source,
-        "node {node}(a: int) returns (b: bool); let b = a > 0; tel\n"
+        "node n{}(a: int) returns (b: bool); let b = a > 0; tel\n",
+        count.saturating_sub(1)
     )?;
     Ok(source)
 }

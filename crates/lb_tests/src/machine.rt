@@ -249,6 +249,26 @@ fn push_word(words: &[LaneWord], w: WordId, said: &mut String) -> Result<(), All
     }
 }
 
+// What stands where a command said.
+fn push_one(
+    planes: &[u64],
+    words: &[LaneWord],
+    one: Made,
+    said: &mut String,
+) -> Result<(), AllocError> {
+    match one {
+        Made::Plane(p) => push_plane(planes, p, said),
+        Made::Word(w) => push_word(words, w, said),
+        Made::Both(w, p) => {
+            push_word(words, w, said)?;
+            push_plane(planes, p, said)
+        }
+        Made::Within(is_within) => write!(said, " {is_within}"),
+        Made::Marks(marks) => write!(said, " {marks:b}"),
+        Made::Nothing => said.push_str(" nothing"),
+    }
+}
+
 // What stands where the commands said.
 fn push_made(
     planes: &[u64],
@@ -257,17 +277,7 @@ fn push_made(
     said: &mut String,
 ) -> Result<(), AllocError> {
     for one in all {
-        match *one {
-            Made::Plane(p) => push_plane(planes, p, said)?,
-            Made::Word(w) => push_word(words, w, said)?,
-            Made::Both(w, p) => {
-                push_word(words, w, said)?;
-                push_plane(planes, p, said)?;
-            }
-            Made::Within(is_within) => write!(said, " {is_within}")?,
-            Made::Marks(marks) => write!(said, " {marks:b}")?,
-            Made::Nothing => said.push_str(" nothing")?,
-        }
+        push_one(planes, words, *one, said)?;
     }
     Ok(())
 }

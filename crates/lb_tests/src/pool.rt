@@ -12,7 +12,7 @@ use lb_flat::{Ordered, eval_trace};
 use lb_pool::{ClaimBoard, ClaimSeat, Gate, Plan, run_claims};
 use lb_report::{Options, status};
 use lb_static::Signature;
-use lb_trace::read_traces;
+use lb_trace::{TraceError, read_traces};
 use lb_traces::TraceSet;
 use std::alloc::{AllocError, Global};
 use std::hint::spin_loop;
@@ -69,16 +69,28 @@ fn push_plan_of(
     push_batches(&plan?, said)
 }
 
+// The same of a text that has been read.
+fn push_plan_of_read(
+    alloc: Global,
+    read: Result<TraceSet, TraceError>,
+    width: &str,
+    said: &mut String,
+) -> Result<(), AllocError> {
+    let pushed = match &read {
+        Ok(set) => push_plan_of(alloc, set, width, said),
+        Err(_) => said.push_str("no traces"),
+    };
+    drop(read);
+    pushed
+}
+
 /// The plan of a width and the lengths of some traces.
 pub fn push_plan(alloc: Global, asked: &str, said: &mut String) -> Result<(), AllocError> {
     let (width, lengths) = around(asked, ":");
     let mut text = String::from_str(alloc, "trace\n")?;
     push_traces(&mut text, lengths)?;
-    let signature = Signature::new(alloc);
-    match &read_traces(alloc, &signature, text.as_str().as_bytes()) {
-        Ok(set) => push_plan_of(alloc, set, width, said),
-        Err(_) => said.push_str("no traces"),
-    }
+    let read = read_traces(alloc, &Signature::new(alloc), text.as_str().as_bytes());
+    push_plan_of_read(alloc, read, width, said)
 }
 
 // A width and the lengths of traces, 0 first; how many batches and traces, and the batches.
@@ -446,14 +458,33 @@ pub fn first_case(alloc: Global) -> Result<String, AllocError> {
     Ok(case)
 }
 
+/// The equations of the first case and its traces.
+pub fn first_prepared(alloc: Global) -> Result<Option<(Ordered, TraceSet)>, AllocError> {
+    let case = first_case(alloc)?;
+    Ok(prepared(alloc, case.as_str(), ""))
+}
+
+// The same of a case.
+fn push_gated<R: Threads + Sync>(
+    rt: &R,
+    alloc: Global,
+    case: &Option<(Ordered, TraceSet)>,
+    gate: &Hold,
+    said: &mut String,
+) -> Result<(), AllocError> {
+    match case {
+        Some((ordered, set)) => push_verdicts(rt, alloc, ordered, set, gate, said),
+        None => said.push_str("refused"),
+    }
+}
+
 // The same of the first case.
 fn gated<R: Threads + Sync>(rt: &R, alloc: Global, gate: &Hold) -> Result<String, AllocError> {
     let mut said = String::new(alloc);
-    let case = first_case(alloc)?;
-    match &prepared(alloc, case.as_str(), "") {
-        Some((ordered, set)) => push_verdicts(rt, alloc, ordered, set, gate, &mut said)?,
-        None => said.push_str("refused")?,
-    }
+    let case = first_prepared(alloc)?;
+    let pushed = push_gated(rt, alloc, &case, gate, &mut said);
+    drop(case);
+    pushed?;
     Ok(said)
 }
 

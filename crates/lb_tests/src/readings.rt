@@ -23,19 +23,24 @@ pub fn push_text(short: &str, text: &mut String) -> Result<(), AllocError> {
     Ok(())
 }
 
+// The cells of an instant.
+fn push_row(row: &[i32], said: &mut String) -> Result<(), AllocError> {
+    said.push_str(" (")?;
+    for cell in row {
+        write!(said, " {cell}")?;
+    }
+    said.push_str(" )")
+}
+
 // The names of the traces, each with the cells of its instants.
 fn push_traces(alloc: Global, set: &TraceSet, said: &mut String) -> Result<(), AllocError> {
     let mut row = Vec::new(alloc);
     for k in 0..set.len() {
         write!(said, "{}:", set.name(k))?;
         for t in 0..set.length(k) {
-            said.push_str(" (")?;
             row.clear();
             set.copy_row(k, t, &mut row)?;
-            for cell in row.as_slice() {
-                write!(said, " {cell}")?;
-            }
-            said.push_str(" )")?;
+            push_row(row.as_slice(), said)?;
         }
         said.push_str(";")?;
     }
@@ -51,11 +56,8 @@ fn push_read(
 ) -> Result<(), AllocError> {
     let mut text = String::new(alloc);
     push_text(asked, &mut text)?;
-    push_outcome(
-        alloc,
-        &read_traces(alloc, signature, text.as_str().as_bytes()),
-        said,
-    )
+    let read = read_traces(alloc, signature, text.as_str().as_bytes());
+    push_last(alloc, read, said)
 }
 
 // An integer `x` and a Boolean `c`.
@@ -90,6 +92,17 @@ fn push_outcome(
         Ok(set) => push_traces(alloc, set, said),
         Err(error) => write!(said, "E{} {error}", error.number()),
     }
+}
+
+// The same, and lets it go.
+fn push_last(
+    alloc: Global,
+    read: Result<TraceSet, TraceError>,
+    said: &mut String,
+) -> Result<(), AllocError> {
+    let pushed = push_outcome(alloc, &read, said);
+    drop(read);
+    pushed
 }
 
 // The place behind the line that begins at a place, if it has an end.
@@ -131,6 +144,22 @@ fn read_at<R: Threads + Sync>(
     read_loaded(rt, alloc, signature, body.get(..at)?, &load, numbers, 2)
 }
 
+// Whether a text was read in chunks, with what was read.
+fn push_chunks(
+    alloc: Global,
+    read: Option<TraceSet>,
+    said: &mut String,
+) -> Result<bool, AllocError> {
+    let pushed = match &read {
+        Some(set) => push_traces(alloc, set, said),
+        None => Ok(()),
+    };
+    let is_read = read.is_some();
+    drop(read);
+    pushed?;
+    Ok(is_read)
+}
+
 // What is read of a text in chunks, cut at each of its places, where anything is read and that is
 // not what was said.
 fn push_by_chunks<R: Threads + Sync>(
@@ -142,19 +171,16 @@ fn push_by_chunks<R: Threads + Sync>(
 ) -> Result<(), AllocError> {
     let mut other = String::new(alloc);
     for at in 0..body.len() {
-        let Some(set) = &read_at(rt, alloc, signature, body, at) else {
-            continue;
-        };
         other.clear();
-        push_traces(alloc, set, &mut other)?;
-        if !is_same(other.as_str(), said.as_str()) {
+        let read = read_at(rt, alloc, signature, body, at);
+        if push_chunks(alloc, read, &mut other)? && !is_same(other.as_str(), said.as_str()) {
             return write!(said, " and cut at {at} {other}");
         }
     }
     Ok(())
 }
 
-// Whether what is read of a text by so many workers is what was said; else it is said too.
+// Whether a number of workers read of a text what was said; what they read else is said too.
 fn is_read_by<R: Threads + Sync>(
     rt: &R,
     alloc: Global,
@@ -165,7 +191,7 @@ fn is_read_by<R: Threads + Sync>(
 ) -> Result<bool, AllocError> {
     let mut other = String::new(alloc);
     let read = read_traces_by(rt, alloc, signature, body, workers);
-    push_outcome(alloc, &read, &mut other)?;
+    push_last(alloc, read, &mut other)?;
     if is_same(other.as_str(), said.as_str()) {
         return Ok(true);
     }
@@ -182,7 +208,7 @@ fn push_each_reading<R: Threads + Sync>(
     body: &[u8],
     said: &mut String,
 ) -> Result<(), AllocError> {
-    push_outcome(alloc, &read_traces(alloc, signature, body), said)?;
+    push_last(alloc, read_traces(alloc, signature, body), said)?;
     for workers in 0..24u32 {
         if !is_read_by(rt, alloc, signature, body, workers, said)? {
             return Ok(());
@@ -312,18 +338,32 @@ fn signature_of(alloc: Global, kinds: &str, text: &mut String) -> Result<Signatu
     Ok(signature)
 }
 
+// The Booleans of a text that has been read, or its refusal.
+fn push_kept(read: &Result<TraceSet, TraceError>, said: &mut String) -> Result<(), AllocError> {
+    match read {
+        Ok(set) => push_words(set, said),
+        Err(error) => write!(said, "E{} {error}", error.number()),
+    }
+}
+
+// A record in each line, behind those of a text.
+fn push_records(records: &str, text: &mut String) -> Result<(), AllocError> {
+    for record in records.split(' ') {
+        write!(text, "\n{record}")?;
+    }
+    Ok(())
+}
+
 /// What is kept of the Booleans of some records, which stand behind the kinds of their columns.
 pub fn push_bits(alloc: Global, asked: &str, said: &mut String) -> Result<(), AllocError> {
     let (kinds, records) = around(asked, " ");
     let mut text = String::new(alloc);
     let signature = signature_of(alloc, kinds, &mut text)?;
-    for record in records.split(' ') {
-        write!(text, "\n{record}")?;
-    }
-    match &read_traces(alloc, &signature, text.as_str().as_bytes()) {
-        Ok(set) => push_words(set, said),
-        Err(error) => write!(said, "E{} {error}", error.number()),
-    }
+    push_records(records, &mut text)?;
+    let read = read_traces(alloc, &signature, text.as_str().as_bytes());
+    let pushed = push_kept(&read, said);
+    drop(read);
+    pushed
 }
 
 // The kinds of columns and some records: no Boolean, one, and some among integers; sixty-four,

@@ -108,7 +108,9 @@ fn push_answered(said: &mut String, answer: &Result<Report, BenchError>) -> Resu
 
 /// The same, and lets it go.
 fn push_answer(said: &mut String, answer: Result<Report, BenchError>) -> Result<(), AllocError> {
-    push_answered(said, &answer)
+    let pushed = push_answered(said, &answer);
+    drop(answer);
+    pushed
 }
 
 /// What is answered on a source and a text as a whole.
@@ -134,7 +136,9 @@ fn push_judgement(said: &mut String, found: &Result<Report, FeedFault>) -> Resul
 
 /// The same, and lets it go.
 pub fn push_found(said: &mut String, found: Result<Report, FeedFault>) -> Result<(), AllocError> {
-    push_judgement(said, &found)
+    let pushed = push_judgement(said, &found);
+    drop(found);
+    pushed
 }
 
 /// What is answered on a source and a feed by so many workers, in rounds of these sizes, where that

@@ -236,17 +236,28 @@ fn are_whole_reports<R: AllocGlobal + Threads + Sync>(
     Ok(true)
 }
 
+/// The letter of a later file of so many lines, where a report on it is not whole.
+fn push_torn<R: AllocGlobal + Threads + Sync>(
+    rt: &R,
+    text: &[u8],
+    letter: char,
+    count: u32,
+    said: &mut String,
+) -> Result<(), AllocError> {
+    let later = numbered_text(rt.alloc(), letter, count)?;
+    let least = count.min(LINES) as usize;
+    if !are_whole_reports(rt, text, letter, later.as_bytes(), least)? {
+        said.push(letter)?;
+    }
+    Ok(())
+}
+
 /// The letters of the files on which a report is not whole.
 fn torn_reports<R: AllocGlobal + Threads + Sync>(rt: &R) -> Result<String, AllocError> {
     let mut said = String::new(rt.alloc());
     let text = numbered_text(rt.alloc(), 'a', LINES)?;
     for (letter, count) in LATER {
-        let later = numbered_text(rt.alloc(), letter, count)?;
-        let least = count.min(LINES) as usize;
-        let (text, later) = (text.as_bytes(), later.as_bytes());
-        if !are_whole_reports(rt, text, letter, later, least)? {
-            said.push(letter)?;
-        }
+        push_torn(rt, text.as_bytes(), letter, count, &mut said)?;
     }
     Ok(said)
 }

@@ -6,9 +6,17 @@
 
 use crate::texts::{around, is_same, last_line, named};
 use lb_check::{Checked, check};
-use lb_static::{Elab, StaticError, elaborate};
+use lb_static::{Elab, Signature, StaticError, elaborate};
 use lb_syntax::{Source, SyntaxError, parse};
 use std::alloc::{AllocError, Global};
+
+/// ` x: Int`
+fn push_inputs(inputs: &Signature, said: &mut String) -> Result<(), AllocError> {
+    for i in 0..inputs.len() {
+        write!(said, " {}: {:?}", inputs.name(i), inputs.kind(i))?;
+    }
+    Ok(())
+}
 
 /// `7 of 4: main f g | x: Int`
 fn push_program(elab: &Elab, said: &mut String) -> Result<(), AllocError> {
@@ -19,11 +27,7 @@ fn push_program(elab: &Elab, said: &mut String) -> Result<(), AllocError> {
         write!(said, " {}", node.tree.name.as_str())?;
     }
     said.push_str(" |")?;
-    let inputs = elab.signature();
-    for i in 0..inputs.len() {
-        write!(said, " {}: {:?}", inputs.name(i), inputs.kind(i))?;
-    }
-    Ok(())
+    push_inputs(elab.signature(), said)
 }
 
 /// What a node under test and its observer come to.
@@ -49,7 +53,10 @@ fn push_about(
         return write!(said, "{constants} constants, {} nodes", source.nodes.len());
     }
     let (node, observer) = around(word, ", ");
-    push_elaborated(said, &elaborate(alloc, source, node, named(observer)))
+    let elaborated = elaborate(alloc, source, node, named(observer));
+    let pushed = push_elaborated(said, &elaborated);
+    drop(elaborated);
+    pushed
 }
 
 /// What is answered about a text that was parsed.

@@ -6,8 +6,8 @@
 
 use crate::texts::{around, last_line, named};
 use lb_static::{
-    CallCycle, CallPath, Elab, LimitFault, NameFault, NameRule, RangeFault, RootFault, Start,
-    StaticError, ValueFault, ValueRule, elaborate,
+    CallCycle, CallPath, CallStep, Elab, LimitFault, NameFault, NameRule, RangeFault, RootFault,
+    Start, StaticError, ValueFault, ValueRule, elaborate,
 };
 use lb_syntax::{BinaryOperator, line_column, parse};
 use std::alloc::{AllocError, Global};
@@ -21,6 +21,18 @@ fn push_place(text: &[u8], offset: u32, said: &mut String) -> Result<(), AllocEr
     write!(said, "{}:{}", place.line, place.column)
 }
 
+/// `: unknown Value`
+fn push_name_rule(text: &[u8], rule: NameRule, said: &mut String) -> Result<(), AllocError> {
+    match rule {
+        NameRule::Unknown(sought) => write!(said, ": unknown {sought:?}"),
+        NameRule::Doubled { first } => {
+            said.push_str(": doubled, first ")?;
+            push_place(text, first, said)
+        }
+        NameRule::Arguments { wanted, given } => write!(said, ": {wanted} wanted, {given} given"),
+    }
+}
+
 /// `E4 5:12 x in main: unknown Value`
 fn push_name(text: &[u8], fault: &NameFault, said: &mut String) -> Result<(), AllocError> {
     said.push_str("E4 ")?;
@@ -32,13 +44,16 @@ fn push_name(text: &[u8], fault: &NameFault, said: &mut String) -> Result<(), Al
     if let Some(node) = &fault.node {
         write!(said, " in {}", node.as_str())?;
     }
-    match fault.rule {
-        NameRule::Unknown(sought) => write!(said, ": unknown {sought:?}"),
-        NameRule::Doubled { first } => {
-            said.push_str(": doubled, first ")?;
-            push_place(text, first, said)
-        }
-        NameRule::Arguments { wanted, given } => write!(said, ": {wanted} wanted, {given} given"),
+    push_name_rule(text, fault.rule, said)
+}
+
+/// ` > f 5:12[0]`
+fn push_step(text: &[u8], step: &CallStep, said: &mut String) -> Result<(), AllocError> {
+    write!(said, " > {} ", step.node.as_str())?;
+    push_place(text, step.offset, said)?;
+    match step.index {
+        Some(index) => write!(said, "[{index}]"),
+        None => Ok(()),
     }
 }
 
@@ -50,11 +65,7 @@ fn push_path(text: &[u8], path: &CallPath, said: &mut String) -> Result<(), Allo
     }
     said.push_str(path.node.as_str())?;
     for step in &path.steps {
-        write!(said, " > {} ", step.node.as_str())?;
-        push_place(text, step.offset, said)?;
-        if let Some(index) = step.index {
-            write!(said, "[{index}]")?;
-        }
+        push_step(text, step, said)?;
     }
     Ok(())
 }
@@ -71,20 +82,25 @@ fn sign(operator: BinaryOperator) -> &'static str {
     }
 }
 
+/// `1 / 0`
+fn push_value_rule(rule: &ValueRule, said: &mut String) -> Result<(), AllocError> {
+    match rule {
+        ValueRule::Operator {
+            operator,
+            left,
+            right,
+        } => write!(said, "{left} {} {right}", sign(*operator)),
+        ValueRule::Negation { operand } => write!(said, "- {operand}"),
+        ValueRule::Constant { name } => write!(said, "{} needs itself", name.as_str()),
+    }
+}
+
 /// `E5 5:12 in main: 1 / 0 | main`
 fn push_value(text: &[u8], fault: &ValueFault, said: &mut String) -> Result<(), AllocError> {
     said.push_str("E5 ")?;
     push_place(text, fault.offset, said)?;
     write!(said, " in {}: ", fault.node.as_str())?;
-    match &fault.rule {
-        ValueRule::Operator {
-            operator,
-            left,
-            right,
-        } => write!(said, "{left} {} {right}", sign(*operator))?,
-        ValueRule::Negation { operand } => write!(said, "- {operand}")?,
-        ValueRule::Constant { name } => write!(said, "{} needs itself", name.as_str())?,
-    }
+    push_value_rule(&fault.rule, said)?;
     push_path(text, &fault.path, said)
 }
 
@@ -165,7 +181,10 @@ pub fn push_answer(alloc: Global, asked: &str, said: &mut String) -> Result<(), 
     let Ok(tree) = &parse(alloc, text) else {
         return said.push_str("no tree");
     };
-    push_elaborated(text, &elaborate(alloc, tree, node, named(observer)), said)
+    let elaborated = elaborate(alloc, tree, node, named(observer));
+    let pushed = push_elaborated(text, &elaborated, said);
+    drop(elaborated);
+    pushed
 }
 
 /// Names.

@@ -107,11 +107,12 @@ fn inputs(rt: HostRuntime) -> Result<(), Fail> {
 /// How many bytes went out before the output failed, or none where all did, and how often it
 /// failed.
 fn sent(bytes: &[u8], fails_at: u32, fails: Fails) -> (Option<usize>, u64) {
-    let mut sink = Writer::new(FailingOutput {
+    let mut output = FailingOutput {
         writes: 0,
         fails_at,
         fails,
-    });
+    };
+    let mut sink = Writer::new(&mut output);
     let failed_after = match send(&mut sink, bytes) {
         Ok(()) => None,
         Err(Sent { count }) => Some(count),
@@ -131,11 +132,19 @@ fn first_untold(alloc: Global) -> Result<String, AllocError> {
     Ok(String::new(alloc))
 }
 
+/// Whether a line goes out whole.
+fn is_sent(alloc: Global) -> bool {
+    let mut bytes: Vec<u8> = Vec::new(alloc);
+    send(&mut Writer::new(&mut bytes), LINE).is_ok() && bytes.as_slice() == LINE
+}
+
+/// Whether a failure is told where there is none: of a line, and of no byte.
+fn is_told_without_failure() -> bool {
+    sent(LINE, 0, Fails::Interrupted) != (None, 0) || sent(b"", 1, Fails::Full) != (None, 0)
+}
+
 #[test]
 fn outputs(rt: HostRuntime) -> Result<(), Fail> {
-    let mut bytes: Vec<u8> = Vec::new(rt.alloc());
-    assert!(rt; send(&mut Writer::new(&mut bytes), LINE).is_ok() && bytes.as_slice() == LINE);
-    assert!(rt; sent(LINE, 0, Fails::Interrupted) == (None, 0));
-    assert!(rt; sent(b"", 1, Fails::Full) == (None, 0));
+    assert!(rt; is_sent(rt.alloc()) && !is_told_without_failure());
     expect(&first_untold(rt.alloc()), "")
 }
