@@ -1,4 +1,4 @@
--- Why a reciprocal gives the quotient.
+-- A product with a reciprocal, shifted down, is the quotient.
 use Rattle.std.proofs.Common.{◌≡◌, ℕ, suc, ◌+◌, ◌-◌, ◌*◌, ◌/◌, ◌%◌, ◌^◌, ◌<◌, ◌≤◌, ◌⊎◌, inl, inr}
 use Rattle.std.proofs.Common.{ap, arith}
 use Rattle.std.proofs.Math.Nat.{mul-le-mul_left, div-mul-le_self, div-eq_of_lt-le}
@@ -43,7 +43,7 @@ quotient_by d factor shift n r small =
     (low d factor (2 ^ shift) n (n / d) r.reaches (div-mul-le_self n d))
     (high d factor (2 ^ shift) n (n / d) (n % d) r.below r.close r.divisor small is rest)
 
--- the reciprocal that the code forms
+-- the multiplier and the shift that the code forms are a reciprocal of the divisor
 pub reciprocal_of : (d l : ℕ) → 2 ^ l < d → d < 2 * 2 ^ l → l < 32
     → IsReciprocal d ((2 ^ (32 + l) - 1) / d + 1) (32 + l)
 reciprocal_of d l least most short =

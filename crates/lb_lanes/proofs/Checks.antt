@@ -18,7 +18,7 @@ not_and_false : (b : Bool) → not (b && false) ≡ true
 not_and_false true = refl
 not_and_false false = refl
 
--- a divisor that is not 0 and not -1
+-- each integer can be divided by a divisor that is not 0 and not -1
 pub can_divide_by : (a d : ℤ) → int_eq d (pos 0) ≡ false → int_eq d (negsuc 0) ≡ false
     → can_divide a d ≡ true
 unfolding can_divide

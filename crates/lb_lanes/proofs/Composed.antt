@@ -1,4 +1,4 @@
--- The rounds, one after another.
+-- The rounds of the transposition, one after another.
 use Rattle.std.proofs.Common.{◌≡◌, ℕ, zero, suc, ◌<◌, ◌≤◌, Bool, true, ◌&&◌, List, [], ◌∷◌, get_or}
 use Rattle.std.proofs.Common.{refl, ap, ap₂, ◌∙◌, subst, arith, nat_eq, ltb, ◌⊎◌, inl, inr}
 use Rattle.std.proofs.lemmas.Bool.{and_parts, cases_lt, ltb-true, eqb-true}
@@ -7,7 +7,7 @@ use Rattle.lb_lanes.specs.Correct.{IsTransposed}
 use Rattle.lb_lanes.specs.Transposes.{IsRound, IsMask, is_masked, row_from}
 use Rattle.lb_lanes.specs.Transposes.{column_from}
 
--- a test that holds of each number below n, which is found by trying each
+-- whether a test holds of each number below `n`, found by trying each
 unfoldable pub every : (ℕ → Bool) → ℕ → Bool
 every p zero = true
 every p (suc n) = p n && every p n
@@ -33,7 +33,7 @@ arrives (s ∷ ss) r c r' c' =
     (ltb (row_from s r c) 64 && ltb (column_from s r c) 64)
     && arrives ss (row_from s r c) (column_from s r c) r' c'
 
--- the rounds with these shifts, the last one first
+-- `new` is `old` after the rounds with these shifts, the last one first
 pub AreRounds : List ℕ → List ℕ → List ℕ → Type 0
 AreRounds [] old new = new ≡ old
 AreRounds (s ∷ ss) old new = (between : List ℕ) × AreRounds ss old between × IsRound s between new
@@ -58,8 +58,7 @@ follow (s ∷ ss) old new rounds r c r' c' hr hc e =
 abbrev shifts : List ℕ
 shifts = 1 ∷ 2 ∷ 4 ∷ 8 ∷ 16 ∷ 32 ∷ []
 
--- from each place they lead to the place on the other side of the diagonal, as trying all 4,096
--- shows
+-- from each place the rounds lead to its mirror place across the diagonal: all 4,096 are tried
 all_arrive : every (λ r. every (λ c. arrives shifts c r r c) 64) 64 ≡ true
 unfolding every arrives
 all_arrive = refl
@@ -73,6 +72,6 @@ transposed w0 w1 w2 w3 w4 w5 w6 p q x y z v r c hr hc =
     (every_at (λ c. arrives shifts c r r c) 64
     (every_at (λ r. every (λ c. arrives shifts c r r c) 64) 64 all_arrive r hr) c hc)
 
--- a mask, as trying all 64 columns shows
+-- a word is a mask, where trying all 64 columns shows it
 pub mask_by : (s m : ℕ) → every (is_masked s m) 64 ≡ true → IsMask s m
 mask_by s m e c h = every_at (is_masked s m) 64 e c h

@@ -1,4 +1,4 @@
--- When a quotient of two integers of 32 bits fits.
+-- A quotient of two integers of 32 bits that can be divided fits 32 bits.
 use Rattle.std.proofs.Common.{◌≡◌, ℕ, zero, suc, ◌<◌, ◌≤◌, ◌*◌, ◌/◌, ◌-◌, Bool, true, false, not}
 use Rattle.std.proofs.Common.{◌&&◌, ℤ, pos, negsuc, neg_ℤ, refl, sym, ap₂, arith, w32, SFits, to_z}
 use Rattle.std.proofs.Common.{of_z, subst, ◌⊎◌, inl, inr, cond}
@@ -31,7 +31,7 @@ above_least a h e = by (eq-or-lt_of_le (omega arith))
     by (inl same) = let f = subst (λ n. can_divide (negsuc n) (negsuc 0) ≡ true) same e in cc f
     by (inr lt) = omega arith
 
--- a quotient of two that can be divided fits
+-- the quotient of two integers that can be divided fits 32 bits
 pub quotient_fits : (a d : ℤ) → SFits w32 a → can_divide a d ≡ true → SFits w32 (int_div a d)
 unfolding can_divide
 quotient_fits (pos a) (pos b) f e = record { sfits = omega (arith, div-le_self a b, f.sfits) }
@@ -44,7 +44,7 @@ quotient_fits (negsuc a) (negsuc zero) f e =
 quotient_fits (negsuc a) (negsuc (suc b)) f e =
     record { sfits = halved (suc a) b (omega (arith, f.sfits)) }
 
--- the same, and that the divisor is not 0, in the words of 32 bits
+-- the word of a divisor is not 0, and the quotient of words fits 32 bits
 pub divisor : (a d : ℤ) → SFits w32 d → can_divide a d ≡ true → 0 < of_z w32 d
 unfolding can_divide
 divisor a (pos zero) g e = cc

@@ -1,4 +1,4 @@
--- What the guess at a quotient by floats asks of its lanes.
+-- Guesses at quotients by floats: the operands fit floats, and no guess is NaN.
 use Rattle.std.proofs.Common.{◌≡◌, ℕ, zero, suc, ◌+◌, ◌-◌, ◌*◌, ◌^◌, ◌<◌, ◌≤◌, ℤ, pos, negsuc}
 use Rattle.std.proofs.Common.{Bool, true, false, not, ◌&&◌, List, [], ◌∷◌, mul-one}
 use Rattle.std.proofs.Common.{cond, map, replicate, refl, sym, subst, arith, lit<, lit≤}
@@ -24,7 +24,7 @@ masked k x h =
     le→leb (bit_and x (2 ^ k - 1)) (2 ^ prec binary32)
     (le_trans (nat.le_of_lt (mask_lt x k)) (pow_mono h))
 
--- integers below 2 ^ k, for a k that a float has room for
+-- integers below 2 ^ `k` fit floats, for `k` up to 24
 pub masked_in : (k n : ℕ) (xs : List ℕ) → k ≤ 24
     → Each1 (λ a. T (in_float binary32 (pos a)))
     (zip2 (λ a b. bit_and a b) xs (replicate n (2 ^ k - 1)))
@@ -37,7 +37,7 @@ masked_in k (suc n) (x ∷ xs) h = (masked k x h, masked_in k n xs h)
 abbrev pub Number : Float → Type 0
 Number x = T (not (is_nan x))
 
--- a value with a sign, which is no NaN
+-- a float with sign `s`, which is not NaN
 abbrev Signed : Bool → Float → Type 0
 Signed s nan = ⊥
 Signed s (inf t) = t ≡ s
@@ -79,7 +79,7 @@ sum_number f s a t b c = by (beq s t) (ltb a b)
     by false true = round_number f t (b - a) c
     by false false = round_number f (s && ltb b a) (a - b) c
 
--- a sum and a difference with a finite value
+-- a sum, and a difference, with a finite value is not NaN
 add_number : (f : Format) (x : Float) (s : Bool) (m : ℕ) (e : ℤ) → Number x
     → Number (add f x (fin s m e))
 unfolding add is_nan
@@ -97,7 +97,7 @@ unfolding is_nan
 other true s h = absurd (h tt)
 other false s h = tt
 
--- a quotient of a value above zero and a finite one
+-- the quotient of a value above zero and a finite one is not NaN
 div_number : (f : Format) (x y : Float) → T (above x) → T (finite y) → Number (div f x y)
 unfolding div is_nan
 div_number f nan y p q = absurd p
@@ -123,7 +123,7 @@ half_positive =
     positive_of_value (round binary32 false 1 2) 1 2
     (round_exact binary32 false 1 2 1 148 (lit< tt) (lit< tt) (lit< tt) refl) (lit< tt)
 
--- a value that is not below zero, and a half
+-- the sum of a value that is not below zero and a half is above zero
 raised : (x : Float) → Signed false x → T (above (add binary32 x (fin false 1 (negsuc 0))))
 unfolding add sum
 raised nan h = absurd h
@@ -184,7 +184,7 @@ guess_number n d h =
     (div_number binary32 x y (raised (round binary32 false n 1) (round_signed binary32 false n 1))
     (whole_finite d h)))))
 
--- those of many
+-- no guess is NaN, for lists of dividends and divisors
 pub guess_numbers : (k a b : ℕ) (xs ys : List ℕ) → b ≤ 24
     → Each1 (λ v. Number v)
     (zip2 (λ u v. add binary32 u v)

@@ -1,7 +1,7 @@
 -- Integers of 64 bits, by their halves.
 use Rattle.std.proofs.Common.{◌≡◌, ℕ, ◌<◌, ◌==◌, Bool, true, false, ◌&&◌, ◌||◌, List, ℤ, pos}
-use Rattle.std.proofs.Common.{negsuc, ◌+ℤ◌, ◌*ℤ◌, refl, sym, ap, ap₂, ◌∙◌, arith, cond, ltb, w32, w64}
-use Rattle.std.proofs.Common.{SFits, of_z, to_z, zero-add}
+use Rattle.std.proofs.Common.{negsuc, ◌+ℤ◌, ◌*ℤ◌, refl, sym, ap, ap₂, ◌∙◌, arith, cond, ltb, w32}
+use Rattle.std.proofs.Common.{w64, SFits, of_z, to_z, zero-add}
 use Rattle.std.specs.Int.RustNames.{int_lt}
 use Rattle.std.specs.Cmp.{signed_Decides}
 use Rattle.std.specs.Ordering.{int_eq}
@@ -20,7 +20,7 @@ use Rattle.lb_lanes.proofs.Words.{fits_int, int_fits}
 
 -- ## One integer
 
--- two tests that hold of the same things
+-- two tests are equal if each implies the other
 iff_same : (b c : Bool) → (b ≡ true → c ≡ true) → (c ≡ true → b ≡ true) → b ≡ c
 iff_same true true f g = refl
 iff_same true false f g = sym (f refl)
@@ -30,7 +30,7 @@ iff_same false false f g = refl
 int_equal : (x y : ℤ) → x ≡ y → int_eq x y ≡ true
 int_equal x y e = (signed_Decides x y).1 e
 
--- the upper halves, and the lower ones, of the same integer
+-- equal integers have equal upper halves, and equal lower ones
 same_high : (h k : ℤ) (u v : ℕ) → u < 4294967296 → v < 4294967296
     → h *ℤ pos 4294967296 +ℤ pos u ≡ k *ℤ pos 4294967296 +ℤ pos v → h ≡ k
 same_high h k u v p q e = omega (arith, ints)
@@ -76,7 +76,7 @@ whole_of_sign : (l : ℤ) → SFits w32 l → whole_of (sign_of l) l ≡ l
 whole_of_sign (pos n) f = omega (arith, ints, f.sfits)
 whole_of_sign (negsuc n) f = omega (arith, ints, f.sfits)
 
--- an integer in the range of `int` has such an upper half
+-- the upper half of an integer in the range of `int` is the sign of the lower one
 signed_high : (h l : ℤ) → SFits w32 l → SFits w32 (whole_of h l) → h ≡ sign_of l
 signed_high h (pos n) f g = omega (arith, ints, f.sfits, g)
 signed_high h (negsuc n) f g = omega (arith, ints, f.sfits, g)
@@ -98,7 +98,7 @@ cond_whole : (b : Bool) (h k l m : ℤ)
 cond_whole true h k l m = refl
 cond_whole false h k l m = refl
 
--- an integer whose halves were passed on
+-- halves that went through casts are halves of the same integer
 pub passed_whole : (h l v : ℤ) → SFits w32 h → SFits w32 l → SFits w64 v
     → whole_of h l ≡ to_z w64 (of_z w64 v)
     → whole_of (to_z w32 (of_z w32 h)) (to_z w32 (of_z w32 l)) ≡ v
@@ -113,7 +113,7 @@ whole_lane high low i h =
     get_or-map-range_with_len (λ k. whole_of (lane_of high k) (lane_of low k)) 0 64 i i (pos 0) h
     (zero-add i)
 
--- a lane of integers that are known by another name
+-- a lane of `now` is the integer of its halves, where `now` is equal to the integers of halves
 pub lane_is : (high low now : List ℤ) → whole_lanes high low ≡ now → (i : ℕ) → i < 64
     → whole_of (lane_of high i) (lane_of low i) ≡ lane_of now i
 lane_is high low now is i h = sym (whole_lane high low i h) ∙ ap (λ l. lane_of l i) is

@@ -13,7 +13,7 @@ or_false : (b : Bool) → (b || false) ≡ b
 or_false true = refl
 or_false false = refl
 
--- the three places of a lane, at a plane to which the chunk x at k is joined
+-- a lane below, in and above chunk `x`, of a plane to which that chunk is joined at `k`
 on-below : (f x k i : ℕ) → i < k → i < 64 → on (bit_or f (shl k x)) i ≡ on f i
 on-below f x k i h w = on-or f (shl k x) i ∙ ap (λ b. on f i || b) (on-shl_low k i x h w)
     ∙ or_false (on f i)
@@ -37,7 +37,7 @@ pub record DoneBelow (test : ℕ → Bool) (k plane : ℕ) : Type 0 where
   pub done : (i : ℕ) → i < k → on plane i ≡ test i
   pub rest : (i : ℕ) → k ≤ i → i < 64 → on plane i ≡ false
 
--- n more lanes
+-- with a chunk of `n` lanes joined, the lanes below `k + n` are done
 pub lanes_joined : (n : ℕ) (test : ℕ → Bool) (f x k : ℕ) → k + n ≤ 64 → x < 2 ^ n
     → DoneBelow test k f → ((j : ℕ) → j < n → on x j ≡ test (k + j))
     → DoneBelow test (k + n) (bit_or f (shl k x))
@@ -55,7 +55,7 @@ lanes_joined n test f x k room small before new = record {
         (on-inside f x k j (omega (arith, e)) (before.rest (k + j) (omega arith) (omega (arith, e)))
         ∙ new j (omega arith))
 
--- the words below k are as P says, and each later one is as at first
+-- each word below `k` satisfies `P`, and each later one is as in `first`
 pub record WrittenBelow (P : ℕ → ℕ → Type 0) (k : ℕ) (first words : List ℕ) : Type 0 where
   pub done : (i : ℕ) → i < k → P i (get_or words i 0)
   pub rest : (i : ℕ) → k ≤ i → get_or words i 0 ≡ get_or first i 0

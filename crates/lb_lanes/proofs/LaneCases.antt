@@ -1,4 +1,4 @@
--- What a lane holds after an operator, by cases.
+-- The result in a lane after an operator, by cases.
 use Rattle.std.proofs.Common.{◌≡◌, Bool, true, false, not, ◌&&◌, ℤ, pos, cond, refl, sym, ap, ◌∙◌}
 use Rattle.std.specs.Prelude.{Some, None}
 use Rattle.lb_lanes.specs.Kernels.{kept, faulty}
@@ -7,7 +7,7 @@ use Rattle.lb_lanes.specs.Operators.{is_int, lawful, can_divide, divided_by}
 lawful_where : (v : ℤ) → is_int v ≡ true → lawful v ≡ Some v
 lawful_where v e = ap (λ b. cond b (Some v) None) e
 
--- a result in the range of `int`
+-- a result in the range of `int` is kept in a live lane, and is no fault
 pub kept_lawful : (live : Bool) (v : ℤ) → is_int v ≡ true
     → kept live (lawful v) ≡ cond live v (pos 0)
 kept_lawful live v e = ap (kept live) (lawful_where v e) ∙ by live
@@ -27,7 +27,7 @@ zero_is_int : is_int (pos 0) ≡ true
 unfolding is_int
 zero_is_int = refl
 
--- a lane that is kept where it is live and its result is in the range of `int`
+-- a lane that is made 0 unless it is live and its result is in the range of `int` is `kept`
 pub masked_kept : (live t : Bool) (v w : ℤ) → is_int v ≡ t → (is_int v ≡ true → w ≡ v)
     → cond (live && not (not t)) w (pos 0) ≡ kept live (lawful v)
 masked_kept true true v w e value = value e ∙ sym (kept_lawful true v e)
@@ -40,7 +40,7 @@ masked_faulty true true v e = sym (faulty_lawful true v e)
 masked_faulty true false v e = sym (ap (λ t. faulty true (cond t (Some v) None)) e)
 masked_faulty false t v e = refl
 
--- a division, where the two can be divided
+-- a lane of a division that is made 0 unless it is live and can be divided is `kept`
 pub kept_divided : (live can : Bool) (v : ℤ)
     → cond (live && can) v (pos 0) ≡ kept live (cond can (Some v) None)
 kept_divided true true v = refl
@@ -63,7 +63,7 @@ pub and_right : (a b : Bool) → (a && b) ≡ true → b ≡ true
 and_right true b e = e
 and_right false b e = cc
 
--- a lane that can be divided where it is live
+-- a lane that can be divided if it is live, and is made 0 if it is not, is `kept`
 pub kept_common : (f : ℤ → ℤ → ℤ) (live : Bool) (a b r : ℤ)
     → (live ≡ true → (r ≡ f a b) × (can_divide a b ≡ true))
     → cond live r (pos 0) ≡ kept live (divided_by f a b)
@@ -77,7 +77,7 @@ pub faulty_common : (f : ℤ → ℤ → ℤ) (live : Bool) (a b : ℤ) → (liv
 faulty_common f true a b h = sym (ap (λ t. faulty true (cond t (Some (f a b)) None)) (h refl))
 faulty_common f false a b h = refl
 
--- an operator on a masked first operand, kept where its result is in the range of `int`
+-- an operator on a masked first operand, with 0 for a result out of the range of `int`, is `kept`
 pub apart_value : (f : ℤ → ℤ → ℤ) (live w : Bool) (a b r o : ℤ) → f (pos 0) b ≡ pos 0
     → w ≡ is_int (f (cond live a (pos 0)) b)
     → (is_int (f (cond live a (pos 0)) b) ≡ true → r ≡ f (cond live a (pos 0)) b)

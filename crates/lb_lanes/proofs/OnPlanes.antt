@@ -48,7 +48,7 @@ on-xor a b i =
     ap (λ n. n == 1) (bit_at_xor a b i)
     ∙ two_bits (λ x y. ((x + y) % 2 == 1) ≡ differ (x == 1) (y == 1)) refl refl refl refl a b i
 
--- the word with each bit turned
+-- the word with each bit flipped
 abbrev pub flip : ℕ → ℕ
 flip a = 2 ^ 64 - 1 - a
 
@@ -62,7 +62,7 @@ pub on-zero : (i : ℕ) → on 0 i ≡ false
 unfolding on
 on-zero i = ap (λ n. n == 1) (bit_at-zero i)
 
--- the word of all ones
+-- each lane of the word of all ones is true
 pub on-ones : (a i : ℕ) → a ≡ 2 ^ 64 - 1 → i < 64 → on a i ≡ true
 on-ones a i e h = ap (λ n. on n i) e ∙ on-flip 0 i (lit< tt) h ∙ ap not (on-zero i)
 
@@ -109,7 +109,7 @@ on-shl_low k i y lt h =
     ∙ ap (λ x. x == 1) (subst (λ w. bit_at (y * 2 ^ w) i ≡ 0) e (ap (λ x. x % 2) moved
     ∙ shifted_even y m))
 
--- a mask made of lanes
+-- lane `i` of a mask made of Booleans is the Boolean at `i`
 pub on-mask_l : (ms : List Bool) (i : ℕ) → on (mask_l ms) i ≡ get_or ms i false
 unfolding on
 on-mask_l ms i = ap (λ x. x == 1) (bit_mask_l ms i) ∙ back (get_or ms i false)
@@ -147,7 +147,7 @@ by_mask true true y = refl
 by_mask true false y = refl
 by_mask false x y = refl
 
--- the word of a selection
+-- the word that the code forms is the selection
 pub selection_on : (m a b : ℕ) → m < 2 ^ 64
     → IsSelection m a b (bit_or (bit_and m a) (bit_and (flip m) b))
 selection_on m a b h i l =
@@ -162,7 +162,7 @@ pub record SetBit (n k : ℕ) : Type 0 where
   pub within : place < k
   pub is_set : on n place ≡ true
 
--- a word below 2 ^ k that is not 0 has one
+-- a word below 2 ^ `k` that is not 0 has a set bit below `k`
 pub some_on : (n k : ℕ) → n < 2 ^ 64 → n < 2 ^ k → 0 < n → SetBit n k
 unfolding on
 some_on n k h l p = record {

@@ -8,7 +8,7 @@ use Rattle.lb_lanes.specs.Planes.{on, differ}
 use Rattle.lb_lanes.specs.Transposes.{IsRound, IsMask, is_masked, row_from, column_from}
 use Rattle.lb_lanes.proofs.OnPlanes.{on-xor, on-and, on-shr, shl, on-shl_high, on-shl_low}
 
--- the two words that the words a and b become
+-- the bits that a round exchanges between words `a` and `b`, and the two words that it makes
 abbrev pub moved : ℕ → ℕ → ℕ → ℕ → ℕ
 moved s m a b = bit_and (bit_xor (a / 2 ^ s) b) m
 
@@ -94,14 +94,14 @@ odd_clear s m a b c e = on-odd s m a b c ∙ ap (λ t. cond t (on a (s + c)) (on
 odd_set : (s m a b c : ℕ) → on m c ≡ false → on (odd_word s m a b) c ≡ on b c
 odd_set s m a b c e = on-odd s m a b c ∙ ap (λ t. cond t (on a (s + c)) (on b c)) e
 
--- the pairs that a round made
+-- the first `k` pairs of words that a round made
 pub record Paired (s m : ℕ) (old new : List ℕ) (k : ℕ) : Type 0 where
   pub even : (j : ℕ) → j < k
       → get_or new (2 * j) 0 ≡ even_word s m (get_or old j 0) (get_or old (j + 32) 0)
   pub odd : (j : ℕ) → j < k
       → get_or new (2 * j + 1) 0 ≡ odd_word s m (get_or old j 0) (get_or old (j + 32) 0)
 
--- what the mask's test says, where the column's bit is x
+-- the mask's test of column `c`, where the column's bit is `x`
 mask_parts : (s m c x : ℕ) → c / s % 2 ≡ x → is_masked s m c ≡ true
     → cond (nat_eq x 0) (on m c && (ltb c s || not (on m (c - s))))
     ((leb s c && on m (c - s)) && not (on m c)) ≡ true

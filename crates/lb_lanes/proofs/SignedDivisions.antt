@@ -37,7 +37,7 @@ negated (suc k) h =
     let same : (0 + (4294967296 - suc k)) % 4294967296 ≡ 4294967296 - suc k = omega arith in
     ap (to_z w32) same ∙ to_z-neg w32 k h
 
--- the word of a quotient that fits
+-- the negated word of a size that fits is the negative integer
 pub word_negated : (n : ℕ) → n ≤ 2147483648
     → to_z w32 ((0 + (4294967296 - n)) % 4294967296) ≡ signed_by true n
 unfolding signed_by
@@ -47,7 +47,7 @@ pub word_same : (n : ℕ) → SFits w32 (signed_by false n) → to_z w32 n ≡ s
 unfolding signed_by
 word_same n f = to_z_pos w32 n f.sfits
 
--- the remainder, by the quotient
+-- the remainder, computed from the quotient
 minus_of : (p r a : ℤ) → p +ℤ r ≡ a → a -ℤ p ≡ r
 minus_of p r a e = omega (arith, ints, e)
 
@@ -72,7 +72,7 @@ remainder_word x q d hx hq hd positive small is =
     ∙ ap (int_wrap w32) (minus_of (int_div a b *ℤ b) (int_rem a b) a (quot-rem a b))
     ∙ int_wrap_fits w32 (int_rem a b) (rem_fits a b positive small)
 
--- a divisor of each number is not 0
+-- the size of a divisor is not 0, where the two can be divided
 pub abs_positive : (a d : ℤ) → can_divide a d ≡ true → 0 < unsigned_abs d
 unfolding can_divide
 abs_positive a (pos zero) e = cc

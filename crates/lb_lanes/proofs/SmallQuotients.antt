@@ -1,4 +1,4 @@
--- Quotients that were guessed.
+-- Quotients that are guessed and checked.
 use Rattle.std.proofs.Common.{◌≡◌, ℕ, ◌/◌, ◌<◌, Bool, true, false, not, ◌&&◌, ℤ, pos}
 use Rattle.std.proofs.Common.{negsuc, cond, refl, sym, ap, ap₂, ◌∙◌, subst, arith, w32, to_z}
 use Rattle.std.specs.Int.RustNames.{unsigned_abs}
@@ -15,7 +15,7 @@ apart x y h = by (int_eq x y) refl
     by true e = absurd (h (int_same x y e))
     by false e = refl
 
--- a divisor other than 0, and a small quotient
+-- two integers can be divided, if the divisor is not 0 and the quotient is small
 divides : (a d : ℤ) → 0 < unsigned_abs d → unsigned_abs a / unsigned_abs d < 65536
     → can_divide a d ≡ true
 unfolding can_divide
@@ -42,7 +42,7 @@ small_divides x y n d q size by positive is small =
     divides (to_z w32 x) (to_z w32 y) (subst (λ k. 0 < k) by positive)
     (subst (λ k. k < 65536) (is ∙ ap₂ (λ k l. k / l) size by) small)
 
--- a lane that is sure, is not live, or is divided by itself where it can be
+-- a lane that is sure or not live, or is divided by itself if it can be, has the kept result
 pub kept_settled : (f : ℤ → ℤ → ℤ) (live sure can : Bool) (a b r : ℤ)
     → (sure ≡ true → can_divide a b ≡ true) → r ≡ cond sure (f a b) (pos 0)
     → can ≡ can_divide a b
@@ -66,7 +66,7 @@ faulty_settled f true false true a b h e =
 faulty_settled f true false false a b h e =
     ap (λ t. faulty true (cond t (Some (f a b)) None)) e
 
--- a divisor that is 0
+-- no integer can be divided by 0
 not_zero : (a b : ℤ) (none : Bool) → none ≡ int_eq b (pos 0) → not none ≡ false
     → can_divide a b ≡ false
 unfolding can_divide
@@ -74,7 +74,7 @@ not_zero a b true is h =
     ap (λ t. not t && not (int_eq a (negsuc 2147483647) && int_eq b (negsuc 0))) (sym is)
 not_zero a b false is h = cc
 
--- a lane that is sure, or is not live, or has 0 for a divisor
+-- a lane that is sure or not live, or has 0 for a divisor, has the kept result
 pub kept_guess : (f : ℤ → ℤ → ℤ) (live sure none : Bool) (a b r : ℤ)
     → (sure ≡ true → can_divide a b ≡ true) → r ≡ cond sure (f a b) (pos 0)
     → none ≡ int_eq b (pos 0) → ((live && not sure) && not none) ≡ false

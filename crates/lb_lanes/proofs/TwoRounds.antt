@@ -10,21 +10,21 @@ use Rattle.lb_lanes.specs.Transposes.{IsRound, IsMask}
 use Rattle.lb_lanes.proofs.Rounds.{Paired, even_word, odd_word, round_made}
 
 module _ (s m s' m' : ℕ) (old : List ℕ) where
-  -- the words of the first round
+  -- the words that the first round makes, at even places and at odd ones
   abbrev evens : ℕ → ℕ
   evens j = even_word s m (get_or old j 0) (get_or old (j + 32) 0)
 
   abbrev odds : ℕ → ℕ
   odds j = odd_word s m (get_or old j 0) (get_or old (j + 32) 0)
 
-  -- those of a word that stands 16 further on, and of one that stands at n
+  -- the words that the first round makes of the words at `j + 16` and at `n`
   abbrev evens_from : ℕ → ℕ → ℕ
   evens_from j n = even_word s m (get_or old (j + 16) 0) (get_or old n 0)
 
   abbrev odds_from : ℕ → ℕ → ℕ
   odds_from j n = odd_word s m (get_or old (j + 16) 0) (get_or old n 0)
 
-  -- the words that both rounds made
+  -- the words below `4 * k` that both rounds made
   pub record Doubled (new : List ℕ) (k : ℕ) : Type 0 where
     pub as_long : length new ≡ 64
     pub evens_even :
@@ -109,7 +109,7 @@ module _ (s m s' m' : ℕ) (old : List ℕ) where
             length-set (set (set new (4 * k) a) (4 * k + 1) b) (4 * k + 2) c,
           ))
 
-  -- four words more
+  -- with four more words set, both rounds made the words below `4 * (k + 1)`
   pub doubled_more :
       (new : List ℕ) (k a b c d : ℕ) → Doubled new k → k < 16 →
       a ≡ even_word s' m' (evens k) (evens_from k (k + 48)) →

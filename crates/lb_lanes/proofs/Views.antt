@@ -16,7 +16,7 @@ module _ (w : Width) (at_zero : to_z w 0 ≡ pos 0) where
   lane-view (n ∷ bits) zero = refl
   lane-view (n ∷ bits) (suc i) = lane-view bits i
 
-  -- the same, where the integers are known by another name
+  -- `lane-view` for integers `now` that are equal to those of the words
   pub view_lane : (bits : List ℕ) (now : List ℤ) (i : ℕ) → map (to_z w) bits ≡ now →
       to_z w (get_or bits i 0) ≡ lane_of now i
   view_lane bits now i is = sym (lane-view bits i) ∙ ap (λ l. lane_of l i) is
@@ -40,12 +40,12 @@ module _ (w : Width) (at_zero : to_z w 0 ≡ pos 0) where
   lane-splat n i h =
       lane-view (replicate 64 n) i ∙ ap (to_z w) (get_or-replicate 64 i n 0 h)
 
--- the integer of a word that a cast made
+-- a word that casts made of an integer stands for that integer
 pub word_of :
     (w : Width) (n : ℕ) (v : ℤ) → SFits w v → n ≡ of_z w (to_z w (of_z w v)) → to_z w n ≡ v
 word_of w n v f e = ap (to_z w) (e ∙ ap (of_z w) (to_z-of_z w v f)) ∙ to_z-of_z w v f
 
--- a word that was chosen, as an integer
+-- the integer of a chosen word is the chosen integer
 pub word_by : (w : Width) (b : Bool) (m n : ℕ)
     → to_z w (cond b m n) ≡ cond b (to_z w m) (to_z w n)
 word_by w true m n = refl

@@ -10,11 +10,11 @@ use Rattle.lb_lanes.specs.Planes.{on}
 use Rattle.lb_lanes.specs.declared.width.Width.{Width}
 use Rattle.lb_lanes.proofs.OnPlanes.{on-above, on-and}
 
--- they are among the 64
+-- each lane of a width is below 64
 pub inside : (w : Width) (i : ℕ) → i < lanes_in w → i < 64
 inside w i h = omega (arith, h, w.few)
 
--- a lane of a small plane is a low one
+-- a lane that is true in a plane below 2 ^ `k` is below `k`
 pub lane_below : (x k i : ℕ) → x < 2 ^ k → on x i ≡ true → i < k
 lane_below x k i small there = by (cases_lt i k)
   where
@@ -22,7 +22,7 @@ lane_below x k i small there = by (cases_lt i k)
     by (inl l) = l
     by (inr le) = absurd (true≢false (sym there ∙ on-above x k i small le))
 
--- a plane without the lanes above
+-- in a lane where `plane` is true, `active` masked by `plane` is `active`
 pub masked : (active plane i : ℕ) → on plane i ≡ true → on (bit_and active plane) i ≡ on active i
 masked active plane i there =
     on-and active plane i ∙ ap (λ b. on active i && b) there ∙ and-true (on active i)

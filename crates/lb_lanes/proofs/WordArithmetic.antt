@@ -16,7 +16,7 @@ use Rattle.lb_lanes.proofs.OnPlanes.{on-and, on-xor}
 use Rattle.lb_lanes.proofs.Words.{fits_int, int_fits}
 use Rattle.lb_lanes.proofs.WordVectors.{raised_word, top_on}
 
--- the integer of a word, by its half
+-- the integer of word `n`, where `b` is whether the word is below 2 ^ 31
 abbrev half_of : Bool → ℕ → ℤ
 half_of b n = sel b (pos n) (negsuc (4294967296 - suc n))
 
@@ -55,7 +55,7 @@ pub word_equal_is : (m n : ℕ) → m < 2 ^ 32 → n < 2 ^ 32
     → nat_eq m n ≡ int_eq (to_z w32 m) (to_z w32 n)
 word_equal_is m n p q = eq_by m n p q (ltb m 2147483648) (ltb n 2147483648) refl refl
 
--- the top bit, as the test of the half
+-- the top bit of a word is set just where the word is not below 2 ^ 31
 high_is : (n : ℕ) → leb 2147483648 n ≡ not (ltb n 2147483648)
 high_is n = by (leb 2147483648 n) refl
   where
@@ -72,11 +72,11 @@ low_of n e = grind arith
 high_of : (n : ℕ) → ltb n 2147483648 ≡ false → 2147483648 ≤ n
 high_of n e = grind arith
 
--- where a sum is in the range of `int`: its sign is one of the operands'
+-- the word of a sum; the sum is in the range of `int` where its sign is one of the operands'
 abbrev sum_word : ℕ → ℕ → ℕ
 sum_word m n = (m + n) % 4294967296
 
--- the sign of neither operand
+-- whether `c` is the sign of neither operand
 abbrev neither : Bool → Bool → Bool → Bool
 neither a b c = differ (not a) (not c) && differ (not b) (not c)
 
@@ -145,7 +145,8 @@ pub sum_value_is : (m n : ℕ) → m < 2 ^ 32 → n < 2 ^ 32 → is_int (to_z w3
 sum_value_is m n p q e =
     wrapping_add-bits w32 m n p q ∙ int_wrap_fits w32 (to_z w32 m +ℤ to_z w32 n) (fits_int _ e)
 
--- where a difference is: the operands have one sign, or the difference has the first one's
+-- the word of a difference; the difference is in the range of `int` where the operands have one
+-- sign, or where it has the sign of the first one
 abbrev difference_word : ℕ → ℕ → ℕ
 difference_word m n = (m + (4294967296 - n)) % 4294967296
 
@@ -213,7 +214,7 @@ pub difference_value_is : (m n : ℕ) → m < 2 ^ 32 → n < 2 ^ 32
 difference_value_is m n p q e =
     wrapping_sub-bits w32 m n p q ∙ int_wrap_fits w32 (to_z w32 m -ℤ to_z w32 n) (fits_int _ e)
 
--- a word that is 0, as the test of its integer
+-- a word is 0 just where its integer is 0
 zero_by : (m : ℕ) (b : Bool) → ltb m 2147483648 ≡ b → int_eq (half_of b m) (pos 0) ≡ nat_eq m 0
 zero_by m true e = grind arith
 zero_by m false e = grind arith
@@ -221,7 +222,7 @@ zero_by m false e = grind arith
 pub word_zero_is : (m : ℕ) → int_eq (to_z w32 m) (pos 0) ≡ nat_eq m 0
 word_zero_is m = zero_by m (ltb m 2147483648) refl
 
--- 0 in each lane, and what a product with it is
+-- a row of zeros has 0 in each lane, and a product with 0 is 0
 pub zero_word_at : (i : ℕ) → i < 64 → to_z w32 (get_or (replicate 64 0) i 0) ≡ pos 0
 zero_word_at i h = ap (to_z w32) (get_or-replicate 64 i 0 0 h)
 

@@ -11,7 +11,7 @@ use Rattle.std.specs.Int.RustNames.{unsigned_abs}
 use Rattle.lb_lanes.proofs.Words.{outside_is, fits_int, abs_int}
 use Rattle.lb_lanes.proofs.WordViews.{word_is_int}
 
--- the look at a word of 64 bits
+-- the code's test of a word of 64 bits is the test for the range of `int`
 look_is : (n : ℕ) → n < 2 ^ 64
     → ((n + 2147483648) % 18446744073709551616 / 4294967296 == 0) ≡ is_int (to_z w64 n)
 look_is n h = sym (not_not _) ∙ ap not (outside_is n h) ∙ not_not _
@@ -92,11 +92,11 @@ pub product_look : (n x y : ℕ) (p q : ℤ) → p ≡ to_z w32 x → q ≡ to_z
     ≡ is_int (to_z w32 x *ℤ to_z w32 y)
 product_look n x y p q e f h is = look_is n h ∙ ap is_int (exact_is n x y p q e f is)
 
--- an upper half that is 0
+-- an upper half that is 0 passes the test for 0
 pub is_zero : (n : ℕ) → n ≡ 0 → (n == 0) ≡ true
 is_zero n h = grind arith
 
--- a small word
+-- a word that passes the test for small operands has a size of 32768 at most
 small_by : (x : ℕ) (t : Bool) → x < 2 ^ 32 → ltb x 2147483648 ≡ t
     → (x + 32768) % 4294967296 < 65536
     → unsigned_abs (sel t (pos x) (negsuc (4294967296 - suc x))) ≤ 32768

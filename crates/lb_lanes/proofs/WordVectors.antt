@@ -14,21 +14,21 @@ use lib.Lanes.{zip2, Each1, mask_l, sel_l, top}
 use Rattle.lb_lanes.specs.Planes.{on}
 use Rattle.lb_lanes.proofs.OnPlanes.{on-mod, on-mod_at, on-mask_l, lane_mask-on}
 
--- what a check tells of a vector of sixteen words of 32 bits
+-- a vector of sixteen words of 32 bits
 abbrev pub Words16 : List ℕ → Type 0
 Words16 xs = (length xs ≡ 16) × Each1 (Fits w32) xs
 
 pub word_fits : (xs : List ℕ) (i : ℕ) → Words16 xs → i < 16 → get_or xs i 0 < 2 ^ 32
 word_fits xs i w h = (Each1-get_or (Fits w32) xs i 0 (omega (arith, w.0)) w.1).fits
 
--- one word everywhere
+-- a vector with one word in each lane
 pub splat_long : {n : ℕ} (k : ℕ) → length (replicate n k) ≡ n
 splat_long {n} k = length-replicate {A = ℕ} n k
 
 pub splat_at : {n : ℕ} (k i : ℕ) → i < n → get_or (replicate n k) i 0 ≡ k
 splat_at {n} k i h = get_or-replicate n i k 0 h
 
--- an operation on two vectors
+-- an operation on two vectors is the operation in each lane
 pub op_at : {n : ℕ} (f : ℕ → ℕ → ℕ) (xs ys : List ℕ) (i : ℕ) → length xs ≡ n → length ys ≡ n
     → i < n → get_or (zip2 f xs ys) i 0 ≡ f (get_or xs i 0) (get_or ys i 0)
 op_at f xs ys i p q h = get_or-zip2 f xs ys i 0 0 0 (omega (arith, p, h)) (omega (arith, q, h))
@@ -61,7 +61,7 @@ word_bitmask_bound t xs ys p q =
     subst (λ l. mask_l l % 18446744073709551616 < 65536) (sym (tops_compared w32 t xs ys))
     (mask_bound (zip2 t xs ys) (length-zip2 t xs ys (omega (arith, p, q)) ∙ p))
 
--- a choice by a test of two vectors
+-- a choice by a test of two vectors is the choice in each lane
 pub word_chosen :
     (t : ℕ → ℕ → Bool) (xs ys us vs : List ℕ) (i : ℕ) → length xs ≡ 16 → length ys ≡ 16
     → length us ≡ 16 → length vs ≡ 16 → i < 16
@@ -79,7 +79,7 @@ word_chosen t xs ys us vs i p q r u h =
     ∙ get_or-zip2 t xs ys i 0 0 false (omega (arith, p, h)) (omega (arith, q, h))
     ∙ sym (on-word_bitmask t xs ys i p q h))
 
--- the words after half of all words was added
+-- words with 2 ^ 31 added
 abbrev pub raised_word : ℕ → ℕ
 raised_word n = (n + 2147483648) % 4294967296
 
@@ -114,7 +114,7 @@ word_masks-on m i h =
     get_or-map-range_with_len (word_mask (m % 4294967296)) 0 16 i i false h (zero-add i)
     ∙ word_mask-on (m % 4294967296) i ∙ on-mod_at 32 m i (omega (arith, h))
 
--- the top bit of a word
+-- the top bit of a word is set just where the word is not below 2 ^ 31
 top_low : (x : ℕ) → leb 2147483648 x ≡ false → (x / 2147483648 % 2 == 1) ≡ false
 top_low x e = grind arith
 

@@ -22,10 +22,10 @@ word_is_int n = by (ltb n 2147483648) refl
     by true e = low_is_int n e
     by false e = high_is_int n e
 
--- and so does each of many
+-- each word of a list stands for an integer in the range of `int`
 pub bits_are_ints : (bits : List ℕ) → AreInts (map (to_z w32) bits)
 bits_are_ints bits i h = ap is_int (lane-view w32 refl bits i) ∙ word_is_int _
 
--- the integer of a word that a cast made
+-- a word that casts made of an integer stands for that integer
 pub bits_of : (n : ℕ) (v : ℤ) → SFits w32 v → n ≡ of_z w32 (to_z w32 (of_z w32 v)) → to_z w32 n ≡ v
 bits_of n v f e = word_of w32 n v f e

@@ -19,7 +19,7 @@ unfolding is_int
 fits_int (pos n) e = record { sfits = below n e }
 fits_int (negsuc n) e = record { sfits = below n (sym (and-true (leb n 2147483647)) ∙ e) }
 
--- and one that fits 32 bits is in the range of `int`
+-- an integer that fits 32 bits is in the range of `int`
 pub int_fits : (v : ℤ) → SFits w32 v → is_int v ≡ true
 unfolding is_int
 int_fits (pos n) f = let h = f.sfits in grind arith

@@ -1,6 +1,6 @@
--- What the kernels promise: each lane is computed alike, from the same lane of the operands alone.
--- A test of two integers, and an operator on Booleans, gives a plane whose lanes are what it gives
--- of each lane (`IsPlaneOf`); what the other calls give is said here.
+-- The promises of the kernels: each lane is computed alike, from the same lane of the operands
+-- alone. A test of two integers, and an operator on Booleans, returns a plane with its result in
+-- each lane (`IsPlaneOf`); the promises of the other calls stand here.
 -- Source: this project's rule.
 use Rattle.std.specs.Prelude.{◌≡◌, ℕ, ◌<◌, Option, List, [], ℤ, EachIndex, slice_index}
 use Rattle.std.specs.Prelude.{slice_index_or, if◌then◌else◌}
@@ -15,17 +15,17 @@ abbrev pub IsKernel : (ℤ → ℤ → Option ℤ) → List ℤ → List ℤ →
 IsKernel op a b active out faults =
     IsKernelBelow 64 op (lane_of a) (lane_of b) active (lane_of out) faults
 
--- each lane is that of a where the mask is true, and that of b where it is not
+-- each lane is the lane of `a` where the mask is true, and the lane of `b` where it is not
 abbrev pub IsBlend : ℕ → List ℤ → List ℤ → List ℤ → Type 0
 IsBlend mask a b out = IsBlendBelow 64 mask (lane_of a) (lane_of b) (lane_of out)
 
--- the same of planes
+-- `IsBlend` for planes
 abbrev pub IsSelection : ℕ → ℕ → ℕ → ℕ → Type 0
 IsSelection mask a b plane = IsPlaneOf (λ i. if on mask i then on a i else on b i) plane
 
 -- ## Slices, element by element
 
--- word by word, what the operation on words gives
+-- each word is the result of the operation on the two words at its place
 abbrev pub IsWordwise : (ℕ → ℕ → ℕ) → List ℕ → List ℕ → List ℕ → Type 0
 IsWordwise op a b out =
     EachIndex out (λ k. slice_index out k ≡ op (slice_index a k) (slice_index b k))

@@ -4,11 +4,11 @@ use Rattle.std.specs.Int.{cast_unsigned, w32}
 use Rattle.std.specs.List.{range_with_len}
 use Rattle.lb_lanes.specs.Kernels.{lane_of}
 
--- the integer whose upper half is the first, and whose lower half has the bits of the second
+-- the integer whose upper half is `high`, and whose lower half has the bits of `low`
 abbrev pub whole_of : ℤ → ℤ → ℤ
 whole_of high low = high *ℤ pos 4294967296 +ℤ pos (cast_unsigned w32 low)
 
--- 64 such integers
+-- 64 integers, by their upper halves and their lower ones
 abbrev pub whole_lanes : List ℤ → List ℤ → List ℤ
 whole_lanes high low = map (λ i. whole_of (lane_of high i) (lane_of low i)) (range_with_len 0 64)
 

@@ -1,4 +1,4 @@
--- The operators on integers as tables: none where the operator has a fault.
+-- The operators on integers as tables: no value where the operator has a fault.
 -- Which operators there are, and that `div` truncates toward zero: the Lustre V6 reference manual,
 -- on data operators. The range of `int`, and what is a fault: this project's rule.
 use Rattle.std.specs.Prelude.{Bool, not, ◌&&◌, Option, Some, None, ℤ, pos, negsuc, ◌+ℤ◌, ◌-ℤ◌, ◌*ℤ◌}

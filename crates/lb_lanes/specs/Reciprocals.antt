@@ -1,7 +1,7 @@
 -- Division by a multiplication: a reciprocal of a divisor in whole numbers.
 use Rattle.std.specs.Prelude.{ℕ, ◌+◌, ◌*◌, ◌<◌, ◌≤◌, ◌^◌, Bool, true, false, ℤ, pos, negsuc}
 
--- factor / 2 ^ shift is 1 / d rounded up, so closely that it serves each number up to 2 ^ 31
+-- `factor / 2 ^ shift` is `1 / d` rounded up, closely enough for each number up to 2 ^ 31
 pub record IsReciprocal (d factor shift : ℕ) : Type 0 where
   pub divisor : 0 < d
   pub below : factor * d < 2 ^ shift + d

@@ -12,7 +12,7 @@ pub(crate) fn load8(words: &[u64], at: usize) -> u64x8
     u64x8::from_slice(&words[at..])
 }
 
-// Puts eight words from `at` on.
+// Puts `eight` into the words from `at` on.
 pub(crate) fn store8(words: &mut [u64], at: usize, eight: u64x8)
     requires { at + 8 ≤ length words.old }
     ensures len { length words.new ≡ length words.old }

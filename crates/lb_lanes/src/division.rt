@@ -1,4 +1,4 @@
-//! What is done where two integers are divided: the quotient, or the remainder.
+//! The two results of a division of integers: the quotient, and the remainder.
 
 ghost use Rattle.std.specs.Prelude.{◌≡◌, ℤ, IsTrue, int_div, int_rem};
 ghost use Rattle.std.specs.Int.{cast_signed, w32};
@@ -14,7 +14,7 @@ pub(crate) trait Division {
         requires { IsTrue (can_divide x y) }
         ensures { result ≡ divided x y };
 
-    // The result, by the quotient of the two.
+    // The result, computed from the quotient of the two.
     fn from_quotient(x: u32, divisor: u32, quotient: u32) -> u32
         requires divisible { IsTrue (can_divide (cast_signed w32 x) (cast_signed w32 divisor)) }
         requires quotient { cast_signed w32 quotient
@@ -23,7 +23,7 @@ pub(crate) trait Division {
             ≡ divided (cast_signed w32 x) (cast_signed w32 divisor) };
 }
 
-/// Truncated toward zero.
+/// The quotient, truncated toward zero.
 pub(crate) struct Quotient;
 
 impl Division for Quotient {
@@ -39,7 +39,7 @@ impl Division for Quotient {
     }
 }
 
-/// With the dividend's sign.
+/// The remainder, with the dividend's sign.
 pub(crate) struct Remainder;
 
 impl Division for Remainder {

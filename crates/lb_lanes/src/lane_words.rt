@@ -23,10 +23,10 @@ use std::marker::Model;
 
 /// 64 integers in the range of `int`, a lane each.
 ///
-/// The operators compute in the lanes of the active plane alone, and give the lanes with a fault as
-/// a plane. No lane can be out of the range of `int`.
+/// The operators compute in the lanes of the active plane alone, and return the lanes with a fault
+/// as a plane. No lane can be out of the range of `int`.
 ///
-/// What takes a width computes in its lanes, and may leave anything in the others.
+/// A function that takes a width computes in its lanes, and may leave anything in the others.
 #[derive(Drop)]
 pub struct LaneWord {
     lanes: [u32; 64],
@@ -55,7 +55,7 @@ impl LaneWord {
         let _ = &self.lanes;
     }
 
-    /// The lane, a number below 64.
+    /// The value of the lane, a number below 64.
     pub fn get(&self, lane: u32) -> i32
         requires { lane < 64 }
         ensures { result ≡ lane_of self.now lane }
@@ -123,7 +123,7 @@ impl LaneWord {
         blend(mask.0, &a.lanes, &b.lanes, width, &mut self.lanes);
     }
 
-    // Puts the lanes of `new` where the mask is true.
+    // Takes over the lanes of `new` where the mask is true.
     pub(crate) fn commit(&mut self, new: &LaneWord, mask: Plane)
         ensures { IsBlend mask.0 new.now self.old self.new }
     {
@@ -139,7 +139,7 @@ impl LaneWord {
     }
 
     /// Takes over the lanes of `a` where those of `x` and `y` are equal, and those of `b` where
-    /// they are not; gives the lanes that are equal.
+    /// they are not; returns the lanes that are equal.
     #[inline(never)]
     pub fn set_where_eq(
         &mut self,
@@ -165,7 +165,7 @@ impl LaneWord {
     }
 
     /// Takes over the lanes of `a` where those of `x` are below those of `y`, and those of `b`
-    /// where they are not; gives the lanes that are below.
+    /// where they are not; returns the lanes that are below.
     #[inline(never)]
     pub fn set_where_lt(
         &mut self,
@@ -191,7 +191,7 @@ impl LaneWord {
     }
 
     /// Takes over the lanes of `a` where those of `x` are at most those of `y`, and those of `b`
-    /// where they are not; gives the lanes that are at most.
+    /// where they are not; returns the lanes that are at most.
     #[inline(never)]
     pub fn set_where_le(
         &mut self,
@@ -216,8 +216,8 @@ impl LaneWord {
         ))
     }
 
-    /// Puts the lanes after an operator into `out`, and gives the faults: where the operator has no
-    /// result, or one out of the range of `int`.
+    /// Puts the results of an operator into `out`, and returns the faults: the active lanes where
+    /// the operator has no result, or one out of the range of `int`.
     ///
     /// A lane that is not active, or has a fault, gets 0.
     pub fn operate(
@@ -242,7 +242,7 @@ impl LaneWord {
     }
 }
 
-// Puts the lanes of a width after an operator into `out`, and gives their faults.
+// Puts the results of an operator in the lanes of `width` into `out`, and returns the faults.
 fn run_operator(
     op: IntOperator,
     a: &[u32; 64],
@@ -263,7 +263,7 @@ fn run_operator(
     }
 }
 
-// The same, whatever the active plane says of the lanes above.
+// `run_operator` without the active lanes above the width.
 fn operated(
     op: IntOperator,
     a: &[u32; 64],

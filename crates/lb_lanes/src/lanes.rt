@@ -48,8 +48,8 @@ fn whole(high: i32, low: i32) -> i64
 
 /// 64 integers of 64 bits, a lane each.
 ///
-/// The operators take lanes in the range of `int`, -2147483648 to 2147483647, and give such lanes.
-/// They compute in the lanes of the active plane alone, and give the lanes with a fault as a plane.
+/// The operators take and return lanes in the range of `int`, -2147483648 to 2147483647. They
+/// compute in the lanes of the active plane alone, and return the lanes with a fault as a plane.
 #[derive(Drop)]
 pub struct IntLanes {
     high: LaneWord,
@@ -74,7 +74,7 @@ impl IntLanes {
         }
     }
 
-    /// The lane, a number below 64.
+    /// The value of the lane, a number below 64.
     pub fn get(&self, lane: u32) -> i64
         requires { lane < 64 }
         ensures { result ≡ lane_of self.now lane }
@@ -143,7 +143,7 @@ impl IntLanes {
         lanes
     }
 
-    /// Takes over all lanes of another row.
+    /// Takes over all lanes of `other`.
     pub fn copy_from(&mut self, other: &IntLanes)
         ensures { self.new ≡ other.now }
     {
@@ -159,7 +159,7 @@ impl IntLanes {
         self.low.set_blend(mask, &a.low, &b.low, Width::all());
     }
 
-    // Puts the lanes of `new` where the mask is true.
+    // Takes over the lanes of `new` where the mask is true.
     pub(crate) fn commit(&mut self, new: &IntLanes, mask: Plane)
         ensures { IsBlend mask.0 new.now self.old self.new }
     {
@@ -167,7 +167,7 @@ impl IntLanes {
         self.low.commit(&new.low, mask);
     }
 
-    /// Puts the lanes after an operator into `out`, and gives the faults.
+    /// Puts the results of an operator into `out`, and returns the faults.
     ///
     /// A lane that is not active, or has a fault, gets 0.
     pub fn operate(
@@ -192,7 +192,7 @@ impl IntLanes {
         faults
     }
 
-    // The lanes after an operator, and their faults.
+    // The results of an operator, and the faults.
     fn operated(&self, op: IntOperator, other: &IntLanes, active: Plane) -> (IntLanes, Plane)
         requires left { AreInts self.now }
         requires right { AreInts other.now }

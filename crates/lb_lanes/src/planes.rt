@@ -46,7 +46,7 @@ impl Plane {
         Plane(selected(mask.0, a.0, b.0))
     }
 
-    /// The lane, a number below 64.
+    /// The value of the lane, a number below 64.
     pub fn get(self, lane: u32) -> bool
         requires { lane < 64 }
         ensures { result ≡ on self.0 lane }

@@ -1,8 +1,8 @@
 //! Division of 32 bits by a multiplication and a shift, for a divisor that serves many lanes.
 //!
-//! A divisor d has a whole number that is 2 ^ s / d rounded up. Where d is no power of 2, that fits
-//! a word for so large a shift that the products of it with numbers up to 2 ^ 31 have the quotients
-//! on top:
+//! The reciprocal of a divisor d is 2 ^ s / d rounded up. Where d is no power of 2, there is a
+//! shift s for which the reciprocal fits a word, and its product with a number n up to 2 ^ 31,
+//! shifted down by s, is the quotient n / d:
 //!
 //! ```text
 //! d = 10    s = 35    2 ^ 35 / 10 = 3435973836.8    rounded up 3435973837
@@ -17,7 +17,8 @@ ghost use Rattle.lb_lanes.specs.Operators.{can_divide};
 ghost use Rattle.lb_lanes.specs.Planes.{differ};
 ghost use Rattle.lb_lanes.specs.Reciprocals.{IsReciprocal, is_below_zero};
 
-// The reciprocal of a divisor between this power of 2 and the next: the multiplier, and the shift.
+// The reciprocal of a divisor between 2 ^ `log` and the next power of 2: the multiplier, and the
+// shift.
 pub(crate) fn reciprocal(d: u32, log: u32) -> (u32, u32)
     requires above { 2 ^ log < d }
     requires below { d < 2 * 2 ^ log }
@@ -30,7 +31,7 @@ pub(crate) fn reciprocal(d: u32, log: u32) -> (u32, u32)
     (factor as u32, shift)
 }
 
-// A number up to 2 ^ 31, divided by the divisor of this reciprocal.
+// The quotient of `n`, a number up to 2 ^ 31, and `d`, by the reciprocal of `d`.
 fn size_divided(n: u32, d: u32, factor: u32, shift: u32) -> u32
     requires bound { n ≤ 2147483648 }
     requires reciprocal { IsReciprocal d factor shift }
@@ -52,7 +53,7 @@ fn differs_in_sign(x: u32, y: u32) -> bool
     }
 }
 
-// The size of a quotient with the sign that it has for these two.
+// The quotient of `x` and `divisor`, by its size.
 pub(crate) fn signed(x: u32, divisor: u32, size: u32) -> u32
     requires size { size
         ≡ unsigned_abs (cast_signed w32 x) / unsigned_abs (cast_signed w32 divisor) }
@@ -66,7 +67,7 @@ pub(crate) fn signed(x: u32, divisor: u32, size: u32) -> u32
     }
 }
 
-// The integer of a word, divided by one whose size is a power of 2.
+// The quotient of the integers of two words, where the size of the divisor is 2 ^ `shift`.
 pub(crate) fn word_shifted(x: u32, divisor: u32, shift: u32) -> u32
     requires short { shift < 32 }
     requires power { unsigned_abs (cast_signed w32 divisor) ≡ 2 ^ shift }
@@ -76,7 +77,7 @@ pub(crate) fn word_shifted(x: u32, divisor: u32, shift: u32) -> u32
     signed(x, divisor, x.cast_signed().unsigned_abs() >> shift)
 }
 
-// The integer of the first word, divided by that of the second.
+// The quotient of the integers of two words, by the reciprocal of the divisor's size.
 pub(crate) fn word_divided(x: u32, divisor: u32, factor: u32, shift: u32) -> u32
     requires reciprocal { IsReciprocal (unsigned_abs (cast_signed w32 divisor)) factor shift }
     requires divisible { IsTrue (can_divide (cast_signed w32 x) (cast_signed w32 divisor)) }

@@ -154,7 +154,7 @@ fn is_outside(value: i64) -> bool
 pub fn any_outside(values: &[i64]) -> bool
     ensures { result ≡ list_any (λ v. not (is_int v)) values.now }
 {
-    // With no way out of the loop, some values are looked at side by side.
+    // The loop has no early exit, so that values are tested side by side.
     let mut found = false;
     for value in values {
         found |= is_outside(*value);

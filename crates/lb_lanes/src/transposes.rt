@@ -4,7 +4,7 @@ ghost use Rattle.std.specs.Prelude.{ℕ, ◌<◌, List};
 ghost use Rattle.lb_lanes.specs.Correct.{IsTransposed};
 ghost use Rattle.lb_lanes.specs.Transposes.{IsMask, IsRound};
 
-// Of the columns of a word those whose numbers do not have the bit of this weight.
+// Masks of columns of a word: the columns whose numbers do not have the bit of this weight.
 const MASK_32: u64 = 0x0000_0000_ffff_ffff;
 
 const MASK_16: u64 = 0x0000_ffff_0000_ffff;
@@ -17,9 +17,9 @@ const MASK_2: u64 = 0x3333_3333_3333_3333;
 
 const MASK_1: u64 = 0x5555_5555_5555_5555;
 
-// Two rounds of the transposition, one after the other. In each, of the pairs of words that are 32
-// apart, the columns of the one that are not under the mask change places with those of the other
-// that are, and the new pair stands side by side.
+// Two rounds of the transposition, one after the other. A round takes each pair of words that are
+// 32 apart. It exchanges the columns of the first word that are not under the mask with the columns
+// of the second word that are, and puts the new pair side by side.
 fn two_rounds(
     words: &[u64; 64],
     shift: u32,
@@ -57,7 +57,7 @@ fn two_rounds(
 
 /// Turns rows into columns: bit c of word r becomes bit r of word c.
 ///
-/// Each of the six rounds lets a bit of the row's number and a bit of the column's change places.
+/// Each of the six rounds exchanges a bit of the row's number and a bit of the column's number.
 pub fn transpose(words: &mut [u64; 64])
     ensures { IsTransposed words.old words.new }
 {

@@ -1,7 +1,6 @@
-//! How many lanes are computed.
+//! The width: the number of lanes that are computed.
 //!
-//! Lanes are computed sixteen at a time. Where all that count are low ones, those above are left
-//! out:
+//! Lanes are computed in chunks of sixteen. The chunks above the last active lane are left out:
 //!
 //! ```text
 //! lanes     0..15   16..31   32..47   48..63
@@ -13,7 +12,7 @@ ghost use Rattle.lb_lanes.specs.Planes.{on};
 
 use crate::planes::Plane;
 
-// How many chunks have all lanes of a plane.
+// The number of low chunks that have all lanes of a plane.
 fn chunks_of(lanes: u64) -> usize
     ensures some { 0 < result }
     ensures few { result ≤ 4 }
@@ -31,8 +30,8 @@ fn chunks_of(lanes: u64) -> usize
     4
 }
 
-/// How many of the 64 lanes are computed: the first 16, 32, 48 or all. Of what the other lanes
-/// hold afterwards nothing is known.
+/// The number of lanes that are computed: the first 16, 32, 48 or all 64. Nothing is known of what
+/// the other lanes hold afterwards.
 #[derive(Clone, Copy)]
 pub struct Width {
     pub(crate) chunks: usize,
@@ -59,7 +58,7 @@ impl Width {
         }
     }
 
-    // A plane with all its lanes.
+    // A plane that is true in all lanes of the width.
     pub(crate) fn plane(self) -> u64
         ensures { (i : ℕ) → i < lanes_in self → on result i ≡ true }
     {

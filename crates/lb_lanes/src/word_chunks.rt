@@ -1,7 +1,7 @@
 //! Sixteen words of 32 bits at a time: four registers of the lowest processor level.
 //!
-//! A plane gives sixteen of its bits to a chunk. Bit i of them stands in word i alone, so that a
-//! comparison makes a mask of whole words of them:
+//! A chunk takes sixteen bits of a plane. Bit i of them stands in word i alone, so that a
+//! comparison turns the bits into a mask of whole words:
 //!
 //! ```text
 //! plane       ..0 1 1          the word 3, in each lane
@@ -15,7 +15,7 @@ ghost use Rattle.lb_lanes.specs.Planes.{on};
 
 use std::simd::prelude::*;
 
-// The bit of a plane that stands for each lane of a chunk.
+// For each lane of a chunk, the bit of a plane that stands for it.
 const BITS: [u32; 16] = [
     1, 2, 4, 8, 16, 32, 64, 128, 256, 512, 1024, 2048, 4096, 8192, 16384, 32768,
 ];
@@ -28,7 +28,7 @@ pub(crate) fn load16(words: &[u32], at: usize) -> u32x16
     u32x16::from_slice(&words[at..])
 }
 
-// Puts sixteen words from `at` on.
+// Puts `lanes` into the sixteen words from `at` on.
 pub(crate) fn store16(words: &mut [u32], at: usize, lanes: u32x16)
     requires { at + 16 ≤ length words.old }
     ensures len { length words.new ≡ length words.old }

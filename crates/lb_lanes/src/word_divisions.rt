@@ -1,10 +1,10 @@
 //! Quotients and remainders of 64 integers of 32 bits, under a plane of active lanes.
 //!
 //! The divisor is mostly the same in all active lanes, as a constant is. Then each lane takes a
-//! multiplication and a shift, or a shift alone where the divisor is a power of 2. Else all are
-//! divided as small numbers, and a lane that this leaves in doubt by itself, but where its divisor
-//! is 0. Where the first dividend is large, each is divided by itself, with 1 for a divisor where
-//! the lane is not active or cannot be divided, and made 0 there:
+//! multiplication and a shift, or a shift alone where the divisor is a power of 2. Else all lanes
+//! are divided as small numbers. A lane that this leaves in doubt is then divided by itself, unless
+//! its divisor is 0. Where the first dividend is large, every lane is divided by itself: a lane
+//! that is not active or cannot be divided has 1 for a divisor, and its result is made 0:
 //!
 //! ```text
 //! active      1    1    0    1
@@ -29,7 +29,7 @@ use crate::word_kernels::{blend, keep};
 use crate::word_quotients::{LARGE, divide_small};
 use crate::word_tests::{Divisible, Equal, tested};
 
-// Puts the results of lanes that can all be divided.
+// Puts the results into `out`, for lanes that can all be divided.
 fn divide_all<K: Division>(a: &[u32; 64], divisors: &[u32; 64], width: Width, out: &mut [u32; 64])
     requires { (i : ℕ) → i < lanes_in width
         → IsTrue (can_divide (bits_lane a.now i) (bits_lane divisors.now i)) }
@@ -42,7 +42,7 @@ fn divide_all<K: Division>(a: &[u32; 64], divisors: &[u32; 64], width: Width, ou
     }
 }
 
-// Puts the lanes after the division into `out`, each divided by itself, and gives their faults.
+// Puts the results into `out`, each lane divided by itself, and returns the faults.
 fn run_one_by_one<K: Division>(
     a: &[u32; 64],
     b: &[u32; 64],
@@ -67,7 +67,7 @@ fn run_one_by_one<K: Division>(
     active & !divisible
 }
 
-// The word of the result where a lane is divided, and else what it holds.
+// The word of the result if `divides`, and else `held`.
 fn divided_or<K: Division>(x: u32, y: u32, divides: bool, held: u32) -> u32
     requires { IsTrue divides → IsTrue (can_divide (cast_signed w32 x) (cast_signed w32 y)) }
     ensures { cast_signed w32 result ≡ (if divides
@@ -79,7 +79,7 @@ fn divided_or<K: Division>(x: u32, y: u32, divides: bool, held: u32) -> u32
     K::divide(x.cast_signed(), y.cast_signed()).cast_unsigned()
 }
 
-// Puts the results of some lanes, mostly few, each divided by itself.
+// Puts the results of the lanes of `divides`, mostly few, into `out`, each divided by itself.
 #[inline(never)]
 fn divide_some<K: Division>(
     a: &[u32; 64],
@@ -99,8 +99,7 @@ fn divide_some<K: Division>(
     }
 }
 
-// Puts the lanes after the division into `out`, each divided by its own divisor, and gives their
-// faults.
+// Puts the results into `out`, each lane divided by its own divisor, and returns the faults.
 #[inline(never)]
 fn run_each_division<K: Division>(
     a: &[u32; 64],
@@ -112,7 +111,7 @@ fn run_each_division<K: Division>(
     ensures { IsKernelBelow (lanes_in width) (divided_by K.divided) (bits_lane a.now)
         (bits_lane b.now) active (bits_lane out.new) result }
 {
-    // Where the first active lane has a large dividend, others have mostly, too.
+    // Where the first active lane has a large dividend, others mostly have one, too.
     let first = (active.trailing_zeros() % 64) as usize;
     if a[first].cast_signed().unsigned_abs() >= LARGE {
         return run_one_by_one::<K>(a, b, active, width, out);
@@ -133,7 +132,7 @@ fn run_each_division<K: Division>(
     doubtful & !divisible
 }
 
-// The divisor of all active lanes, if it is one that divides each integer.
+// The one divisor of all active lanes, if there is one and each integer can be divided by it.
 fn common_divisor(b: &[u32; 64], active: u64, width: Width) -> Option<u32>
     ensures { MatchOption result (Unit {0}) (λ d.
         ((i : ℕ) → i < lanes_in width → on active i ≡ true → bits_lane b.now i ≡ cast_signed w32 d)
@@ -151,7 +150,7 @@ fn common_divisor(b: &[u32; 64], active: u64, width: Width) -> Option<u32>
     if others == 0 { Some(divisor) } else { None }
 }
 
-// Puts the results of lanes that are all divided by one divisor, whose size is a power of 2.
+// Puts the results into `out`, for one divisor in all lanes, whose size is 2 ^ `shift`.
 fn divide_by_power<K: Division>(
     a: &[u32; 64],
     divisor: u32,
@@ -171,7 +170,7 @@ fn divide_by_power<K: Division>(
     }
 }
 
-// Puts the results of lanes that are all divided by one divisor.
+// Puts the results into `out`, for one divisor in all lanes.
 fn divide_by_one<K: Division>(a: &[u32; 64], divisor: u32, width: Width, out: &mut [u32; 64])
     requires { (v : ℤ) → IsTrue (can_divide v (cast_signed w32 divisor)) }
     ensures { (i : ℕ) → i < lanes_in width
@@ -190,7 +189,7 @@ fn divide_by_one<K: Division>(a: &[u32; 64], divisor: u32, width: Width, out: &m
     }
 }
 
-// Puts the lanes after the division into `out`, and gives their faults.
+// Puts the results of the division into `out`, and returns the faults.
 pub(crate) fn run_division<K: Division>(
     a: &[u32; 64],
     b: &[u32; 64],

@@ -1,7 +1,7 @@
 //! Choices, sums and differences of 64 integers of 32 bits, under a plane of lanes.
 //!
 //! A sum of 32 bits wraps. It is out of the range of `int` just where its sign is neither
-//! operand's, so that one bit of each lane tells:
+//! operand's, so that one bit of each lane shows it:
 //!
 //! ```text
 //! operands   7fffffff + 00000001    00000003 + 00000004
@@ -22,7 +22,7 @@ use crate::width::Width;
 use crate::word_chunks::{blended16, load16, store16, tops16};
 use std::simd::prelude::*;
 
-// Puts the lanes of `a` where the mask is true, and those of `b` where it is not.
+// Puts into `out` the lanes of `a` where the mask is true, and those of `b` where it is not.
 pub(crate) fn blend(mask: u64, a: &[u32; 64], b: &[u32; 64], width: Width, out: &mut [u32; 64])
     ensures { IsBlendBelow (lanes_in width) mask (bits_lane a.now) (bits_lane b.now)
         (bits_lane out.new) }
@@ -46,7 +46,7 @@ pub(crate) fn commit(mask: u64, new: &[u32; 64], width: Width, old: &mut [u32; 6
     }
 }
 
-// Makes the lanes 0 where the mask is not true, which it mostly is in all lanes.
+// `keep` for a mask that is not true in all lanes.
 #[inline(never)]
 fn keep_some(mask: u64, width: Width, lanes: &mut [u32; 64])
     ensures { (i : ℕ) → i < lanes_in width → bits_lane lanes.new i
@@ -104,8 +104,8 @@ impl Wrapping for Difference {
     }
 }
 
-// Puts the lanes after the operator into `out`, right where they are in the range of `int`, and
-// gives the lanes that are not.
+// Puts the wrapped results into `out`, and returns the lanes whose exact result is out of the range
+// of `int`. In the other lanes the wrapped result is exact.
 fn run_wrapped<K: Wrapping>(a: &[u32; 64], b: &[u32; 64], width: Width, out: &mut [u32; 64]) -> u64
     ensures values { (i : ℕ) → i < lanes_in width
         → IsTrue (is_int (K.exact (bits_lane a.now i) (bits_lane b.now i)))
@@ -123,7 +123,7 @@ fn run_wrapped<K: Wrapping>(a: &[u32; 64], b: &[u32; 64], width: Width, out: &mu
     beyond
 }
 
-// Puts the lanes after the operator into `out`, and gives their faults.
+// Puts the results of the operator into `out`, and returns the faults.
 pub(crate) fn run<K: Wrapping>(
     a: &[u32; 64],
     b: &[u32; 64],

@@ -2,7 +2,7 @@
 //!
 //! Where all operands are small their products fit 32 bits. Else each product is exact in 64 bits.
 //! With 2 ^ 31 added, its upper half is 0 just where the product is in the range of `int`. One look
-//! at the union of the upper halves tells whether all are:
+//! at the union of the upper halves shows whether all products are:
 //!
 //! ```text
 //! product    ffffffff_fffffff6    00000000_00000014    00000001_00000000
@@ -10,8 +10,8 @@
 //! upper      00000000           | 00000000           | 00000001          = 00000001
 //! ```
 //!
-//! Lanes that are not active are made 0 afterwards. Only where some product is out of the range a
-//! second pass tells which: there a lane that is not active counts as 0.
+//! Lanes that are not active are made 0 afterwards. Only where some product is out of the range, a
+//! second pass finds which: there a lane that is not active counts as 0.
 
 ghost use Rattle.std.specs.Prelude.{◌≡◌, ℕ, ◌<◌, ◌==◌, IsTrue, ◌*ℤ◌, slice_index};
 ghost use Rattle.std.specs.Int.{cast_signed, w32};
@@ -22,8 +22,8 @@ use crate::width::Width;
 use crate::word_kernels::{blend, keep};
 use crate::word_tests::{Equal, tested};
 
-// A product of two integers, right where the word beside it is below 2 ^ 16: both lie from -32768
-// to 32767 then, so that the product fits 32 bits.
+// A product of two integers, and a word. The product is right where the word is below 2 ^ 16: then
+// both integers lie from -32768 to 32767, so that the product fits 32 bits.
 fn small_product(x: u32, y: u32) -> (u32, u32)
     ensures { result.1 < 65536
         → cast_signed w32 result.0 ≡ cast_signed w32 x *ℤ cast_signed w32 y }
@@ -32,7 +32,7 @@ fn small_product(x: u32, y: u32) -> (u32, u32)
     (x.wrapping_mul(y), raised)
 }
 
-// Puts the products in 32 bits into `out`, and tells whether all operands are small.
+// Puts the products in 32 bits into `out`, and returns whether all operands are small.
 fn multiply_small(a: &[u32; 64], b: &[u32; 64], width: Width, out: &mut [u32; 64]) -> bool
     ensures { IsTrue result → (i : ℕ) → i < lanes_in width
         → bits_lane out.new i ≡ bits_lane a.now i *ℤ bits_lane b.now i }
@@ -59,7 +59,8 @@ fn product(x: u32, y: u32) -> (u32, u32)
     (low, (raised >> 32u64) as u32)
 }
 
-// Puts the products' low 32 bits into `out`, and tells whether all are the products.
+// Puts the products' low 32 bits into `out`, and returns whether all products are in the range of
+// `int`.
 fn multiply_wide(a: &[u32; 64], b: &[u32; 64], width: Width, out: &mut [u32; 64]) -> bool
     ensures { IsTrue result → (i : ℕ) → i < lanes_in width
         → bits_lane out.new i ≡ bits_lane a.now i *ℤ bits_lane b.now i }
@@ -73,20 +74,20 @@ fn multiply_wide(a: &[u32; 64], b: &[u32; 64], width: Width, out: &mut [u32; 64]
     look == 0
 }
 
-// Puts the products into `out`, and tells whether all are in the range of `int`.
+// Puts the products into `out`, and returns whether all are in the range of `int`.
 fn multiply(a: &[u32; 64], b: &[u32; 64], width: Width, out: &mut [u32; 64]) -> bool
     ensures { IsTrue result → (i : ℕ) → i < lanes_in width
         → bits_lane out.new i ≡ bits_lane a.now i *ℤ bits_lane b.now i }
 {
-    // Where the operands of a lane are large, others are mostly, too.
+    // Where the operands of lane 0 are large, others mostly are, too.
     if small_product(a[0], b[0]).1 < 65536 && multiply_small(a, b, width, out) {
         return true;
     }
     multiply_wide(a, b, width, out)
 }
 
-// Puts the products' low 32 bits into the first operands, and words that are 0 just where the
-// product is in the range of `int`.
+// Puts the products' low 32 bits into `lanes`, the first operands, and into `beyond` words that are
+// 0 just where the product is in the range of `int`.
 fn multiply_apart(lanes: &mut [u32; 64], by: &[u32; 64], width: Width, beyond: &mut [u32; 64])
     ensures values { (i : ℕ) → i < lanes_in width
         → IsTrue (is_int (bits_lane lanes.old i *ℤ bits_lane by.now i))
@@ -102,8 +103,7 @@ fn multiply_apart(lanes: &mut [u32; 64], by: &[u32; 64], width: Width, beyond: &
     }
 }
 
-// Puts the products into `out`, some of which are out of the range of `int`, and gives the
-// faults.
+// Puts the products into `out`, where some are out of the range of `int`, and returns the faults.
 fn run_apart(a: &[u32; 64], b: &[u32; 64], active: u64, width: Width, out: &mut [u32; 64]) -> u64
     ensures { IsKernelBelow (lanes_in width) product_of (bits_lane a.now) (bits_lane b.now) active
         (bits_lane out.new) result }
@@ -117,7 +117,7 @@ fn run_apart(a: &[u32; 64], b: &[u32; 64], active: u64, width: Width, out: &mut 
     !within
 }
 
-// Puts the products into `out`, and gives the faults.
+// Puts the products into `out`, and returns the faults.
 pub(crate) fn run_product(
     a: &[u32; 64],
     b: &[u32; 64],

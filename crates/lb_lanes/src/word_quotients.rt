@@ -1,7 +1,8 @@
 //! Divisions of 64 integers by 64 others, where most are small.
 //!
 //! A processor divides floats side by side, but integers one after the other. So a quotient is
-//! guessed by floats; what the proof rests on is the product with the divisor alone, in integers:
+//! guessed by floats, and checked by its product with the divisor, in integers. The proof rests on
+//! the check alone:
 //!
 //! ```text
 //! 57 / 10    guess 5    57 - 5 * 10 = 7 is below 10: the quotient is 5
@@ -45,7 +46,7 @@ fn near16(x: u32x16, y: u32x16) -> u32x16 {
     near.to_bits()
 }
 
-// Puts a guess at the size of each quotient.
+// Puts a guess at the size of each quotient into `guesses`.
 fn guess_all(a: &[u32; 64], b: &[u32; 64], width: Width, guesses: &mut [u32; 64]) {
     for c in 0..width.chunks {
         let at = 16 * c;
@@ -54,7 +55,7 @@ fn guess_all(a: &[u32; 64], b: &[u32; 64], width: Width, guesses: &mut [u32; 64]
     }
 }
 
-// The quotient of two sizes, where the guess is right and it and the divisor are small.
+// The quotient of two sizes, if the guess is right, and quotient and divisor are small.
 fn small_quotient(n: u32, d: u32, guess: u32) -> Option<u32>
     ensures right { IfSome result (λ q. q ≡ n / d) }
     ensures small { IfSome result (λ q. q < 65536) }
@@ -68,7 +69,7 @@ fn small_quotient(n: u32, d: u32, guess: u32) -> Option<u32>
     }
 }
 
-// A lane after the division and 0, or 0 and all bits where the quotient is in doubt.
+// The result of the division and 0; or, where the quotient is in doubt, 0 and a word of ones.
 fn settled<K: Division>(x: u32, y: u32, guess: u32) -> (u32, u32)
     ensures divisible { (result.1 == 0) ≡ true
         → can_divide (cast_signed w32 x) (cast_signed w32 y) ≡ true }
@@ -83,8 +84,8 @@ fn settled<K: Division>(x: u32, y: u32, guess: u32) -> (u32, u32)
     }
 }
 
-/// Puts the lanes after the division into `out`, or 0 where one is in doubt, and words that are
-/// 0 just where none is. Gives the union of these.
+/// Puts the results of the division into `out`, with 0 for a lane in doubt, and into `doubts` words
+/// that are 0 just where a lane is not in doubt. Returns the union of these words.
 pub(crate) fn divide_small<K: Division>(
     a: &[u32; 64],
     b: &[u32; 64],

@@ -77,7 +77,7 @@ impl WordChoice for Equal {
     }
 }
 
-// Integers are in the order of their words, once half of all words was added to each.
+// Words with `HALF` added to each are in the order of their integers.
 const HALF: u32 = 2147483648;
 
 impl WordChoice for Below {
@@ -101,7 +101,7 @@ const LEAST: u32 = 2147483648;
 
 const MINUS_ONE: u32 = 4294967295;
 
-/// Whether the two can be divided.
+/// Whether the two integers can be divided.
 pub(crate) struct Divisible;
 
 impl WordTest for Divisible {
@@ -126,7 +126,7 @@ impl WordTest for BelowUnsigned {
     }
 }
 
-// The lanes of the two that pass.
+// The lanes in which the test of `a` and `b` passes.
 pub(crate) fn tested<K: WordTest>(a: &[u32; 64], b: &[u32; 64], width: Width) -> u64
     ensures { IsPlaneBelow (lanes_in width)
         (λ i. K.passes (bits_lane a.now i) (bits_lane b.now i)) result }
@@ -140,8 +140,8 @@ pub(crate) fn tested<K: WordTest>(a: &[u32; 64], b: &[u32; 64], width: Width) ->
     plane
 }
 
-// Puts the lanes of `a` where those of `x` and `y` pass, and those of `b` where they do not, and
-// gives the lanes that pass.
+// Puts into `out` the lanes of `a` where those of `x` and `y` pass, and those of `b` where they do
+// not, and returns the lanes that pass.
 pub(crate) fn chosen<K: WordChoice>(
     x: &[u32; 64],
     y: &[u32; 64],

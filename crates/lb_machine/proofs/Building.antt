@@ -14,7 +14,7 @@ use Rattle.lb_machine.specs.Listed.{listed}
 use Rattle.lb_machine.specs.Meaning.{Lane, IsDone, HasRun}
 use Rattle.lb_machine.specs.Straight.{IsNext, planes_after, words_after, IsStraight}
 
--- it is straight still
+-- straight code with one more instruction is straight
 pub straight_more :
     (p w : ℕ) (is : List Instruction) (P W : ℕ) (i : Instruction) → IsStraight p w is P W →
     IsNext P W i → (P' W' : ℕ) → planes_after P i ≡ P' → words_after W i ≡ W' →
@@ -41,7 +41,8 @@ done_last :
 done_last s [] i d = d.0
 done_last s (j ∷ is) i d = done_last s is i d.1
 
--- where it has been run, all before has been run, and the instruction has been done
+-- where code with one more instruction has been run, the code before it has been run, and the
+-- instruction has been done
 pub run_before :
     (is js : List Instruction) (i : Instruction) → js ≡ is ++ i ∷ [] → (s : Lane) → HasRun js s →
     HasRun is s
@@ -69,7 +70,7 @@ grown_by before after i fp fw hp hw e = record {
   runs = run_before (listed before.instructions) (listed after.instructions) i e;
 }
 
--- and a plane that the instruction writes is for what it means
+-- a plane that the added instruction writes holds what that instruction computes
 pub plane_by :
     (before after : Code) (i : Instruction) (value : Lane → Bool) (p : PlaneId) →
     (listed after.instructions) ≡ (listed before.instructions) ++ i ∷ [] → p.0 < after.planes →
@@ -80,7 +81,7 @@ plane_by before after i value p e lt means = record {
       means s (run_last (listed before.instructions) (listed after.instructions) i e s h);
 }
 
--- the same of a word
+-- a word that the added instruction writes holds what that instruction computes
 pub word_by :
     (before after : Code) (i : Instruction) (value : Lane → ℤ) (w : WordId) →
     (listed after.instructions) ≡ (listed before.instructions) ++ i ∷ [] → w.0 < after.words →
@@ -94,7 +95,7 @@ word_by before after i value w e lt means = record {
 -- ## A test that chooses, too
 
 module _ (test : Comparison) (x y a b out : WordId) (m : PlaneId) where
-  -- it is straight still
+  -- straight code whose last test is replaced by a test that chooses is straight
   pub chosen_straight :
       (p w : ℕ) (is : List Instruction) (P W W' : ℕ) →
       IsStraight p w (is ++ Compare test x y m ∷ []) P W → a.0 < W → b.0 < W → out.0 ≡ W →
@@ -120,7 +121,7 @@ module _ (test : Comparison) (x y a b out : WordId) (m : PlaneId) where
   tested_before s [] d = (d.0.0, tt)
   tested_before s (j ∷ is) d = (d.0, tested_before s is d.1)
 
-  -- where it has been run, the test alone has been run
+  -- where code with the test that chooses has been run, the code with the test alone has been run
   pub chosen_run :
       (is js ks : List Instruction) → js ≡ is ++ Compare test x y m ∷ [] →
       ks ≡ is ++ Choose test x y a b m out ∷ [] → (s : Lane) → HasRun ks s → HasRun js s

@@ -1,9 +1,9 @@
--- Places that are copied one after the other from behind them.
+-- Copies to places in a row, one after the other, from places behind the row.
 use Rattle.std.proofs.Common.{◌≡◌, ◌≢◌, ℕ, ◌+◌, ◌<◌, ◌≤◌, List, length, get_or, set, refl, ap, ◌∙◌}
 use Rattle.std.proofs.Common.{subst, arith, below_more, length-set}
 use Rattle.std.proofs.lemmas.List.{get_or-set_same, get_or-set_other, get_or_default}
 
--- the first i places have what their sources had, and no other place has changed
+-- the first `i` places have what their sources had, and no other place has changed
 pub record IsCarried {A S : Type 0} (z : A) (source : S → ℕ) (first : ℕ) (sources : List S)
     (old new : List A) (i : ℕ) : Type 0 where
   pub as_long : length new ≡ length old
@@ -23,7 +23,7 @@ nothing_carried z source first sources old = record {
   carried = λ j h s. absurd (omega (arith, h));
 }
 
--- one more
+-- with one more place copied, the first `i + 1` places have what their sources had
 pub one_carried :
     {A S : Type 0} (z : A) (source : S → ℕ) (first : ℕ) (sources : List S) (old new new' : List A)
     (i : ℕ) (d : S) → IsCarried z source first sources old new i → i < length sources →
@@ -52,7 +52,7 @@ one_carried {A} {S} z source first sources old new new' i d h lt behind long cop
           (omega (arith, behind, lt))));
     }
 
--- the same, where the place was set
+-- `one_carried` for a place that is `set`
 pub one_set :
     {A S : Type 0} (z : A) (source : S → ℕ) (first : ℕ) (sources : List S) (old new : List A)
     (i : ℕ) (d : S) (v : A) → IsCarried z source first sources old new i → i < length sources →

@@ -1,4 +1,4 @@
--- What is done where all listed instructions are: each choice, and what each block has.
+-- Where all listed instructions are done, each choice and each instruction of a block is done.
 use Rattle.std.proofs.Common.{ℕ, zero, suc, ◌+◌, ◌<◌, List, [], ◌∷◌, ◌++◌, length, get_or, arith}
 use Rattle.std.proofs.Common.{◌≡◌, subst}
 use Rattle.std.specs.List.{AllByRecursion}

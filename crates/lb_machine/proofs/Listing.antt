@@ -1,4 +1,4 @@
--- Listed instructions, with one more behind them.
+-- The list of instructions after one more is added, or after the last one is replaced.
 use Rattle.std.proofs.Common.{◌≡◌, ℕ, ◌+◌, List, [], ◌∷◌, ◌++◌, length, ap, ◌∙◌, sym, arith}
 use Rattle.std.proofs.Common.{refl, ◌⊎◌, inl, inr, zero, suc, get_or, set, ap₂, length-set}
 use Rattle.std.proofs.lemmas.List.{append_assoc}
@@ -35,14 +35,14 @@ block_listed (a ∷ blocks) b first =
     ∙ sym (append_assoc (selects_from a.first a.choices.items)
     (a.last ∷ unpacked blocks b.first b.choices.items) (b.last ∷ []))
 
--- where there is no choice, the plane that the first would write is of no account
+-- without choices behind the blocks, the list does not depend on `first`
 pub none_listed :
     (blocks : List Block) (first first' : ℕ) → unpacked blocks first [] ≡ unpacked blocks first' []
 none_listed [] first first' = refl
 none_listed (a ∷ blocks) first first' =
     ap (λ is. selects_from a.first a.choices.items ++ a.last ∷ is) (none_listed blocks first first')
 
--- one choice more, behind choices or as the first
+-- the list with one more choice, behind other choices or as the first one
 pub choice_pushed :
     (blocks : List Block) (first old : ℕ) (choices new : List Choice) (out : ℕ) (c : Choice) →
     new ≡ choices ++ c ∷ [] → first + length choices ≡ out →
@@ -61,7 +61,7 @@ choice_pushed blocks first old choices new out c is e from =
 
 -- ## The last instruction
 
--- all before the last of blocks, and that one
+-- the list of blocks is `before_last` and then the last instruction
 pub last_listed :
     (blocks : List Block) (d : Block) (first k : ℕ) → length blocks ≡ k + 1 →
     unpacked blocks first [] ≡ before_last blocks ++ (get_or blocks k d).last ∷ []
@@ -75,7 +75,7 @@ last_listed (b ∷ (c ∷ blocks)) d first (suc k) e =
     ∙ sym (append_assoc (selects_from b.first b.choices.items)
     (b.last ∷ before_last (c ∷ blocks)) ((get_or (c ∷ blocks) k d).last ∷ []))
 
--- another in its place changes nothing before it
+-- a new last instruction changes none before it
 pub last_set :
     (blocks : List Block) (d new : Block) (k : ℕ) → length blocks ≡ k + 1 →
     new.first ≡ (get_or blocks k d).first →

@@ -1,5 +1,5 @@
--- What the run of straight code keeps: all that was done stays done, since later instructions write
--- places that no earlier one reads or writes.
+-- The run of straight code: what was done stays done, since later instructions write places that no
+-- earlier one reads or writes.
 use Rattle.std.proofs.Common.{◌≡◌, ℕ, suc, ◌+◌, ◌<◌, ◌≤◌, List, [], ◌∷◌, ◌++◌, length, get_or}
 use Rattle.std.proofs.Common.{not, ◌||◌, drop, cond, refl, sym, ap, ap₂, ◌∙◌, subst, arith, ℤ}
 use Rattle.std.proofs.Common.{add-one}
@@ -45,7 +45,7 @@ straight_words p w (Blend m a b out ∷ is) P W h =
 straight_words p w (Choose c x y a b passed out ∷ is) P W h =
     let le = straight_words (suc p) (suc w) is P W h.1 in omega (arith, le)
 
--- there are never fewer places
+-- after an instruction there are no fewer planes, and no fewer words
 more_planes_after : (p : ℕ) (i : Instruction) → p ≤ planes_after p i
 more_planes_after p (Select m a b out) = omega arith
 more_planes_after p (Compare c a b out) = omega arith
@@ -96,7 +96,7 @@ next_fits p w P W (Choose c x y a b passed out) n hp hw = (
   omega (arith, n.5, hw),
 )
 
--- it leaves the planes and the words that are there
+-- an instruction that can be done next leaves the planes and words that are there
 plane_kept : (p w : ℕ) (i : Instruction) (k : ℕ) → IsNext p w i → k < p → KeepsPlane i k
 plane_kept p w (Select m a b out) k n h = λ e. omega (arith, n.3, h, e)
 plane_kept p w (Compare c a b out) k n h = λ e. omega (arith, n.2, h, e)
@@ -113,7 +113,7 @@ word_kept p w (Choose c x y a b passed out) k n h = λ e. omega (arith, n.5, h, 
 
 -- ## What was done stays done
 
--- two lanes hold the same in the first planes and words
+-- two lanes hold the same in the first `p` planes and the first `w` words
 pub record AreAlike (p w : ℕ) (s s' : Lane) : Type 0 where
   pub planes : (k : ℕ) → k < p → s'.bits k ≡ s.bits k
   pub words : (k : ℕ) → k < w → s'.ints k ≡ s.ints k
@@ -157,7 +157,7 @@ stays_done p w s s' (Choose c x y a b passed out) n h d =
           (h.words b.0 (omega (arith, n.3)))),
     )
 
--- ## What is left of listed code
+-- ## The rest of listed code
 
 pub next_choice :
     (choices : List Choice) (more : List Instruction) (first k out : ℕ) (d c : Choice) →
@@ -180,8 +180,8 @@ no_choice choices more first k le =
 
 -- ## The run
 
--- with this rest of the code to do: it goes on from what is there, and where it has been done, in a
--- lane that is as this one up to there, all has been done
+-- a run with `rest` of `code` to do: `rest` is straight from the next plane and word on, and in a
+-- lane that agrees with this one before them, all `code` is done once `rest` is done
 pub record IsRunning (n first_plane first_word : ℕ) (code : List Instruction) (P W : ℕ)
     (planes0 planes : List ℕ) (words0 words : List (List ℤ)) (rest : List Instruction) :
     Type 0 where
@@ -202,7 +202,7 @@ pub record IsRunning (n first_plane first_word : ℕ) (code : List Instruction) 
 module _ (n p w : ℕ) (code : List Instruction) (P W : ℕ) (planes0 planes : List ℕ)
     (words0 words : List (List ℤ)) (rest : List Instruction)
     (h : IsRunning n p w code P W planes0 planes words0 words rest) where
-  -- at the end all has been done
+  -- when no code is left, all code has been done in each lane
   pub ends :
       rest ≡ [] → (lane : ℕ) → lane < n →
       AllByRecursion (IsDone (lane_at planes words lane)) code

@@ -1,7 +1,7 @@
--- What code promises: run in so many lanes at once, it is done in each of them; and as it is put
--- together, each place that a call gives holds what the call names, in every lane in which the code
+-- The promises of code: a run in many lanes at once does the code in each of them; and each plane
+-- or word that a building call returns holds what the call names, in every lane in which the code
 -- is done.
--- This file says what data of the program mean. No lane occurs beside another.
+-- This file says what data of the program mean. No definition relates two lanes.
 use Rattle.std.specs.Prelude.{◌≡◌, ◌<◌, ◌≤◌, ◌+◌, ℕ, Bool, not, ◌||◌, Option, List}
 use Rattle.std.specs.Prelude.{ℤ}
 use Rattle.std.specs.List.{AllByRecursion}
@@ -15,14 +15,14 @@ use Rattle.lb_machine.specs.declared.instruction.WordId.{WordId}
 
 -- ## Code that is run
 
--- in each of the first n lanes of planes and words each instruction has been done
+-- in each of the first `n` lanes of planes and words each instruction has been done
 abbrev pub AreDoneInLanes : ℕ → List Instruction → List ℕ → List (List ℤ) → Type 0
 AreDoneInLanes n code planes words =
     (lane : ℕ) → lane < n → AllByRecursion (IsDone (lane_at planes words lane)) code
 
 -- ## Code that is put together
 
--- the code has all its instructions still, and maybe more
+-- code `after` has all instructions of code `before`, and maybe more
 pub record IsGrown (before after : Code) : Type 0 where
   pub first_plane : after.first_plane ≡ before.first_plane
   pub first_word : after.first_word ≡ before.first_word
@@ -31,26 +31,26 @@ pub record IsGrown (before after : Code) : Type 0 where
   pub runs :
       (s : Lane) → HasRun (listed after.instructions) s → HasRun (listed before.instructions) s
 
--- there are numbers for so many more planes and words together
+-- there are numbers for `k` more planes and words together
 abbrev pub HasRoom : Code → ℕ → Type 0
 HasRoom code k = code.planes + code.words + k ≤ 4294967295
 
--- and at most so many have been added
+-- at most `k` planes and words together have been added
 abbrev pub AddsAtMost : Code → Code → ℕ → Type 0
 AddsAtMost before after k = after.planes + after.words ≤ before.planes + before.words + k
 
--- a plane of the code holds this in each lane in which the code has been run
+-- plane `p` of the code holds `value` in each lane in which the code has been run
 pub record IsPlaneFor (code : Code) (value : Lane → Bool) (p : PlaneId) : Type 0 where
   pub within : p.0 < code.planes
   pub means : (s : Lane) → HasRun (listed code.instructions) s → s.bits p.0 ≡ value s
 
--- and a word this
+-- word `w` of the code holds `value` in each lane in which the code has been run
 pub record IsWordFor (code : Code) (value : Lane → ℤ) (w : WordId) : Type 0 where
   pub within : w.0 < code.words
   pub means : (s : Lane) → HasRun (listed code.instructions) s → s.ints w.0 ≡ value s
 
--- a word holds what an operator gives in the lanes where none of three planes is true, and a plane
--- where the second or the third is true or the operator has a fault
+-- word `w` holds `value`, the result of an operator, in the lanes where none of three planes is
+-- true; plane `p` is true where `left` or `right` is true or the operator has a fault
 pub record AreResultsFor (code : Code) (value : Lane → Option ℤ) (idle left right : PlaneId)
     (w : WordId) (p : PlaneId) : Type 0 where
   pub word_within : w.0 < code.words

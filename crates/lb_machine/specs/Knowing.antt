@@ -5,18 +5,18 @@ use Rattle.lb_machine.specs.declared.instruction.PlaneId.{PlaneId}
 use Rattle.lb_machine.specs.declared.instruction.WordId.{WordId}
 use Rattle.lb_machine.specs.Meaning.{Lane, HasConstants}
 
--- a plane is one of three, or the one that is false everywhere
+-- plane `p` is one of three, or the plane that is false everywhere
 abbrev pub IsOneOf : (a b c p : PlaneId) → Type 0
 IsOneOf a b c p = (p.0 ≡ 0) ⊎ ((p.0 ≡ a.0) ⊎ ((p.0 ≡ b.0) ⊎ (p.0 ≡ c.0)))
 
--- a plane holds what a mask chooses of two
+-- plane `p` holds `a` where the mask is true, and `b` elsewhere
 pub record IsSelected (m a b p : PlaneId) : Type 0 where
   pub means :
       (s : Lane) → HasConstants s →
       s.bits p.0 ≡ (if s.bits m.0 then s.bits a.0 else s.bits b.0)
   pub there : IsOneOf m a b p
 
--- a word holds what a mask chooses of two
+-- word `w` holds `a` where the mask is true, and `b` elsewhere
 pub record IsBlended (m : PlaneId) (a b w : WordId) : Type 0 where
   pub means :
       (s : Lane) → HasConstants s →

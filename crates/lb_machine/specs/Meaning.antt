@@ -1,4 +1,4 @@
--- What instructions mean in one lane. No lane occurs beside it.
+-- The meaning of instructions in one lane. No other lane occurs.
 -- Source: this project's rule.
 use Rattle.std.specs.Prelude.{◌≡◌, ℕ, Bool, true, false, not, ◌&&◌, ◌||◌, List, [], ℤ, pos, int_lt}
 use Rattle.std.specs.Prelude.{int_le, slice_index, slice_index_or, if◌then◌else◌}
@@ -15,19 +15,19 @@ use Rattle.lb_machine.specs.declared.instruction.Instruction.{Instruction}
 use Rattle.lb_machine.specs.declared.instruction.Instruction.TheVariants.{Select, Compare}
 use Rattle.lb_machine.specs.declared.instruction.Instruction.TheVariants.{Operate, Blend, Choose}
 
--- what a lane holds: a Boolean at each plane, and an integer at each word
+-- the values of a lane: a Boolean at each plane, and an integer at each word
 pub record Lane : Type 0 where
   pub bits : ℕ → Bool
   pub ints : ℕ → ℤ
 
--- one lane of planes and words
+-- lane `i` of planes and words
 abbrev pub lane_at : List ℕ → List (List ℤ) → ℕ → Lane
 lane_at planes words i = record {
   bits = λ p. on (slice_index planes p) i;
   ints = λ w. lane_of (slice_index_or words w []) i;
 }
 
--- what an operator gives of two Booleans
+-- the result of an operator on two Booleans
 abbrev pub combined : PlaneOperator → Bool → Bool → Bool
 combined And a b = a && b
 combined Or a b = a || b

@@ -1,5 +1,5 @@
--- When code is straight: each instruction reads what stands before it, and writes the next plane or
--- the next word, or one of each.
+-- Straight code: each instruction reads planes and words that were there before it, and writes the
+-- next plane or the next word, or one of each.
 -- Source: this project's rule.
 use Rattle.std.specs.Prelude.{◌≡◌, ◌≢◌, ℕ, suc, ◌<◌, List, [], ◌∷◌}
 use Rattle.std.specs.Coded.{×_prop}
@@ -8,7 +8,7 @@ use Rattle.lb_machine.specs.declared.instruction.Instruction.{Instruction}
 use Rattle.lb_machine.specs.declared.instruction.Instruction.TheVariants.{Select, Compare}
 use Rattle.lb_machine.specs.declared.instruction.Instruction.TheVariants.{Operate, Blend, Choose}
 
--- an instruction can be done beside so many planes and words
+-- an instruction reads some of `p` planes and `w` words, and writes the next ones
 abbrev pub IsNext : ℕ → ℕ → Instruction → Type 0
 IsNext p w (Select m a b out) = (m.0 < p) × (a.0 < p) × (b.0 < p) × (out.0 ≡ p)
 IsNext p w (Compare c a b out) = (a.0 < w) × (b.0 < w) × (out.0 ≡ p)
@@ -19,7 +19,7 @@ IsNext p w (Blend m a b out) = (m.0 < p) × (a.0 < w) × (b.0 < w) × (out.0 ≡
 IsNext p w (Choose c x y a b passed out) =
     (x.0 < w) × (y.0 < w) × (a.0 < w) × (b.0 < w) × (passed.0 ≡ p) × (out.0 ≡ w)
 
--- how many planes, and how many words, there are after it
+-- the number of planes, and the number of words, after an instruction
 abbrev pub planes_after : ℕ → Instruction → ℕ
 planes_after p (Blend m a b out) = p
 planes_after p i = suc p
@@ -30,13 +30,13 @@ words_after w (Blend m a b out) = suc w
 words_after w (Choose c x y a b passed out) = suc w
 words_after w i = w
 
--- code leads from so many planes and words to so many
+-- code leads from `p` planes and `w` words to `P` planes and `W` words
 abbrev pub IsStraight : ℕ → ℕ → List Instruction → ℕ → ℕ → Type 0
 IsStraight p w [] P W = (p ≡ P) × (w ≡ W)
 IsStraight p w (i ∷ is) P W =
     IsNext p w i × IsStraight (planes_after p i) (words_after w i) is P W
 
--- ## There is one proof of it at most
+-- ## There is at most one proof that code is straight
 
 same_prop : (i j : ℕ) → IsProp (i ≡ j)
 same_prop i j = Prim.hlevel props
@@ -56,7 +56,7 @@ straight_prop p w (i ∷ is) P W =
 
 -- ## Room
 
--- an instruction fits so many planes and words, and reads no place that it writes
+-- an instruction fits `P` planes and `W` words, and reads no place that it writes
 abbrev pub IsFit : ℕ → ℕ → Instruction → Type 0
 IsFit P W (Select m a b out) = (m.0 < out.0) × (a.0 < out.0) × (b.0 < out.0) × (out.0 < P)
 IsFit P W (Compare c a b out) = (a.0 < W) × (b.0 < W) × (out.0 < P)
@@ -67,7 +67,7 @@ IsFit P W (Blend m a b out) = (m.0 < P) × (a.0 < out.0) × (b.0 < out.0) × (ou
 IsFit P W (Choose c x y a b passed out) =
     (x.0 < out.0) × (y.0 < out.0) × (a.0 < out.0) × (b.0 < out.0) × (passed.0 < P) × (out.0 < W)
 
--- a plane, and a word, that an instruction leaves as it was
+-- an instruction leaves plane `k`, or word `k`, as it was
 abbrev pub KeepsPlane : Instruction → ℕ → Type 0
 KeepsPlane (Select m a b out) k = k ≢ out.0
 KeepsPlane (Compare c a b out) k = k ≢ out.0

@@ -1,5 +1,5 @@
-//! How code is put together: each call gives the place of a result, by an instruction where it
-//! takes one.
+//! Building code: each call returns the plane or the word of a result, and adds an instruction
+//! where one is needed.
 
 ghost use Rattle.std.specs.Prelude.{◌≡◌, ◌<◌, ◌≤◌, ◌+◌, ◌++◌, [], ◌∷◌, IfOk, IfSome, OnOk};
 ghost use Rattle.std.specs.Prelude.{if◌then◌else◌};
@@ -12,7 +12,7 @@ ghost use Rattle.lb_machine.specs.declared.instruction.PlaneOperator.TheVariants
 
 use crate::code::Code;
 use crate::instruction::{
-    Comparison, EVERYWHERE, Instruction, NOWHERE, PlaneId, PlaneOperator, WordId,
+    Comparison, FALSE_PLANE, Instruction, PlaneId, PlaneOperator, TRUE_PLANE, WordId,
 };
 use crate::instructions::{Choice, Instructions};
 use crate::known::{known_blend, known_choice};
@@ -23,7 +23,7 @@ impl Code {
     ghost use Rattle.lb_machine.specs.Correct.{AddsAtMost, AreResultsFor, HasRoom};
     ghost use Rattle.lb_machine.specs.Correct.{IsGrown, IsPlaneFor, IsWordFor};
 
-    /// No instruction, beside planes and words that are there before.
+    /// Code without instructions, over planes and words that are there before it runs.
     pub fn new(alloc: Global, first_plane: u32, first_word: u32) -> Code
         requires constants { 2 ≤ first_plane }
         requires zero { 1 ≤ first_word }
@@ -42,7 +42,7 @@ impl Code {
         }
     }
 
-    // One more instruction, that writes a plane.
+    // Appends an instruction that writes the next plane.
     fn push_plane(&mut self, i: Instruction) -> Result<(), AllocError>
         requires next { IsNext self.old.planes self.old.words i }
         requires plane { planes_after self.old.planes i ≡ self.old.planes + 1 }
@@ -60,7 +60,7 @@ impl Code {
         Ok(())
     }
 
-    // One more instruction, that writes a word.
+    // Appends an instruction that writes the next word.
     fn push_word(&mut self, i: Instruction) -> Result<(), AllocError>
         requires next { IsNext self.old.planes self.old.words i }
         requires no_plane { planes_after self.old.planes i ≡ self.old.planes }
@@ -78,7 +78,7 @@ impl Code {
         Ok(())
     }
 
-    /// A plane that holds what an operator on two gives.
+    /// A plane that holds the result of an operator on two planes.
     pub fn combine(
         &mut self,
         op: PlaneOperator,
@@ -94,15 +94,15 @@ impl Code {
             (λ s. combined op (s.bits a.0) (s.bits b.0))) }
     {
         let plane = match op {
-            PlaneOperator::And => self.select(a, b, NOWHERE)?,
-            PlaneOperator::Or => self.select(a, EVERYWHERE, b)?,
-            PlaneOperator::AndNot => self.select(b, NOWHERE, a)?,
+            PlaneOperator::And => self.select(a, b, FALSE_PLANE)?,
+            PlaneOperator::Or => self.select(a, TRUE_PLANE, b)?,
+            PlaneOperator::AndNot => self.select(b, FALSE_PLANE, a)?,
             PlaneOperator::Xor => self.differ(a, b)?,
         };
         Ok(plane)
     }
 
-    // A plane that holds where two planes differ.
+    // A plane that is true where two planes differ.
     fn differ(&mut self, a: PlaneId, b: PlaneId) -> Result<PlaneId, AllocError>
         requires left { a.0 < self.old.planes }
         requires right { b.0 < self.old.planes }
@@ -112,12 +112,12 @@ impl Code {
         ensures plane { IfOk result (IsPlaneFor self.new
             (λ s. combined Xor (s.bits a.0) (s.bits b.0))) }
     {
-        let other = self.select(b, NOWHERE, EVERYWHERE)?;
+        let other = self.select(b, FALSE_PLANE, TRUE_PLANE)?;
         let plane = self.select(a, other, b)?;
         Ok(plane)
     }
 
-    // A plane that is known to hold the one of two that a mask chooses.
+    // A plane that is known to hold `a` where the mask is true, and `b` elsewhere.
     fn known_select(&self, mask: PlaneId, a: PlaneId, b: PlaneId) -> Option<PlaneId>
         ensures { IfSome result (λ p. p.0 < self.now.planes
             → IsPlaneFor self.now (λ s. if s.bits mask.0 then s.bits a.0 else s.bits b.0) p) }
@@ -128,7 +128,7 @@ impl Code {
         self.instructions.last_choice(Choice { mask, a, b })
     }
 
-    /// A plane that holds the one of two that a mask chooses.
+    /// A plane that holds `a` where the mask is true, and `b` elsewhere.
     pub fn select(&mut self, mask: PlaneId, a: PlaneId, b: PlaneId) -> Result<PlaneId, AllocError>
         requires mask { mask.0 < self.old.planes }
         requires left { a.0 < self.old.planes }
@@ -149,7 +149,7 @@ impl Code {
         Ok(out)
     }
 
-    /// A plane that holds where a test of two words passes.
+    /// A plane that is true where a test of two words passes.
     pub fn compare(&mut self, c: Comparison, a: WordId, b: WordId) -> Result<PlaneId, AllocError>
         requires left { a.0 < self.old.words }
         requires right { b.0 < self.old.words }
@@ -164,7 +164,7 @@ impl Code {
         Ok(out)
     }
 
-    /// A word that holds the one of two that a mask chooses.
+    /// A word that holds `a` where the mask is true, and `b` elsewhere.
     pub fn blend(&mut self, mask: PlaneId, a: WordId, b: WordId) -> Result<WordId, AllocError>
         requires mask { mask.0 < self.old.planes }
         requires left { a.0 < self.old.words }
@@ -187,7 +187,7 @@ impl Code {
         Ok(out)
     }
 
-    // Has the last instruction, a test that writes the mask, choose between two words, too.
+    // Replaces the last instruction, a test that writes `mask`, by a test that also writes `out`.
     fn choose_by(
         &mut self,
         test: (Comparison, WordId, WordId),
@@ -211,9 +211,9 @@ impl Code {
         self.words += 1;
     }
 
-    /// A word that holds what an operator on two gives in the lanes where none of the three planes
-    /// is true, and a plane that is true where `left` or `right` is, the planes of the operands'
-    /// faults, or where the operator has a fault.
+    /// A word that holds the result of an operator on two words in the lanes where none of the
+    /// three planes is true, and a plane that is true where `left` or `right` is, or where the
+    /// operator has a fault. `left` and `right` are the planes of the operands' faults.
     pub fn operate(
         &mut self,
         op: IntOperator,
@@ -243,7 +243,7 @@ impl Code {
         Ok((out, faults))
     }
 
-    /// A plane of the code's own that holds what another one does.
+    /// A copy of plane `a`, among the planes that the code itself writes.
     pub fn copy_plane(&mut self, a: PlaneId) -> Result<PlaneId, AllocError>
         requires plane { a.0 < self.old.planes }
         requires room { HasRoom self.old 1 }
@@ -253,11 +253,11 @@ impl Code {
         ensures own { IfOk result (λ p. self.new.first_plane ≤ p.0) }
     {
         let out = PlaneId(self.planes);
-        self.push_plane(Instruction::Select(EVERYWHERE, a, a, out))?;
+        self.push_plane(Instruction::Select(TRUE_PLANE, a, a, out))?;
         Ok(out)
     }
 
-    /// A word of the code's own that holds what another one does.
+    /// A copy of word `a`, among the words that the code itself writes.
     pub fn copy_word(&mut self, a: WordId) -> Result<WordId, AllocError>
         requires word { a.0 < self.old.words }
         requires room { HasRoom self.old 1 }
@@ -267,7 +267,7 @@ impl Code {
         ensures own { IfOk result (λ w. self.new.first_word ≤ w.0) }
     {
         let out = WordId(self.words);
-        self.push_word(Instruction::Blend(NOWHERE, a, a, out))?;
+        self.push_word(Instruction::Blend(FALSE_PLANE, a, a, out))?;
         Ok(out)
     }
 }

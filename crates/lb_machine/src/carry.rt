@@ -1,4 +1,4 @@
-//! Planes and words that go over to the next run of code.
+//! Planes and words that are carried over to the next run of code.
 
 ghost use Rattle.std.specs.Prelude.{◌≡◌, ℕ, ◌<◌, ◌≤◌, ◌+◌, length, slice_index, slice_index_or};
 ghost use Rattle.std.specs.Prelude.{[], All};
@@ -9,7 +9,7 @@ ghost use Rattle.lb_machine.specs.declared.instruction.WordId.{WordId};
 use crate::instruction::{PlaneId, WordId};
 use lb_lanes::LaneWord;
 
-/// Copies planes from behind some that lie side by side into these.
+/// Copies the planes `sources` into the planes from `first` on, which all lie before the sources.
 pub fn carry_planes(planes: &mut [u64], first: u32, sources: &[PlaneId])
     requires sources { All (λ s. first + length sources.now ≤ s.0 × s.0 < length planes.old)
         sources.now }
@@ -26,7 +26,7 @@ pub fn carry_planes(planes: &mut [u64], first: u32, sources: &[PlaneId])
     }
 }
 
-// Copies a word from behind another into that.
+// Copies word `from` into word `to`, which lies before it.
 fn copy_back(words: &mut [LaneWord], to: usize, from: usize)
     requires order { to < from }
     requires room { from < length words.old }
@@ -39,7 +39,7 @@ fn copy_back(words: &mut [LaneWord], to: usize, from: usize)
     before[to].copy_from(&after[0]);
 }
 
-/// Copies words from behind some that lie side by side into these.
+/// Copies the words `sources` into the words from `first` on, which all lie before the sources.
 pub fn carry_words(words: &mut [LaneWord], first: u32, sources: &[WordId])
     requires sources { All (λ s. first + length sources.now ≤ s.0 × s.0 < length words.old)
         sources.now }

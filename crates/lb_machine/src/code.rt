@@ -14,7 +14,7 @@ use crate::instructions::Instructions;
 pub struct Code {
     pub first_plane: u32,
     pub first_word: u32,
-    /// How many planes and words there are once it has run.
+    /// The numbers of planes and of words once the code has run.
     pub planes: u32,
     pub words: u32,
     pub instructions: Instructions,

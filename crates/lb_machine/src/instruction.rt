@@ -17,10 +17,10 @@ pub struct PlaneId(pub u32);
 pub struct WordId(pub u32);
 
 /// The plane that is false in each lane.
-pub const NOWHERE: PlaneId = PlaneId(0);
+pub const FALSE_PLANE: PlaneId = PlaneId(0);
 
 /// The plane that is true in each lane.
-pub const EVERYWHERE: PlaneId = PlaneId(1);
+pub const TRUE_PLANE: PlaneId = PlaneId(1);
 
 /// The word that is 0 in each lane.
 pub const ZERO: WordId = WordId(0);
@@ -43,19 +43,19 @@ pub enum Comparison {
     AtMost,
 }
 
-/// What is done to all lanes alike. The last places are those that are written.
+/// A step that is done in all lanes alike. Its last planes and words are those that it writes.
 #[derive(Clone, Copy)]
 pub enum Instruction {
-    /// Where the first plane is true the second, and elsewhere the third.
+    /// The second plane where the first one is true, and the third elsewhere.
     Select(PlaneId, PlaneId, PlaneId, PlaneId),
     /// A test of two words.
     Compare(Comparison, WordId, WordId, PlaneId),
-    /// An operator on two words, in the lanes where none of three planes is true; its result, and a
-    /// plane that is true where the second or the third is, or where there is a fault.
+    /// An operator on two words, in the lanes where none of three planes is true. It writes its
+    /// result, and a plane that is true where the second or the third is, or where it has a fault.
     Operate(IntOperator, WordId, WordId, PlaneId, PlaneId, PlaneId, WordId, PlaneId),
-    /// Where the plane is true the first word, and elsewhere the second.
+    /// The first word where the plane is true, and the second elsewhere.
     Blend(PlaneId, WordId, WordId, WordId),
-    /// A test of the first two words, to a plane; and where it passes the third word, and elsewhere
-    /// the fourth.
+    /// A test of the first two words. It writes a plane that is true where the test passes, and a
+    /// word: the third where the test passes, and the fourth elsewhere.
     Choose(Comparison, WordId, WordId, WordId, WordId, PlaneId, WordId),
 }

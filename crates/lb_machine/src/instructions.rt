@@ -8,7 +8,7 @@
 //! ```
 //!
 //! The choices of a row write planes that follow one another. A choice takes 12 bytes, any other
-//! instruction 32; and in a row of choices none is looked at for what it is.
+//! instruction 32; and a row of choices runs without a look at the kind of each instruction.
 
 ghost use Rattle.std.specs.Prelude.{◌≡◌, ℕ, [], ◌∷◌, ◌++◌, ◌⊎◌, true, false, length};
 ghost use Rattle.std.specs.Prelude.{◌<◌, IfOk, IfSome, OnOk, OnErr};
@@ -21,7 +21,7 @@ use crate::instruction::{Comparison, Instruction, PlaneId, WordId};
 use std::alloc::{AllocError, Global};
 use std::mem::replace;
 
-// How many of the last choices are looked at for one that is the same.
+// The number of last choices among which an equal one is searched.
 const LAST_CHOICES: usize = 64;
 
 /// [`Instruction::Select`] alone, without the plane that is written.
@@ -57,7 +57,7 @@ pub struct Instructions {
     pub choices: Vec<Choice>,
 }
 
-// Puts an instruction in place of the last one of blocks.
+// Replaces the last instruction of the last block by `i`.
 fn put_behind(blocks: &mut [Block], i: Instruction)
     requires { 0 < length blocks.old }
     ensures { (first : ℕ) → unpacked blocks.new first [] ≡ before_last blocks.old ++ i ∷ [] }
@@ -67,7 +67,7 @@ fn put_behind(blocks: &mut [Block], i: Instruction)
 }
 
 impl Instructions {
-    /// None.
+    /// No instructions.
     pub(crate) fn new(alloc: Global) -> Instructions
         ensures { listed result ≡ [] }
     {
@@ -78,8 +78,8 @@ impl Instructions {
         }
     }
 
-    // The plane that the first choice behind the last block writes, if a choice of this plane
-    // follows.
+    // The plane that the first choice behind the last block writes, once a choice that writes
+    // `out` is pushed.
     fn first_with(&self, out: PlaneId) -> u32
         ensures { (length self.now.choices.items ≡ 0) ⊎ (result ≡ self.now.first) }
     {
@@ -90,7 +90,7 @@ impl Instructions {
         }
     }
 
-    // One more choice behind the last block, if the row goes on with the plane that it writes.
+    // Appends a choice to the row behind the last block, if `out` is the next plane of the row.
     fn push_choice(&mut self, c: Choice, out: PlaneId) -> Result<bool, AllocError>
         ensures pushed { IfOk result (λ done. done ≡ true
             → listed self.new ≡ listed self.old ++ select_at out.0 c ∷ []) }
@@ -106,7 +106,7 @@ impl Instructions {
         Ok(true)
     }
 
-    // One more instruction, which ends the row of choices.
+    // Appends an instruction that ends the row of choices, and with it makes a block.
     fn push_last(&mut self, last: Instruction) -> Result<(), AllocError>
         ensures items { OnOk result (listed self.new ≡ listed self.old ++ last ∷ []) }
         ensures same { OnErr result (listed self.new ≡ listed self.old) }
@@ -123,7 +123,7 @@ impl Instructions {
         Ok(())
     }
 
-    /// The plane of the same choice among the last ones, if there is one behind the last block.
+    /// The plane of a choice equal to `c`, if one is among the last choices behind the last block.
     pub(crate) fn last_choice(&self, c: Choice) -> Option<PlaneId>
         ensures { IfSome result (λ p. (s : Lane) → AllByRecursion (IsDone s) (listed self.now)
             → IsDone s (select_at p.0 c)) }
@@ -139,7 +139,7 @@ impl Instructions {
         None
     }
 
-    /// The two words of a test that is the last instruction, if it is one that writes this plane.
+    /// The comparison and the words of the last instruction, if it is a test that writes `passed`.
     pub(crate) fn last_test(&self, passed: PlaneId) -> Option<(Comparison, WordId, WordId)>
         ensures { IfSome result (λ t. EndsWith self.now (Compare t.0 t.1 t.2 passed)) }
     {
@@ -153,7 +153,7 @@ impl Instructions {
         }
     }
 
-    /// Puts an instruction in place of the last one, which is no choice.
+    /// Replaces the last instruction, which ends a block, by `i`.
     pub(crate) fn put_last(&mut self, i: Instruction)
         requires no_choice { length self.old.choices.items ≡ 0 }
         requires some { 0 < length self.old.blocks.items }
@@ -162,7 +162,7 @@ impl Instructions {
         put_behind(self.blocks.as_mut_slice(), i);
     }
 
-    /// One more, behind all.
+    /// Appends an instruction.
     pub(crate) fn push(&mut self, i: Instruction) -> Result<(), AllocError>
         ensures items { OnOk result (listed self.new ≡ listed self.old ++ i ∷ []) }
         ensures same { OnErr result (listed self.new ≡ listed self.old) }

@@ -20,6 +20,6 @@ mod within;
 pub use carry::{carry_planes, carry_words};
 pub use code::Code;
 pub use instruction::{
-    Comparison, EVERYWHERE, Instruction, NOWHERE, PlaneId, PlaneOperator, WordId, ZERO,
+    Comparison, FALSE_PLANE, Instruction, PlaneId, PlaneOperator, TRUE_PLANE, WordId, ZERO,
 };
 pub use instructions::{Block, Choice, Instructions};

@@ -32,7 +32,7 @@ fn compared(c: Comparison, a: &LaneWord, b: &LaneWord, width: Width) -> Plane
     }
 }
 
-// Puts the result of an operator into a word behind its operands, and gives its faults.
+// Writes the result of an operator to word `out` behind its operands, and returns its faults.
 fn operate(
     op: IntOperator,
     a: WordId,
@@ -56,7 +56,7 @@ fn operate(
     before[a.0 as usize].operate(op, &before[b.0 as usize], active, width, &mut after[0])
 }
 
-// Blends two words into one behind them.
+// Blends words `a` and `b` into word `out`, which lies behind them.
 fn blend(mask: Plane, a: WordId, b: WordId, width: Width, out: WordId, words: &mut [LaneWord])
     requires left { a.0 < out.0 }
     requires right { b.0 < out.0 }
@@ -72,8 +72,8 @@ fn blend(mask: Plane, a: WordId, b: WordId, width: Width, out: WordId, words: &m
     after[0].set_blend(mask, &before[a.0 as usize], &before[b.0 as usize], width);
 }
 
-// Puts one of two words into one behind them, lane by lane, by a test of two others, and gives the
-// lanes that pass.
+// Writes to word `out`, lane by lane, `a` where a test of `x` and `y` passes and `b` elsewhere, and
+// returns the lanes that pass. `out` lies behind the other words.
 fn choose_word(
     c: Comparison,
     x: WordId,
@@ -162,8 +162,9 @@ fn execute(i: Instruction, width: Width, planes: &mut [u64], words: &mut [LaneWo
 impl Code {
     ghost use Rattle.lb_machine.specs.Correct.{AreDoneInLanes};
 
-    /// Runs the code in the lanes of a width, in room that may be larger: afterwards each
-    /// instruction is done in each of them, and what was there before the code is as it was.
+    /// Runs the code in the lanes of `width`: afterwards each instruction is done in each of them,
+    /// and the planes and words before the code's own are as they were. The slices may be longer
+    /// than the code needs.
     pub fn run(&self, planes: &mut [u64], words: &mut [LaneWord], width: Width)
         requires planes { self.now.planes ≤ length planes.old }
         requires words { self.now.words ≤ length words.old }

@@ -1,4 +1,4 @@
-//! Planes that are within others: where they are true, these are.
+//! Planes that are within others: where the inner plane is true, the outer one is.
 //!
 //! ```text
 //! word 3 := 1 + 2, with the faults of 7 and 8 in 9     7 and 8 are within 9
@@ -12,7 +12,7 @@ ghost use Rattle.lb_machine.specs.Meaning.{Lane, HasConstants, HasRun, IsDone};
 ghost use Rattle.lb_machine.specs.Within.{AreUnder};
 
 use crate::code::Code;
-use crate::instruction::{EVERYWHERE, Instruction, PlaneId};
+use crate::instruction::{Instruction, PlaneId, TRUE_PLANE};
 use crate::instructions::{Block, Choice};
 
 // Whether the plane of a number is marked.
@@ -33,7 +33,7 @@ fn mark(marked: &mut [bool], p: PlaneId)
     }
 }
 
-// Marks two planes that are within a third, if that is marked in one list or the other.
+// Marks in `inner` planes `a` and `b`, which are within `p`, if `p` is marked in either list.
 fn mark_both(outer: &[bool], inner: &mut [bool], p: usize, a: PlaneId, b: PlaneId)
     ensures { (s : Lane) (q : ℕ) → (s.bits a.0 ≡ true → s.bits p ≡ true)
         → (s.bits b.0 ≡ true → s.bits p ≡ true) → AreUnder s outer.now q
@@ -45,17 +45,17 @@ fn mark_both(outer: &[bool], inner: &mut [bool], p: usize, a: PlaneId, b: PlaneI
     }
 }
 
-// Marks what is within the plane of a choice, if that is marked.
+// Marks planes that are within the plane of a choice, if that plane is marked.
 fn mark_choice(outer: &[bool], inner: &mut [bool], c: Choice, out: usize)
     ensures { (s : Lane) (q : ℕ) → HasConstants s → IsDone s (select_at out c)
         → AreUnder s outer.now q → AreUnder s inner.old q → AreUnder s inner.new q }
 {
-    if c.a.0 == EVERYWHERE.0 {
+    if c.a.0 == TRUE_PLANE.0 {
         mark_both(outer, inner, out, c.mask, c.b);
     }
 }
 
-// Marks what is within the plane of faults of an operator, if that is marked.
+// Marks the planes of an operator's operand faults, if the plane of its own faults is marked.
 fn mark_operands(outer: &[bool], inner: &mut [bool], i: Instruction)
     ensures { (s : Lane) (q : ℕ) → IsDone s i → AreUnder s outer.now q
         → AreUnder s inner.old q → AreUnder s inner.new q }
@@ -65,7 +65,7 @@ fn mark_operands(outer: &[bool], inner: &mut [bool], i: Instruction)
     }
 }
 
-// The same for choices, which write the planes from a first one on.
+// `mark_choice` for each of the choices, which write the planes from `first` on.
 fn mark_choices(outer: &[bool], inner: &mut [bool], first: u32, choices: &[Choice])
     ensures { (s : Lane) (q : ℕ) → HasConstants s
         → AllByRecursion (IsDone s) (selects_from first choices.now)
@@ -77,15 +77,15 @@ fn mark_choices(outer: &[bool], inner: &mut [bool], first: u32, choices: &[Choic
     }
 }
 
-// Whether a choice writes a plane within which another one is.
+// Whether plane `inner` is within the plane that a choice writes.
 fn joins(c: Choice, inner: PlaneId) -> bool
     ensures { result ≡ true → (s : Lane) (out : ℕ) → HasConstants s
         → IsDone s (select_at out c) → s.bits inner.0 ≡ true → s.bits out ≡ true }
 {
-    c.a.0 == EVERYWHERE.0 && (c.mask.0 == inner.0 || c.b.0 == inner.0)
+    c.a.0 == TRUE_PLANE.0 && (c.mask.0 == inner.0 || c.b.0 == inner.0)
 }
 
-// Whether a plane is within one that is written by a choice of a block.
+// Whether a choice of the block writes plane `outer`, and plane `inner` is within it.
 fn is_joined(block: &Block, inner: PlaneId, outer: PlaneId) -> bool
     ensures { result ≡ true → (s : Lane) → HasConstants s
         → AllByRecursion (IsDone s) (selects_from block.now.first block.now.choices.items)
@@ -99,8 +99,8 @@ fn is_joined(block: &Block, inner: PlaneId, outer: PlaneId) -> bool
 }
 
 impl Code {
-    /// Whether a plane is within another one, if the last block tells: that one is written by a
-    /// choice before the last instruction of another kind.
+    /// Whether the last block shows that plane `inner` is within plane `outer`: a choice of that
+    /// block writes `outer`.
     pub fn is_within(&self, inner: PlaneId, outer: PlaneId) -> bool
         ensures { result ≡ true → (s : Lane) → HasRun (listed self.now.instructions) s
             → s.bits inner.0 ≡ true → s.bits outer.0 ≡ true }
@@ -109,8 +109,8 @@ impl Code {
         count > 0 && is_joined(&self.instructions.blocks[count - 1], inner, outer)
     }
 
-    /// Marks planes that are within one of those that are marked in one list or the other: the
-    /// faults of operands, and what is joined by `or`.
+    /// Marks in `inner` planes that are within a plane marked in either list: the faults of
+    /// operands, and planes that are joined by `or`.
     pub fn mark_within(&self, outer: &[bool], inner: &mut [bool])
         ensures { (s : Lane) (q : ℕ) → HasRun (listed self.now.instructions) s
             → AreUnder s outer.now q → AreUnder s inner.old q → AreUnder s inner.new q }

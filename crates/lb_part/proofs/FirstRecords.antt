@@ -1,4 +1,4 @@
--- How far the first record of a text goes.
+-- The end of the first record of a text.
 use Rattle.std.proofs.Common.{◌≡◌, ◌∙◌, ℕ, suc, ◌+◌, ◌-◌, ◌<◌, ◌≤◌, Bool, true, false, not, ◌&&◌}
 use Rattle.std.proofs.Common.{if◌then◌else◌, List, [], ◌∷◌, ◌++◌, length, Option, None, Some}
 use Rattle.std.proofs.Common.{refl, sym, ap, arith, drop, get_or, take}
@@ -23,7 +23,7 @@ end-start text = by (record_end false text)
     by None = refl
     by (Some n) = let e : n ≡ 0 + n = omega arith in ap (λ m. Some m) e
 
--- a byte that ends no record
+-- the first record ends behind a byte that does not end it
 pub end-more : (text : List ℕ) (i b : ℕ) (begun ends : Bool) → i < length text
     → b ≡ get_or text i 0 → ends ≡ ends_line b → (ends && begun) ≡ false
     → record_end false text ≡ option_map (λ n. i + n) (record_end begun (drop i text))
@@ -45,7 +45,7 @@ end-more text i b begun ends below is tells inner so_far =
         rw e
         (ap (λ t. option_map (λ n. suc n) (record_end (not t) (drop (i + 1) text))) (sym tells))
 
--- a byte that ends the record
+-- the first record ends with a byte that ends it
 pub end-found : (text : List ℕ) (i b : ℕ) (begun ends : Bool) → i < length text
     → b ≡ get_or text i 0 → ends ≡ ends_line b → (ends && begun) ≡ true
     → record_end false text ≡ option_map (λ n. i + n) (record_end begun (drop i text))
@@ -131,7 +131,7 @@ no-mark (a ∷ []) short = refl
 no-mark (a ∷ b ∷ []) short = refl
 no-mark (a ∷ b ∷ c ∷ rest) short = absurd (omega (arith, short))
 
--- the first three bytes are a mark, or are not
+-- a text without its byte order mark, where the first three bytes are a mark or are not
 pub mark-gone : (text : List ℕ) → 3 ≤ length text
     → is_bom (get_or text 0 0) (get_or text 1 0) (get_or text 2 0) ≡ true
     → take (length text - 3) (drop 3 text) ≡ strip_bom text
@@ -161,7 +161,7 @@ mark-more text more true long last =
     ∙ ap (λ (back : List ℕ). strip_bom text ++ back) (sym (last refl))
 mark-more text more false long last = mark-append text more (long refl)
 
--- the head of a text, by its first bytes
+-- the head of a text ends where the first record of its first bytes ends
 pub head-found : (text more : List ℕ) (is_last : Bool) (n : ℕ)
     → (is_last ≡ false → 2 < length text) → (is_last ≡ true → more ≡ [])
     → record_end false (strip_bom text) ≡ Some n
@@ -179,7 +179,7 @@ head-found text more is_last n long last is =
     let bare = ap length stripped ∙ length-append (strip_bom text) more in
     one ∙ omega (arith, all, bare, short)
 
--- a text in which no record ends
+-- the head of a text in which no record ends is the whole text
 pub head-none : (text more : List ℕ) → more ≡ [] → record_end false (strip_bom text) ≡ None
     → head_of (text ++ more) ≡ length text
 head-none text more last is =

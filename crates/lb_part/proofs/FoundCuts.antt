@@ -1,4 +1,4 @@
--- Where a text can be cut, by some bytes of it.
+-- The places where a text can be cut, by some bytes of it.
 use Rattle.std.proofs.Common.{◌≡◌, ◌≢◌, ◌∙◌, ℕ, zero, suc, ◌+◌, ◌-◌, ◌<◌, ◌≤◌, Bool, true, false}
 use Rattle.std.proofs.Common.{List, [], ◌++◌, length, get_or, drop, Option, None, Some, ◌⊎◌, inl}
 use Rattle.std.proofs.Common.{inr, refl, sym, ap, subst, arith, not}
@@ -86,7 +86,7 @@ begins-in is_first is_last front bytes back j below known b = record {
     by (suc b) below known line =
         sym (line-later front bytes back b (omega (arith, below))) ∙ line
 
--- the place within the bytes
+-- a place of a text as a place `at` within the bytes behind `front`
 pub record Within (front : List ℕ) (place : ℕ) : Type 0 where
   pub at : ℕ
   pub is : place ≡ length front + at
@@ -185,7 +185,7 @@ apart-here is_first is_last front bytes back (Some q) i st b known other before 
     ∙ same
     ∙ name-at front bytes back i fits)
 
--- a trace begins in the bytes
+-- a text can be cut where a trace begins in the bytes, and each record before it goes on
 pub cut-found : (is_first is_last : Bool) (bytes : List ℕ) (last : Option ℕ) (from i : ℕ)
     → 0 < from → from ≤ i → BeginsIn is_first bytes i → IsLastIn is_first bytes last i
     → IsOver is_first is_last bytes last i → AllGoOn is_first is_last bytes from i
@@ -204,7 +204,7 @@ cut-found is_first is_last bytes last from i some behind b known over others = r
   };
 }
 
--- the text ends with the bytes
+-- a text can be cut at its end, if it ends with the bytes and each record in them goes on
 pub cut-last : (is_first is_last : Bool) (bytes : List ℕ) (from : ℕ) → is_last ≡ true
     → 0 < from → from ≤ length bytes → AllGoOn is_first is_last bytes from (length bytes)
     → IsCutBy is_first is_last bytes from (length bytes)
@@ -222,7 +222,7 @@ cut-last is_first is_last bytes from ends some fits others = record {
       };
 }
 
--- the text begins with the bytes
+-- a text can be cut at its begin, if it begins with the bytes
 pub cut-first : (is_first is_last : Bool) (bytes : List ℕ) → is_first ≡ true
     → IsCutBy is_first is_last bytes 0 0
 cut-first is_first is_last bytes begins = record {
@@ -251,7 +251,7 @@ line-next is_first bytes i b is ends tells =
     let e : suc i ≡ i + 1 = omega arith in
     tells ∙ ap ends_line is ∙ ap (line_in is_first bytes) e
 
--- no record begins at a place
+-- the last record before place `i` is the last one before `i + 1`, if no record begins at `i`
 pub last-kept : (is_first : Bool) (bytes : List ℕ) (last : Option ℕ) (i : ℕ)
     → (BeginsIn is_first bytes i → ⊥) → IsLastIn is_first bytes last i
     → IsLastIn is_first bytes last (i + 1)
@@ -290,7 +290,7 @@ gone-kept is_first is_last bytes from i none others place low high b =
         let e : place ≡ i = omega (arith, ge, high) in
         absurd (none (subst (BeginsIn is_first bytes) e b))
 
--- a record begins there
+-- a record that begins at place `i` is the last one before `i + 1`
 pub last-here : (is_first : Bool) (bytes : List ℕ) (i : ℕ) → BeginsIn is_first bytes i
     → IsLastIn is_first bytes (Some i) (i + 1)
 last-here is_first bytes i b = record {
@@ -320,7 +320,7 @@ gone-here is_first is_last bytes last from i known goes others place low high b 
         × HasName is_last bytes before p) e
         (here last known (goes (omega (arith, e, low))))
 
--- what has been seen of a byte
+-- a record begins at a byte that begins a line and does not end one
 pub record-begins : (is_first : Bool) (bytes : List ℕ) (i : ℕ) (begins has ends : Bool)
     → begins ≡ line_in is_first bytes i → i < length bytes
     → ends ≡ ends_line (get_or bytes i 0) → begins ≡ true → has ≡ not ends → has ≡ true

@@ -1,4 +1,4 @@
--- What is loaded of a text.
+-- The bytes of a text that are loaded.
 use Rattle.std.proofs.Common.{◌≡◌, ◌∙◌, ℕ, ◌+◌, ◌-◌, ◌<◌, ◌≤◌, false, List, [], ◌++◌}
 use Rattle.std.proofs.Common.{length, take, drop, refl, sym, ap, subst, append_assoc, arith}
 use Rattle.std.specs.Prelude.{nat_eq}

@@ -8,7 +8,7 @@ use Rattle.std.proofs.lemmas.List.{drop_at, take-append-drop, take_all, take_at}
 use borrow.Rule.Slice.PartMut.{post_of}
 use Rattle.lb_part.specs.Ranges.{HasRange, IsExtended}
 
--- a list with room behind it
+-- a list with room behind it begins with the list
 pub before-room : (xs old : List ℕ) (m n : ℕ) → xs ≡ take m old ++ replicate (m - n) 0
     → length old ≡ n → n ≤ m → take n xs ≡ old
 before-room xs old m n is long fits =
@@ -17,7 +17,7 @@ before-room xs old m n is long fits =
     (take_all m old (omega (arith, long, fits)))
     ∙ take_at old (replicate (m - n) 0) n long
 
--- what stands in the list once the room is filled
+-- a list whose room is filled is the old list and then the buffer
 pub room-filled : (d xs old buffer : List ℕ) (n len : ℕ) → d ≡ xs → take n d ≡ old
     → n ≤ length d → length buffer ≡ length d - n → len ≡ length d
     → take len ((take n d ++ (buffer ++ post_of n (length d - n) d))
@@ -42,7 +42,7 @@ room-filled d xs old buffer n len same front fits many all =
 
 -- ## Ranges
 
--- a range is what stands at its place
+-- a range is the bytes of a text at its place
 pub range-is : (all : List ℕ) (from : ℕ) (range : List ℕ) → HasRange all from range
     → range ≡ take (length range) (drop from all)
 range-is all from range r =
@@ -50,7 +50,7 @@ range-is all from range r =
     ∙ ap (take (length range))
     (sym (drop_at r.front (range ++ r.back) from r.place) ∙ ap (drop from) (sym r.whole))
 
--- a range of a text in memory
+-- bytes that are copied from a text in memory are a range of it
 pub range-copied : (text all new : List ℕ) (from n : ℕ) → text ≡ all → from ≤ length text
     → n ≤ length text - from → new ≡ take (from + n - from) (drop from text)
     → HasRange all from new
@@ -67,7 +67,7 @@ range-copied text all new from n same begins fits is =
       place = length-take-le from text begins;
     }
 
--- the bytes that were read behind none
+-- bytes that are read behind no others are a range
 pub range-alone : (all old new : List ℕ) (from count : ℕ) → old ≡ []
     → IsExtended all from count old new → HasRange all from new
 range-alone all old new from count none e =

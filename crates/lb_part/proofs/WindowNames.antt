@@ -10,7 +10,7 @@ use Rattle.std.specs.Prelude.{IfSome, nat_eq}
 use Rattle.lb_part.specs.Cuts.{ends_cell, name_of}
 use Rattle.lb_part.specs.Windows.{GoesOn, HasName}
 
--- the cell ends with the first byte that ends one
+-- the first cell ends before the first byte that ends a cell
 pub name-ended : (text more : List ℕ) (i : ℕ) → i < length text
     → ((k : ℕ) → k < i → ends_cell (get_or text k 0) ≡ false)
     → ends_cell (get_or text i 0) ≡ true → name_of (text ++ more) ≡ take i text
@@ -24,7 +24,7 @@ name-ended (b ∷ rest) more (suc i) below none end =
     (λ k l. none (suc k) (omega (arith, l))) end in
     rw e (ap (λ (name : List ℕ). b ∷ name) others)
 
--- a text without such a byte is one cell
+-- a text without a byte that ends a cell is one cell
 pub name-whole : (text : List ℕ)
     → ((k : ℕ) → k < length text → ends_cell (get_or text k 0) ≡ false) → name_of text ≡ text
 unfolding name_of
@@ -64,14 +64,14 @@ names-other apart one other is far same =
     let f : true ≡ false = sym far ∙ is ∙ ap not e in
     cc f
 
--- the first cell behind a place
+-- the first cell from a place on
 pub name-from : (bytes more name : List ℕ) (place : ℕ)
     → name_of (take (length bytes - place) (drop place bytes) ++ more) ≡ name
     → name_of (drop place bytes ++ more) ≡ name
 name-from bytes more name place is =
     ap (λ (t : List ℕ). name_of (t ++ more)) (sym (take_rest bytes place)) ∙ is
 
--- the last record is known
+-- the trace of the last record goes on, where that record is known and has the same name
 pub goes-known : (is_last : Bool) (bytes : List ℕ) (last : Option ℕ) (before from place : ℕ)
     (apart : Option Bool) → last ≡ Some before
     → IfSome apart (λ b. b ≡ false → HasName is_last bytes before place)

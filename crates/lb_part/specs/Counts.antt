@@ -10,6 +10,6 @@ pub record IsCount (digits : List ℕ) (n : ℕ) : Type 0 where
   pub some : 0 < n
   pub few : n ≤ 65536
 
--- how far the first of so many parts of some bytes reach
+-- the end of the first `parts` of `count` parts of `bytes` bytes
 abbrev pub reach : (parts count bytes : ℕ) → ℕ
 reach parts count bytes = bytes * parts / count

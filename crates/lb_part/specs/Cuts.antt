@@ -1,4 +1,4 @@
--- Where traces begin in the records of a text without quotes.
+-- The places where traces begin in a text without quotes.
 -- Source: this project's rule.
 use Rattle.std.specs.Prelude.{◌≡◌, ◌≢◌, ℕ, zero, suc, ◌<◌, ◌≤◌, Bool, true, false, ◌==◌, ◌||◌}
 use Rattle.std.specs.Prelude.{if◌then◌else◌, List, [], ◌∷◌, drop, get_or, length}
@@ -45,7 +45,7 @@ pub data IsBreak (text : List ℕ) (place : ℕ) : Type 0 where
   last : place ≡ length text → IsBreak text place
   trace : StartsTrace text place → IsBreak text place
 
--- the first such place that is not before another one
+-- `place` is the first place, at `from` or behind it, where a text can be cut
 pub record IsCut (text : List ℕ) (from place : ℕ) : Type 0 where
   pub behind : from ≤ place
   pub break : IsBreak text place

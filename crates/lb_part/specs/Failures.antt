@@ -1,4 +1,4 @@
--- Why a range of a text is not loaded.
+-- Failures for which a range of a text is not loaded.
 -- Source: this project's rule.
 use Rattle.lb_part.specs.declared.load.PartError.{PartError}
 use Rattle.lb_part.specs.declared.load.PartError.TheVariants.{Memory, Read, Quote}

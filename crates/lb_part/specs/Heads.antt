@@ -7,15 +7,15 @@ use Rattle.std.specs.List.{list_any}
 use Rattle.csv.specs.Reading.{strip_bom}
 use Rattle.lb_part.specs.Cuts.{ends_line}
 
--- how far the first record goes, with the end of its line; told whether it has begun
+-- the place behind the first record and its line end; `begun` is whether the record has begun
 unfoldable pub record_end : Bool → List ℕ → Option ℕ
 record_end begun [] = None
 record_end begun (b ∷ rest) =
     if ends_line b && begun then Some 1
     else option_map (λ n. suc n) (record_end (not (ends_line b)) rest)
 
--- how long a text is up to its first record and with the end of it: all of it where none ends; a
--- byte order mark is no part of a record
+-- the length of a text up to the end of its first record, or of all of it where no record ends; a
+-- byte order mark counts, but is not part of a record
 abbrev pub head_of : List ℕ → ℕ
 head_of text =
     (length text - length (strip_bom text))

@@ -1,4 +1,4 @@
--- Which part of a text is meant, and what it is.
+-- The part that a text names, and the bytes of a part.
 -- Source: this project's rule.
 use Rattle.std.specs.Prelude.{◌≡◌, ℕ, ◌-◌, ◌≤◌, List, ◌∷◌, ◌++◌, Option, Some, None}
 use Rattle.std.specs.Prelude.{drop, length, take}
@@ -7,7 +7,7 @@ use Rattle.lb_part.specs.Cuts.{IsCut}
 use Rattle.lb_part.specs.Heads.{head_of}
 use Rattle.lb_part.specs.declared.part.Part.{Part}
 
--- a text names a part: its number, a slash, and how many parts there are
+-- a text names a part: its number, a slash, and the number of parts
 pub record Names (text : List ℕ) (part : Part) : Type 0 where
   pub front : List ℕ
   pub rest : List ℕ
@@ -16,7 +16,7 @@ pub record Names (text : List ℕ) (part : Part) : Type 0 where
   pub count : IsCount rest part.count
   pub within : part.number ≤ part.count
 
--- what may be a text names a part, or neither is there
+-- an optional text names an optional part, or neither is there
 abbrev pub IsPartIn : Option (List ℕ) → Option Part → Type 0
 IsPartIn None None = Unit {0}
 IsPartIn (Some text) (Some part) = Names text part

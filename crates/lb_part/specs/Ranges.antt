@@ -2,18 +2,18 @@
 -- Source: this project's rule.
 use Rattle.std.specs.Prelude.{◌≡◌, ℕ, List, ◌++◌, length, Option, Some}
 
--- what holds of the bytes of a text, where they are known
+-- `P` holds of the bytes of a text, if they are known
 abbrev pub OfKnown : Option (List ℕ) → (List ℕ → Type 0) → Type 0
 OfKnown known P = (all : List ℕ) → known ≡ Some all → P all
 
--- a text has these bytes from a place on
+-- a text has the bytes `range` from place `from` on
 pub record HasRange (all : List ℕ) (from : ℕ) (range : List ℕ) : Type 0 where
   pub front : List ℕ
   pub back : List ℕ
   pub whole : all ≡ front ++ (range ++ back)
   pub place : length front ≡ from
 
--- so many bytes of a text, from a place on, behind others
+-- `new` is `old`, and behind it `count` bytes of a text, from place `from` on
 pub record IsExtended (all : List ℕ) (from count : ℕ) (old new : List ℕ) : Type 0 where
   pub range : List ℕ
   pub has : HasRange all from range

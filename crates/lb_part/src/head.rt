@@ -29,7 +29,7 @@ fn without_mark(text: &[u8]) -> &[u8]
     }
 }
 
-/// How far the first record of a text goes, with the end of its line; None where no record ends.
+/// The place behind the first record of a text and its line end; None where no record ends.
 fn record_end(text: &[u8]) -> Option<usize>
     ensures value { result ≡ record_end false text.now }
     ensures within { IfSome result (λ end. end ≤ length text.now) }
@@ -45,8 +45,8 @@ fn record_end(text: &[u8]) -> Option<usize>
     None
 }
 
-/// How long a text is up to its first record and with the end of it, by its first bytes, which may
-/// be all; None where more bytes may be part of the record.
+/// The length of a text up to the end of its first record, by its first bytes; `is_last` if these
+/// are all its bytes. None where more bytes may be part of the record.
 pub(crate) fn head_end(text: &[u8], is_last: bool) -> Option<usize>
     requires { is_last ≡ false → 2 < length text.now }
     ensures within { IfSome result (λ end. end ≤ length text.now) }

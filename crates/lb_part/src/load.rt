@@ -1,4 +1,4 @@
-//! A part of a text is loaded, and little else of it.
+//! Loads a part of a text, and reads little else of it.
 //!
 //! ```text
 //! text    head | a,1 | b,1 | b,0 | c,7 | c,3 | d,1 | d,2 | e,0
@@ -6,8 +6,8 @@
 //! part    head                   | c,7 | c,3 |
 //! ```
 //!
-//! Where the range begins and where it ends, the text is read about the place, until it tells where
-//! a trace begins.
+//! The text is read about the two places where the range begins and ends, as far as needed to find
+//! where a trace begins.
 
 ghost use Rattle.std.specs.Prelude.{◌≡◌, ◌≤◌, ◌+◌, ◌-◌, ℕ, List, false, drop, length, take};
 ghost use Rattle.std.specs.Prelude.{true, IfErr, IfOk, IsErrOf, OnOk, vec_len};
@@ -58,10 +58,10 @@ impl From<RangeFailed> for PartError {
     }
 }
 
-/// How many bytes are read at once where it is not known how many are needed.
+/// The number of bytes to read first, where it is not known how many are needed.
 const STEP: u64 = 1 << 16;
 
-/// Adds the bytes of a text between two places.
+/// Appends the bytes of a text from `from` to `to`.
 fn extend<R: Ranges>(bytes: &mut Vec<u8>, text: &R, from: u64, to: u64) -> Result<(), PartError>
     requires filled { vec_len bytes.old ≤ MOST_BYTES }
     requires to { to ≤ MOST_BYTES }
@@ -76,7 +76,7 @@ fn extend<R: Ranges>(bytes: &mut Vec<u8>, text: &R, from: u64, to: u64) -> Resul
     Ok(())
 }
 
-/// The bytes of a text between two places.
+/// The bytes of a text from `from` to `to`.
 fn load<R: Ranges>(alloc: Global, text: &R, from: u64, to: u64) -> Result<Vec<u8>, PartError>
     requires { to ≤ MOST_BYTES }
     ensures length { IfOk result (λ bytes. vec_len bytes ≡ to - from) }
@@ -89,7 +89,7 @@ fn load<R: Ranges>(alloc: Global, text: &R, from: u64, to: u64) -> Result<Vec<u8
     Ok(bytes)
 }
 
-/// The begin of a text, up to the end of its first record; all of it where none ends.
+/// The head of a text, up to the end of its first record; the whole text where no record ends.
 fn load_head<R: Ranges>(alloc: Global, text: &R, size: u64) -> Result<Vec<u8>, PartError>
     requires size { OfKnown (R.bytes text.now) (λ all. size ≡ length all) }
     requires most { size ≤ MOST_BYTES }
@@ -110,7 +110,7 @@ fn load_head<R: Ranges>(alloc: Global, text: &R, size: u64) -> Result<Vec<u8>, P
     Err(PartError::Read)
 }
 
-/// Where a text can first be cut at a place or behind it, which is behind the head of the text.
+/// The first place, at `place` or behind it, where a text with a head of `head` bytes can be cut.
 fn cut<R: Ranges>(
     alloc: Global,
     text: &R,
@@ -170,9 +170,9 @@ fn load_bytes<R: Ranges>(alloc: Global, text: &R, part: Part) -> Result<Vec<u8>,
     Ok(bytes)
 }
 
-/// A part of a text of traces: its head, and the traces of which the first record begins in the
-/// range of bytes that the part has. Beside these the text is read about the two places where the
-/// range begins and ends.
+/// A part of a text of traces: its head, and the traces whose first record begins in the range of
+/// bytes that the part has. Besides, the text is read about the two places where the range begins
+/// and ends.
 pub fn load_part<R: Ranges>(alloc: Global, text: &R, part: Part) -> Result<Vec<u8>, PartError>
     ensures part { IfOk result (λ bytes. OfKnown (R.bytes text.now) (λ all.
         IsPartOf all part bytes.items)) }

@@ -1,9 +1,9 @@
-//! Which part of a text is meant.
+//! Parts of a text, by their numbers.
 
 ghost use Rattle.std.specs.Prelude.{◌≡◌, ◌<◌, ◌≤◌, ◌==◌, ℕ, IfNone, IfSome, slice_index};
 ghost use Rattle.lb_part.specs.Counts.{IsCount, reach};
 
-/// The part with a number out of so many: 1 of 1 is all.
+/// Part `number` of `count` parts of a text: 1 of 1 is the whole text.
 #[derive(Clone, Copy)]
 pub struct Part {
     pub number: u32,
@@ -62,7 +62,7 @@ impl Part {
         Some(Part { number, count })
     }
 
-    /// How far the first `parts` parts of so many bytes reach.
+    /// The end of the first `parts` parts of a text of `bytes` bytes.
     fn reach(self, parts: u32, bytes: u64) -> u64
         requires parts { parts ≤ self.count }
         requires bytes { bytes ≤ MOST_BYTES }
@@ -72,7 +72,7 @@ impl Part {
         bytes * u64::from(parts) / u64::from(self.count)
     }
 
-    /// Where the part begins in so many bytes.
+    /// The place where the part begins in a text of `bytes` bytes.
     pub(crate) fn begin(self, bytes: u64) -> u64
         requires { bytes ≤ MOST_BYTES }
         ensures value { result ≡ reach (self.number - 1) self.count bytes }
@@ -81,7 +81,7 @@ impl Part {
         self.reach(self.number - 1, bytes)
     }
 
-    /// Where it ends.
+    /// The place where the part ends in a text of `bytes` bytes.
     pub(crate) fn end(self, bytes: u64) -> u64
         requires { bytes ≤ MOST_BYTES }
         ensures value { result ≡ reach self.number self.count bytes }

@@ -1,4 +1,4 @@
-//! Texts of which ranges of bytes are read.
+//! Texts whose ranges of bytes can be read.
 
 ghost use Rattle.std.specs.Prelude.{◌≡◌, ◌+◌, ℕ, List, Option, None, Some, IfOk, OnOk, length};
 ghost use Rattle.lb_part.specs.Ranges.{HasRange, OfKnown};
@@ -12,16 +12,16 @@ use thiserror::Error;
 #[error("the text could not be read")]
 pub struct RangeFailed;
 
-/// A text of which any range of bytes can be read.
+/// A text that can be read by ranges of its bytes.
 pub trait Ranges {
     /// Its bytes, where they are known: those of a file are not.
     ghost bytes: { Self → Option (List ℕ) } = { λ _. None };
 
-    /// How many bytes it has.
+    /// The number of its bytes.
     fn size(&self) -> Result<u64, RangeFailed>
         ensures { IfOk result (λ size. OfKnown (bytes self.now) (λ all. size ≡ length all)) };
 
-    /// Reads the bytes from a place on, as many as the buffer takes.
+    /// Fills the buffer with the bytes from `from` on.
     fn read(&self, from: u64, buffer: &mut [u8]) -> Result<(), RangeFailed>
         ensures { OnOk result (OfKnown (bytes self.now) (λ all. HasRange all from buffer.new)) };
 }

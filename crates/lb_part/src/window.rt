@@ -1,4 +1,4 @@
-//! Where a trace begins, by some bytes of a text without quotes.
+//! A search for the place where a trace begins, by some bytes of a text without quotes.
 
 ghost use Rattle.std.specs.Prelude.{◌≡◌, ◌≤◌, ◌<◌, ◌++◌, ℕ, List, true, false, IfSome, length};
 ghost use Rattle.lb_part.specs.Cuts.{ends_cell, ends_line, name_of};
@@ -18,8 +18,8 @@ fn ends_cell(b: u8) -> bool
     b == b',' || ends_line(b)
 }
 
-/// The first cell of a text, which may be told to be the last bytes; None where more bytes may be
-/// part of the cell.
+/// The first cell of a text; `is_last` if no more bytes follow. None where more bytes may be part
+/// of the cell.
 fn name_of(text: &[u8], is_last: bool) -> Option<&[u8]>
     ensures { IfSome result (λ name. (more : List ℕ) → Follows is_last more
         → name_of (text.now ++ more) ≡ name.now) }
@@ -32,18 +32,18 @@ fn name_of(text: &[u8], is_last: bool) -> Option<&[u8]>
     if is_last { Some(text) } else { None }
 }
 
-/// Some bytes of a text that stand one after the other.
+/// Bytes of a text that follow one another.
 #[derive(Clone, Copy)]
 pub(crate) struct Window<'w> {
     pub(crate) bytes: &'w [u8],
     /// Whether the text begins with them.
     pub(crate) is_first: bool,
-    /// Whether it ends with them.
+    /// Whether the text ends with them.
     pub(crate) is_last: bool,
 }
 
 impl Window<'_> {
-    /// Whether the records at two places have two names; None where that is not known yet.
+    /// Whether the records at two places have different names; None where that is not known yet.
     fn is_apart(self, before: usize, place: usize) -> Option<bool>
         requires before { before ≤ length self.bytes.now }
         requires place { place ≤ length self.bytes.now }
@@ -57,8 +57,8 @@ impl Window<'_> {
         Some(last != name)
     }
 
-    /// Whether a trace begins with the record at a place, which is at `from` or behind it, by the
-    /// last record before it; None where that is not known yet.
+    /// Whether a trace begins with the record at `place`, and `place` is not before `from`, by the
+    /// record `last` before it; None where that is not known yet.
     fn is_cut(self, last: Option<usize>, place: usize, from: usize) -> Option<bool>
         requires last { IfSome last (λ before. before ≤ length self.bytes.now) }
         requires place { place ≤ length self.bytes.now }
@@ -77,7 +77,8 @@ impl Window<'_> {
         }
     }
 
-    /// Where the text can first be cut at a place or behind it; None where the bytes do not tell.
+    /// The first place, at `from` or behind it, where the text can be cut; None where that is not
+    /// known yet.
     pub(crate) fn cut(self, from: usize) -> Option<usize>
         requires from { from ≤ length self.bytes.now }
         requires later { self.is_first ≡ false → 0 < from }

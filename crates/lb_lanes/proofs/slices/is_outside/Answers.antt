@@ -4,7 +4,7 @@ use Rattle.std.proofs.lemmas.Int.{ints, to_z-of_z}
 use Rattle.lb_lanes.specs.Operators.{is_int}
 use Rattle.lb_lanes.proofs.slices.is_outside.Goals as goal
 
--- an integer that is not too small
+-- an integer not below the range of `int` is out of the range just where it is above it
 not_small : (v : ℤ) → int_lt v (negsuc 2147483647) ≡ false
     → int_lt (pos 2147483647) v ≡ not (is_int v)
 unfolding is_int

@@ -1,4 +1,5 @@
-use Rattle.std.proofs.Common.{◌≡◌, ℕ, ◌<◌, List, get_or, replicate, length, subst, sym, ◌∙◌, ap, ap₂}
+use Rattle.std.proofs.Common.{◌≡◌, ℕ, ◌<◌, List, get_or, replicate, length, subst, sym, ◌∙◌, ap}
+use Rattle.std.proofs.Common.{ap₂}
 use lib.Bits.{bit_and, bit_or}
 use lib.Lanes.{zip2}
 use Rattle.lb_lanes.specs.Correct.{IsSelection}

@@ -11,7 +11,7 @@ use Rattle.lb_lanes.proofs.WordArithmetic.{word_equal_is}
 use Rattle.lb_lanes.proofs.Widths.{inside}
 use Rattle.lb_lanes.proofs.word_divisions.common_divisor.Goals as goal
 
--- a lane that is live, where no live lane is unlike
+-- a live lane is the same, where no live lane is not the same
 alike : (live same : Bool) → live ≡ true → (live && not same) ≡ false → same ≡ true
 alike true true e f = refl
 alike true false e f = sym f

@@ -3,7 +3,7 @@ use Rattle.std.proofs.lemmas.Int.{to_z-of_z}
 use Rattle.lb_lanes.proofs.WordProducts.{product_of_low, product_look}
 use Rattle.lb_lanes.proofs.word_products.product.Goals as goal
 
--- the integer of a word, after the casts
+-- the integer of a word is the same after the casts
 widened : (x : ℕ) (v w : ℤ) → SFits w32 v → SFits w64 w → v ≡ to_z w32 x
     → w ≡ to_z w32 (of_z w32 v) → to_z w64 (of_z w64 w) ≡ to_z w32 x
 widened x v w f g e is = to_z-of_z w64 w g ∙ is ∙ to_z-of_z w32 v f ∙ e

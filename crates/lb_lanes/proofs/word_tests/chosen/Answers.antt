@@ -40,7 +40,7 @@ loop-c-preserved g c =
           (omega arith) c.chosen16-passed.ensures.within c.loop-c.invariant.plane here);
     }
 
--- a word that was chosen, as an integer
+-- the integer of a chosen word is the chosen integer
 bits_by : (t : Bool) (m n : ℕ) → to_z w32 (cond t m n) ≡ cond t (to_z w32 m) (to_z w32 n)
 bits_by true m n = refl
 bits_by false m n = refl

@@ -22,7 +22,7 @@ on-unlike x k i w fits h =
     ∙ ap (λ n. not (nat_eq (get_or x i 0) n)) (splat_at k i h)
     ∙ ap not (word_equal_is (get_or x i 0) k (word_fits x i w h) fits)
 
--- not a or not b, and not (a and b)
+-- `not a or not b` is `not (a and b)`
 either : (a b : Bool) → (not a || not b) ≡ not (a && b)
 either true b = refl
 either false b = refl
