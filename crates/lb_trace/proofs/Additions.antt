@@ -1,4 +1,4 @@
--- One more record, by its parts.
+-- `record_by` and `start_by`, case by case.
 use Rattle.std.proofs.Common.{ℕ, ◌≡◌, Bool, true, false, ◌&&◌, ◌||◌, ◌==◌, not}
 use Rattle.std.proofs.Common.{if◌then◌else◌, List, [], ◌∷◌, ◌++◌, length, Option, Some, None}
 use Rattle.std.proofs.Common.{Result, Err, refl, sym, ap, ◌∙◌, eq-eqb}
@@ -17,7 +17,7 @@ use Rattle.lb_trace.specs.Spelling.{Record, after_first}
 use Rattle.lb_trace.proofs.Names.{bytes_eq-flip, comes_back-last, is_trace_name-true, last_lawful}
 use Rattle.lb_trace.proofs.Soundness.{comes_back-other}
 
--- a record with no cell
+-- `record_by` of a record without cells is 15
 pub record_by-none : (elements : Elements) (table : List Column) (width : ℕ) (traces : Traces)
     (fields : Record)
     → field_at fields 0 ≡ None → record_by elements table width traces fields ≡ Err 15
@@ -37,7 +37,7 @@ other_cells : (elements : Elements) (name : List ℕ) (traces : Traces) (row : O
 other_cells elements name traces None other = refl
 other_cells elements name traces (Some row) other = rw other refl
 
--- a record of the last trace
+-- `record_by` of a record of the last trace is `go_on_by` of its row
 pub record_by-last : (elements : Elements) (table : List Column) (width : ℕ) (traces : Traces)
     (fields : Record) (name : List ℕ)
     → field_at fields 0 ≡ Some name → length (after_first fields) ≡ width
@@ -55,7 +55,7 @@ record_by-last elements table width traces (first ∷ cells) name found long eac
     rw (count, lawful, comes_back-last first traces is)
     (go_on_cells elements first traces (row_by table cells) is)
 
--- a record of another trace
+-- `record_by` of a record of another trace is `start_by` of its row
 pub record_by-other : (elements : Elements) (table : List Column) (width : ℕ) (traces : Traces)
     (fields : Record) (name : List ℕ)
     → field_at fields 0 ≡ Some name → length (after_first fields) ≡ width
@@ -77,7 +77,7 @@ record_by-other elements table width traces (first ∷ cells) name found long ot
     (other_cells elements first traces (row_by table cells) is)
     ∙ ap (λ n. start_by elements n traces (row_by table cells)) same)
 
--- a record of any trace
+-- `record_by` of a record of any trace is `add_by` of its row
 pub record_by-added : (elements : Elements) (table : List Column) (width : ℕ) (traces : Traces)
     (fields : Record) (name : List ℕ)
     → field_at fields 0 ≡ Some name → length (after_first fields) ≡ width
@@ -99,7 +99,7 @@ record_by-added elements table width traces fields name found long each =
         ∙ ap (λ t. if t then go_on_by elements traces (row_by table (after_first fields))
         else start_by elements name traces (row_by table (after_first fields))) (sym is)
 
--- a name that is ill-formed or there already
+-- a name that is not lawful or not new is refused with 17
 refuse : (a b : Bool) (r : Result Traces ℕ) → (a && not b) ≡ false
     → (if not a || b then Err 17 else r) ≡ Err 17
 refuse true true r h = refl
@@ -115,7 +115,7 @@ start_by-refused elements name traces row has known bad =
     (start_cells elements name traces row)
     (ap (λ b. is_trace_name name && not b) (sym known) ∙ bad)
 
--- a name that is lawful and new
+-- `start_by` is `start_cells` where the name is lawful and new
 pub start_by-new : (elements : Elements) (name : List ℕ) (traces : Traces) (row : Option Row)
     → IsTraceName name
     → list_any (λ t. bytes_eq name t.0) traces ≡ false
@@ -130,7 +130,7 @@ turn true false = refl
 turn false true = refl
 turn false false = refl
 
--- the names of the traces after a new one
+-- a name is among those of `traces ++ t ∷ []` where it is that of `t`, or among those of `traces`
 pub named-push : (traces : Traces) (t : Trace) (q : List ℕ)
     → list_any (λ u. bytes_eq q u.0) (traces ++ t ∷ [])
     ≡ (bytes_eq t.0 q || list_any (λ u. bytes_eq q u.0) traces)
@@ -144,7 +144,7 @@ pub named-more : (traces : Traces) (name : List ℕ) (row : Row) (q : List ℕ)
     ≡ (bytes_eq name q || list_any (λ t. bytes_eq q t.0) traces)
 named-more traces name row q = named-push traces (name, row ∷ []) q
 
--- the names of the traces after one more row of the last
+-- one more row of the last trace leaves the names of the traces as they are
 pub named-row : (traces : Traces) (row : Row) (q : List ℕ)
     → list_any (λ t. bytes_eq q t.0) (with_row traces row) ≡ list_any (λ t. bytes_eq q t.0) traces
 named-row [] row q = refl

@@ -1,4 +1,4 @@
--- The text of chunks, of which each but the last ends with a line.
+-- The text of chunks. Each chunk but the last ends with the end of a line.
 use Rattle.std.proofs.Common.{ℕ, zero, suc, ◌≡◌, ◌+◌, ◌-◌, ◌<◌, ◌||◌, Bool, true, false}
 use Rattle.std.proofs.Common.{List, [], ◌∷◌, ◌++◌, length, refl, sym, ap, ◌∙◌, arith}
 use Rattle.std.proofs.Common.{get_or, map, take}
@@ -22,7 +22,7 @@ use Rattle.lb_trace.proofs.SpreadReadings.{records_after_bom}
 abbrev pub joined : List (List ℕ) → List ℕ
 joined texts = flat_map (λ text. text) texts
 
--- each text but the last one ends with a line
+-- each text but the last one ends with the end of a line
 abbrev pub AreEnded : List (List ℕ) → Type 0
 AreEnded texts = (k : ℕ) → k + 1 < length texts → is_ended (get_or texts k []) ≡ true
 
@@ -35,7 +35,7 @@ pub ended-some : (text : List ℕ) → is_ended text ≡ true → 0 < length tex
 ended-some [] e = cc e
 ended-some (b ∷ rest) e = omega arith
 
--- a text that ends with a line, and its last byte
+-- a text that ends with the end of a line is its bytes but the last, and then its last byte
 ended-last : (text : List ℕ) → is_ended text ≡ true
     → text ≡ take (length text - 1) text ++ get_or text (length text - 1) 0 ∷ []
 ended-last text e =
@@ -47,7 +47,7 @@ ended-last text e =
     ∙ ap (λ rest. get_or text (length text - 1) 0 ∷ rest)
     (drop_all (length text - 1 + 1) text (omega arith)))
 
--- the records of what ends with a line, and of what follows it
+-- the records of `text ++ rest` are those of both, where `text` ends with the end of a line
 pub plain-after : (text rest : List ℕ) → is_ended text ≡ true
     → plain_records (text ++ rest) ≡ plain_records text ++ plain_records rest
 plain-after text rest e =
@@ -78,7 +78,7 @@ joined-quotes (text ∷ more) =
     list_any-append is_quote text (joined more)
     ∙ ap (λ q. has_quote text || q) (joined-quotes more)
 
--- the byte order mark stands in the first text
+-- a text of 3 bytes or more has the whole byte order mark, whatever follows it
 pub strip-first : (text rest : List ℕ) → 2 < length text
     → strip_bom (text ++ rest) ≡ strip_bom text ++ rest
 unfolding strip_bom
@@ -92,7 +92,7 @@ strip-first (a ∷ b ∷ c ∷ more) rest long = by (is_bom a b c) refl
     by true is = rw is refl
     by false is = rw is refl
 
--- what stands after the mark ends as the text does
+-- a text without its byte order mark ends with the end of a line where the text does
 pub strip-ended : (text : List ℕ) → 2 < length text → is_ended text ≡ true
     → is_ended (strip_bom text) ≡ true
 unfolding strip_bom
@@ -118,7 +118,7 @@ bodies-ended : (text : List ℕ) (more : List (List ℕ)) → 2 < length text �
 bodies-ended text more long each zero below = strip-ended text long (each 0 (omega (arith, below)))
 bodies-ended text more long each (suc k) below = each (suc k) (omega (arith, below))
 
--- the texts have the records of what they are one after the other
+-- the records of joined texts are those of the texts, one text after the other
 pub bodies-records : (texts : List (List ℕ)) → 2 < length (get_or texts 0 []) → AreEnded texts
     → list_any has_quote (bodies_of texts) ≡ false
     → records_of (joined texts) ≡ flat_map plain_records (bodies_of texts)
@@ -129,7 +129,7 @@ bodies-records (text ∷ more) long each none =
     (plain_text body (joined-quotes (strip_bom text ∷ more) ∙ none))
     ∙ joined-records (strip_bom text ∷ more) (bodies-ended text more long each)
 
--- the text of chunks is what they are one after the other
+-- the text of chunks is `joined` of their bytes
 pub chunks-joined : (chunks : List (Vec ℕ Global))
     → text_of chunks ≡ joined (map (λ (chunk : Vec ℕ Global). chunk.items) chunks)
 chunks-joined [] = refl

@@ -1,4 +1,4 @@
--- What records spell is what is read of them.
+-- Completeness: records that spell traces are read as these traces.
 use Rattle.std.proofs.Common.{ℕ, ◌≡◌, ◌≢◌, ◌+◌, ◌*◌, ◌<◌, ◌≤◌, true, false, List, [], ◌∷◌, ◌++◌}
 use Rattle.std.proofs.Common.{length, map, get_or, Ok, refl, sym, ap, ◌∙◌, subst, arith}
 use Rattle.std.proofs.Common.{append_assoc, length-append, nat_le, nat_lt}
@@ -18,14 +18,14 @@ use Rattle.lb_trace.proofs.Names.{bytes_eq-same, comes_back-last, comes_back-non
 use Rattle.lb_trace.proofs.Names.{is_last-push, none_named}
 use Rattle.lb_trace.proofs.Steps.{step}
 
--- how many instants there are around one trace
+-- the instants of traces around one trace are those before it, its own, and those after it
 count_around : (before : Traces) (t : Trace) (after : Traces)
     → instants_of (before ++ t ∷ after) ≡ instants_of before + (length t.1 + instants_of after)
 count_around before t after =
     sum_by-append (λ (u : Trace). length u.1) before (t ∷ after)
     ∙ ap (λ n. instants_of before + n) (sum_by-cons (λ (u : Trace). length u.1) t after)
 
--- room for one more instant, from a recording that has more
+-- there is room for one more instant where a lawful recording has that many
 room_within : (elements : Elements) (some all : Traces)
     → IsRecording record { signature = elements; traces = all }
     → instants_of some + 1 ≤ instants_of all
@@ -37,14 +37,14 @@ room_within elements some all lawful fewer =
     le-leb ((instants_of some + 1) * cells_of_instant elements) 67108864
     (omega (arith, product, lawful.cells))
 
--- the trace at a place of a lawful recording
+-- each trace of a lawful recording is lawful
 at_place : (elements : Elements) (before : Traces) (t : Trace) (after : Traces)
     → IsRecording record { signature = elements; traces = before ++ t ∷ after } → IsTrace elements t
 at_place elements before t after lawful =
     subst (IsTrace elements) (get_or_at before t after t (length before) refl)
     (lawful.each (length before) t (omega (arith, length-append before (t ∷ after))))
 
--- no earlier trace has its name
+-- no earlier trace of a lawful recording has the name of a trace
 fresh : (elements : Elements) (before : Traces) (t : Trace) (after : Traces)
     → IsRecording record { signature = elements; traces = before ++ t ∷ after }
     → All (λ other. other ≢ t.0) (trace_names before)
@@ -61,7 +61,7 @@ fresh elements before t after lawful =
     ∙ sym (get_or_at (trace_names before) t.0 (trace_names after) d (length before) long)
     ∙ ap (λ ns. get_or ns (length before) d) (sym names))
 
--- the rest of a trace that has begun
+-- the records of the rest of a trace that has begun, and of the traces after it, are read as these
 rest_of_trace : (elements : Elements) (columns : Record) (before : Traces) (name : List ℕ)
     (read rest all : List Row) (after : Traces) (records : List Record)
     → IsRecording record { signature = elements; traces = before ++ (name, all) ∷ after }
@@ -103,7 +103,7 @@ rest_of_trace elements columns before name read (row ∷ rest) all after (r ∷ 
     ∙ rest_of_trace elements columns before name (read ++ row ∷ []) rest all after records lawful
     (append_assoc read (row ∷ []) rest ∙ parts) go spelled.1
 
--- the first record of a trace, and then its rest
+-- the records of a whole trace, and of the traces after it, are read as these
 one_trace : (elements : Elements) (columns : Record) (before : Traces) (name : List ℕ)
     (rows : List Row) (after : Traces) (records : List Record)
     → IsRecording record { signature = elements; traces = before ++ (name, rows) ∷ after }

@@ -1,4 +1,4 @@
--- The records of a text that is cut at the end of a line, and where its quotes stand.
+-- The records and the quotes of a text that is cut at the ends of lines.
 use Rattle.std.proofs.Common.{ℕ, ◌≡◌, ◌+◌, ◌-◌, ◌<◌, ◌||◌, Bool, true, false, List, [], ◌∷◌, ◌++◌}
 use Rattle.std.proofs.Common.{length, get_or, map, take, drop, refl, sym, ap, ◌∙◌, arith}
 use Rattle.std.proofs.Common.{append_assoc}
@@ -33,7 +33,7 @@ split-some picks (b ∷ rest) = by (picks b) refl
     by true e = rw e (omega arith)
     by false e = rw e (front-some b (split_at picks rest))
 
--- the parts of a text that is cut where it is parted
+-- `split_at` of a text around a picked byte is `split_at` of both sides
 split-append : (picks : ℕ → Bool) (before : List ℕ) (c : ℕ) (after : List ℕ) → picks c ≡ true
     → split_at picks (before ++ c ∷ after) ≡ split_at picks before ++ split_at picks after
 unfolding split_at
@@ -49,7 +49,7 @@ split-append picks (b ∷ before) c after e = by (picks b) refl (split-append pi
         rw t (ap (at_front b) more
         ∙ front-append b (split_at picks before) (split_at picks after) (split-some picks before))
 
--- the records before the end of a line, and those after it
+-- the records of a text around the end of a line are those of both sides
 pub plain-cut : (before : List ℕ) (c : ℕ) (after : List ℕ) → ends_line c ≡ true
     → plain_records (before ++ c ∷ after) ≡ plain_records before ++ plain_records after
 unfolding plain_records
@@ -72,14 +72,14 @@ or-assoc false b c = refl
 end-no-quote : (b : ℕ) → ends_line b ≡ true → is_quote b ≡ false
 end-no-quote b e = grind (arith, nat_tests)
 
--- the end of a line is no quote
+-- a text around the end of a line has a quote where one of the two sides has one
 quote-cut : (before : List ℕ) (c : ℕ) (after : List ℕ) → ends_line c ≡ true
     → has_quote (before ++ c ∷ after) ≡ (has_quote before || has_quote after)
 quote-cut before c after e =
     list_any-append is_quote before (c ∷ after)
     ∙ ap (λ q. has_quote before || (q || has_quote after)) (end-no-quote c e)
 
--- the same of the parts of a text as slices give them
+-- `plain-cut` for the slices before and after place `i`
 pub cut-found : (text : List ℕ) (i b : ℕ) → i < length text → b ≡ get_or text i 0
     → ends_line b ≡ true
     → plain_records text
@@ -92,7 +92,7 @@ cut-found text i b below is end =
     ∙ plain-cut (take i text) b (drop (i + 1) text) end
     ∙ ap (λ rest. plain_records (take i text) ++ plain_records rest) (sym (take_rest text (i + 1)))
 
--- a text without another end of a line is the last part
+-- nothing is left behind the whole text
 pub cut-none : (text : List ℕ)
     → plain_records text
     ≡ plain_records text
@@ -126,7 +126,7 @@ quote-none text =
 records_in : Bor (List ℕ) → List (List (List ℕ))
 records_in part = plain_records part.now
 
--- one more part
+-- the records of some parts and of the rest are those of one more part and of the rest behind it
 pub parts-more : (parts : List (Bor (List ℕ))) (text rest : List ℕ) (part : Bor (List ℕ))
     (after : List ℕ)
     → plain_records text ≡ flat_map (λ p. plain_records p.now) parts ++ plain_records rest
@@ -141,7 +141,7 @@ parts-more parts text rest part after so_far cut =
     (sym (append-nil (plain_records part.now)))
     ∙ ap (λ rs. rs ++ plain_records after) (sym (flat_map-append records_in parts (part ∷ [])))
 
--- the last part
+-- the records of some parts and of the last part are those of all parts
 pub parts-all : (parts : List (Bor (List ℕ))) (text : List ℕ) (part : Bor (List ℕ))
     → plain_records text ≡ flat_map (λ p. plain_records p.now) parts ++ plain_records part.now
     → plain_records text ≡ flat_map (λ p. plain_records p.now) (parts ++ part ∷ [])
@@ -154,7 +154,7 @@ parts-all parts text part so_far =
 quote_in : Bor (List ℕ) → Bool
 quote_in part = has_quote part.now
 
--- the quotes of one more part
+-- a quote in some parts or the rest is one in one more part or the rest behind it
 pub quotes-more : (parts : List (Bor (List ℕ))) (text rest : List ℕ) (part : Bor (List ℕ))
     (after : List ℕ)
     → has_quote text ≡ (list_any (λ p. has_quote p.now) parts || has_quote rest)

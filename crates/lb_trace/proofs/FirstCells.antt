@@ -1,4 +1,4 @@
--- A walk over the bytes of a cell, and what a cell is of its record.
+-- The first cell of a text, found byte by byte, and its place in its record.
 use Rattle.std.proofs.Common.{ℕ, suc, ◌≡◌, ◌+◌, ◌<◌, ◌≤◌, Bool, true, false, if◌then◌else◌, List}
 use Rattle.std.proofs.Common.{[], ◌∷◌, ◌++◌, ◌-◌, length, get_or, take, drop, refl, sym, ap, ◌∙◌}
 use Rattle.std.proofs.Common.{arith, append_assoc}
@@ -8,7 +8,7 @@ use Rattle.lb_trace.specs.Lines.{after_line, line_of, record_of}
 use Rattle.lb_trace.specs.Scan.{after_cell, begun_records, cell_of, ends_cell, is_last_cell}
 use Rattle.lb_trace.proofs.Lines.{comma-inside, plain-line, plain-none, plain-skip}
 
--- so many bytes stand in the first cell
+-- the first `i` bytes of `text` stand in its first cell
 pub record Walked (text : List ℕ) (i : ℕ) : Type 0 where
   pub cell : cell_of text ≡ take i text ++ cell_of (drop i text)
   pub after : after_cell text ≡ after_cell (drop i text)
@@ -17,7 +17,7 @@ pub record Walked (text : List ℕ) (i : ℕ) : Type 0 where
 pub walked-start : (text : List ℕ) → Walked text 0
 walked-start text = record { cell = refl; after = refl; last = refl }
 
--- the byte at a place, and those after it
+-- a text from place `i` on is the byte there, and then the text from `i + 1` on
 at_place : (text : List ℕ) (i b : ℕ) → i < length text → b ≡ get_or text i 0
     → drop i text ≡ b ∷ drop (i + 1) text
 at_place text i b h e = drop_more text i 0 h ∙ ap (λ x. x ∷ drop (i + 1) text) (sym e)
@@ -49,7 +49,7 @@ pub last-end : (b : ℕ) (rest : List ℕ) → ends_cell b ≡ true → is_last_
 unfolding is_last_cell
 last-end b rest e = rw e refl
 
--- one more byte
+-- one more byte that ends no cell stands in the first cell
 pub walked-more : (text : List ℕ) (i b : ℕ) → i < length text → b ≡ get_or text i 0
     → ends_cell b ≡ false → Walked text i → Walked text (i + 1)
 walked-more text i b h e in_cell w =
@@ -64,7 +64,7 @@ walked-more text i b h e in_cell w =
       last = w.last ∙ ap is_last_cell at ∙ last-more b (drop (i + 1) text) in_cell;
     }
 
--- one more byte at the front
+-- one more byte at the front, which ends no cell, stands in the first cell
 pub walked-front : (b : ℕ) (rest : List ℕ) (i : ℕ) → ends_cell b ≡ false → Walked rest i
     → Walked (b ∷ rest) (suc i)
 walked-front b rest i in_cell w = record {
@@ -73,7 +73,7 @@ walked-front b rest i in_cell w = record {
   last = last-more b rest in_cell ∙ w.last;
 }
 
--- the byte that ends the cell
+-- the first cell of a text, the text after it, and whether it is the last, where byte `i` ends it
 pub walked-end : (text : List ℕ) (i b : ℕ) → i < length text → b ≡ get_or text i 0
     → ends_cell b ≡ true → Walked text i
     → (cell_of text ≡ take i text) × (after_cell text ≡ drop (i + 1) text)
@@ -87,7 +87,7 @@ walked-end text i b h e end w =
       w.last ∙ ap is_last_cell at ∙ last-end b (drop (i + 1) text) end,
     )
 
--- the end of the text
+-- the first cell of a text that ends with it is the text, and is the last one
 pub walked-all : (text : List ℕ) (i : ℕ) → length text ≤ i → Walked text i
     → (cell_of text ≡ text) × (after_cell text ≡ []) × (is_last_cell text ≡ true)
 unfolding cell_of after_cell is_last_cell
@@ -99,7 +99,7 @@ walked-all text i h w =
       w.last ∙ ap is_last_cell none,
     )
 
--- the cells of the record are the first one, and those of the record of what stands after it
+-- a record is its first cell, and then the cells of the record of the text after that cell
 pub record-cell : (text : List ℕ)
     → record_of text ≡ cell_of text
     ∷ (if is_last_cell text then [] else record_of (after_cell text))
@@ -134,7 +134,7 @@ after-cell (b ∷ rest) = by (is_comma b) refl (ends_line b) refl (after-cell re
     by false comma true is more = rw (is, comma) refl
     by false comma false is more = rw (is, comma) more
 
--- one more end of a line is skipped
+-- the records of a text stay the same where one more end of a line is skipped
 pub skipped-more : (text : List ℕ) (i b : ℕ) → i < length text → b ≡ get_or text i 0
     → ends_line b ≡ true
     → plain_records text ≡ plain_records (drop i text)
@@ -154,7 +154,7 @@ pub skipped-all : (text : List ℕ) (i : ℕ) → length text ≤ i
     → plain_records text ≡ plain_records (drop i text) → plain_records text ≡ []
 skipped-all text i h so_far = so_far ∙ ap plain_records (drop_all i text h) ∙ plain-none
 
--- a cell as the first one of a text, what stands after it, and whether it is the last of its record
+-- the first cell of `text`, the text after it, and whether it is the last one of its record
 pub record IsFirst (text bytes rest : List ℕ) (is_last : Bool) : Type 0 where
   pub same_bytes : bytes ≡ cell_of text
   pub same_rest : rest ≡ after_cell text
@@ -169,7 +169,7 @@ pub first-after : (text bytes rest : List ℕ) (is_last : Bool) → IsFirst text
     → after_line text ≡ (if is_last then rest else after_line rest)
 first-after text bytes rest is_last f = rw (f.same_rest, f.same_last) (after-cell text)
 
--- the part of a text from a place on, as a slice gives it
+-- the first cell, as slices give it, where the byte at place `i` ends it
 pub first-ended : (text : List ℕ) (i b : ℕ) (is_last : Bool) → i < length text → b ≡ get_or text i 0
     → (ends_cell b ≡ true) × (is_last ≡ ends_line b)
     → Walked text i → IsFirst text (take i text) (take (length text - (i + 1)) (drop (i + 1) text))

@@ -1,4 +1,4 @@
--- Numbers whose ends are found many at once.
+-- Numbers with many of their ends found at once.
 use Rattle.std.proofs.Common.{ℕ, zero, suc, ◌≡◌, ◌+◌, ◌-◌, ◌*◌, ◌/◌, ◌<◌, ◌≤◌, ◌^◌, ◌==◌}
 use Rattle.std.proofs.Common.{Bool, true, false, cond, if◌then◌else◌, not, List, [], ◌∷◌, length}
 use Rattle.std.proofs.Common.{get_or, map, take, drop, ℤ, Some, refl, sym, ap, ◌∙◌, arith, subst}
@@ -27,7 +27,7 @@ half : (m : Bool) (r : ℕ) → (cond m 1 0 + 2 * r) / 2 ≡ r
 half true r = omega arith
 half false r = omega arith
 
--- the lanes from one on
+-- a mask divided by `2 ^ n` is the mask of the lanes from `n` on
 mask-drop : (n : ℕ) (ms : List Bool) → mask_l ms / 2 ^ n ≡ mask_l (drop n ms)
 mask-drop zero ms = omega arith
 mask-drop (suc n) [] = zero-div (2 ^ suc n)
@@ -41,7 +41,7 @@ others-drop n text =
     mask-drop n (map (λ b. not (is_ascii_digit b)) text)
     ∙ ap mask_l (drop-map (λ b. not (is_ascii_digit b)) n text)
 
--- the digits from a place on, where the mask of 32 bytes has a bit after it
+-- the zeros of the mask from place `first` on count the digits there, where a bit follows them
 pub digits-found : (text : List ℕ) (mask first after count : ℕ) → 31 < length text
     → mask ≡ others (take 32 text) → after ≡ mask / 2 ^ first → 0 < after
     → count ≡ count_trailing_zeros 64 after
@@ -65,7 +65,7 @@ digits-found text mask first after count long is from some found =
           ∙ ap (take count) (sym same)) ∙ both.1,
     )
 
--- the digits after a sign, if there is one
+-- the text behind an optional sign at place `at`, as a slice gives it
 sign-past : (negative : Bool) (text : List ℕ) (at sign : ℕ) → sign ≡ bool_byte negative
     → drop (at + sign) text
     ≡ (if negative then take (length (drop at text) - 1) (drop 1 (drop at text))
@@ -76,7 +76,7 @@ sign-past true text at sign is =
 sign-past false text at sign is =
     let none : at + sign ≡ at = omega (arith, is) in ap (λ n. drop n text) none
 
--- a number that was found at a place
+-- the text from place `at` on begins with the number whose sign and digits were found there
 pub number-begins : (text : List ℕ) (at sign count n : ℕ) (x : ℤ) (last : Bool) → 31 < length text
     → sign ≡ bool_byte (get_or text at 0 == 45) → at + sign + count < 32 → 0 < count → count ≤ 8
     → list_all is_ascii_digit (take count (drop (at + sign) text)) ≡ true
@@ -116,7 +116,7 @@ one-goes_on column columns text rest v int b =
       after-more column.kind text rest v false begins refl,
     )
 
--- four columns of integers go on with four numbers, one after the other
+-- four numbers, one after the other, are the cells of the first four columns, all of integers
 pub four-numbers : (columns : List Column) (p q r s : Column) (text one two three four : List ℕ)
     (x y z w : ℤ) → 3 < length columns
     → (get_or columns 0 p).kind ≡ kind.Int → (get_or columns 1 q).kind ≡ kind.Int

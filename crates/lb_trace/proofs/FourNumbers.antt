@@ -30,7 +30,7 @@ use Rattle.lb_trace.proofs.TruthCells.{both-go_on}
 
 -- ## The ends of four numbers
 
--- bits of 32 bytes
+-- the ends of numbers among 32 bytes have no bit past 31
 pub ends-past : (text : List ℕ) (o m i : ℕ) → 31 < length text → o ≡ others (take 32 text)
     → m ≡ mask_l (map (λ b. b == 45) (take 32 text)) → 31 < i → bit_at (ends_of o m) i ≡ 0
 ends-past text o m i long is minus above =
@@ -47,7 +47,7 @@ ends-past text o m i long is minus above =
     ∙ ap (λ n. min n (bit_at (bit_not w64 (o / 2)) i)) (bit_at_and m (2 * o + 1) i))
     ∙ omega (arith, none, no)
 
--- a further end stands behind one
+-- the next lowest bit stands above the lowest one
 pub lowest-above : (bits place rest next others : ℕ) → IsLowest bits place rest
     → IsLowest rest next others → place < next
 lowest-above bits place rest next others one two =
@@ -58,20 +58,20 @@ lowest-above bits place rest next others one two =
     absurd (omega (arith, none, set)))
     (cases_lt place next)
 
--- the bits behind an end and before the next one
+-- no bit is set between the lowest one and the next lowest
 pub lowest-between : (bits place rest next others : ℕ) → IsLowest bits place rest
     → IsLowest rest next others → (i : ℕ) → place < i → i < next → bit_at bits i ≡ 0
 lowest-between bits place rest next others one two i above below =
     sym (one.kept i above) ∙ two.below i below
 
--- behind two ends
+-- the bits above the two lowest ones stay as they are
 pub lowest-twice : (bits place rest next others : ℕ) → IsLowest bits place rest
     → IsLowest rest next others → (i : ℕ) → next < i → bit_at others i ≡ bit_at bits i
 lowest-twice bits place rest next others one two i above =
     let first : place < next = lowest-above bits place rest next others one two in
     two.kept i above ∙ one.kept i (omega (arith, first, above))
 
--- the bytes before and between four ends
+-- all bytes before and between four ends stand in numbers
 pub record Gaps (text : List ℕ) (first second third fourth : ℕ) : Type 0 where
   pub last : fourth < 32
   pub one : first < second
@@ -189,7 +189,7 @@ all-four P a b c d pa pb pc pd (suc (suc zero)) e below = pc
 all-four P a b c d pa pb pc pd (suc (suc (suc zero))) e below = pd
 all-four P a b c d pa pb pc pd (suc (suc (suc (suc k)))) e below = absurd (omega (arith, below))
 
--- no byte of four words is over a digit
+-- no byte of four words is above the digit 9
 pub words-small : (text : List ℕ) (first second third fourth a b c d : ℕ) → 63 < length text
     → Gaps text first second third fourth
     → IsWordOf text 0 first a → IsWordOf text (first + 1) second b
@@ -215,7 +215,7 @@ integers-long (a ∷ []) ints = absurd ints
 integers-long (a ∷ b ∷ []) ints = absurd ints
 integers-long (a ∷ b ∷ c ∷ []) ints = absurd ints
 
--- four columns of integers go on with four numbers
+-- four numbers before a comma are the cells of the first four columns
 pub four-on : (columns : List Column) (text : List ℕ) (values : List ℤ) (end : ℕ)
     → AreIntegers columns → length values ≡ 4 → AreFour text values end → get_or text end 0 ≡ 44
     → GoesOn columns text values (drop 4 columns) (drop (end + 1) text)
@@ -241,7 +241,7 @@ four-on (a ∷ []) text values end ints long four comma = absurd ints
 four-on (a ∷ b ∷ []) text values end ints long four comma = absurd ints
 four-on (a ∷ b ∷ c ∷ []) text values end ints long four comma = absurd ints
 
--- and a record of four columns is read whole where the last number ends a line
+-- four numbers before the end of a line are the whole record of four columns
 pub four-last : (columns : List Column) (text : List ℕ) (values : List ℤ) (end : ℕ)
     → length columns ≡ 4 → AreIntegers columns → length values ≡ 4 → AreFour text values end
     → ends_line (get_or text end 0) ≡ true

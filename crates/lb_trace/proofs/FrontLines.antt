@@ -1,4 +1,4 @@
--- The first line of a text, and where it ends.
+-- The first line of a text, and its length.
 use Rattle.std.proofs.Common.{ℕ, zero, suc, ◌≡◌, ◌+◌, ◌-◌, ◌<◌, ◌≤◌, ◌||◌, ◌&&◌, Bool, true, false}
 use Rattle.std.proofs.Common.{List, [], ◌∷◌, ◌++◌, length, get_or, take, drop, map}
 use Rattle.std.proofs.Common.{refl, sym, ap, ◌∙◌, subst, arith, append_assoc, length-append, ◌⊎◌}
@@ -26,7 +26,7 @@ use Rattle.lb_trace.proofs.Lines.{plain-line, plain-none, plain-skip}
 
 -- ## The first line
 
--- so many bytes stand in the first line
+-- the first bytes of a text, as many as this number, stand in its first line
 abbrev pub InLine : List ℕ → ℕ → Type 0
 InLine text i = line_of text ≡ take i text ++ line_of (drop i text)
 
@@ -72,7 +72,7 @@ in_line-all text i past w =
     ∙ ap (λ t. take i text ++ t) line-none
     ∙ append-nil (take i text) ∙ take_all i text past
 
--- the line of a line is that line
+-- the first line of a line is the line itself
 pub line_of-same : (text : List ℕ) → line_of (line_of text) ≡ line_of text
 unfolding line_of
 line_of-same [] = refl
@@ -117,14 +117,14 @@ split-none (b ∷ rest) none =
     let parts = or_false (ends_line b) (list_any ends_line rest) none in
     rw parts.0 (ap (at_front b) (split-none rest parts.1))
 
--- a line is one record
+-- a line that is not empty is one record
 pub one_line : (b : ℕ) (rest : List ℕ) → list_any ends_line (b ∷ rest) ≡ false
     → plain_records (b ∷ rest) ≡ split_at is_comma (b ∷ rest) ∷ []
 unfolding plain_records
 one_line b rest none =
     ap (λ lines. map (split_at is_comma) (filter is_filled lines)) (split-none (b ∷ rest) none)
 
--- the records of the first line alone
+-- the first line with its end has the first record of the text, if the line is not empty
 pub first-record : (text : List ℕ) (i b : ℕ) → i < length text → b ≡ get_or text i 0
     → ends_line b ≡ true → 0 < i → list_any ends_line (take i text) ≡ false
     → plain_records (take (i + 1) text) ≡ take 1 (plain_records text)
@@ -151,7 +151,7 @@ first-record text i b h e end some none = by (take i text) refl
         ∙ ap (λ rs. split_at is_comma (c ∷ line) ∷ rs) plain-none
         ∙ sym (ap (take 1) all)
 
--- the same where the text does not begin with the end of a line
+-- `first-record` for a text that does not begin with the end of a line
 pub first-found : (text : List ℕ) (i b : ℕ) → i < length text → b ≡ get_or text i 0
     → ends_line b ≡ true → (0 < length text → ends_line (get_or text 0 0) ≡ false)
     → list_any ends_line (take i text) ≡ false
@@ -183,13 +183,13 @@ no_end-more text i b h e inside none =
     ∙ list_any-append ends_line (take i text) (b ∷ [])
     ∙ rw (none, inside) refl
 
--- the byte behind some ends of lines
+-- the text from `n` on begins with the byte at place `n`, which ends no line
 pub next_byte : (text : List ℕ) (n : ℕ) → n < length text → ends_line (get_or text n 0) ≡ false
     → ends_line (get_or (take (length text - n) (drop n text)) 0 0) ≡ false
 next_byte text n h inside =
     ap (λ t. ends_line (get_or t 0 0)) (take_rest text n ∙ drop_more text n 0 h) ∙ inside
 
--- what stands before it has no record
+-- the first `n` bytes of a text are none, or end with the end of a line
 start_or_ended : (text : List ℕ) (n : ℕ) → (0 < n → is_ended (take n text) ≡ true)
     → (take n text ≡ []) ⊎ (is_ended (take n text) ≡ true)
 start_or_ended text zero closed = inl refl
@@ -203,7 +203,7 @@ skip_front front rest empty closed =
     plain-after front rest h ∙ ap (λ rs. rs ++ plain_records rest) empty)
     closed
 
--- a text with such a byte has a record, and one without has none
+-- a text has a record where a byte that ends no line follows ends of lines
 pub some_record : (text : List ℕ) (n : ℕ) → n < length text
     → plain_records (take n text) ≡ [] → (0 < n → is_ended (take n text) ≡ true)
     → ends_line (get_or text n 0) ≡ false → 0 < length (plain_records text)
@@ -222,7 +222,7 @@ no_record text n past none = ap plain_records (sym (take_all n text past)) ∙ n
 
 -- ## Both
 
--- what stands before the first line has no record
+-- ends of lines before the first line leave the first record as it is
 pub filled-first : (text : List ℕ) (blank count : ℕ)
     → plain_records (take blank text) ≡ []
     → (0 < blank → is_ended (take blank text) ≡ true)
@@ -257,7 +257,7 @@ filled-ended text blank count ended =
 
 -- ## A byte order mark
 
--- the front of a text without the mark
+-- a front of a text that has no byte order mark has none
 unmarked : (a b c : ℕ) (rest : List ℕ) → is_bom a b c ≡ false → (n : ℕ)
     → strip_bom (take n (a ∷ b ∷ c ∷ rest)) ≡ take n (a ∷ b ∷ c ∷ rest)
 unfolding strip_bom
@@ -284,7 +284,7 @@ two-take a b (suc zero) = refl
 two-take a b (suc (suc zero)) = refl
 two-take a b (suc (suc (suc n))) = refl
 
--- without a mark
+-- `strip-take` for a text without a byte order mark
 unmarked-take : (text : List ℕ) (count : ℕ) → strip_bom text ≡ text
     → strip_bom (take count text) ≡ take count text
     → strip_bom (take ((length text - length (strip_bom text)) + count) text)
@@ -294,7 +294,7 @@ unmarked-take text count same kept =
     omega (arith, ap length same) in
     ap (λ m. strip_bom (take m text)) n ∙ kept ∙ ap (take count) (sym same)
 
--- the mark and some more bytes
+-- the mark and the next `count` bytes of a text, without the mark, are those `count` bytes
 pub strip-take : (text : List ℕ) (count : ℕ)
     → strip_bom (take ((length text - length (strip_bom text)) + count) text)
     ≡ take count (strip_bom text)
@@ -318,7 +318,7 @@ strip-take (a ∷ b ∷ c ∷ rest) count = by (is_bom a b c) refl
         let same : strip_bom (a ∷ b ∷ c ∷ rest) ≡ a ∷ b ∷ c ∷ rest = rw is refl in
         unmarked-take (a ∷ b ∷ c ∷ rest) count same (unmarked a b c rest is count)
 
--- what stands behind the mark
+-- a text from the length of its mark on is the text without the mark
 drop-mark : (text : List ℕ)
     → drop (length text - length (strip_bom text)) text ≡ strip_bom text
 unfolding strip_bom
@@ -342,7 +342,7 @@ drop-mark (a ∷ b ∷ c ∷ rest) = by (is_bom a b c) refl
         let n : length whole - length (strip_bom whole) ≡ zero = omega (arith, ap length same) in
         ap (λ m. drop m whole) n ∙ sym same
 
--- the mark and some more bytes end as these do
+-- the mark and the next `count` bytes end with the end of a line where those bytes do
 pub mark-ended : (text : List ℕ) (count : ℕ) → is_ended (take count (strip_bom text)) ≡ true
     → is_ended (take ((length text - length (strip_bom text)) + count) text) ≡ true
 mark-ended text count ended =
@@ -351,7 +351,7 @@ mark-ended text count ended =
     ∙ ended_join (take mark text) (take count (drop mark text))
     (ap (λ t. is_ended (take count t)) (drop-mark text) ∙ ended)
 
--- ## How long a header is
+-- ## The length of a header
 
 and_first : (a b : Bool) → (a && b) ≡ true → a ≡ true
 and_first true b h = refl

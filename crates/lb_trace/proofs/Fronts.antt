@@ -22,12 +22,12 @@ zip2-map : (h : ℕ → ℕ → ℕ) (f g : ℕ → ℕ) (xs : List ℕ)
 zip2-map h f g [] = refl
 zip2-map h f g (x ∷ xs) = ap (λ r. h (f x) (g x) ∷ r) (zip2-map h f g xs)
 
--- an operation on two vectors that were computed lane by lane from a third
+-- an operation on two vectors, each computed lane by lane from `v`, is one operation on `v`
 pub joined : (h : ℕ → ℕ → ℕ) (f g : ℕ → ℕ) (v : List ℕ) {a b : List ℕ}
     → a ≡ map f v → b ≡ map g v → zip2 h a b ≡ map (λ x. h (f x) (g x)) v
 joined h f g v p q = ap₂ (zip2 h) p q ∙ zip2-map h f g v
 
--- a vector of one value
+-- a vector of one value is computed lane by lane from any vector of its length
 pub splat_is : (v : List ℕ) (n y : ℕ) → length v ≡ n → replicate n y ≡ map (λ _. y) v
 splat_is [] n y e = ap (λ k. replicate k y) (sym e)
 splat_is (x ∷ xs) n y e =
@@ -42,7 +42,7 @@ same_front p q (suc n) (b ∷ rest) all fits =
     ap₂ (λ (x : Bool) (xs : List Bool). x ∷ xs) (agree_below_at p q 256 b all (fits 0).fits)
     (same_front p q n rest all (λ k. fits (suc k)))
 
--- the mask of lanes that were computed from the first bytes of a text
+-- the mask of lanes computed from the first `n` bytes of a text is `others` of these bytes
 pub others-of : (text : List ℕ) (n mask : ℕ) (z : List ℕ) (f : ℕ → ℕ)
     → n ≤ length text → n ≤ 64 → ((k : ℕ) → Fits w8 (get_or text k 0))
     → mask ≡ mask_l (map (top 7) z) % 2 ^ 64 → z ≡ map f (take n text)
@@ -83,7 +83,7 @@ digits-before (x ∷ xs) = by (is_ascii_digit x) refl (digits-before xs)
         rw e (ap (λ m. list_all is_ascii_digit (take m (x ∷ xs))) next ∙ rw e more)
     by false e more = rw e refl
 
--- the digits at the front of some bytes, of which one is no digit
+-- the zeros at the low end of `others` count the digits at the front, where a byte is no digit
 pub front-counted : (xs : List ℕ) (count : ℕ) → length xs ≤ 64 → 0 < others xs
     → count ≡ count_trailing_zeros 64 (others xs)
     → (count < length xs) × (list_all is_ascii_digit (take count xs) ≡ true)
@@ -98,11 +98,11 @@ half : (m : Bool) (r : ℕ) → (cond m 1 0 + 2 * r) / 2 ≡ r
 half true r = omega arith
 half false r = omega arith
 
--- where the mask has no bit there are too many digits
+-- the count 8 claims nothing
 pub counts-none : (negative : Bool) (text : List ℕ) → CountsDigits negative text 8
 counts-none negative text = λ few. absurd (omega (arith, few))
 
--- and else the lowest bit tells how many
+-- the zeros at the low end of the mask behind the sign count the digits, where it is not 0
 pub counts : (negative : Bool) (text : List ℕ) (mask after count : ℕ) → 7 < length text
     → mask ≡ others (take 8 text) → after ≡ (if negative then mask / 2 else mask) → 0 < after
     → count ≡ count_trailing_zeros 64 after → CountsDigits negative text count
@@ -127,7 +127,7 @@ counts true (b ∷ rest) mask after count room is same some found =
       ap (list_all is_ascii_digit) (sym (take-take count 7 rest (omega arith))) ∙ both.1,
     )
 
--- what stands after the sign
+-- the text after an optional sign, as a slice gives it
 pub sign-past : (negative : Bool) (text digits : List ℕ)
     → digits ≡ (if negative then take (length text - 1) (drop 1 text) else text)
     → digits ≡ past_sign negative text
@@ -140,7 +140,7 @@ past-long true [] some = absurd (omega (arith, some))
 past-long true (b ∷ rest) some = omega arith
 past-long false text some = omega arith
 
--- the digits after a sign have their bytes
+-- the text after an optional sign is shorter than the text by that sign
 pub digits-long : (negative : Bool) (text digits : List ℕ) → 7 < length text
     → digits ≡ past_sign negative text → length digits + sign_len negative ≡ length text
 digits-long negative text digits some is =
@@ -150,7 +150,7 @@ digits-long negative text digits some is =
 pub digit-least : (b : ℕ) → is_ascii_digit b ≡ true → (48 ≤ b) × (b - 48 < 10)
 digit-least b e = (grind (arith, nat_tests), grind (arith, nat_tests))
 
--- a byte among the digits is one
+-- each of the first `count` bytes is a digit where all of them are
 pub digit-at : (text : List ℕ) (at count : ℕ) → at < length text
     → list_all is_ascii_digit (take count text) ≡ true → at < count
     → is_ascii_digit (get_or text at 0) ≡ true

@@ -1,4 +1,4 @@
--- The header: one more element's column, and what refuses it.
+-- The header: the columns of its elements, one after the other, and its refusal.
 use Rattle.std.proofs.Common.{ℕ, ◌≡◌, ◌≢◌, ◌+◌, ◌<◌, Bool, true, false, ◌==◌, List, [], ◌∷◌, ◌++◌}
 use Rattle.std.proofs.Common.{length, map, take, get_or, Some, None, refl, sym, ap, ◌∙◌, arith}
 use Rattle.std.proofs.Common.{eq-eqb}
@@ -30,7 +30,7 @@ unfolding field_at
 begins-none [] missing = refl
 begins-none (first ∷ rest) missing = cc missing
 
--- a name that does not stand once among the columns
+-- a record is no header where the name of an element does not stand once among its columns
 pub not_once : (elements : Elements) (fields : Record) (i n : ℕ) (name : List ℕ)
     → slice_get (names_of elements) i ≡ Some name
     → n ≡ count_by (bytes_eq name) (after_first fields) → n ≢ 1 → is_header elements fields ≡ false
@@ -44,7 +44,7 @@ not_once elements fields i n name named counted other =
     (ap once (sym same) ∙ AllPass-from_list_all once names all i [] below))) in
     rw some_not (and-false (begins fields))
 
--- one more name that stands once
+-- the names of the first `i + 1` elements stand once where those of the first `i` and the next do
 pub once_more : (elements : Elements) (columns : Record) (i n : ℕ) (name : List ℕ)
     → slice_get (names_of elements) i ≡ Some name
     → n ≡ count_by (bytes_eq name) columns → n ≡ 1
@@ -59,7 +59,7 @@ once_more elements columns i n name named counted one before =
     ap once same ∙ eq-eqb (count_by (bytes_eq name) columns) 1 (sym counted ∙ one) in
     list_all_more once names i [] below ∙ rw (before, here) refl
 
--- the table with one more column
+-- the table of the first `i` elements with the next column is that of the first `i + 1`
 pub table_more : (elements : Elements) (columns : Record) (table : List Column) (i at : ℕ)
     (kind : Kind) (name : List ℕ)
     → slice_get (names_of elements) i ≡ Some name → slice_get (kinds_of elements) i ≡ Some kind

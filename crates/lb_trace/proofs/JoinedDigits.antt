@@ -17,7 +17,7 @@ use Rattle.lb_trace.specs.Fronts.{bytes_of, joined, lone, number_of}
 use Rattle.lb_trace.proofs.Fronts.{digit-at, digit-least}
 use Rattle.lb_trace.proofs.SmallNumbers.{and-parts}
 
--- the eight bytes of a number
+-- the eight bytes of a number, which is given as their sum
 pub bytes-eight : (a b c d e f g h x : ℕ)
     → x ≡ a + 256 * (b + 256 * (c + 256 * (d + 256 * (e + 256 * (f + 256 * (g + 256 * h))))))
     → a < 256 → b < 256 → c < 256 → d < 256 → e < 256 → f < 256 → g < 256 → h < 256
@@ -34,7 +34,7 @@ bytes-eight a b c d e f g h x is la lb lc ld le lf lg lh =
     let ph : x / 256 / 256 / 256 / 256 / 256 / 256 / 256 % 256 ≡ h = omega arith in
     λ i. pa i ∷ pb i ∷ pc i ∷ pd i ∷ pe i ∷ pf i ∷ pg i ∷ ph i ∷ []
 
--- the bytes 0 and 4 of a number
+-- `bit_and` with 0xFF000000FF keeps the bytes 0 and 4 of a number
 pair-bytes : (y : ℕ) → bit_and y 1095216660735 ≡ y % 256 + y / 4294967296 % 256 * 4294967296
 pair-bytes y =
     let upper : ℕ = y / 4294967296 in
@@ -45,7 +45,7 @@ pair-bytes y =
     ∙ ap₂ (λ a b. a * 2 ^ 32 + b) (and_mask upper 8) (and_mask lower 8)
     ∙ omega arith
 
--- four pairs of digits by two products, the sum of which stands from bit 32 on
+-- two products add up four pairs of digits; their sum stands from bit 32 on
 pair-sums : (y p q r s : ℕ) → y % 256 ≡ p → y / 65536 % 256 ≡ q → y / 4294967296 % 256 ≡ r
     → y / 281474976710656 % 256 ≡ s → p < 100 → q < 100 → r < 100 → s < 100
     → (bit_and y 1095216660735 * 4294967296000100 % 2 ^ 64
@@ -66,14 +66,14 @@ pair-sums y p q r s ep eq er es lp lq lr ls =
       omega (arith, one, two, lp, lq, lr, ls),
     )
 
--- what the two products are made of
+-- the two products of the pairs `y`
 abbrev pub outer_of : ℕ → ℕ
 outer_of y = bit_and y 1095216660735 * 4294967296000100 % 2 ^ 64
 
 abbrev pub inner_of : ℕ → ℕ
 inner_of y = bit_and (y / 65536) 1095216660735 * 42949672960001 % 2 ^ 64
 
--- the number of eight digits is found by pairs
+-- the two products of the pairs of eight digits make the number of the digits
 eight-joined : (x a b c d e f g h y : ℕ)
     → x ≡ a + 256 * (b + 256 * (c + 256 * (d + 256 * (e + 256 * (f + 256 * (g + 256 * h))))))
     → a < 10 → b < 10 → c < 10 → d < 10 → e < 10 → f < 10 → g < 10 → h < 10
@@ -90,7 +90,7 @@ eight-joined x a b c d e f g h y is la lb lc ld le lf lg lh sum =
     (omega arith) (omega arith) (omega arith) (omega arith) in
     (both.0, both.1 ∙ omega arith)
 
--- the pairs of a number whose bytes are digits
+-- the two products make the number of the bytes of `x`, where these are digits
 pub pairs-joined : (x : ℕ) → x < 2 ^ 64 → All (λ digit. digit < 10) (bytes_of x)
     → (x * 10 + x / 256 < 2 ^ 64)
     × (outer_of (x * 10 + x / 256) + inner_of (x * 10 + x / 256) < 2 ^ 64)
@@ -123,7 +123,7 @@ pairs-joined x fits small =
 abbrev zeros : ℕ
 zeros = 3472328296227680304
 
--- so many digits at the front of eight bytes, moved to their end
+-- the first `count` bytes of `x`, moved up to be the highest, less 48 each, are `lone` of the text
 abbrev pub IsLone : ℕ → List ℕ → ℕ → Type 0
 IsLone count text x =
     (zeros * 2 ^ (64 - 8 * count) % 2 ^ 64 ≤ x * 2 ^ (64 - 8 * count) % 2 ^ 64)
@@ -261,7 +261,7 @@ module _ (a b c d e f g h x : ℕ) (rest : List ℕ)
             (arith, dd.1)) (omega (arith, de.1)) (omega (arith, df.1)) (omega (arith, dg.1)),
       )
 
--- a text of eight bytes and more
+-- a text of at least eight bytes is these bytes and then the rest
 pub eight-front : (text : List ℕ) → 7 < length text
     → text ≡ get_or text 0 0 ∷ get_or text 1 0 ∷ get_or text 2 0 ∷ get_or text 3 0
     ∷ get_or text 4 0 ∷ get_or text 5 0 ∷ get_or text 6 0 ∷ get_or text 7 0 ∷ drop 8 text
@@ -275,7 +275,7 @@ eight-front (a ∷ b ∷ c ∷ d ∷ e ∷ f ∷ []) long = absurd (omega (arith
 eight-front (a ∷ b ∷ c ∷ d ∷ e ∷ f ∷ g ∷ []) long = absurd (omega (arith, long))
 eight-front (a ∷ b ∷ c ∷ d ∷ e ∷ f ∷ g ∷ h ∷ rest) long = refl
 
--- the number that eight bytes of a text are
+-- the number that is made of the first eight bytes of a text is `number_of` of them
 pub eight-number : (text : List ℕ) (n : ℕ) → 7 < length text
     → n ≡ from_le_bytes w64 (get_or text 0 0 ∷ get_or text 1 0 ∷ get_or text 2 0
     ∷ get_or text 3 0 ∷ get_or text 4 0 ∷ get_or text 5 0 ∷ get_or text 6 0 ∷ get_or text 7 0 ∷ [])
@@ -287,7 +287,7 @@ eight-number text n long is =
     + 256 * (get_or text 6 0 + 256 * (get_or text 7 0 + 256 * 0))))))) = omega (arith, is) in e)
     ∙ ap (λ t. number_l 256 (take 8 t)) (sym (eight-front text long))
 
--- so many digits of a text, by the number that its first eight bytes are
+-- the number of the first eight bytes of a text gives its first `count` digits
 alone : (a b c d e f g h x count : ℕ) (rest : List ℕ) → 0 < count → count ≤ 7
     → x ≡ a + 256 * (b + 256 * (c + 256 * (d + 256 * (e + 256 * (f + 256 * (g + 256 * h))))))
     → a < 256 → b < 256 → c < 256 → d < 256 → e < 256 → f < 256 → g < 256 → h < 256
@@ -365,7 +365,7 @@ lone-digits count text room all =
 regroup : (m p : ℕ) → (m * 10) * p ≡ m * (p * 10)
 regroup m p = omega arith
 
--- so many digits spell less than this
+-- digits behind the number `n` spell a number below `(n + 1) * 10 ^ length digits`
 digits-below : (digits : List ℕ) (n : ℕ) → list_all is_ascii_digit digits ≡ true
     → fold (λ n digit. n * 10 + (digit - 48)) n digits < (n + 1) * 10 ^ length digits
 digits-below [] n all = omega arith

@@ -1,4 +1,4 @@
--- The instants of traces that are put together.
+-- The instants of traces that are joined.
 use Rattle.std.proofs.Common.{ℕ, suc, ◌≡◌, ◌+◌, ◌-◌, ◌*◌, ◌<◌, Bool, true, false, not, ◌||◌, ◌&&◌}
 use Rattle.std.proofs.Common.{if◌then◌else◌, List, [], ◌∷◌, ◌++◌, length, get_or, map, drop}
 use Rattle.std.proofs.Common.{Some}
@@ -30,7 +30,7 @@ started : (b : Bool) (x : Result Traces ℕ) (next : Traces)
 started true x next is = cc is
 started false x next is = is
 
--- the traces after one more instant
+-- `add_by` of a row gives `with_instant` where it is not refused
 grown : (elements : Elements) (name : List ℕ) (traces next : Traces) (row : Row)
     → add_by elements name traces (Some row) ≡ Ok next → next ≡ with_instant name row traces
 grown elements name traces next row good = by (is_last name traces) refl
@@ -49,14 +49,14 @@ grown elements name traces next row good = by (is_last name traces) refl
         (start_cells elements name traces (Some row)) next (rw is at good))
         ∙ sym (ap (λ b. if b then with_row traces row else with_trace traces name row) is)
 
--- there is this instant more
+-- `add_by` of a row adds this instant at the end
 pub instants-added : (elements : Elements) (name : List ℕ) (traces next : Traces) (row : Row)
     → add_by elements name traces (Some row) ≡ Ok next
     → instants next ≡ instants traces ++ (name, row) ∷ []
 instants-added elements name traces next row good =
     ap instants (grown elements name traces next row good) ∙ instants-push traces name row
 
--- the same of a row that was copied, and of another text of the name
+-- `instants-added` where `given` and `copy` are equal to `name` and `row`
 pub instants-copied : (elements : Elements) (given name : List ℕ) (traces next : Traces)
     (copy row : Row)
     → add_by elements given traces (Some copy) ≡ Ok next → given ≡ name → copy ≡ row
@@ -82,7 +82,7 @@ last-instant name traces row = by (is_last name traces) refl
     by true is = last-row name traces row ∙ is
     by false is = is_last-push name traces (name, row ∷ []) ∙ bytes_eq-same name
 
--- the last trace has the name that was added
+-- `add_by` gives traces whose last one has the name that was added
 pub last-added : (elements : Elements) (name : List ℕ) (traces next : Traces) (row : Row)
     → add_by elements name traces (Some row) ≡ Ok next → is_last name next ≡ true
 last-added elements name traces next row good =
@@ -102,7 +102,7 @@ pub trace-started : (set : Recording) (k : ℕ) → IsRecording set → k < leng
     → 0 < length (trace_at set.traces k).1
 trace-started set k lawful below = (lawful.each k ([], []) below).started
 
--- more rows of the last trace
+-- more rows of the last trace are more instants of its name at the end
 pub instants-rows : (name : List ℕ) (traces : Traces) (rows : List Row)
     → is_last name traces ≡ true
     → instants (with_rows traces rows) ≡ instants traces ++ map (λ row. (name, row)) rows
@@ -118,7 +118,7 @@ instants-rows name (t ∷ u ∷ more) rows last =
     ap (λ is. map f t.1 ++ is) (instants-rows name (u ∷ more) rows last)
     ∙ sym (append_assoc (map f t.1) (instants (u ∷ more)) (map (λ (row : Row). (name, row)) rows))
 
--- the same of traces after which these came
+-- `instants-rows` for the traces `after`, which have these rows more than `before`
 pub instants-extended : (name : List ℕ) (before after : Recording) (rows : List Row)
     → is_last name before.traces ≡ true
     → after ≡ record before { traces = with_rows before.traces rows }
@@ -126,12 +126,12 @@ pub instants-extended : (name : List ℕ) (before after : Recording) (rows : Lis
 instants-extended name before after rows last is =
     ap (λ (r : Recording). instants r.traces) is ∙ instants-rows name before.traces rows last
 
--- so many rows stand after the first
+-- `length rows - 1` rows stand after the first one
 pub others-counted : (rows : List Row) → length (drop 1 rows) ≡ length rows - 1
 others-counted [] = refl
 others-counted (row ∷ rows) = omega arith
 
--- the first row of a trace, and then the others
+-- the first row of a trace and then the others are all rows of the trace
 pub trace-whole : (name : List ℕ) (before first after : List Instant) (rows : List Row)
     → 0 < length rows → first ≡ before ++ (name, get_or rows 0 []) ∷ []
     → after ≡ first ++ map (λ row. (name, row)) (drop 1 rows)
@@ -142,7 +142,7 @@ trace-whole name before first after (row ∷ rows) some one others =
     others ∙ ap (λ is. is ++ map f rows) one
     ∙ append_assoc before ((name, row) ∷ []) (map f rows)
 
--- the first part, and the others
+-- the instants of the first part and then of the others are those of all parts
 pub parts-whole : (parts rest : List Recorder) (first : Recorder) (all : List Instant)
     → 0 < length parts → first ≡ get_or parts 0 first → rest ≡ drop 1 parts
     → all ≡ instants first.rows.traces ++ flat_map (λ part. instants part.rows.traces) rest
@@ -153,14 +153,14 @@ parts-whole (part ∷ parts) rest first all some is others joined =
     joined ∙ ap (λ (one : Recorder). all_in one ++ flat_map all_in rest) is
     ∙ ap (λ ps. all_in part ++ flat_map all_in ps) others
 
--- what is known of all parts is known of the others
+-- a property of all parts is one of all parts but the first
 pub parts-others : (P : Recorder → Type 0) (parts rest : List Recorder)
     → rest ≡ drop 1 parts → All P parts → All P rest
 parts-others P [] rest others each = subst (All P) (sym others) each
 parts-others P (part ∷ parts) rest others each =
     subst (All P) (sym others) (λ k d below. each (suc k) d (omega (arith, below)))
 
--- what is known of all parts is known of the first
+-- a property of all parts is one of the first part
 pub part-at : (P : Recorder → Type 0) (parts : List Recorder) (first : Recorder)
     → 0 < length parts → first ≡ get_or parts 0 first → All P parts → P first
 part-at P parts first some is each = subst P (sym is) (each 0 first some)

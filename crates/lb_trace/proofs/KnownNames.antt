@@ -1,4 +1,4 @@
--- The names of the traces stay known while traces are added.
+-- `knows`: the names of the traces stay known while traces are added.
 use Rattle.std.proofs.Common.{ℕ, ◌≡◌, ◌+◌, ◌*◌, ◌<◌, ◌-◌, Bool, true, false, ◌&&◌, ◌||◌, List, []}
 use Rattle.std.proofs.Common.{◌∷◌, ◌++◌, if◌then◌else◌, length, Option, Some, None, Result}
 use Rattle.std.proofs.Common.{Ok, Err, refl, sym, ap, ◌∙◌, subst, nat_le, nat_lt, arith, get_or}
@@ -18,7 +18,7 @@ use Rattle.lb_traces.specs.Traces.{Recording, Row, Trace, Traces, cells_of_insta
 use Rattle.lb_traces.specs.Traces.{last_rows, trace_at, trace_names, with_row, with_rows}
 use Rattle.lb_traces.specs.Traces.{with_trace}
 use Rattle.lb_traces.proofs.Recordings.{Front, front_of}
-use Rattle.lb_trace.specs.declared.known.Known.{Known}
+use Rattle.lb_trace.specs.declared.seen_names.SeenNames.{SeenNames}
 use Rattle.lb_trace.specs.declared.name_table.NameTable.{NameTable}
 use Rattle.lb_trace.specs.Mirrors.{go_on_by, is_below, knows, rises_to, start_cells, IsTableOf}
 use Rattle.lb_trace.specs.NamePlaces.{HavePlaces}
@@ -72,13 +72,13 @@ rises-row (t ∷ []) row q = refl
 rises-row (t ∷ u ∷ []) row q = refl
 rises-row (t ∷ u ∷ v ∷ more) row q = rises-row (u ∷ v ∷ more) row q
 
--- every name rises above none
+-- every name rises where there is no trace
 pub rises-none : (traces : Traces) (name : List ℕ) → length traces ≡ 0
     → true ≡ rises_to traces name
 rises-none [] name none = refl
 rises-none (t ∷ more) name none = absurd (omega (arith, none))
 
--- the last trace is that at the last place
+-- a name rises where the name at the last place is below it
 pub rises_at : (name : List ℕ) (traces : Traces) (n : ℕ) → 0 < length traces
     → n ≡ length traces - 1
     → is_below (trace_at traces n).0 name ≡ rises_to traces name
@@ -89,13 +89,13 @@ rises_at name traces n some at =
     ∙ ap (λ ts. is_below (trace_at ts (length ts - 1)).0 name) (sym f.is)
     ∙ ap (λ k. is_below (trace_at traces k).0 name) (sym at))
 
--- no trace is known
-pub knows-none : (names : Known) → names.rising ≡ true → knows names []
+-- no trace is known at the start
+pub knows-none : (names : SeenNames) → names.rising ≡ true → knows names []
 knows-none names rising =
     (λ is q up. refl, λ (is : names.rising ≡ false). cc (rising, is))
 
--- where the names rise a name that rises above them is new
-pub risen-new : (names : Known) (traces : Traces) (name : List ℕ) → knows names traces
+-- a name that rises above the last of rising names is new
+pub risen-new : (names : SeenNames) (traces : Traces) (name : List ℕ) → knows names traces
     → (names.rising && rises_to traces name) ≡ true
     → list_any (λ t. bytes_eq name t.0) traces ≡ false
 risen-new names traces name known both = by names.rising refl
@@ -107,8 +107,8 @@ risen-new names traces name known both = by names.rising refl
         ap (λ b. b && rises_to traces name) is in
         cc (both, no)
 
--- and the names rise with it too
-pub risen-knows : (names : Known) (traces : Traces) (name : List ℕ) (row : Row)
+-- the names stay known, and rising, with a name that rises above them
+pub risen-knows : (names : SeenNames) (traces : Traces) (name : List ℕ) (row : Row)
     → knows names traces → (names.rising && rises_to traces name) ≡ true
     → knows names (with_trace traces name row)
 risen-knows names traces name row known both = by names.rising refl
@@ -134,7 +134,7 @@ risen-knows names traces name row known both = by names.rising refl
         ap (λ b. b && rises_to traces name) is in
         cc (both, no)
 
--- a test of names is a test of traces
+-- a test passes for some trace name where it passes for the name of some trace
 pub names-any : (test : List ℕ → Bool) (traces : Traces)
     → list_any test (trace_names traces) ≡ list_any (λ (t : Trace). test t.0) traces
 names-any test [] = refl
@@ -152,7 +152,7 @@ names-more : (traces : Traces) (name : List ℕ) (row : Row)
 names-more [] name row = refl
 names-more (t ∷ more) name row = ap (λ l. t.0 ∷ l) (names-more more name row)
 
--- a table of all names takes one more
+-- a table of all names is one of one name more once that name is put
 pub table-more : (old new : NameTable) (traces : Traces) (name : List ℕ) (row : Row) (n : ℕ)
     → n ≡ length traces → IsTableOf old (trace_names traces)
     → length new.places.items ≡ length old.places.items
@@ -181,7 +181,7 @@ table-more old new traces name row n is table room put =
           table.have)));
     })
 
-pub gathered-knows : (names : Known) (traces : Traces) → names.rising ≡ false
+pub gathered-knows : (names : SeenNames) (traces : Traces) → names.rising ≡ false
     → IsTableOf names.table (trace_names traces) → knows names traces
 gathered-knows names traces risen table = (
   λ (is : names.rising ≡ true). cc (risen, is),
@@ -194,7 +194,7 @@ names-row [] row = refl
 names-row (t ∷ []) row = refl
 names-row (t ∷ u ∷ more) row = ap (λ l. t.0 ∷ l) (names-row (u ∷ more) row)
 
-knows-row : (names : Known) (traces : Traces) (row : Row) → knows names traces
+knows-row : (names : SeenNames) (traces : Traces) (row : Row) → knows names traces
     → knows names (with_row traces row)
 knows-row names traces row known = (
   λ is q rises. named-row traces row q ∙ known.0 is q (sym (rises-row traces row q) ∙ rises),
@@ -221,8 +221,8 @@ names-rows [] rows = refl
 names-rows (t ∷ []) rows = refl
 names-rows (t ∷ u ∷ more) rows = ap (λ l. t.0 ∷ l) (names-rows (u ∷ more) rows)
 
--- the names after more rows of the last trace
-pub knows-rows : (names : Known) (before after : Recording) (rows : List Row)
+-- the names stay known after more rows of the last trace
+pub knows-rows : (names : SeenNames) (before after : Recording) (rows : List Row)
     → after ≡ record before { traces = with_rows before.traces rows }
     → knows names before.traces → knows names after.traces
 knows-rows names before after rows is known =
@@ -238,8 +238,8 @@ ok_is : (b : Bool) (x next : Traces) (n : ℕ)
 ok_is true x next n is = cc is
 ok_is false x next n is = cc is
 
--- the names after one more row of the last trace
-pub go_on_by-knows : (names : Known) (elements : Elements) (traces next : Traces)
+-- the names stay known after one more row of the last trace
+pub go_on_by-knows : (names : SeenNames) (elements : Elements) (traces next : Traces)
     (row : Option Row)
     → go_on_by elements traces row ≡ Ok next → knows names traces → knows names next
 go_on_by-knows names elements traces next None is known = cc is
@@ -250,8 +250,8 @@ go_on_by-knows names elements traces next (Some row) is known =
     (with_row traces row) next 18 is)
     (knows-row names traces row known)
 
--- the names after one more trace
-pub start_cells-knows : (names : Known) (elements : Elements) (name : List ℕ)
+-- the names stay known after one more trace, if its name was taken
+pub start_cells-knows : (names : SeenNames) (elements : Elements) (name : List ℕ)
     (traces next : Traces) (row : Option Row)
     → start_cells elements name traces row ≡ Ok next
     → ((first : Row) → knows names (with_trace traces name first)) → knows names next

@@ -1,4 +1,4 @@
--- The last line before a place of a text, and where traces end.
+-- The last line before a place of a text, and the ends of traces.
 use Rattle.std.proofs.Common.{ℕ, zero, suc, ◌≡◌, ◌≢◌, ◌+◌, ◌-◌, ◌<◌, ◌≤◌, Bool, true, false}
 use Rattle.std.proofs.Common.{List, [], ◌∷◌, ◌++◌, length, get_or, take, drop, nat_lt}
 use Rattle.std.proofs.Common.{refl, sym, ap, ◌∙◌, subst, arith}
@@ -22,12 +22,12 @@ use Rattle.lb_trace.proofs.Lines.{plain-line, plain-none, plain-skip}
 true≢false : true ≡ false → ⊥
 true≢false e = cc e
 
--- a byte that ends a line is none within one
+-- no byte both ends a line and stands within one
 pub end_inside : (text : List ℕ) (i : ℕ) → ends_line (get_or text i 0) ≡ true
     → ends_line (get_or text i 0) ≡ false → ⊥
 end_inside text i end inside = true≢false (sym end ∙ inside)
 
--- no two lines are the last one before a place
+-- two different lines are not both the last one before a place
 none_behind : (text : List ℕ) (place a b : ℕ) → IsLineBefore text place a
     → IsLineBefore text place b → a < b → ⊥
 none_behind text place a b one two less = by (nat_lt (b - 1) one.past) refl
@@ -56,7 +56,7 @@ same_line text place a b one two = by (nat_lt a b) (nat_lt b a) refl refl
         absurd (none_behind text place b a two one (grind (arith, nat_tests)))
     by false false less more = grind (arith, nat_tests)
 
--- a line that begins before an earlier place too is the last one before that
+-- the last line before a place is the last one before an earlier place behind its beginning
 pub line_earlier : (text : List ℕ) (place other start : ℕ) → IsLineBefore text place start
     → start < other → other ≤ place → IsLineBefore text other start
 line_earlier text place other start is less within = by (nat_lt other is.past) refl
@@ -82,7 +82,7 @@ line_earlier text place other start is less within = by (nat_lt other is.past) r
           begun = is.begun;
         }
 
--- no line begins where nothing stands but ends of lines
+-- no line begins before a place where only ends of lines stand
 pub none_in_blank : (text : List ℕ) (place start : ℕ) → IsBlankBefore text place
     → IsLineBefore text place start → ⊥
 none_in_blank text place start blank is =
@@ -104,7 +104,7 @@ blank_records (b ∷ rest) each =
     plain-skip b rest (each 0 (omega arith))
     ∙ blank_records rest (λ i below. each (suc i) (omega (arith, below)))
 
--- a line, and then nothing but ends of lines
+-- a line that is not empty, and then only ends of lines, is one record
 filled_records : (line blank : List ℕ) → 0 < length line → list_any ends_line line ≡ false
     → ((i : ℕ) → i < length blank → ends_line (get_or blank i 0) ≡ true)
     → plain_records (line ++ blank) ≡ split_at is_comma line ∷ []
@@ -144,9 +144,9 @@ record_head (b ∷ rest) = by (is_comma b) (ends_line b) refl refl (record_head 
     by false false comma end more =
         rw end (rw comma (head_front b (record_of rest) ∙ ap (λ l. b ∷ l) more))
 
--- ## Where a trace ends
+-- ## The end of a trace
 
--- a text is cut where a line begins
+-- a text that is cut at the beginning of a line has the records of both sides
 front_cut : (text : List ℕ) (s : ℕ) (more : List ℕ) → s < length text
     → (0 < s → ends_line (get_or text (s - 1) 0) ≡ true)
     → plain_records (take s text ++ more) ≡ plain_records (take s text) ++ plain_records more
@@ -166,7 +166,7 @@ begun_line text c rest is inside =
     subst (λ t. plain_records t ≡ record_of t ∷ plain_records (after_line t)) (sym is)
     (plain-line c rest inside)
 
--- a line of another name stands before this one
+-- a trace ends before a line where the line before it has another name
 pub ends_trace : (text name : List ℕ) (start s : ℕ) → start < length text
     → ends_line (get_or text start 0) ≡ false
     → (0 < start → ends_line (get_or text (start - 1) 0) ≡ true)
@@ -258,8 +258,8 @@ ends_trace text name start s below filled begun named is differs =
 
 -- ## The search
 
--- a line of a name was found, and a place before it or at it such that the last line before that
--- place has another name
+-- the line at `start` has `name`; `other` is at most `start`, and the last line before `other`, if
+-- there is one, has another name
 pub record IsSearched (text name : List ℕ) (start other : ℕ) : Type 0 where
   pub below : start < length text
   pub filled : ends_line (get_or text start 0) ≡ false
@@ -268,7 +268,7 @@ pub record IsSearched (text name : List ℕ) (start other : ℕ) : Type 0 where
   pub ordered : other ≤ start
   pub differs : 0 < other → (s : ℕ) → IsLineBefore text other s → cell_of (drop s text) ≢ name
 
--- the last line was found
+-- the search begins at the last line, which has `name`, and at place 0
 pub searched_first : (text name : List ℕ) (place start : ℕ) → place ≤ length text
     → IsLineBefore text place start → cell_of (drop start text) ≡ name
     → IsSearched text name start 0
@@ -281,7 +281,7 @@ searched_first text name place start within is named = record {
   differs = λ some. absurd (omega (arith, some));
 }
 
--- the last line before a place has the name too
+-- the search goes on from an earlier line with `name`
 pub searched_same : (text name : List ℕ) (start other place line : ℕ)
     → IsSearched text name start other → other < place → place ≤ start
     → IsLineBefore text place line → cell_of (drop line text) ≡ name
@@ -302,7 +302,7 @@ searched_same text name start other place line so_far less within is named = rec
         (line_earlier text place other line is early (omega (arith, less))) named)
     by false e = grind (arith, nat_tests)
 
--- the last line before a place has another name
+-- the search goes on from `place` where the last line before it has another name
 pub searched_other : (text name : List ℕ) (start other place line : ℕ)
     → IsSearched text name start other → place ≤ start
     → IsLineBefore text place line → cell_of (drop line text) ≢ name
@@ -317,7 +317,7 @@ searched_other text name start other place line so_far within is differs = recor
       (same_line text place line s is one) differs;
 }
 
--- no line stands before a place
+-- the search goes on from `place` where no line stands before it
 pub searched_none : (text name : List ℕ) (start other place : ℕ)
     → IsSearched text name start other → place ≤ start → IsBlankBefore text place
     → IsSearched text name start place
@@ -330,7 +330,7 @@ searched_none text name start other place so_far within blank = record {
   differs = λ some s one. absurd (none_in_blank text place s blank one);
 }
 
--- the line that was found is the first one of its trace
+-- the search ends at the first line of the last trace
 pub searched_all : (text name : List ℕ) (start other s : ℕ) → IsSearched text name start other
     → start ≤ other → IsLineBefore text start s → EndsTrace text start
 searched_all text name start other s so_far done is =

@@ -1,4 +1,4 @@
--- What is read of the records of a text without quotes, one after the other.
+-- The reading of the records of a text without quotes, one after the other.
 use Rattle.std.proofs.Common.{ℕ, ◌≡◌, ◌+◌, ◌≤◌, ◌==◌, true, false, List, [], ◌∷◌, length, map}
 use Rattle.std.proofs.Common.{Result, Ok, Err, refl, sym, ap, ◌∙◌, inl, inr, ⊎_elim}
 use Rattle.lb_static.specs.Signature.{Elements}
@@ -18,7 +18,7 @@ use Rattle.lb_trace.proofs.PlainRecordings.{begun-more, begun-none}
 use Rattle.lb_trace.proofs.Readings.{count_either, record_by-table, refused}
 use Rattle.lb_trace.proofs.Soundness.{Reads, reads_record}
 
--- what is left begins with a record
+-- a rest that begins with a record is read as this record and then as the rest after its line
 further : (elements : Elements) (columns : Record) (traces : Traces) (rest begun : List ℕ)
     → plain_records rest ≡ begun_records begun → (length begun == 0) ≡ false
     → with_records elements columns traces (plain_records rest)
@@ -28,7 +28,7 @@ unfolding with_records
 further elements columns traces rest begun skipped some =
     ap (with_records elements columns traces) (skipped ∙ begun-more begun some)
 
--- after one more record
+-- the reading of a text goes on after the line of one more record
 pub lines-more :
     (elements : Elements) (columns : Record) (table : List Column) (width : ℕ)
     (first traces next : Traces) (text rest begun after : List ℕ) →
@@ -46,7 +46,7 @@ lines-more elements columns table width first traces next text rest begun after 
     (sym (record_by-table elements columns table width traces (record_of begun) same wide) ∙ good)
     ∙ ap (λ left. with_records elements columns next (plain_records left)) (sym is)
 
--- there is one more instant
+-- a record that is not refused is one more instant
 pub lines-counted :
     (elements : Elements) (columns : Record) (table : List Column) (width : ℕ)
     (traces next : Traces) (r : Record) →
@@ -59,7 +59,7 @@ lines-counted elements columns table width traces next r same wide good =
     ap instants_of reads.is ∙ count_either (is_last reads.instant.0 traces) traces reads.instant.0
     reads.instant.1 refl
 
--- all records were read
+-- the reading of a text ends with the traces so far where nothing is left
 pub lines-end :
     (elements : Elements) (columns : Record) (first traces : Traces) (text rest begun : List ℕ) →
     with_records elements columns first (plain_records text)
@@ -70,7 +70,7 @@ unfolding with_records
 lines-end elements columns first traces text rest begun so_far skipped none =
     so_far ∙ ap (with_records elements columns traces) (skipped ∙ begun-none begun none)
 
--- a refusal of one record is that of all
+-- a refusal of the next record is the refusal of the text
 pub lines-refused :
     (elements : Elements) (columns : Record) (table : List Column) (width : ℕ)
     (first traces : Traces) (text rest begun : List ℕ) (e : TraceError) →
@@ -94,7 +94,7 @@ other_header : (elements : Elements) (records : List Record) → has_header elem
 other_header elements [] other = reading-none elements
 other_header elements (header ∷ rows) other = reading-other elements header rows other
 
--- a text without a header, or with another one
+-- a text whose first record is no header has the outcome 14
 pub text-other :
     (elements : Elements) (text body : List ℕ) → length text ≤ 1073741824 →
     records_of text ≡ plain_records body → has_header elements (plain_records body) ≡ false →
@@ -103,7 +103,7 @@ text-other elements text body short plain other =
     outcome-records elements text (plain_records body) short plain
     ∙ other_header elements (plain_records body) other
 
--- a text is read by the records after its header
+-- the outcome of a text with a header is the reading of the records after it
 pub text-headed :
     (elements : Elements) (text body rest : List ℕ) (header : Record) →
     length text ≤ 1073741824 → records_of text ≡ plain_records body →
@@ -113,7 +113,7 @@ text-headed elements text body rest header short plain begun headed =
     outcome-records elements text (header ∷ plain_records rest) short (plain ∙ begun)
     ∙ reading-rows elements header (plain_records rest) headed
 
--- the same of what a recorder has that began with no trace
+-- `text-headed` for the reading that begins with the empty recording `before`
 pub text-read :
     (elements : Elements) (text body rest : List ℕ) (header : Record) (before : Recording)
     (read : Result Traces ℕ) →

@@ -6,7 +6,7 @@ use Rattle.std.proofs.lemmas.Bool.Decides.{nat_tests}
 use Rattle.lb_trace.specs.Plain.{ends_line, has_quote, is_comma, is_filled, plain_records, split_at}
 use Rattle.lb_trace.specs.Lines.{after_line, line_of, record_of}
 
--- what `split_at` gives after the first line
+-- the parts that `split_at` gives after the first line
 more_lines : List ℕ → List (List ℕ)
 more_lines [] = []
 more_lines (b ∷ rest) = if ends_line b then split_at ends_line rest else more_lines rest
@@ -35,7 +35,7 @@ more-filled (c ∷ rest) = by (ends_line c) refl (more-filled rest)
     by true e more = rw e refl
     by false e more = rw e more
 
--- the end of a line at the front counts for nothing
+-- the end of a line at the front of a text changes none of its records
 pub plain-skip : (c : ℕ) (rest : List ℕ) → ends_line c ≡ true
     → plain_records (c ∷ rest) ≡ plain_records rest
 unfolding plain_records split_at
@@ -49,7 +49,7 @@ line-more : (c : ℕ) (rest : List ℕ) → ends_line c ≡ false → line_of (c
 unfolding line_of
 line-more c rest e = rw e refl
 
--- any other byte starts a record
+-- any other byte at the front of a text begins a record
 pub plain-line : (c : ℕ) (rest : List ℕ) → ends_line c ≡ false
     → plain_records (c ∷ rest) ≡ record_of (c ∷ rest) ∷ plain_records (after_line (c ∷ rest))
 unfolding plain_records

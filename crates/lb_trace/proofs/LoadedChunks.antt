@@ -1,4 +1,4 @@
--- What is read of chunks, one after the other, is what their text spells.
+-- The traces that are read of chunks, one after the other, are those that their text spells.
 use Rattle.std.proofs.Common.{ℕ, zero, suc, ◌≡◌, ◌+◌, ◌*◌, ◌<◌, ◌≤◌, ◌||◌, true, false}
 use Rattle.std.proofs.Common.{List, [], ◌∷◌, ◌++◌, length, refl, sym, ap, ◌∙◌, arith, map}
 use Rattle.std.proofs.Common.{append-nil, append_assoc, length-append, subst, Option, Ok}
@@ -34,7 +34,7 @@ pub reads-none : (gives : Loading) (elements : Elements) (table : ColumnTable) (
     → AreReadFrom gives elements table most [] []
 reads-none gives elements table most = record { chunks = []; given = tt; spelled = tt }
 
--- chunks, and others after them
+-- the instants of chunks and then of others are those of all these chunks
 pub reads-append : (gives : Loading) (elements : Elements) (table : ColumnTable) (most : ℕ)
     (ks js : List ℕ) (found more : List Instant)
     → AreReadFrom gives elements table most ks found
@@ -56,7 +56,7 @@ reads-append gives elements table most ks js found more a b =
           (flat_map records b.chunks) found more a.spelled b.spelled);
     }
 
--- a recorder has what chunks spell that were given for these numbers, and its traces are lawful
+-- a recorder has the instants that the chunks for these numbers spell, and its traces are lawful
 abbrev pub HasRead : Loading → Elements → ColumnTable → ℕ → List ℕ → Recorder → Type 0
 HasRead gives elements table most ks one =
     IsRead gives elements table most ks one × IsRecording one.rows
@@ -76,7 +76,7 @@ read-none gives elements table most one none known = (
   subst IsRecording (sym none) (IsRecording-none elements),
 )
 
--- one chunk more
+-- a recorder that has read some chunks has read one more once its records are added
 pub read-more : (gives : Loading) (elements : Elements) (table : ColumnTable) (most : ℕ)
     (ks : List ℕ)
     (k : ℕ) (chunk : Vec ℕ Global) (text : List ℕ) (before room after : Recorder)
@@ -128,7 +128,7 @@ reads-spans gives elements table most (span ∷ spans) (one ∷ read) h =
     (flat_map (λ (each : Recorder). instants each.rows.traces) read) h.0.0
     (reads-spans gives elements table most spans read h.1)
 
--- spans of so many numbers that were read side by side
+-- recorders that have read spans of `size` numbers each have read all numbers
 pub reads-round : (gives : Loading) (elements : Elements) (table : ColumnTable) (most size : ℕ)
     (ks : List ℕ) (read : List Recorder) → 0 < size
     → AllZip (IsRead gives elements table most) (chunks_of size ks) read
@@ -186,7 +186,7 @@ chunks-records [] = refl
 chunks-records (chunk ∷ more) =
     ap (λ rs. plain_records chunk.items ++ rs) (chunks-records more)
 
--- the first chunk and what was read of the others are what their text spells
+-- the traces of the first chunk and of the others are those that their text spells
 pub loaded_spells : (gives : Loading) (elements : Elements) (table : ColumnTable) (most : ℕ)
     (first body rest : List ℕ) (ks : List ℕ) (start found : List Instant) (set : Recording)
     → 2 < length first → is_ended first ≡ true → body ≡ strip_bom first → has_quote body ≡ false
@@ -238,7 +238,7 @@ loaded_spells gives elements table most first body rest ks start found set long 
       lawful = subst (λ e. IsRecording record { signature = e; traces = set.traces }) same lawful;
     }
 
--- the chunks that were given
+-- the chunks that were read are given for their numbers
 pub given-chunks : (gives : Loading) (elements : Elements) (table : ColumnTable) (most : ℕ)
     (ks : List ℕ) (found : List Instant) (reads : AreReadFrom gives elements table most ks found)
     → AllZip gives ks reads.chunks
@@ -246,7 +246,7 @@ given-chunks gives elements table most ks found reads =
     zip-weaker (λ (k : ℕ) (chunk : Vec ℕ Global). gives k chunk × IsChunk most chunk.items) gives
     ks reads.chunks reads.given (λ k chunk h. h.0)
 
--- a recorder that was joined under its own signature
+-- a recorder that was joined under its own signature was joined under `elements`, if equal
 pub joined-under : (elements : Elements) (before : Recorder) (parts : List Recorder)
     (after : Option Recorder) → before.rows.signature ≡ elements
     → IfSome after (IsJoined before.rows.signature before parts)
@@ -254,7 +254,7 @@ pub joined-under : (elements : Elements) (before : Recorder) (parts : List Recor
 joined-under elements before parts after same h =
     IfSome_then after h (λ one joined. (joined.0, (joined.1.0 ∙ same, joined.1.1)))
 
--- two rounds, one after the other
+-- two rounds, one after the other, have read all numbers behind the traces of `begun`
 pub rounds-joined : (gives : Loading) (elements : Elements) (table : ColumnTable) (most : ℕ)
     (ks some others : List ℕ) (begun all one : Recorder) (read more : List Recorder)
     → some ++ others ≡ ks

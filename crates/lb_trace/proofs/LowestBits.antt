@@ -11,7 +11,7 @@ use Rattle.lb_trace.specs.Numbers.{IsLowest}
 min-self : (x : ℕ) → min x x ≡ x
 min-self x = omega arith
 
--- a number without its lowest bit has no bit up to its place
+-- a number without its lowest bit has no bit up to the place of that bit
 pub lowest-gone : (n t i : ℕ) → bit_at n t ≡ 1 → ((k : ℕ) → k < t → bit_at n k ≡ 0) → i ≤ t
     → bit_at (bit_and n (n - 1)) i ≡ 0
 lowest-gone n zero zero set below le =
@@ -31,7 +31,7 @@ lowest-gone n (suc t) (suc i) set below le =
     ∙ lowest-gone (n / 2) t i (sym (bit_at-suc n t) ∙ set)
     (λ k l. sym (bit_at-suc n k) ∙ below (suc k) (omega (arith, l))) (omega (arith, le))
 
--- and has those above it
+-- a number without its lowest bit has all bits above that bit
 pub lowest-kept : (n t i : ℕ) → bit_at n t ≡ 1 → ((k : ℕ) → k < t → bit_at n k ≡ 0) → t < i
     → bit_at (bit_and n (n - 1)) i ≡ bit_at n i
 lowest-kept n zero zero set below above = absurd (omega (arith, above))
@@ -52,7 +52,7 @@ lowest-kept n (suc t) (suc i) set below above =
     (λ k l. sym (bit_at-suc n k) ∙ below (suc k) (omega (arith, l))) (omega (arith, above))
     ∙ sym (bit_at-suc n i)
 
--- the lowest bit, and the others
+-- the zeros at the low end give the lowest bit, and `bits` and `bits - 1` have the others in common
 pub lowest : (bits : ℕ) → 0 < bits → bits < 2 ^ 64
     → IsLowest bits (count_trailing_zeros 64 bits) (bit_and bits (bits - 1))
 lowest bits some fits =

@@ -1,4 +1,4 @@
--- Names that are put into a table one after the other, and looked up there.
+-- Names in a table: put one after the other, and looked up.
 use Rattle.std.proofs.Common.{◌≡◌, ◌≢◌, ℕ, ◌+◌, ◌-◌, ◌<◌, ◌≤◌, Bool, true, false, cond, List, []}
 use Rattle.std.proofs.Common.{length, get_or, set, length-set, refl, sym, ap, ◌∙◌, arith}
 use Rattle.std.proofs.Common.{◌⊎◌, inl, inr, subst, ◌∷◌, ◌++◌, ◌||◌}
@@ -14,7 +14,7 @@ use Rattle.lb_trace.specs.NamePlaces.{at_first, at_second, first_among, second_a
 same_name : (a b : List ℕ) → a ≡ b → bytes_eq a b ≡ true
 same_name a b is = (bytes_eq-Decides a b).1 is
 
--- no name has a place yet
+-- a table whose places are all 0 holds no name yet
 pub no_places : (places : List ℕ) (has : List ℕ → Bool) (names : List (List ℕ)) →
     ((i : ℕ) → get_or places i 0 ≡ 0) →
     ((q : List ℕ) → has q ≡ true → list_any (bytes_eq q) names ≡ true) →
@@ -40,7 +40,7 @@ module _ (places : List ℕ) (has : List ℕ → Bool) (names : List (List ℕ))
     other : (i : ℕ) → i ≢ p → get_or after i 0 ≡ get_or places i 0
     other i ne = get_or-set_other places p i (n + 1) 0 ne
 
-    -- what stands at a place stays there
+    -- a place that is taken stays as it is
     stays : (i : ℕ) → get_or places i 0 ≢ 0 → get_or after i 0 ≡ get_or places i 0
     stays i some = other i (λ same. some (ap (λ j. get_or places j 0) same ∙ free))
 
@@ -74,7 +74,7 @@ module _ (places : List ℕ) (has : List ℕ → Bool) (names : List (List ℕ))
         let le = h.within i in
         omega (arith, e, le)
 
-    -- the names before it have what they had
+    -- the first places of the names before it stay taken
     first_had : (k : ℕ) → k < n → at_first after (get_or names k []) ≢ 0
     first_had k l none =
         h.first k l (sym (first_stays (get_or names k []) (h.first k l)) ∙ none)
@@ -100,7 +100,7 @@ module _ (places : List ℕ) (has : List ℕ → Bool) (names : List (List ℕ))
         (second_stays (get_or names k []) (λ none. absurd (omega (arith, at, none))) ∙ at))
     found_had k l (inr (inr there)) = inr (inr there)
 
-    -- it gets its first place
+    -- the place is the first one of the name
     module _ (place_is : p ≡ first_among (length places) (get_or names n [])) where
       first_this : (k : ℕ) → k ≡ n → at_first after (get_or names k []) ≡ k + 1
       first_this k same =
@@ -140,7 +140,7 @@ module _ (places : List ℕ) (has : List ℕ → Bool) (names : List (List ℕ))
           found k l (inr ne) =
               found_had k (omega (arith, l, ne)) (h.found k (omega (arith, l, ne)))
 
-    -- or its second place, since the first is taken
+    -- the place is the second one of the name, whose first one is taken
     module _ (place_is : p ≡ second_among (length places) (get_or names n []))
         (taken : at_first places (get_or names n []) ≢ 0) where
       first_taken : (k : ℕ) → k ≡ n → at_first after (get_or names k []) ≢ 0
@@ -188,7 +188,7 @@ module _ (places : List ℕ) (has : List ℕ → Bool) (names : List (List ℕ))
           found k l (inr ne) =
               found_had k (omega (arith, l, ne)) (h.found k (omega (arith, l, ne)))
 
-  -- or is put beside the table, where other names have both its places
+  -- one more name is put among the others, where other names have both its places
   pub put_other :
       (has' : List ℕ → Bool) → n < length names → at_first places (get_or names n []) ≢ 0 →
       at_second places (get_or names n []) ≢ 0 →
@@ -275,7 +275,7 @@ module _ (places : List ℕ) (has : List ℕ → Bool) (names : List (List ℕ))
     below : (k : ℕ) → k < length names → k < n
     below k l = omega (arith, l, all)
 
-    -- a name that is another one than what stands at a place does not stand there
+    -- a name does not stand at a place where another name stands
     not_at :
         (place : ℕ) → bytes_eq (get_or names (place - 1) []) q ≡ false → (k : ℕ) →
         get_or names k [] ≡ q → place ≡ k + 1 → ⊥
@@ -286,7 +286,7 @@ module _ (places : List ℕ) (has : List ℕ → Bool) (names : List (List ℕ))
         (ap (λ j. get_or names j []) less ∙ same))
         ∙ differs)
 
-    -- it stands at a place
+    -- a name that stands at a place is one of `names`
     pub look_same :
         (place : ℕ) → place ≢ 0 → place ≤ n → bytes_eq (get_or names (place - 1) []) q ≡ true →
         list_any (bytes_eq q) names ≡ true
@@ -295,19 +295,19 @@ module _ (places : List ℕ) (has : List ℕ → Bool) (names : List (List ℕ))
         (same_name q (get_or names (place - 1) [])
         (sym ((bytes_eq-Decides (get_or names (place - 1) []) q).0 same)))
 
-    -- nothing stands at its first place
+    -- a name whose first place is free is none of `names`
     pub look_none : at_first places q ≡ 0 → list_any (bytes_eq q) names ≡ false
     look_none none =
         none_by (λ k l same. h.first k (below k l) (ap (at_first places) same ∙ none))
 
-    -- another name stands there
+    -- another name stands at its first place
     module _ (differs : bytes_eq (get_or names (at_first places q - 1) []) q ≡ false) where
       not_first : (k : ℕ) → get_or names k [] ≡ q →
           at_first places (get_or names k []) ≡ k + 1 → ⊥
       not_first k same at =
           not_at (at_first places q) differs k same (ap (at_first places) (sym same) ∙ at)
 
-      -- and nothing at its second place
+      -- its second place is free: it is none of `names`
       pub look_second : at_second places q ≡ 0 → list_any (bytes_eq q) names ≡ false
       look_second none = none_by (λ k l same. by k same (h.second k (below k l)))
         where
@@ -317,7 +317,7 @@ module _ (places : List ℕ) (has : List ℕ → Bool) (names : List (List ℕ))
           by k same (inl at) = not_first k same at
           by k same (inr some) = some (ap (at_second places) same ∙ none)
 
-      -- or another name at that too
+      -- another name stands at its second place too: it is in `names` where `has` has it
       pub look_other :
           bytes_eq (get_or names (at_second places q - 1) []) q ≡ false →
           has q ≡ list_any (bytes_eq q) names
@@ -338,7 +338,7 @@ module _ (places : List ℕ) (has : List ℕ → Bool) (names : List (List ℕ))
           by true e = e ∙ sym (h.others q e)
           by false e = e ∙ sym (none_by (λ k l same. from e k same (h.found k (below k l))))
 
--- the same places, where one more name follows
+-- a table of `names` is one of the first names of a longer list
 pub have_more :
     (places : List ℕ) (has : List ℕ → Bool) (names : List (List ℕ)) (name : List ℕ) →
     HavePlaces places has names (length names) →

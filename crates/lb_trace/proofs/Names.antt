@@ -62,7 +62,7 @@ is_last-push name [] t = refl
 is_last-push name (u ∷ []) t = refl
 is_last-push name (u ∷ v ∷ more) t = is_last-push name (v ∷ more) t
 
--- a name that no trace has
+-- a name that no trace has is not that of the last one
 pub is_last-none : (name : List ℕ) (traces : Traces)
     → list_any (λ t. bytes_eq name t.0) traces ≡ false → is_last name traces ≡ false
 is_last-none name [] none = refl
@@ -71,7 +71,7 @@ is_last-none name (t ∷ u ∷ more) none =
     is_last-none name (u ∷ more)
     (or_false (bytes_eq name t.0) (list_any (λ (v : Trace). bytes_eq name v.0) (u ∷ more)) none).1
 
--- the last trace's name does not come back
+-- the name of the last trace does not come back
 pub comes_back-last : (name : List ℕ) (traces : Traces) → is_last name traces ≡ true
     → comes_back name traces ≡ false
 comes_back-last name traces last =
@@ -82,7 +82,7 @@ pub comes_back-none : (name : List ℕ) (traces : Traces)
     → list_any (λ t. bytes_eq name t.0) traces ≡ false → comes_back name traces ≡ false
 comes_back-none name traces none = rw none refl
 
--- no trace has the name where no name is equal to it
+-- no trace has a name that differs from all names of the traces
 pub none_named : (name : List ℕ) (traces : Traces)
     → All (λ other. other ≢ name) (trace_names traces)
     → list_any (λ t. bytes_eq name t.0) traces ≡ false

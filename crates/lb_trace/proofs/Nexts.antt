@@ -48,7 +48,7 @@ pub not-other : (b : Bool) → false ≡ not b → b ≡ true
 not-other true e = refl
 not-other false e = e
 
--- a name with a comma after it is the first cell
+-- a name with a comma after it is the first cell of a text that begins with them
 pub name-first : (name text : List ℕ) (n : ℕ) → IsTraceName name → n ≡ length name
     → n < length text → take n text ≡ name → get_or text n 0 ≡ 44
     → IsNamed name text (take n text) (take (length text - (n + 1)) (drop (n + 1) text)) false
@@ -83,7 +83,7 @@ has-name text bytes rest last cells line inner = record {
   line = line ∙ ap (λ t. if t then rest else after_line rest) inner;
 }
 
--- such a record is one more instant of the last trace
+-- a record of the last trace is one more instant of it
 pub next-added : (elements : Elements) (table : List Column) (width : ℕ) (traces : Traces)
     (text name rest : List ℕ) (row : Row) → IsNext traces text name rest
     → All (IsTrace elements) traces → length (record_of rest) ≡ width
@@ -95,7 +95,7 @@ next-added elements table width traces text name rest row next each wide read =
     ∙ ap (λ t. if t then go_on_by elements traces (Some row)
     else start_by elements name traces (Some row)) next.same
 
--- the row of a record of Booleans
+-- a record of Booleans, by their table, spells the row of its bits
 pub truths-read : (elements : Elements) (columns : List Column) (count bits : ℕ) (text : List ℕ)
     → AreTruthTable elements columns count → SpellsBits text count bits
     → (length (record_of text) ≡ count)

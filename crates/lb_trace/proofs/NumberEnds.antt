@@ -1,4 +1,4 @@
--- The bytes of numbers, and where numbers end.
+-- The bytes and the ends of numbers.
 use Rattle.std.proofs.Common.{ℕ, zero, suc, ◌≡◌, ◌+◌, ◌-◌, ◌*◌, ◌/◌, ◌%◌, ◌^◌, ◌<◌, ◌≤◌, ◌==◌, ◌≢◌}
 use Rattle.std.proofs.Common.{◌⊎◌, inl, inr, ⊎_elim, Bool, true, false, cond, not, min, List}
 use Rattle.std.proofs.Common.{length, get_or, map, take, refl, sym, ap, ◌∙◌, subst, arith}
@@ -21,7 +21,7 @@ use Rattle.lb_trace.proofs.SmallNumbers.{equal-from}
 abbrev bit_from : Bool → ℕ
 bit_from b = cond b 1 0
 
--- the bit of a byte that passes a test
+-- bit `i` of the mask of a test is 1 where byte `i` passes it
 mask-bit : (p : ℕ → Bool) (text : List ℕ) (n i : ℕ) → n ≤ length text → i < n
     → bit_at (mask_l (map p (take n text))) i ≡ cond (p (get_or text i 0)) 1 0
 mask-bit p text n i long below =
@@ -47,7 +47,7 @@ not-true : (b : Bool) → not b ≡ true → b ≡ false
 not-true true h = cc h
 not-true false h = refl
 
--- what three bits are that clear a fourth
+-- the bit `a`, changed where `m`, `p` and `q` are 1, is 0 only if it was 0 or those three are 1
 cleared : (a m p q : ℕ) → a < 2 → m < 2 → p < 2 → q < 2 → (a + min (min m p) q) % 2 ≡ 0
     → (a ≡ 0) ⊎ ((m ≡ 1) × (p ≡ 1) × (q ≡ 1))
 cleared zero m p q la lm lp lq h = inl refl
@@ -63,11 +63,11 @@ cleared (suc (suc a)) m p q la lm lp lq h = absurd (omega (arith, la))
 abbrev other : ℕ → Bool
 other b = not (is_ascii_digit b)
 
--- the bits of the ends of numbers, by the masks of what is no digit and of minus signs
+-- the bits of the ends of numbers, by the mask `o` of no digits and the mask `m` of minus signs
 abbrev pub ends_of : ℕ → ℕ → ℕ
 ends_of o m = bit_xor o (bit_and (bit_and m (2 * o + 1)) (bit_not w64 (o / 2)))
 
--- the mask of 32 bytes
+-- the mask of 32 bytes is below 2^32
 pub others-below : (text : List ℕ) (o : ℕ) → 31 < length text → o ≡ others (take 32 text)
     → o < 4294967296
 others-below text o long is =
@@ -76,7 +76,7 @@ others-below text o long is =
     (length-map (take 32 text) other ∙ length-take-le 32 text (omega (arith, long)))
     (mask_l-lt (map other (take 32 text))))
 
--- where the bit of a byte is not set it stands inside a number
+-- a byte whose bit among the ends is 0 stands inside a number
 pub inside-from : (text : List ℕ) (o m i : ℕ) → 31 < length text → o ≡ others (take 32 text)
     → m ≡ mask_l (map (λ b. b == 45) (take 32 text)) → i < 31 → bit_at (ends_of o m) i ≡ 0
     → IsInside text i
@@ -148,7 +148,7 @@ differ b is isnt = cc (is, isnt)
 pub no-digit : (b : ℕ) → b ≡ 45 → is_ascii_digit b ≡ false
 no-digit b is = ap is_ascii_digit is
 
--- bytes inside a number that ends before a byte that is no digit
+-- bytes that stand inside a number, at most eight before a byte that is no digit, are a number
 pub number-in : (text : List ℕ) (start end : ℕ)
     → ((i : ℕ) → start ≤ i → i < end → IsInside text i)
     → start < end → end ≤ start + 8 → is_ascii_digit (get_or text end 0) ≡ false

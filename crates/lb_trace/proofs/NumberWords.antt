@@ -1,8 +1,8 @@
--- The bytes of a cell as the highest ones of a word, and the value of the cell.
-use Rattle.std.proofs.Common.{ℕ, zero, suc, ◌≡◌, ◌+◌, ◌-◌, ◌*◌, ◌%◌, ◌^◌, ◌<◌, ◌≤◌, ◌==◌, ◌||◌, nat_le}
-use Rattle.std.proofs.Common.{◌⊎◌, inl, inr, ⊎_elim, Bool, true, false, List, [], ◌∷◌, ◌++◌, length}
-use Rattle.std.proofs.Common.{get_or, map, take, drop, replicate, All, Fits, w8, ℤ, pos, Some, refl}
-use Rattle.std.proofs.Common.{sym, ap, ◌∙◌, subst, arith, length-drop}
+-- The bytes of a cell as the highest bytes of a word, and the value of the cell.
+use Rattle.std.proofs.Common.{ℕ, zero, suc, ◌≡◌, ◌+◌, ◌-◌, ◌*◌, ◌%◌, ◌^◌, ◌<◌, ◌≤◌, ◌==◌, ◌||◌}
+use Rattle.std.proofs.Common.{nat_le, ◌⊎◌, inl, inr, ⊎_elim, Bool, true, false, List, [], ◌∷◌, ◌++◌}
+use Rattle.std.proofs.Common.{length, get_or, map, take, drop, replicate, All, Fits, w8, ℤ, pos}
+use Rattle.std.proofs.Common.{Some, refl, sym, ap, ◌∙◌, subst, arith, length-drop}
 use Rattle.std.proofs.lemmas.Bool.Decides.{nat_tests}
 use Rattle.std.proofs.lemmas.List.{drop_more, get_or-drop, get_or-take, length-take-le, map-append}
 use Rattle.std.proofs.lemmas.List.Elements.{All-append, All-from_get_or, All-replicate}
@@ -28,7 +28,7 @@ use Rattle.lb_trace.proofs.SmallNumbers.{below, equal-from}
 
 -- ## The bytes of a word
 
--- so many bytes at the front of eight, moved to their end
+-- the first `count` of the eight bytes of `x` are those of `text`; moved up, they are the highest
 abbrev pub IsMoved : ℕ → List ℕ → ℕ → Type 0
 IsMoved count text x =
     bytes_of (x * 2 ^ (64 - 8 * count) % 2 ^ 64) ≡ replicate (8 - count) 0 ++ take count text
@@ -120,7 +120,7 @@ moved a b c d e f g h x (suc (suc (suc (suc (suc (suc (suc (suc (suc n))))))))) 
     lg lh =
     absurd (omega (arith, few))
 
--- so many bytes of a text, by the number that its first eight bytes are
+-- `IsMoved` for the number that is made of the first eight bytes of a text
 pub moved-read : (text : List ℕ) (count x : ℕ) → 7 < length text → 0 < count → count ≤ 8
     → ((k : ℕ) → Fits w8 (get_or text k 0)) → x ≡ number_of (take 8 text) → IsMoved count text x
 unfolding number_of
@@ -136,7 +136,7 @@ moved-read text count x long some few fits is =
     (fits 0).fits (fits 1).fits (fits 2).fits (fits 3).fits (fits 4).fits (fits 5).fits
     (fits 6).fits (fits 7).fits)
 
--- the bytes of a cell are those of a word
+-- the highest bytes of `word` are those of the cell from `start` to `end`; the others are 0
 abbrev pub IsWordOf : List ℕ → ℕ → ℕ → ℕ → Type 0
 IsWordOf text start end word =
     bytes_of word ≡ replicate (8 - (end - start)) 0 ++ take (end - start) (drop start text)
@@ -151,13 +151,13 @@ inside-small text i inside =
     let is : get_or text i 0 ≡ 45 = minus.0 in omega (arith, is))
     inside
 
--- a byte of a cell
+-- byte `i` of the cell is byte `start + i` of the text
 cell-byte : (text : List ℕ) (start end i d : ℕ) → end ≤ length text → i < end - start
     → get_or (take (end - start) (drop start text)) i d ≡ get_or text (start + i) d
 cell-byte text start end i d long below =
     get_or-take (end - start) (drop start text) i d below ∙ get_or-drop start text i d
 
--- no byte of the word of a cell is over a digit
+-- no byte of the word of a number is above the digit 9
 pub word-small : (text : List ℕ) (start end word : ℕ) → end ≤ length text
     → ((i : ℕ) → start ≤ i → i < end → IsInside text i) → IsWordOf text start end word
     → All (λ b. b - 48 < 10) (bytes_of word)
@@ -219,7 +219,7 @@ only-first false b is = is
 
 -- ## The value of a word
 
--- where the digits begin
+-- `digits_from` is behind the minus sign, where there is one
 from-sign : (text : List ℕ) (start : ℕ)
     → start + bool_byte (get_or text start 0 == 45) ≡ digits_from text start
 from-sign text start = by (get_or text start 0 == 45) refl
@@ -233,7 +233,7 @@ sign-least : (b : Bool) → bool_byte b ≤ 1
 sign-least true = omega arith
 sign-least false = omega arith
 
--- a cell by its first byte
+-- a cell is its first byte and then the others
 cell-front : (text : List ℕ) (start end : ℕ) → end ≤ length text → start < end
     → take (end - start) (drop start text)
     ≡ get_or text start 0 ∷ take (end - (start + 1)) (drop (start + 1) text)
@@ -242,7 +242,7 @@ cell-front text start end long some =
     ap (λ n. take n (drop start text)) more
     ∙ ap (take (suc (end - (start + 1)))) (drop_more text start 0 (omega (arith, some, long)))
 
--- the bytes after the first are digits
+-- the bytes of a number after the first are digits
 later-digits : (text : List ℕ) (start end i : ℕ) → IsNumberIn text start end
     → i < end - (start + 1) → is_ascii_digit (get_or (drop (start + 1) text) i 0) ≡ true
 later-digits text start end i number below =
@@ -266,7 +266,7 @@ word-minus text start end word long some number is =
     (none-minus (end - (start + 1)) rest
     (λ i below. later-digits text start end i number below))
 
--- the digits of a cell spell its number, with its minus sign too
+-- the bytes of a cell have the same `decimal` with and without the minus sign
 cell-number : (text : List ℕ) (start end : ℕ) → end ≤ length text → start < end
     → decimal (take (end - start) (drop start text))
     ≡ decimal (take (end - digits_from text start) (drop (digits_from text start) text))
@@ -288,7 +288,7 @@ signed-small true n small =
 signed-small false n small =
     let test : nat_le n 2147483647 ≡ true = grind (arith, nat_tests) in rw test refl
 
--- a text goes on with a number from a place on, whose bytes are those of a word
+-- a text begins, from `start` on, with the number whose bytes are those of `word`
 pub word-begins : (text : List ℕ) (start end word : ℕ) (last : Bool) → 31 < length text → end < 32
     → IsNumberIn text start end → IsWordOf text start end word
     → (ends_cell (get_or text end 0) ≡ true) × (last ≡ ends_line (get_or text end 0))

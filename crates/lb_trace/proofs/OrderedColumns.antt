@@ -7,7 +7,7 @@ use Rattle.std.proofs.lemmas.List.Elements.{All-push}
 use Rattle.lb_trace.specs.declared.header.Column.{Column}
 use Rattle.lb_trace.specs.PlainRows.{AreInOrder, ArePlaced, IsPlaced}
 
--- one more column after those in order
+-- columns in order stay so with one more column at the next place
 in_order_push :
     (n : ℕ) (columns : List Column) (column : Column) → AreInOrder n columns →
     column.at ≡ n + length columns → AreInOrder n (columns ++ column ∷ [])
@@ -15,7 +15,7 @@ in_order_push n [] column ordered is = (is ∙ omega arith, tt)
 in_order_push n (first ∷ columns) column ordered is =
     (ordered.0, in_order_push (suc n) columns column ordered.1 (is ∙ omega arith))
 
--- the columns before a place, and the one there
+-- the first `i + 1` columns are in order where the first `i` are and the next stands at `i`
 pub one_more_in_order :
     (table : List Column) (i : ℕ) (d : Column) → i < length table → AreInOrder 0 (take i table) →
     (get_or table i d).at ≡ i → AreInOrder 0 (take (i + 1) table)
@@ -25,7 +25,7 @@ one_more_in_order table i d within ordered is =
     subst (AreInOrder 0) (sym (take_more table i d within))
     (in_order_push 0 (take i table) (get_or table i d) ordered (is ∙ place))
 
--- one more column that stands at its place
+-- the first `i + 1` columns have their places where the first `i` and the next have
 pub one_more_placed :
     (placed table : List Column) (i : ℕ) (d : Column) → i < length table →
     ArePlaced placed (take i table) → IsPlaced placed (get_or table i d) →

@@ -21,7 +21,7 @@ outcome-records elements text records short are =
     let fits : nat_le (length text) 1073741824 ≡ true = le-leb (length text) 1073741824 short in
     rw fits (ap (reading elements) are)
 
--- a text that is too long
+-- the outcome of a text that is too long is 18
 pub outcome-long : (elements : Elements) (text : List ℕ) → 1073741824 < length text
     → outcome elements text ≡ Err 18
 unfolding outcome
@@ -32,14 +32,14 @@ outcome-long elements text long =
     leb-true (length text) 1073741824 fits in omega arith) in
     rw over refl
 
--- the reading of a header and rows
+-- the reading of a header and rows is that of the rows behind no trace
 pub reading-rows : (elements : Elements) (header : Record) (rows : List Record)
     → is_header elements header ≡ true
     → reading elements (header ∷ rows) ≡ with_records elements (after_first header) [] rows
 unfolding reading
 reading-rows elements header rows is = rw is refl
 
--- the reading without a header
+-- the reading of no records is 14
 pub reading-none : (elements : Elements) → reading elements [] ≡ Err 14
 unfolding reading
 reading-none elements = refl
@@ -60,7 +60,7 @@ complete_records elements traces (header ∷ rows) spelled lawful =
     reading-rows elements header rows spelled.0
     ∙ complete elements (after_first header) [] traces rows lawful spelled.1
 
--- what a text spells is its outcome
+-- the traces that a text spells are its outcome
 pub complete_text : (elements : Elements) (text : List ℕ) (traces : Traces)
     → Spells elements text traces → outcome elements text ≡ Ok traces
 complete_text elements text traces spells =
@@ -99,14 +99,14 @@ either_long true elements text traces fits read =
     record { short = leb-true (length text) 1073741824 fits; spelled = parts.0; lawful = parts.1 }
 either_long false elements text traces fits read = cc read
 
--- an outcome is what the text spells
+-- the traces that are the outcome of a text are spelled by it
 pub sound_text : (elements : Elements) (text : List ℕ) (traces : Traces)
     → outcome elements text ≡ Ok traces → Spells elements text traces
 unfolding outcome
 sound_text elements text traces read =
     either_long (nat_le (length text) 1073741824) elements text traces refl read
 
--- a text that is refused spells nothing
+-- a text that is refused spells no traces
 pub refused_text : (elements : Elements) (text : List ℕ) (number : ℕ)
     → outcome elements text ≡ Err number → (traces : Traces) → ¬ (Spells elements text traces)
 refused_text elements text number refused traces spells =

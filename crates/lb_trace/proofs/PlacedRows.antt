@@ -25,7 +25,7 @@ record AreValues (placed : List Column) (cells : Record) (values : Row) : Type 0
   pub each : (i : ℕ) (c : Column) → i < length placed
       → cell_value (get_or placed i c).kind (get_or cells i []) ≡ Some (get_or values i (pos 0))
 
--- the first value, and the others
+-- a row that was put together from a value and others has this value first, and then the others
 parts : {P : Type 0} (value : Option ℤ) (values : Option Row) (row : Row)
     → option_and_then (λ v. option_map (λ r. v ∷ r) values) value ≡ Some row
     → ((v : ℤ) (more : Row) → value ≡ Some v → values ≡ Some more → row ≡ v ∷ more → P) → P
@@ -66,7 +66,7 @@ values_of (column ∷ placed) (cell ∷ cells) values read =
       each = one_more column placed cell cells v more first rest.each;
     }))
 
--- the row is that of the values at the places of the columns
+-- the row of a record has, for each column of the table, the value at the place of the column
 pub row_placed : (table placed : List Column) (cells : Record) (values : Row)
     → plain_row placed cells ≡ Some values → ArePlaced placed table
     → row_by table cells ≡ Some (map (λ column. get_or values column.at (pos 0)) table)
@@ -82,7 +82,7 @@ row_placed (column ∷ table) placed cells values read at =
     ∙ ap (option_map (λ r. get_or values column.at (pos 0) ∷ r))
     (row_placed table placed cells values read (λ i d below. at (suc i) d (omega arith)))
 
--- there is a value at the place of each column
+-- the place of each column of the table is below the number of values
 pub places_within : (table placed : List Column) (cells : Record) (values : Row)
     → plain_row placed cells ≡ Some values → ArePlaced placed table
     → All (λ column. column.at < length values) table
@@ -90,12 +90,12 @@ places_within table placed cells values read at =
     let all : AreValues placed cells values = values_of placed cells values read in
     λ i d below. subst (λ n. (get_or table i d).at < n) (sym all.full) (at i d below).0
 
--- there are as many cells as columns
+-- a record whose cells spell values has as many cells as there are columns
 pub cells_placed : (placed : List Column) (cells : Record) (values : Row)
     → plain_row placed cells ≡ Some values → length cells ≡ length placed
 cells_placed placed cells values read = (values_of placed cells values read).wide
 
--- what is found of a record whose columns stand in order
+-- a line that spells a row by columns in order has their number of cells, and this row by the table
 ordered_found : (table : List Column) (width : ℕ) (text : List ℕ) (row : Row) (rest : List ℕ)
     → (length table ≡ width) × AreInOrder 0 table
     → (plain_row table (record_of text) ≡ Some row) × (rest ≡ after_line text)
@@ -118,7 +118,7 @@ ordered_line (Ok (Some rest)) table columns width text row same ordered read =
     (ap (λ cs. plain_row cs (record_of text)) (sym same) ∙ read.0, read.1)
 ordered_line (Err e) table columns width text row same ordered read = tt
 
--- the same where they stand in another order
+-- the result for columns in another order, with the names of the table for its parts
 pub placed_line : {E : Type 0} (r : Result (Option (Bor (List ℕ))) E)
     (table columns placed all : List Column) (width : ℕ) (text : List ℕ) (row : Row)
     → columns ≡ table → placed ≡ all → length all ≡ width

@@ -1,4 +1,4 @@
--- The records of a text without quotes that ends with a line, whatever follows it.
+-- The records of a text without quotes that ends with the end of a line, whatever follows it.
 use Rattle.std.proofs.Common.{ℕ, zero, suc, ◌≡◌, ◌+◌, ◌-◌, ◌<◌, Bool, true, false, ◌==◌, ◌||◌}
 use Rattle.std.proofs.Common.{List, [], ◌∷◌, ◌++◌, length, get_or, Option, None}
 use Rattle.std.proofs.Common.{Some, refl, sym, ap, ◌∙◌, arith, append_assoc, length-append, ⊎_elim}
@@ -55,7 +55,7 @@ no-comma c e = by (c == 44) refl
     by true is = cc (comma-inside c is, e)
     by false is = is
 
--- what a read from inside a line gives, where the line ends
+-- the result of a read from inside a line that ends, with `rest` behind the text
 abbrev LineRead : List (List ℕ) → List ℕ → List ℕ → List ℕ → Option Read
 LineRead fields field text rest =
     Some (fields ++ put field (record_of text), state_after text, after_line text ++ rest)
@@ -98,7 +98,7 @@ read-ended b fields field c (d ∷ text) rest q e =
         (ap (λ cells. Some (fields ++ cells, state_after (d ∷ text), after_line (d ∷ text) ++ rest))
         (put-front field c (record_of (d ∷ text))))
 
--- the next record, where a byte stands that ends no line
+-- the next record is `record_of` of a text that begins with a byte that ends no line
 record-ended : (b : Bool) (c : ℕ) (text rest : List ℕ) → has_quote (c ∷ text) ≡ false
     → Closed (c ∷ text) → ends_line c ≡ false
     → next_record default_config (fresh b) [] [] ((c ∷ text) ++ rest)
@@ -111,13 +111,13 @@ record-ended b c text rest q e h =
     ∙ ap (λ cells. Some (cells, state_after (c ∷ text), after_line (c ∷ text) ++ rest))
     (put-nil (line_of (c ∷ text)))
 
--- ## How many records are asked for
+-- ## The number of records that are asked for
 
 next-none : next_record default_config st.StartRecord [] [] [] ≡ None
 unfolding next_record
 next-none = refl
 
--- nothing is left at the end of a text
+-- an empty text has no records, however many are asked for
 end_left : (n : ℕ) (s : State) (xs : List ℕ) → s ≡ st.StartRecord → xs ≡ []
     → records_from default_config n s xs ≡ []
 end_left n s xs start empty =
@@ -125,7 +125,7 @@ end_left n s xs start empty =
     (ap (λ t. next_record default_config t [] [] xs) start
     ∙ ap (next_record default_config st.StartRecord [] []) empty ∙ next-none)
 
--- a text has all its records where as many are asked for as it has bytes, and one
+-- a text has the same records for any two fuels above its length
 same_fuel : (n m : ℕ) (s : State) (xs : List ℕ) → length xs < n → length xs < m
     → records_from default_config n s xs ≡ records_from default_config m s xs
 unfolding records_from
@@ -155,7 +155,7 @@ or-true : (b : Bool) → (b || true) ≡ true
 or-true true = refl
 or-true false = refl
 
--- between two records it does not matter what ended the last line
+-- between two records, both states give the same next record
 fresh-next : (b : Bool) (xs : List ℕ)
     → next_record default_config (fresh b) [] [] xs
     ≡ next_record default_config st.StartRecord [] [] xs
@@ -224,8 +224,8 @@ front-from : (n : ℕ) → Below n
 front-from zero b text rest short q e = absurd (omega arith)
 front-from (suc n) b text rest short q e = front-more n (front-from n) b text rest short q e
 
--- a text without quotes that ends with a line, and what follows it, have the records of the one and
--- then those of the other
+-- the records of `text ++ rest` are those of `text` and then those of `rest`, where `text` has no
+-- quotes and ends with the end of a line
 pub plain_front : (text rest : List ℕ) → has_quote text ≡ false → is_ended text ≡ true
     → records default_config (text ++ rest) ≡ plain_records text ++ records default_config rest
 unfolding fresh

@@ -1,4 +1,4 @@
--- What is read of a text without quotes, record by record.
+-- The reading of a text without quotes, record by record.
 use Rattle.std.proofs.Common.{ℕ, suc, ◌≡◌, ◌==◌, true, false, List, [], ◌∷◌, ◌++◌, length, get_or}
 use Rattle.std.proofs.Common.{Option, Some, None, ℤ, refl, sym, ap, ◌∙◌, subst, arith, append_assoc}
 use Rattle.std.proofs.lemmas.Bool.{eqb-true}
@@ -13,7 +13,7 @@ use Rattle.lb_trace.specs.PlainRows.{AreInOrder, plain_row}
 use Rattle.lb_trace.specs.Scan.{begun_records}
 use Rattle.lb_trace.specs.Spelling.{Record}
 
--- the cell after some others
+-- the cell at place `length before` is the one behind the cells `before`
 got_at : (before cells : Record) (cell : List ℕ)
     → get_or (before ++ cell ∷ cells) (length before) [] ≡ cell
 got_at [] cells cell = refl
@@ -24,7 +24,7 @@ length-one_more : (before : Record) (cell : List ℕ)
 length-one_more [] cell = refl
 length-one_more (first ∷ before) cell = ap suc (length-one_more before cell)
 
--- columns that stand in order read the cells one after the other
+-- the table reads the same row as the columns in order, behind the cells `before`
 pub row_in_order :
     (table : List Column) (before cells : Record) (row : Row) →
     AreInOrder (length before) table → plain_row table cells ≡ Some row →
@@ -65,7 +65,7 @@ row_in_order (column ∷ table) before (cell ∷ cells) row ordered read =
               ∙ ap (option_map (λ r. value ∷ r)) rows ∙ known,
         )
 
--- the records of a text that begins with one
+-- the records of a text that begins with a record are this one and those after its line
 pub begun-more :
     (begun : List ℕ) → (length begun == 0) ≡ false →
     begun_records begun ≡ record_of begun ∷ plain_records (after_line begun)

@@ -21,7 +21,7 @@ use Rattle.lb_trace.specs.Lines.{after_line, line_of, record_of}
 use Rattle.lb_trace.proofs.Lines.{comma-inside, after-more, after-short, no-quote, no-quote-after}
 use Rattle.lb_trace.proofs.Lines.{plain-line, plain-none, plain-skip}
 
--- the states between records, and those in a line
+-- the states between two records; and below, the states within a line
 unfoldable pub fresh : Bool → State
 fresh true = st.StartRecord
 fresh false = st.AfterCr
@@ -30,7 +30,7 @@ unfoldable pub inside : Bool → State
 inside true = st.InField
 inside false = st.StartField
 
--- one byte, by the action that it has
+-- the next record after one byte, by the action of its step
 pub next-end : (s s2 : State) (fields : List (List ℕ)) (field : List ℕ) (c : ℕ) (rest : List ℕ)
     → step default_config s c ≡ (s2, act.EndRecord)
     → next_record default_config s fields field (c ∷ rest) ≡ Some (fields ++ field ∷ [], s2, rest)
@@ -65,7 +65,7 @@ pub next-same : (s s2 : State) (fields : List (List ℕ)) (field : List ℕ) (c 
 unfolding next_record
 next-same s s2 fields field c rest e = rw e refl
 
--- the steps
+-- a byte that is no quote has the step of a field, in both states within a line
 pub step-inside : (b : Bool) (c : ℕ) → (c == 34) ≡ false
     → step default_config (inside b) c ≡ in_field default_config c
 unfolding inside
@@ -105,7 +105,7 @@ step-fresh false c q h =
     let e = or-second (c == 13) (c == 10) h in
     let first = rw e at h in rw (e, first, q) refl
 
--- cells, with these bytes before the first of them
+-- cells, with the bytes `field` in front of the first one
 unfoldable pub put : List ℕ → List (List ℕ) → List (List ℕ)
 put field [] = field ∷ []
 put field (cell ∷ more) = (field ++ cell) ∷ more
@@ -132,7 +132,7 @@ unfoldable pub state_after : List ℕ → State
 state_after [] = st.StartRecord
 state_after (c ∷ rest) = if ends_line c then after_end term.CRLF c else state_after rest
 
--- what a read from inside a line gives
+-- the result of a read from inside a line
 abbrev LineRead : List (List ℕ) → List ℕ → List ℕ → Option Read
 LineRead fields field text =
     Some (fields ++ put field (record_of text), state_after text, after_line text)
@@ -170,7 +170,7 @@ read-line b fields field (c ∷ rest) q =
         (ap (λ cells. Some (fields ++ cells, state_after rest, after_line rest))
         (put-front field c (record_of rest)))
 
--- the next record, where a byte stands that ends no line
+-- the next record is `record_of` of a text that begins with a byte that ends no line
 read-record : (b : Bool) (c : ℕ) (rest : List ℕ) → has_quote (c ∷ rest) ≡ false
     → ends_line c ≡ false
     → next_record default_config (fresh b) [] [] (c ∷ rest)
@@ -195,7 +195,7 @@ state-fresh (c ∷ rest) = by (ends_line c) refl (c == 13) refl (state-fresh res
     by true end false cr more = (true, rw (end, cr) refl)
     by false end cr is more = (more.0, rw end (more.1))
 
--- the same of all shorter texts, with less fuel
+-- all texts below `n` bytes, without quotes, have the records `plain_records` with fuel `n`
 abbrev Below : ℕ → Type 0
 Below n = (b : Bool) (text : List ℕ) → length text < n → has_quote text ≡ false
     → records_from default_config n (fresh b) text ≡ plain_records text
@@ -233,13 +233,13 @@ plain-from : (n : ℕ) → Below n
 plain-from zero b text short q = absurd (omega arith)
 plain-from (suc n) b text short q = plain-more n (plain-from n) b text short q
 
--- csv's records of a text without quotes
+-- the records of csv are `plain_records` for a text without quotes
 pub plain_text : (text : List ℕ) → has_quote text ≡ false
     → records default_config text ≡ plain_records text
 unfolding fresh
 plain_text text q = plain-from (length text + 1) true text (omega arith) q
 
--- the same, from a test
+-- `plain_text` for a text whose test finds no quote
 pub plain_tested : (found : Bool) (text : List ℕ) (i : ℕ) → found ≡ has_quote (take i text)
     → length text ≤ i → IsTrue (not found)
     → records default_config text ≡ plain_records text
@@ -258,7 +258,7 @@ none_quoted (part ∷ more) each =
     rw (not_true (has_quote part.now) (each 0 part (omega arith)))
     (none_quoted more (λ k d below. each (suc k) d (omega (arith, below))))
 
--- the same of parts, from a test of each
+-- no part has a quote where the test of each part finds none
 pub plain_parts : (Q : Type 0) (b : Bool) (seen : List (Bor (Bor (List ℕ))))
     (parts : List (Bor (List ℕ))) → map (λ one. one.now) seen ≡ parts
     → MatchBool b (All (λ (one : Bor (Bor (List ℕ))). true ≡ not (has_quote one.now.now)) seen) Q
@@ -268,7 +268,7 @@ plain_parts Q true seen parts shown each holds =
     (slice-All seen parts shown (λ (part : Bor (List ℕ)). true ≡ not (has_quote part.now)) each)
 plain_parts Q false seen parts shown each holds = cc holds
 
--- the byte order mark, by the first three bytes of a text
+-- a text of less than three bytes has no byte order mark
 pub bom-none : (text : List ℕ) → length text < 3 → text ≡ strip_bom text
 unfolding strip_bom
 bom-none [] h = refl

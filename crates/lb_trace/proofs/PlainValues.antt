@@ -1,4 +1,4 @@
--- Rows, one cell after the other.
+-- Rows that are read one cell after the other.
 use Rattle.std.proofs.Common.{ℕ, ◌≡◌, ◌+◌, ◌<◌, ◌≤◌, Bool, true, false, if◌then◌else◌, List, []}
 use Rattle.std.proofs.Common.{◌∷◌, ◌++◌, length, get_or, drop, Option, Some, None, ℤ, refl, sym, ap}
 use Rattle.std.proofs.Common.{◌-◌, ◌∙◌, arith, append_assoc, length-drop, take}
@@ -27,7 +27,7 @@ onto-cons : (row : List ℤ) (v : ℤ) (more : Option (List ℤ))
 onto-cons row v None = refl
 onto-cons row v (Some values) = ap Some (sym (append_assoc row (v ∷ []) values))
 
--- the rest of the record, after its first cell
+-- the cells of the first record of a text after its first cell
 cells_after : List ℕ → List (List ℕ)
 cells_after text = if is_last_cell text then [] else record_of (after_cell text)
 
@@ -41,7 +41,7 @@ row-cell columns k cell cells v row e =
     (λ x. option_map (λ values. x ∷ values) (plain_row columns cells)) o)) e
     ∙ onto-cons row v (plain_row columns cells)
 
--- one more value
+-- a first cell that spells a value leaves the next columns for the cells after it
 row-step : (columns : List Column) (i : ℕ) (d k : Column) (text : List ℕ) (v : ℤ) (row : List ℤ)
     → i < length columns → k ≡ get_or columns i d
     → cell_value k.kind (cell_of text) ≡ Some v
@@ -99,7 +99,7 @@ row-short columns i d k text rest v row is_last h is b e more =
     row-last columns i d k text rest v row is_last h is b e
     ∙ ap (λ ks. onto (row ++ v ∷ []) (plain_row ks [])) (drop_more columns (i + 1) k more)
 
--- more cells than columns
+-- a record has no row where no column is left for its cells
 pub row-long : (columns : List Column) (i : ℕ) (text : List ℕ) (row : List ℤ) → length columns ≤ i
     → onto row (plain_row (drop i columns) (record_of text)) ≡ None
 unfolding plain_row
@@ -107,7 +107,7 @@ row-long columns i text row h =
     ap (λ ks. onto row (plain_row ks (record_of text))) (drop_all i columns h)
     ∙ ap (λ cells. onto row (plain_row [] cells)) (record-cell text)
 
--- a cell that spells nothing
+-- a record has no row where its first cell spells no value of its column
 pub row-none : (columns : List Column) (i : ℕ) (d k : Column) (text : List ℕ) (row : List ℤ)
     → i < length columns → k ≡ get_or columns i d
     → cell_value k.kind (cell_of text) ≡ None
@@ -119,13 +119,13 @@ row-none columns i d k text row h is e =
     ∙ ap (λ cells. onto row (plain_row (k ∷ drop (i + 1) columns) cells)) (record-cell text)
     ∙ rw e refl
 
--- a cell and its value, each by itself
+-- `BeginsWith` from the bytes of a cell and their value
 pub begins-from : (k : Kind) (text bytes rest : List ℕ) (v : ℤ) (is_last : Bool)
     → bytes ≡ cell_of text → Some v ≡ cell_value k bytes
     → rest ≡ after_cell text → is_last ≡ is_last_cell text → BeginsWith k text v rest is_last
 begins-from k text bytes rest v is_last b e r l = (sym (e ∙ ap (cell_value k) b), r, l)
 
--- a value, as it is stored
+-- a value within 32 bits is stored as it is
 pub pushed-value : (rows row : List ℤ) (v : ℤ) → SFits w32 v
     → rows ≡ row ++ to_z w32 (of_z w32 v) ∷ [] → rows ≡ row ++ v ∷ []
 pushed-value rows row v fits e = e ∙ ap (λ x. row ++ x ∷ []) (to_z-of_z w32 v fits)
@@ -147,7 +147,7 @@ after-last k text rest v is_last b e =
     b.1 ∙ sym (after-cell text
     ∙ ap (λ t. if t then after_cell text else after_line (after_cell text)) end)
 
--- what is read of the last cells is read of all
+-- the result for the last cells is the result for all cells
 pub tail-read : (r : Option (Bor (List ℕ))) (columns some : List Column) (i : ℕ)
     (text rest : List ℕ) (row more all : List ℤ) → some ≡ drop i columns
     → plain_row columns (record_of text) ≡ onto row (plain_row (drop i columns) (record_of rest))

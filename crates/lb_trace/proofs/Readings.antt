@@ -1,4 +1,4 @@
--- How far a reading of a text has come.
+-- The progress of the reading of a text: the records and the traces so far.
 use Rattle.std.proofs.Common.{ℕ, ◌≡◌, ◌+◌, ◌<◌, ◌≤◌, Bool, true, false, ◌==◌, ◌||◌, not}
 use Rattle.std.proofs.Common.{if◌then◌else◌, List, [], ◌∷◌, ◌++◌, length, map, Some, Result, Ok}
 use Rattle.std.proofs.Common.{Err, refl, sym, ap, ◌∙◌, subst, arith, append_assoc, inl, inr, ⊎_elim}
@@ -11,8 +11,8 @@ use Rattle.csv.specs.declared.reader.Trim.TheVariants as trim
 use Rattle.csv.specs.Reading.{ReadRecord, Reached, Ready, default_config, source_of, strip_bom}
 use Rattle.csv.proofs.ReadFacts.{rows-end, rows-more}
 use Rattle.lb_static.specs.Signature.{Elements}
-use Rattle.lb_traces.specs.Traces.{IsRecording, Recording, Row, Trace, Traces, instants_of, with_row}
-use Rattle.lb_traces.specs.Traces.{with_trace}
+use Rattle.lb_traces.specs.Traces.{IsRecording, Recording, Row, Trace, Traces, instants_of}
+use Rattle.lb_traces.specs.Traces.{with_row, with_trace}
 use Rattle.lb_traces.proofs.Recordings.{IsRecording-none, Front, front_of, with_row-push}
 use Rattle.lb_trace.specs.declared.error.TraceError.{TraceError}
 use Rattle.lb_trace.specs.declared.header.Column.{Column}
@@ -31,7 +31,7 @@ use Rattle.lb_trace.proofs.Records.{reached_all, reached_first}
 use Rattle.lb_trace.proofs.Soundness.{IsRecording-instant, IsRow-cells, Reads, reads_record}
 use Rattle.lb_trace.proofs.Soundness.{some_last}
 
--- one more record
+-- a read that gives a record has reached one record more
 pub reaches-more : (text : List ℕ) (records : List Record) (a b : TextReader) (fields : Record)
     → Reaches text records a
     → ReadRecord left a b true fields → b.first ≡ true → Reaches text (records ++ fields ∷ []) b
@@ -48,7 +48,7 @@ reaches-more text records a b fields at read first =
       reached = m.2;
     }
 
--- no more record
+-- a read that gives no record has reached all records of the text
 pub reaches-end : (text : List ℕ) (records : List Record) (a b : TextReader) (fields : Record)
     → Reaches text records a
     → ReadRecord left a b false fields → records_of text ≡ records
@@ -87,7 +87,7 @@ rows_follow elements columns table is cells row read =
     IsRow-cells elements columns cells row
     (sym (ap (λ t. row_by t cells) is ∙ row_by-table elements columns cells) ∙ read)
 
--- a reading of some records and then more
+-- a reading in two steps is the first step, and then the second
 then_both : (x : Result Traces ℕ) (all some more : Traces → Result Traces ℕ)
     → ((t : Traces) → all t ≡ then_read more (some t))
     → then_read all x ≡ then_read more (then_read some x)
@@ -108,7 +108,7 @@ with_records-append elements columns before (r ∷ some) more =
     (λ traces. with_records elements columns traces more)
     (λ further. with_records-append elements columns further some more)
 
--- one more instant
+-- one more row of the last trace is one more instant
 count_row : (traces : Traces) (row : Row) → 0 < length traces
     → instants_of (with_row traces row) ≡ instants_of traces + 1
 count_row traces row some =
@@ -133,7 +133,7 @@ count_either true traces name row last = count_row traces row (some_last name tr
 count_either false traces name row last =
     sum_by_push (λ (t : Trace). length t.1) traces (name, row ∷ [])
 
--- how far a reading has come: the records, and what was read of them
+-- the progress of a reading: the records that were reached, and the traces that were read of them
 pub record Progress (elements : Elements) (text : List ℕ) (header : Record) (traces : Traces)
     (reader : TextReader) (number : ℕ) : Type 0 where
   pub rows : List Record
@@ -157,7 +157,7 @@ reaches-none text reader plain ready config source state = record {
   reached = (sym state, refl);
 }
 
--- after the header
+-- the progress after the header: no traces
 pub progress-start : (elements : Elements) (text : List ℕ) (header : Record) (traces : Traces)
     (reader : TextReader)
     → Reaches text (header ∷ []) reader → traces ≡ []
@@ -172,7 +172,7 @@ progress-start elements text header traces reader at none = record {
   counted = ap (λ ts. instants_of ts + 1) (sym none);
 }
 
--- after one more record
+-- the progress after one more record that is not refused
 pub progress-more : (elements : Elements) (text : List ℕ) (header : Record) (traces next : Traces)
     (a b : TextReader) (number : ℕ) (fields : Record)
     → (at : Progress elements text header traces a number)
@@ -196,7 +196,7 @@ progress-more elements text header traces next a b number fields at further good
       counted = omega (arith, at.counted);
     }
 
--- the reading of all records
+-- the traces so far are the outcome of the text where all records were reached
 pub progress-end : (elements : Elements) (text : List ℕ) (header : Record) (traces : Traces)
     (a : TextReader) (number : ℕ)
     → (at : Progress elements text header traces a number) → length text ≤ 1073741824
@@ -206,7 +206,7 @@ progress-end elements text header traces a number at short headed all =
     outcome-records elements text (header ∷ at.rows) short all
     ∙ reading-rows elements header at.rows headed ∙ at.read
 
--- a record with a fault
+-- the refusal of one more record is the outcome of the text
 pub progress-bad : (elements : Elements) (text : List ℕ) (header : Record) (traces : Traces)
     (a b : TextReader) (number n : ℕ) (fields : Record)
     → (at : Progress elements text header traces a number) → length text ≤ 1073741824
@@ -224,7 +224,7 @@ progress-bad elements text header traces a b number n fields at short headed fur
     ∙ ap (then_read (λ t. with_records elements (after_first header) t (fields ∷ rest.0))) at.read
     ∙ ap (then_read (λ t. with_records elements (after_first header) t rest.0)) bad
 
--- a text without a header, or with another one
+-- the outcome of a text without records is 14
 pub no_header : (elements : Elements) (text : List ℕ) → length text ≤ 1073741824
     → records_of text ≡ [] → outcome elements text ≡ Err 14
 no_header elements text short none =
@@ -238,13 +238,13 @@ other_header elements text header b at short other =
     outcome-records elements text (header ∷ rest.0) short rest.1
     ∙ reading-other elements header rest.0 other
 
--- a refusal by its number
+-- a refusal `n` of a text is one of a text that spells no traces
 pub refused : (elements : Elements) (text : List ℕ) (n : ℕ) → outcome elements text ≡ Err n
     → (n ≡ 0) ⊎ ((outcome elements text ≡ Err n)
     × ((traces : Traces) → ¬ (Spells elements text traces)))
 refused elements text n is = inr (is, refused_text elements text n is)
 
--- what is read of a text that spells these traces
+-- traces that a text spells are its reading
 pub is_reading : (elements : Elements) (text : List ℕ) (r : Recording) → r.signature ≡ elements
     → Spells elements text r.traces → IsTraceReading elements text (Ok r)
 is_reading elements text r same spells = record {
@@ -257,7 +257,7 @@ is_reading elements text r same spells = record {
   refused = tt;
 }
 
--- an error that tells why a text spells nothing, or that a growth was refused
+-- an error that is the refusal of a text, or of a growth, is its reading
 pub is_refusal : (elements : Elements) (text : List ℕ) (e : TraceError)
     → Refuses elements text e → IsTraceReading elements text (Err e)
 is_refusal elements text e refuses = record {
@@ -267,20 +267,20 @@ is_refusal elements text e refuses = record {
   refused = refuses;
 }
 
--- what one read says
+-- one read goes on to the next record, or ends the text
 pub goes : (text : List ℕ) (records : List Record) (a b : TextReader) (fields : Record)
     (found : Bool) → Reaches text records a
     → ReadRecord left a b found fields → b.first ≡ true → Goes text records b fields found
 goes text records a b fields true at read first = reaches-more text records a b fields at read first
 goes text records a b fields false at read first = reaches-end text records a b fields at read
 
--- the traces so far are lawful under the signature of their rows
+-- a recording is lawful where its traces are lawful under its signature
 pub lawful_rows : (r : Recording) (elements : Elements) → r.signature ≡ elements
     → IsRecording record { signature = elements; traces = r.traces } → IsRecording r
 lawful_rows r elements same lawful =
     subst (λ e. IsRecording record { signature = e; traces = r.traces }) (sym same) lawful
 
--- one more record by the table is one more record
+-- `record_by` of the table gives the same as `with_record`
 pub added : (r : Recording) (elements : Elements) (columns : Record) (table : List Column)
     (width : ℕ) (fields : Record) (outcome_is : Result Traces ℕ)
     → r.signature ≡ elements → table ≡ map (column_of columns) elements → width ≡ length columns
@@ -290,7 +290,7 @@ added r elements columns table width fields outcome_is same is wide by =
     sym (record_by-table elements columns table width r.traces fields is wide)
     ∙ ap (λ e. record_by e table width r.traces fields) (sym same) ∙ by
 
--- a refusal of one more record is that of the text
+-- a refusal of one more record by the table is the refusal of the text
 pub refused_record : (r : Recording) (elements : Elements) (text : List ℕ) (header : Record)
     (a b : TextReader) (number : ℕ) (fields : Record)
     (table : List Column) (width : ℕ) (e : TraceError)

@@ -12,7 +12,7 @@ use Rattle.csv.specs.Machine.{step}
 use Rattle.csv.specs.Reading.{Reached, default_config, records_from, records_next, strip_bom}
 use Rattle.lb_trace.specs.Spelling.{Record, records_of}
 
--- a read takes a byte, or it ends the text
+-- a read takes at least one byte, or it ends the text
 abbrev pub TakesOne : List ℕ → Read → Type 0
 TakesOne xs p = (length p.2 < length xs) ⊎ ((p.1 ≡ st.StartRecord) × (p.2 ≡ []))
 
@@ -59,7 +59,7 @@ after_end cfg s s2 xs ys (r ∷ rows) start empty reached =
     ∙ ap (next_record cfg st.StartRecord [] []) empty in
     cc (none, reached.1)
 
--- no more records than bytes, and one
+-- at most one record more than bytes is reached
 few : (cfg : Config) (s s2 : State) (xs ys : List ℕ) (rows : List Record)
     → Reached cfg s xs rows s2 ys → length rows ≤ length xs + 1
 unfolding Reached
@@ -90,14 +90,14 @@ split cfg (suc n) s s2 xs ys (r ∷ rows) reached enough =
     ∙ ap (λ more. r ∷ more) (split cfg n reached.0.1 s2 reached.0.2 ys rows reached.3 (omega arith))
     ∙ ap (λ m. r ∷ (rows ++ records_from cfg m s2 ys)) left
 
--- no record is left
+-- no records are left where there is no next record
 pub none_left : (cfg : Config) (n : ℕ) (s : State) (xs : List ℕ) → next_record cfg s [] [] xs ≡ None
     → records_from cfg n s xs ≡ []
 unfolding records_from
 none_left cfg zero s xs none = refl
 none_left cfg (suc n) s xs none = rw none refl
 
--- the first records of a text are those that were reached
+-- the records that were reached are the first ones of the text
 pub reached_first : (text ys : List ℕ) (s : State) (rows : List Record)
     → Reached default_config st.StartRecord (strip_bom text) rows s ys
     → (more : List Record) × (records_of text ≡ rows ++ more)
@@ -109,7 +109,7 @@ reached_first text ys s rows reached = (
       (few default_config st.StartRecord s (strip_bom text) ys rows reached),
 )
 
--- and all of them where none is left
+-- the records that were reached are all of the text where there is no next record
 pub reached_all : (text ys : List ℕ) (s : State) (rows : List Record)
     → Reached default_config st.StartRecord (strip_bom text) rows s ys
     → next_record default_config s [] [] ys ≡ None → records_of text ≡ rows

@@ -11,7 +11,7 @@ use Rattle.lb_trace.specs.Rolls.{IsRollOf, RefusesRoll, RefusesTrace, TakesTrace
 use Rattle.lb_trace.proofs.Rolls.{same_count}
 use Rattle.lb_trace.proofs.RollSteps.{refuses_rows, taken_more}
 
--- the first traces of a roll stand behind those of another
+-- `next` is the roll `before` with the first `k` traces of `other` behind its traces
 abbrev pub HasTakenRoll : Roll → Roll → ℕ → Roll → Type 0
 HasTakenRoll before other k next =
     (elements : Elements) (traces others : Traces) → IsRollOf elements before traces
@@ -32,7 +32,7 @@ taken_all before other next k all taken elements traces others of more =
     (take_all k others (omega (arith, all, count)))
     (taken elements traces others of more)
 
--- the name of a trace of a roll
+-- the name at place `k` of a roll is that of trace `k`
 name_at : (elements : Elements) (other : Roll) (others : Traces) (k : ℕ)
     → IsRollOf elements other others → k < length other.names.traces
     → (trace_at other.names.traces k).0 ≡ (trace_at others k).0
@@ -43,7 +43,7 @@ name_at elements other others k more below =
     ∙ ap (λ ns. get_or ns k []) more.names
     ∙ get_or-map (λ (t : Trace). t.0) others k ([], []) [] (omega (arith, below, count))
 
--- its length
+-- the length at place `k` of a roll is that of trace `k`
 length_at : (elements : Elements) (other : Roll) (others : Traces) (k : ℕ)
     → IsRollOf elements other others → k < length other.names.traces
     → get_or other.lengths.items k 0 ≡ length (trace_at others k).1
@@ -53,7 +53,7 @@ length_at elements other others k more below =
     ap (λ ls. get_or ls k 0) more.lengths
     ∙ get_or-map (λ (t : Trace). length t.1) others k ([], []) 0 (omega (arith, below, count))
 
--- one more trace of a roll has been taken
+-- a roll that has taken `k` traces of another has taken `k + 1` with the next one
 pub taken_one_more : (before other roll next : Roll) (k : ℕ) → k < length other.names.traces
     → HasTakenRoll before other k roll
     → TakesTrace roll (trace_at other.names.traces k).0 (get_or other.lengths.items k 0) next
@@ -70,7 +70,7 @@ taken_one_more before other roll next k below taken takes elements traces others
     (length_at elements other others k more below) takes))
     traces of
 
--- one is refused
+-- the refusal of trace `k` is the refusal of the whole roll `other`
 pub refuses_roll : (before other roll : Roll) (k : ℕ) (e : TraceError)
     → k < length other.names.traces → HasTakenRoll before other k roll
     → RefusesTrace roll (trace_at other.names.traces k).0 (get_or other.lengths.items k 0) e

@@ -1,4 +1,4 @@
--- Why a record is refused behind the traces of a roll.
+-- The refusal of a record behind the traces of a roll.
 use Rattle.std.proofs.Common.{ℕ, ◌≡◌, ◌≢◌, ◌+◌, ◌-◌, ◌*◌, ◌<◌, ◌&&◌, ◌==◌, Bool, true, false}
 use Rattle.std.proofs.Common.{if◌then◌else◌, not, List, [], ◌∷◌, length, get_or, Option, Some, None}
 use Rattle.std.proofs.Common.{Ok, Err, refl, sym, ap, ◌∙◌, subst, inl, inr, ⊎_elim}
@@ -28,7 +28,7 @@ use Rattle.lb_trace.proofs.Rolls.{last_length, same_any, same_count, same_last}
 
 -- ## By the table of a header
 
--- a record by the table is a record
+-- a refusal of a record by the table of a header is a refusal of the record
 by_table : (elements : Elements) (table : ColumnTable) (traces : Traces) (r : Record)
     (e : TraceError)
     → IsColumnTable elements table
@@ -40,7 +40,7 @@ by_table elements table traces r e is bad =
     is.columns is.count)
     bad
 
--- a record of another length
+-- `record_by` of a record of another length is 15
 record_by-wide : (elements : Elements) (table : List Column) (width : ℕ) (traces : Traces)
     (r : Record)
     → length (after_first r) ≢ width → record_by elements table width traces r ≡ Err 15
@@ -51,7 +51,7 @@ record_by-wide elements table width traces (name ∷ cells) other =
     in
     rw no refl
 
--- a record with no cell is refused
+-- a record with no cell is refused with 15
 pub no_cell_refused : (elements : Elements) (table : ColumnTable) (traces : Traces) (r : Record)
     (e : TraceError)
     → IsColumnTable elements table → field_at r 0 ≡ None → error_number e ≡ 15
@@ -61,7 +61,7 @@ no_cell_refused elements table traces r e is none number =
     (inr (record_by-none elements table.columns.items table.count traces r none
     ∙ ap Err (sym number)))
 
--- and one with more cells than the header, or fewer
+-- a record with more cells than the header, or fewer, is refused with 15
 pub width_refused : (elements : Elements) (table : ColumnTable) (traces : Traces) (r : Record)
     (e : TraceError)
     → IsColumnTable elements table → length (after_first r) ≢ table.count → error_number e ≡ 15
@@ -71,7 +71,7 @@ width_refused elements table traces r e is other number =
     (inr (record_by-wide elements table.columns.items table.count traces r other
     ∙ ap Err (sym number)))
 
--- a record of the last trace
+-- a record of the last trace is refused where `go_on_by` refuses its row
 pub more_refused : (roll : Roll) (elements : Elements) (table : ColumnTable) (traces : Traces)
     (r : Record) (name : List ℕ) (e : TraceError)
     → IsRollOf elements roll traces → IsColumnTable elements table
@@ -86,7 +86,7 @@ more_refused roll elements table traces r name e of is found wide last bad =
     of.lawful.each (same_last name traces roll.names.traces (sym of.names) ∙ last)))
     bad)
 
--- a record of another trace
+-- a record of another trace is refused where `start_by` refuses its row
 pub first_refused : (roll : Roll) (elements : Elements) (table : ColumnTable) (traces : Traces)
     (r : Record) (name : List ℕ) (e : TraceError)
     → IsRollOf elements roll traces → IsColumnTable elements table
@@ -103,7 +103,7 @@ first_refused roll elements table traces r name e of is found wide other bad =
 
 -- ## Cells and room
 
--- where there is no room whatever would be there is not
+-- a choice between traces and the refusal 18 is refused alike for any traces
 same_choice : (b : Bool) (x y : Traces) (n : ℕ) → (if b then Ok x else Err 18) ≡ Err n
     → (if b then Ok y else Err 18) ≡ Err n
 same_choice true x y n is = cc is
@@ -134,7 +134,7 @@ first_room elements name traces (Some row) room n is bad =
     [] (with_trace traces name row) n
     (ap (λ b. if b then Ok [] else Err 18) (sym is) ∙ bad)
 
--- the limit of cells, by a roll
+-- a roll and its traces have room for the same number of cells
 cells_room : (roll : Roll) (elements : Elements) (traces : Traces) → IsRollOf elements roll traces
     → nat_le ((roll.instants + 1) * roll.cells) 67108864
     ≡ nat_le ((instants_of traces + 1) * cells_of_instant elements) 67108864
@@ -142,7 +142,7 @@ cells_room roll elements traces of =
     ap (λ n. nat_le ((n + 1) * roll.cells) 67108864) of.instants
     ∙ ap (λ n. nat_le ((instants_of traces + 1) * n) 67108864) of.cells
 
--- what is wrong with the cells of a record of the last trace
+-- the refusal of the cells of a record of the last trace is that of `go_on_by`
 pub more_cells_refused : (roll : Roll) (elements : Elements) (traces : Traces) (row : Option Row)
     (room : Bool) (e : TraceError)
     → IsRollOf elements roll traces → 0 < length roll.names.traces → room ≡ room_in_last roll
@@ -165,7 +165,7 @@ more_cells_refused roll elements traces row room e of some is bad =
     inr (more_room elements traces row room (error_number e) whole h))
     bad
 
--- what is wrong with the name of a record of another trace
+-- a name that is not lawful or not new is refused with 17 by `start_by`
 pub name_refused : (roll : Roll) (elements : Elements) (traces : Traces) (name : List ℕ)
     (row : Option Row) (e : TraceError)
     → IsRollOf elements roll traces
@@ -177,7 +177,7 @@ name_refused roll elements traces name row e of found number =
     (same_any name roll.names.traces traces of.names) found
     ∙ ap Err (sym number))
 
--- what is wrong with its cells, where its name is lawful and new
+-- the refusal of the cells is that of `start_by` where the name is lawful and new
 pub first_cells_refused : (roll : Roll) (elements : Elements) (traces : Traces) (name : List ℕ)
     (row : Option Row) (room : Bool) (e : TraceError)
     → IsRollOf elements roll traces → IsTraceName name

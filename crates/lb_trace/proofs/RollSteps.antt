@@ -31,7 +31,7 @@ at_least : (a b : ℕ) → 0 < b → a ≤ a * b
 at_least a b some =
     let one : 1 ≤ b = omega (arith, some) in omega (arith, mul-le-mul_left a one)
 
--- a further roll has one more name and length
+-- `next` is `roll` with one more name and length
 pub record Grows (roll next : Roll) (name : List ℕ) (count : ℕ) : Type 0 where
   pub names : next.names ≡ record roll.names {
     traces = with_trace roll.names.traces name [];
@@ -87,7 +87,7 @@ grown_roll roll next name count is more =
       );
     }
 
--- and is that of one more trace, where its name is new
+-- a roll with one more name and length is that of one more trace, where its name is new
 pub grown_roll_of : (roll next : Roll) (elements : Elements) (traces : Traces) (t : Trace)
     (name : List ℕ) (count : ℕ)
     → IsRollOf elements roll traces → IsTraceOf elements name count t
@@ -117,9 +117,9 @@ grown_roll_of roll next elements traces t name count of is new few more =
       cells = more.cells ∙ of.cells;
     }
 
--- ## Why one is refused
+-- ## The refusal of a trace
 
--- want of memory
+-- the number 0, want of memory, is a refusal of any trace
 pub refuses_nothing : (roll : Roll) (name : List ℕ) (count : ℕ) (e : TraceError)
     → error_number e ≡ 0 → RefusesTrace roll name count e
 refuses_nothing roll name count e memory = λ elements columns traces t records of is spelled.
@@ -131,7 +131,7 @@ there_from true false is bad = cc bad
 there_from false true is bad = refl
 there_from false false is bad = cc is
 
--- its name is there, and is not the last
+-- a trace is refused with 17 where its name is there and is not the last one
 pub refuses_name : (roll : Roll) (name : List ℕ) (count : ℕ) (e : TraceError)
     → error_number e ≡ 17
     → (is_trace_name name && not (list_any (λ u. bytes_eq name u.0) roll.names.traces)) ≡ false
@@ -155,7 +155,7 @@ and-there true true is = refl
 and-there true false is = cc is
 and-there false b is = refl
 
--- its name is there, and may be the last
+-- a trace whose name is there is refused with 0 if the name is the last one, else with 17
 pub refuses_there : (roll : Roll) (name : List ℕ) (count : ℕ) (e : TraceError)
     → list_any (λ u. bytes_eq name u.0) roll.names.traces ≡ true
     → (is_last name roll.names.traces ≡ true → error_number e ≡ 0)
@@ -170,7 +170,7 @@ refuses_there roll name count e there last other = by (is_last name roll.names.t
         (and-there (is_trace_name name)
         (list_any (λ (u : Trace). bytes_eq name u.0) roll.names.traces) there) is
 
--- a new name, by that of its trace
+-- a name that is new for a roll is new for its traces
 new_name : (roll : Roll) (elements : Elements) (traces : Traces) (t : Trace) (name : List ℕ)
     (count : ℕ)
     → IsRollOf elements roll traces → IsTraceOf elements name count t
@@ -180,7 +180,7 @@ new_name roll elements traces t name count of is new =
     ap (λ n. list_any (λ (u : Trace). bytes_eq n u.0) traces) is.1
     ∙ same_any name traces roll.names.traces (sym of.names) ∙ new
 
--- there are as many traces as there may be
+-- a trace with a new name is refused with 18 where the roll has no room for a trace
 pub refuses_count : (roll : Roll) (name : List ℕ) (count : ℕ) (e : TraceError)
     → error_number e ≡ 18
     → list_any (λ u. bytes_eq name u.0) roll.names.traces ≡ false
@@ -193,7 +193,7 @@ refuses_count roll name count e number new full =
     (ap (λ n. nat_lt n 1000000) (sym (same_count roll.names.traces traces of.names)) ∙ full)
     ∙ ap Err (sym number))
 
--- there is no room for all its cells
+-- a trace with a new name is refused with 18 where there is no room for all its cells
 pub refuses_cells : (roll : Roll) (name : List ℕ) (count : ℕ) (e : TraceError)
     → error_number e ≡ 18
     → list_any (λ u. bytes_eq name u.0) roll.names.traces ≡ false
@@ -210,7 +210,7 @@ refuses_cells roll name count e number new full =
 
 -- ## All traces of a set
 
--- what spells some things and then others is cut in two
+-- a list that is related to `ys` and then `zs`, cut in two: one part for each
 pub record Cut {A B : Type 0} (R : A → B → Type 0) (xs : List A) (ys zs : List B) : Type 0 where
   pub first : List A
   pub second : List A
@@ -232,7 +232,7 @@ zip_cut R (x ∷ xs) (y ∷ ys) zs h =
       other = rest.other;
     }
 
--- a refusal of the first of some records is that of all
+-- a refusal of the first records is the refusal of all
 first_refused : (elements : Elements) (columns : Record) (traces : Traces)
     (some more : List Record) (e : TraceError)
     → IsRefusal (with_records elements columns traces some) e
@@ -244,7 +244,7 @@ first_refused elements columns traces some more e bad =
     ∙ ap (then_read (λ ts. with_records elements columns ts more)) h))
     bad
 
--- a trace of a set is refused behind a roll and the traces before it
+-- the refusal of trace `k` behind the traces before it is the refusal of the set
 pub refuses_rows : (before roll : Roll) (set : Recording) (k : ℕ) (e : TraceError)
     → IsRecording set → k < length set.traces
     → ((traces : Traces) → IsRollOf set.signature before traces
@@ -284,7 +284,7 @@ refuses_rows before roll set k e lawful below taken refused =
     ∙ ap (then_read (λ ts. with_records elements columns ts one.second)) read in
     subst (λ o. IsRefusal o e) (sym joined) last
 
--- one more trace of a set has been taken
+-- a roll that has taken `k` traces of a set has taken `k + 1` with the next one
 pub taken_more : (before roll next : Roll) (set : Recording) (k : ℕ)
     → IsRecording set → k < length set.traces
     → ((traces : Traces) → IsRollOf set.signature before traces

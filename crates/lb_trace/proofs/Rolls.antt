@@ -27,7 +27,7 @@ use Rattle.lb_trace.proofs.Steps.{good_record}
 
 -- ## Names and lengths
 
--- whether the last of some names is this one
+-- whether the last one of some names is this name
 last_is : List ℕ → List (List ℕ) → Bool
 last_is q [] = false
 last_is q (name ∷ []) = bytes_eq q name
@@ -39,13 +39,13 @@ last_is-names q [] = refl
 last_is-names q (t ∷ []) = refl
 last_is-names q (t ∷ u ∷ more) = last_is-names q (u ∷ more)
 
--- which name is the last hangs on the names alone
+-- traces with the same names have the same last name
 pub same_last : (q : List ℕ) (a b : Traces) → trace_names a ≡ trace_names b
     → is_last q a ≡ is_last q b
 same_last q a b same =
     last_is-names q a ∙ ap (last_is q) same ∙ sym (last_is-names q b)
 
--- and so does whether a name is there
+-- traces with the same names have, or lack, the same name
 pub same_any : (q : List ℕ) (a b : Traces) → trace_names a ≡ trace_names b
     → list_any (λ t. bytes_eq q t.0) a ≡ list_any (λ t. bytes_eq q t.0) b
 same_any q a b same =
@@ -81,7 +81,7 @@ last_length traces d some =
     ∙ get_or_at (lengths_of f.front) (length f.last.1) [] d (length (lengths_of traces) - 1) place
     ∙ ap length (sym (ap last_rows f.is ∙ last_rows-push f.front f.last))
 
--- how many instants there are
+-- the length of `instants` is `instants_of`
 pub instants_count : (traces : Traces) → length (instants traces) ≡ instants_of traces
 instants_count [] = refl
 instants_count (t ∷ more) =
@@ -96,7 +96,7 @@ instants_count (t ∷ more) =
 
 -- ## Lawful recordings
 
--- a lawful recording with one more trace
+-- a lawful recording stays so with one more lawful trace whose name is new, within the limits
 pub IsRecording-more : (elements : Elements) (traces : Traces) (t : Trace)
     → IsRecording record { signature = elements; traces = traces } → IsTrace elements t
     → list_any (λ u. bytes_eq t.0 u.0) traces ≡ false → length traces < 1000000
@@ -118,7 +118,7 @@ IsRecording-more elements traces t lawful is new count room = record {
 
 -- ## Records of a trace
 
--- the name of the trace that has just been added to
+-- `with_instant` gives traces whose last one has the name that was added
 last_added : (name : List ℕ) (row : Row) (traces : Traces)
     → is_last name (with_instant name row traces) ≡ true
 last_added name row traces = by (is_last name traces) refl
@@ -134,7 +134,7 @@ last_added name row traces = by (is_last name traces) refl
         rw is (ap (is_last name) grown
         ∙ is_last-push name f.front (f.last.0, f.last.1 ++ row ∷ []) ∙ same)
 
--- a record that spells an instant, where there is no room
+-- a record that spells an instant is refused with 18 where there is no room
 no_room : (elements : Elements) (columns : Record) (traces : Traces) (r : Record)
     (instant : Instant)
     → SpellsInstant elements columns r instant → comes_back instant.0 traces ≡ false
@@ -152,7 +152,7 @@ no_room elements columns traces (name ∷ cells) instant spells back room =
     let value : row_of elements columns cells ≡ Some instant.1 = spells.3 in
     rw (count, lawful, stays, value, full) refl
 
--- a record whose name comes back
+-- a record whose name comes back is refused with 17
 pub comes_back_refused : (elements : Elements) (columns : Record) (traces : Traces) (r : Record)
     (instant : Instant) (more : List Record)
     → SpellsInstant elements columns r instant → comes_back instant.0 traces ≡ true
@@ -166,7 +166,7 @@ comes_back_refused elements columns traces (name ∷ cells) instant more spells 
     let again : comes_back name traces ≡ true = ap (λ n. comes_back n traces) spells.1 ∙ back in
     rw (count, lawful, again) refl
 
--- the records of a trace are read, or they are too many
+-- the records of a trace are read, or they are refused with 18
 abbrev pub Fits : Elements → Record → Traces → List Record → Type 0
 Fits elements columns traces records =
     ((after : Traces) × (with_records elements columns traces records ≡ Ok after))

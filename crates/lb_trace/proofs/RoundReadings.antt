@@ -1,4 +1,4 @@
--- How far the records of a text have been read.
+-- The progress of the reading of the records of a text.
 use Rattle.std.proofs.Common.{ℕ, ◌≡◌, ◌==◌, true, false, List, [], ◌∷◌, ◌++◌, length, map, Ok, refl}
 use Rattle.std.proofs.Common.{sym, ap, ◌∙◌, append_assoc, subst, Some, None}
 use Rattle.std.proofs.lemmas.List.{append-nil}
@@ -19,13 +19,13 @@ use Rattle.lb_trace.specs.Spelling.{Record}
 use Rattle.lb_trace.proofs.PlainRecordings.{begun-more, begun-none}
 use Rattle.lb_trace.proofs.Readings.{record_by-table, with_records-append}
 
--- nothing has been read
+-- nothing of a text has been read at its start
 pub reads-none : (elements : Elements) (columns : Record) (traces : Traces) (text : List ℕ)
     → ReadsUpTo elements columns traces traces text text
 unfolding with_records
 reads-none elements columns traces text = record { done = []; read = refl; cut = refl }
 
--- one more record
+-- the reading goes on to the text after one more record
 pub reads-more :
     (elements : Elements) (columns : Record) (table : List Column) (width : ℕ)
     (first traces next : Traces) (text rest begun after : List ℕ) →
@@ -51,7 +51,7 @@ reads-more elements columns table width first traces next text rest begun after 
           ∙ sym (append_assoc so_far.done (r ∷ []) (plain_records after));
     }
 
--- all records were read
+-- all records were read where the rest has none
 pub reads-end :
     (elements : Elements) (columns : Record) (first traces : Traces) (text rest begun : List ℕ) →
     ReadsUpTo elements columns first traces text rest →
@@ -63,7 +63,7 @@ reads-end elements columns first traces text rest begun so_far skipped none =
     ∙ append-nil so_far.done)
     ∙ so_far.read
 
--- a record was not added
+-- the reading stops at the record that is not added
 pub reads-stop :
     (elements : Elements) (columns : Record) (first traces : Traces) (text rest begun : List ℕ) →
     ReadsUpTo elements columns first traces text rest →
@@ -76,7 +76,7 @@ reads-stop elements columns first traces text rest begun so_far skipped some = r
   some = some;
 }
 
--- why it was not
+-- a refusal by the table is the refusal of the record
 pub reads-refused :
     (elements : Elements) (columns : Record) (table : List Column) (width : ℕ)
     (before after : Traces) (r : Record) (e : TraceError) →
@@ -91,14 +91,14 @@ reads-refused elements columns table width before after r e same wide kept bad =
 
 -- ## The last trace
 
--- a record with a name goes on if that is the name of the last trace
+-- a record with a name goes on if the last trace has this name
 pub goes_on-some : (r : Record) (name : List ℕ) (traces : Traces) → field_at r 0 ≡ Some name
     → goes_on r traces ≡ is_last name traces
 unfolding field_at
 goes_on-some [] name traces found = cc found
 goes_on-some (first ∷ cells) name traces found = ap (λ n. is_last n traces) (cc found)
 
--- a record without one goes on
+-- a record without a name goes on
 pub goes_on-none : (r : Record) (traces : Traces) → field_at r 0 ≡ None → goes_on r traces ≡ true
 unfolding field_at
 goes_on-none [] traces missing = refl

@@ -57,13 +57,13 @@ number-spelled digits n some few all e =
     (le-true 1 (length digits) (omega arith)) (le-true (length digits) 20 (omega arith)) all in
     rw (test, e) refl
 
--- so few digits are below this
+-- a number below `10 ^ i` is below `10 ^ k` where `i` is at most `k`
 pub below : (n i k : ℕ) → n < 10 ^ i → i ≤ k → n < 10 ^ k
 below n i k small at =
     let some : 0 < 10 = omega arith in
     let power : 10 ^ i ≤ 10 ^ k = pow-le-pow_right some at in omega arith
 
--- a cell of digits, and the byte that ends it
+-- a text begins with the number of its first 1 to 9 digits, which a byte ends
 pub number-ended : (text : List ℕ) (i n : ℕ) (is_last : Bool) → i < length text → 0 < i → i ≤ 9
     → n < 10 ^ i
     → list_all is_ascii_digit (take i text) ≡ true → n ≡ decimal (take i text)
@@ -133,7 +133,7 @@ bool-value b h =
     (λ (e : (b == 49) ≡ true). let is : b ≡ 49 = equal-from b 49 e in rw is (refl, refl))
     (or-cases (b == 48) (b == 49) h)
 
--- a cell of one byte, and the byte that ends it
+-- a text begins with the Boolean of its first byte, 0 or 1, which a byte ends
 pub bool-ended : (text : List ℕ) (x : ℤ) (is_last : Bool) → 2 ≤ length text
     → ((get_or text 0 0 == 48) || (get_or text 0 0 == 49)) ≡ true
     → x ≡ (if get_or text 0 0 == 49 then pos 1 else pos 0)
@@ -149,7 +149,7 @@ bool-ended (b ∷ last ∷ rest) x is_last h bit e end =
       end.1 ∙ sym (last-more b (last ∷ rest) value.0 ∙ last-end last rest end.0),
     )
 
--- a text by its first byte
+-- a text is its first byte, and then the others
 pub by_first : (text : List ℕ) (b : ℕ) → 1 ≤ length text → get_or text 0 0 ≡ b
     → text ≡ b ∷ take (length text - 1) (drop 1 text)
 by_first [] b h e = absurd (omega arith)
@@ -164,7 +164,7 @@ int-negative-in text rest n x is_last h e b s =
     subst (λ t. BeginsWith kind.Int t x rest is_last) (sym (by_first text 45 h e))
     (int-negative (take (length text - 1) (drop 1 text)) rest n x is_last b s)
 
--- the same of what stands after the sign, if there is one
+-- a text begins with a number, with its sign if it has one, where digits follow the sign
 pub int-either : (text digits rest : List ℕ) (negative : Bool) (n : ℕ) (x : ℤ) (is_last : Bool)
     → 1 ≤ length text → negative ≡ (get_or text 0 0 == 45)
     → digits ≡ (if negative then take (length text - 1) (drop 1 text) else text)
@@ -176,7 +176,7 @@ int-either text digits rest true n x is_last h minus is b s =
 int-either text digits rest false n x is_last h minus is b s =
     int-positive text rest n x is_last (subst (λ t. BeginsWithNumber t n rest is_last) is b) s
 
--- the same, with a value as it is stored
+-- a text begins with a value within 32 bits as it is stored
 pub begins-stored : (k : Kind) (text rest : List ℕ) (x : ℤ) (is_last : Bool) → SFits w32 x
     → BeginsWith k text x rest is_last
     → BeginsWith k text (to_z w32 (of_z w32 x)) rest is_last

@@ -1,4 +1,4 @@
--- What is read of records is what they spell.
+-- Soundness: the traces that are read of records are those that the records spell.
 use Rattle.std.proofs.Common.{ℕ, ◌≡◌, ◌+◌, ◌*◌, ◌<◌, ◌≤◌, Bool, true, false, ◌||◌, ◌==◌, not}
 use Rattle.std.proofs.Common.{if◌then◌else◌, List, [], ◌∷◌, ◌++◌, length, map, get_or, Option, Some}
 use Rattle.std.proofs.Common.{None, Result, Ok, Err, ℤ, pos, neg_ℤ, refl, sym, ap, ◌∙◌, subst}
@@ -26,7 +26,7 @@ use Rattle.lb_trace.specs.Refusals.{with_cells, with_instant, with_record, with_
 use Rattle.lb_trace.specs.Spelling.{Instant, Record, SpellsInstant, instants, row_of, under}
 use Rattle.lb_trace.proofs.Names.{IsTraceName-from, and-true, and_true}
 
--- what a choice says that gives a value
+-- a choice between a value and None that gives a value was true, and gave that value
 some_if : {A : Type 0} (b : Bool) (x v : A) → (if b then Some x else None) ≡ Some v
     → (b ≡ true) × (v ≡ x)
 some_if true x v is = (refl, cc is)
@@ -98,7 +98,7 @@ IsRow-cells (e ∷ more) columns cells row is =
           rest.0 rest.1,
     )
 
--- all instants, with one more row of the last trace
+-- one more row of the last trace is one more instant at the end
 instants-row : (traces : Traces) (name : List ℕ) (row : Row) → is_last name traces ≡ true
     → instants (with_row traces row) ≡ instants traces ++ (name, row) ∷ []
 instants-row [] name row last = cc last
@@ -121,12 +121,12 @@ instants-either true traces name row last = instants-row traces name row last
 instants-either false traces name row last =
     flat_map-append (λ (t : Trace). map (λ (r : Row). (t.0, r)) t.1) traces ((name, row ∷ []) ∷ [])
 
--- all instants, with one more
+-- `with_instant` adds one instant at the end
 pub instants-push : (traces : Traces) (name : List ℕ) (row : Row)
     → instants (with_instant name row traces) ≡ instants traces ++ (name, row) ∷ []
 instants-push traces name row = instants-either (is_last name traces) traces name row refl
 
--- what a good record says
+-- a record `r` that is read behind `traces`: it spells an instant, and there is room for it
 pub record Reads (elements : Elements) (columns : Record) (traces next : Traces) (r : Record) : Type
     0 where
   pub instant : Instant
@@ -185,7 +185,7 @@ spelled_row elements columns [] instant spells = absurd spells
 spelled_row elements columns (name ∷ cells) instant spells =
     IsRow-cells elements columns cells instant.1 spells.3
 
--- a name that no trace has
+-- a name that no trace has is not among the names of the traces
 pub none_contains : (name : List ℕ) (traces : Traces)
     → list_any (λ t. bytes_eq name t.0) traces ≡ false → ¬ (Contains (trace_names traces) name)
 none_contains name traces none has =
@@ -198,7 +198,7 @@ none_contains name traces none has =
     ((bytes_eq-Decides name (get_or traces has.0 (name, [])).0).1 (sym same)) in
     cc (none, some)
 
--- what does not come back and is not the last is not there at all
+-- a name that is not the last one comes back where some trace has it
 pub comes_back-other : (name : List ℕ) (traces : Traces) → is_last name traces ≡ false
     → comes_back name traces ≡ list_any (λ t. bytes_eq name t.0) traces
 comes_back-other name traces other =
@@ -250,7 +250,7 @@ IsRecording-instant elements columns traces next r lawful reads =
     (spelled_row elements columns r reads.instant reads.spells) reads.stays parts.0
     (leb-true ((instants_of traces + 1) * cells_of_instant elements) 67108864 parts.1))
 
--- what a reading of records says
+-- a reading of `records` behind `before`: they spell the instants that `after` has more
 pub record Sound (elements : Elements) (columns : Record) (before after : Traces)
     (records : List Record) : Type 0 where
   pub lawful : IsRecording record { signature = elements; traces = after }

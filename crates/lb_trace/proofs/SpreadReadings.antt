@@ -1,4 +1,4 @@
--- What is read of the parts of a text is what the text spells.
+-- The traces that are read of the parts of a text are those that the text spells.
 use Rattle.std.proofs.Common.{ℕ, ◌≡◌, ◌≤◌, true, false, List, [], ◌∷◌, ◌++◌, length, Result, Ok}
 use Rattle.std.proofs.Common.{map, sym, ap, ◌∙◌, subst, get_or, take, drop, ◌-◌, arith}
 use Rattle.std.proofs.lemmas.List.{take_rest}
@@ -23,7 +23,7 @@ use Rattle.lb_trace.specs.Tables.{IsReadBy, IsReadOf, columns_in}
 use Rattle.lb_trace.proofs.PlainRecords.{plain_text}
 use Rattle.lb_trace.proofs.Soundness.{Sound, sound}
 
--- two lists of lists, one after the other
+-- two pairs of related lists, one after the other, are related
 pub zip-append : {A B : Type 0} (R : A → B → Type 0) (xs zs : List A) (ys ws : List B)
     → AllZip R xs ys → AllZip R zs ws → AllZip R (xs ++ zs) (ys ++ ws)
 zip-append R [] zs [] ws h k = k
@@ -47,7 +47,7 @@ zip-weaker R S [] (y ∷ ys) h go = absurd h
 zip-weaker R S (x ∷ xs) [] h go = absurd h
 zip-weaker R S (x ∷ xs) (y ∷ ys) h go = (go x y h.0, zip-weaker R S xs ys h.1 go)
 
--- what is known of each pair and of its second part alone is known of the second parts
+-- a property that each second part has by its pair is one of all second parts
 pub zip-right : {X Y : Type 0} (R : X → Y → Type 0) (P : Y → Type 0) (xs : List X) (ys : List Y)
     → AllZip R xs ys → ((x : X) (y : Y) → R x y → P y) → All P ys
 zip-right R P [] [] h go = All-nil P
@@ -55,7 +55,7 @@ zip-right R P [] (y ∷ ys) h go = absurd h
 zip-right R P (x ∷ xs) [] h go = absurd h
 zip-right R P (x ∷ xs) (y ∷ ys) h go = All-cons P y ys (go x y h.0) (zip-right R P xs ys h.1 go)
 
--- what came of each one, where all worked
+-- results that are all Ok have related values
 oks : {A B : Type 0} (E : Type 0) (R : A → B → Type 0) (xs : List A) (ys : List B)
     → AllZip (λ x y. IfOk {T = B} {E = E} y (R x)) xs (map Ok ys) → AllZip R xs ys
 oks E R [] [] h = tt
@@ -71,7 +71,7 @@ of_collected {E = E} R xs rs all h ys worked same =
     subst (AllZip R xs) (sym same)
     (oks E R xs ys (subst (AllZip (λ x y. IfOk y (R x)) xs) worked h))
 
--- what was read has the signature, and its names are known
+-- recorders that have read parts have the signature, and know their names
 pub same_signatures : (elements : Elements) (table : ColumnTable) (parts : List (Bor (List ℕ)))
     (read : List Recorder)
     → AllZip (λ part one. IsReadBy elements table (plain_records part.now) one) parts read
@@ -82,7 +82,7 @@ same_signatures elements table parts read each =
     (λ (one : Recorder). (one.rows.signature ≡ elements) × knows one.names one.rows.traces)
     parts read each (λ part one h. (h.0.0, h.1))
 
--- a text whose parts were read and joined spells what they spell
+-- a text spells the joined traces of its parts
 pub spread_spells : (elements : Elements) (table : ColumnTable) (text : List ℕ)
     (parts : List (Bor (List ℕ))) (read : List Recorder) (set : Recording)
     → length text ≤ 1073741824
@@ -130,7 +130,7 @@ headed_records header text d rest (part ∷ others) rests some have none begun l
     (sym (take_rest (part ∷ others) 1))
     ∙ ap (λ (ps : List (Bor (List ℕ))). header ∷ flat_map records ps) (sym left)
 
--- the traces of some records alone
+-- the reading of records behind no trace has the traces of these records alone
 pub read_of : (elements : Elements) (table : ColumnTable) (records : List Record) (set : Recording)
     → set.signature ≡ elements
     → with_records elements (columns_in table) [] records ≡ Ok set.traces
@@ -142,7 +142,7 @@ read_of elements table records set same read =
       subst (AllZip (SpellsInstant elements (columns_in table)) records) (sym s.is) s.spelled,
     )
 
--- the same of what a recorder has that began with no trace
+-- `read_of` for a recorder that began with no trace
 pub part_read : (elements : Elements) (table : ColumnTable) (records : List Record)
     (before after set : Recording)
     → before ≡ record { signature = elements; traces = [] }
@@ -155,13 +155,13 @@ part_read elements table records before after set none read same is =
     (ap (λ (r : Recording). with_records r.signature (columns_in table) r.traces records) (sym none)
     ∙ read ∙ ap (λ (r : Recording). Ok r.traces) (sym is))
 
--- the records of a text are those of what follows its byte order mark
+-- the records of a text are those of the text after its byte order mark
 pub records_after_bom : (text body : List ℕ) → body ≡ strip_bom text
     → records_by default_config body ≡ plain_records body → records_of text ≡ plain_records body
 unfolding records_of
 records_after_bom text body is plain = ap (records_by default_config) (sym is) ∙ plain
 
--- the parts of what follows the byte order mark
+-- parts of the text after the byte order mark have the records of the text
 pub cut_records : (text body : List ℕ) (parts shown : List (Bor (List ℕ))) → body ≡ strip_bom text
     → plain_records body ≡ flat_map (λ part. plain_records part.now) parts
     → has_quote body ≡ list_any (λ part. has_quote part.now) parts

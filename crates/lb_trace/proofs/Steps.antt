@@ -8,7 +8,7 @@ use Rattle.lb_trace.specs.Refusals.{with_records}
 use Rattle.lb_trace.specs.Spelling.{Instant, Record, SpellsInstant, row_of}
 use Rattle.lb_trace.proofs.Names.{is_trace_name-true}
 
--- a record that spells an instant, where its name does not come back and there is room
+-- a record that spells an instant adds it, where its name does not come back and there is room
 pub good_record : (elements : Elements) (columns : Record) (traces : Traces) (r : Record)
     (instant : Instant)
     → SpellsInstant elements columns r instant → comes_back instant.0 traces ≡ false

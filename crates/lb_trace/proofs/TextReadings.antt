@@ -28,9 +28,9 @@ use Rattle.lb_trace.proofs.PlainRecords.{plain_text}
 use Rattle.lb_trace.proofs.Readings.{with_records-append}
 use Rattle.lb_trace.proofs.Soundness.{Sound, sound}
 
--- ## What stands behind a header
+-- ## The text behind a header
 
--- the records of a text are the header and those of what stands behind it
+-- the records of a text are the header and those of the text behind it
 pub head_records : (elements : Elements) (table : ColumnTable) (head rest : List ℕ)
     → IsHead elements table head → is_ended head ≡ true
     → records_of (head ++ rest) ≡ fields_of table.header ∷ records default_config rest
@@ -40,7 +40,7 @@ head_records elements table head rest is ended =
     ∙ plain_front (strip_bom head) rest is.plain (strip-ended head is.long ended)
     ∙ ap (λ rs. rs ++ records default_config rest) is.only
 
--- the same where nothing stands behind it
+-- `head_records` where nothing stands behind the header
 pub head_alone : (elements : Elements) (table : ColumnTable) (head : List ℕ)
     → IsHead elements table head
     → records_of (head ++ []) ≡ fields_of table.header ∷ records default_config []
@@ -49,7 +49,7 @@ head_alone elements table head is =
     ap (λ t. records default_config (strip_bom t)) (append-nil head)
     ∙ plain_text (strip_bom head) is.plain ∙ is.only
 
--- the outcome of a text is that of what stands behind its header
+-- the outcome of a text is the reading of the records behind its header
 pub head_outcome : (elements : Elements) (table : ColumnTable) (head rest : List ℕ)
     → IsHead elements table head → (is_ended head ≡ true) ⊎ (rest ≡ [])
     → length (head ++ rest) ≤ 1073741824
@@ -66,17 +66,17 @@ head_outcome elements table head rest is end short =
     (fields_of table.header ∷ records default_config rest) short all
     ∙ reading-rows elements (fields_of table.header) (records default_config rest) is.headed
 
--- ## What stands at the front of a text
+-- ## The front of a text
 
 pub front_none : IsFront [] []
 front_none = record { gives = λ rest. refl }
 
--- whole lines without quotes
+-- whole lines without quotes have their records, whatever follows them
 pub front_ended : (text : List ℕ) → has_quote text ≡ false → is_ended text ≡ true
     → IsFront text (plain_records text)
 front_ended text plain ended = record { gives = λ rest. plain_front text rest plain ended }
 
--- two texts, one after the other
+-- two fronts, one after the other, have the records of both
 pub front_more : (first second : List ℕ) (rows more : List Record) → IsFront first rows
     → IsFront second more → IsFront (first ++ second) (rows ++ more)
 front_more first second rows more one two = record {
@@ -95,7 +95,7 @@ no_mark [] = refl
 no_mark (b ∷ []) = refl
 no_mark (b ∷ c ∷ rest) = refl
 
--- behind the end of a line a text has its records, also where it begins with a byte order mark
+-- behind a line feed a text keeps its records, also where it begins with a byte order mark
 pub line_end_records : (text : List ℕ)
     → records_of (10 ∷ text) ≡ records default_config text
 unfolding records_of
@@ -106,7 +106,7 @@ line_end_records text =
 
 -- ## Parts that are read by themselves
 
--- what a part spells that is read by itself
+-- the records of a part that is read by itself spell the instants that are read of it
 pub part_spells : (elements : Elements) (columns : Record) (records : List Record) (set : Traces)
     → with_records elements columns [] records ≡ Ok set
     → AllZip (SpellsInstant elements columns) records (instants set)
@@ -115,7 +115,7 @@ part_spells elements columns records set read =
     sound elements columns [] set records (IsRecording-none elements) read in
     subst (AllZip (SpellsInstant elements columns) records) (sym s.is) s.spelled
 
--- the records of a part are read as its traces behind others too, where all are lawful together
+-- the records of a part are read as its traces also behind others, where all are lawful together
 pub part_behind : (elements : Elements) (columns : Record) (part : List Record)
     (traces set : Traces)
     → with_records elements columns [] part ≡ Ok set
@@ -124,7 +124,7 @@ pub part_behind : (elements : Elements) (columns : Record) (part : List Record)
 part_behind elements columns part traces set read lawful =
     complete elements columns traces set part lawful (part_spells elements columns part set read)
 
--- the records of two parts, of which each is read by itself, are read as the traces of both
+-- the records of two parts, each read by itself, are read as the traces of both
 pub joined_parts : (elements : Elements) (columns : Record) (done part : List Record)
     (traces set : Traces)
     → with_records elements columns [] done ≡ Ok traces
@@ -136,7 +136,7 @@ joined_parts elements columns done part traces set first second lawful =
     ∙ ap (then_read (λ t. with_records elements columns t part)) first
     ∙ part_behind elements columns part traces set second lawful
 
--- a refusal behind the traces of a part is one of the records of both
+-- a refusal of records behind the traces of a part is the refusal of the records of both
 pub refused_behind : (elements : Elements) (columns : Record) (done more : List Record)
     (traces : Traces) (e : TraceError)
     → with_records elements columns [] done ≡ Ok traces
@@ -148,7 +148,7 @@ refused_behind elements columns done more traces e first bad =
     ∙ ap (then_read (λ t. with_records elements columns t more)) first))
     bad
 
--- a refusal of some records is one of all that begin with them
+-- a refusal of some records is the refusal of all records that begin with them
 pub refused_on : (elements : Elements) (columns : Record) (traces : Traces)
     (some more : List Record) (e : TraceError)
     → IsRefusal (with_records elements columns traces some) e
@@ -160,7 +160,7 @@ refused_on elements columns traces some more e bad =
     ∙ ap (then_read (λ ts. with_records elements columns ts more)) h))
     bad
 
--- a refusal of one record
+-- a refusal of one record is the refusal of the list of this record
 pub refused_one : (elements : Elements) (columns : Record) (traces : Traces) (r : Record)
     (e : TraceError)
     → IsRefusal (with_record elements columns traces r) e

@@ -50,7 +50,7 @@ lane-at text k long fits below =
 abbrev from_zero : ℕ → ℕ
 from_zero x = (x + 54224) % 65536
 
--- a mask of the pairs whose number, from that of a digit 0 and a comma on, passes a test
+-- the mask of the pairs that pass a test; the number of a pair is taken less that of "0,"
 module _ (t : ℕ → ℕ → Bool) (p : List ℕ → ℕ → Bool) where
   abbrev passes : List ℕ → List Bool
   passes text = map (λ k. p text (2 * k)) (range_with_len 0 16)
@@ -132,7 +132,7 @@ and-true : (a : Bool) → (a && true) ≡ a
 and-true true = refl
 and-true false = refl
 
--- a bit of a mask of the pairs
+-- bit `k` of a mask of the pairs is 1 where pair `k` passes the test
 bit-of : (p : List ℕ → ℕ → Bool) (text : List ℕ) (k : ℕ) → k < 16
     → bit_at (mask_l (map (λ j. p text (2 * j)) (range_with_len 0 16))) k
     ≡ cond (p text (2 * k)) 1 0
@@ -228,7 +228,7 @@ cell-after text done more bits group k low back le l =
           ∙ back.bits_are (k - done) j ∙ ap (λ b. b == 49) first,
     )
 
--- the bits of the cells after them, moved up
+-- the bits of `done` cells, and of `more` cells after them moved up, are those of all these cells
 pub bits-joined : (text : List ℕ) (done more bits group : ℕ) → done + more < 64
     → HasBits text done bits → HasBits (drop (2 * done) text) more group
     → HasBits text (done + more) (bits + group * 2 ^ done % 2 ^ 64)

@@ -40,7 +40,7 @@ one-goes_on column columns text long bool is =
       after-more column.kind text (drop 2 text) (truth_at text 0) false begins refl,
     )
 
--- some cells, and then others
+-- cells of the first columns, and then cells of the next ones, are cells of both
 pub both-go_on : (ks ls ms : List Column) (text rest last : List ℕ) (vs ws : List ℤ)
     → GoesOn ks text vs ls rest → GoesOn ls rest ws ms last → GoesOn ks text (vs ++ ws) ms last
 both-go_on ks ls ms text rest last vs ws one two = (
@@ -83,7 +83,7 @@ four-texts a b c d columns (s ∷ t ∷ u ∷ v ∷ w ∷ x ∷ y ∷ z ∷ rest
     (one-goes_on c (d ∷ columns) four (omega arith) kc are.2)
     (one-goes_on d columns six (omega arith) kd are.3)))
 
--- four columns of Booleans go on with the digits at every second byte
+-- the digits at every second byte are the cells of the first four columns, all of Booleans
 four-go_on : (columns : List Column) (p q r s : Column) (text : List ℕ) (values : List ℤ)
     → 3 < length columns → 7 < length text
     → (get_or columns 0 p).kind ≡ kind.Bool → (get_or columns 1 q).kind ≡ kind.Bool
@@ -110,7 +110,7 @@ stored-truth : (t : Bool) (x : ℤ) → x ≡ (if t then pos 1 else pos 0)
 stored-truth true x e = ap stored e
 stored-truth false x e = ap stored e
 
--- the same, with values as they are stored
+-- `four-go_on` with the values as they are stored
 pub four-read : (columns : List Column) (p q r s : Column) (text : List ℕ) (x y z w : ℤ)
     → 3 < length columns → 7 < length text
     → (get_or columns 0 p).kind ≡ kind.Bool → (get_or columns 1 q).kind ≡ kind.Bool
@@ -132,7 +132,7 @@ four-read columns p q r s text x y z w more long kp kq kr ks are ex ey ez ew =
           (λ i. one i ∷ two i ∷ three i ∷ four i ∷ []),
     )
 
--- the same of the columns from one on, with the values after a row
+-- four values behind a row are the next cells of the columns from place `i` on
 pub goes-on-from : (columns some : List Column) (i : ℕ) (text rest further : List ℕ)
     (values row next : List ℤ) → some ≡ drop i columns → rest ≡ further
     → next ≡ row ++ values → GoesOn some text values (drop 4 some) further
@@ -199,7 +199,7 @@ all-hit s t u v w x y z rest fits all =
       (digit-hit y (fits 6) seven.0, comma-hit z (fits 7) eight.0),
     )
 
--- a mask of eight lanes with all bits set
+-- four digits 0 or 1, each before a comma, stand where the mask of eight lanes has all bits set
 pub all-truths : (text z : List ℕ) (mask : ℕ) → 7 < length text
     → ((k : ℕ) → Fits w8 (get_or text k 0))
     → mask ≡ mask_l (map (top 7) z) % 2 ^ 64

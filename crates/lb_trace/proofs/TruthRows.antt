@@ -1,4 +1,4 @@
--- The row of a record whose cells are Booleans alone.
+-- The row of a record whose cells are all Booleans.
 use Rattle.std.proofs.Common.{ℕ, zero, suc, ◌≡◌, ◌+◌, ◌-◌, ◌*◌, ◌%◌, ◌^◌, ◌<◌, ◌≤◌, Bool, true}
 use Rattle.std.proofs.Common.{false, ◌==◌, ◌||◌, if◌then◌else◌, List, [], ◌∷◌, ◌++◌, length, get_or}
 use Rattle.std.proofs.Common.{map, drop, Some, ℤ, pos, refl, sym, ap, ◌∙◌, subst, arith}
@@ -28,7 +28,7 @@ use Rattle.lb_trace.proofs.SmallNumbers.{bool-ended, equal-from}
 use Rattle.lb_trace.proofs.TruthBits.{bits-fit}
 use Rattle.lb_trace.proofs.TruthCells.{truth-begins}
 
--- the Booleans of the first cells
+-- the Booleans of the first `n` cells
 abbrev ones : List ℕ → ℕ → List ℤ
 ones text n = map (λ k. truth_cell (is_one text (2 * k))) (range_with_len 0 n)
 
@@ -52,7 +52,7 @@ next-of : (text : List ℕ) (n : ℕ) → drop 2 (drop (2 * n) text) ≡ drop (2
 next-of text n =
     drop-drop 2 (2 * n) text ∙ ap (λ i. drop i text) (omega arith)
 
--- a cell with a comma after it
+-- the text from cell `n` on begins with its Boolean, which a comma ends
 inner-begins : (text : List ℕ) (count bits n : ℕ) → HasBits text count bits → n < count
     → BeginsWith kind.Bool (drop (2 * n) text) (truth_cell (is_one text (2 * n)))
     (drop (2 * (n + 1)) text) false
@@ -71,7 +71,7 @@ inner-begins text count bits n has l =
     (λ t. BeginsWith kind.Bool here (if get_or here 0 0 == 49 then pos 1 else pos 0) t false)
     (next-of text n) begins)
 
--- so many cells have been read
+-- the first `n` cells of `text` have been read
 record Walked (columns : List Column) (text : List ℕ) (n : ℕ) : Type 0 where
   pub row :
       plain_row columns (record_of text)
@@ -112,7 +112,7 @@ walked columns text count bits (suc n) booleans has le room =
     (one-more columns text count bits n booleans has (omega (arith, le)) room
     (walked columns text count bits n booleans has (omega (arith, le)) room))
 
--- a cell at the end of a line
+-- a text begins with the Boolean of its first byte, which the end of a line ends
 last-begins : (text : List ℕ) → 2 ≤ length text
     → ((get_or text 0 0 == 48) || (get_or text 0 0 == 49)) ≡ true
     → ends_line (get_or text 1 0) ≡ true
@@ -130,7 +130,7 @@ last-begins text long digit end =
         by true e = refl
         by false e = e
 
--- the bits of all cells
+-- the bits of the first `last` cells and of the last cell are those of all cells
 all-bits : (text : List ℕ) (last bits one k : ℕ) → HasBits text last bits → k < last + 1
     → (one == 1) ≡ is_one text (2 * last) → one < 2
     → (bit_at (bits + one * 2 ^ last) k == 1) ≡ is_one text (2 * k)
@@ -174,7 +174,7 @@ digit-one b e = (
   grind (arith, nat_tests),
 )
 
--- what the cells of a record spell whose last one has been read too
+-- the row that the `count` cells of a record spell, the bits of `word`, and the end of its line
 pub record Spelled (text : List ℕ) (count word : ℕ) : Type 0 where
   pub fits : word < 2 ^ 64
   pub row :
@@ -239,7 +239,7 @@ spelled text last bits one few has long digit end is =
       small = fit.1;
     })
 
--- the same, with the number of all cells
+-- the bits of `count - 1` cells and of the last one spell the row of all `count` cells
 pub spells : (text rest : List ℕ) (count done bits one : ℕ) → 0 < count → count ≤ 64
     → done ≤ count - 1 → count - 1 ≤ done → HasBits text done bits → rest ≡ drop (2 * done) text
     → 2 ≤ length rest → ((get_or rest 0 0 == 48) || (get_or rest 0 0 == 49)) ≡ true

@@ -14,9 +14,8 @@ use Rattle.std.proofs.lemmas.Bool.Decides.{nat_tests}
 use Rattle.std.proofs.lemmas.List.{drop-map, get_or-drop, get_or-map, get_or-take, get_or_default}
 use Rattle.std.proofs.lemmas.List.{length-drop, length-map, length-take-le, same_lists, take-map}
 use Rattle.std.proofs.lemmas.Simd.{Each1-from_get_or, Each1-weaker, get_or-sel_l, get_or-zip2}
-use Rattle.std.proofs.lemmas.Simd.{get_or_narrower, get_or_wider, length-sel_l, length-zip2, map-map}
-use Rattle.std.proofs.lemmas.Simd.{tops_compared, zip2_splat}
-use Rattle.std.proofs.lemmas.Simd.{zip2_splat_left}
+use Rattle.std.proofs.lemmas.Simd.{get_or_narrower, get_or_wider, length-sel_l, length-zip2}
+use Rattle.std.proofs.lemmas.Simd.{map-map, tops_compared, zip2_splat, zip2_splat_left}
 use Rattle.std.specs.List.{list_any}
 use lib.Bits.{and_mask, bit_and}
 use lib.Lanes.{Each1, digits_l, number_l, sel_l, top, zip2}
@@ -36,7 +35,7 @@ two-from p (x ∷ rest) (suc i) room =
     ∙ ap (λ j. get_or rest i 0 + p * get_or (x ∷ rest) j 0)
     (let next : suc (i + 1) ≡ suc i + 1 = omega arith in next)
 
--- a lane of twice the width is made of two
+-- a lane of twice the width is made of two lanes
 pub wide-lane : (p q n : ℕ) (xs : List ℕ) (j : ℕ) → q ≡ p ^ 2 → Each1 (λ x. x < p) xs
     → length xs ≡ 2 * n → j < n
     → get_or (digits_l q n (number_l p xs)) j 0 ≡ get_or xs (2 * j) 0 + p * get_or xs (2 * j + 1) 0
@@ -45,7 +44,7 @@ wide-lane p q n xs j square small long below =
     ∙ two-from p xs (2 * j) (omega (arith, below, long))
 
 module _ (f g : ℕ → ℕ → ℕ) where
-  -- two operations of all lanes with one value each
+  -- two operations on all lanes, each with one value, are two operations on each lane
   pub lane-twice : (xs : List ℕ) (n a b j : ℕ) → length xs ≡ n → j < n
       → get_or (zip2 f (zip2 g xs (replicate n a)) (replicate n b)) j 0 ≡ f (g (get_or xs j 0) a) b
   lane-twice xs n a b j long below =
@@ -66,7 +65,7 @@ below-from : (m : ℕ) (xs : List ℕ) → All (λ x. x < m) xs → (p : ℕ) �
 below-from m xs all p le =
     Each1-from_get_or (λ x. x < p) xs 0 (λ i l. omega (arith, all i 0 l, le))
 
--- what the code computes of all digits
+-- the vector of pairs that the code computes of all digits
 abbrev pub pair_lanes : List ℕ → List ℕ
 pair_lanes digits =
     zip2 (λ a b. a / 2 ^ b) (zip2 (λ a b. a * b % 65536)
@@ -86,7 +85,7 @@ pairs-lane digits j long small below =
 
 -- ## Fours
 
--- the number of some digits
+-- a number below `256 ^ n` is made of its `n` digits of base 256
 number-again : (n x : ℕ) → x < 256 ^ n → number_l 256 (digits_l 256 n x) ≡ x
 number-again zero x small = omega (arith, small)
 number-again (suc n) x small =
@@ -94,7 +93,7 @@ number-again (suc n) x small =
     let rest : x / 256 < 256 ^ n = omega (arith, small, power) in
     ap (λ r. x % 256 + 256 * r) (number-again n (x / 256) rest) ∙ omega arith
 
--- lanes are less than this as one number
+-- lanes below `p` make a number below `p` to the power of their number
 number-below : (p : ℕ) (xs : List ℕ) → Each1 (λ x. x < p) xs → number_l p xs < p ^ length xs
 number-below p [] small = subst (λ n. 0 < n) (sym (pow-zero p)) (omega arith)
 number-below p (x ∷ xs) small =
@@ -107,7 +106,7 @@ number-below p (x ∷ xs) small =
       pow-succ' p (length xs),
     )
 
--- a lane of twice the width, by way of the bytes
+-- a lane of twice the width, by way of the bytes, is made of two lanes
 pub wide-by_bytes : (p q n m : ℕ) (xs : List ℕ) (j : ℕ) → q ≡ p ^ 2 → p ^ (2 * n) ≡ 256 ^ m
     → Each1 (λ x. x < p) xs → length xs ≡ 2 * n → j < n
     → get_or (digits_l q n (number_l 256 (digits_l 256 m (number_l p xs)))) j 0
@@ -122,7 +121,7 @@ four-of : (a b : ℕ) → a < 100 → b < 100
     → (a + 65536 * b) * 6553601 % 4294967296 / 65536 ≡ a * 100 + b
 four-of a b la lb = omega arith
 
--- what the code computes of all pairs
+-- the vector of fours that the code computes of all pairs
 abbrev pub four_lanes : List ℕ → List ℕ
 four_lanes pairs =
     zip2 (λ a b. a / 2 ^ b) (zip2 (λ a b. a * b % 4294967296)
@@ -158,7 +157,7 @@ eight-from a b la lb =
     % 18446744073709551616) low
     ∙ omega arith
 
--- what the code computes of all fours
+-- the vector of eights that the code computes of all fours
 abbrev pub eight_lanes : List ℕ → List ℕ
 eight_lanes fours =
     zip2 (λ a b. (a + b) % 18446744073709551616)
@@ -374,7 +373,7 @@ turned-below m n small = by (m == 0) refl
     by true is = rw is (omega (arith, small))
     by false is = rw is (omega arith)
 
--- lanes that are turned are numbers of 32 bits
+-- lanes of `turned` numbers are below 2^32
 pub turned-small : (minus numbers lanes : List ℕ) → length lanes ≡ 4 → length numbers ≡ 4
     → All (λ n. n < 100000000) numbers
     → ((j : ℕ) → j < 4 → get_or lanes j 0 ≡ turned (get_or minus j 0) (get_or numbers j 0))
@@ -403,7 +402,7 @@ value-from m n small = by (m == 0) refl
     by true is = rw is (positive n small)
     by false is = rw is (negative n small)
 
--- four values, as they are stored
+-- four lanes of `turned` numbers, as they are stored, are the numbers with their signs
 pub values-are : (minus numbers lanes : List ℕ) (a b c d : ℤ) → length minus ≡ 4 → length numbers ≡ 4
     → All (λ n. n < 100000000) numbers
     → ((j : ℕ) → j < 4 → get_or lanes j 0 ≡ turned (get_or minus j 0) (get_or numbers j 0))
@@ -449,7 +448,7 @@ digit-place (suc n) x (suc i) below =
 abbrev bytes_in : List ℕ → List ℕ
 bytes_in words = digits_l 256 32 (number_l 18446744073709551616 words)
 
--- a byte of a word
+-- byte `r` of word `j` is byte `8 * j + r` of all words
 byte-at : (words : List ℕ) (j r : ℕ) → length words ≡ 4
     → Each1 (λ w. w < 18446744073709551616) words → j < 4 → r < 8
     → get_or (bytes_in words) (8 * j + r) 0 ≡ get_or (bytes_of (get_or words j 0)) r 0
@@ -483,7 +482,7 @@ digits-small words long fits all =
     ∙ ap (λ k. get_or (bytes_in words) k 0 - 48) (sym place)
     ∙ ap (λ b. b - 48) (byte-at words j r long fits here few))) digit)
 
--- sums of two are small
+-- numbers that are made of two lanes below `m` are below `m * m`
 pub sums-small : (m : ℕ) (parts : List ℕ) (sums : List ℕ) (n : ℕ) → length parts ≡ 2 * n
     → length sums ≡ n → All (λ d. d < m) parts
     → ((j : ℕ) → j < n → get_or sums j 0 ≡ get_or parts (2 * j) 0 * m + get_or parts (2 * j + 1) 0)
@@ -502,7 +501,7 @@ eight-joined : (a b c d e f g h n : ℕ)
 unfolding joined
 eight-joined a b c d e f g h n is = omega (arith, is)
 
--- the number of a lane
+-- lane `j` of the eights is the number of the digits of word `j`
 pub number-lane : (words digits pairs fours eights : List ℕ) (j : ℕ) → length words ≡ 4
     → Each1 (λ w. w < 18446744073709551616) words → digits ≡ map (λ b. b - 48) (bytes_in words)
     → ((k : ℕ) → k < 16 → get_or pairs k 0
@@ -558,7 +557,7 @@ number-lane words digits pairs fours eights j long fits is two four eight below 
     at : (xs : List ℕ) (i k : ℕ) → i ≡ k → get_or xs i 0 ≡ get_or xs k 0
     at xs i k e = ap (λ m. get_or xs m 0) e
 
--- the bytes of a word
+-- the bytes of word `j` are the eight from `8 * j` on of all words
 word-bytes : (words : List ℕ) (j : ℕ) → length words ≡ 4
     → Each1 (λ w. w < 18446744073709551616) words → j < 4
     → take 8 (drop (8 * j) (bytes_in words)) ≡ bytes_of (get_or words j 0)
@@ -581,7 +580,7 @@ not-not : (a b : Bool) → a ≡ not b → not a ≡ b
 not-not a true is = ap not is
 not-not a false is = ap not is
 
--- the values of all words
+-- the eights with their signs are the values of all words
 pub all-values : (words digits pairs fours eights minus : List ℕ) → length words ≡ 4
     → Each1 (λ w. w < 18446744073709551616) words → digits ≡ map (λ b. b - 48) (bytes_in words)
     → ((k : ℕ) → k < 16 → get_or pairs k 0

@@ -19,7 +19,7 @@ one-more front before xs i n v next room is =
     ap (λ k. take k (slice_set xs i v)) next ∙ take_more_set xs i v room
     ∙ ap (λ l. l ++ v ∷ []) is ∙ append_assoc front before (v ∷ [])
 
--- four cells from a place on
+-- four values that are written from place `i` on stand behind the first `i` cells
 pub four-written : (xs values : List ℤ) (i : ℕ) (a b c d : ℤ) → i + 4 ≤ length xs
     → length values ≡ 4 → a ≡ get_or values 0 (pos 0) → b ≡ get_or values 1 (pos 0)
     → c ≡ get_or values 2 (pos 0) → d ≡ get_or values 3 (pos 0)

@@ -1,4 +1,4 @@
--- What the cells of a trace text spell.
+-- The values that the cells of a trace text spell.
 -- Source: this project's rule.
 use Rattle.std.specs.Prelude.{ℕ, ◌+◌, ◌-◌, ◌*◌, Bool as Truth, true, false, ◌==◌, ◌&&◌, ◌||◌}
 use Rattle.std.specs.Prelude.{nat_le, if◌then◌else◌, List, [], ◌∷◌, length, Option, Some, None, ℤ}
@@ -40,7 +40,7 @@ bool_of cell =
     else if bytes_eq cell (codes "0") || bytes_eq cell (codes "false") then Some (pos 0)
     else None
 
--- what a cell of a kind spells
+-- the value that a cell spells in a column of this kind
 abbrev pub cell_value : Kind → List ℕ → Option ℤ
 cell_value Int cell = int_of cell
 cell_value Bool cell = bool_of cell

@@ -1,4 +1,4 @@
--- What a reading of a trace text answers: the promise of this crate.
+-- The result of reading a trace text: the promise of this crate.
 -- Source: this project's rule.
 use Rattle.std.specs.Prelude.{◌≡◌, ℕ, List, Result, IfOk, IfErr}
 use Rattle.lb_static.specs.Signature.{Elements}
@@ -7,8 +7,8 @@ use Rattle.lb_trace.specs.Errors.{Refuses}
 use Rattle.lb_trace.specs.Spelling.{Spells}
 use Rattle.lb_trace.specs.declared.error.TraceError.{TraceError}
 
--- the traces that a text spells under a signature, and no others; or its first refusal, where it
--- spells none, or a growth was refused
+-- the result of reading `text`: the traces that it spells under a signature, and no others; or its
+-- first refusal, where it spells none; or a refused growth
 pub record IsTraceReading
     (elements : Elements) (text : List ℕ) (read : Result Recording TraceError)
     : Type 0 where

@@ -17,12 +17,12 @@ error_number (fault.Cell r c) = 16
 error_number (fault.Trace r) = 17
 error_number (fault.Limit r) = 18
 
--- an error is what stands in place of traces, or a growth was refused
+-- the error `e` has the number that stands in `outcome`, or a growth was refused
 abbrev pub IsRefusal : Result Traces ℕ → TraceError → Type 0
 IsRefusal outcome e = (error_number e ≡ 0) ⊎ (outcome ≡ Err (error_number e))
 
--- an error of a reading: a growth was refused, or it is the first refusal of a text that spells
--- nothing
+-- an error of reading `text`: a growth was refused, or it is the first refusal of `text`, which
+-- spells no traces
 abbrev pub Refuses : Elements → List ℕ → TraceError → Type 0
 Refuses elements text e =
     (error_number e ≡ 0)

@@ -6,11 +6,11 @@ use Rattle.std.specs.Char.{is_ascii_digit}
 use Rattle.std.specs.List.{fold, list_all}
 use lib.Lanes.{digits_l, mask_l, number_l}
 
--- the bytes that are no digits, as the bits of a number
+-- the bytes that are no digits, as bits: bit `i` is 1 where byte `i` of `text` is no digit
 abbrev pub others : List ℕ → ℕ
 others text = mask_l (map (λ b. not (is_ascii_digit b)) text)
 
--- what stands after the sign, if there is one
+-- the text after its sign, if it has one
 abbrev pub past_sign : Bool → List ℕ → List ℕ
 past_sign true text = drop 1 text
 past_sign false text = text
@@ -19,8 +19,8 @@ abbrev pub sign_len : Bool → ℕ
 sign_len true = 1
 sign_len false = 0
 
--- so many bytes after the sign are digits, and end within the first eight of the text; a number
--- above 7 says nothing
+-- the first `count` bytes after the sign are digits, and the next byte is among the first eight of
+-- `text`; a `count` above 7 claims nothing
 abbrev pub CountsDigits : Bool → List ℕ → ℕ → Type 0
 CountsDigits negative text count =
     count ≤ 7
@@ -31,11 +31,11 @@ CountsDigits negative text count =
 unfoldable pub bytes_of : ℕ → List ℕ
 bytes_of n = digits_l 256 8 n
 
--- so many digits at the front of a text, after as many digits 0 as make them eight
+-- the first `count` digits of `text`, behind as many 0 as make them eight: 0 0 0 0 0 0 5 7 for 57
 unfoldable pub lone : ℕ → List ℕ → List ℕ
 lone count text = replicate (8 - count) 0 ++ map (λ b. b - 48) (take count text)
 
--- the number of some digits
+-- the number that decimal digits stand for, the highest one first
 unfoldable pub joined : List ℕ → ℕ
 joined digits = fold (λ n digit. n * 10 + digit) 0 digits
 

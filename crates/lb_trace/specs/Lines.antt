@@ -1,4 +1,4 @@
--- The record at the front of a text, and what comes after it.
+-- The record at the front of a text, and the text after it.
 -- This file says what the code finds in a text; no definition of the language stands on it.
 use Rattle.std.specs.Prelude.{ℕ, if◌then◌else◌, List, [], ◌∷◌}
 use Rattle.lb_trace.specs.Plain.{ends_line, is_comma, split_at}

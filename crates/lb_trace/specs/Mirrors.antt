@@ -13,7 +13,7 @@ use Rattle.lb_static.specs.Signature.{Element, Elements}
 use Rattle.lb_traces.specs.Traces.{IsRow, Row, Traces, cells_of_instant, instants_of, last_rows}
 use Rattle.lb_traces.specs.Traces.{trace_names, with_row, with_trace}
 use Rattle.lb_trace.specs.declared.header.Column.{Column}
-use Rattle.lb_trace.specs.declared.known.Known.{Known}
+use Rattle.lb_trace.specs.declared.seen_names.SeenNames.{SeenNames}
 use Rattle.lb_trace.specs.declared.name_table.NameTable.{NameTable}
 use Rattle.lb_trace.specs.Cells.{cell_value}
 use Rattle.lb_trace.specs.NamePlaces.{HavePlaces}
@@ -49,7 +49,7 @@ pub record IsTableOf (table : NameTable) (names : List (List ℕ)) : Type 0 wher
 
 -- the names of the traces are known: while they rise no trace has a name above the last one, and
 -- otherwise the table has them
-abbrev pub knows : Known → Traces → Type 0
+abbrev pub knows : SeenNames → Traces → Type 0
 knows names traces =
     (names.rising ≡ true → (q : List ℕ) → rises_to traces q ≡ true
     → list_any (λ t. bytes_eq q t.0) traces ≡ false)
@@ -63,7 +63,8 @@ record_by elements table width traces (name ∷ cells) =
     else if not (is_trace_name name) || comes_back name traces then Err 17
     else with_cells elements name traces (row_by table cells)
 
--- what is left of a record of the last trace, after its length and its name
+-- the traces with one more row of the last trace, or the number of its refusal; the length and the
+-- name of its record are right
 abbrev pub go_on_by : Elements → Traces → Option Row → Result Traces ℕ
 go_on_by elements traces None = Err 16
 go_on_by elements traces (Some row) =
@@ -71,7 +72,8 @@ go_on_by elements traces (Some row) =
     && nat_le ((instants_of traces + 1) * cells_of_instant elements) 67108864
     then Ok (with_row traces row) else Err 18
 
--- what is left of a record of another trace, after its length
+-- the traces with one more trace, of one row, or the number of its refusal; the length and the name
+-- of its record are right
 abbrev pub start_cells : Elements → List ℕ → Traces → Option Row → Result Traces ℕ
 start_cells elements name traces None = Err 16
 start_cells elements name traces (Some row) =
@@ -84,7 +86,7 @@ start_by elements name traces row =
     if not (is_trace_name name) || list_any (λ t. bytes_eq name t.0) traces then Err 17
     else start_cells elements name traces row
 
--- what is left of a record, after its length: it is of the last trace, or of another
+-- the traces with one more record whose length is right: it is of the last trace, or of another
 abbrev pub add_by : Elements → List ℕ → Traces → Option Row → Result Traces ℕ
 add_by elements name traces row =
     if is_last name traces then go_on_by elements traces row

@@ -1,4 +1,4 @@
--- Where names stand in a table: each at one of the two places that its hashes give, unless other
+-- The places of names in a table: each name has one of the two that its hashes give, unless other
 -- names were there before it.
 -- Source: this project's rule.
 use Rattle.std.specs.Prelude.{◌≡◌, ◌≢◌, ℕ, ◌+◌, ◌*◌, ◌/◌, ◌^◌, ◌<◌, ◌≤◌, ◌⊎◌, Bool, true, List}
@@ -7,7 +7,7 @@ use Rattle.std.specs.Hash.FoldHasher.{finish, initial, write}
 use Rattle.std.specs.List.{list_any}
 use Rattle.std.specs.Str.{bytes_eq}
 
--- the hashes of a name: the second one is that of the bytes of "second" and then of the name
+-- the two hashes of a name: the second one is the hash of the bytes of "second" and then the name
 abbrev pub first_hash : List ℕ → ℕ
 first_hash name = finish (write initial name)
 
@@ -15,7 +15,7 @@ abbrev pub second_hash : List ℕ → ℕ
 second_hash name =
     finish (write (write initial (115 ∷ 101 ∷ 99 ∷ 111 ∷ 110 ∷ 100 ∷ [])) name)
 
--- the place among so many that a hash gives
+-- the place, of `count` places, that a hash gives
 abbrev pub place_among : ℕ → ℕ → ℕ
 place_among count hash = hash / 2 ^ 32 * count / 2 ^ 32
 
@@ -25,16 +25,16 @@ first_among count name = place_among count (first_hash name)
 abbrev pub second_among : ℕ → List ℕ → ℕ
 second_among count name = place_among count (second_hash name)
 
--- what stands at the places of a name
+-- the numbers that stand at the two places of a name
 abbrev pub at_first : List ℕ → List ℕ → ℕ
 at_first places name = get_or places (first_among (length places) name) 0
 
 abbrev pub at_second : List ℕ → List ℕ → ℕ
 at_second places name = get_or places (second_among (length places) name) 0
 
--- each of the first n names stands at its first place, by its number from 1, or another name does;
--- then it stands at its second place, or another name does; then it is among the others, all of
--- which are names
+-- each of the first `n` names stands, by its number counted from 1, at its first place; or, where
+-- another name stands there, at its second place; or, where another name stands there too, it is
+-- among the others; each of the others is one of `names`
 pub record HavePlaces (places : List ℕ) (has : List ℕ → Bool) (names : List (List ℕ)) (n : ℕ) :
     Type 0 where
   pub within : (i : ℕ) → get_or places i 0 ≤ n

@@ -19,32 +19,32 @@ AreIntegers (a ∷ b ∷ c ∷ []) = ⊥
 AreIntegers (a ∷ b ∷ c ∷ d ∷ more) =
     (a.kind ≡ Int) × (b.kind ≡ Int) × (c.kind ≡ Int) × (d.kind ≡ Int)
 
--- a byte of a number: a digit, or a minus sign before a digit that follows none
+-- the byte at `i` is one of a number: a digit, or a minus sign before a digit and after no digit
 abbrev pub IsInside : List ℕ → ℕ → Type 0
 IsInside text i =
     (is_ascii_digit (get_or text i 0) ≡ true)
     ⊎ ((get_or text i 0 ≡ 45) × (0 < i → is_ascii_digit (get_or text (i - 1) 0) ≡ false)
     × (is_ascii_digit (get_or text (i + 1) 0) ≡ true))
 
--- where the digits of a number begin that stands at a place
+-- the place of the first digit of the number that stands at `start`
 abbrev pub digits_from : List ℕ → ℕ → ℕ
 digits_from text start = if get_or text start 0 == 45 then start + 1 else start
 
--- a number of at most eight bytes stands from a place up to another
+-- a number of at most eight bytes stands in `text` from `start` up to `end`
 pub record IsNumberIn (text : List ℕ) (start end : ℕ) : Type 0 where
   pub short : end ≤ start + 8
   pub some : digits_from text start < end
   pub digits :
       (i : ℕ) → digits_from text start ≤ i → i < end → is_ascii_digit (get_or text i 0) ≡ true
 
--- the place of the lowest bit that is set, and the others
+-- `place` is that of the lowest bit set in `bits`, and `others` are the bits above it
 pub record IsLowest (bits place others : ℕ) : Type 0 where
   pub set : bit_at bits place ≡ 1
   pub below : (i : ℕ) → i < place → bit_at bits i ≡ 0
   pub gone : (i : ℕ) → i ≤ place → bit_at others i ≡ 0
   pub kept : (i : ℕ) → place < i → bit_at others i ≡ bit_at bits i
 
--- a text begins with four numbers; the last one ends at a place
+-- `text` begins with four cells that spell `values`; the fourth ends at `end`, if a cell ends there
 pub record AreFour (text : List ℕ) (values : List ℤ) (end : ℕ) : Type 0 where
   pub second : ℕ
   pub third : ℕ

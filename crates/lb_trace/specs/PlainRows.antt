@@ -11,8 +11,8 @@ use Rattle.lb_trace.specs.Cells.{cell_value, natural_of}
 use Rattle.lb_trace.specs.Scan.{after_cell, cell_of, is_last_cell}
 use Rattle.lb_trace.specs.Spelling.{Record}
 
--- the row that the cells spell, one for each column; None where one spells nothing, or their number
--- is another
+-- the row that the cells spell, one for each column; None where a cell is no value of its column,
+-- or there are more or fewer cells than columns
 unfoldable pub plain_row : List Column → Record → Option (List ℤ)
 plain_row [] [] = Some []
 plain_row [] (cell ∷ cells) = None
@@ -21,31 +21,31 @@ plain_row (column ∷ columns) (cell ∷ cells) =
     option_and_then (λ v. option_map (λ row. v ∷ row) (plain_row columns cells))
     (cell_value column.kind cell)
 
--- each column stands where its place in this list is, counted from a number on
+-- the columns stand, in this order, at the places `n`, `n + 1`, ..
 abbrev pub AreInOrder : ℕ → List Column → Type 0
 AreInOrder n [] = Unit {0}
 AreInOrder n (column ∷ columns) = (column.at ≡ n) × AreInOrder (suc n) columns
 
--- a column of this kind stands at the place of this one
+-- `placed` has, at the place of `column`, a column of its kind
 abbrev pub IsPlaced : List Column → Column → Type 0
 IsPlaced placed column =
     (column.at < length placed) × ((get_or placed column.at column).kind ≡ column.kind)
 
--- columns in the order of the text have each column of a table at its place
+-- `placed`, the columns in the order of the text, has each column of `table` at its place
 abbrev pub ArePlaced : List Column → List Column → Type 0
 ArePlaced placed table = All (IsPlaced placed) table
 
--- a row after some values that stand already
+-- the values of `more` behind those of `row`
 abbrev pub onto : List ℤ → Option (List ℤ) → Option (List ℤ)
 onto row more = option_map (λ values. row ++ values) more
 
--- a text begins with a cell that spells a value; what stands after it, and whether it is the last
+-- `text` begins with a cell of `value`; `rest` follows it; `is_last`: whether it ends its record
 abbrev pub BeginsWith : Kind → List ℕ → ℤ → List ℕ → Bool → Type 0
 BeginsWith kind text value rest is_last =
     (cell_value kind (cell_of text) ≡ Some value) × (rest ≡ after_cell text)
     × (is_last ≡ is_last_cell text)
 
--- the same for a number without a sign, of at most nine digits
+-- `BeginsWith` for a number `n` without a sign, below 1,000,000,000
 abbrev pub BeginsWithNumber : List ℕ → ℕ → List ℕ → Bool → Type 0
 BeginsWithNumber text n rest is_last =
     (natural_of (cell_of text) ≡ Some n) × (n < 1000000000) × (rest ≡ after_cell text)

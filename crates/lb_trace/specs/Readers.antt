@@ -1,4 +1,4 @@
--- How far a reader of a text has come.
+-- The state of a reader of a text: the records that it has given.
 -- Source: the csv crate's specification of a reader.
 use Rattle.std.specs.Prelude.{ℕ, ◌≡◌, Bool as Truth, true, false, List, [], ◌∷◌, ◌++◌, Option, Some}
 use Rattle.std.specs.Borrow.{Bor}
@@ -24,7 +24,7 @@ pub record Reaches (text : List ℕ) (records : List Record) (reader : TextReade
   pub source : source_of left reader ≡ Some rest
   pub reached : Reached default_config st.StartRecord (strip_bom text) records reader.state rest
 
--- a reader that had given some records has given one more, or there is none
+-- a reader that had given `records` has given `fields` as one more, or there is no more
 abbrev pub Goes : List ℕ → List Record → TextReader → Record → Truth → Type 0
 Goes text records reader fields true = Reaches text (records ++ fields ∷ []) reader
 Goes text records reader fields false = records_of text ≡ records

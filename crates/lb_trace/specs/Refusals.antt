@@ -36,8 +36,8 @@ abbrev pub with_instant : List ℕ → Row → Traces → Traces
 with_instant name row traces =
     if is_last name traces then with_row traces row else with_trace traces name row
 
--- the traces with the row of one more record, or 16 where there is none, or 18 where there is no
--- room
+-- the traces with the row of one more record, or 16 where its cells spell no row, or 18 where there
+-- is no room
 abbrev pub with_cells : Elements → List ℕ → Traces → Option Row → Result Traces ℕ
 with_cells elements name traces None = Err 16
 with_cells elements name traces (Some row) =
@@ -52,7 +52,7 @@ with_record elements columns traces (name ∷ cells) =
     else if not (is_trace_name name) || comes_back name traces then Err 17
     else with_cells elements name traces (row_of elements columns cells)
 
--- the rest of a reading, after a record
+-- the reading `more` of further records, unless the record before them is refused
 abbrev pub then_read : (Traces → Result Traces ℕ) → Result Traces ℕ → Result Traces ℕ
 then_read more (Ok traces) = more traces
 then_read more (Err number) = Err number
@@ -71,8 +71,7 @@ reading elements (header ∷ rows) =
     if is_header elements header then with_records elements (after_first header) [] rows else Err 14
 
 -- the traces of a text, or the number of its first refusal: 18 for its length, 14 for the header,
--- and
--- then what is wrong with the first bad record
+-- and then the number of what is wrong with the first bad record
 unfoldable pub outcome : Elements → List ℕ → Result Traces ℕ
 outcome elements text =
     if nat_le (length text) 1073741824 then reading elements (records_of text) else Err 18

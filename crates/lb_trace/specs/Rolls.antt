@@ -1,4 +1,4 @@
--- Traces whose rows have been let go, and what is known of them still.
+-- Rolls: the names and lengths of traces whose rows have been dropped.
 -- This file says what data of the program mean; no definition of the language stands on it.
 use Rattle.std.specs.Prelude.{ℕ, ◌≡◌, ◌<◌, ◌≤◌, ◌+◌, ◌-◌, ◌*◌, ◌&&◌, Bool as Truth, List, [], ◌∷◌}
 use Rattle.std.specs.Prelude.{◌++◌, length, map, get_or, nat_le, nat_lt}
@@ -13,11 +13,11 @@ use Rattle.lb_trace.specs.Mirrors.{knows}
 use Rattle.lb_trace.specs.Refusals.{with_records}
 use Rattle.lb_trace.specs.Spelling.{Record, SpellsInstant, instants}
 
--- how many instants each of some traces has
+-- the number of instants of each trace
 abbrev pub lengths_of : Traces → List ℕ
 lengths_of traces = map (λ t. length t.1) traces
 
--- the parts of a roll go together: there are traces of one row each, of no cells, with these names
+-- the parts of a roll fit together: its names are those of traces of one row each, without cells
 pub record IsRoll (roll : Roll) : Type 0 where
   pub bare : roll.names.signature ≡ []
   pub ones : instants_of roll.names.traces ≡ length roll.names.traces
@@ -37,20 +37,20 @@ pub record IsRollOf (elements : Elements) (roll : Roll) (traces : Traces) : Type
   pub instants : roll.instants ≡ instants_of traces
   pub cells : roll.cells ≡ cells_of_instant elements
 
--- a trace has this name and so many instants
+-- `t` is a lawful trace with this name and `count` instants
 abbrev pub IsTraceOf : Elements → List ℕ → ℕ → Trace → Type 0
 IsTraceOf elements name count t =
     IsTrace elements t × (t.0 ≡ name) × (length t.1 ≡ count)
 
--- a further roll has one more trace, with this name and so many instants
+-- `next` is `roll` with one more trace, of this name and `count` instants
 abbrev pub TakesTrace : Roll → List ℕ → ℕ → Roll → Type 0
 TakesTrace roll name count next =
     (elements : Elements) (traces : Traces) (t : Trace)
     → IsRollOf elements roll traces → IsTraceOf elements name count t
     → IsRollOf elements next (traces ++ t ∷ [])
 
--- an error is the first refusal of the records of a trace with this name and so many instants,
--- behind the traces of a roll
+-- `e` is the first refusal of the records of a trace with this name and `count` instants, behind
+-- the traces of `roll`
 abbrev pub RefusesTrace : Roll → List ℕ → ℕ → TraceError → Type 0
 RefusesTrace roll name count e =
     (elements : Elements) (columns : Record) (traces : Traces) (t : Trace) (records : List Record)
@@ -58,7 +58,7 @@ RefusesTrace roll name count e =
     → AllZip (SpellsInstant elements columns) records (map (λ row. (t.0, row)) t.1)
     → IsRefusal (with_records elements columns traces records) e
 
--- an error is the first refusal of the records of the traces of a roll, behind those of another
+-- `e` is the first refusal of the records of the traces of `other`, behind the traces of `roll`
 abbrev pub RefusesRoll : Roll → Roll → TraceError → Type 0
 RefusesRoll roll other e =
     (elements : Elements) (columns : Record) (traces others : Traces) (records : List Record)
@@ -66,7 +66,7 @@ RefusesRoll roll other e =
     → AllZip (SpellsInstant elements columns) records (instants others)
     → IsRefusal (with_records elements columns traces records) e
 
--- an error is the first refusal of the records of some traces, behind those of a roll
+-- `e` is the first refusal of the records of the traces of `set`, behind the traces of `roll`
 abbrev pub RefusesRows : Roll → Recording → TraceError → Type 0
 RefusesRows roll set e =
     (columns : Record) (traces : Traces) (records : List Record)
@@ -80,7 +80,7 @@ room_in_last roll =
     nat_lt (get_or roll.lengths.items (length roll.lengths.items - 1) 0) 1000000
     && nat_le ((roll.instants + 1) * roll.cells) 67108864
 
--- and for the first instant of one more trace
+-- whether the limits have room for the first instant of one more trace behind a roll
 abbrev pub room_for_another : Roll → Truth
 room_for_another roll =
     nat_lt (length roll.names.traces) 1000000

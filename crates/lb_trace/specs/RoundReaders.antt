@@ -8,7 +8,7 @@ use Rattle.lb_trace.specs.Mirrors.{knows}
 use Rattle.lb_trace.specs.Refusals.{is_last}
 use Rattle.lb_trace.specs.Spelling.{Record}
 
--- a part has these traces so far, under a signature, and knows their names
+-- the part `round` has these traces so far, under the signature `elements`, and knows their names
 pub record IsRound (elements : Elements) (traces : Traces) (round : RoundReader) : Type 0 where
   pub signature : round.recorder.rows.signature ≡ elements
   pub read : round.recorder.rows.traces ≡ traces

@@ -8,7 +8,7 @@ use Rattle.lb_trace.specs.Refusals.{with_records}
 use Rattle.lb_trace.specs.Scan.{begun_records}
 use Rattle.lb_trace.specs.Spelling.{Record}
 
--- the records of a text up to its rest have been read behind some traces
+-- the records of `text` up to `rest` have been read behind the traces `before`, which gave `after`
 pub record ReadsUpTo (elements : Elements) (columns : Record) (before after : Traces)
     (text rest : List ℕ)
     : Type 0 where
@@ -16,7 +16,7 @@ pub record ReadsUpTo (elements : Elements) (columns : Record) (before after : Tr
   pub read : with_records elements columns before done ≡ Ok after
   pub cut : plain_records text ≡ done ++ plain_records rest
 
--- the same up to a rest that begins with a record
+-- `ReadsUpTo` where `rest` begins with a record
 pub record StopsAt (elements : Elements) (columns : Record) (before after : Traces)
     (text rest : List ℕ)
     : Type 0 where

@@ -1,4 +1,4 @@
--- The first cell of a text, and what comes after it.
+-- The first cell of a text, and the text after it.
 -- This file mirrors code (src/scan.rt); no definition of the language stands on it.
 use Rattle.std.specs.Prelude.{ℕ, Bool, true, ◌||◌, if◌then◌else◌, List, [], ◌∷◌}
 use Rattle.lb_trace.specs.Plain.{ends_line, is_comma, plain_records}

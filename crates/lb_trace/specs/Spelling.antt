@@ -30,7 +30,7 @@ abbrev pub begins : Record → Truth
 begins [] = false
 begins (first ∷ rest) = bytes_eq first (codes "trace")
 
--- the cells of a record after its first one: the columns of a header, and what stands under them
+-- the cells of a record after its first one: the columns of a header, and the cells under them
 abbrev pub after_first : Record → Record
 after_first [] = []
 after_first (first ∷ rest) = rest

@@ -32,13 +32,13 @@ abbrev pub has_header : Elements → List Record → Truth
 has_header elements [] = false
 has_header elements (header ∷ rows) = is_header elements header
 
--- traces are those of some records alone, which follow a table
+-- `read` has the traces that `records`, which follow `table`, spell by themselves
 abbrev pub IsReadOf : Elements → ColumnTable → List Record → Recording → Type 0
 IsReadOf elements table records read =
     (read.signature ≡ elements)
     × AllZip (SpellsInstant elements (columns_in table)) records (instants read.traces)
 
--- the same of what a recorder has, which knows its names
+-- `IsReadOf` for the traces of a recorder, which knows their names
 abbrev pub IsReadBy : Elements → ColumnTable → List Record → Recorder → Type 0
 IsReadBy elements table records recorder =
     IsReadOf elements table records recorder.rows × knows recorder.names recorder.rows.traces

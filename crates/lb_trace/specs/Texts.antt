@@ -1,4 +1,4 @@
--- A text of which more is to come, and what stands at its front.
+-- The front of a text that is not read to its end yet.
 -- This file says what the code finds in a text; no definition of the language stands on it.
 use Rattle.std.specs.Prelude.{ℕ, ◌≡◌, ◌<◌, [], ◌∷◌, ◌++◌, false, true, List, length}
 use Rattle.csv.specs.Reading.{default_config, records, strip_bom}

@@ -24,17 +24,17 @@ is_digit text i = (get_or text i 0 == 48) || (get_or text i 0 == 49)
 abbrev pub is_inner : List ℕ → ℕ → Bool
 is_inner text i = get_or text (i + 1) 0 == 44
 
--- the first sixteen pairs of bytes that are a digit 0 or 1 and a comma, as the bits of a number
+-- the first sixteen pairs of bytes, as bits: 1 where a pair is a digit 0 or 1 and a comma
 unfoldable pub truths_in : List ℕ → ℕ
 truths_in text =
     mask_l (map (λ k. is_digit text (2 * k) && is_inner text (2 * k)) (range_with_len 0 16))
 
--- those that are a digit 1 and a comma
+-- the first sixteen pairs of bytes, as bits: 1 where a pair is a digit 1 and a comma
 unfoldable pub ones_in : List ℕ → ℕ
 ones_in text =
     mask_l (map (λ k. is_one text (2 * k) && is_inner text (2 * k)) (range_with_len 0 16))
 
--- so many cells at the front of a text are digits 0 and 1 with a comma after each, and these bits
+-- the first `count` cells of `text` are digits 0 and 1, each before a comma; `bits` are the digits
 pub record HasBits (text : List ℕ) (count bits : ℕ) : Type 0 where
   pub within : 2 * count ≤ length text
   pub digits : (k : ℕ) → k < count → is_digit text (2 * k) ≡ true
@@ -42,12 +42,12 @@ pub record HasBits (text : List ℕ) (count bits : ℕ) : Type 0 where
   pub bits_are : (k : ℕ) → k < count → (bit_at bits k == 1) ≡ is_one text (2 * k)
   pub small : bits < 2 ^ count
 
--- columns of Booleans alone, so many
+-- `count` columns, all of Booleans
 pub record AreTruthColumns (count : ℕ) (columns : List Column) : Type 0 where
   pub as_many : length columns ≡ count
   pub booleans : All (λ column. column.kind ≡ Bool_kind) columns
 
--- the record of a text is the row of these bits
+-- the record of `text` spells the row of the `count` lowest bits of `bits`
 abbrev pub SpellsBits : List ℕ → ℕ → ℕ → Type 0
 SpellsBits text count bits =
     (columns : List Column) → AreTruthColumns count columns

@@ -10,11 +10,11 @@ abbrev pub IsTruth : List ℕ → ℕ → Type 0
 IsTruth text i =
     (((get_or text i 0 == 48) || (get_or text i 0 == 49)) ≡ true) × (get_or text (i + 1) 0 ≡ 44)
 
--- four of them, one after the other
+-- the first four cells of `text` are digits 0 or 1, with a comma after each
 abbrev pub AreTruths : List ℕ → Type 0
 AreTruths text = IsTruth text 0 × IsTruth text 2 × IsTruth text 4 × IsTruth text 6
 
--- the first columns have these values; what is left for the others
+-- the first columns have `values`; the columns `others` and their cells, in `rest`, are left
 abbrev pub GoesOn : List Column → List ℕ → List ℤ → List Column → List ℕ → Type 0
 GoesOn columns text values others rest =
     ((row : List ℤ) → onto row (plain_row columns (record_of text))

@@ -5,13 +5,13 @@ use Rattle.std.specs.Prelude.{drop, get_or, take}
 use Rattle.lb_trace.specs.Plain.{ends_line, plain_records}
 use Rattle.lb_trace.specs.Spelling.{Record}
 
--- before a place nothing stands but ends of lines
+-- only ends of lines stand before `place`
 abbrev pub IsBlankBefore : List ℕ → ℕ → Type 0
 IsBlankBefore text place =
     (i : ℕ) → i < place → ends_line (get_or text i 0) ≡ true
 
--- the last line that is not empty, of those that begin before a place, begins here: between the two
--- stand its bytes, and then nothing but ends of lines
+-- the last line that begins before `place` and is not empty begins at `start`: its bytes stand up
+-- to `past`, and only ends of lines from there up to `place`
 pub record IsLineBefore (text : List ℕ) (place start : ℕ) : Type 0 where
   pub past : ℕ
   pub some : start < past

@@ -8,7 +8,7 @@ use Rattle.lb_trace.specs.Fronts.{bytes_of, joined}
 unfoldable pub has_minus : ℕ → Bool
 has_minus word = list_any (λ b. b == 45) (bytes_of word)
 
--- the number of the digits of a word
+-- the number that the digits of a word spell
 unfoldable pub eight_of : ℕ → ℕ
 eight_of word = joined (map (λ b. b - 48) (bytes_of word))
 
@@ -20,6 +20,6 @@ signed_by minus n = if minus then neg_ℤ (pos n) else pos n
 abbrev pub value_in : ℕ → ℤ
 value_in word = signed_by (has_minus word) (eight_of word)
 
--- a number as 32 bits with a sign hold it, negative where a mark is not 0
+-- `n` in two's complement of 32 bits, negated where `mark` is not 0
 abbrev pub turned : ℕ → ℕ → ℕ
 turned mark n = if mark == 0 then n else (4294967296 - n) % 4294967296

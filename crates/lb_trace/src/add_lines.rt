@@ -18,7 +18,7 @@ use csv::ByteRecord;
 use std::alloc::Global;
 
 impl Recorder {
-    /// Adds all records of a text without quotes; `entry` is room for one.
+    /// Adds all records of a text without quotes; `entry` is room for a record.
     pub(crate) fn add_lines(
         &mut self,
         alloc: Global,

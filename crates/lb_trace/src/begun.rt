@@ -1,4 +1,4 @@
-//! The header of a text without quotes, and what follows it.
+//! The header of a text without quotes, and the text after it.
 
 ghost use Rattle.std.specs.Prelude.{◌≡◌, ◌∷◌, IfOk, MatchOption, false, true};
 ghost use Rattle.csv.specs.Records.{fields_of};
@@ -13,14 +13,14 @@ use csv::ByteRecord;
 use lb_static::Signature;
 use std::alloc::{AllocError, Global};
 
-/// A text whose header has been read: its table, and what follows it.
+/// A text whose header has been read: its table, and the text after it.
 #[derive(Drop)]
 pub struct Begun<'t> {
     pub table: ColumnTable,
     pub rest: &'t [u8],
 }
 
-/// Reads the header of a text; None where there is none, or another record.
+/// Reads the header of a text; None where its first record is no header, or it has no record.
 pub fn begin<'t>(
     alloc: Global,
     signature: &Signature,

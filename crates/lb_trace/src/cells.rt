@@ -1,6 +1,6 @@
 //! The cells of a trace text.
 //!
-//! A cell's bytes are read once, from the left, with no text made of them.
+//! The bytes of a cell are read once, from the left; no text is made of them.
 
 ghost use Rattle.std.specs.Prelude.{◌≡◌, ◌<◌, ◌≤◌, length, min, option_map, IfSome};
 ghost use Rattle.std.specs.Option.{option_and_then};
@@ -11,7 +11,7 @@ use lb_syntax::Kind;
 // More than any number that an `int` cell may spell.
 const TOO_LARGE: u64 = 1 << 32;
 
-/// What a cell of this kind spells, a Boolean as 0 or 1; None where it is no value of the kind.
+/// The value that a cell of this kind spells, a Boolean as 0 or 1; None where it spells none.
 pub fn cell_value(kind: Kind, cell: &[u8]) -> Option<i32>
     ensures { result ≡ cell_value kind cell.now }
 {
@@ -55,8 +55,8 @@ fn signed(is_negative: bool, digits: &[u8]) -> Option<i32>
 // The ASCII byte of the digit 0.
 const ZERO: u32 = 48;
 
-// What the first and the middle digit count, for each number of digits; the last one counts 1.
-// Where two of the three are the same digit, one of the two counts 0.
+// The weights of the first and the middle digit, for each number of digits; the last one has weight
+// 1. Where two of the three are the same digit, one of the two has weight 0.
 static WEIGHTS: [[u32; 2]; 4] = [[0, 0], [0, 0], [10, 0], [100, 10]];
 
 // The number that 1 to 3 digits spell. No branch depends on how many there are.
@@ -97,7 +97,7 @@ fn natural_of(digits: &[u8]) -> Option<u64>
     Some(n.min(TOO_LARGE))
 }
 
-// The same for so many digits that the number could be too large for 64 bits.
+// `natural_of` for 19 or 20 digits, whose number may be too large for 64 bits.
 fn many_digits(digits: &[u8]) -> Option<u64>
     requires some { 0 < length digits.now }
     requires limit { length digits.now ≤ 20 }

@@ -8,7 +8,7 @@ use crate::scan::next_cell;
 use csv::ByteRecord;
 use std::alloc::AllocError;
 
-/// Copies the cells of the first record of a text, and gives what stands after the record.
+/// Copies the cells of the first record of a text into `entry`, and returns the text after it.
 pub(crate) fn copy_record<'t>(
     text: &'t [u8],
     entry: &mut ByteRecord,

@@ -36,7 +36,7 @@ pub enum TraceError {
     Trace {
         record: u64,
     },
-    /// E18: a text, a number of traces, of instants or of cells over its limit; None is the text.
+    /// E18: a text, a number of traces, of instants or of cells over its limit; None for the text.
     #[error("the trace text is over a limit")]
     Limit {
         record: Option<u64>,

@@ -1,8 +1,8 @@
 //! The digits at the front of a text, counted at once and added up by pairs without a branch.
 //!
-//! A processor guesses badly how many digits the next number has, so nothing here depends on it but
-//! what is selected. The digits after a sign are counted from the sign on, so that the next number
-//! need not wait for the test of the sign.
+//! A processor guesses badly how many digits the next number has, so no branch here depends on it.
+//! The digits after a sign are counted from the sign on, so the next number need not wait for the
+//! test of the sign.
 
 ghost use Rattle.std.specs.Prelude.{◌≡◌, ◌<◌, ◌/◌, ◌≤◌, ◌^◌, true, if◌then◌else◌, length, take};
 ghost use Rattle.std.specs.Prelude.{All};
@@ -13,7 +13,7 @@ ghost use Rattle.lb_trace.specs.Fronts.{CountsDigits, bytes_of, joined, lone, nu
 
 use std::simd::prelude::*;
 
-/// How many digits stand at the front of a text, after its sign if it has one, among its first
+/// The number of digits at the front of a text, after its sign if it has one, among its first
 /// eight bytes; more than 7 where they do not end there.
 #[inline(always)]
 pub(crate) fn count_after(is_negative: bool, text: &[u8]) -> usize
@@ -27,7 +27,7 @@ pub(crate) fn count_after(is_negative: bool, text: &[u8]) -> usize
     others.trailing_zeros() as usize
 }
 
-// Those of the first eight bytes that are no digits: bit i is set where byte i is none.
+// The first eight bytes as bits: bit i is 1 where byte i is no digit.
 #[inline(always)]
 fn others(text: &[u8]) -> u64
     requires { 7 < length text.now }
@@ -37,7 +37,7 @@ fn others(text: &[u8]) -> u64
     from_zero.simd_ge(u8x8::splat(10)).to_bitmask()
 }
 
-// The same from the byte after the sign on, if there is one.
+// The bits of `others` from the byte after the sign on, if there is a sign.
 #[inline(always)]
 fn without_sign(is_negative: bool, others: u64) -> u64
     ensures { result ≡ (if is_negative then others / 2 else others) }
@@ -45,7 +45,7 @@ fn without_sign(is_negative: bool, others: u64) -> u64
     if is_negative { others / 2 } else { others }
 }
 
-/// The number that so many digits at the front of a text spell.
+/// The number that the first `count` digits of a text spell.
 #[inline(always)]
 pub(crate) fn value_of(text: &[u8], count: usize) -> u32
     requires room { 7 < length text.now }
@@ -61,7 +61,7 @@ pub(crate) fn value_of(text: &[u8], count: usize) -> u32
 // The ASCII bytes of eight digits 0.
 const ZEROS: u64 = 0x3030_3030_3030_3030;
 
-// So many digits at the front of a text as the highest bytes of a number, the last one the highest.
+// The first `count` digits of a text as the highest bytes of a number, the last digit the highest.
 #[inline(always)]
 fn lone(text: &[u8], count: usize) -> u64
     requires room { 7 < length text.now }
@@ -74,7 +74,7 @@ fn lone(text: &[u8], count: usize) -> u64
     (first_eight(text) << others) - (ZEROS << others)
 }
 
-// The first eight bytes of a text as those of a number, the first one the lowest.
+// The number whose bytes are the first eight of a text, the first one the lowest.
 #[inline(always)]
 pub(crate) fn first_eight(text: &[u8]) -> u64
     requires { 7 < length text.now }
@@ -88,13 +88,13 @@ pub(crate) fn first_eight(text: &[u8]) -> u64
 // The bytes 0 and 4 of a number.
 const PAIRS: u64 = 0x0000_00FF_0000_00FF;
 
-// What two pairs of digits at these bytes count, where the sum stands from bit 32 on: the first and
-// the third pair of four, and the second and the fourth.
+// The weights of the pairs of digits at these bytes, by which the sum stands from bit 32 on: of the
+// first and the third pair of four, and of the second and the fourth.
 const OUTER: u64 = 0x000F_4240_0000_0064;
 
 const INNER: u64 = 0x0000_2710_0000_0001;
 
-// The number of eight digits, which are the bytes of a number, the first one the lowest.
+// The number that eight digits spell, which are the bytes of a number, the first one the lowest.
 #[inline(always)]
 fn joined(digits: u64) -> u32
     requires { All (λ digit. digit < 10) (bytes_of digits) }

@@ -1,4 +1,4 @@
-//! The first line of a text, and where it ends.
+//! The first line of a text, and its length.
 
 ghost use Rattle.std.specs.Prelude.{◌≡◌, ◌<◌, ◌≤◌, [], false, true, length, take, get_or};
 ghost use Rattle.csv.specs.Reading.{strip_bom};
@@ -29,7 +29,7 @@ pub fn has_line(text: &[u8]) -> bool
     blank_front(text) < text.len()
 }
 
-// How many bytes at the front of a text are ends of lines.
+// The number of bytes at the front of a text that are ends of lines.
 fn blank_front(text: &[u8]) -> usize
     ensures within { result ≤ length text.now }
     ensures blank { plain_records (take result text.now) ≡ [] }
@@ -44,7 +44,7 @@ fn blank_front(text: &[u8]) -> usize
     text.len()
 }
 
-// How many bytes the first line of a text takes, with its end; it is not empty.
+// The number of bytes of the first line of a text, with its end; the line is not empty.
 fn line_len(text: &[u8]) -> usize
     requires { 0 < length text.now → ends_line (get_or text.now 0 0) ≡ false }
     ensures within { result ≤ length text.now }
@@ -59,8 +59,8 @@ fn line_len(text: &[u8]) -> usize
     text.len()
 }
 
-// How many bytes the first line of a text takes that is not empty, with its end and what stands
-// before it.
+// The number of bytes up to the end of the first line that is not empty, with that end and with all
+// that stands before the line.
 fn filled_len(text: &[u8]) -> usize
     ensures within { result ≤ length text.now }
     ensures first { plain_records (take result text.now) ≡ take 1 (plain_records text.now) }
@@ -70,8 +70,8 @@ fn filled_len(text: &[u8]) -> usize
     blank + line_len(&text[blank..])
 }
 
-/// How many bytes of a text its first line takes that is not empty, with its end and what stands
-/// before it, a byte order mark too.
+/// The number of bytes up to the end of the first line that is not empty, with that end and with
+/// all that stands before the line, a byte order mark too.
 pub fn header_len(text: &[u8]) -> usize
     ensures within { result ≤ length text.now }
     ensures first { plain_records (strip_bom (take result text.now))

@@ -1,4 +1,4 @@
-//! The header of a trace text: which column each scalar input stands in.
+//! The header of a trace text: the column of each scalar input.
 
 ghost use Rattle.std.specs.Prelude.{◌≡◌, ◌==◌, ◌<◌, ◌≤◌, false, true, length, map, IfOk};
 ghost use Rattle.std.specs.Prelude.{MatchOption};
@@ -15,10 +15,10 @@ use lb_static::Signature;
 use lb_syntax::Kind;
 use std::alloc::{AllocError, Global};
 
-/// Where the cells of a scalar input stand, and what they hold.
+/// The place and the kind of the cells of a scalar input.
 #[derive(Clone, Copy)]
 pub(crate) struct Column {
-    /// How many columns stand before it, `trace` not counted.
+    /// The number of columns before it, `trace` not counted.
     pub(crate) at: usize,
     pub(crate) kind: Kind,
 }
@@ -87,7 +87,7 @@ fn is_named(signature: &Signature, column: &[u8]) -> bool
     false
 }
 
-// How many columns have this name.
+// The number of columns with this name.
 fn count(header: &ByteRecord, name: &[u8]) -> usize
     ensures { result ≡ count_by (bytes_eq name.now) (after_first (fields_of header.now)) }
 {
@@ -100,7 +100,7 @@ fn count(header: &ByteRecord, name: &[u8]) -> usize
     count
 }
 
-// How many columns stand before the first one with this name.
+// The number of columns before the first one with this name.
 fn position(header: &ByteRecord, name: &[u8]) -> usize
     ensures { result ≡ position_or_len (bytes_eq name.now) (after_first (fields_of header.now)) }
 {

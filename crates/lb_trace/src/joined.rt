@@ -1,4 +1,4 @@
-//! The traces of one part of a text after those of the parts before it.
+//! The traces of the parts of a text, joined one part after the other.
 
 ghost use Rattle.std.specs.Prelude.{◌≡◌, ◌<◌, ◌≤◌, ◌+◌, ◌++◌, ◌∷◌, [], true, All, OnOk, IsTrue};
 ghost use Rattle.std.specs.Prelude.{flat_map, get_or, length, map};
@@ -12,7 +12,7 @@ use crate::recorder::Recorder;
 use lb_traces::TraceSet;
 use std::alloc::{AllocError, Global};
 
-// Whether the limits have room for so many more instants of the last trace.
+// Whether the limits have room for `more` instants of the last trace.
 fn has_room_for(set: &TraceSet, more: u32) -> bool
     requires started { 0 < length set.now.traces }
     requires few { more ≤ 1000000 }
@@ -28,9 +28,9 @@ fn has_room_for(set: &TraceSet, more: u32) -> bool
 }
 
 impl Recorder {
-    /// Adds all instants of some parts, one part after the other, and lets go of each. It fails
-    /// where the name of a trace is there already and is not that of the last one, and where a
-    /// limit has no room.
+    /// Adds all instants of `parts`, one part after the other, and drops each part. It fails where
+    /// a trace has the name of an earlier trace that is not the last one, and where a limit has no
+    /// room.
     pub(crate) fn join_all(&mut self, alloc: Global, parts: Vec<Recorder>) -> Result<(), TraceError>
         requires names { knows self.old.names self.old.rows.traces }
         requires same { All (λ part. part.rows.signature ≡ self.old.rows.signature) parts.items }
@@ -46,7 +46,7 @@ impl Recorder {
         Ok(())
     }
 
-    // Adds all instants of some traces, one after the other.
+    // Adds all instants of the traces of a set, one trace after the other.
     fn join(&mut self, alloc: Global, set: &TraceSet) -> Result<(), TraceError>
         requires names { knows self.old.names self.old.rows.traces }
         requires same { set.now.signature ≡ self.old.rows.signature }
@@ -61,7 +61,7 @@ impl Recorder {
         Ok(())
     }
 
-    // Adds all instants of one of the traces.
+    // Adds all instants of trace `k` of a set.
     fn join_trace(&mut self, alloc: Global, set: &TraceSet, k: u32) -> Result<(), TraceError>
         requires trace { k < length set.now.traces }
         requires names { knows self.old.names self.old.rows.traces }
@@ -77,7 +77,7 @@ impl Recorder {
         self.join_others(set, k)
     }
 
-    // Adds the first instant of one of the traces.
+    // Adds the first instant of trace `k` of a set.
     fn join_first(&mut self, alloc: Global, set: &TraceSet, k: u32) -> Result<(), TraceError>
         requires trace { k < length set.now.traces }
         requires lawful { IsRecording set.now }
@@ -100,7 +100,7 @@ impl Recorder {
         self.add_read(alloc, set.name(k).as_bytes(), 0)
     }
 
-    // Adds the other instants of one of the traces, all at once, to the last trace.
+    // Adds the other instants of trace `k` of a set, all at once, to the last trace.
     fn join_others(&mut self, set: &TraceSet, k: u32) -> Result<(), TraceError>
         requires trace { k < length set.now.traces }
         requires names { knows self.old.names self.old.rows.traces }

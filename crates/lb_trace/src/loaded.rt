@@ -4,9 +4,9 @@
 //! first | a b c | d e f | g h i | j | k | l      two rounds, each of three spans
 //! ```
 //!
-//! Each thread loads and reads a span of chunks, one chunk after the other. While those of the
-//! second round are read, the traces of the first are joined. A chunk is let go once it has been
-//! read, so that the next one takes its room.
+//! Each thread loads and reads a span of chunks, one chunk after the other. While the chunks of the
+//! second round are read, the traces of the first round are joined. A chunk is dropped once it has
+//! been read, so that the next one takes its room.
 
 ghost use Rattle.std.specs.Prelude.{◌≡◌, ◌≤◌, ◌+◌, ◌*◌, ◌<◌, ◌++◌, ℕ, List, Vec, Some};
 ghost use Rattle.std.specs.Prelude.{All, IfOk, IfSome, IsTrue, Ok, length};
@@ -21,11 +21,11 @@ ghost use Rattle.lb_trace.specs.Tables.{IsColumnTable};
 
 use crate::begun::begin;
 use crate::error::TraceError;
+use crate::parallel::read_part;
 use crate::plain::{is_plain, strip_bom};
 use crate::read::MOST_BYTES;
 use crate::recorder::Recorder;
 use crate::scan::is_ended;
-use crate::spread::read_part;
 use crate::table::ColumnTable;
 use csv::ByteRecord;
 use lb_static::Signature;
@@ -34,8 +34,8 @@ use rayon::prelude::*;
 use std::alloc::{AllocError, Global};
 use std::thread::{Threads, join};
 
-/// How the chunks of a text are read: what their records follow, what loads them, and how many
-/// threads are at it.
+/// The reader of the chunks of a text: the table that their records follow, the function that
+/// loads them, and the number of threads.
 #[derive(Drop)]
 struct ChunkReader<'t, F> {
     alloc: Global,
@@ -48,14 +48,14 @@ struct ChunkReader<'t, F> {
     ghost some_worker: { 0 < workers },
 }
 
-/// What has been joined of a text, and what was read of it since.
+/// The traces of a text that have been joined, and those that were read after them.
 #[derive(Drop)]
 struct Round {
     all: Recorder,
     read: Vec<Recorder>,
 }
 
-// The traces of one recorder, and then those of others; None where they do not join.
+// The traces of `begun`, and then those of `parts`; None where they do not join.
 fn with_parts(alloc: Global, begun: Recorder, parts: Vec<Recorder>) -> Option<Recorder>
     requires parts { All (IsRecorder begun.rows.signature) parts.items }
     requires begun { IsRecorder begun.rows.signature begun }
@@ -68,7 +68,7 @@ fn with_parts(alloc: Global, begun: Recorder, parts: Vec<Recorder>) -> Option<Re
     Some(all)
 }
 
-// Whether a chunk ends with a line, has no quote, and is no longer than so many bytes.
+// Whether a chunk ends with the end of a line, has no quote, and has at most `most` bytes.
 fn is_chunk(text: &[u8], most: usize) -> bool
     ensures { IsTrue result → IsChunk most text.now }
 {
@@ -76,7 +76,8 @@ fn is_chunk(text: &[u8], most: usize) -> bool
 }
 
 impl<F: Fn(usize) -> Option<Vec<u8>> + Sync> ChunkReader<'_, F> {
-    // The traces of some chunks, one after the other. Any error says nothing of the text.
+    // The traces of the chunks with these numbers, one after the other. An error says nothing of
+    // the text.
     fn read_span(&self, numbers: &[usize]) -> Result<Recorder, TraceError>
         requires load { F.IsAlwaysCallable self.now.load.now }
         requires table { IsColumnTable self.now.signature.now self.now.table.now }
@@ -95,14 +96,15 @@ impl<F: Fn(usize) -> Option<Vec<u8>> + Sync> ChunkReader<'_, F> {
             if !is_chunk(text, self.most) {
                 return Err(TraceError::Memory(AllocError));
             }
-            // The first chunk tells how much room all of them take.
+            // The chunks that are left take about as much room each as this one.
             recorder.make_room(text.len().saturating_mul(numbers.len() - done));
             recorder.add_lines(self.alloc, self.table, text, &mut entry)?;
         }
         Ok(recorder)
     }
 
-    // The traces of each span of some chunks, which threads load and read side by side.
+    // The traces of each span of the chunks with these numbers. Threads load and read the spans
+    // side by side.
     fn read_spans<R: Threads + Sync>(
         &self,
         rt: &R,
@@ -132,7 +134,7 @@ impl<F: Fn(usize) -> Option<Vec<u8>> + Sync> ChunkReader<'_, F> {
             .collect(rt, self.alloc)
     }
 
-    // The same, without what stood in the way.
+    // `read_spans` with None for any error.
     fn read_round<R: Threads + Sync>(&self, rt: &R, numbers: &[usize]) -> Option<Vec<Recorder>>
         requires load { F.IsAlwaysCallable self.now.load.now }
         requires table { IsColumnTable self.now.signature.now self.now.table.now }
@@ -146,7 +148,7 @@ impl<F: Fn(usize) -> Option<Vec<u8>> + Sync> ChunkReader<'_, F> {
         Some(read)
     }
 
-    // One more round: what was read is joined, while more chunks are read.
+    // One more round: the traces that were read are joined, while more chunks are read.
     fn next_round<R: Threads + Sync>(
         &self,
         rt: &R,
@@ -200,8 +202,9 @@ impl<F: Fn(usize) -> Option<Vec<u8>> + Sync> ChunkReader<'_, F> {
         Some(Round { all, read })
     }
 
-    // The traces of a recorder, and then those of some chunks. Three quarters of them are read in
-    // the first round: to join what is read of them takes about as long as to read the others.
+    // The traces of `begun`, and then those of the chunks with these numbers. Three quarters of the
+    // chunks are read in the first round: to join their traces takes about as long as to read the
+    // other chunks.
     fn read_rounds<R: Threads + Sync>(
         &self,
         rt: &R,
@@ -228,8 +231,8 @@ impl<F: Fn(usize) -> Option<Vec<u8>> + Sync> ChunkReader<'_, F> {
     }
 }
 
-// How many bytes each of so many chunks may have at most behind so many bytes, lest the text be too
-// long.
+// The most bytes of each of `count` chunks behind `first` bytes, within the limit of the text; None
+// where `first` is above it.
 fn most_of(first: usize, count: usize) -> Option<usize>
     ensures { IfSome result (λ most. first + most * count ≤ 1073741824) }
 {
@@ -244,11 +247,11 @@ fn most_of(first: usize, count: usize) -> Option<usize>
     }
 }
 
-/// The traces that a text spells which begins with a chunk and goes on with those that `load` gives
-/// for some numbers, read by so many workers at most. None says nothing of the text.
+/// The traces that a text spells: its bytes are the chunk `first`, and then the chunks that `load`
+/// gives for `numbers`. At most `workers` workers read it. None says nothing of the text.
 ///
-/// Each chunk has to end with a line, and the first one to have the header. A text with quotes, one
-/// that is refused, and one of which a chunk is not given, is not read.
+/// Each chunk has to end with the end of a line, and the first one has to have the header. None is
+/// the answer for a text with quotes, a text that is refused, and where a chunk is not given.
 pub fn read_loaded<R: Threads + Sync, F: Fn(usize) -> Option<Vec<u8>> + Sync>(
     rt: &R,
     alloc: Global,

@@ -1,8 +1,8 @@
 //! The names of traces by their hashes.
 //!
-//! Each name has two places in a table, which its hashes give. A name whose places other names have
-//! is put into a set that is in order. Few are, and names that are chosen for their hashes take no
-//! longer than a search in such a set.
+//! Each name has two places in a table, which its two hashes give. A name whose places are both
+//! taken by other names is put into an ordered set. Few names are, and even names that are chosen
+//! for their hashes take no longer than a search in that set.
 
 ghost use Rattle.std.specs.Prelude.{◌≡◌, ℕ, ◌+◌, ◌*◌, ◌/◌, ◌%◌, ◌^◌, ◌<◌, ◌≤◌, List, [], length};
 ghost use Rattle.std.specs.Prelude.{true, false, get_or, OnOk};
@@ -19,16 +19,16 @@ use std::alloc::{AllocError, Global};
 use std::collections::BTreeSet;
 use std::hash::{FoldHasher, Hasher};
 
-/// Where the names of traces are found.
+/// The table of the names of traces.
 #[derive(Drop)]
 pub(crate) struct NameTable {
     /// At each place the number of the trace whose name stands there, counted from 1, or 0.
     pub(crate) places: Vec<u32>,
-    /// The names whose places other names have.
+    /// The names whose places are taken by other names.
     pub(crate) others: BTreeSet<String>,
 }
 
-// The hash by which a name has its first place.
+// The hash that gives a name its first place.
 fn first_hash(name: &str) -> u64
     ensures { result ≡ first_hash name.now }
 {
@@ -37,8 +37,8 @@ fn first_hash(name: &str) -> u64
     hasher.finish()
 }
 
-// The hash by which a name has its second place. Names that are chosen to have one first hash do
-// not have one second hash by that.
+// The hash that gives a name its second place. Names that are chosen for equal first hashes do not
+// thereby have equal second hashes.
 fn second_hash(name: &str) -> u64
     ensures { result ≡ second_hash name.now }
 {
@@ -48,7 +48,7 @@ fn second_hash(name: &str) -> u64
     hasher.finish()
 }
 
-// The place among so many that a hash gives.
+// The place, of `count` places, that a hash gives.
 fn place_among(hash: u64, count: u32) -> usize
     requires { 0 < count }
     ensures place { result ≡ place_among count hash }
@@ -69,7 +69,7 @@ impl NameTable {
         }
     }
 
-    /// Whether a name is among those of some traces.
+    /// Whether a name is the name of one of `traces`.
     pub(crate) fn has(&self, traces: &TraceSet, name: &str) -> bool
         requires { IsTableOf self.now (trace_names traces.now.traces) }
         ensures { result ≡ list_any (λ t. bytes_eq name.now t.0) traces.now.traces }
@@ -91,7 +91,7 @@ impl NameTable {
         self.others.contains(name)
     }
 
-    /// Makes room for more names than those of some traces, where few places are free.
+    /// Makes room for more names than those of `traces`, where few places are free.
     pub(crate) fn grow(&mut self, alloc: Global, traces: &TraceSet) -> Result<(), AllocError>
         requires { IsTableOf self.old (trace_names traces.now.traces) }
         ensures { OnOk result (IsTableOf self.new (trace_names traces.now.traces)) }
@@ -102,7 +102,7 @@ impl NameTable {
         self.fill(alloc, traces)
     }
 
-    /// Makes room for more names than those of some traces, and puts these.
+    /// Makes room for more names than those of `traces`, and puts the names of `traces` there.
     pub(crate) fn fill(&mut self, alloc: Global, traces: &TraceSet) -> Result<(), AllocError>
         requires { (q : List ℕ) → contains_text self.old.others q ≡ true
             → list_any (bytes_eq q) (trace_names traces.now.traces) ≡ true }
@@ -115,7 +115,7 @@ impl NameTable {
         Ok(())
     }
 
-    // What stands at the first place of a name, the number of a trace from 1 or 0.
+    // The number at the first place of a name: that of a trace, counted from 1, or 0.
     fn first(&self, name: &str) -> u32
         requires { (0 < length self.now.places.items)
             × (length self.now.places.items < 4294967296) }
@@ -124,7 +124,7 @@ impl NameTable {
         self.places[place_among(first_hash(name), self.places.len() as u32)]
     }
 
-    // What stands at the second place of a name.
+    // The number at the second place of a name: that of a trace, counted from 1, or 0.
     fn second(&self, name: &str) -> u32
         requires { (0 < length self.now.places.items)
             × (length self.now.places.items < 4294967296) }
@@ -133,7 +133,7 @@ impl NameTable {
         self.places[place_among(second_hash(name), self.places.len() as u32)]
     }
 
-    /// Puts the next name, which has so many before it.
+    /// Puts the next name, which has `before` names before it.
     pub(crate) fn put(&mut self, alloc: Global, name: &str, before: u32) -> Result<(), AllocError>
         requires few { before ≤ 1000000 }
         requires room { (0 < length self.old.places.items)

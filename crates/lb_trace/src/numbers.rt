@@ -1,10 +1,10 @@
-//! Cells that are integers, whose ends are found many at once.
+//! Cells that are integers, with many of their ends found at once.
 //!
-//! One number tells which of the next 32 bytes are no digits. The ends of four cells are read from
-//! it, so that a cell need not wait for the bytes of the one before it.
+//! One number has a bit for each of the next 32 bytes, set where the byte is no digit. The ends of
+//! four cells are read from it, so a cell need not wait for the bytes of the cell before it.
 
-ghost use Rattle.std.specs.Prelude.{◌≡◌, ◌<◌, ◌≤◌, ◌+◌, ◌-◌, ◌==◌, ◌++◌, ℕ, List, ℤ, IfSome, IsTrue};
-ghost use Rattle.std.specs.Prelude.{Some, drop, get_or, length, map, replicate, take};
+ghost use Rattle.std.specs.Prelude.{◌≡◌, ◌<◌, ◌≤◌, ◌+◌, ◌-◌, ◌==◌, ◌++◌, ℕ, List, ℤ, IfSome};
+ghost use Rattle.std.specs.Prelude.{IsTrue, Some, drop, get_or, length, map, replicate, take};
 ghost use Rattle.std.specs.Int.{bit_at};
 ghost use lib.Lanes.{mask_l};
 ghost use Rattle.lb_trace.specs.Fronts.{others};
@@ -14,23 +14,22 @@ ghost use Rattle.lb_trace.specs.Numbers.{AreFour, AreIntegers, IsInside, IsLowes
 ghost use Rattle.lb_trace.specs.PlainRows.{BeginsWith, onto, plain_row};
 ghost use Rattle.lb_trace.specs.TruthCells.{GoesOn};
 
+use crate::fast_cells::{cell_end, signed};
 use crate::front::{first_eight, value_of};
 use crate::header::Column;
 use crate::scan::ends_line;
-use crate::small::{cell_end, signed};
 use crate::words::values_of;
 use lb_syntax::Kind;
 use std::simd::prelude::*;
 
-/// The values of four cells, and what stands after them.
+/// The values of four cells, and the text after them.
 #[derive(Clone, Copy)]
 pub(crate) struct FourNumbers<'t> {
     pub(crate) values: [i32; 4],
     pub(crate) rest: &'t [u8],
 }
 
-/// The value of a cell, where what stands after it begins, and whether it is the last one of its
-/// record.
+/// The value of a cell, the place behind its end, and whether it is the last one of its record.
 #[derive(Clone, Copy)]
 pub(crate) struct NumberAt {
     pub(crate) value: i32,
@@ -59,7 +58,7 @@ pub(crate) fn four_numbers<'t>(columns: &[Column], text: &'t [u8]) -> Option<Fou
     })
 }
 
-/// The values of the last four cells of a record and what stands after it, where their columns are
+/// The values of the last four cells of a record and the text after it, where their columns are
 /// integers and each is short. None says nothing of the text.
 #[inline(always)]
 pub(crate) fn last_four<'t>(columns: &[Column], text: &'t [u8]) -> Option<FourNumbers<'t>>
@@ -81,7 +80,7 @@ pub(crate) fn last_four<'t>(columns: &[Column], text: &'t [u8]) -> Option<FourNu
     })
 }
 
-// Whether there are four columns, and the first four hold integers.
+// Whether there are at least four columns, and the first four hold integers.
 #[inline(always)]
 fn are_integers(columns: &[Column]) -> bool
     ensures { IsTrue result → AreIntegers columns.now }
@@ -92,7 +91,7 @@ fn are_integers(columns: &[Column]) -> bool
     is_int(a.kind) && is_int(b.kind) && is_int(c.kind) && is_int(d.kind)
 }
 
-// The values of four cells, and where the last one ends.
+// The values of four cells, and the place at which the last one ends.
 #[derive(Clone, Copy)]
 struct FourValues {
     values: [i32; 4],
@@ -131,8 +130,8 @@ fn four_at(text: &[u8]) -> Option<FourValues>
     })
 }
 
-// Those of the first 32 bytes that end a number, or stand in none: each that is no digit, but for a
-// minus sign before a digit that does not follow one.
+// The first 32 bytes as bits: 1 where a byte ends a number, or stands in none. That is each byte
+// that is no digit, but for a minus sign before a digit and after no digit.
 #[inline(always)]
 fn ends_in(text: &[u8]) -> u64
     requires { 31 < length text.now }
@@ -144,7 +143,7 @@ fn ends_in(text: &[u8]) -> u64
     others ^ (minus & (2 * others + 1) & !(others / 2))
 }
 
-// Those of the first 32 bytes that are minus signs.
+// The first 32 bytes as bits: 1 where a byte is a minus sign.
 #[inline(always)]
 fn minus_in(text: &[u8]) -> u64
     requires { 31 < length text.now }
@@ -155,7 +154,7 @@ fn minus_in(text: &[u8]) -> u64
         .to_bitmask()
 }
 
-// The lowest of some bits, and the others.
+// The place of the lowest bit that is set, and the bits above it.
 #[derive(Clone, Copy)]
 struct NextEnd {
     place: usize,
@@ -194,7 +193,7 @@ fn is_inner(text: &[u8], start: usize, end: usize) -> bool
     is_short(start, end) && text[end] == b','
 }
 
-// The bytes of a cell as the highest ones of a word.
+// The bytes of a cell as the highest bytes of a word.
 #[inline(always)]
 fn word_of(text: &[u8], start: usize, end: usize) -> u64
     requires long { 63 < length text.now }
@@ -218,7 +217,7 @@ fn is_int(kind: Kind) -> bool
     }
 }
 
-/// Those of the first 32 bytes that are no digits: bit i is set where byte i is none.
+/// The first 32 bytes as bits: bit i is 1 where byte i is no digit.
 #[inline(always)]
 pub(crate) fn others_in(text: &[u8]) -> u64
     requires { 31 < length text.now }
@@ -228,9 +227,9 @@ pub(crate) fn others_in(text: &[u8]) -> u64
     from_zero.simd_ge(u8x32::splat(10)).to_bitmask()
 }
 
-// The cell at a place, where it is a number of at most seven digits that ends within the first 32
-// bytes; `stops` has a bit for each of these that is no digit. An `inner` one ends in a comma. None
-// says nothing of the text.
+// The cell at place `at`, where it is a number of at most seven digits that ends within the first
+// 32 bytes; `stops` has a bit for each of these bytes that is no digit. An `inner` cell ends in a
+// comma. None says nothing of the text.
 #[inline(always)]
 fn number_at(text: &[u8], stops: u64, at: usize, inner: bool) -> Option<NumberAt>
     requires long { 63 < length text.now }
@@ -257,8 +256,8 @@ fn number_at(text: &[u8], stops: u64, at: usize, inner: bool) -> Option<NumberAt
     })
 }
 
-/// The cell at a place, where its column is of integers and it is a number of at most seven digits
-/// that ends within the first 32 bytes, as `number_at` reads it. None says nothing of the text.
+/// The cell at place `at` as `number_at` reads it, where its column is one of integers. None says
+/// nothing of the text.
 #[inline(always)]
 pub(crate) fn cell_at(
     kind: Kind,

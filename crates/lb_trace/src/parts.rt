@@ -7,15 +7,15 @@ ghost use Rattle.lb_trace.specs.Plain.{has_quote, plain_records};
 use crate::scan::ends_line;
 use std::alloc::{AllocError, Global};
 
-/// A part of a text, and what follows it.
+/// A part of a text, and the text after it.
 #[derive(Clone, Copy)]
 struct Cut<'t> {
     part: &'t [u8],
     rest: &'t [u8],
 }
 
-/// A text in so many parts. Their records, one part after the other, are those of the text, and a
-/// quote stands in it where it stands in one of them.
+/// A text in `count` parts. Their records, one part after the other, are the records of the text,
+/// and the text has a quote if and only if one of the parts has.
 pub(crate) fn parts_of<'t>(
     alloc: Global,
     text: &'t [u8],
@@ -38,7 +38,7 @@ pub(crate) fn parts_of<'t>(
     Ok(parts)
 }
 
-// Cuts a text at the first end of a line from this place on.
+// Cuts a text at the first end of a line from place `from` on.
 fn cut_at<'t>(text: &'t [u8], from: usize) -> Cut<'t>
     ensures records { plain_records text.now
         ≡ plain_records result.part.now ++ plain_records result.rest.now }

@@ -13,8 +13,8 @@ use crate::row_cells::make_long;
 use crate::table::ColumnTable;
 use std::alloc::AllocError;
 
-/// Reads the cells of a record into `row`, in the order of the signature, and gives what stands
-/// after the record; None where they spell no row. `values` is room for the cells in the order of
+/// Reads the cells of a record into `row`, in the order of the signature, and returns the text
+/// after the record; None says nothing of the text. `values` is room for the cells in the order of
 /// the text.
 #[inline(always)]
 pub(crate) fn read_cells<'t>(
@@ -43,7 +43,7 @@ pub(crate) fn read_cells<'t>(
     Ok(None)
 }
 
-// The same by the columns in the order of the text.
+// `read_cells` by `placed`, the columns in the order of the text.
 #[inline(always)]
 fn read_placed<'t>(
     placed: &[Column],
@@ -65,7 +65,7 @@ fn read_placed<'t>(
     Ok(Some(rest))
 }
 
-// Takes the value at the place of each column.
+// Copies the value at the place of each column into `row`.
 fn take_places(columns: &[Column], values: &[i32], row: &mut Vec<i32>) -> Result<(), AllocError>
     requires { All (λ column. column.at < length values.now) columns.now }
     ensures { OnOk result
@@ -76,7 +76,7 @@ fn take_places(columns: &[Column], values: &[i32], row: &mut Vec<i32>) -> Result
     Ok(())
 }
 
-// Takes them into a row that has a cell for each column.
+// `take_places` into a row that has a cell for each column.
 fn fill_places(columns: &[Column], values: &[i32], row: &mut [i32])
     requires within { All (λ column. column.at < length values.now) columns.now }
     requires room { length row.old ≡ length columns.now }

@@ -20,7 +20,7 @@ pub fn is_plain(text: &[u8]) -> bool
     !has_quote
 }
 
-/// Whether all of some parts are free of quotes. Threads look through them.
+/// Whether all parts are free of quotes. Threads search them side by side.
 pub(crate) fn are_plain<R: Threads + Sync>(rt: &R, parts: &[&[u8]]) -> bool
     ensures { IsTrue result → list_any (λ part. has_quote part.now) parts.now ≡ false }
 {

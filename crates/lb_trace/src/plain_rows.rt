@@ -7,16 +7,16 @@ ghost use Rattle.lb_trace.specs.PlainRows.{BeginsWith, plain_row};
 ghost use Rattle.lb_trace.specs.Scan.{cell_of};
 
 use crate::cells::cell_value;
+use crate::fast_cells::{Value, small_cell};
 use crate::header::Column;
 use crate::numbers::{cell_at, four_numbers, last_four, others_in};
 use crate::row_cells::{make_long, put_four, put_one};
 use crate::scan::next_cell;
-use crate::small::{Value, small_cell};
 use crate::truths::four_cells;
 use lb_syntax::Kind;
 use std::alloc::AllocError;
 
-/// Reads the cells of a record into `row`, one for each column, and gives what stands after the
+/// Reads the cells of a record into `row`, one for each column, and returns the text after the
 /// record; None where the cells spell no such row.
 #[inline(always)]
 pub(crate) fn read_line<'t>(
@@ -33,7 +33,7 @@ pub(crate) fn read_line<'t>(
     Ok(fill_line(columns, text, row.as_mut_slice()))
 }
 
-// The same into a row that has a cell for each column.
+// `read_line` into `cells`, which has a cell for each column.
 #[inline(never)]
 fn fill_line<'t>(columns: &[Column], text: &'t [u8], cells: &mut [i32]) -> Option<&'t [u8]>
     requires { length cells.old ≡ length columns.now }
@@ -71,7 +71,7 @@ fn fill_line<'t>(columns: &[Column], text: &'t [u8], cells: &mut [i32]) -> Optio
     last_cells(&columns[i..], rest, &mut cells[i..])
 }
 
-// The same for the last few cells.
+// `fill_line` for the last few cells.
 #[inline(always)]
 fn last_cells<'t>(columns: &[Column], text: &'t [u8], cells: &mut [i32]) -> Option<&'t [u8]>
     requires { length cells.old ≡ length columns.now }
@@ -88,8 +88,8 @@ fn last_cells<'t>(columns: &[Column], text: &'t [u8], cells: &mut [i32]) -> Opti
     last_numbers(columns, text, cells)
 }
 
-// The same where the cells are short numbers; from the first on that is none they are left to
-// `other_cells`.
+// `fill_line` for cells that are short numbers. From the first cell on that is none, `other_cells`
+// reads them.
 #[inline(always)]
 fn last_numbers<'t>(columns: &[Column], text: &'t [u8], cells: &mut [i32]) -> Option<&'t [u8]>
     requires { length cells.old ≡ length columns.now }
@@ -119,8 +119,8 @@ fn last_numbers<'t>(columns: &[Column], text: &'t [u8], cells: &mut [i32]) -> Op
     None
 }
 
-// The same for cells of any length.
-// It stays a call, so that the loop over inner cells keeps what it has in registers.
+// `fill_line` for cells of any length.
+// It stays a call, so that the loop over inner cells keeps its registers.
 #[inline(never)]
 fn other_cells<'t>(columns: &[Column], text: &'t [u8], cells: &mut [i32]) -> Option<&'t [u8]>
     requires { length cells.old ≡ length columns.now }
@@ -146,7 +146,7 @@ fn other_cells<'t>(columns: &[Column], text: &'t [u8], cells: &mut [i32]) -> Opt
     None
 }
 
-// The value of the first cell; None where it spells none.
+// The value of the first cell; None where it is no value of this kind.
 fn any_cell<'t>(kind: Kind, text: &'t [u8]) -> Option<Value<'t>>
     ensures { MatchOption result (cell_value kind (cell_of text.now) ≡ None)
         (λ v. BeginsWith kind text.now v.value v.rest.now v.is_last) }

@@ -6,13 +6,13 @@ ghost use Rattle.lb_trace.specs.Readers.{Reaches};
 
 use crate::error::TraceError;
 use crate::header::columns_of;
+use crate::parallel::read_spread;
 use crate::parts::parts_of;
 use crate::plain::{is_plain, strip_bom};
 use crate::read_plain::read_plain;
 use crate::reader::{next, reader_of};
 use crate::record::width;
 use crate::recorder::Recorder;
-use crate::spread::read_spread;
 use csv::{ByteRecord, Reader};
 use lb_static::Signature;
 use lb_traces::TraceSet;
@@ -58,7 +58,7 @@ pub fn read_traces(
     read_records(alloc, signature, text, &mut reader, &mut record)
 }
 
-/// The same, read by so many workers at most, or by as many as there are processors where it is 0.
+/// `read_traces` by at most `workers` workers, or by as many as there are processors where it is 0.
 /// A text with quotes is read by one.
 pub fn read_traces_by<R: Threads + Sync>(
     rt: &R,
@@ -78,13 +78,13 @@ pub fn read_traces_by<R: Threads + Sync>(
     };
     match read_spread(rt, alloc, signature, &parts) {
         Some(set) => Ok(set),
-        // What has a quote, is refused, or does not join, is judged by one worker.
+        // A text that has a quote, is refused, or does not join, is read by one worker.
         None => read_traces(alloc, signature, text),
     }
 }
 
-// The same of a text that is not too long, with a reader that stands before it, and room for a
-// record.
+// `read_traces` of a text that is not too long; `reader` has read none of it, and `record` is room
+// for a record.
 fn read_records(
     alloc: Global,
     signature: &Signature,

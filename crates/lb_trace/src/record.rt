@@ -6,7 +6,7 @@ ghost use Rattle.lb_trace.specs.Spelling.{after_first};
 
 use csv::ByteRecord;
 
-/// How many cells follow the first one.
+/// The number of cells after the first one.
 pub(crate) fn width(entry: &ByteRecord) -> usize
     ensures { result ≡ length (after_first (fields_of entry.now)) }
 {

@@ -21,12 +21,12 @@ ghost use Rattle.lb_trace.specs.TruthBits.{AreTruthTable};
 use crate::copied::copy_record;
 use crate::error::TraceError;
 use crate::header::Column;
-use crate::known::Known;
-use crate::named::{Named, name_of};
 use crate::placed_rows::read_cells;
 use crate::record::width;
+use crate::record_name::{RecordName, name_of};
 use crate::rows::read_row;
 use crate::scan::Cell;
+use crate::seen_names::SeenNames;
 use crate::table::ColumnTable;
 use crate::truth_bits::read_truths;
 use csv::ByteRecord;
@@ -41,7 +41,7 @@ const MOST_CELLS: usize = 67_108_864;
 #[derive(Drop)]
 pub(crate) struct Recorder {
     pub(crate) rows: TraceRows,
-    pub(crate) names: Known,
+    pub(crate) names: SeenNames,
     pub(crate) row: Vec<i32>,
     values: Vec<i32>,
 }
@@ -78,7 +78,7 @@ fn has_instants(set: &TraceSet) -> bool
     set.length(set.len() - 1) < 1_000_000
 }
 
-/// One more row of the last trace, where the limits have room for it.
+/// Adds one more row to the last trace, where the limits have room for it.
 #[inline(always)]
 pub(crate) fn push_to(rows: &mut TraceRows, row: &[i32], number: u64) -> Result<(), TraceError>
     requires started { 0 < length rows.old.traces }
@@ -99,8 +99,8 @@ pub(crate) fn push_to(rows: &mut TraceRows, row: &[i32], number: u64) -> Result<
     rows.push(row).map_err(TraceError::Memory)
 }
 
-// One more row of the last trace, of Booleans alone that are the bits of a word, where the limits
-// have room for it.
+// Adds one more row to the last trace, where the limits have room for it; all its cells are
+// Booleans, the bits of a word.
 #[inline]
 fn push_bits_to(rows: &mut TraceRows, bits: u64, number: u64) -> Result<(), TraceError>
     requires started { 0 < length rows.old.traces }
@@ -131,13 +131,13 @@ impl Recorder {
     {
         Ok(Recorder {
             rows: TraceRows::new(alloc, signature)?,
-            names: Known::new(alloc),
+            names: SeenNames::new(alloc),
             row: Vec::new(alloc),
             values: Vec::new(alloc),
         })
     }
 
-    /// No trace yet, with room for the cells of a text of so many bytes.
+    /// No trace yet, with room for the cells of a text of `bytes` bytes.
     pub(crate) fn with_room(
         alloc: Global,
         signature: &Signature,
@@ -152,16 +152,16 @@ impl Recorder {
         Ok(recorder)
     }
 
-    /// Makes room for the cells of a text of so many bytes.
+    /// Makes room for the cells of a text of `bytes` bytes.
     pub(crate) fn make_room(&mut self, bytes: usize)
         ensures { self.new ≡ self.old }
     {
-        // A cell takes two bytes at least, its end with it. Where there is no such room at once,
-        // rows make it one by one.
+        // A cell and its end take two bytes at least. Where there is no such room at once, each row
+        // makes its own.
         let _ = self.rows.reserve((bytes / 2 + 1).min(MOST_CELLS));
     }
 
-    /// Lets all traces go, and keeps their memory for others.
+    /// Drops all traces, and keeps their memory for others.
     pub(crate) fn clear(&mut self)
         ensures rows { self.new.rows ≡ record self.old.rows { traces = [] } }
         ensures names { knows self.new.names [] }
@@ -170,7 +170,7 @@ impl Recorder {
         self.names.clear();
     }
 
-    /// Adds a record, of a text whose header has so many columns; `number` is that of the record.
+    /// Adds record number `number` of a text whose header has `columns` columns.
     pub(crate) fn add(
         &mut self,
         alloc: Global,
@@ -214,8 +214,8 @@ impl Recorder {
         }
     }
 
-    /// Adds the first record of a text without quotes, and gives what stands after it; otherwise as
-    /// `add`. A record whose cells spell a row is read in one pass; `entry` is room for another.
+    /// `add` for the first record of a text without quotes; it returns the text after the record. A
+    /// record whose cells spell a row is read in one pass; `entry` is room for any other.
     #[inline(always)]
     pub(crate) fn add_line<'t>(
         &mut self,
@@ -256,8 +256,8 @@ impl Recorder {
         Ok(rest)
     }
 
-    // Adds the first record of a text in one pass, and gives what stands after it; None where its
-    // cells spell no row.
+    // Adds the first record of a text in one pass, and returns the text after it; None where it has
+    // to be read otherwise, as where its cells spell no row.
     #[inline(always)]
     fn add_row<'t>(
         &mut self,
@@ -300,7 +300,8 @@ impl Recorder {
         self.add_cells(alloc, table, text, name, number)
     }
 
-    // The same of a record of the last trace with this name, by a table of Booleans alone.
+    // `add_row` for a record of the last trace, by a table of Booleans alone; `name` is its first
+    // cell.
     fn add_truths<'t>(
         &mut self,
         alloc: Global,
@@ -335,7 +336,7 @@ impl Recorder {
         ensures kept { OnErr result (self.new.rows ≡ self.old.rows) }
     {
         let Some(truths) = read_truths(name.rest, table.count) else {
-            let same = Named {
+            let same = RecordName {
                 cell: name,
                 is_same: true,
             };
@@ -345,14 +346,14 @@ impl Recorder {
         Ok(Some(truths.rest))
     }
 
-    // The same of a record with this name, whose cells stand after it.
+    // `add_row` for a record with the name `name`, whose other cells stand after it.
     #[inline(always)]
     fn add_cells<'t>(
         &mut self,
         alloc: Global,
         table: &ColumnTable,
         text: &[u8],
-        name: Named<'t>,
+        name: RecordName<'t>,
         number: u64,
     ) -> Result<Option<&'t [u8]>, TraceError>
         requires names { knows self.old.names self.old.rows.traces }
@@ -389,7 +390,7 @@ impl Recorder {
         Ok(Some(rest))
     }
 
-    /// One more instant of the trace with this name, whose row was read.
+    /// Adds the row that was read as one more instant of the trace with this name.
     pub(crate) fn add_read(
         &mut self,
         alloc: Global,
@@ -413,7 +414,7 @@ impl Recorder {
         self.add_named(alloc, name, is_same, number)
     }
 
-    // The same where it is known whether the last trace has the name.
+    // `add_read` where `is_same` says whether the last trace has the name.
     #[inline(always)]
     fn add_named(
         &mut self,
@@ -443,7 +444,7 @@ impl Recorder {
         }
     }
 
-    // One more trace with the row that was read, where its name is lawful and new.
+    // Adds one more trace with the row that was read, where its name is lawful and new.
     fn start_row(&mut self, alloc: Global, name: &[u8], number: u64) -> Result<(), TraceError>
         requires names { knows self.old.names self.old.rows.traces }
         requires row { IsRow self.old.rows.signature self.old.row.items }
@@ -463,7 +464,7 @@ impl Recorder {
         self.begin_row(text, number)
     }
 
-    // One more instant of the last trace, whose row was read.
+    // Adds the row that was read as one more instant of the last trace.
     #[inline(always)]
     fn push_row(&mut self, number: u64) -> Result<(), TraceError>
         requires started { 0 < length self.old.rows.traces }
@@ -480,7 +481,7 @@ impl Recorder {
         push_to(&mut self.rows, &self.row, number)
     }
 
-    // One more instant of the last trace.
+    // Adds the row of `entry` as one more instant of the last trace.
     fn go_on(&mut self, table: &[Column], entry: &ByteRecord, number: u64) -> Result<(), TraceError>
         requires started { 0 < length self.old.rows.traces }
         requires kinds { RowsFollow table.now self.old.rows.signature }
@@ -504,7 +505,7 @@ impl Recorder {
         self.push_row(number)
     }
 
-    // One more trace, where its name is lawful and new.
+    // Adds one more trace with the row of `entry`, where its name is lawful and new.
     fn start(
         &mut self,
         alloc: Global,
@@ -531,7 +532,7 @@ impl Recorder {
         self.begin(text, table, entry, number)
     }
 
-    // One more trace.
+    // Adds one more trace with the row of `entry`; its name is lawful and new.
     fn begin(
         &mut self,
         name: &str,
@@ -562,7 +563,7 @@ impl Recorder {
         self.begin_row(name, number)
     }
 
-    // One more trace with the row that was read.
+    // Adds one more trace with the row that was read; its name is lawful and new.
     fn begin_row(&mut self, name: &str, number: u64) -> Result<(), TraceError>
         requires name { IsTraceName name.now }
         requires fresh { ¬ (Contains (trace_names self.old.rows.traces) name.now) }

@@ -1,7 +1,7 @@
-//! The names and lengths of traces whose rows have been let go.
+//! The names and lengths of traces whose rows have been dropped.
 //!
-//! What further records of a text mean hangs on no more than these: which names there are, how many
-//! instants the last trace has, and how many all have together.
+//! The meaning of further records of a text depends on no more than these: the names, the number of
+//! instants of the last trace, and the number of instants of all traces together.
 
 ghost use Rattle.std.specs.Prelude.{◌≡◌, ◌<◌, ◌≤◌, ◌+◌, ◌-◌, ◌*◌, nat_le, nat_lt, length};
 ghost use Rattle.std.specs.Prelude.{IfOk, OnOk, [], get_or, true, false};
@@ -15,10 +15,10 @@ ghost use Rattle.lb_trace.specs.RowRefusals.{room_by};
 
 use crate::copied::copy_record;
 use crate::error::TraceError;
-use crate::known::Known;
 use crate::record::width;
 use crate::recorder::is_last;
 use crate::rows::read_row;
+use crate::seen_names::SeenNames;
 use crate::table::ColumnTable;
 use csv::ByteRecord;
 use lb_static::Signature;
@@ -34,28 +34,28 @@ const MOST_TRACES: u32 = 1_000_000;
 /// The most instants of a trace.
 const MOST_INSTANTS: u32 = 1_000_000;
 
-/// The names of traces, one after the other, and how many instants each has.
+/// The names of traces, one after the other, and the number of instants of each.
 #[derive(Drop)]
 pub struct Roll {
-    /// The traces with one row each, of no cells.
+    /// The traces with one row each, without cells.
     pub(crate) names: TraceRows,
-    pub(crate) known: Known,
+    pub(crate) known: SeenNames,
     pub(crate) lengths: Vec<u32>,
-    /// How many instants all have together.
+    /// The number of instants of all traces together.
     pub(crate) instants: u64,
-    /// How many cells an instant has, at least one.
+    /// The number of cells of an instant, at least one.
     pub(crate) cells: u64,
 }
 
-// The number of the first record for which there are too many cells, where each has so many.
+// The number of the first record past the limit of cells, where each record has `cells` cells.
 fn first_past_cells(cells: u64) -> u64
     requires { 0 < cells }
 {
     MOST_CELLS / cells + 1
 }
 
-// What is wrong with the cells of a record, where there is room for one more instant, or not; E0
-// where nothing is.
+// The refusal of the cells of a record; `has_room` says whether there is room for one more instant.
+// It is E0 where nothing is wrong with them.
 fn refusal_of_cells(
     alloc: Global,
     table: &ColumnTable,
@@ -76,8 +76,8 @@ fn refusal_of_cells(
     }
 }
 
-// Why a trace is refused whose name is there. No record with the name of the last trace is refused
-// for it, so that one is given up.
+// The refusal of a trace whose name is known. The name of the last trace is no cause of refusal:
+// for it the error is E0.
 fn refusal_of_name(names: &TraceSet, name: &str, record: u64) -> TraceError
     ensures last { is_last name.now names.now.traces ≡ true → error_number result ≡ 0 }
     ensures other { is_last name.now names.now.traces ≡ false → error_number result ≡ 17 }
@@ -109,7 +109,7 @@ impl Roll {
         let none = Signature::new(alloc);
         Ok(Roll {
             names: TraceRows::new(alloc, &none)?,
-            known: Known::new(alloc),
+            known: SeenNames::new(alloc),
             lengths: Vec::new(alloc),
             instants: 0,
             cells: u64::from(signature.len().max(1)),
@@ -123,7 +123,7 @@ impl Roll {
         self.names.set()
     }
 
-    /// Puts the traces of a set behind these. An error is the first refusal of their records there.
+    /// Appends the traces of a set. An error is the first refusal of their records behind the roll.
     pub fn append(self, alloc: Global, set: &TraceSet) -> Result<Roll, TraceError>
         requires roll { IsRoll self }
         ensures roll { IfOk result IsRoll }
@@ -139,8 +139,8 @@ impl Roll {
         Ok(roll)
     }
 
-    /// Puts the traces of another roll behind these. An error is the first refusal of their records
-    /// there.
+    /// Appends the traces of another roll. An error is the first refusal of their records behind
+    /// this roll.
     pub fn append_roll(self, alloc: Global, other: &Roll) -> Result<Roll, TraceError>
         requires roll { IsRoll self }
         requires other { IsRoll other.now }
@@ -160,8 +160,8 @@ impl Roll {
         Ok(roll)
     }
 
-    // Puts a trace of so many instants behind these, where none has its name. After an error what
-    // they are is not known.
+    // Appends a trace of `length` instants, where no trace has its name. After an error the roll is
+    // of no use.
     fn append_trace(&mut self, alloc: Global, name: &str, length: u32) -> Result<(), TraceError>
         requires roll { IsRoll self.old }
         requires name { IsTraceName name.now }
@@ -197,8 +197,8 @@ impl Roll {
         Ok(())
     }
 
-    /// Why the first record of a text without quotes is refused behind these traces; E0 where it is
-    /// not.
+    /// The refusal of the first record of a text without quotes behind these traces; E0 where it is
+    /// not refused.
     pub fn refusal_of_line(self, alloc: Global, table: &ColumnTable, text: &[u8]) -> TraceError
         requires { IsRoll self }
         ensures { (elements : Elements) → (traces : Traces) → IsRollOf elements self traces
@@ -213,7 +213,7 @@ impl Roll {
         }
     }
 
-    /// Why a record is refused behind these traces; E0 where it is not.
+    /// The refusal of a record behind these traces; E0 where it is not refused.
     pub fn refusal_of(self, alloc: Global, table: &ColumnTable, entry: &ByteRecord) -> TraceError
         requires { IsRoll self }
         ensures { (elements : Elements) → (traces : Traces) → IsRollOf elements self traces
@@ -245,7 +245,7 @@ impl Roll {
         }
     }
 
-    // The same of a record of the last trace, with a cell for each column.
+    // `refusal_of` for a record of the last trace, with a cell for each column.
     fn refusal_of_more(self, alloc: Global, table: &ColumnTable, entry: &ByteRecord) -> TraceError
         requires roll { IsRoll self }
         requires started { 0 < length self.names.traces }
@@ -257,7 +257,7 @@ impl Roll {
         refusal_of_cells(alloc, table, entry, self.instants + 1, has_room)
     }
 
-    // The same of a record of another trace.
+    // `refusal_of` for a record of another trace, with a cell for each column.
     fn refusal_of_first(
         self,
         alloc: Global,

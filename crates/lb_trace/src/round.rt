@@ -1,4 +1,4 @@
-//! The traces of a part of a text, which are read piece by piece.
+//! The traces of a part of a text that is read piece by piece.
 
 ghost use Rattle.std.specs.Prelude.{◌≡◌, [], IfErr, IfOk, Ok, OnErr, OnOk};
 ghost use Rattle.csv.specs.Records.{fields_of};
@@ -18,7 +18,7 @@ use lb_static::Signature;
 use lb_traces::TraceSet;
 use std::alloc::{AllocError, Global};
 
-/// Where reading stopped: why, and the text from the record on that was not added.
+/// The stop of a reading: its cause, and the text from the record on that was not added.
 #[derive(Drop)]
 pub struct Stopped<'t> {
     pub cause: TraceError,
@@ -35,7 +35,7 @@ pub struct RoundReader {
 impl RoundReader {
     ghost use Rattle.lb_trace.specs.RoundReaders.{IsRound, goes_on};
 
-    /// No trace yet, with room for so many cells.
+    /// No trace yet, with room for `cells` cells.
     pub fn new(
         alloc: Global,
         signature: &Signature,
@@ -51,7 +51,7 @@ impl RoundReader {
         })
     }
 
-    /// Lets all traces go, and keeps their memory for others.
+    /// Drops all traces, and keeps their memory for others.
     pub fn clear(&mut self)
         ensures { IsRound self.old.recorder.rows.signature [] self.new }
     {

@@ -1,10 +1,10 @@
-//! The cells of a row, which are written one after the other.
+//! The cells of a row, written one after the other.
 
 ghost use Rattle.std.specs.Prelude.{◌≡◌, ◌<◌, ◌≤◌, ◌+◌, ◌++◌, ◌∷◌, [], OnOk, length, take};
 
 use std::alloc::AllocError;
 
-/// Makes a row as long as it has to be. What stands in it is of no use.
+/// Makes a row `count` cells long. Its cells have no meaning yet.
 #[inline(always)]
 pub(crate) fn make_long(row: &mut Vec<i32>, count: usize) -> Result<(), AllocError>
     ensures { OnOk result (length row.new.items ≡ count) }
@@ -16,7 +16,7 @@ pub(crate) fn make_long(row: &mut Vec<i32>, count: usize) -> Result<(), AllocErr
     Ok(())
 }
 
-/// Writes the cell at a place.
+/// Writes the cell at place `i`.
 #[inline(always)]
 pub(crate) fn put_one(cells: &mut [i32], i: usize, value: i32)
     requires { i < length cells.old }
@@ -26,7 +26,7 @@ pub(crate) fn put_one(cells: &mut [i32], i: usize, value: i32)
     cells[i] = value;
 }
 
-/// Writes four cells from a place on.
+/// Writes four cells from place `i` on.
 #[inline(always)]
 pub(crate) fn put_four(cells: &mut [i32], i: usize, values: [i32; 4])
     requires { i + 4 ≤ length cells.old }

@@ -11,8 +11,8 @@ use crate::record::cell;
 use csv::ByteRecord;
 use std::alloc::AllocError;
 
-/// Reads the cells of a record into `row`, in the order of the columns; the column of the
-/// first cell that is no value of it, counted from 0.
+/// Reads the cells of a record into `row`, in the order of `columns`. Returns the number of the
+/// column, counted from 0, of the first cell that is no value of its column; None if all are.
 pub(crate) fn read_row(
     columns: &[Column],
     entry: &ByteRecord,

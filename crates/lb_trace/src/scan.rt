@@ -6,7 +6,7 @@ ghost use Rattle.lb_trace.specs.Lines.{after_line, record_of};
 ghost use Rattle.lb_trace.specs.Plain.{ends_line, plain_records};
 ghost use Rattle.lb_trace.specs.Scan.{after_cell, begun_records, cell_of, ends_cell, is_last_cell};
 
-/// A cell, what stands after it, and whether it is the last one of its record.
+/// A cell, the text after it, and whether it is the last one of its record.
 #[derive(Clone, Copy)]
 pub(crate) struct Cell<'t> {
     pub(crate) bytes: &'t [u8],
@@ -14,7 +14,7 @@ pub(crate) struct Cell<'t> {
     pub(crate) is_last: bool,
 }
 
-/// Whether a byte that ends a cell ends its record too; None where it ends none.
+/// Whether a byte that ends a cell ends its record too; None where it ends no cell.
 #[inline(always)]
 pub(crate) fn end_of(b: u8) -> Option<bool>
     ensures { MatchOption result (ends_cell b ≡ false)
@@ -52,7 +52,7 @@ pub(crate) fn next_cell<'t>(text: &'t [u8]) -> Cell<'t>
         ≡ result.bytes.now ∷ (if result.is_last then [] else record_of result.rest.now) }
     ensures after { after_line text.now
         ≡ (if result.is_last then result.rest.now else after_line result.rest.now) }
-    // The three by themselves.
+    // Each of the three fields by itself.
     ensures bytes { result.bytes.now ≡ cell_of text.now }
     ensures rest { result.rest.now ≡ after_cell text.now }
     ensures last { result.is_last ≡ is_last_cell text.now }

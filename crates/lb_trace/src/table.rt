@@ -1,4 +1,4 @@
-//! The header of a text, as a table of columns, and how these stand in the text.
+//! The header of a text, as a table of columns, and their order in the text.
 
 ghost use Rattle.std.specs.Prelude.{◌≡◌, ◌<◌, ◌≤◌, IsTrue, IfOk, IfSome, MatchOption, false};
 ghost use Rattle.std.specs.Prelude.{length, true};
@@ -18,19 +18,19 @@ use std::alloc::{AllocError, Global};
 /// The columns of the scalar inputs.
 #[derive(Drop)]
 pub struct ColumnTable {
-    /// The record that names them.
+    /// The record that names the columns.
     pub(crate) header: ByteRecord,
-    /// They in the order of the signature.
+    /// The columns in the order of the signature.
     pub(crate) columns: Vec<Column>,
-    /// How many columns the header has.
+    /// The number of columns of the header.
     pub(crate) count: usize,
-    /// Whether these are all of them, and each stands at its place in the signature.
+    /// Whether `columns` are all of the header, and each stands at its place in the signature.
     pub(crate) in_order: bool,
-    /// They in the order of the text, for columns that stand in another order.
+    /// The columns in the order of the text.
     pub(crate) placed: Vec<Column>,
-    /// Whether these are all columns, and each of the others has one of its kind at its place.
+    /// Whether `placed` are all of the header, and have each of `columns` at its place.
     pub(crate) is_placed: bool,
-    /// Whether they stand in the order of the signature and are Booleans alone, at most 64.
+    /// Whether the columns stand in the order of the signature and are at most 64, all Booleans.
     pub(crate) are_truths: bool,
 }
 
@@ -64,8 +64,8 @@ pub fn table_of(
     }))
 }
 
-// Whether columns stand in the order of a signature of Booleans alone, so few that one word holds a
-// row.
+// Whether the columns stand in the order of the signature, and are 1 to 64 Booleans, so that one
+// word holds a row.
 fn are_truths(signature: &Signature, in_order: bool) -> bool
     ensures { IsTrue result → IsTrue in_order × AreTruths signature.now }
 {
@@ -81,7 +81,7 @@ fn are_truths(signature: &Signature, in_order: bool) -> bool
     true
 }
 
-// Whether each column stands at its place in the order of the signature, with none beside them.
+// Whether each column stands at its place in the signature, and the header has no other columns.
 fn are_in_order(table: &[Column], columns: usize) -> bool
     ensures { IsTrue result → (length table.now ≡ columns) × AreInOrder 0 table.now }
 {
@@ -96,7 +96,7 @@ fn are_in_order(table: &[Column], columns: usize) -> bool
     true
 }
 
-// The columns of a table in the order of the text, of a header that has so many.
+// The columns of a table in the order of the text, whose header has `columns` columns.
 fn in_text_order(alloc: Global, table: &[Column], columns: usize) -> Result<Vec<Column>, AllocError>
     ensures { IfOk result (λ placed. length placed.items ≤ columns) }
 {
@@ -121,7 +121,7 @@ fn column_at(table: &[Column], at: usize) -> Option<Column>
     None
 }
 
-// Whether these are so many columns, and each of a table stands at its place among them.
+// Whether `placed` are `columns` columns, and have each column of `table` at its place.
 fn are_placed(placed: &[Column], table: &[Column], columns: usize) -> bool
     ensures { IsTrue result → (length placed.now ≡ columns) × ArePlaced placed.now table.now }
 {

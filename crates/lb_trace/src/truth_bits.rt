@@ -1,24 +1,24 @@
 //! The cells of a record that are Booleans of one digit, as the bits of a word.
 //!
-//! A cell and the comma after it are two bytes, which are read as one number of 16 bits: so many
-//! of them stand in a vector.
+//! A cell and the comma after it are two bytes, which are read as one number of 16 bits. A vector
+//! has sixteen of these numbers.
 
 ghost use Rattle.std.specs.Prelude.{◌≡◌, ◌<◌, ◌≤◌, ◌^◌, IfSome, length};
 ghost use Rattle.lb_trace.specs.Lines.{after_line};
 ghost use Rattle.lb_trace.specs.TruthBits.{HasBits, SpellsBits, ones_in, truths_in};
 
+use crate::fast_cells::is_bit;
 use crate::scan::ends_line;
-use crate::small::is_bit;
 use std::simd::prelude::*;
 
-/// The Booleans of a record as bits, the first one the lowest, and what stands after the record.
+/// The Booleans of a record as bits, the first one the lowest, and the text after the record.
 #[derive(Clone, Copy)]
 pub(crate) struct Truths<'t> {
     pub(crate) bits: u64,
     pub(crate) rest: &'t [u8],
 }
 
-/// Reads the cells of a record that are so many digits 0 or 1. None says nothing of the text.
+/// Reads the cells of a record that are `count` digits 0 or 1. None says nothing of the text.
 pub(crate) fn read_truths<'t>(text: &'t [u8], count: usize) -> Option<Truths<'t>>
     requires some { 0 < count }
     requires few { count ≤ 64 }
@@ -51,8 +51,8 @@ pub(crate) fn read_truths<'t>(text: &'t [u8], count: usize) -> Option<Truths<'t>
     })
 }
 
-// The bits of so many cells at the front of a text, where each is a digit 0 or 1 with a comma after
-// it. None says nothing of the text.
+// The bits of the first `count` cells of a text, where each is a digit 0 or 1 before a comma. None
+// says nothing of the text.
 #[inline(always)]
 fn inner_bits(text: &[u8], count: usize) -> Option<u64>
     requires { count ≤ 16 }
@@ -71,7 +71,7 @@ fn inner_bits(text: &[u8], count: usize) -> Option<u64>
 // A digit 0 and the comma after it.
 const ZERO: u16 = 0x2C30;
 
-// Those of the first sixteen pairs of bytes that are a digit 0 or 1 and a comma.
+// The first sixteen pairs of bytes, as bits: 1 where a pair is a digit 0 or 1 and a comma.
 #[inline(always)]
 fn truths_in(text: &[u8]) -> u64
     requires { 31 < length text.now }
@@ -82,7 +82,7 @@ fn truths_in(text: &[u8]) -> u64
     from_zero.simd_le(u16x16::splat(1)).to_bitmask()
 }
 
-// Those that are a digit 1 and a comma.
+// The first sixteen pairs of bytes, as bits: 1 where a pair is a digit 1 and a comma.
 #[inline(always)]
 fn ones_in(text: &[u8]) -> u64
     requires { 31 < length text.now }

@@ -3,8 +3,8 @@
 ghost use Rattle.std.specs.Prelude.{◌≡◌, ◌<◌, IfSome, IsTrue, drop, length};
 ghost use Rattle.lb_trace.specs.TruthCells.{AreTruths, GoesOn};
 
+use crate::fast_cells::bit_of;
 use crate::header::Column;
-use crate::small::bit_of;
 use lb_syntax::Kind;
 use std::simd::prelude::*;
 

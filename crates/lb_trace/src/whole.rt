@@ -1,4 +1,4 @@
-//! The whole traces at the front of a text of which more is to come.
+//! The whole traces at the front of a text that is not read to its end yet.
 //!
 //! ```text
 //! a,1 | a,5 | b,0 | b,7 | b,
@@ -18,7 +18,8 @@ ghost use Rattle.lb_trace.specs.WholeTraces.{EndsTrace, IsBlankBefore, IsLineBef
 use crate::scan::{ends_line, next_cell};
 use memchr::memrchr2;
 
-// Where the last line ends that is not empty, of the bytes before a place: after its last byte.
+// The place behind the last byte that ends no line, of the bytes before a place; 0 where there is
+// none.
 fn past_line(text: &[u8], before: usize) -> usize
     requires { before ≤ length text.now }
     ensures within { result ≤ before }
@@ -32,7 +33,7 @@ fn past_line(text: &[u8], before: usize) -> usize
     past
 }
 
-// Where the line begins whose bytes stand before a place.
+// The place at which the line begins whose bytes stand before place `past`.
 fn line_start(text: &[u8], past: usize) -> usize
     requires { past ≤ length text.now }
     ensures within { result ≤ past }
@@ -45,7 +46,7 @@ fn line_start(text: &[u8], past: usize) -> usize
     }
 }
 
-// Where the last line begins that is not empty, of those that begin before a place.
+// The place at which the last line begins that begins before `place` and is not empty.
 fn line_before(text: &[u8], place: usize) -> Option<usize>
     requires { place ≤ length text.now }
     ensures { MatchOption result (IsBlankBefore text.now place)
@@ -66,13 +67,13 @@ fn name_at(text: &[u8], start: usize) -> &[u8]
     next_cell(&text[start..]).bytes
 }
 
-// Whether a cell may spell another text than its bytes.
+// Whether a cell is in quotes, so that it may spell another text than its bytes.
 fn is_quoted(cell: &[u8]) -> bool {
     matches!(cell, [b'"', ..])
 }
 
-/// How many bytes at the front of a text are lines of whole traces; 0 where that is not known of
-/// any. What stands behind them may be a part of a trace, and of a line.
+/// The number of bytes at the front of a text that are lines of whole traces; 0 where no trace is
+/// known to be whole. The bytes behind them may be a part of a trace, and of a line.
 pub fn whole_traces(text: &[u8]) -> usize
     ensures within { result ≤ length text.now }
     ensures ended { 0 < result → is_ended (take result text.now) ≡ true }
@@ -87,7 +88,7 @@ pub fn whole_traces(text: &[u8]) -> usize
     if is_quoted(name) {
         return 0;
     }
-    // The line at `start` has the name, and a line before `other`, if there is one, another.
+    // The line at `start` has this name; the line before `other`, if there is one, has another.
     let mut start = last;
     let mut other = 0;
     'lines: while other < start {

@@ -15,11 +15,11 @@
 //! eights  |  12345678
 //! ```
 //!
-//! Each step makes one number of two neighbours: the first times 10, 100 or 10,000, plus the second.
+//! Each step makes one number of two neighbours: the first times 10, 100 or 10,000, plus the other.
 //! So it leaves half as many lanes, each of them twice as wide.
 
-ghost use Rattle.std.specs.Prelude.{◌≡◌, ℕ, ◌+◌, ◌-◌, ◌*◌, ◌<◌, ◌==◌, All, not, drop, get_or, length};
-ghost use Rattle.std.specs.Prelude.{map, take};
+ghost use Rattle.std.specs.Prelude.{◌≡◌, ℕ, ◌+◌, ◌-◌, ◌*◌, ◌<◌, ◌==◌, All, not, drop, get_or};
+ghost use Rattle.std.specs.Prelude.{length, map, take};
 ghost use Rattle.std.specs.List.{list_any};
 ghost use lib.Lanes.{zip2};
 ghost use Rattle.lb_trace.specs.Fronts.{bytes_of};
@@ -38,7 +38,7 @@ pub(crate) fn values_of(words: u64x4) -> [i32; 4]
     signed(minus_of(bytes), eights)
 }
 
-// The digits that bytes are; 0 for a minus sign, and where there is no byte.
+// The values of the digits; 0 for a minus sign, and where there is no digit.
 #[inline(always)]
 fn digits_of(bytes: u8x32) -> u8x32
     requires { length bytes ≡ 32 }
@@ -48,7 +48,7 @@ fn digits_of(bytes: u8x32) -> u8x32
     bytes.saturating_sub(u8x32::splat(b'0'))
 }
 
-// What each two digits count.
+// The number that each two digits make.
 #[inline(always)]
 fn pairs_of(digits: u8x32) -> u16x16
     requires long { length digits ≡ 32 }
@@ -61,7 +61,7 @@ fn pairs_of(digits: u8x32) -> u16x16
     (u16x16::from_le_bytes(digits) * u16x16::splat(2561)) >> u16x16::splat(8)
 }
 
-// What each two pairs count.
+// The number that each two pairs make.
 #[inline(always)]
 fn fours_of(pairs: u16x16) -> u32x8
     requires long { length pairs ≡ 16 }
@@ -75,7 +75,7 @@ fn fours_of(pairs: u16x16) -> u32x8
     (both * u32x8::splat(6_553_601)) >> u32x8::splat(16)
 }
 
-// What each two fours count.
+// The number that each two fours make.
 #[inline(always)]
 fn eights_of(fours: u32x8) -> u64x4
     requires long { length fours ≡ 8 }
@@ -103,7 +103,7 @@ fn minus_of(bytes: u8x32) -> u64x4
     u64x4::from_le_bytes(hits)
 }
 
-// Numbers, or 2^32 less them where a minus sign is set.
+// Each number `n`, or 2^32 - n in 32 bits where its word has a minus sign.
 #[inline(always)]
 fn turned_of(minus: u64x4, numbers: u64x4) -> u64x4
     requires long { length numbers ≡ 4 }
@@ -119,7 +119,7 @@ fn turned_of(minus: u64x4, numbers: u64x4) -> u64x4
     turned & u64x4::splat(0xFFFF_FFFF)
 }
 
-// Numbers, each of them negative where a minus sign is set.
+// The numbers with their signs: negative where the word has a minus sign.
 #[inline(always)]
 fn signed(minus: u64x4, numbers: u64x4) -> [i32; 4]
     requires long { length numbers ≡ 4 }

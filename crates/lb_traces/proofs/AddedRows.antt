@@ -15,8 +15,8 @@ use Rattle.std.specs.List.{All, Contains, range_with_len}
 use Rattle.lb_syntax.specs.declared.tree.Kind.{Kind}
 use Rattle.lb_static.specs.Signature.{Elements, kinds_of}
 use Rattle.lb_traces.specs.Traces.{Row, Trace, Traces, Recording, IsRow, IsTraceName, HasRoom}
-use Rattle.lb_traces.specs.Traces.{HasRoomFor, trace_names, instants_of, cells_of_instant, last_rows}
-use Rattle.lb_traces.specs.Traces.{with_row, with_rows, with_trace}
+use Rattle.lb_traces.specs.Traces.{HasRoomFor, trace_names, instants_of, cells_of_instant}
+use Rattle.lb_traces.specs.Traces.{last_rows, with_row, with_rows, with_trace}
 use Rattle.lb_traces.specs.Ledger.{place, last_place}
 use Rattle.lb_traces.specs.Stored.{stored, IsStored}
 use Rattle.lb_traces.specs.Packed.{truth_columns, number_columns, bit_in, truth_in}
@@ -32,7 +32,7 @@ use Rattle.lb_traces.proofs.HeldRows.{cells_more, filled_more, row_pushed, integ
 
 -- ## One more row
 
--- the cells and the filling after one more row
+-- the cells of a set after one more row, and the filling of its integers and words
 pub record OneMore (elements : Elements) (numbers : List ℤ) (words ends integers : List ℕ)
     (row : Row) (new : List ℕ) (rows : ℕ) : Type 0 where
   pub cells :
@@ -86,7 +86,7 @@ one_more elements names numbers words ends integers truths places row new rows i
           (subst (λ ns. AreFilled kinds (last + 1) ns (words ++ pushed.more)) numbers_are filled));
     }
 
--- the columns of a kind lie within a row
+-- the columns of the integers lie within a row that follows the signature
 pub integers_in :
     (old : Recording) (elements : Elements) (names : List (List ℕ)) (numbers : List ℤ)
     (words ends integers truths places : List ℕ) (row : Row) →
@@ -139,7 +139,7 @@ pub record Changed (elements : Elements) (names : List (List ℕ)) (numbers : Li
   pub is : IsSet elements names numbers words ends integers truths places
   pub view : stored elements names (cells_of elements numbers words ends) ends ≡ new
 
--- one more trace
+-- a set with the parts of one more trace has that trace at the end
 pub set_started :
     (old : Recording) (elements : Elements) (names : List (List ℕ)) (numbers : List ℤ)
     (words ends integers truths places : List ℕ) (name : List ℕ) (row : Row) (new : List ℕ) →
@@ -172,7 +172,7 @@ set_started old elements names numbers words ends integers truths places name ro
           ∙ start_adds old elements names cells ends name row view is.parts follows;
     }
 
--- one more row of the last trace
+-- a set with the parts of one more row has that row at the end of the last trace
 pub set_pushed :
     (old : Recording) (elements : Elements) (names : List (List ℕ)) (numbers : List ℤ)
     (words ends integers truths places : List ℕ) (row : Row) (last : ℕ) (new : List ℕ) →
@@ -231,7 +231,7 @@ with_rows_after (t ∷ u ∷ []) row rows = ap (λ r. t ∷ r) (with_rows_after 
 with_rows_after (t ∷ u ∷ v ∷ more) row rows =
     ap (λ r. t ∷ r) (with_rows_after (u ∷ v ∷ more) row rows)
 
--- what one more row changes
+-- the counts after one more row of the last trace
 record Grows (traces : Traces) (row : Row) : Type 0 where
   pub count : length (with_row traces row) ≡ length traces
   pub last : length (last_rows (with_row traces row)) ≡ length (last_rows traces) + 1
@@ -261,7 +261,7 @@ grows traces row some =
           ∙ ap (λ n. n + 1) (sym (ap instants_of f.is ∙ sum_by_push instants_in f.front f.last));
     }
 
--- cells and places after more rows of the last trace
+-- the cells and the places after the rows `rows` of the last trace
 record Added (old : Recording) (elements : Elements) (names : List (List ℕ)) (cells : List ℤ)
     (ends : List ℕ) (last : ℕ) (rows : List Row) : Type 0 where
   pub keeps :
@@ -341,7 +341,7 @@ rows_added (row ∷ rows) old elements names cells ends last view is some follow
           ∙ h.adds ∙ ap whole (with_rows_after old.traces row rows);
     }
 
--- the cells after so many rows more
+-- the cells after `n` more rows are the old ones and then those of the rows `f`
 cells_further :
     (kinds : List Kind) (numbers : List ℤ) (words : List ℕ) (rows : ℕ) (old : List ℤ)
     (f : ℕ → Row) (first : ℕ) → cells_held kinds numbers words rows ≡ old → (n : ℕ) →
@@ -366,7 +366,7 @@ cells_further kinds numbers words rows old f first is (suc n) each =
     ∙ ap (λ l. old ++ l) (sym (joined_push before (f (first + n))))
     ∙ ap (λ rs. old ++ joined rs) (sym more)
 
--- what stands at a place of a part of all
+-- place `p` of row `j` of a part of `xs` is place `p` of row `first + j` of `xs`
 taken_at :
     {A : Type 0} (xs : List A) (width first n j p : ℕ) (d : A) → j < n → p < width →
     get_or (drop (j * width) (take (n * width) (drop (first * width) xs))) p d
@@ -381,7 +381,7 @@ taken_at xs width first n j p d l lp =
     ∙ ap (λ k. get_or xs k d) there
     ∙ sym (get_or-drop ((first + j) * width) xs p d)
 
--- how long a part is
+-- the length of a part of `n` rows is `n * width`
 pub length-taken :
     {A : Type 0} (xs : List A) (width first n rows : ℕ) → length xs ≡ rows * width →
     first + n ≤ rows → length (take (n * width) (drop (first * width) xs)) ≡ n * width

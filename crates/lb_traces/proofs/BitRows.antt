@@ -1,4 +1,4 @@
--- A row of Booleans alone whose bits were pushed as one word.
+-- A row that is all Booleans, whose bits are pushed as one word.
 use Rattle.std.proofs.Common.{ℕ, zero, suc, ◌≡◌, ◌+◌, ◌*◌, ◌^◌, ◌<◌, ◌≤◌, ◌==◌, Bool, true, false}
 use Rattle.std.proofs.Common.{List, [], ◌∷◌, ◌++◌, ℤ, pos, length, get_or, map, set, refl, sym, ap}
 use Rattle.std.proofs.Common.{◌∙◌, inl, inr, ⊎_elim, arith, subst}
@@ -15,8 +15,8 @@ use Rattle.lb_syntax.specs.declared.tree.Kind.TheVariants.{Int as Int_kind, Bool
 use Rattle.lb_static.specs.Signature.{Element, Elements, kinds_of}
 use Rattle.lb_traces.specs.BitRows.{AreTruths, row_of_bits}
 use Rattle.lb_traces.specs.Ledger.{last_place}
-use Rattle.lb_traces.specs.Packed.{HasPushed, IsSet, cells_of, number_columns, numbers_in, truth_cell}
-use Rattle.lb_traces.specs.Packed.{truth_columns, truth_in}
+use Rattle.lb_traces.specs.Packed.{HasPushed, IsSet, cells_of, number_columns, numbers_in}
+use Rattle.lb_traces.specs.Packed.{truth_cell, truth_columns, truth_in}
 use Rattle.lb_traces.specs.Stored.{stored}
 use Rattle.lb_traces.specs.Traces.{HasRoom, IsCell, IsRow, Recording, last_rows, with_row}
 use Rattle.lb_traces.proofs.AddedRows.{Changed, set_pushed}
@@ -25,7 +25,7 @@ use Rattle.lb_traces.proofs.PackedRows.{no_truth}
 abbrev bit_cell : ℕ → ℕ → ℤ
 bit_cell word b = truth_cell (bit_at word b == 1)
 
--- the columns of Booleans alone are all columns
+-- where all columns are Booleans, the columns of Booleans are all columns
 all-truths : (elements : Elements) (j : ℕ) → All (λ e. e.1 ≡ Bool_kind) elements
     → truth_columns j (kinds_of elements) ≡ range_with_len j (length elements)
 all-truths [] j all = refl
@@ -123,7 +123,7 @@ module _ (elements : Elements) (word : ℕ) (are : AreTruths elements)
       first zero l = refl
       first (suc g) l = absurd (omega (arith, l))
 
--- such a row has no integers
+-- a row that is all Booleans adds no integers
 pub nothing-pushed : (elements : Elements) (numbers row : List ℤ) (integers : List ℕ)
     → AreTruths elements → integers ≡ number_columns 0 (kinds_of elements)
     → numbers ++ numbers_in row integers ≡ numbers
@@ -131,7 +131,7 @@ nothing-pushed elements numbers row integers are is =
     ap (λ l. numbers ++ numbers_in row l) (is ∙ no-integers elements 0 are.booleans)
     ∙ append-nil numbers
 
--- one more such row of the last trace
+-- a set with one more word has the row of its bits at the end of the last trace
 pub bits-pushed :
     (old : Recording) (elements : Elements) (names : List (List ℕ)) (numbers : List ℤ)
     (words ends integers truths places : List ℕ) (word last : ℕ) →

@@ -1,4 +1,4 @@
--- A set after the rows of a trace of another set, from one on.
+-- A set to which the rows of a trace of another set, from one row on, are added.
 use Rattle.std.proofs.Common.{ℕ, ◌≡◌, ◌+◌, ◌-◌, ◌*◌, ◌<◌, ◌≤◌, List, [], ◌++◌, ℤ, length, map}
 use Rattle.std.proofs.Common.{get_or}
 use Rattle.std.proofs.Common.{set, take, drop, sym, ap, ap₂, ◌∙◌, subst, arith}
@@ -16,7 +16,7 @@ use Rattle.lb_traces.proofs.StoredRows.{instants-stored}
 use Rattle.lb_traces.proofs.AddedRows.{Changed, set_extended}
 use Rattle.lb_traces.proofs.FoundCells.{rest_is, rest_fits, starts}
 
--- the number of all rows fits where there is room for so many more
+-- the number of all rows is within 67,108,864 where there is room for `n` more
 pub rows_fit_for :
     (old : Recording) (elements : Elements) (names : List (List ℕ)) (cells : List ℤ)
     (ends : List ℕ) (n : ℕ) → stored elements names cells ends ≡ old →
@@ -31,7 +31,7 @@ rows_fit_for old elements names cells ends n view is room =
     mul-le-mul_left (last_place ends + n) (omega arith) in
     omega (arith, total, least)
 
--- a part of a list, by where it begins and ends
+-- a part of a list by its beginning and its length is that by its beginning and its end
 part_is :
     {A : Type 0} (xs : List A) (w width first n : ℕ) → w ≡ width →
     take (n * w) (drop (first * w) xs)
@@ -41,7 +41,7 @@ part_is xs w width first n e =
     ap (λ v. take (n * v) (drop (first * v) xs)) e
     ∙ ap (λ m. take m (drop (first * width) xs)) long
 
--- where the rows lie among the integers and the words of the other set
+-- the rows from `first` up to `past` lie within the integers and the words of the other set
 pub record FindsRest (numbers : List ℤ) (words : List ℕ) (first past width count : ℕ) :
     Type 0 where
   pub numbers_fit : past * width ≤ length numbers

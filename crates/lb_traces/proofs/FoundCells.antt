@@ -1,4 +1,4 @@
--- Where the cells of an instant lie among the integers and the words of a set.
+-- The places of the cells of an instant among the integers and the words of a set.
 use Rattle.std.proofs.Common.{ℕ, ◌≡◌, ◌+◌, ◌-◌, ◌*◌, ◌/◌, ◌%◌, ◌<◌, ◌≤◌, ◌==◌, Bool, true, false}
 use Rattle.std.proofs.Common.{List, [], ℤ, pos, Some, length, map, get_or, take, drop, refl, sym}
 use Rattle.std.proofs.Common.{ap, ap₂, ◌∙◌, subst, arith, slice_get, length-drop}
@@ -37,7 +37,7 @@ truth_is false v e = (
   λ h. absurd (true≢false (sym (ap (int_le (pos 1)) (sym e ∙ h)))),
 )
 
--- rows that agree one by one
+-- two functions that agree on a range give the same list on it
 ranges_agree :
     {A : Type 0} (f g : ℕ → A) (a n : ℕ) → ((r : ℕ) → a ≤ r → r < a + n → f r ≡ g r) →
     map f (range_with_len a n) ≡ map g (range_with_len a n)
@@ -50,7 +50,7 @@ ranges_agree f g a n same =
     ∙ same (a + j) (omega arith) (omega (arith, below))
     ∙ sym (get_or-map-range_with_len g a n j (a + j) d below refl))
 
--- the rest of a range
+-- the list of a function on a range, without the first `from`, is that on the rest of the range
 drop_range :
     {A : Type 0} (f : ℕ → A) (a n from : ℕ) → from ≤ n →
     drop from (map f (range_with_len a n)) ≡ map f (range_with_len (a + from) (n - from))
@@ -69,7 +69,7 @@ drop_range f a n from le =
     ∙ get_or-map-range_with_len f a n (from + j) (a + from + j) d inside there
     ∙ sym (get_or-map-range_with_len f (a + from) (n - from) j (a + from + j) d below refl))
 
--- what a set holds of a trace
+-- trace `k` of a set
 module _ (old : Recording) (elements : Elements) (names : List (List ℕ)) (numbers : List ℤ)
     (words ends integers truths places : List ℕ) (k : ℕ)
     (view : stored elements names (cells_of elements numbers words ends) ends ≡ old)
@@ -88,7 +88,7 @@ module _ (old : Recording) (elements : Elements) (names : List (List ℕ)) (numb
     count_of old elements names (cells_of elements numbers words ends) ends view,
   )
 
-  -- the rows of the trace lie below the last
+  -- the place at the end of the trace is at most the last place
   pub within_last : place ends (k + 1) ≤ last_place ends
   within_last =
       place-le-last ends is.parts.rows.ledger (k + 1) (omega (arith, named, is.parts.rows.paired))
@@ -113,7 +113,7 @@ module _ (old : Recording) (elements : Elements) (names : List (List ℕ)) (numb
       ap (λ ks. get_or ks column Int_kind) same_kinds
       ∙ get_or_from_slice_get (kinds_of old.signature) column kind Int_kind h
 
-  -- each column has its place
+  -- the places have one for each column
   pub place_in : (column : ℕ) (kind : Kind) →
       slice_get (kinds_of old.signature) column ≡ Some kind → column < length places
   place_in column kind h = omega (
@@ -123,7 +123,7 @@ module _ (old : Recording) (elements : Elements) (names : List (List ℕ)) (numb
     length-places 0 0 kinds,
   )
 
-  -- the rows of the trace
+  -- the rows of the trace are those from its first place up to its last
   pub rows_are :
       (trace_at old.traces k).1
       ≡ map (nth_row (kinds_of elements) numbers words)
@@ -138,7 +138,7 @@ module _ (old : Recording) (elements : Elements) (names : List (List ℕ)) (numb
       ap (λ w. row_of w cells r) (sym (length-kinds elements))
       ∙ row_of-held kinds numbers words (last_place ends) r (omega (arith, le, l, within_last)))
 
-  -- those from one on
+  -- the rows of the trace from row `from` on
   pub rest_is :
       (from : ℕ) → from ≤ length (trace_at old.traces k).1 →
       rows_from old.traces k from
@@ -153,7 +153,7 @@ module _ (old : Recording) (elements : Elements) (names : List (List ℕ)) (numb
       (range_with_len (place ends k + from) (m - from)))
       (sym length_is)
 
-  -- they lie below the last
+  -- the rows of the trace from row `from` on end at most at the last place
   pub rest_fits :
       (from r : ℕ) → from ≤ length (trace_at old.traces k).1 → r ≡ get_or ends k r →
       r + from + (length (trace_at old.traces k).1 - from) ≤ last_place ends
@@ -163,7 +163,7 @@ module _ (old : Recording) (elements : Elements) (names : List (List ℕ)) (numb
       (omega (arith, named, is.parts.rows.paired)) in
       omega (arith, le, starts r read, length_is, within_last, climb)
 
-  -- an instant of it
+  -- instant `t` of the trace
   module _ (t from : ℕ) (inside : t < length (trace_at old.traces k).1)
       (read : from ≡ get_or ends k from) where
     pub row_below : from + t < last_place ends
@@ -202,7 +202,7 @@ module _ (old : Recording) (elements : Elements) (names : List (List ℕ)) (numb
         is.filled.words_long ∙ ap (λ w. last_place ends * w) (sym wide) in
         omega (arith, fit, all)
 
-    -- a cell of it
+    -- a cell of the instant, among the integers and words from its row on
     cell_is :
         (column : ℕ) → column < length (kinds_of elements) →
         cell_at old.traces k t column
@@ -215,7 +215,7 @@ module _ (old : Recording) (elements : Elements) (names : List (List ℕ)) (numb
         ∙ cell_of_row kinds (drop ((from + t) * numbers_of kinds) numbers)
         (drop ((from + t) * words_of kinds) words) column (pos 0) l
 
-    -- the integer and the Boolean with a number among those of its kind
+    -- the integer, and the Boolean, of a column with the number `p` among those of its kind
     number_is :
         (column p : ℕ) → column < length (kinds_of elements) →
         get_or (kinds_of elements) column Int_kind ≡ Int_kind →
@@ -244,7 +244,7 @@ module _ (old : Recording) (elements : Elements) (names : List (List ℕ)) (numb
         ∙ ap (λ w. truth_cell (bit_in (drop ((from + t) * w) words) p))
         (sym (ap (λ c. words_of_row (length c)) is.columns.truths_are))
 
-    -- a column, as a read of its place finds it
+    -- a column whose place `p` has been read
     module _ (column p : ℕ) (at : p ≡ get_or places column p) where
       place_is : (kind : Kind) → slice_get (kinds_of old.signature) column ≡ Some kind →
           get_or (places_from 0 0 (kinds_of elements)) column 0 ≡ p
@@ -286,7 +286,7 @@ module _ (old : Recording) (elements : Elements) (names : List (List ℕ)) (numb
           ∙ ap (λ w. truth_cell (bit_at w (p % 64) == 1))
           (get_or-drop ((from + t) * words_of_row (length truths)) words (p / 64) 0)
 
-    -- all integers of the instant
+    -- the number of integers of the instant
     pub numbers_count :
         length (take (length integers) (drop ((from + t) * length integers) numbers))
         ≡ length (number_columns 0 (kinds_of old.signature))
@@ -313,7 +313,7 @@ module _ (old : Recording) (elements : Elements) (names : List (List ℕ)) (numb
         ∙ ap (cell_at old.traces k t) column
         ∙ ap (λ ks. cell_at old.traces k t (get_or (number_columns 0 ks) w 0)) same_kinds
 
-    -- the Booleans of the instant
+    -- the bits of the instant are its Booleans
     pub bits_found :
         (b : ℕ) → b < length (truth_columns 0 (kinds_of old.signature)) →
         bit_in (drop ((from + t) * words_of_row (length truths)) words) b
@@ -330,7 +330,7 @@ module _ (old : Recording) (elements : Elements) (names : List (List ℕ)) (numb
         ∙ ap (λ ks. int_le (pos 1) (cell_at old.traces k t (get_or (truth_columns 0 ks) b 0)))
         same_kinds
 
-    -- and the bits past them
+    -- the bits past the Booleans of the instant are false
     pub past_found :
         (b : ℕ) → length (truth_columns 0 (kinds_of old.signature)) ≤ b →
         b < 64 * words_of_row (length truths) →
@@ -344,13 +344,13 @@ module _ (old : Recording) (elements : Elements) (names : List (List ℕ)) (numb
         ap (λ w. bit_in (drop ((from + t) * w) words) b) wide
         ∙ is.filled.past (from + t) b row_below past all
 
-  -- some instants of it
+  -- `n` instants of the trace from `t` on
   module _ (t n from : ℕ) (within : t + n ≤ length (trace_at old.traces k).1)
       (read : from ≡ get_or ends k from) where
     abbrev count : ℕ
     count = words_of_row (length truths)
 
-    -- their words
+    -- the words of these instants
     abbrev part : List ℕ
     part = take (n * count) (drop ((from + t) * count) words)
 
@@ -359,7 +359,7 @@ module _ (old : Recording) (elements : Elements) (names : List (List ℕ)) (numb
         ap (λ c. words_of_row (length c)) is.columns.truths_are
         ∙ ap (λ ks. words_of_row (length (truth_columns 0 ks))) same_kinds
 
-    -- lie within all
+    -- the words of these instants lie within all words
     pub part_fits :
         (width : ℕ) → width ≡ words_of_row (length truths) →
         ((from + t + n) * width ≤ length words) × ((from + t) * width ≤ (from + t + n) * width)
@@ -385,7 +385,7 @@ module _ (old : Recording) (elements : Elements) (names : List (List ℕ)) (numb
         (omega (arith, (part_fits count refl).0, split, length-drop ((from + t) * count) words))
         ∙ ap (λ w. n * w) count_is
 
-    -- a bit of one of the instants
+    -- bit `b` of instant `d` among these is that bit of instant `t + d` of the trace
     bit_moved :
         (d b : ℕ) → d < n → b < 64 * count →
         bit_in part (64 * (d * count) + b) ≡ bit_in (drop ((from + (t + d)) * count) words) b

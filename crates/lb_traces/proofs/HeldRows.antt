@@ -1,4 +1,4 @@
--- The rows that integers and words hold: after more rows, and of the rows that were pushed.
+-- The rows that integers and words hold, after more rows and after a row that was pushed.
 use Rattle.std.proofs.Common.{ℕ, zero, suc, ◌≡◌, ◌+◌, ◌-◌, ◌*◌, ◌/◌, ◌%◌, ◌<◌, ◌≤◌, ◌==◌}
 use Rattle.std.proofs.Common.{false, ◌⊎◌, inl, inr, List, [], ◌∷◌, ◌++◌, ℤ, pos, length, get_or}
 use Rattle.std.proofs.Common.{drop, refl, sym, ap, ap₂, ◌∙◌, subst, arith, below_more}
@@ -43,7 +43,7 @@ length-row_held kinds numbers words =
     length-zip2 (cell_held numbers words) (length kinds) kinds (places_from 0 0 kinds) refl
     (length-places 0 0 kinds)
 
--- the cell in a column
+-- a cell of a row is the one that is held by the kind and the place of its column
 pub cell_of_row :
     (kinds : List Kind) (numbers : List ℤ) (words : List ℕ) (c : ℕ) (d : ℤ) → c < length kinds →
     get_or (row_held kinds numbers words) c d
@@ -64,7 +64,7 @@ same_held kinds n n' w w' ints words =
     let inside : p / 64 < words_of_row (length (truth_columns 0 kinds)) = omega (arith, l) in
     ap (λ x. truth_cell (bit_at x (p % 64) == 1)) (words (p / 64) inside))
 
--- what stands at a place of a part stands there after more has come
+-- a place of a row stays as it is when more is appended
 kept_at :
     {A : Type 0} (xs more : List A) (width rows r p : ℕ) (d : A) → length xs ≡ rows * width →
     r < rows → p < width →
@@ -75,7 +75,7 @@ kept_at xs more width rows r p d long l lp =
     ∙ get_or_append_left xs more d (r * width + p) inside
     ∙ sym (get_or-drop (r * width) xs p d)
 
--- and what has come stands behind it
+-- the places of the rows behind `rows` are those of what is appended
 come_at :
     {A : Type 0} (xs more : List A) (width rows j p : ℕ) (d : A) → length xs ≡ rows * width →
     get_or (drop ((rows + j) * width) (xs ++ more)) p d ≡ get_or (drop (j * width) more) p d
@@ -88,7 +88,7 @@ come_at xs more width rows j p d long =
 
 module _ (kinds : List Kind) (rows : ℕ) (numbers : List ℤ) (words : List ℕ)
     (h : AreFilled kinds rows numbers words) (more : List ℤ) (more_words : List ℕ) where
-  -- a row stays as it is
+  -- a row stays as it is when more integers and words are appended
   pub row_kept : (r : ℕ) → r < rows →
       nth_row kinds (numbers ++ more) (words ++ more_words) r ≡ nth_row kinds numbers words r
   row_kept r l =
@@ -98,7 +98,7 @@ module _ (kinds : List Kind) (rows : ℕ) (numbers : List ℤ) (words : List ℕ
       (λ p lp. kept_at numbers more (numbers_of kinds) rows r p (pos 0) h.numbers_long l lp)
       (λ g lg. kept_at words more_words (words_of kinds) rows r g 0 h.words_long l lg)
 
-  -- the rows behind them are those of what has come
+  -- the rows behind `rows` are those of the integers and words that are appended
   pub row_come : (j : ℕ) →
       nth_row kinds (numbers ++ more) (words ++ more_words) (rows + j)
       ≡ nth_row kinds more more_words j
@@ -137,7 +137,7 @@ module _ (elements : Elements) (row : Row) (follows : IsRow elements row) (words
   full : length row ≡ length (kinds_of elements)
   full = length-row elements row follows ∙ sym (length-kinds elements)
 
-  -- the number of a column
+  -- the integer that is held for a column is that of the row
   integer_at : (c : ℕ) → c < length kinds → get_or kinds c Int_kind ≡ Int_kind →
       cell_held numbers words Int_kind (get_or (places_from 0 0 kinds) c 0) ≡ get_or row c (pos 0)
   integer_at c l is =
@@ -149,7 +149,7 @@ module _ (elements : Elements) (row : Row) (follows : IsRow elements row) (words
       h.below
       ∙ ap (λ j. get_or row j (pos 0)) column
 
-  -- the bit of a column
+  -- the Boolean that is held for a column is that of the row
   truth_at : (c : ℕ) → c < length kinds → get_or kinds c Int_kind ≡ Bool_kind →
       cell_held numbers words Bool_kind (get_or (places_from 0 0 kinds) c 0) ≡ get_or row c (pos 0)
   truth_at c l is =
@@ -191,7 +191,7 @@ module _ (elements : Elements) (row : Row) (follows : IsRow elements row) (words
       ∙ by_kind c below (get_or kinds c Int_kind) refl
       ∙ get_or_default row c (pos 0) d (omega (arith, below, full)))
 
--- a row of integers alone is the integers of its columns
+-- a row that is all integers is the integers of its columns
 pub integers_alone :
     (elements : Elements) (row : Row) → length row ≡ length elements →
     length (number_columns 0 (kinds_of elements)) ≡ length row →
@@ -224,7 +224,7 @@ length-cells kinds numbers words (suc n) =
     let e : n * length kinds + length kinds ≡ suc n * length kinds = omega arith in
     sum ∙ ap₂ (λ a b. a + b) (length-cells kinds numbers words n) last ∙ e
 
--- cells are the same where each row is
+-- two sets of rows have the same cells where each row is the same
 pub same_cells :
     (kinds : List Kind) (n n' : List ℤ) (w w' : List ℕ) (rows : ℕ) →
     ((r : ℕ) → r < rows → nth_row kinds n w r ≡ nth_row kinds n' w' r) →
@@ -235,7 +235,7 @@ same_cells kinds n n' w w' (suc rows) same =
     (same_cells kinds n n' w w' rows (λ r l. same r (omega (arith, l))))
     (same rows (omega arith))
 
--- a row among all cells
+-- row number `r` of all cells is `nth_row`
 pub row_of-held :
     (kinds : List Kind) (numbers : List ℤ) (words : List ℕ) (n r : ℕ) → r < n →
     row_of (length kinds) (cells_held kinds numbers words n) r ≡ nth_row kinds numbers words r
@@ -257,7 +257,7 @@ row_of-held kinds numbers words (suc n) r l =
     (drop (n * words_of kinds) words)))
     r (omega (arith, l))
 
--- one row more
+-- the cells after one more row are the cells before it and then the row
 pub cells_more :
     (kinds : List Kind) (rows : ℕ) (numbers more : List ℤ) (words more_words : List ℕ)
     (row : Row) → AreFilled kinds rows numbers words → row_held kinds more more_words ≡ row →
@@ -277,7 +277,7 @@ cells_more kinds rows numbers more words more_words row h is =
     ∙ ap₂ (λ a b. row_held kinds (drop a more) (drop b more_words)) none none_words
     ∙ is)
 
--- ## What is past the Booleans
+-- ## The bits past the Booleans
 
 module _ (kinds : List Kind) (rows : ℕ) (numbers : List ℤ) (words : List ℕ)
     (h : AreFilled kinds rows numbers words) (more : List ℤ) (more_words : List ℕ) (n : ℕ)
@@ -285,7 +285,7 @@ module _ (kinds : List Kind) (rows : ℕ) (numbers : List ℤ) (words : List ℕ
     (long_words : length more_words ≡ n * words_of kinds)
     (past : (r b : ℕ) → r < n → length (truth_columns 0 kinds) ≤ b → b < 64 * words_of kinds →
     bit_in (drop (r * words_of kinds) more_words) b ≡ false) where
-  -- rows after rows
+  -- integers and words stay filled when `n` more rows are appended
   pub filled_more : AreFilled kinds (rows + n) (numbers ++ more) (words ++ more_words)
   filled_more = record {
     numbers_long =

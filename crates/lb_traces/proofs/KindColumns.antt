@@ -1,4 +1,4 @@
--- The columns of a signature by their kinds: after one column more, and where each of them stands.
+-- The columns of a signature by their kinds: after one more column, and the place of each column.
 use Rattle.std.proofs.Common.{◌≡◌, ℕ, zero, suc, ◌+◌, ◌<◌, ◌≤◌, Bool, true, false, List, [], ◌∷◌}
 use Rattle.std.proofs.Common.{◌++◌, get_or, length, take, refl, sym, ap, ap₂, ◌∙◌, arith}
 use Rattle.std.proofs.lemmas.Bool.{true≢false}
@@ -9,7 +9,7 @@ use Rattle.lb_syntax.specs.declared.tree.Kind.TheVariants.{Int as Int_kind, Bool
 use Rattle.lb_syntax.specs.Lists.{zip2}
 use Rattle.lb_traces.specs.Packed.{truth_columns, number_columns, places_from, AreColumns}
 
--- ## One column more
+-- ## One more column
 
 pub truths_push :
     (j : ℕ) (kinds : List Kind) (k : Kind) →
@@ -92,7 +92,7 @@ module _ (kinds : List Kind) (j : ℕ) (integers truths places : List ℕ)
   one_more : (k : Kind) → get_or kinds j k ≡ k → take (j + 1) kinds ≡ take j kinds ++ k ∷ []
   one_more k is = take_more kinds j k lt ∙ ap (λ x. take j kinds ++ x ∷ []) is
 
-  -- no more of a kind than columns so far
+  -- there are no more Booleans, and no more integers, than columns so far
   pub truths_few : length truths ≤ j
   truths_few =
       let count : length truths ≡ length (truth_columns 0 (take j kinds)) =
@@ -105,7 +105,7 @@ module _ (kinds : List Kind) (j : ℕ) (integers truths places : List ℕ)
       ap length h.integers_are in
       omega (arith, count, few_numbers 0 (take j kinds), long)
 
-  -- one more Boolean
+  -- the columns of a signature after one more Boolean
   pub columns_truth :
       (n : ℕ) → get_or kinds j Bool_kind ≡ Bool_kind → n ≡ length truths →
       AreColumns (take (j + 1) kinds) integers (truths ++ j ∷ []) (places ++ n ∷ [])
@@ -132,7 +132,7 @@ module _ (kinds : List Kind) (j : ℕ) (integers truths places : List ℕ)
             ∙ ap (places_from 0 0) more;
       }
 
-  -- one more integer
+  -- the columns of a signature after one more integer
   pub columns_integer :
       (n : ℕ) → get_or kinds j Int_kind ≡ Int_kind → n ≡ length integers →
       AreColumns (take (j + 1) kinds) (integers ++ j ∷ []) truths (places ++ n ∷ [])
@@ -159,7 +159,7 @@ module _ (kinds : List Kind) (j : ℕ) (integers truths places : List ℕ)
             ∙ ap (places_from 0 0) more;
       }
 
--- ## Where a column stands
+-- ## The place of a column
 
 pub length-places : (u v : ℕ) (kinds : List Kind) → length (places_from u v kinds) ≡ length kinds
 length-places u v [] = refl
@@ -170,7 +170,7 @@ abbrev is_integer : Kind → Bool
 is_integer Int_kind = true
 is_integer Bool_kind = false
 
--- the column of an integer, and that of a Boolean
+-- the column of integer number `w`, and below, of Boolean number `w`
 pub record IntColumn (j u v : ℕ) (kinds : List Kind) (w : ℕ) : Type 0 where
   pub column : ℕ
   pub is : get_or (number_columns j kinds) w 0 ≡ j + column
@@ -316,7 +316,7 @@ bool_place j u v (Int_kind ∷ kinds) (suc c) l k =
     let e : suc j + c ≡ j + suc c = omega arith in
     record { number = h.number; place = h.place; below = h.below; is = h.is ∙ e }
 
--- each column is one of all
+-- the columns of Booleans, and of integers, are below the number of columns
 pub truths_within : (kinds : List Kind) → All (λ j. j < length kinds) (truth_columns 0 kinds)
 truths_within kinds b d l = omega (arith, within 0 kinds b l)
   where
@@ -337,7 +337,7 @@ numbers_within kinds w d l = omega (arith, within 0 kinds w l)
     within j (Int_kind ∷ ks) (suc k) h = omega (arith, within (suc j) ks k (omega (arith, h)))
     within j (Bool_kind ∷ ks) k h = omega (arith, within (suc j) ks k h)
 
--- where all columns hold integers they are all columns
+-- where all columns hold integers, the columns of integers are all columns
 pub all_columns :
     (j : ℕ) (kinds : List Kind) → length (number_columns j kinds) ≡ length kinds → (c : ℕ) →
     c < length kinds → get_or (number_columns j kinds) c 0 ≡ j + c
@@ -348,7 +348,7 @@ all_columns j (Int_kind ∷ kinds) e (suc c) l =
     let h : suc j + c ≡ j + suc c = omega arith in
     all_columns (suc j) kinds (omega (arith, e)) c (omega (arith, l)) ∙ h
 
--- two rules that agree on each kind make one row
+-- two functions that agree on the numbers of each kind make the same row
 pub rows_agree :
     {A : Type 0} (j u v : ℕ) (kinds : List Kind) (f g : Kind → ℕ → A) →
     ((p : ℕ) → p < u + length (number_columns j kinds) → f Int_kind p ≡ g Int_kind p) →

@@ -10,14 +10,14 @@ use Rattle.std.proofs.lemmas.Bool.{cases_lt}
 use Rattle.std.specs.List.{range_with_len, slice_range}
 use Rattle.lb_traces.specs.Ledger.{place, last_place, IsLedger, pieces, cut}
 
--- two functions that agree below n make one list of the numbers below n
+-- two functions that agree below `n` give the same list on the numbers below `n`
 pub map-range-agree : {A : Type 0} (f g : ℕ → A) (n : ℕ) (d : A) → ((k : ℕ) → k < n → f k ≡ g k)
     → map f (range_with_len 0 n) ≡ map g (range_with_len 0 n)
 map-range-agree f g n d agree =
     fill_by_all g (map f (range_with_len 0 n)) n d (length-map-range_with_len f 0 n)
     (λ k below. get_or-map-range_with_len f 0 n k k d below (omega arith) ∙ agree k below)
 
--- one more place
+-- one more place at the end leaves the others as they are
 pub place-push_before : (ends : List ℕ) (e k : ℕ) → k < length ends →
     place (ends ++ e ∷ []) k ≡ place ends k
 place-push_before ends e k below = get_or_append_left ends (e ∷ []) 0 k below
@@ -57,7 +57,7 @@ IsLedger-push ends e ledger above = record {
       (cases_lt j (length ends));
 }
 
--- one more piece
+-- one more place makes one more piece
 pub pieces-push : {A : Type 0} (f g : ℕ → ℕ → A) (ends : List ℕ) (e : ℕ) (d : A) → 0 < length ends
     → ((k : ℕ) → k + 1 < length ends → g (place ends k) (place ends (k + 1))
     ≡ f (place ends k) (place ends (k + 1)))
@@ -93,14 +93,14 @@ get_or-pieces f ends k d below =
     get_or-map-range_with_len (λ k. f (place ends k) (place ends (k + 1))) 0 (length ends - 1) k k d
     (omega arith) (omega arith)
 
--- a part of a list is the same after the list has grown
+-- a part of a list stays the same when the list grows at its end
 pub slice_range-append : (xs more : List ℕ) (from to : ℕ) → from ≤ to → to ≤ length xs
     → slice_range (xs ++ more) from to ≡ slice_range xs from to
 slice_range-append xs more from to order within =
     ap (take (to - from)) (drop-append-le from xs more (omega arith))
     ∙ take-append-le (to - from) (drop from xs) more (omega (arith, length-drop from xs))
 
--- what a list has grown by
+-- the part of a list behind its old end is the list that was appended
 pub slice_range-grown : (xs more : List ℕ) (from to : ℕ) → from ≡ length xs →
     to ≡ length xs + length more
     → slice_range (xs ++ more) from to ≡ more
@@ -108,7 +108,7 @@ slice_range-grown xs more from to is_end is_all =
     ap (take (to - from)) (drop_at xs more from (sym is_end))
     ∙ take_all (to - from) more (omega arith)
 
--- the pieces of a list that has grown by one piece
+-- a list that grows by one piece, with one more place, has that piece at the end
 pub cut-push : (ends items more : List ℕ) (e : ℕ) → IsLedger ends → last_place ends ≡ length items
     → e ≡ length items + length more → cut (ends ++ e ∷ []) (items ++ more) ≡ cut ends items ++ more
     ∷ []
@@ -122,7 +122,7 @@ cut-push ends items more e ledger all grown =
     ∙ ap (λ p. cut ends items ++ p ∷ []) (slice_range-grown items more (last_place ends) e all
     grown)
 
--- a later last place
+-- a place that is changed leaves those before it as they are
 pub place-set_before : (ends : List ℕ) (n e k : ℕ) → k < n → place (set ends n e) k ≡ place ends k
 place-set_before ends n e k below = get_or-set_other ends n k e 0 (omega arith)
 
@@ -152,7 +152,7 @@ IsLedger-set ends n e ledger last later above = record {
       (cases_lt j n);
 }
 
--- what a read of the last place gives
+-- a read of the last place gives `last_place`
 pub read_last : (ends : List ℕ) (n x : ℕ) → IsLedger ends → n ≡ length ends →
     x ≡ get_or ends (n - 1) x → x ≡ last_place ends
 read_last ends n x ledger count read =

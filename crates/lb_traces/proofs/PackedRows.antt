@@ -13,7 +13,7 @@ use Rattle.lb_traces.specs.Packed.{words_of_row, truth_in, HasPushed}
 
 -- ## The bits of a word
 
--- a bit that is set, and one that is not
+-- bit `i` after it is set; and below, where it is not
 pub bit_here :
     (word i : ℕ) (b : Bool) → b ≡ true → i < 64 →
     (bit_at (bit_or word (1 * 2 ^ i % 2 ^ 64)) i == 1) ≡ (b || (bit_at word i == 1))
@@ -25,7 +25,7 @@ pub bit_there :
     (word i j : ℕ) → i < 64 → j ≢ i → bit_at (bit_or word (1 * 2 ^ i % 2 ^ 64)) j ≡ bit_at word j
 bit_there word i j l ne = bit_at_set_other w64 word i l j ne
 
--- the lowest n bits are the Booleans from a number on, and the others are 0
+-- the lowest `n` bits of `word` are the Booleans from number `first` on, and the others are 0
 pub record Packing (row : List ℤ) (columns : List ℕ) (first word n : ℕ) : Type 0 where
   pub done : (i : ℕ) → i < n → (bit_at word i == 1) ≡ truth_in row columns (first + i)
   pub rest : (i : ℕ) → n ≤ i → bit_at word i ≡ 0
@@ -60,7 +60,7 @@ packing_more row columns first word new n b h is here others = record {
     or_false true = refl
     or_false false = refl
 
--- past the last Boolean all is false
+-- `truth_in` is false past the last Boolean
 pub no_truth :
     (row : List ℤ) (columns : List ℕ) (b : ℕ) → length columns ≤ b →
     truth_in row columns b ≡ false
@@ -68,7 +68,7 @@ no_truth row columns b le =
     ap (λ c. int_le (pos 1) (get_or row c (pos 0))) (get_or_past columns b (length row) le)
     ∙ ap (int_le (pos 1)) (get_or_past row (length row) (pos 0) (omega arith))
 
--- all bits of a word, once the Booleans or the places are used up
+-- all 64 bits are Booleans of the row once the bits of the word or the Booleans are used up
 pub packing_all :
     (row : List ℤ) (columns : List ℕ) (first word n : ℕ) → Packing row columns first word n →
     (n < 64 → length columns ≤ first + n) →
@@ -83,7 +83,7 @@ packing_all row columns first word n h most i l = by (cases_lt i n)
 
 -- ## The words of a row
 
--- so many words of the row stand at the end
+-- the first `n` words of the row stand at the end of `new`
 pub record Pushing (old : List ℕ) (row : List ℤ) (columns new : List ℕ) (n : ℕ) : Type 0 where
   pub more : List ℕ
   pub is : new ≡ old ++ more

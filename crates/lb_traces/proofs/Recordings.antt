@@ -11,7 +11,7 @@ use Rattle.lb_traces.specs.Traces.{Row, Trace, Traces, Recording, IsRecording, I
 use Rattle.lb_traces.specs.Traces.{IsRow, HasRoom, trace_names, instants_of, cells_of_instant}
 use Rattle.lb_traces.specs.Traces.{last_rows, with_row, with_trace}
 
--- no trace yet
+-- a recording without traces is lawful
 pub IsRecording-none : (elements : Elements) → IsRecording record
     { signature = elements; traces = [] }
 IsRecording-none elements = record {
@@ -21,7 +21,7 @@ IsRecording-none elements = record {
   cells = omega arith;
 }
 
--- a list that is not empty has a last element
+-- a list as its last element and the front before it
 pub record Front {A : Type 0} (xs : List A) : Type 0 where
   pub front : List A
   pub last : A
@@ -73,7 +73,7 @@ IsRecording-trace r name row lawful named fresh follows count room = record {
       (sym (sum_by_push (λ (t : Trace). length t.1) r.traces (name, row ∷ []))) room;
 }
 
--- one more row of the last trace
+-- a lawful recording stays lawful with one more row of the last trace, within the limits
 pub grown : (elements : Elements) (front : Traces) (t : Trace) (row : Row)
     → IsRecording record { signature = elements; traces = front ++ t ∷ [] } → IsRow elements row →
     length t.1 < 1000000

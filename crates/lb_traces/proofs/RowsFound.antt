@@ -1,4 +1,4 @@
--- Where the row of an instant of a trace lies among all cells.
+-- The place of the row of an instant of a trace among all cells.
 use Rattle.std.proofs.Common.{ℕ, ◌<◌, [], length, get_or}
 use Rattle.lb_traces.specs.Traces.{Recording, trace_at, IsRow, IsRecording}
 

@@ -53,7 +53,7 @@ lanes-long cells long =
     ∙ length-map ys (λ b. int_le (to_z w32 1) (to_z w32 b))
     ∙ length-map (take 16 cells) (of_z w32) ∙ length-take-le 16 cells (omega (arith, long))
 
--- a cell of 32 bits
+-- an `int` fits in 32 bits
 fits-from : (v : ℤ) → IsInt v → SFits w32 v
 fits-from (pos n) is = record { sfits = omega (arith, ints, is.1) }
 fits-from (negsuc n) is = record { sfits = omega (arith, ints, is.0) }

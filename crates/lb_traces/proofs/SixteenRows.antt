@@ -1,7 +1,7 @@
 -- Sixteen neighbours of a row at once.
 use Rattle.std.proofs.Common.{ℕ, zero, suc, ◌≡◌, ◌+◌, ◌-◌, ◌*◌, ◌^◌, ◌%◌, ◌<◌, ◌≤◌, ◌==◌, ◌⊎◌, inl}
-use Rattle.std.proofs.Common.{inr, Bool, List, [], ◌∷◌, ◌++◌, ℤ, pos, length, get_or, map, max, take}
-use Rattle.std.proofs.Common.{drop, All, refl, sym, ap, ◌∙◌, subst, arith, length-drop}
+use Rattle.std.proofs.Common.{inr, Bool, List, [], ◌∷◌, ◌++◌, ℤ, pos, length, get_or, map, max}
+use Rattle.std.proofs.Common.{take, drop, All, refl, sym, ap, ◌∙◌, subst, arith, length-drop}
 use Rattle.std.proofs.Math.Nat.{mul-le-mul_right, pow-le-pow_right}
 use Rattle.std.proofs.Math.Seq.{take-add}
 use Rattle.std.proofs.lemmas.Bool.{cases_lt}
@@ -65,7 +65,7 @@ high-bit bits n j above =
     let same : bits * 2 ^ n ≡ bits * 2 ^ n + 0 = omega arith in
     ap (λ x. bit_at x j) same ∙ bit_at_cat_high bits n 0 j (pow_pos n) above
 
--- the Boolean with a number, of sixteen neighbours
+-- Boolean `i` of sixteen neighbours is Boolean `first + i` of the row
 neighbour-truth : (row : List ℤ) (columns : List ℕ) (first i : ℕ) → first + 16 ≤ length columns
     → AreNeighbours columns first → i < 16
     → int_le (pos 1) (get_or (drop (get_or columns first 0) row) i (pos 0))
@@ -76,7 +76,7 @@ neighbour-truth row columns first i room near below =
     (sym (near i below) ∙ get_or_default columns (first + i) 0 (length row)
     (omega (arith, below, room))))
 
--- sixteen more Booleans
+-- a word packs sixteen more Booleans with their bits moved up
 pub packing_sixteen :
     (row : List ℤ) (columns : List ℕ) (first word bits n : ℕ) → Packing row columns first word n
     → n + 16 ≤ 64 → first + n + 16 ≤ length columns → AreNeighbours columns (first + n)
@@ -117,7 +117,7 @@ packing_sixteen row columns first word bits n h most room near each small = reco
 
 -- ## Integers
 
--- sixteen more integers
+-- the integers of sixteen more columns are the sixteen cells from the first of them on
 pub sixteen-more : (row : List ℤ) (columns : List ℕ) (w : ℕ) → w + 16 ≤ length columns
     → AreNeighbours columns w → get_or columns w 0 + 16 ≤ length row
     → numbers_in row (take (w + 16) columns)

@@ -1,4 +1,4 @@
--- Rows that lie one after the other: what stands at a place, and all traces after one more row.
+-- Rows that lie one after the other: each row, and all traces after one more row.
 use Rattle.std.proofs.Common.{ℕ, zero, suc, ◌≡◌, ◌+◌, ◌-◌, ◌*◌, ◌<◌, ◌≤◌, List, [], ◌∷◌, ◌++◌}
 use Rattle.std.proofs.Common.{length, map, get_or, set, take, drop, refl, sym, ap, ◌∙◌, ℤ, arith}
 use Rattle.std.proofs.Common.{length-append, length-drop, length-set, get_or-set_same}
@@ -11,16 +11,17 @@ use Rattle.std.specs.List.{range_with_len}
 use Rattle.lb_traces.specs.Traces.{Row, Trace, trace_at, with_row, with_trace, instants_of}
 use Rattle.lb_traces.specs.Ledger.{IsLedger, place, last_place}
 use Rattle.lb_traces.specs.Stored.{row_of, rows_between, stored_traces, AreRows}
-use Rattle.lb_traces.proofs.Ledgers.{IsLedger-push, last_place-push, place-push_before, place-le-last}
-use Rattle.lb_traces.proofs.Ledgers.{map-range-agree, place-set_before, last_place-set, IsLedger-set}
+use Rattle.lb_traces.proofs.Ledgers.{IsLedger-push, last_place-push, place-push_before}
+use Rattle.lb_traces.proofs.Ledgers.{place-le-last, map-range-agree, place-set_before}
+use Rattle.lb_traces.proofs.Ledgers.{last_place-set, IsLedger-set}
 use Rattle.lb_traces.proofs.Recordings.{with_row-push}
 
--- a row from a place on ends within a list that holds the rows after it
+-- a row before row `last` ends at most where row `last` begins
 pub row_within : (width r last : ℕ) → r < last → r * width + width ≤ last * width
 row_within width r last below = let h : (r + 1) * width ≤ last * width =
     mul-le-mul_right width (omega arith) in omega (arith, h)
 
--- a row is the same after the cells have grown
+-- a row stays the same when cells are appended
 pub row_of-append : (width : ℕ) (cells more : List ℤ) (r : ℕ) → r * width + width ≤ length cells
     → row_of width (cells ++ more) r ≡ row_of width cells r
 row_of-append width cells more r within =
@@ -28,7 +29,7 @@ row_of-append width cells more r within =
     ∙ take-append-le width (drop (r * width) cells) more
     (omega (arith, length-drop (r * width) cells))
 
--- the row that was added
+-- the row behind the old cells is the row that was appended
 pub row_of-grown : (width : ℕ) (cells row : List ℤ) (r : ℕ) → r * width ≡ length cells →
     length row ≡ width
     → row_of width (cells ++ row) r ≡ row
@@ -52,7 +53,7 @@ rows_between-append width cells more from to within =
     ∙ sym (get_or-map-range_with_len (row_of width cells) from (to - from) k (from + k) d
     (omega arith) (omega arith)))
 
--- one more row at the end
+-- the rows up to one more are the rows before, and then the row that was appended
 pub rows_between-more : (width : ℕ) (cells row : List ℤ) (from to : ℕ) → from ≤ to →
     to * width ≡ length cells → length row ≡ width
     → rows_between width (cells ++ row) from (to + 1) ≡ rows_between width cells from to ++ row ∷ []
@@ -70,7 +71,7 @@ pub length-rows_between : (width : ℕ) (cells : List ℤ) (from to : ℕ) →
 length-rows_between width cells from to = length-map-range_with_len (row_of width cells) from
     (to - from)
 
--- the trace at a place
+-- trace `k` has name `k`, and the rows between the places `k` and `k + 1`
 pub trace_at-stored : (width : ℕ) (names : List (List ℕ)) (cells : List ℤ) (ends : List ℕ) (k : ℕ) →
     k < length names
     → trace_at (stored_traces width names cells ends) k
@@ -90,7 +91,7 @@ length-stored width names cells ends =
       rows_between width cells (place ends k) (place ends (k + 1)),
     )) 0 (length names)
 
--- how many instants the first traces have
+-- the first `n` traces have `place ends n` instants
 instants-front : (width : ℕ) (names : List (List ℕ)) (cells : List ℤ) (ends : List ℕ) →
     IsLedger ends → (n : ℕ) → n < length ends
     → instants_of (map (λ k. (
@@ -120,7 +121,7 @@ instants-front width names cells ends ledger (suc m) below =
     ∙ (let sum : instants_of (map trace (range_with_len 0 m)) + instants_in (trace m)
     ≡ place ends (m + 1) = omega arith in sum) ∙ ap (place ends) (sym next)
 
--- how many instants there are
+-- all traces have `last_place ends` instants
 pub instants-stored : (width : ℕ) (names : List (List ℕ)) (cells : List ℤ) (ends : List ℕ) →
     AreRows width names cells ends
     → instants_of (stored_traces width names cells ends) ≡ last_place ends
@@ -128,7 +129,7 @@ instants-stored width names cells ends rows =
     instants-front width names cells ends rows.ledger (length names) (omega (arith, rows.paired))
     ∙ ap (place ends) (let n : length names ≡ length ends - 1 = omega (arith, rows.paired) in n)
 
--- the rows before some place end within the cells
+-- the rows before place `k` end within the cells
 ends_within : (width : ℕ) (names : List (List ℕ)) (cells : List ℤ) (ends : List ℕ) →
     AreRows width names cells ends
     → (k : ℕ) → k < length ends → place ends k * width ≤ length cells
@@ -137,7 +138,7 @@ ends_within width names cells ends rows k below =
     let product : place ends k * width ≤ last_place ends * width = mul-le-mul_right width most in
     omega (arith, rows.all, product)
 
--- one more trace
+-- names, cells and places with one more trace hold that trace at the end
 pub stored-trace : (width : ℕ) (names : List (List ℕ)) (cells : List ℤ) (ends : List ℕ)
     (name : List ℕ) (row : Row)
     → AreRows width names cells ends → length row ≡ width
@@ -184,7 +185,7 @@ stored-trace width names cells ends name row rows full =
     (ends_within width names cells ends rows (k + 1) (omega arith)))))
     ∙ ap (λ t. stored_traces width names cells ends ++ t ∷ []) last_is
 
--- one more row of the last trace
+-- cells and places with one more row hold that row at the end of the last trace
 pub stored-row : (width : ℕ) (names : List (List ℕ)) (cells : List ℤ) (ends : List ℕ) (row : Row)
     (n : ℕ)
     → AreRows width names cells ends → length row ≡ width → length names ≡ n + 1
@@ -233,7 +234,7 @@ stored-row width names cells ends row n rows full some =
     ∙ ap (λ ts. with_row ts row) (sym (map-range_with_len_more old 0 n n (omega arith)))
     ∙ ap (λ m. with_row (map old (range_with_len 0 m)) row) (sym some)
 
--- the places and the cells after one more trace
+-- the places part all rows after one more trace
 pub AreRows-trace : (width : ℕ) (names : List (List ℕ)) (cells : List ℤ) (ends : List ℕ)
     (name : List ℕ) (row : Row)
     → AreRows width names cells ends → length row ≡ width →
@@ -251,7 +252,7 @@ AreRows-trace width names cells ends name row rows full = record {
       omega (arith, length-append cells row, rows.all) in sum);
 }
 
--- the same after one more row
+-- the places part all rows after one more row of the last trace
 pub AreRows-row : (width : ℕ) (names : List (List ℕ)) (cells : List ℤ) (ends : List ℕ) (row : Row)
     (n : ℕ)
     → AreRows width names cells ends → length row ≡ width → length names ≡ n + 1

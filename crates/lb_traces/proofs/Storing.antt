@@ -1,4 +1,4 @@
--- What a set holds, after one more trace and after one more row.
+-- The recording that a set holds, after one more trace and after one more row.
 use Rattle.std.proofs.Common.{ℕ, ◌≡◌, ◌+◌, ◌-◌, ◌*◌, ◌<◌, ◌≤◌, List, [], ◌∷◌, ◌++◌, length, get_or}
 use Rattle.std.proofs.Common.{set, sym, ap, ◌∙◌, subst, ℤ, arith}
 use Rattle.std.proofs.lemmas.List.{get_or_read}
@@ -21,7 +21,7 @@ pub length-row : (elements : Elements) (row : Row) → IsRow elements row →
     length row ≡ length elements
 length-row elements row follows = AllZip-long (λ e v. IsCell e.1 v) elements row follows
 
--- the number of all rows fits where there is room for one more
+-- the number of all rows is within 67,108,864 where there is room for one more
 pub rows_fit : (elements : Elements) (names : List (List ℕ)) (cells : List ℤ) (ends : List ℕ) →
     IsStored elements names cells ends
     → HasRoom (stored elements names cells ends) → last_place ends + 1 ≤ 67108864
@@ -91,7 +91,7 @@ IsStored-row elements names cells ends row n is some follows instants room = rec
       (omega (arith, length-stored (length elements) names cells ends)) follows instants room);
 }
 
--- the same facts, from what a call requires of the recording that it is lent
+-- `rows_fit` for the recording `old`, as a call requires it
 pub rows_fit_of : (old : Recording) (elements : Elements) (names : List (List ℕ)) (cells : List ℤ)
     (ends : List ℕ)
     → stored elements names cells ends ≡ old → IsStored elements names cells ends → HasRoom old →
@@ -124,7 +124,7 @@ start_adds old elements names cells ends name row view is follows =
     stored-with_trace elements names cells ends name row is
     (subst (λ (r : Recording). IsRow r.signature row) (sym view) follows) ∙ ap added view
 
--- a recording that is not empty has a last trace with this number
+-- a recording that is not empty has a last trace, number `length names - 1`
 pub last_of : (old : Recording) (elements : Elements) (names : List (List ℕ)) (cells : List ℤ)
     (ends : List ℕ)
     → stored elements names cells ends ≡ old → 0 < length old.traces →
@@ -167,7 +167,7 @@ push_adds old elements names cells ends row last view is some follows at_end =
     (subst (λ (r : Recording). IsRow r.signature row) (sym view) follows) some_name
     ∙ ap added view
 
--- how many traces there are
+-- there are as many traces as names
 pub count_of : (old : Recording) (elements : Elements) (names : List (List ℕ)) (cells : List ℤ)
     (ends : List ℕ)
     → stored elements names cells ends ≡ old → length old.traces ≡ length names
@@ -175,7 +175,7 @@ count_of old elements names cells ends view =
     ap (λ (r : Recording). length r.traces) (sym view)
     ∙ length-stored (length elements) names cells ends
 
--- the name of a trace
+-- the name of trace `k` is name `k`
 pub name_of : (old : Recording) (elements : Elements) (names : List (List ℕ)) (cells : List ℤ)
     (ends : List ℕ) (k : ℕ)
     → stored elements names cells ends ≡ old → k < length names →
@@ -184,7 +184,7 @@ name_of old elements names cells ends k view below =
     ap (λ (r : Recording). (trace_at r.traces k).0) (sym view)
     ∙ ap (λ (t : Trace). t.0) (trace_at-stored (length elements) names cells ends k below)
 
--- how many instants a trace has
+-- the number of instants of trace `k` is the difference of the places around it
 pub instants_at : (old : Recording) (elements : Elements) (names : List (List ℕ)) (cells : List ℤ)
     (ends : List ℕ) (k : ℕ)
     → stored elements names cells ends ≡ old → k < length names →
@@ -194,7 +194,7 @@ instants_at old elements names cells ends k view below =
     ∙ ap (λ (t : Trace). length t.1) (trace_at-stored (length elements) names cells ends k below)
     ∙ length-rows_between (length elements) cells (place ends k) (place ends (k + 1))
 
--- what the places around a trace say: they part at least one row and at most 1,000,000
+-- the places around a trace, from `from` to `to`: between them are 1 to 1,000,000 rows
 pub record PartsTrace (instants from to : ℕ) : Type 0 where
   pub rises : from < to
   pub count : to - from ≡ instants

@@ -16,11 +16,11 @@ pub record IsLedger (ends : List ℕ) : Type 0 where
   pub first : place ends 0 ≡ 0
   pub climbs : (i j : ℕ) → i < j → j < length ends → place ends i < place ends j
 
--- what f makes of each two neighbours
+-- the values of `f` on each two neighbours of `ends`
 abbrev pub pieces : {A : Type 0} → (ℕ → ℕ → A) → List ℕ → List A
 pieces f ends =
     map (λ k. f (place ends k) (place ends (k + 1))) (range_with_len 0 (length ends - 1))
 
--- the pieces of a list
+-- the pieces of `items` between the places `ends`
 abbrev pub cut : List ℕ → List ℕ → List (List ℕ)
 cut ends items = pieces (slice_range items) ends

@@ -1,5 +1,5 @@
--- How rows lie in memory: their integers one after the other, and their Booleans as the bits of
--- words.
+-- The layout of rows in memory: their integers one after the other, and their Booleans as the bits
+-- of words.
 -- Source: this project's rule.
 use Rattle.std.specs.Prelude.{ℕ, zero, suc, ◌≡◌, ◌+◌, ◌*◌, ◌/◌, ◌%◌, ◌<◌, ◌≤◌, ◌==◌, List, []}
 use Rattle.std.specs.Prelude.{◌∷◌, ◌++◌, Bool as Truth, true, false, ℤ, pos, int_le, length, map}
@@ -12,20 +12,20 @@ use Rattle.lb_static.specs.Signature.{Elements, kinds_of}
 use Rattle.lb_traces.specs.Ledger.{last_place}
 use Rattle.lb_traces.specs.Stored.{IsStored}
 
--- the columns of the Booleans, from a column on
+-- the columns of the Booleans, where the first column has the number `j`
 abbrev pub truth_columns : ℕ → List Kind → List ℕ
 truth_columns j [] = []
 truth_columns j (Bool ∷ kinds) = j ∷ truth_columns (suc j) kinds
 truth_columns j (Int ∷ kinds) = truth_columns (suc j) kinds
 
--- the columns of the integers, from a column on
+-- the columns of the integers, where the first column has the number `j`
 abbrev pub number_columns : ℕ → List Kind → List ℕ
 number_columns j [] = []
 number_columns j (Bool ∷ kinds) = number_columns (suc j) kinds
 number_columns j (Int ∷ kinds) = j ∷ number_columns (suc j) kinds
 
--- for each column its number among those of its kind, where so many integers and so many Booleans
--- stand before the first
+-- for each column its number among the columns of its kind, where `u` integers and `v` Booleans
+-- stand before the first one
 abbrev pub places_from : ℕ → ℕ → List Kind → List ℕ
 places_from u v [] = []
 places_from u v (Int ∷ kinds) = u ∷ places_from (suc u) v kinds
@@ -37,15 +37,15 @@ pub record AreColumns (kinds : List Kind) (integers truths places : List ℕ) : 
   pub truths_are : truths ≡ truth_columns 0 kinds
   pub places_are : places ≡ places_from 0 0 kinds
 
--- how many words hold so many Booleans
+-- the number of words that hold `n` Booleans
 abbrev pub words_of_row : ℕ → ℕ
 words_of_row n = (n + 63) / 64
 
--- the Boolean with a number, in words of 64
+-- Boolean number `b` of `words`, which hold 64 each
 abbrev pub bit_in : List ℕ → ℕ → Truth
 bit_in words b = bit_at (get_or words (b / 64) 0) (b % 64) == 1
 
--- the Boolean with a number of a row whose Booleans stand in some columns; past the last: false
+-- Boolean number `b` of a row whose Booleans stand in `columns`; false past the last one
 abbrev pub truth_in : List ℤ → List ℕ → ℕ → Truth
 truth_in row columns b = int_le (pos 1) (get_or row (get_or columns b (length row)) (pos 0))
 
@@ -56,13 +56,13 @@ pub record ArePacked (row : List ℤ) (columns words : List ℕ) : Type 0 where
       (g i : ℕ) → g < length words → i < 64 →
       (bit_at (get_or words g 0) i == 1) ≡ truth_in row columns (64 * g + i)
 
--- words for one more row stand at the end
+-- `new` is `old` with the words of one more row at the end
 pub record HasPushed (old : List ℕ) (row : List ℤ) (columns new : List ℕ) : Type 0 where
   pub more : List ℕ
   pub is : new ≡ old ++ more
   pub packed : ArePacked row columns more
 
--- the integers of a row in some columns
+-- the integers of a row in `columns`
 abbrev pub numbers_in : List ℤ → List ℕ → List ℤ
 numbers_in row columns = map (λ j. get_or row j (pos 0)) columns
 
@@ -71,39 +71,39 @@ abbrev pub truth_cell : Truth → ℤ
 truth_cell true = pos 1
 truth_cell false = pos 0
 
--- the cell of a column: the integer or the Boolean with a number
+-- the cell of a column by its kind: integer number `p`, or Boolean number `p`
 abbrev pub cell_held : List ℤ → List ℕ → Kind → ℕ → ℤ
 cell_held numbers words Int p = get_or numbers p (pos 0)
 cell_held numbers words Bool p = truth_cell (bit_in words p)
 
--- the row whose integers and whose words come first
+-- the row whose integers stand first in `numbers`, and its words first in `words`
 abbrev pub row_held : List Kind → List ℤ → List ℕ → List ℤ
 row_held kinds numbers words = zip2 (cell_held numbers words) kinds (places_from 0 0 kinds)
 
--- how many integers and how many words a row has
+-- the number of integers of a row; and below, the number of its words
 abbrev pub numbers_of : List Kind → ℕ
 numbers_of kinds = length (number_columns 0 kinds)
 
 abbrev pub words_of : List Kind → ℕ
 words_of kinds = words_of_row (length (truth_columns 0 kinds))
 
--- the row with a number
+-- row number `r`
 abbrev pub nth_row : List Kind → List ℤ → List ℕ → ℕ → List ℤ
 nth_row kinds numbers words r =
     row_held kinds (drop (r * numbers_of kinds) numbers) (drop (r * words_of kinds) words)
 
--- the cells of so many rows, one row after the other
+-- the cells of the first `r` rows, one row after the other
 abbrev pub cells_held : List Kind → List ℤ → List ℕ → ℕ → List ℤ
 cells_held kinds numbers words zero = []
 cells_held kinds numbers words (suc r) =
     cells_held kinds numbers words r ++ nth_row kinds numbers words r
 
--- the cells of all rows that some places part
+-- the cells of all rows, up to the last place of `ends`
 abbrev pub cells_of : Elements → List ℤ → List ℕ → List ℕ → List ℤ
 cells_of elements numbers words ends =
     cells_held (kinds_of elements) numbers words (last_place ends)
 
--- so many rows fill the integers and the words, and no bit past the Booleans of a row is set
+-- `rows` rows fill `numbers` and `words`, and no bit past the Booleans of a row is set
 pub record AreFilled (kinds : List Kind) (rows : ℕ) (numbers : List ℤ) (words : List ℕ) :
     Type 0 where
   pub numbers_long : length numbers ≡ rows * numbers_of kinds

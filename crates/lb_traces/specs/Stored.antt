@@ -1,4 +1,4 @@
--- How names and traces lie in memory.
+-- The layout of names and traces in memory.
 use Rattle.std.specs.Prelude.{ℕ, ◌≡◌, ◌+◌, ◌-◌, ◌*◌, ◌≤◌, List, [], length, map, get_or, take, drop}
 use Rattle.std.specs.Prelude.{ℤ}
 use Rattle.std.specs.List.{range_with_len}
@@ -15,21 +15,21 @@ pub record AreNames (text ends : List ℕ) : Type 0 where
   pub short : length text + 64 ≤ 64 * length ends
   pub count : length ends ≤ 1000001
 
--- the row with a number, of rows of so many cells that lie one after the other
+-- row number `r` of the rows of `width` cells that lie one after the other in `cells`
 abbrev pub row_of : ℕ → List ℤ → ℕ → Row
 row_of width cells r = take width (drop (r * width) cells)
 
--- the rows from one number up to another
+-- the rows from number `from` up to number `to`, without that one
 abbrev pub rows_between : ℕ → List ℤ → ℕ → ℕ → List Row
 rows_between width cells from to = map (row_of width cells) (range_with_len from (to - from))
 
--- the traces of some names, cells and the places that part the rows
+-- the traces with these names, whose rows lie in `cells` and are parted by the places `ends`
 abbrev pub stored_traces : ℕ → List (List ℕ) → List ℤ → List ℕ → Traces
 stored_traces width names cells ends =
     map (λ k. (get_or names k [], rows_between width cells (place ends k) (place ends (k + 1))))
     (range_with_len 0 (length names))
 
--- what names, cells and places hold under a signature
+-- the recording that names, cells and places hold under a signature
 abbrev pub stored : Elements → List (List ℕ) → List ℤ → List ℕ → Recording
 stored elements names cells ends =
     record { signature = elements; traces = stored_traces (length elements) names cells ends }

@@ -42,7 +42,7 @@ cell_at traces k t column = get_or (get_or (trace_at traces k).1 t []) column (p
 abbrev pub is_name_byte : ℕ → Truth
 is_name_byte b = is_ascii_alphanumeric b || (b == 95) || (b == 45) || (b == 46) || (b == 47)
 
--- a lawful name of a trace: 1 to 64 such bytes
+-- a lawful name of a trace: 1 to 64 bytes that a name may have
 pub record IsTraceName (name : List ℕ) : Type 0 where
   pub not_empty : 0 < length name
   pub short : length name ≤ 64
@@ -52,7 +52,7 @@ pub record IsTraceName (name : List ℕ) : Type 0 where
 abbrev pub IsInt : ℤ → Type 0
 IsInt v = (negsuc 2147483647 ≤ℤ v) × (v ≤ℤ pos 2147483647)
 
--- what a cell may hold: an integer of 32 bits, or 0 or 1 for a Boolean
+-- a lawful cell: an integer of 32 bits, or 0 or 1 for a Boolean
 abbrev pub IsCell : Kind → ℤ → Type 0
 IsCell Int v = IsInt v
 IsCell Bool v = (v ≡ pos 0) ⊎ (v ≡ pos 1)
@@ -61,11 +61,11 @@ IsCell Bool v = (v ≡ pos 0) ⊎ (v ≡ pos 1)
 abbrev pub IsRow : Elements → Row → Type 0
 IsRow elements row = AllZip (λ e v. IsCell e.1 v) elements row
 
--- how many instants some traces have together
+-- the number of instants that some traces have together
 abbrev pub instants_of : Traces → ℕ
 instants_of traces = sum_by (λ t. length t.1) traces
 
--- how many cells an instant counts towards the limit: one for each scalar input, and at least one
+-- the number of cells of an instant, for the limit: one for each scalar input, and at least one
 abbrev pub cells_of_instant : Elements → ℕ
 cells_of_instant elements = max 1 (length elements)
 
@@ -76,8 +76,8 @@ pub record IsTrace (elements : Elements) (trace : Trace) : Type 0 where
   pub instants : length trace.1 ≤ 1000000
   pub rows : All (IsRow elements) trace.1
 
--- what always holds of the traces that are put together: each is lawful, no two have one name,
--- there are at most 1,000,000, and at most 67,108,864 cells
+-- a lawful recording: each trace is lawful, no two have one name, there are at most 1,000,000
+-- traces, and at most 67,108,864 cells
 pub record IsRecording (r : Recording) : Type 0 where
   pub each : All (IsTrace r.signature) r.traces
   pub distinct : AllPairs (λ a b. a ≢ b) (trace_names r.traces)
@@ -88,7 +88,7 @@ pub record IsRecording (r : Recording) : Type 0 where
 abbrev pub HasRoom : Recording → Type 0
 HasRoom r = (instants_of r.traces + 1) * cells_of_instant r.signature ≤ 67108864
 
--- the limit of cells has room for so many more instants
+-- the limit of cells has room for `n` more instants
 abbrev pub HasRoomFor : Recording → ℕ → Type 0
 HasRoomFor r n = (instants_of r.traces + n) * cells_of_instant r.signature ≤ 67108864
 
@@ -110,7 +110,7 @@ with_rows [] rows = []
 with_rows (t ∷ []) rows = (t.0, t.1 ++ rows) ∷ []
 with_rows (t ∷ u ∷ more) rows = t ∷ with_rows (u ∷ more) rows
 
--- the rows of a trace from one on
+-- the rows of trace `k` from row `from` on
 abbrev pub rows_from : Traces → ℕ → ℕ → List Row
 rows_from traces k from = drop from (trace_at traces k).1
 

@@ -1,4 +1,4 @@
-//! Recorded traces as flat rows: what a program runs on.
+//! Recorded traces as flat rows, on which a program runs.
 #![tactic(auto)]
 
 mod names;

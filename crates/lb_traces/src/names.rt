@@ -26,7 +26,7 @@ fn is_name_byte(b: u8) -> bool
 #[derive(Drop)]
 pub(crate) struct Names {
     text: String,
-    /// 0, and where each name ends.
+    /// 0, and the place at which each name ends.
     ends: Vec<u32>,
 }
 
@@ -67,7 +67,7 @@ impl Names {
         Ok(())
     }
 
-    /// Lets all names go, and keeps the memory.
+    /// Drops all names, and keeps the memory.
     pub(crate) fn clear(&mut self)
         ensures { self.new ≡ [] }
     {
@@ -76,7 +76,7 @@ impl Names {
         self.ends.push_reserved(0);
     }
 
-    /// How many names there are.
+    /// The number of names.
     pub(crate) fn len(&self) -> u32
         ensures count { result ≡ length self.now }
         ensures limit { result ≤ 1000000 }

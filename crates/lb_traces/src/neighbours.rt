@@ -1,15 +1,16 @@
 //! Columns that stand side by side, sixteen at once.
 
-ghost use Rattle.std.specs.Prelude.{◌≡◌, ◌==◌, ℕ, ◌+◌, ◌<◌, ◌≤◌, IsTrue, get_or, int_le, length, pos};
+ghost use Rattle.std.specs.Prelude.{◌≡◌, ◌==◌, ℕ, ◌+◌, ◌<◌, ◌≤◌, IsTrue, get_or, int_le, length};
+ghost use Rattle.std.specs.Prelude.{pos};
 ghost use Rattle.std.specs.Int.{bit_at};
 ghost use Rattle.lb_traces.specs.Traces.{IsInt};
 
 use std::simd::prelude::*;
 
-// How far each of sixteen neighbours stands from the first.
+// The distance of each of sixteen neighbours from the first.
 const STEPS: [u32; 16] = [0, 1, 2, 3, 4, 5, 6, 7, 8, 9, 10, 11, 12, 13, 14, 15];
 
-/// Whether sixteen columns from one on stand side by side.
+/// Whether the sixteen columns from `first` on stand side by side.
 #[inline]
 pub(crate) fn are_neighbours(columns: &[u32], first: usize) -> bool
     requires { first + 16 ≤ length columns.now }
@@ -25,7 +26,7 @@ pub(crate) fn are_neighbours(columns: &[u32], first: usize) -> bool
     steps.simd_eq(u32x16::from_array(STEPS)).to_bitmask() == 65535
 }
 
-/// Which of sixteen cells are true, as the bits of a number.
+/// Sixteen cells as bits: 1 where a cell is true.
 #[inline]
 pub(crate) fn truths_in(cells: &[i32]) -> u64
     requires long { 15 < length cells.now }

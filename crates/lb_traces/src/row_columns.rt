@@ -1,4 +1,4 @@
-//! The columns of a signature, apart by their kinds.
+//! The columns of a signature, by their kinds.
 
 ghost use Rattle.std.specs.Prelude.{IfOk};
 ghost use Rattle.lb_static.specs.Signature.{kinds_of};
@@ -13,9 +13,9 @@ use std::alloc::{AllocError, Global};
 pub(crate) struct RowColumns {
     /// The columns that hold integers, in the order of the signature.
     pub(crate) integers: Vec<u32>,
-    /// Those that hold Booleans.
+    /// The columns that hold Booleans.
     pub(crate) truths: Vec<u32>,
-    /// For each column its number among those of its kind.
+    /// For each column its number among the columns of its kind.
     pub(crate) places: Vec<u32>,
 }
 

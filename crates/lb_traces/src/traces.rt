@@ -19,8 +19,8 @@ ghost use Rattle.std.specs.List.{Contains};
 ghost use Rattle.lb_static.specs.Signature.{kinds_of};
 ghost use Rattle.lb_syntax.specs.declared.tree.Kind.TheVariants.{Int, Bool};
 ghost use Rattle.lb_traces.specs.Traces.{trace_at, cell_at, instants_of, trace_names, IsTraceName};
-ghost use Rattle.lb_traces.specs.Traces.{IsRow, HasRoom, HasRoomFor, last_rows, with_row, with_trace};
-ghost use Rattle.lb_traces.specs.Traces.{with_rows, rows_from, IsRecording, IsInt};
+ghost use Rattle.lb_traces.specs.Traces.{IsRow, HasRoom, HasRoomFor, last_rows, with_row};
+ghost use Rattle.lb_traces.specs.Traces.{with_trace, with_rows, rows_from, IsRecording, IsInt};
 ghost use Rattle.lb_traces.specs.Packed.{truth_columns, number_columns, words_of_row, bit_in};
 ghost use Rattle.lb_traces.specs.Packed.{truth_in, numbers_in, HasPushed};
 ghost use Rattle.lb_traces.specs.BitRows.{AreTruths, row_of_bits};
@@ -43,9 +43,9 @@ pub struct TraceSet {
     names: Names,
     /// The integers of all rows, one row after the other.
     numbers: Vec<i32>,
-    /// The Booleans of all rows as the bits of words, so many words for each row.
+    /// The Booleans of all rows as the bits of words, `words_of_row` words for each row.
     words: Vec<u64>,
-    /// 0, and for each trace how many rows end with it.
+    /// 0, and for each trace the number of rows up to its end.
     row_ends: Vec<u32>,
     columns: RowColumns,
 }
@@ -64,7 +64,7 @@ impl Model for TraceSet {
         s.row_ends.items s.columns.integers.items s.columns.truths.items s.columns.places.items };
 }
 
-// How many words hold so many Booleans.
+// The number of words that hold this number of Booleans.
 fn words_of_row(booleans: usize) -> usize
     ensures { result ≡ words_of_row booleans }
 {
@@ -75,7 +75,7 @@ fn words_of_row(booleans: usize) -> usize
     }
 }
 
-// The cell of a row in one of some columns.
+// The cell of a row in column `c` of `columns`.
 fn cell_in(row: &[i32], columns: &[u32], c: usize) -> i32
     requires column { c < length columns.now }
     requires columns { All (λ j. j < length row.now) columns.now }
@@ -117,7 +117,7 @@ fn has_bit(word: u64, i: usize) -> bool
     (word >> i) % 2 == 1
 }
 
-// The word with one more bit.
+// The word, with bit `i` set where `b` is true.
 fn with_bit(word: u64, i: usize, b: bool) -> u64
     requires { i < 64 }
     ensures here { (bit_at result i == 1) ≡ (b || (bit_at word i == 1)) }
@@ -126,7 +126,7 @@ fn with_bit(word: u64, i: usize, b: bool) -> u64
     if b { word | (1u64 << i) } else { word }
 }
 
-// Up to 64 Booleans of a row, from the one with this number on, as the bits of a word.
+// Up to 64 Booleans of a row, from number `first` on, as the bits of a word.
 fn packed(row: &[i32], columns: &[u32], first: usize) -> u64
     requires first { first ≤ length columns.now }
     requires columns { All (λ j. j < length row.now) columns.now }
@@ -172,7 +172,7 @@ impl TraceSet {
         &self.signature
     }
 
-    /// How many traces there are.
+    /// The number of traces.
     pub fn len(&self) -> u32
         ensures count { result ≡ length self.now.traces }
         ensures limit { result ≤ 1000000 }
@@ -180,7 +180,7 @@ impl TraceSet {
         self.names.len()
     }
 
-    /// How many instants all traces have together.
+    /// The number of instants of all traces together.
     pub fn instants(&self) -> u32
         ensures count { result ≡ instants_of self.now.traces }
         ensures limit { result ≤ 67108864 }
@@ -196,7 +196,7 @@ impl TraceSet {
         self.names.get(k)
     }
 
-    /// How many instants a trace has, 1 to 1,000,000.
+    /// The number of instants of a trace, 1 to 1,000,000.
     pub fn length(&self, k: u32) -> u32
         requires { k < length self.now.traces }
         ensures instants { result ≡ length (trace_at self.now.traces k).1 }
@@ -246,9 +246,9 @@ impl TraceSet {
         &self.numbers.as_slice()[start..start + width]
     }
 
-    /// The Booleans of a trace at so many instants from one on, in the order of the signature, as
-    /// the bits of words, so many for each instant: that with number b is bit b % 64 of word b / 64
-    /// of its instant. The bits past the last are 0.
+    /// The Booleans of a trace at `count` instants from `t` on, in the order of the signature, as
+    /// the bits of words. Each instant has as many words as its Booleans take: Boolean number b is
+    /// bit b % 64 of word b / 64 of its instant. The bits past the last Boolean are 0.
     pub fn bits(&self, k: u32, t: u32, count: u32) -> &[u64]
         requires trace { k < length self.now.traces }
         requires instants { t + count ≤ length (trace_at self.now.traces k).1 }
@@ -273,7 +273,7 @@ impl TraceSet {
         &self.words.as_slice()[first * width..past * width]
     }
 
-    /// The cells of a trace at an instant, in the order of the signature, at the end of a row; a
+    /// Appends to `row` the cells of a trace at an instant, in the order of the signature; a
     /// Boolean is 0 or 1. Where memory is refused the row stays as it was.
     pub fn copy_row(&self, k: u32, t: u32, row: &mut Vec<i32>) -> Result<(), AllocError>
         requires trace { k < length self.now.traces }
@@ -293,7 +293,7 @@ impl TraceSet {
         Ok(())
     }
 
-    // Makes room for the integers and the words of so many more cells.
+    // Makes room for the integers and the words of `cells` more cells.
     fn reserve(&mut self, cells: usize) -> Result<(), AllocError>
         ensures { self.new ≡ self.old }
     {
@@ -303,7 +303,7 @@ impl TraceSet {
         self.words.reserve(rows.saturating_mul(words_of_row(self.columns.truths.len())))
     }
 
-    // Lets all traces go.
+    // Drops all traces.
     fn clear(&mut self)
         ensures { self.new ≡ record self.old { traces = [] } }
     {
@@ -314,7 +314,7 @@ impl TraceSet {
         self.row_ends.push_reserved(0);
     }
 
-    // One more trace, with its first row.
+    // Adds one more trace, with its first row.
     fn start(&mut self, name: &str, row: &[i32]) -> Result<(), AllocError>
         requires name { IsTraceName name.now }
         requires fresh { ¬ (Contains (trace_names self.old.traces) name.now) }
@@ -336,7 +336,7 @@ impl TraceSet {
         Ok(())
     }
 
-    // One more row of the last trace.
+    // Adds one more row to the last trace.
     fn push(&mut self, row: &[i32]) -> Result<(), AllocError>
         requires started { 0 < length self.old.traces }
         requires row { IsRow self.old.signature row.now }
@@ -355,7 +355,7 @@ impl TraceSet {
         Ok(())
     }
 
-    // One more row of the last trace, of Booleans alone that are the bits of a word.
+    // Adds one more row to the last trace; all its cells are Booleans, the bits of a word.
     fn push_bits(&mut self, word: u64) -> Result<(), AllocError>
         requires started { 0 < length self.old.traces }
         requires truths { AreTruths self.old.signature }
@@ -373,7 +373,7 @@ impl TraceSet {
         Ok(())
     }
 
-    // The rows of a trace of another set, from one on, at the end of the last trace.
+    // Adds the rows of trace `k` of another set, from row `from` on, to the last trace.
     fn extend(&mut self, set: &TraceSet, k: u32, from: u32) -> Result<(), AllocError>
         requires started { 0 < length self.old.traces }
         requires trace { k < length set.now.traces }
@@ -405,7 +405,7 @@ impl TraceSet {
 
 /// Traces that are put together, row after row.
 ///
-/// Contracts see what they hold so far, as of a [`TraceSet`].
+/// Contracts see the traces so far, as those of a [`TraceSet`].
 ///
 /// ```text
 /// let mut rows = TraceRows::new(alloc, &signature)?;
@@ -447,7 +447,7 @@ impl TraceRows {
         })
     }
 
-    /// Makes room for so many more cells, so that rows find it there. The traces stay as they are,
+    /// Makes room for `cells` more cells, which the next rows take. The traces stay as they are,
     /// also where memory is refused.
     pub fn reserve(&mut self, cells: usize) -> Result<(), AllocError>
         ensures { self.new ≡ self.old }
@@ -455,15 +455,15 @@ impl TraceRows {
         self.set.reserve(cells)
     }
 
-    /// Lets all traces go, and keeps their memory for others.
+    /// Drops all traces, and keeps their memory for others.
     pub fn clear(&mut self)
         ensures { self.new ≡ record self.old { traces = [] } }
     {
         self.set.clear();
     }
 
-    /// One more trace, with its first row: its cells in the order of the signature, a Boolean as 0
-    /// or 1. Where memory is refused the traces stay as they were.
+    /// Adds one more trace, with its first row: its cells in the order of the signature, a Boolean
+    /// as 0 or 1. Where memory is refused the traces stay as they were.
     pub fn start(&mut self, name: &str, row: &[i32]) -> Result<(), AllocError>
         requires name { IsTraceName name.now }
         requires fresh { ¬ (Contains (trace_names self.old.traces) name.now) }
@@ -477,7 +477,7 @@ impl TraceRows {
         self.set.start(name, row)
     }
 
-    /// One more row of the last trace. Where memory is refused the traces stay as they were.
+    /// Adds one more row to the last trace. Where memory is refused the traces stay as they were.
     pub fn push(&mut self, row: &[i32]) -> Result<(), AllocError>
         requires started { 0 < length self.old.traces }
         requires row { IsRow self.old.signature row.now }
@@ -490,9 +490,9 @@ impl TraceRows {
         self.set.push(row)
     }
 
-    /// One more row of the last trace, whose cells are Booleans alone, at most 64: the bits of a
-    /// word, the first of the signature the lowest, with no bit past the last. Where memory is
-    /// refused the traces stay as they were.
+    /// Adds one more row to the last trace. Its cells are at most 64 Booleans, the bits of `word`:
+    /// the first one of the signature is the lowest bit, and no bit past the last one is set. Where
+    /// memory is refused the traces stay as they were.
     pub fn push_bits(&mut self, word: u64) -> Result<(), AllocError>
         requires started { 0 < length self.old.traces }
         requires truths { AreTruths self.old.signature }
@@ -507,8 +507,8 @@ impl TraceRows {
         self.set.push_bits(word)
     }
 
-    /// The rows of a trace of another set under the same signature, from one on, at the end of the
-    /// last trace. Where memory is refused the traces stay as they were.
+    /// Adds the rows of trace `k` of another set under the same signature, from row `from` on, to
+    /// the last trace. Where memory is refused the traces stay as they were.
     pub fn extend(&mut self, set: &TraceSet, k: u32, from: u32) -> Result<(), AllocError>
         requires started { 0 < length self.old.traces }
         requires trace { k < length set.now.traces }
@@ -525,14 +525,14 @@ impl TraceRows {
         self.set.extend(set, k, from)
     }
 
-    /// What has been put together.
+    /// The traces so far.
     pub fn set(&self) -> &TraceSet
         ensures { result.now ≡ self.now }
     {
         &self.set
     }
 
-    /// The traces that were put together. It takes no memory.
+    /// The traces, as a set. It takes no memory.
     pub fn into_set(self) -> TraceSet
         ensures { result ≡ self }
     {

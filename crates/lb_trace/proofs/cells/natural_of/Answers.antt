@@ -1,4 +1,4 @@
--- So few digits spell a number of 64 bits.
+-- At most 18 digits spell a number of 64 bits.
 use Rattle.std.proofs.Common.{arith, ℕ, ◌<◌, ◌≤◌, ◌^◌}
 use Rattle.std.proofs.Math.Nat.{pow-le-pow_right}
 use Rattle.lb_trace.proofs.cells.natural_of.Goals as goal

@@ -1,4 +1,4 @@
--- Where the mask has a bit the lowest tells how many digits there are.
+-- The place of the lowest bit of the mask is the number of digits.
 use Rattle.std.proofs.Common.{arith, refl}
 use Rattle.lb_trace.proofs.Fronts.{counts, counts-none}
 use Rattle.lb_trace.proofs.front.count_after.Goals as goal

@@ -1,4 +1,4 @@
--- One end of a line after the other.
+-- The ends of lines at the front of a text, one after the other.
 use Rattle.std.proofs.Common.{refl, sym, arith}
 use Rattle.lb_trace.proofs.FrontLines.{blank-more, ended-at}
 use Rattle.lb_trace.proofs.Lines.{plain-none}

@@ -1,4 +1,4 @@
--- The first cell is the field at 0.
+-- The first cell is field 0.
 use Rattle.std.proofs.Common.{sym, ◌∙◌, ap}
 use Rattle.std.specs.Str.{bytes_eq}
 use Rattle.csv.specs.Records.{fields_of}

@@ -1,4 +1,4 @@
--- A column that is named like no input is not one of them.
+-- A column that has the name of no input refuses the header.
 use Rattle.std.proofs.Common.{ℕ, ◌<◌, List, [], Bool, length, sym, ap, ◌∙◌, arith}
 use Rattle.std.proofs.lemmas.List.Folds.{list_all_at}
 use Rattle.std.specs.List.{list_any}

@@ -1,4 +1,4 @@
--- One more name was compared with the column's.
+-- One more name is compared with that of the column.
 use Rattle.std.proofs.Common.{◌≡◌, ◌<◌, length, get_or, [], sym, ap, ◌∙◌, false, refl}
 use Rattle.std.proofs.lemmas.List.Folds.{list_any_at, list_any_more}
 use Rattle.std.proofs.lemmas.Option.{get_or_from_slice_get, slice_get_within}

@@ -1,4 +1,4 @@
--- The first column with the name has been found, or none has it.
+-- The first column with the name is found, or no column has it.
 use Rattle.std.proofs.Common.{arith, ◌≡◌, length, [], sym, ap, ◌∙◌}
 use Rattle.std.proofs.lemmas.List.Sums.{position_or_len_is}
 use Rattle.std.specs.Str.{bytes_eq}

@@ -1,4 +1,4 @@
--- The rows of the last trace are those at the last place.
+-- The rows of the last trace are those of the trace at the last place.
 use Rattle.std.proofs.Common.{◌≡◌, arith, ◌-◌, length, ap}
 use Rattle.lb_traces.specs.Traces.{last_rows, trace_at}
 use Rattle.lb_trace.proofs.Lasts.{last_rows_at}

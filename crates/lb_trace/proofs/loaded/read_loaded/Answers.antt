@@ -1,4 +1,4 @@
--- What was read of the first chunk and of the others is what their text spells.
+-- The traces of the first chunk and of the others are those that their text spells.
 use Rattle.std.proofs.Common.{sym, ap, ◌∙◌, arith}
 use Rattle.std.proofs.lemmas.Bool.{not-true}
 use Rattle.lb_traces.specs.Traces.{Recording}

@@ -1,4 +1,5 @@
-use Rattle.std.proofs.Common.{◌+◌, ◌-◌, ◌∙◌, Fits, ap, arith, drop, length-drop, subst, sym, take, w8}
+use Rattle.std.proofs.Common.{◌+◌, ◌-◌, ◌∙◌, Fits, ap, arith, drop, length-drop, subst, sym, take}
+use Rattle.std.proofs.Common.{w8}
 use Rattle.std.proofs.lemmas.List.{get_or-drop, take_rest}
 use Rattle.lb_trace.specs.Fronts.{number_of}
 use Rattle.lb_trace.proofs.NumberWords.{moved-read}

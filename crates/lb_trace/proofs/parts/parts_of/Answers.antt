@@ -1,4 +1,4 @@
--- Each cut leaves the records as they are, and the quotes.
+-- Each cut leaves the records and the quotes as they are.
 use Rattle.std.proofs.Common.{List, ℕ, ◌||◌, ◌++◌, sym, ap, ◌∙◌}
 use Rattle.std.specs.Prelude.{flat_map}
 use Rattle.std.specs.Borrow.{Bor}

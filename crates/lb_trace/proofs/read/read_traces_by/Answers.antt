@@ -1,4 +1,4 @@
--- What is read in parts is what the text spells, and all else is read by one worker.
+-- The traces that are read in parts are those that the text spells; else one worker reads it.
 use Rattle.std.proofs.Common.{arith}
 use Rattle.lb_trace.proofs.Readings.{is_reading}
 use Rattle.lb_trace.proofs.SpreadReadings.{cut_records}

@@ -1,4 +1,4 @@
--- What is read is what the text spells.
+-- The traces that are read are those that the text spells.
 use Rattle.std.proofs.Common.{◌≡◌, Ok, sym, ap, ◌∙◌, rules}
 use Rattle.std.proofs.lemmas.Result.{err_from_is_err_and}
 use Rattle.csv.specs.Records.{fields_of}

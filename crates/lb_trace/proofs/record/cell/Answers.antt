@@ -1,4 +1,4 @@
--- The cell is the field after as many as its place says, or there is none.
+-- Cell `i` is field `i + 1` of the record, if there is one.
 use Rattle.std.proofs.Common.{arith, sym, ◌∙◌}
 use Rattle.csv.specs.Records.{fields_of}
 use Rattle.lb_trace.proofs.Fields.{cell-some, cell-none}

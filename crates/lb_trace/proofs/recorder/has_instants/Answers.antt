@@ -1,4 +1,4 @@
--- The rows of the last trace are those at the last place.
+-- The rows of the last trace are those of the trace at the last place.
 use Rattle.std.proofs.Common.{arith, ◌-◌, length, nat_lt, sym, ap, ◌∙◌}
 use Rattle.lb_trace.proofs.Lasts.{last_rows_at}
 use Rattle.lb_trace.proofs.recorder.has_instants.Goals as goal

@@ -1,4 +1,4 @@
--- The name of the last trace is that at the last place.
+-- The name of the last trace is that of the trace at the last place.
 use Rattle.std.proofs.Common.{arith, ◌-◌, ◌<◌, length, sym, ap, ◌∙◌}
 use Rattle.std.specs.Str.{bytes_eq}
 use Rattle.lb_trace.proofs.Lasts.{is_last_at}

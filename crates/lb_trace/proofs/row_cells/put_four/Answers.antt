@@ -1,4 +1,4 @@
--- Four cells from a place on.
+-- Four cells from place `i` on are written.
 use Rattle.std.proofs.Common.{get_or, pos, rules, w32}
 use Rattle.std.proofs.lemmas.Int.{to_z-of_z}
 use Rattle.lb_trace.proofs.WrittenCells.{four-written}

@@ -2,7 +2,7 @@ use Rattle.std.proofs.Common.{ℕ, ◌≡◌, ◌<◌, ◌≤◌, true, get_or}
 use Rattle.lb_trace.specs.Plain.{ends_line}
 use Rattle.lb_trace.proofs.whole.past_line.Given as goal
 
--- nothing but ends of lines stands behind
+-- only ends of lines stand from `past` up to `before`
 abbrev pub invariant-loop-past : goal.invariant-loop-past
 invariant-loop-past l =
     (l.past ≤ l.before)

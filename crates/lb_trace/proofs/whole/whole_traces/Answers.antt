@@ -1,4 +1,4 @@
--- A line before the one that was found has its name too, has another one, or there is none.
+-- The line before a place has the name too, or has another name, or there is none.
 use Rattle.std.proofs.Common.{◌-◌, ◌/◌, sym, ◌∙◌, arith}
 use Rattle.std.proofs.lemmas.Slice.Eq.{bytes_eq-Decides}
 use Rattle.lb_trace.proofs.LastLines.{searched_all, searched_none, searched_other, searched_same}

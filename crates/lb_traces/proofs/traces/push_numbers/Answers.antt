@@ -1,6 +1,7 @@
 -- One integer more in each turn, or all of them at once.
 use Rattle.std.proofs.Common.{◌++◌, ◌∷◌, [], ℕ, pos, get_or, length, take, ap, sym, ◌∙◌, arith}
-use Rattle.std.proofs.Common.{rules, w32, to_z, of_z, ◌≡◌, ◌+◌, ◌-◌, ◌<◌, drop, is_ok, length-drop, subst, true, vec_len}
+use Rattle.std.proofs.Common.{rules, w32, to_z, of_z, ◌≡◌, ◌+◌, ◌-◌, ◌<◌, drop, is_ok, length-drop}
+use Rattle.std.proofs.Common.{subst, true, vec_len}
 use Rattle.std.proofs.lemmas.Int.{to_z-of_z}
 use Rattle.std.proofs.lemmas.List.{append-nil, append_assoc, map_push, take_more}
 use Rattle.std.proofs.lemmas.List.{get_or_default, length-take-le}

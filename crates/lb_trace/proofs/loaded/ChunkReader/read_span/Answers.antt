@@ -1,4 +1,4 @@
--- Each chunk is one more.
+-- Each chunk that is read is one more of the span.
 use Rattle.std.proofs.Common.{ℕ, List, Some, take, sym, subst}
 use Rattle.std.proofs.lemmas.List.{take_all, take_more}
 use Rattle.lb_trace.specs.declared.recorder.Recorder.{Recorder}

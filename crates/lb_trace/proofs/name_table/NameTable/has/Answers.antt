@@ -1,4 +1,4 @@
--- A name that stands at one of its places, or beside the table, is that of a trace.
+-- A name is that of a trace where it stands at one of its places, or among the others.
 use Rattle.std.proofs.Common.{◌≡◌, ◌≢◌, ◌-◌, ◌≤◌, List, ℕ, [], length, get_or, true, false, Bool}
 use Rattle.std.proofs.Common.{sym, ap, ◌∙◌, arith, refl}
 use Rattle.std.specs.BTreeSet.{contains_text}
@@ -9,7 +9,7 @@ use Rattle.lb_trace.proofs.KnownNames.{name_at, names-any, names_long}
 use Rattle.lb_trace.proofs.NamePlacing.{look_none, look_other, look_same, look_second}
 use Rattle.lb_trace.proofs.name_table.NameTable.has.Goals as goal
 
--- what stands at a place is compared with a name
+-- the name of the trace at a place is compared with a name
 compared :
     (ts : Traces) (place place' : ℕ) (text q : List ℕ) (b : Bool) → place ≢ 0 →
     place ≤ length (trace_names ts) → text ≡ (trace_at ts (place - 1)).0 → place ≡ place' →
@@ -21,7 +21,7 @@ compared ts place place' text q b some within is same test =
     (name_at ts (place - 1) (omega (arith, some, within, long)) ∙ sym is)
     ∙ test
 
--- no place tells more than the last name
+-- no place holds a number above that of the last name
 within_first :
     (places : List ℕ) (has : List ℕ → Bool) (names : List (List ℕ)) (q : List ℕ) (place : ℕ) →
     HavePlaces places has names (length names) → place ≡ at_first places q →

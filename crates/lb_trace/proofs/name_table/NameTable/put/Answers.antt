@@ -1,4 +1,4 @@
--- The name gets a place, or is put beside the table.
+-- The name gets a place, or is put among the others.
 use Rattle.std.proofs.Common.{◌≡◌, ℕ, ◌<◌, List, [], length, get_or, true, string_bytes, cond}
 use Rattle.std.proofs.Common.{sym, ap, ◌∙◌, rules}
 use Rattle.std.proofs.lemmas.List.{get_or_default}
@@ -19,7 +19,7 @@ returns-then-index-eq0-clause-put c names is inside h =
     ∙ c.if-index-eq0.true)
     (search rules)
 
--- a place that was read is taken
+-- a place is taken where the number that was read there is not 0
 taken_at :
     (places : List ℕ) (p q v : ℕ) → p < length places → p ≡ q → v ≡ get_or places p v →
     (v ≡ 0 → ⊥) → get_or places q 0 ≡ 0 → ⊥

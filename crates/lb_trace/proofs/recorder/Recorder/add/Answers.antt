@@ -3,7 +3,7 @@ use Rattle.std.proofs.Common.{◌≡◌, Ok, sym, ap, ◌∙◌, inr, subst}
 use Rattle.std.proofs.lemmas.Result.{on_ok_weaker}
 use Rattle.csv.specs.Records.{fields_of}
 use Rattle.lb_traces.specs.Traces.{Recording}
-use Rattle.lb_trace.specs.declared.known.Known.{Known}
+use Rattle.lb_trace.specs.declared.seen_names.SeenNames.{SeenNames}
 use Rattle.lb_trace.specs.Mirrors.{go_on_by, knows, record_by, row_by, start_by}
 use Rattle.lb_trace.specs.Refusals.{is_last}
 use Rattle.lb_trace.specs.Spelling.{after_first}
@@ -41,7 +41,7 @@ returns-then-is_last-clause-names c =
     (λ (gone : go_on_by c.args.self.now.rows.signature c.args.self.now.rows.traces
     (row_by c.args.table.now (after_first (fields_of c.args.entry.now)))
     ≡ Ok c.go_on.new.self.rows.traces).
-    subst (λ (names : Known). knows names c.go_on.new.self.rows.traces)
+    subst (λ (names : SeenNames). knows names c.go_on.new.self.rows.traces)
     (sym c.go_on.ensures.names)
     (go_on_by-knows c.args.self.now.names c.args.self.now.rows.signature
     c.args.self.now.rows.traces c.go_on.new.self.rows.traces

@@ -4,7 +4,7 @@ use Rattle.std.proofs.lemmas.Result.{on_ok_weaker}
 use Rattle.std.specs.List.{list_any}
 use Rattle.std.specs.Str.{bytes_eq}
 use Rattle.lb_traces.specs.Traces.{Recording, Row, Trace, with_trace}
-use Rattle.lb_trace.specs.declared.known.Known.{Known}
+use Rattle.lb_trace.specs.declared.seen_names.SeenNames.{SeenNames}
 use Rattle.lb_trace.specs.Mirrors.{knows, start_by, start_cells}
 use Rattle.lb_trace.proofs.Additions.{start_by-new, start_by-refused}
 use Rattle.lb_trace.proofs.KnownNames.{start_cells-knows}
@@ -65,7 +65,7 @@ known c first =
     (with_trace c.args.self.now.rows.traces n first)) (sym found.0)
     (subst (λ (r : Recording). knows c.begin_row.new.self.names
     (with_trace r.traces c.args.name.now first)) c.set.ensures
-    (subst (λ (names : Known). knows names
+    (subst (λ (names : SeenNames). knows names
     (with_trace c.set.result.now.traces c.args.name.now first)) (sym c.begin_row.ensures.names)
     (found.3 first)))
 

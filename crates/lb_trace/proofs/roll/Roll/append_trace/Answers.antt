@@ -1,7 +1,6 @@
--- A trace behind those of a roll, or why it is refused there.
-use Rattle.std.proofs.Common.{◌≡◌, ◌≤◌, ◌<◌, ◌+◌, ◌*◌, ◌++◌, ◌∷◌, [], true, false, not, ℕ, Bool, List}
-use Rattle.std.proofs.Common.{Some}
-use Rattle.std.proofs.Common.{length, refl, sym, ap, ◌∙◌, subst, arith, nat_lt, rules}
+-- A trace is added behind those of a roll, or is refused there.
+use Rattle.std.proofs.Common.{◌≡◌, ◌≤◌, ◌<◌, ◌+◌, ◌*◌, ◌++◌, ◌∷◌, [], true, false, not, ℕ, Bool}
+use Rattle.std.proofs.Common.{List, Some, length, refl, sym, ap, ◌∙◌, subst, arith, nat_lt, rules}
 use Rattle.std.proofs.lemmas.Bool.Decides.{nat_tests}
 use Rattle.std.proofs.lemmas.Grind.{common_steps}
 use Rattle.std.specs.List.{list_any}

@@ -1,4 +1,4 @@
--- What is wrong with the name of a record of another trace, or with its cells.
+-- The refusal of the name of a record of another trace, or of its cells.
 use Rattle.std.proofs.Common.{◌+◌, ◌&&◌, ◌∙◌, not, refl, sym, ap}
 use Rattle.std.specs.List.{list_any}
 use Rattle.std.specs.Str.{bytes_eq}

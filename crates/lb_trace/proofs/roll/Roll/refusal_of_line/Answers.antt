@@ -1,4 +1,4 @@
--- The record of a line is what its cells are.
+-- The record of a line is made of its cells.
 use Rattle.std.proofs.Common.{subst}
 use Rattle.lb_trace.specs.Errors.{IsRefusal}
 use Rattle.lb_trace.specs.Refusals.{with_record}

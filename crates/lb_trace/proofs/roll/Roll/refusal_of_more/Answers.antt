@@ -1,4 +1,4 @@
--- What is wrong with the cells of a record of the last trace.
+-- The refusal of the cells of a record of the last trace.
 use Rattle.csv.specs.Records.{fields_of}
 use Rattle.lb_trace.specs.Mirrors.{row_by}
 use Rattle.lb_trace.specs.Spelling.{after_first}

@@ -1,4 +1,4 @@
--- There is a piece for each place but the first.
+-- There are as many pieces as places but the first.
 use Rattle.std.proofs.Common.{arith}
 use Rattle.std.specs.List.{slice_range}
 use Rattle.std.specs.Prelude.{string_bytes}

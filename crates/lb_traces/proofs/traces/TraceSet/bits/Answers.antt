@@ -59,7 +59,7 @@ slice_bounds-result-end c =
     c.words_of_row-width.result (c.words_of_row-width.ensures ∙ ap words_of_row (search rules)) in
     omega (arith, h.0, h.1)
 
--- the part of all words that is taken
+-- the part of all words that the code takes
 taken :
     (c : goal.After-result-1) →
     take ((c.index.result.now + c.args.t + c.args.count) * c.words_of_row-width.result

@@ -1,4 +1,4 @@
--- There is a trace for each name.
+-- There are as many traces as names.
 use Rattle.std.proofs.Common.{arith}
 use Rattle.lb_traces.specs.Packed.{cells_of}
 use Rattle.lb_traces.proofs.Storing.{count_of}

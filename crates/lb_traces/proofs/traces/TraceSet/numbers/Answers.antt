@@ -82,7 +82,7 @@ slice_bounds-result-end c =
     c.requires.instant c.index.ensures) in
     omega (arith, fit)
 
--- the part of all integers that is taken
+-- the part of all integers that the code takes
 taken :
     (c : goal.After-result-1) →
     take ((c.index.result.now + c.args.t) * c.len-width.result + c.len-width.result
