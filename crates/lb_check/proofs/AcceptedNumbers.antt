@@ -1,16 +1,8 @@
 -- The numbers of the scalar elements of an accepted program.
-use Rattle.std.proofs.Common.{◌≡◌, ℕ, ◌<◌, None, Some, length, flat_map}
-use Rattle.std.specs.Prelude.{slice_get}
-use Rattle.std.specs.List.{range_with_len}
-use Rattle.std.proofs.lemmas.Option.{slice_get_within}
-use Rattle.lb_syntax.specs.Lists.{Every, In}
-use Rattle.lb_syntax.specs.Tree.{Name}
-use Rattle.lb_static.specs.DataTypes.{variables, width}
-use Rattle.lb_static.specs.Instances.{Program, Instance, Path, instances}
-use Rattle.lb_static.specs.Instantiation.{static_refusal}
-use Rattle.lb_static.proofs.Members.{in_at, place_in}
-use Rattle.lb_check.specs.Elements.{program_elements, numbers_of}
-use Rattle.lb_check.specs.Needs.{Element}
+use Rattle.lb_check.proofs.Words.{◌≡◌, ℕ, ◌<◌, None, Some, length, flat_map, slice_get}
+use Rattle.lb_check.proofs.Words.{range_with_len, slice_get_within, Every, In, Name, variables}
+use Rattle.lb_check.proofs.Words.{width, Program, Instance, Path, instances, static_refusal, in_at}
+use Rattle.lb_check.proofs.Words.{place_in, program_elements, numbers_of, Element}
 use Rattle.lb_check.proofs.ApartLists.{Every-from}
 use Rattle.lb_check.proofs.InstanceNames.{variables_distinct}
 use Rattle.lb_check.proofs.Numbers.{numbers_walk as walk, numbers_width as widths}

@@ -1,16 +1,10 @@
 -- What the rules of an accepted program say of each of its instances.
-use Rattle.std.proofs.Common.{◌≡◌, ℕ, suc, Bool, true, None, List, [], ◌∷◌}
-use Rattle.std.specs.List.{list_all}
-use Rattle.lb_syntax.specs.Lists.{Every, In}
-use Rattle.lb_syntax.specs.Refusals.{E5, E6, E9, E10, E12, unless}
-use Rattle.lb_syntax.proofs.TruthValues.{and_first, and_second}
-use Rattle.lb_static.specs.Instances.{Program, Instance, instances}
-use Rattle.lb_static.specs.Instantiation.{static_refusal, has_values, is_in_range, may_enter}
-use Rattle.lb_static.specs.Instantiation.{instance_refusal, instantiation_refusal}
-use Rattle.lb_static.specs.DataTypes.{variables}
-use Rattle.lb_check.specs.Acceptance.{check_refusal}
-use Rattle.lb_check.specs.ClockRules.{is_clocked, are_declared_clocks}
-use Rattle.lb_check.specs.TypeRules.{is_typed, is_clock_typed, is_statement_typed}
+use Rattle.lb_check.proofs.Words.{◌≡◌, ℕ, suc, Bool, true, None, List, [], ◌∷◌, list_all, Every, In}
+use Rattle.lb_check.proofs.Words.{E5, E6, E9, E10, E12, unless, and_first, and_second, Program}
+use Rattle.lb_check.proofs.Words.{Instance, instances, static_refusal, has_values, is_in_range}
+use Rattle.lb_check.proofs.Words.{may_enter, instance_refusal, instantiation_refusal, variables}
+use Rattle.lb_check.proofs.Words.{check_refusal, is_clocked, are_declared_clocks, is_typed}
+use Rattle.lb_check.proofs.Words.{is_clock_typed, is_statement_typed}
 use Rattle.lb_check.proofs.ApartLists.{Every-at}
 use Rattle.lb_check.proofs.Checks.{first_none, second_none, kept, instantiation_kept}
 use Rattle.lb_check.proofs.Every.{Every-map, Every-tested}

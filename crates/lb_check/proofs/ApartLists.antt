@@ -1,11 +1,8 @@
 -- What stands in a list, and lists in which nothing stands twice.
-use Rattle.std.proofs.Common.{◌≡◌, ◌⊎◌, inl, inr, ℕ, zero, suc, ◌+◌, ◌<◌, ◌≤◌, Option, Some, None}
-use Rattle.std.proofs.Common.{List, [], ◌∷◌, ◌++◌, map, flat_map, refl, sym, ap, ◌∙◌, subst}
-use Rattle.std.proofs.Common.{arith}
-use Rattle.std.specs.List.{range_with_len}
+use Rattle.lb_check.proofs.Words.{◌≡◌, ◌⊎◌, inl, inr, ℕ, zero, suc, ◌+◌, ◌<◌, ◌≤◌, Option, Some}
+use Rattle.lb_check.proofs.Words.{None, List, [], ◌∷◌, ◌++◌, map, flat_map, refl, sym, ap, ◌∙◌}
+use Rattle.lb_check.proofs.Words.{subst, arith, range_with_len, Every, In, some_of, in_map}
 pub use Rattle.lb_syntax.specs.Lists.{AreApart}
-use Rattle.lb_syntax.specs.Lists.{Every, In, some_of}
-use Rattle.lb_static.proofs.Members.{in_map}
 
 -- ## What stands in a list
 

@@ -1,30 +1,17 @@
 -- The declared clock that the code finds to break the rules breaks them.
-use Rattle.std.proofs.Common.{◌≡◌, ℕ, zero, suc, ◌+◌, ◌-◌, ◌<◌, ◌≤◌, Bool, true, false, List, []}
-use Rattle.std.proofs.Common.{◌∷◌}
-use Rattle.std.proofs.Common.{◌++◌, take, drop, map, length, Option, Some, None, refl, ap, sym, ◌∙◌}
-use Rattle.std.proofs.Common.{subst, arith}
-use Rattle.std.specs.Prelude.{◌&&◌, is_some, slice_get, nat_lt, if◌then◌else◌}
-use Rattle.std.proofs.lemmas.Bool.{lt-ltb, le-ltb}
-use Rattle.std.proofs.lemmas.List.{length-append, append_assoc}
-use Rattle.std.proofs.lemmas.Option.{slice_get_within}
-use Rattle.std.proofs.Math.Bool.{and-false}
-use Rattle.lb_syntax.specs.Tree.{Name, Declaration, Node}
-use Rattle.lb_syntax.proofs.ListPlaces.{all_at, item_at}
-use Rattle.lb_static.specs.DataTypes.{variables}
-use Rattle.lb_static.specs.Names.{are_distinct}
-use Rattle.lb_static.specs.Parts.{variable_names}
-use Rattle.lb_static.specs.ResolvedNodes.{IsResolved, node_of, statics_of}
-use Rattle.lb_static.specs.ResolvedTerms.{declaration_of}
-use Rattle.lb_static.specs.declared.resolved.ResolvedNode.{ResolvedNode}
-use Rattle.lb_static.specs.declared.resolved.Variable.{Variable}
-use Rattle.lb_check.specs.BrokenParts.{at_place, awaitable, first_broken, is_declared_clock}
-use Rattle.lb_check.specs.Clocks.{variable_clock}
-use Rattle.lb_check.specs.ClockDepths.{IsCircle, waits_below}
-use Rattle.lb_check.specs.ClockRules.{is_clocked_by}
-use Rattle.lb_check.specs.FoundParts.{IsDeclaredClock}
-use Rattle.lb_check.proofs.ClockedNodes as clocked
+use Rattle.lb_check.proofs.Words.{◌≡◌, ℕ, zero, suc, ◌+◌, ◌-◌, ◌<◌, ◌≤◌, Bool, true, false, List}
+use Rattle.lb_check.proofs.Words.{[], ◌∷◌, ◌++◌, take, drop, map, length, Option, Some, None, refl}
+use Rattle.lb_check.proofs.Words.{ap, sym, ◌∙◌, subst, arith, ◌&&◌, is_some, slice_get, nat_lt}
+use Rattle.lb_check.proofs.Words.{if◌then◌else◌, lt-ltb, le-ltb, length-append, append_assoc}
+use Rattle.lb_check.proofs.Words.{slice_get_within, and-false, Name, Declaration, Node, all_at}
+use Rattle.lb_check.proofs.Words.{item_at, variables, are_distinct, variable_names, IsResolved}
+use Rattle.lb_check.proofs.Words.{node_of, statics_of, declaration_of, ResolvedNode, Variable}
+use Rattle.lb_check.proofs.Words.{at_place, first_broken, variable_clock, IsCircle, waits_below}
+use Rattle.lb_check.proofs.Words.{is_clocked_by, IsDeclaredClock}
+use Rattle.lb_check.specs.BrokenParts.{awaitable, is_declared_clock}
 use Rattle.lb_check.proofs.ClockedNodes.{first_names}
 use Rattle.lb_check.proofs.FirstBroken.{all_pass, fails_at, found_item, not_all_pass}
+use Rattle.lb_check.proofs.ClockedNodes as clocked
 
 -- ## A part of a list
 

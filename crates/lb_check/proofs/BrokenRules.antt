@@ -1,28 +1,16 @@
 -- The node that is answered is one that breaks the rule.
-use Rattle.std.proofs.Common.{◌≡◌, ℕ, zero, suc, ◌<◌, Bool, true, false, cond, List, [], ◌∷◌, map}
-use Rattle.std.proofs.Common.{Option, Some, None, refl, ap, sym, ◌∙◌, subst, arith}
-use Rattle.std.specs.Prelude.{◌&&◌, IfOk, IfSome, Result, Ok, Err, find, is_some, not, option_map}
-use Rattle.std.specs.Prelude.{slice_get}
-use Rattle.std.specs.List.{list_all}
-use Rattle.std.proofs.lemmas.Option.{slice_get-map}
-use Rattle.std.proofs.lemmas.Bool.{not-false, not-true}
-use Rattle.lb_syntax.specs.Lists.{holds, In, listed}
-use Rattle.lb_syntax.specs.Tree.{Name, Node}
-use Rattle.lb_static.specs.InstanceTable.{instance_of, specialized_at}
-use Rattle.lb_static.specs.Instances.{Program, Instance, Path, instances}
-use Rattle.lb_static.specs.ReachedNodes.{tree_at}
-use Rattle.lb_static.specs.declared.reach.NodeId.{NodeId}
-use Rattle.lb_static.specs.declared.reach.Reached.{Reached}
-use Rattle.lb_static.specs.declared.table.Specialization.{Specialization}
-use Rattle.lb_static.specs.declared.table.Table.{Table}
+use Rattle.lb_check.proofs.Words.{◌≡◌, ℕ, zero, suc, ◌<◌, Bool, true, false, cond, List, [], ◌∷◌}
+use Rattle.lb_check.proofs.Words.{map, Option, Some, None, refl, ap, sym, ◌∙◌, subst, arith, ◌&&◌}
+use Rattle.lb_check.proofs.Words.{IfSome, find, is_some, not, option_map, slice_get, list_all}
+use Rattle.lb_check.proofs.Words.{slice_get-map, not-false, not-true, holds, In, listed, Name, Node}
+use Rattle.lb_check.proofs.Words.{instance_of, specialized_at, Program, Instance, Path, instances}
+use Rattle.lb_check.proofs.Words.{tree_at, NodeId, Reached, Specialization, Table, Part}
+use Rattle.lb_check.proofs.Words.{is_part_typed, IsJudged, is_typed}
+use Rattle.std.specs.Prelude.{IfOk, Result, Ok, Err}
 use Rattle.lb_check.specs.declared.part.IllFormed.{IllFormed}
-use Rattle.lb_check.specs.declared.part.Part.{Part}
 use Rattle.lb_check.specs.declared.type_rules.IllTyped.{IllTyped}
-use Rattle.lb_check.specs.BrokenParts.{is_part_typed}
 use Rattle.lb_check.specs.BrokenRules.{IsBroken, IsBrokenIn}
 use Rattle.lb_check.specs.FoundParts.{IsIllTypedAt}
-use Rattle.lb_check.specs.JudgedPrograms.{IsJudged}
-use Rattle.lb_check.specs.TypeRules.{is_typed}
 use Rattle.lb_check.proofs.TableRows.{has_instance}
 use Rattle.lb_check.proofs.TypedSpecializations.{specialization_part, specialization_typed}
 

@@ -1,42 +1,25 @@
 -- A call with one result stands on the clocks that the code finds, and on no others.
-use Rattle.std.proofs.Common.{◌≡◌, ℕ, zero, suc, ◌+◌, ◌<◌, ◌≤◌, ◌⊎◌, inl, inr, Bool, true, false}
-use Rattle.std.proofs.Common.{List, [], ◌∷◌, ◌++◌, take, drop, length, map, Option, Some, None}
-use Rattle.std.proofs.Common.{refl, ap, sym, ◌∙◌, subst, arith}
-use Rattle.std.specs.Prelude.{◌&&◌, ◌||◌, not, option_map, slice_get, nat_eq, nat_lt, if◌then◌else◌}
-use Rattle.std.specs.List.{list_all}
-use Rattle.std.proofs.lemmas.Bool.Decides.{nat_tests}
-use Rattle.std.proofs.lemmas.List.{append-nil}
-use Rattle.std.proofs.lemmas.Option.{slice_get_within}
-use Rattle.std.proofs.Math.Bool.{and-true}
-use Rattle.std.proofs.lemmas.Bool.{and_from, false_from_ne_true}
-use Rattle.lb_syntax.specs.Lists.{◌>>=◌, either_or, listed}
-use Rattle.lb_syntax.specs.Tree as text
-use Rattle.lb_syntax.specs.Tree.{Expr, Declaration}
-use Rattle.lb_syntax.proofs.TruthValues.{and_first, and_second, both_ways}
-use Rattle.lb_syntax.proofs.ListPlaces.{mapped_from}
-use Rattle.lb_static.specs.Instances.{Program, Site, node_named}
-use Rattle.lb_static.specs.ResolvedNodes.{node_of, texts_of, counts_of}
-use Rattle.lb_static.specs.ResolvedTerms.{expr_of, exprs_of, is_within, is_unhidden}
-use Rattle.lb_static.specs.declared.resolved.ResolvedNode.{ResolvedNode}
-use Rattle.lb_static.specs.declared.resolved.Sampling.{Sampling}
-use Rattle.lb_static.specs.declared.resolved.Term.{Term}
+use Rattle.lb_check.proofs.Words.{◌≡◌, ℕ, zero, suc, ◌+◌, ◌<◌, ◌≤◌, ◌⊎◌, inl, inr, Bool, true}
+use Rattle.lb_check.proofs.Words.{false, List, [], ◌∷◌, ◌++◌, take, drop, length, map, Option, Some}
+use Rattle.lb_check.proofs.Words.{None, refl, ap, sym, ◌∙◌, subst, arith, ◌&&◌, ◌||◌, not}
+use Rattle.lb_check.proofs.Words.{option_map, slice_get, nat_eq, nat_lt, if◌then◌else◌, list_all}
+use Rattle.lb_check.proofs.Words.{nat_tests, append-nil, slice_get_within, and-true, and_from}
+use Rattle.lb_check.proofs.Words.{false_from_ne_true, ◌>>=◌, either_or, listed, Expr, Declaration}
+use Rattle.lb_check.proofs.Words.{and_first, and_second, both_ways, mapped_from, Program, Site}
+use Rattle.lb_check.proofs.Words.{node_named, node_of, texts_of, counts_of, expr_of, exprs_of}
+use Rattle.lb_check.proofs.Words.{is_within, is_unhidden, ResolvedNode, Sampling, Term, VariableId}
+use Rattle.lb_check.proofs.Words.{is_clock, are_clocks, is_occurrence_clocked, is_call_clocked}
+use Rattle.lb_check.proofs.Words.{clock_of, each_clock, given_inputs, given_outputs, outer, above}
+use Rattle.lb_check.proofs.Words.{own_depth, declared_clock, depth, base_clock, base_from}
+use Rattle.lb_check.proofs.Words.{base_from_arguments, first_result_clock, called_clock}
+use Rattle.lb_check.proofs.Words.{result_clocks, argument_clocks, occurrences_each, call_clocks}
+use Rattle.lb_check.proofs.Words.{HasClocks, clock_in, IsClockSet, AreClockSets, is_clocked_on}
+use Rattle.lb_check.proofs.Words.{Context, declared_in, infer_clock, operands_of, given_at}
+use Rattle.lb_check.proofs.Words.{clock_sets, are_given, input_clocks, output_clocks, base_of}
+use Rattle.lb_check.proofs.Words.{expected, all_fit, clock_set_on, first_result, call_clock_set}
+use Rattle.lb_check.proofs.Words.{ClockSet, NoClock, AnyClock, OneClock}
 use Rattle.lb_static.specs.declared.resolved.Variable.{Variable as Declared}
-use Rattle.lb_static.specs.declared.resolved.VariableId.{VariableId}
-use Rattle.lb_check.specs.ClockRules.{is_clock, are_clocks, is_occurrence_clocked, is_call_clocked}
-use Rattle.lb_check.specs.Clocks as tree
-use Rattle.lb_check.specs.Clocks.{clock_of, each_clock, given_inputs, given_outputs, outer, above}
-use Rattle.lb_check.specs.Clocks.{own_depth, declared_clock, depth, base_clock, base_from}
-use Rattle.lb_check.specs.Clocks.{base_from_arguments, first_result_clock, called_clock}
-use Rattle.lb_check.specs.Clocks.{result_clocks, argument_clocks}
-use Rattle.lb_check.specs.Occurrences.{occurrences_each, call_clocks}
-use Rattle.lb_check.specs.OwnClocks.{HasClocks, clock_in}
-use Rattle.lb_check.specs.ClockSets.{IsClockSet, AreClockSets, is_clocked_on}
-use Rattle.lb_check.specs.TermClocks.{Context, declared_in, infer_clock, operands_of, given_at}
-use Rattle.lb_check.specs.TermClocks.{clock_sets, are_given, input_clocks, output_clocks, base_of}
-use Rattle.lb_check.specs.TermClocks.{expected, all_fit, clock_set_on, first_result, call_clock_set}
 use Rattle.lb_check.specs.declared.own_clock.Clock.{Clock}
-use Rattle.lb_check.specs.declared.clock_set.ClockSet.{ClockSet}
-use Rattle.lb_check.specs.declared.clock_set.ClockSet.TheVariants.{NoClock, AnyClock, OneClock}
 use Rattle.lb_check.proofs.CallOperands.{are_given_is, operand_within, operand_stands}
 use Rattle.lb_check.proofs.CallOperands.{clock_set_within, waited_given, input_waits, output_waits}
 use Rattle.lb_check.proofs.CallOperands.{not_itself, each_stood, stands_at, stood_clock}
@@ -50,6 +33,8 @@ use Rattle.lb_check.proofs.ClockTests.{clock_same}
 use Rattle.lb_check.proofs.OuterClocks.{stood, clock_equal, above_outer, place_name, variable_at}
 use Rattle.lb_check.proofs.OuterClocks.{seen, expected_on, AreGiven}
 use Rattle.lb_check.proofs.OwnClocks.{clock_of_free}
+use Rattle.lb_syntax.specs.Tree as text
+use Rattle.lb_check.specs.Clocks as tree
 
 -- ## Lists with one item
 

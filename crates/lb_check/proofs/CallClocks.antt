@@ -1,42 +1,26 @@
 -- The arguments that the code finds to be variables are those of the definition.
-use Rattle.std.proofs.Common.{◌≡◌, ℕ, zero, suc, ◌<◌, Bool, true, false, ◌+◌, List, [], ◌∷◌, ◌++◌}
-use Rattle.std.proofs.Common.{take, map, length, Option, Some, None, refl, ap, sym, ◌∙◌, subst}
-use Rattle.std.proofs.Common.{arith}
-use Rattle.std.specs.Prelude.{◌&&◌, ◌||◌, not, nat_lt, is_some, slice_get}
-use Rattle.std.specs.Str.{bytes_eq}
-use Rattle.std.proofs.lemmas.Bool.Decides.{nat_tests}
-use Rattle.std.proofs.lemmas.Slice.Eq.{bytes_eq-Decides}
-use Rattle.lb_syntax.specs.Lists.{holds, either_or, listed, zip2}
-use Rattle.std.proofs.lemmas.List.{append_assoc, length-append, map-append}
-use Rattle.lb_static.specs.Parts.{variable_names}
-use Rattle.lb_static.specs.DataTypes.{variables}
-use Rattle.lb_static.specs.ResolvedNodes.{IsResolved, node_of, statics_of, texts_of, counts_of}
-use Rattle.lb_static.specs.declared.resolved.ResolvedNode.{ResolvedNode}
-use Rattle.lb_syntax.specs.Tree as tree
-use Rattle.lb_syntax.specs.Tree.{Name, Expr, Static, Declaration}
-use Rattle.lb_static.specs.Parts.{among}
-use Rattle.lb_static.specs.Names.{are_distinct}
-use Rattle.lb_static.specs.StaticValues.{named}
-use Rattle.std.specs.List.{list_all}
-use Rattle.std.proofs.Math.Bool.{and-true}
-use Rattle.std.proofs.lemmas.Bool.{not-true}
-use Rattle.lb_syntax.proofs.ListPlaces.{get_first, item_at}
-use Rattle.lb_syntax.proofs.TruthValues.{and_first, and_second, or_first, or_second}
-use Rattle.lb_static.specs.ResolvedTerms.{Texts, Counts, declaration_of, exprs_of, named_value}
-use Rattle.lb_static.specs.ResolvedTerms.{name_at, static_at, expr_of, is_variable, is_within}
-use Rattle.lb_static.specs.ResolvedTerms.{is_unhidden, is_no_variable}
-use Rattle.lb_static.specs.declared.resolved.Sampling.{Sampling}
+use Rattle.lb_check.proofs.Words.{◌≡◌, ℕ, zero, suc, ◌<◌, Bool, true, false, ◌+◌, List, [], ◌∷◌}
+use Rattle.lb_check.proofs.Words.{◌++◌, take, map, length, Option, Some, None, refl, ap, sym, ◌∙◌}
+use Rattle.lb_check.proofs.Words.{subst, arith, ◌&&◌, ◌||◌, not, nat_lt, is_some, slice_get}
+use Rattle.lb_check.proofs.Words.{bytes_eq, nat_tests, bytes_eq-Decides, holds, either_or, listed}
+use Rattle.lb_check.proofs.Words.{zip2, append_assoc, length-append, map-append, variable_names}
+use Rattle.lb_check.proofs.Words.{among, variables, IsResolved, node_of, statics_of, texts_of}
+use Rattle.lb_check.proofs.Words.{counts_of, ResolvedNode, Name, Expr, Static, Declaration}
+use Rattle.lb_check.proofs.Words.{are_distinct, named, list_all, and-true, not-true, get_first}
+use Rattle.lb_check.proofs.Words.{item_at, and_first, and_second, or_first, or_second, Texts}
+use Rattle.lb_check.proofs.Words.{Counts, declaration_of, exprs_of, named_value, name_at, static_at}
+use Rattle.lb_check.proofs.Words.{expr_of, is_variable, is_within, is_unhidden, is_no_variable}
+use Rattle.lb_check.proofs.Words.{Sampling, VariableId, Given, as_variable, given_inputs, Term}
+use Rattle.lb_check.proofs.Words.{Value, Group', variable_of, is_variable_at, is_given_variable}
+use Rattle.lb_check.proofs.Words.{are_given_variables, waits_below}
 use Rattle.lb_static.specs.declared.resolved.Variable.{Variable as Declared}
-use Rattle.lb_static.specs.declared.resolved.VariableId.{VariableId}
-use Rattle.lb_check.specs.Clocks.{Given, as_variable, given_inputs}
-use Rattle.lb_static.specs.declared.resolved.Term.{Term, Variable, Value, Group'}
-use Rattle.lb_check.specs.CallClocks.{variable_of, is_variable_at, is_given}
+use Rattle.lb_static.specs.declared.resolved.Term.{Variable}
+use Rattle.lb_check.specs.CallClocks.{is_given}
 use Rattle.lb_check.proofs.ClockedNodes.{get_name, among_first, zip_split, first_names, all_taken}
 use Rattle.lb_check.proofs.ClockedNodes.{same_taken, as_many_names, within_names}
-use Rattle.lb_check.specs.ClockRules.{is_given_variable, are_given_variables}
-use Rattle.lb_check.specs.ClockDepths.{waits_below}
 use Rattle.lb_check.proofs.DistinctNames.{not_among, unequal, distinct_first}
 use Rattle.lb_check.proofs.ClockTests.{among_at}
+use Rattle.lb_syntax.specs.Tree as tree
 
 -- ## Names
 

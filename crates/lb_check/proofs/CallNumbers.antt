@@ -1,23 +1,15 @@
 -- The call of a number in the text of a node, and the left variables of the equation whose whole
 -- right side is this call.
+use Rattle.lb_check.proofs.Words.{◌&&◌, nat_eq, find, nat_tests, eqb-true, and_from, same_Some}
+use Rattle.lb_check.proofs.Words.{and-false, Every, In, listed, Node_named, Symbol, Expr, Group}
+use Rattle.lb_check.proofs.Words.{Iterate, Node, Statement, Equation, Assertion, same_number}
+use Rattle.lb_check.proofs.Words.{and_first, and_second, Program, sites, statement_sites}
+use Rattle.lb_check.proofs.Words.{right_side, left_names, Clock, ungrouped, is_site, call_at}
+use Rattle.lb_check.proofs.Words.{is_right_side, lefts_at, Occurrence, at, occurrences}
+use Rattle.lb_check.proofs.Words.{statement_clock, right_sides, statements, node_occurrences}
 use Rattle.std.proofs.Common.{◌≡◌, ◌⊎◌, inl, inr, ℕ, ◌+◌, ◌<◌, ◌≤◌, Bool, true, false, Option, Some}
 use Rattle.std.proofs.Common.{None, List, [], ◌∷◌, length, zip, refl, ap, sym, ◌∙◌, arith}
-use Rattle.std.specs.Prelude.{◌&&◌, nat_eq, find}
-use Rattle.std.proofs.lemmas.Bool.Decides.{nat_tests}
-use Rattle.std.proofs.lemmas.Bool.{eqb-true, and_from}
-use Rattle.std.proofs.lemmas.Option.{same_Some}
-use Rattle.std.proofs.Math.Bool.{and-false}
-use Rattle.lb_syntax.specs.Lists.{Every, In, listed}
-use Rattle.lb_syntax.specs.Tree.{Node_named, Symbol, Expr, Group, Iterate, Node, Statement}
-use Rattle.lb_syntax.specs.Tree.{Equation, Assertion}
-use Rattle.lb_syntax.proofs.SameNames.{same_number}
-use Rattle.lb_syntax.proofs.TruthValues.{and_first, and_second}
-use Rattle.lb_static.specs.Instances.{Program, sites, statement_sites}
-use Rattle.lb_static.specs.Parts.{right_side, left_names}
-use Rattle.lb_check.specs.Clocks.{Clock, Base, ungrouped}
-use Rattle.lb_check.specs.Needs.{is_site, call_at, is_right_side, lefts_at}
-use Rattle.lb_check.specs.Occurrences.{Occurrence, at, occurrences, statement_clock, right_sides}
-use Rattle.lb_check.specs.Occurrences.{statements, node_occurrences}
+use Rattle.lb_check.specs.Clocks.{Base}
 use Rattle.lb_check.proofs.ApartLists.{Every-at, to_pieces}
 use Rattle.lb_check.proofs.Every.{Every-map, Every-both}
 use Rattle.lb_check.proofs.OccurrenceSites.{site_of_call, numbered_below, find_here, find_next}

@@ -1,36 +1,20 @@
 -- The operands of a call: what stands for the variables of the callee, and on which clocks.
-use Rattle.std.proofs.Common.{◌≡◌, ℕ, zero, suc, ◌+◌, ◌<◌, ◌≤◌, inl, inr, true, List, [], ◌∷◌, ◌++◌}
-use Rattle.std.proofs.Common.{take, drop, length, map, Option, Some, None, refl, ap, sym, ◌∙◌}
-use Rattle.std.proofs.Common.{subst, arith}
-use Rattle.std.specs.Prelude.{◌&&◌, ◌||◌, not, is_some, slice_get, nat_lt}
-use Rattle.std.specs.List.{list_all}
-use Rattle.std.proofs.lemmas.Bool.Decides.{nat_tests}
-use Rattle.std.proofs.lemmas.List.Folds.{list_all-append}
-use Rattle.lb_syntax.specs.Lists.{either_or}
-use Rattle.lb_syntax.specs.Tree.{Expr, Declaration}
-use Rattle.lb_syntax.proofs.TruthValues.{and_first, and_second, both_ways}
-use Rattle.lb_syntax.proofs.ListPlaces.{all_at, mapped_from}
-use Rattle.lb_static.specs.Instances.{Program}
-use Rattle.lb_static.specs.ResolvedNodes.{node_of, texts_of, counts_of}
-use Rattle.lb_static.specs.ResolvedTerms.{expr_of, exprs_of, is_within, is_unhidden, is_variable}
-use Rattle.lb_static.specs.declared.resolved.ResolvedNode.{ResolvedNode}
-use Rattle.lb_static.specs.declared.resolved.Sampling.{Sampling}
-use Rattle.lb_static.specs.declared.resolved.Term.{Term}
+use Rattle.lb_check.proofs.Words.{◌≡◌, ℕ, zero, suc, ◌+◌, ◌<◌, ◌≤◌, inl, inr, true, List, [], ◌∷◌}
+use Rattle.lb_check.proofs.Words.{◌++◌, take, drop, length, map, Option, Some, None, refl, ap, sym}
+use Rattle.lb_check.proofs.Words.{◌∙◌, subst, arith, ◌&&◌, ◌||◌, not, is_some, slice_get, nat_lt}
+use Rattle.lb_check.proofs.Words.{list_all, nat_tests, list_all-append, either_or, Expr}
+use Rattle.lb_check.proofs.Words.{Declaration, and_first, and_second, both_ways, all_at}
+use Rattle.lb_check.proofs.Words.{mapped_from, Program, node_of, texts_of, counts_of, expr_of}
+use Rattle.lb_check.proofs.Words.{exprs_of, is_within, is_unhidden, is_variable, ResolvedNode}
+use Rattle.lb_check.proofs.Words.{Sampling, Term, VariableId, is_variable_at, waits_below}
+use Rattle.lb_check.proofs.Words.{is_occurrence_clocked, are_given_variables, is_clocked_by}
+use Rattle.lb_check.proofs.Words.{clock_of, each_clock, given_inputs, outer, declared_clock, depth}
+use Rattle.lb_check.proofs.Words.{call_count, occurrences, occurrences_each, HasClocks, clock_in}
+use Rattle.lb_check.proofs.Words.{IsClockSet, AreClockSets, is_clocked_on, Context, declared_in}
+use Rattle.lb_check.proofs.Words.{infer_clock, operands_of, given_at, clock_sets, is_given}
+use Rattle.lb_check.proofs.Words.{are_given, input_clocks, ClockSet, NoClock, AnyClock, OneClock}
 use Rattle.lb_static.specs.declared.resolved.Variable.{Variable as Declared}
-use Rattle.lb_static.specs.declared.resolved.VariableId.{VariableId}
-use Rattle.lb_check.specs.CallClocks.{is_variable_at, waits_for_given}
-use Rattle.lb_check.specs.CallClocks as code
-use Rattle.lb_check.specs.ClockDepths.{waits_below}
-use Rattle.lb_check.specs.ClockRules.{is_occurrence_clocked, are_given_variables, is_clocked_by}
-use Rattle.lb_check.specs.Clocks as tree
-use Rattle.lb_check.specs.Clocks.{clock_of, each_clock, given_inputs, outer, declared_clock, depth}
-use Rattle.lb_check.specs.Occurrences.{call_count, occurrences, occurrences_each}
-use Rattle.lb_check.specs.OwnClocks.{HasClocks, clock_in}
-use Rattle.lb_check.specs.ClockSets.{IsClockSet, AreClockSets, is_clocked_on}
-use Rattle.lb_check.specs.TermClocks.{Context, declared_in, infer_clock, operands_of, given_at}
-use Rattle.lb_check.specs.TermClocks.{clock_sets, is_given, are_given, input_clocks}
-use Rattle.lb_check.specs.declared.clock_set.ClockSet.{ClockSet}
-use Rattle.lb_check.specs.declared.clock_set.ClockSet.TheVariants.{NoClock, AnyClock, OneClock}
+use Rattle.lb_check.specs.CallClocks.{waits_for_given}
 use Rattle.lb_check.proofs.CallClocks.{all_given}
 use Rattle.lb_check.proofs.ClockedNodes.{as_many_names, inputs_clocked, outputs_clocked}
 use Rattle.lb_check.proofs.FittingClocks.{IsGiven, IsWithin, fits_on}
@@ -43,6 +27,8 @@ use Rattle.lb_check.proofs.ClockTests.{clock_same}
 use Rattle.lb_check.proofs.OuterClocks.{stood, place_name, variable_at, seen, expected_on, AreGiven}
 use Rattle.lb_check.proofs.OuterClocks.{StandFor, HaveNames, outer_all}
 use Rattle.lb_check.proofs.OwnClocks.{clock_of_waiting}
+use Rattle.lb_check.specs.CallClocks as code
+use Rattle.lb_check.specs.Clocks as tree
 
 -- ## What the code finds of the operands
 

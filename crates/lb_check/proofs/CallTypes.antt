@@ -1,21 +1,14 @@
 -- The types of the inputs and of the outputs of a callee.
-use Rattle.std.proofs.Common.{◌≡◌, ℕ, List, [], ◌∷◌, ◌++◌, length, map, take, drop, Option}
-use Rattle.std.proofs.Common.{Some, None, refl, ap, sym, ◌∙◌}
-use Rattle.std.specs.Prelude.{ℤ}
-use Rattle.std.proofs.lemmas.List.{take-map, drop-map, length-map}
-use Rattle.lb_syntax.specs.Lists.{◌>>=◌, all_some}
-use Rattle.lb_syntax.specs.Tree.{Name, Node}
-use Rattle.lb_static.specs.declared.resolved.ResolvedNode.{ResolvedNode}
+use Rattle.lb_check.proofs.Words.{◌≡◌, ℕ, List, [], ◌∷◌, ◌++◌, length, map, take, drop, Option}
+use Rattle.lb_check.proofs.Words.{Some, None, refl, ap, sym, ◌∙◌, ℤ, drop-map, length-map, ◌>>=◌}
+use Rattle.lb_check.proofs.Words.{all_some, Name, Node, ResolvedNode, instance_of, Program}
+use Rattle.lb_check.proofs.Words.{Instance, Path, Child, Site, static_value, callee_of, call_site}
+use Rattle.lb_check.proofs.Words.{node_named, variable_names, IsResolved, node_of, statics_of}
+use Rattle.lb_check.proofs.Words.{DataType, variables, variable_type, input_types, output_types}
+use Rattle.lb_check.proofs.Words.{declared_type, declared_types, CallTypes, call_types_of}
+use Rattle.std.proofs.lemmas.List.{take-map}
 use Rattle.lb_static.specs.declared.resolved.Variable.{Variable as Declared}
-use Rattle.lb_static.specs.InstanceTable.{instance_of}
-use Rattle.lb_static.specs.Instances.{Program, Instance, Path, Child, Site, static_value, callee_of}
-use Rattle.lb_static.specs.Instances.{call_site, node_named}
-use Rattle.lb_static.specs.Parts.{variable_names}
-use Rattle.lb_static.specs.ResolvedNodes.{IsResolved, node_of, statics_of}
-use Rattle.lb_static.specs.DataTypes.{DataType, variables, variable_type, input_types, output_types}
-use Rattle.lb_static.specs.StoredTypes.{declared_type, declared_types}
 use Rattle.lb_static.proofs.DeclaredTypes.{types_are}
-use Rattle.lb_check.specs.TermTypes.{CallTypes, call_types_of}
 
 take_first : {A B : Type 0} → (f : A → B) (xs ys : List A) →
     take (length xs) (map f (xs ++ ys)) ≡ map f xs

@@ -1,21 +1,15 @@
 -- In an accepted program each call in the text of an instance has its instances: as many as it is
 -- iterated, each of the node that it names, below the instance.
-use Rattle.std.proofs.Common.{◌≡◌, ℕ, ◌<◌, true, Option, Some, None, ℤ, List, []}
-use Rattle.std.proofs.Common.{◌∷◌, ◌++◌, map, flat_map, refl, ap, ap₂, sym, subst, arith}
-use Rattle.std.specs.Prelude.{◌&&◌, is_some, option_map}
-use Rattle.std.specs.List.{list_all, zip}
-use Rattle.std.proofs.lemmas.Option.{same_Some}
-use Rattle.lb_syntax.specs.Lists.{◌>>=◌, In, all_some, either_or}
-use Rattle.lb_syntax.specs.Tree.{Static, Node_named, Symbol, Expr, Call, Iterate, Node}
-use Rattle.lb_syntax.proofs.ListPlaces.{all_in}
-use Rattle.lb_syntax.proofs.TruthValues.{and_first}
-use Rattle.lb_static.specs.Instances.{Program, Instance, Child, Site, node_named}
-use Rattle.lb_static.specs.Instances.{static_value, instance_count, callee_of, instances, children}
-use Rattle.lb_static.specs.Instantiation.{static_refusal}
-use Rattle.lb_static.specs.Parts.{node_parts, node_sizes, node_indexes, node_statics, own_arguments}
-use Rattle.lb_static.proofs.Members.{in_map, from_all}
-use Rattle.lb_check.specs.Acceptance.{check_refusal}
-use Rattle.lb_check.specs.Occurrences.{Occurrence, node_occurrences}
+use Rattle.lb_check.proofs.Words.{◌&&◌, is_some, option_map, list_all, zip, same_Some, ◌>>=◌, In}
+use Rattle.lb_check.proofs.Words.{all_some, either_or, Static, Node_named, Symbol, Expr, Call}
+use Rattle.lb_check.proofs.Words.{Iterate, Node, all_in, and_first, Program, Instance, Child, Site}
+use Rattle.lb_check.proofs.Words.{node_named, static_value, instance_count, callee_of, instances}
+use Rattle.lb_check.proofs.Words.{children, static_refusal, node_parts, node_sizes, in_map}
+use Rattle.lb_check.proofs.Words.{check_refusal, Occurrence, node_occurrences}
+use Rattle.std.proofs.Common.{◌≡◌, ℕ, ◌<◌, true, Option, Some, None, ℤ, List, [], ◌∷◌, ◌++◌, map}
+use Rattle.std.proofs.Common.{flat_map, refl, ap, ap₂, sym, subst, arith}
+use Rattle.lb_static.specs.Parts.{node_indexes, node_statics, own_arguments}
+use Rattle.lb_static.proofs.Members.{from_all}
 use Rattle.lb_check.proofs.AcceptedRules.{valued, typed}
 use Rattle.lb_check.proofs.ApartLists.{in_second, Every-at, to_pieces}
 use Rattle.lb_check.proofs.Checks.{instantiation_kept}

@@ -1,9 +1,7 @@
 -- What holds of all instances of an accepted program holds of those that each call of each of them
 -- has.
-use Rattle.std.proofs.Common.{◌≡◌, None}
-use Rattle.lb_syntax.specs.Lists.{Every}
-use Rattle.lb_static.specs.Instances.{Program, Instance, node_sites, instances}
-use Rattle.lb_static.specs.Instantiation.{static_refusal}
+use Rattle.lb_check.proofs.Words.{◌≡◌, None, Every, Program, Instance, node_sites, instances}
+use Rattle.lb_check.proofs.Words.{static_refusal}
 use Rattle.lb_check.proofs.Checks.{instantiation_kept}
 use Rattle.lb_check.proofs.DeterminedClocks.{OfCalled, Sited}
 use Rattle.lb_check.proofs.Every.{Every-map, Every-both}

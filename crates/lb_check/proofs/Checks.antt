@@ -1,22 +1,14 @@
 -- The first of the rules of types, clocks and definitions that an elaborated program breaks.
+use Rattle.lb_check.proofs.Words.{is_some, not, list_all, or_else, E9, E10, unless}
+use Rattle.lb_check.proofs.Words.{elaborated_program, IsLawful, Program, instances, keeps_names}
+use Rattle.lb_check.proofs.Words.{static_refusal, instantiation_refusal, Elaboration, Reached}
+use Rattle.lb_check.proofs.Words.{Table, check_refusal, is_clocked, is_defined, IsJudged, is_typed}
 use Rattle.std.proofs.Common.{◌≡◌, Bool, true, false, Option, Some, None, Err, refl, sym, subst}
-use Rattle.std.specs.Prelude.{is_some, not}
-use Rattle.std.specs.List.{list_all}
-use Rattle.lb_syntax.specs.Lists.{or_else}
-use Rattle.lb_syntax.specs.Refusals.{Refusal, E4, E7, E8, E9, E10, E11, unless}
-use Rattle.lb_static.specs.Elaborated.{elaborated_program, IsElaborated, IsLawful}
-use Rattle.lb_static.specs.Instances.{Program, instances}
-use Rattle.lb_static.specs.Names.{keeps_names, is_well_founded}
-use Rattle.lb_static.specs.Instantiation.{has_no_parameters, static_refusal, instantiation_refusal}
-use Rattle.lb_static.specs.declared.elab.Elaboration.{Elaboration}
-use Rattle.lb_static.specs.declared.reach.Reached.{Reached}
-use Rattle.lb_static.specs.declared.table.Table.{Table}
-use Rattle.lb_check.specs.Acceptance.{check_refusal}
+use Rattle.lb_syntax.specs.Refusals.{Refusal, E4, E7, E8, E11}
+use Rattle.lb_static.specs.Elaborated.{IsElaborated}
+use Rattle.lb_static.specs.Names.{is_well_founded}
+use Rattle.lb_static.specs.Instantiation.{has_no_parameters}
 use Rattle.lb_check.specs.Correct.{IsAnswer, IsRefusal}
-use Rattle.lb_check.specs.ClockRules.{is_clocked}
-use Rattle.lb_check.specs.DefinitionRules.{is_defined}
-use Rattle.lb_check.specs.JudgedPrograms.{IsJudged}
-use Rattle.lb_check.specs.TypeRules.{is_typed}
 use Rattle.lb_check.specs.declared.error.CheckError.{CheckError}
 
 -- ## Rules in a row

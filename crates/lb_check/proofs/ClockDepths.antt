@@ -1,16 +1,12 @@
 -- How deep a declared clock stands is how often a variable leads to one that it waits for.
-use Rattle.std.proofs.Common.{◌≡◌, ℕ, zero, suc, ◌+◌, ◌<◌, ◌≤◌, ◌-◌, ◌⊎◌, inl, inr, List, [], ◌∷◌}
-use Rattle.std.proofs.Common.{◌++◌, take, drop, below_more, length, get_or, Option, Some, None}
-use Rattle.std.proofs.Common.{refl, ap, sym, ◌∙◌, subst, arith}
-use Rattle.std.specs.Prelude.{option_map, slice_get}
-use Rattle.std.proofs.Math.ListN.{set, length-set}
-use Rattle.std.proofs.Math.Seq.{take-append_seam}
-use Rattle.std.proofs.lemmas.Option.{slice_get-get_or}
-use Rattle.lb_syntax.specs.Lists.{◌>>=◌}
+use Rattle.lb_check.proofs.Words.{◌≡◌, ℕ, zero, suc, ◌+◌, ◌<◌, ◌≤◌, ◌-◌, ◌⊎◌, inl, inr, List, []}
+use Rattle.lb_check.proofs.Words.{◌∷◌, ◌++◌, take, drop, length, get_or, Option, Some, None, refl}
+use Rattle.lb_check.proofs.Words.{ap, sym, ◌∙◌, subst, arith, option_map, slice_get, set}
+use Rattle.lb_check.proofs.Words.{take-append_seam, slice_get-get_or, ◌>>=◌, Variable, Sampling}
+use Rattle.lb_check.proofs.Words.{awaited, LeadsTo, HasDepth, depth_within, AreDepths, IsKnown}
+use Rattle.std.proofs.Common.{below_more}
+use Rattle.std.proofs.Math.ListN.{length-set}
 use Rattle.lb_syntax.proofs.ListPlaces.{set_here}
-use Rattle.lb_static.specs.declared.resolved.Variable.{Variable}
-use Rattle.lb_static.specs.declared.resolved.Sampling.{Sampling}
-use Rattle.lb_check.specs.ClockDepths.{awaited, LeadsTo, HasDepth, depth_within, AreDepths, IsKnown}
 
 -- the variable at a place
 awaited_at : (vs : List Variable) (x : ℕ) (v : Variable) → x < length vs

@@ -1,11 +1,8 @@
 -- Two lists of clocks that are the same, and the places of the inputs and outputs of a node.
-use Rattle.std.proofs.Common.{◌≡◌, ℕ, zero, suc, ◌+◌, ◌-◌, ◌<◌, ◌≤◌, ◌⊎◌, inl, inr, Bool, true}
-use Rattle.std.proofs.Common.{false, List, [], ◌∷◌, length, Some, refl, ap, sym, ◌∙◌, arith}
-use Rattle.std.specs.Prelude.{slice_get, nat_lt}
-use Rattle.std.proofs.lemmas.Bool.Decides.{nat_tests}
-use Rattle.std.proofs.lemmas.Bool.{and_from}
-use Rattle.lb_syntax.proofs.TruthValues.{and_first, and_second}
-use Rattle.lb_check.specs.ClockRules.{is_clock, are_clocks}
+use Rattle.lb_check.proofs.Words.{◌≡◌, ℕ, zero, suc, ◌+◌, ◌-◌, ◌<◌, ◌≤◌, ◌⊎◌, inl, inr, Bool, true}
+use Rattle.lb_check.proofs.Words.{false, List, [], ◌∷◌, length, Some, refl, ap, sym, ◌∙◌, arith}
+use Rattle.lb_check.proofs.Words.{slice_get, nat_lt, nat_tests, and_from, and_first, and_second}
+use Rattle.lb_check.proofs.Words.{is_clock, are_clocks}
 use Rattle.lb_check.specs.Clocks as tree
 
 -- ## Clocks of two lists

@@ -1,11 +1,7 @@
 -- Where a term stands, from where its one, two or three operands stand.
-use Rattle.std.proofs.Common.{◌≡◌, ℕ, ◌⊎◌, inl, inr, Bool, Box, Global, refl}
-use Rattle.lb_static.specs.declared.resolved.StaticId.{StaticId}
-use Rattle.lb_static.specs.TermForms.{IsPair}
+use Rattle.lb_check.proofs.Words.{◌≡◌, ℕ, ◌⊎◌, inl, inr, Bool, Box, Global, refl, StaticId, IsPair}
+use Rattle.lb_check.proofs.Words.{Context, both, unary_clock_set, infer_clock, ClockSet, AnyClock}
 use Rattle.lb_static.specs.declared.resolved.Term.{Term, Literal, Truth, Value, If}
-use Rattle.lb_check.specs.TermClocks.{Context, both, unary_clock_set, infer_clock}
-use Rattle.lb_check.specs.declared.clock_set.ClockSet.{ClockSet}
-use Rattle.lb_check.specs.declared.clock_set.ClockSet.TheVariants.{AnyClock}
 use Rattle.lb_check.proofs.TypeParts.{IsSingle}
 
 -- a term in which nothing determines a clock

@@ -1,14 +1,10 @@
 -- A row of terms in a tree is the list in the vector, and so are its operands.
-use Rattle.std.proofs.Common.{◌≡◌, inl, inr, List, Vec, Global, refl, ap, ◌∙◌}
-use Rattle.lb_syntax.specs.Lists.{holds}
-use Rattle.lb_static.specs.TermForms.{IsRow}
-use Rattle.lb_static.specs.declared.resolved.CallId.{CallId}
-use Rattle.lb_static.specs.declared.resolved.VariableId.{VariableId}
-use Rattle.lb_static.specs.declared.resolved.Term.{Term, Call}
-use Rattle.lb_static.specs.declared.resolved.Term.{items-the_row-Term}
-use Rattle.lb_static.specs.declared.resolved.Term.{items_hidden-the_row-Term-0}
-use Rattle.lb_check.specs.TermClocks.{Context, is_call_clocked, is_equation_clocked, operands_in}
-use Rattle.lb_check.specs.TermClocks.{operands_of, row_clock_set, infer_clock}
+use Rattle.lb_check.proofs.Words.{◌≡◌, inl, inr, List, Vec, Global, refl, ap, ◌∙◌, holds, IsRow}
+use Rattle.lb_check.proofs.Words.{CallId, VariableId, Term, items-the_row-Term}
+use Rattle.lb_check.proofs.Words.{items_hidden-the_row-Term-0, Context, is_equation_clocked}
+use Rattle.lb_check.proofs.Words.{operands_in, operands_of, row_clock_set, infer_clock}
+use Rattle.lb_static.specs.declared.resolved.Term.{Call}
+use Rattle.lb_check.specs.TermClocks.{is_call_clocked}
 use Rattle.lb_check.proofs.TypeRows.{row_in, row_is}
 use Rattle.lb_check.proofs.TermClockSets.{operands_items}
 

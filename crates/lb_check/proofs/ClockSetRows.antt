@@ -1,30 +1,17 @@
 -- Clocks that the code compares, and rows of operands from a place on.
-use Rattle.std.proofs.Common.{◌≡◌, ◌≢◌, ℕ, ◌+◌, ◌<◌, ◌≤◌, Bool, true, false, List, [], ◌∷◌, length}
-use Rattle.std.proofs.Common.{drop, get_or, Option, Some, None, refl, ap, sym, ◌∙◌, arith}
-use Rattle.std.specs.Prelude.{◌&&◌, nat_eq, slice_get, if◌then◌else◌}
-use Rattle.std.proofs.lemmas.Bool.Decides.{nat_tests}
-use Rattle.std.proofs.lemmas.List.{drop_all, drop_more}
-use Rattle.std.proofs.lemmas.Option.{slice_get_past}
-use mathlib.Core.Bool.{beq}
-use Rattle.lb_syntax.specs.Lists.{or_else}
-use Rattle.lb_syntax.proofs.TruthValues.{and_first, and_second}
-use Rattle.lb_static.specs.ResolvedNodes.{node_of}
-use Rattle.lb_static.specs.declared.resolved.ResolvedNode.{ResolvedNode}
-use Rattle.lb_static.specs.declared.resolved.Sampling.{Sampling}
-use Rattle.lb_static.specs.declared.resolved.Variable.{Variable}
-use Rattle.lb_static.specs.declared.resolved.VariableId.{VariableId}
-use Rattle.lb_check.specs.Clocks as tree
-use Rattle.lb_check.specs.OwnClocks.{HasClocks, clock_in, name_in}
-use Rattle.lb_check.specs.Scalars.{same}
-use Rattle.lb_check.specs.StoredClocks.{clocks_of}
-use Rattle.lb_check.specs.TermClocks.{clock_with, declared_in, is_same, both, together, clock_sets}
-use Rattle.lb_check.specs.TermClocks.{base_of, all_fit, accepts_clock, expected}
+use Rattle.lb_check.proofs.Words.{◌≡◌, ◌≢◌, ℕ, ◌+◌, ◌<◌, ◌≤◌, Bool, true, false, List, [], ◌∷◌}
+use Rattle.lb_check.proofs.Words.{length, drop, get_or, Option, Some, None, refl, ap, sym, ◌∙◌}
+use Rattle.lb_check.proofs.Words.{arith, ◌&&◌, nat_eq, slice_get, if◌then◌else◌, nat_tests}
+use Rattle.lb_check.proofs.Words.{drop_all, drop_more, slice_get_past, beq, or_else, and_first}
+use Rattle.lb_check.proofs.Words.{and_second, node_of, ResolvedNode, Sampling, Variable, VariableId}
+use Rattle.lb_check.proofs.Words.{HasClocks, clock_in, name_in, same, clocks_of, clock_with}
+use Rattle.lb_check.proofs.Words.{declared_in, is_same, both, together, clock_sets, base_of}
+use Rattle.lb_check.proofs.Words.{all_fit, accepts_clock, expected, Base, Operand, ClockSet}
+use Rattle.lb_check.proofs.Words.{NoClock, AnyClock, OneClock}
 use Rattle.lb_check.specs.declared.own_clock.Clock.{Clock}
-use Rattle.lb_check.specs.declared.own_clock.Clock.TheVariants.{Base, On}
-use Rattle.lb_check.specs.declared.clock_set.Operand.{Operand}
-use Rattle.lb_check.specs.declared.clock_set.ClockSet.{ClockSet}
-use Rattle.lb_check.specs.declared.clock_set.ClockSet.TheVariants.{NoClock, AnyClock, OneClock}
+use Rattle.lb_check.specs.declared.own_clock.Clock.TheVariants.{On}
 use Rattle.lb_check.proofs.OwnClocks.{clock_of_free, clock_of_waiting, beq_same}
+use Rattle.lb_check.specs.Clocks as tree
 
 -- ## Clocks
 

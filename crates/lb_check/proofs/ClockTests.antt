@@ -1,35 +1,21 @@
 -- When two clocks of a node are the same, and the declared clock of a variable.
-use Rattle.std.proofs.Common.{◌≡◌, ◌≢◌, ℕ, zero, suc, ◌<◌, Bool, true, false, List, [], ◌∷◌, ◌++◌}
-use Rattle.std.proofs.Common.{length, Option, Some, None, refl, ap, sym, ◌∙◌, subst, arith}
-use Rattle.std.specs.Prelude.{◌&&◌, is_some, slice_get, nat_eq}
-use Rattle.std.specs.List.{list_all}
-use Rattle.std.specs.Str.{bytes_eq}
-use Rattle.std.proofs.lemmas.Bool.Decides.{nat_tests}
-use Rattle.std.proofs.lemmas.Slice.Eq.{bytes_eq-Decides}
+use Rattle.lb_check.proofs.Words.{◌≡◌, ◌≢◌, ℕ, zero, suc, ◌<◌, Bool, true, false, List, [], ◌∷◌}
+use Rattle.lb_check.proofs.Words.{◌++◌, length, Option, Some, None, refl, ap, sym, ◌∙◌, subst}
+use Rattle.lb_check.proofs.Words.{arith, ◌&&◌, is_some, slice_get, nat_eq, list_all, bytes_eq}
+use Rattle.lb_check.proofs.Words.{nat_tests, bytes_eq-Decides, ◌>>=◌, either_or, Name, all_at}
+use Rattle.lb_check.proofs.Words.{item_at, and_first, and_second, both_ways, among, variable_names}
+use Rattle.lb_check.proofs.Words.{is_variable, is_declared_within, is_sampling_within, are_statics}
+use Rattle.lb_check.proofs.Words.{node_of, counts_of, ResolvedNode, Sampling, Variable, VariableId}
+use Rattle.lb_check.proofs.Words.{is_clocked_by, is_clock, same, HasClocks, name_in, clock_in}
+use Rattle.lb_check.proofs.Words.{is_clock_within, clock_with, declared_in, is_same}
 use Rattle.std.proofs.Math.Bool.{and_self, or-true}
-use Rattle.lb_syntax.specs.Lists.{◌>>=◌, either_or}
-use Rattle.lb_syntax.specs.Tree.{Name}
-use Rattle.lb_syntax.proofs.ListPlaces.{all_at, item_at}
-use Rattle.lb_syntax.proofs.TruthValues.{and_first, and_second, both_ways}
-use Rattle.lb_static.specs.Parts.{among, variable_names}
-use Rattle.lb_static.specs.ResolvedTerms.{is_variable, is_declared_within, is_sampling_within}
-use Rattle.lb_static.specs.ResolvedTerms.{are_statics}
-use Rattle.lb_static.specs.ResolvedNodes.{node_of, counts_of}
-use Rattle.lb_static.specs.declared.resolved.ResolvedNode.{ResolvedNode}
-use Rattle.lb_static.specs.declared.resolved.Sampling.{Sampling}
-use Rattle.lb_static.specs.declared.resolved.Variable.{Variable}
-use Rattle.lb_static.specs.declared.resolved.VariableId.{VariableId}
 use Rattle.lb_check.specs.Clocks.{Clock, Base, On, clock_or, variable_clock, declared_clock}
-use Rattle.lb_check.specs.ClockRules.{is_clocked_by, is_clock}
-use Rattle.lb_check.specs.Scalars.{same}
-use Rattle.lb_check.specs.OwnClocks.{HasClocks, name_in, clock_in, is_clock_within}
-use Rattle.lb_check.specs.TermClocks.{clock_with, declared_in, is_same}
 use Rattle.lb_check.specs.declared.own_clock.Clock.{Clock as Compared}
-use Rattle.lb_check.specs.declared.own_clock.Clock.TheVariants as code
 use Rattle.lb_check.proofs.ClockedNodes.{as_many_names}
 use Rattle.lb_check.proofs.OwnClocks.{clock_of_free, clock_of_waiting, same_signs, other_variable}
 use Rattle.lb_check.proofs.OwnClocks.{beq_same, clock_itself}
 use Rattle.lb_check.proofs.ClockSetRows.{same_is as same_one}
+use Rattle.lb_check.specs.declared.own_clock.Clock.TheVariants as code
 
 -- ## Clocks of a text
 

@@ -1,34 +1,19 @@
 -- The declared clocks of a node are as deep as the numbers of its variables say.
-use Rattle.std.proofs.Common.{◌≡◌, ℕ, zero, suc, ◌+◌, ◌-◌, min, ◌<◌, Bool, true, false, List, []}
-use Rattle.std.proofs.Common.{◌∷◌, ◌++◌, take, drop, get_or, map, length, Option, Some, None}
-use Rattle.std.proofs.Common.{refl, ap, sym, ◌∙◌, subst, arith}
-use Rattle.std.specs.Prelude.{◌&&◌, not, is_some, option_map, slice_get, nat_lt}
-use Rattle.std.specs.List.{list_all}
-use Rattle.std.specs.Str.{bytes_eq}
-use Rattle.std.proofs.lemmas.Bool.Decides.{nat_tests}
-use Rattle.std.proofs.lemmas.Slice.Eq.{bytes_eq-Decides}
-use Rattle.std.proofs.lemmas.Option.{slice_get_within}
-use Rattle.std.proofs.lemmas.List.{length-take, length-drop, length-map, length-append}
-use Rattle.std.proofs.lemmas.List.{append_assoc, drop_more}
-use Rattle.std.proofs.Math.Bool.{and-true, and-false}
-use Rattle.std.proofs.lemmas.Bool.{not-true}
-use Rattle.lb_syntax.specs.Lists.{◌>>=◌, zip2, either_or}
-use Rattle.lb_syntax.specs.Tree.{Name, Static, Declaration, Node}
-use Rattle.lb_syntax.proofs.ListPlaces.{all_from, item_at}
-use Rattle.lb_syntax.proofs.TruthValues.{and_first, and_second}
-use Rattle.lb_static.specs.StaticValues.{named}
-use Rattle.lb_static.specs.Names.{are_distinct}
-use Rattle.lb_static.specs.Parts.{among, variable_names}
-use Rattle.lb_static.specs.DataTypes.{variables}
-use Rattle.lb_static.specs.ResolvedTerms.{Counts, declaration_of, sampling_of, name_at}
-use Rattle.lb_static.specs.ResolvedTerms.{is_declared_within, are_statics}
-use Rattle.lb_static.specs.ResolvedNodes.{IsResolved, counts_of, node_of, statics_of}
-use Rattle.lb_static.specs.declared.resolved.ResolvedNode.{ResolvedNode}
-use Rattle.lb_static.specs.declared.resolved.Sampling.{Sampling}
-use Rattle.lb_static.specs.declared.resolved.Variable.{Variable}
-use Rattle.lb_check.specs.Clocks.{Clock, On, clock_within, sampled, depth, variable_clock}
-use Rattle.lb_check.specs.ClockDepths.{awaited, AreAwaited, depth_within, IsCircle, waits_below}
-use Rattle.lb_check.specs.ClockRules.{is_clocked_by, are_declared_clocks}
+use Rattle.lb_check.proofs.Words.{◌≡◌, ℕ, zero, suc, ◌+◌, ◌-◌, min, ◌<◌, Bool, true, false, List}
+use Rattle.lb_check.proofs.Words.{[], ◌∷◌, ◌++◌, take, drop, get_or, map, length, Option, Some}
+use Rattle.lb_check.proofs.Words.{None, refl, ap, sym, ◌∙◌, subst, arith, ◌&&◌, not, is_some}
+use Rattle.lb_check.proofs.Words.{option_map, slice_get, nat_lt, list_all, bytes_eq, nat_tests}
+use Rattle.lb_check.proofs.Words.{bytes_eq-Decides, slice_get_within, length-take, length-drop}
+use Rattle.lb_check.proofs.Words.{length-map, length-append, append_assoc, drop_more, and-true}
+use Rattle.lb_check.proofs.Words.{and-false, not-true, ◌>>=◌, zip2, either_or, Name, Static}
+use Rattle.lb_check.proofs.Words.{Declaration, Node, all_from, item_at, and_first, and_second}
+use Rattle.lb_check.proofs.Words.{named, are_distinct, among, variable_names, variables, Counts}
+use Rattle.lb_check.proofs.Words.{declaration_of, sampling_of, name_at, is_declared_within}
+use Rattle.lb_check.proofs.Words.{are_statics, IsResolved, counts_of, node_of, statics_of}
+use Rattle.lb_check.proofs.Words.{ResolvedNode, Sampling, Variable, Clock, On, clock_within}
+use Rattle.lb_check.proofs.Words.{sampled, depth, variable_clock, awaited, depth_within, IsCircle}
+use Rattle.lb_check.proofs.Words.{waits_below, is_clocked_by, are_declared_clocks}
+use Rattle.lb_check.specs.ClockDepths.{AreAwaited}
 use Rattle.lb_check.proofs.ClockDepths.{its_depth}
 use Rattle.lb_check.proofs.DistinctNames.{not_among, unequal}
 use Rattle.lb_check.proofs.FirstBroken.{one_fails}

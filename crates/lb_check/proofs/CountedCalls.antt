@@ -1,20 +1,12 @@
 -- The calls among the occurrences of a node whose types are right are numbered one after another.
-use Rattle.std.proofs.Common.{◌≡◌, ℕ, zero, suc, ◌+◌, Bool, true, Option, Some}
-use Rattle.std.proofs.Common.{None, option_map, List, [], ◌∷◌, map, refl, ap, sym, ◌∙◌, subst}
-use Rattle.std.proofs.Common.{arith}
-use Rattle.std.specs.Prelude.{◌&&◌, cond, filter, is_some, nat_eq, slice_get}
-use Rattle.std.specs.List.{list_all}
-use Rattle.std.proofs.lemmas.Bool.Decides.{nat_tests}
-use Rattle.std.proofs.lemmas.Bool.{and_from}
-use Rattle.lb_syntax.specs.Lists.{In, some_of}
-use Rattle.lb_syntax.specs.Tree.{Node}
-use Rattle.lb_syntax.proofs.TruthValues.{and_first, and_second}
-use Rattle.lb_static.specs.DataTypes.{variables}
-use Rattle.lb_static.specs.Instances.{Program, Instance, Site, node_sites, numbered_sites}
-use Rattle.lb_static.proofs.Members.{in_filter, place_in}
-use Rattle.lb_check.specs.Needs.{call_at, is_site}
-use Rattle.lb_check.specs.Occurrences.{Occurrence, node_occurrences}
-use Rattle.lb_check.specs.TypeRules.{is_clock_typed, is_typed}
+use Rattle.lb_check.proofs.Words.{◌≡◌, ℕ, zero, suc, ◌+◌, Bool, true, Option, Some, None, List, []}
+use Rattle.lb_check.proofs.Words.{◌∷◌, map, refl, ap, sym, ◌∙◌, subst, arith, ◌&&◌, filter, is_some}
+use Rattle.lb_check.proofs.Words.{nat_eq, slice_get, list_all, nat_tests, and_from, In, some_of}
+use Rattle.lb_check.proofs.Words.{Node, and_first, and_second, variables, Program, Instance, Site}
+use Rattle.lb_check.proofs.Words.{node_sites, numbered_sites, in_filter, place_in, call_at, is_site}
+use Rattle.lb_check.proofs.Words.{Occurrence, node_occurrences, is_clock_typed, is_typed}
+use Rattle.std.proofs.Common.{option_map}
+use Rattle.std.specs.Prelude.{cond}
 use Rattle.lb_check.proofs.CallNumbers.{found_in}
 use Rattle.lb_check.proofs.ListPairs.{cons_same}
 use Rattle.lb_check.proofs.OccurrenceSites.{own_site, site_test}

@@ -1,21 +1,14 @@
 -- A row of operands that do not fit, of which the last ones decide.
-use Rattle.std.proofs.Common.{◌≡◌, ℕ, zero, suc, ◌-◌, ◌<◌, Bool, true, false, List, [], ◌∷◌}
-use Rattle.std.proofs.Common.{length, map, drop, take, Option, Some, None, refl, ap, sym, ◌∙◌}
-use Rattle.std.proofs.Common.{arith}
-use Rattle.std.specs.Prelude.{◌&&◌, is_some, nat_le}
-use Rattle.std.proofs.Math.Bool.{and-false}
-use Rattle.std.proofs.lemmas.Grind.{flat_map-append}
-use Rattle.std.proofs.lemmas.List.{drop-map, length-append, length-drop, length-map}
+use Rattle.lb_check.proofs.Words.{◌≡◌, ℕ, zero, suc, ◌-◌, ◌<◌, Bool, true, false, List, [], ◌∷◌}
+use Rattle.lb_check.proofs.Words.{length, map, drop, take, Option, Some, None, refl, ap, sym, ◌∙◌}
+use Rattle.lb_check.proofs.Words.{arith, ◌&&◌, is_some, nat_le, and-false, flat_map-append}
+use Rattle.lb_check.proofs.Words.{drop-map, length-append, length-drop, length-map, where_true}
+use Rattle.lb_check.proofs.Words.{and_second, DataType, Term, Group', Kept, kept, placed_all_types}
+use Rattle.lb_check.proofs.Words.{placed_types, Signature, are_met, are_one, arrays, common}
+use Rattle.lb_check.proofs.Words.{has_arity, list_of, outcome, array_of, common_type}
 use Rattle.std.proofs.lemmas.List.{take-append-drop}
-use Rattle.lb_syntax.specs.Lists.{where_true}
-use Rattle.lb_syntax.proofs.TruthValues.{and_second}
-use Rattle.lb_static.specs.DataTypes.{DataType}
-use Rattle.lb_static.specs.declared.resolved.Term.{Term, Group'}
-use Rattle.lb_check.specs.PlacedTypes.{IsDecided, Kept, kept, placed_all_types, placed_types}
-use Rattle.lb_check.specs.TermSignatures.{Signature, are_met, are_one, arrays, common, has_arity}
-use Rattle.lb_check.specs.TermSignatures.{list_of, outcome}
+use Rattle.lb_check.specs.PlacedTypes.{IsDecided}
 use Rattle.lb_check.specs.TermTypes.{Context, type_of, when_both}
-use Rattle.lb_check.specs.Types.{array_of, common_type}
 use Rattle.lb_check.proofs.PartSizes.{kept_none, kept_over}
 use Rattle.lb_check.proofs.SignatureRows.{fits_end}
 use Rattle.lb_check.proofs.WalkedTypes.{AreNoted, further, later}

@@ -1,16 +1,10 @@
 -- The declared clocks of a node: how deep they stand, and that the clock of a variable waits for
 -- the declared clock of the variable that it waits for.
-use Rattle.std.proofs.Common.{◌≡◌, ℕ, zero, suc, ◌*◌, ◌<◌, ◌≤◌, Option, Some}
-use Rattle.std.proofs.Common.{None, List, [], ◌∷◌, length, map, refl, ap, sym, ◌∙◌, subst, arith}
-use Rattle.std.specs.Str.{bytes_eq}
-use Rattle.std.proofs.lemmas.Option.{same_Some}
-use Rattle.lb_syntax.specs.Lists.{◌>>=◌, In}
-use Rattle.lb_syntax.specs.Tree.{Name, Declaration, Sampling, Node}
-use Rattle.lb_syntax.proofs.Readers.{bind_some}
-use Rattle.lb_static.specs.DataTypes.{variables}
-use Rattle.lb_static.specs.Parts.{variable_names}
-use Rattle.lb_static.specs.StaticValues.{named}
-use Rattle.lb_static.proofs.Members.{in_map}
+use Rattle.lb_check.proofs.Words.{◌≡◌, ℕ, zero, suc, ◌*◌, ◌<◌, ◌≤◌, Option, Some, None, List, []}
+use Rattle.lb_check.proofs.Words.{◌∷◌, length, map, refl, ap, sym, ◌∙◌, subst, arith, bytes_eq}
+use Rattle.lb_check.proofs.Words.{same_Some, ◌>>=◌, In, Name, Declaration, Node, bind_some}
+use Rattle.lb_check.proofs.Words.{variables, variable_names, named, in_map}
+use Rattle.lb_syntax.specs.Tree.{Sampling}
 use Rattle.lb_check.specs.Clocks.{Clock, Base, On, sampled, clock_within, variable_clock, clock_or}
 use Rattle.lb_check.specs.Clocks.{declared_clock, depth, above, base_from, base_clock, own_depth}
 use Rattle.lb_check.proofs.InstanceNames.{find_in}

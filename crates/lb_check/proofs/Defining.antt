@@ -1,26 +1,15 @@
 -- The left sides and terms of a node from a place on.
-use Rattle.std.proofs.Common.{◌≡◌, ◌⊎◌, inl, inr, ℕ, ◌+◌, ◌<◌, Bool, Box, List, length, drop}
-use Rattle.std.proofs.Common.{get_or, Vec, Global, refl, ap, ◌∙◌}
-use Rattle.std.specs.Prelude.{◌&&◌, if◌then◌else◌, ◌==◌}
-use Rattle.std.specs.List.{list_all}
-use Rattle.std.proofs.lemmas.List.{drop_more}
-use Rattle.lb_syntax.specs.declared.tree.ArrayIterator.{ArrayIterator}
-use Rattle.lb_syntax.specs.declared.tree.BinaryOperator.{BinaryOperator}
-use Rattle.lb_syntax.specs.declared.tree.UnaryOperator.{UnaryOperator}
-use Rattle.lb_static.specs.declared.reach.Reached.{Reached}
-use Rattle.lb_static.specs.declared.resolved.CallId.{CallId}
-use Rattle.lb_static.specs.declared.resolved.ResolvedNode.{ResolvedNode}
-use Rattle.lb_static.specs.declared.resolved.StaticId.{StaticId}
-use Rattle.lb_static.specs.declared.resolved.VariableId.{VariableId}
-use Rattle.lb_static.specs.declared.resolved.ResolvedStatement.{ResolvedStatement}
-use Rattle.lb_static.specs.declared.resolved.Term.{Term, Group, Unary, When, Replicate, Index}
-use Rattle.lb_static.specs.declared.resolved.Term.{Slice, Array, AtMostOne, Nor, Call, IterateNode}
-use Rattle.lb_static.specs.declared.resolved.Term.{IterateSymbol}
-use Rattle.lb_static.specs.declared.resolved.Term.{Row_of-Term}
-use Rattle.lb_static.specs.declared.resolved.Term.{end_of-Term, more_of-Term, items-the_row-Term}
-use Rattle.lb_static.specs.declared.resolved.Term.{items_hidden-the_row-Term-0}
-use Rattle.lb_check.specs.NodeDefinitions.{count_left, count_statement, count_statements}
-use Rattle.lb_check.specs.NodeDefinitions.{calls_function, is_memoryless, is_row_memoryless}
+use Rattle.lb_check.proofs.Words.{◌≡◌, ◌⊎◌, inl, inr, ℕ, ◌+◌, ◌<◌, Bool, Box, List, length, drop}
+use Rattle.lb_check.proofs.Words.{get_or, Vec, Global, refl, ap, ◌∙◌, ◌&&◌, if◌then◌else◌, ◌==◌}
+use Rattle.lb_check.proofs.Words.{list_all, drop_more, ArrayIterator, BinaryOperator, UnaryOperator}
+use Rattle.lb_check.proofs.Words.{Reached, CallId, ResolvedNode, StaticId, VariableId}
+use Rattle.lb_check.proofs.Words.{ResolvedStatement, Term, IterateNode, IterateSymbol, Row_of-Term}
+use Rattle.lb_check.proofs.Words.{end_of-Term, more_of-Term, items-the_row-Term}
+use Rattle.lb_check.proofs.Words.{items_hidden-the_row-Term-0, count_left, count_statement}
+use Rattle.lb_check.proofs.Words.{count_statements, calls_function}
+use Rattle.lb_static.specs.declared.resolved.Term.{Group, Unary, When, Replicate, Index, Slice}
+use Rattle.lb_static.specs.declared.resolved.Term.{Array, AtMostOne, Nor, Call}
+use Rattle.lb_check.specs.NodeDefinitions.{is_memoryless, is_row_memoryless}
 use Rattle.lb_check.proofs.TypeRows.{row_in}
 
 pub count_next : (k : ℕ) (xs : List VariableId) (i : ℕ) (d : VariableId) → i < length xs

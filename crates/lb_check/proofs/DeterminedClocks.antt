@@ -1,27 +1,23 @@
 -- The clock that something inside an expression determines is over the variables of its node.
-use Rattle.std.proofs.Common.{◌≡◌, ℕ, suc, ◌+◌, ◌<◌, Bool, true, List, [], ◌∷◌, ◌++◌, length, map}
-use Rattle.std.proofs.Common.{Option, Some, None, sym, subst, arith}
-use Rattle.std.specs.Prelude.{IfSome, option_map}
-use Rattle.std.specs.List.{list_all}
-use Rattle.lb_syntax.specs.Lists.{◌>>=◌, Every, either_or, listed, or_else}
-use Rattle.lb_syntax.specs.Tree.{Name, Node_named, Symbol, Expr, Literal, Truth, Variable, Group}
-use Rattle.lb_syntax.specs.Tree.{Unary, Binary, If, Arrow, Fby, Pre, Current, When, Replicate}
-use Rattle.lb_syntax.specs.Tree.{Index, Slice, Join, Array, AtMostOne, Nor, Call, Iterate, Exprs}
-use Rattle.lb_syntax.specs.Tree.{Nil, Cons, Declaration, Node}
-use Rattle.lb_syntax.proofs.TruthValues.{and_first}
-use Rattle.lb_static.specs.Instances.{Program, Instance, Site, sites, sites_in, numbered_sites}
-use Rattle.lb_static.specs.Instances.{node_named, instance_count, callee_of, static_count}
-use Rattle.lb_static.specs.DataTypes.{DataType, variables}
-use Rattle.lb_check.specs.ClockRules.{are_declared_clocks, are_given_variables, is_call_clocked}
-use Rattle.lb_check.specs.ClockRules.{if_node, is_occurrence_clocked}
-use Rattle.lb_check.specs.Clocks.{Clock, clock_of, first_clock, each_clock, called_clock, clock_or}
-use Rattle.lb_check.specs.Clocks.{declared_clock, base_from_arguments, first_result_clock}
-use Rattle.lb_check.specs.Clocks.{given_inputs, outer, base_clock, own_depth}
-use Rattle.lb_check.specs.Occurrences.{Occurrence, call_count, call_clocks, occurrences}
-use Rattle.lb_check.specs.Occurrences.{occurrences_in, occurrences_each}
-use Rattle.lb_check.specs.Types.{data_types, all_types, from_one, from_truths, unary_type}
-use Rattle.lb_check.specs.Types.{binary_type, common_type, array_of, index_type, slice_type}
-use Rattle.lb_check.specs.Types.{join_type, operator_types}
+use Rattle.lb_check.proofs.Words.{◌≡◌, ℕ, suc, ◌+◌, ◌<◌, Bool, true, List, [], ◌∷◌, ◌++◌, length}
+use Rattle.lb_check.proofs.Words.{map, Option, Some, None, sym, subst, arith, IfSome, option_map}
+use Rattle.lb_check.proofs.Words.{list_all, ◌>>=◌, Every, either_or, listed, or_else, Name}
+use Rattle.lb_check.proofs.Words.{Node_named, Symbol, Expr, Group, Unary, Binary, If, Arrow, Fby}
+use Rattle.lb_check.proofs.Words.{Pre, Current, When, Replicate, Index, Slice, Join, Array}
+use Rattle.lb_check.proofs.Words.{AtMostOne, Nor, Call, Iterate, Exprs, Nil, Cons, Declaration}
+use Rattle.lb_check.proofs.Words.{Node, and_first, Program, Instance, Site, sites, sites_in}
+use Rattle.lb_check.proofs.Words.{numbered_sites, node_named, instance_count, callee_of}
+use Rattle.lb_check.proofs.Words.{static_count, DataType, variables, are_declared_clocks}
+use Rattle.lb_check.proofs.Words.{are_given_variables, is_call_clocked, if_node}
+use Rattle.lb_check.proofs.Words.{is_occurrence_clocked, Clock, clock_of, each_clock, called_clock}
+use Rattle.lb_check.proofs.Words.{clock_or, declared_clock, base_from_arguments, first_result_clock}
+use Rattle.lb_check.proofs.Words.{given_inputs, outer, base_clock, own_depth, Occurrence}
+use Rattle.lb_check.proofs.Words.{call_count, call_clocks, occurrences, occurrences_in}
+use Rattle.lb_check.proofs.Words.{occurrences_each, data_types, all_types, from_one, from_truths}
+use Rattle.lb_check.proofs.Words.{unary_type, binary_type, common_type, array_of, index_type}
+use Rattle.lb_check.proofs.Words.{slice_type, join_type, operator_types}
+use Rattle.lb_syntax.specs.Tree.{Literal, Truth, Variable}
+use Rattle.lb_check.specs.Clocks.{first_clock}
 use Rattle.lb_check.proofs.Every.{Every-first, Every-second}
 use Rattle.lb_check.proofs.NamedClocks.{either, IsOver, above_over, parent_over, variable_over}
 use Rattle.lb_check.proofs.NamedClocks.{when_over, result_over}

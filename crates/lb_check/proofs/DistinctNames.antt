@@ -1,15 +1,8 @@
 -- Distinct names, and what stands at a place among them.
-use Rattle.std.proofs.Common.{◌≡◌, ℕ, zero, suc, Bool, true, false, List, [], ◌∷◌, ◌++◌, length}
-use Rattle.std.proofs.Common.{Some, refl, sym, subst, ◌∙◌, arith}
-use Rattle.std.specs.Prelude.{not, nat_lt, slice_get, ◌==◌}
-use Rattle.std.specs.Str.{bytes_eq}
-use Rattle.std.proofs.lemmas.Bool.Decides.{nat_tests}
-use Rattle.std.proofs.lemmas.Slice.Eq.{bytes_eq-Decides}
-use Rattle.std.proofs.lemmas.Bool.{not-true}
-use Rattle.lb_syntax.specs.Tree.{Name}
-use Rattle.lb_syntax.proofs.TruthValues.{and_first, and_second, or_first, or_second}
-use Rattle.lb_static.specs.Parts.{among}
-use Rattle.lb_static.specs.Names.{are_distinct}
+use Rattle.lb_check.proofs.Words.{◌≡◌, ℕ, zero, suc, Bool, true, false, List, [], ◌∷◌, ◌++◌, length}
+use Rattle.lb_check.proofs.Words.{Some, refl, sym, subst, ◌∙◌, arith, not, nat_lt, slice_get, ◌==◌}
+use Rattle.lb_check.proofs.Words.{bytes_eq, nat_tests, bytes_eq-Decides, not-true, Name, and_first}
+use Rattle.lb_check.proofs.Words.{and_second, or_first, or_second, among, are_distinct}
 
 among_append : (x : Name) (ys zs : List Name) → among x (ys ++ zs) ≡ false → among x ys ≡ false
 among_append x [] zs e = refl

@@ -1,14 +1,9 @@
 -- The kinds of scalar elements: there are as many as elements, and the kind at the number of an
 -- element is that of its variable.
-use Rattle.std.proofs.Common.{◌≡◌, List, length, flat_map, replicate, Some, None}
-use Rattle.std.specs.Prelude.{slice_get}
-use Rattle.lb_syntax.specs.declared.tree.Kind.{Kind}
-use Rattle.lb_syntax.specs.Lists.{Every, In}
-use Rattle.lb_syntax.specs.Tree.{Declaration}
-use Rattle.lb_static.specs.DataTypes.{variables, width}
-use Rattle.lb_static.specs.Instances.{Program, Instance, instances}
-use Rattle.lb_static.specs.Instantiation.{static_refusal}
-use Rattle.lb_check.specs.Elements.{program_elements, element_kinds, numbers_of}
+use Rattle.lb_check.proofs.Words.{◌≡◌, List, length, flat_map, replicate, Some, None, slice_get}
+use Rattle.lb_check.proofs.Words.{Kind, Every, In, Declaration, variables, width, Program, Instance}
+use Rattle.lb_check.proofs.Words.{instances, static_refusal, program_elements, element_kinds}
+use Rattle.lb_check.proofs.Words.{numbers_of}
 use Rattle.lb_check.proofs.ElementValues.{length_values, values_at_numbers}
 
 -- the kinds of the elements of some variables of an instance

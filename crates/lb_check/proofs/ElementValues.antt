@@ -1,27 +1,15 @@
 -- What each variable has, said of each of its scalar elements: there is one for each element, and
 -- at the number of an element stands that of its variable.
+use Rattle.lb_check.proofs.Words.{not, slice_get, bytes_eq, range_with_len, length-replicate}
+use Rattle.lb_check.proofs.Words.{bytes_eq-Decides, slice_get_within, same_Some, not-true, Every}
+use Rattle.lb_check.proofs.Words.{In, Name, Declaration, get_first, get_later, mapped_from, item_at}
+use Rattle.lb_check.proofs.Words.{and_first, and_second, variables, width, Program, Instance}
+use Rattle.lb_check.proofs.Words.{instances, static_refusal, are_distinct, among, any_in, place_in}
+use Rattle.lb_check.proofs.Words.{instance_elements, program_elements, numbers_of, Element}
+use Rattle.lb_check.proofs.Words.{elements}
 use Rattle.std.proofs.Common.{◌≡◌, ◌⊎◌, inl, inr, ℕ, zero, suc, ◌+◌, ◌<◌, true, false, List, []}
 use Rattle.std.proofs.Common.{◌∷◌, ◌++◌, map, length, flat_map, replicate, Some, None, refl, sym}
 use Rattle.std.proofs.Common.{ap, ap₂, ◌∙◌, subst, arith, length-append}
-use Rattle.std.specs.Prelude.{not, slice_get}
-use Rattle.std.specs.Str.{bytes_eq}
-use Rattle.std.specs.List.{range_with_len}
-use Rattle.std.proofs.lemmas.List.{length-replicate}
-use Rattle.std.proofs.lemmas.Slice.Eq.{bytes_eq-Decides}
-use Rattle.std.proofs.lemmas.Option.{slice_get_within, same_Some}
-use Rattle.std.proofs.lemmas.Bool.{not-true}
-use Rattle.lb_syntax.specs.Lists.{Every, In}
-use Rattle.lb_syntax.specs.Tree.{Name, Declaration}
-use Rattle.lb_syntax.proofs.ListPlaces.{get_first, get_later, mapped_from, item_at}
-use Rattle.lb_syntax.proofs.TruthValues.{and_first, and_second}
-use Rattle.lb_static.specs.DataTypes.{variables, width}
-use Rattle.lb_static.specs.Instances.{Program, Instance, instances}
-use Rattle.lb_static.specs.Instantiation.{static_refusal}
-use Rattle.lb_static.specs.Names.{are_distinct}
-use Rattle.lb_static.specs.Parts.{among}
-use Rattle.lb_static.proofs.Members.{any_in, place_in}
-use Rattle.lb_check.specs.Elements.{instance_elements, program_elements, numbers_of}
-use Rattle.lb_check.specs.Needs.{Element, elements}
 use Rattle.lb_check.proofs.AcceptedNumbers.{number_of}
 use Rattle.lb_check.proofs.ApartLists.{Every-at, Every-from, AreApart, apart_single}
 use Rattle.lb_check.proofs.Every.{Every-all}

@@ -1,48 +1,30 @@
 -- A call that is a whole right side keeps the rules of clocks exactly where the code finds so.
-use Rattle.std.proofs.Common.{◌≡◌, ℕ, suc, ◌+◌, ◌-◌, ◌<◌, ◌≤◌, ◌⊎◌, inl, inr, Bool, true, false}
-use Rattle.std.proofs.Common.{List, [], ◌∷◌, ◌++◌, take, drop, length, map, Option, Some, None}
-use Rattle.std.proofs.Common.{refl, ap, sym, ◌∙◌, subst, arith}
-use Rattle.std.specs.Prelude.{◌&&◌, ◌||◌, not, slice_get, nat_eq, nat_lt, if◌then◌else◌}
-use Rattle.std.specs.List.{list_all}
-use Rattle.std.proofs.lemmas.Bool.Decides.{nat_tests}
-use Rattle.std.proofs.lemmas.List.{length-map, nil_from_length}
-use Rattle.std.proofs.lemmas.Bool.{lt-ltb, and_from}
-use Rattle.std.proofs.Math.Nat.{add-sub_cancel_left}
-use Rattle.std.proofs.Math.Bool.{and-true}
-use Rattle.lb_syntax.specs.Lists.{either_or, listed, or_else}
-use Rattle.lb_syntax.specs.Tree as text
-use Rattle.lb_syntax.specs.Tree.{Name, Expr, Declaration}
-use Rattle.lb_syntax.proofs.TruthValues.{and_first, and_second, both_ways}
-use Rattle.lb_syntax.proofs.ListPlaces.{item_at, all_at, mapped_from}
-use Rattle.lb_static.specs.Instances.{Program, Site, node_named}
-use Rattle.lb_static.specs.ResolvedNodes.{node_of, texts_of, counts_of}
-use Rattle.lb_static.specs.ResolvedTerms.{exprs_of, is_within, is_unhidden, is_variable}
-use Rattle.lb_static.specs.declared.resolved.ResolvedNode.{ResolvedNode}
-use Rattle.lb_static.specs.declared.resolved.Sampling.{Sampling}
-use Rattle.lb_static.specs.declared.resolved.Term.{Term}
+use Rattle.lb_check.proofs.Words.{◌≡◌, ℕ, suc, ◌+◌, ◌-◌, ◌<◌, ◌≤◌, ◌⊎◌, inl, inr, Bool, true, false}
+use Rattle.lb_check.proofs.Words.{List, [], ◌∷◌, ◌++◌, take, drop, length, map, Option, Some, None}
+use Rattle.lb_check.proofs.Words.{refl, ap, sym, ◌∙◌, subst, arith, ◌&&◌, ◌||◌, not, slice_get}
+use Rattle.lb_check.proofs.Words.{nat_eq, nat_lt, if◌then◌else◌, list_all, nat_tests, length-map}
+use Rattle.lb_check.proofs.Words.{lt-ltb, and_from, add-sub_cancel_left, and-true, either_or}
+use Rattle.lb_check.proofs.Words.{listed, or_else, Name, Expr, Declaration, and_first, and_second}
+use Rattle.lb_check.proofs.Words.{both_ways, item_at, all_at, mapped_from, Program, Site}
+use Rattle.lb_check.proofs.Words.{node_named, node_of, texts_of, counts_of, exprs_of, is_within}
+use Rattle.lb_check.proofs.Words.{is_unhidden, is_variable, ResolvedNode, Sampling, Term}
+use Rattle.lb_check.proofs.Words.{VariableId, is_clock, are_clocks, left_clocks, are_on_results}
+use Rattle.lb_check.proofs.Words.{given_inputs, given_outputs, given_name, outer, above, own_depth}
+use Rattle.lb_check.proofs.Words.{depth, declared_clock, base_clock, base_from, argument_clocks}
+use Rattle.lb_check.proofs.Words.{result_clocks, statement_clock, HasClocks, name_in, clock_in}
+use Rattle.lb_check.proofs.Words.{is_clock_within, AreClockSets, is_clocked_on, Context}
+use Rattle.lb_check.proofs.Words.{declared_in, operands_of, given_at, clock_sets, are_given}
+use Rattle.lb_check.proofs.Words.{input_clocks, output_clocks, base_of, all_fit, left_clock_sets}
+use Rattle.lb_check.proofs.Words.{stands_for, result_base, Base, ClockSet, OneClock}
+use Rattle.std.proofs.lemmas.List.{nil_from_length}
 use Rattle.lb_static.specs.declared.resolved.Variable.{Variable as Declared}
-use Rattle.lb_static.specs.declared.resolved.VariableId.{VariableId}
-use Rattle.lb_check.specs.ClockRules.{is_clock, are_clocks, left_clocks, are_on_results}
-use Rattle.lb_check.specs.Clocks as tree
-use Rattle.lb_check.specs.Clocks.{given_inputs, given_outputs, given_name, outer, above, own_depth}
-use Rattle.lb_check.specs.Clocks.{depth, declared_clock, base_clock, base_from, argument_clocks}
-use Rattle.lb_check.specs.Clocks.{result_clocks}
-use Rattle.lb_check.specs.Occurrences.{statement_clock}
-use Rattle.lb_check.specs.OwnClocks.{HasClocks, name_in, clock_in, is_clock_within}
-use Rattle.lb_check.specs.ClockSets.{AreClockSets, is_clocked_on}
-use Rattle.lb_check.specs.TermClocks.{Context, declared_in, operands_of, given_at, clock_sets}
-use Rattle.lb_check.specs.TermClocks.{are_given, input_clocks, output_clocks, base_of, all_fit}
-use Rattle.lb_check.specs.TermClocks.{left_clock_sets, stands_for, result_base, is_call_clocked}
+use Rattle.lb_check.specs.TermClocks.{is_call_clocked}
 use Rattle.lb_check.specs.declared.own_clock.Clock.{Clock}
-use Rattle.lb_check.specs.declared.own_clock.Clock.TheVariants.{Base}
-use Rattle.lb_check.specs.declared.clock_set.ClockSet.{ClockSet}
-use Rattle.lb_check.specs.declared.clock_set.ClockSet.TheVariants.{OneClock}
 use Rattle.lb_check.proofs.ClockLists.{clocks_length, clocks_at, clocks_from, place_split}
 use Rattle.lb_check.proofs.ClockLists.{later_place}
 use Rattle.lb_check.proofs.CallOperands.{are_given_is, own_inputs, clock_set_within, waited_given}
 use Rattle.lb_check.proofs.CallOperands.{input_waits, output_waits, inputs_seen, inputs_is_given}
 use Rattle.lb_check.proofs.CallOperands.{code_known, code_stand, same_fits}
-use Rattle.lb_check.proofs.CallClockSets as one
 use Rattle.lb_check.proofs.FittingClocks.{IsGiven, IsWithin, fits_on, fit_some, fit_none}
 use Rattle.lb_check.proofs.FittingClocks.{base_within, base_is}
 use Rattle.lb_check.proofs.GivenNames.{given_in, given_out, found_before, output_at, output_held}
@@ -53,6 +35,9 @@ use Rattle.lb_check.proofs.ClockTests.{clock_same, clock_turned}
 use Rattle.lb_check.proofs.OuterClocks.{stood, clock_equal, above_outer, declared_is, place_name}
 use Rattle.lb_check.proofs.OuterClocks.{variable_at, seen, expected_on, AreGiven, StandFor}
 use Rattle.lb_check.proofs.OuterClocks.{HaveNames, outer_all}
+use Rattle.lb_syntax.specs.Tree as text
+use Rattle.lb_check.specs.Clocks as tree
+use Rattle.lb_check.proofs.CallClockSets as one
 
 module _ (P : Program) (here callee : ResolvedNode) (h : HasClocks here) (hc : HasClocks callee)
     (site : Site)

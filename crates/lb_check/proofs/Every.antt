@@ -1,11 +1,9 @@
 -- What holds of each item of a list.
+use Rattle.lb_check.proofs.Words.{◌||◌, reverse, IfSome, list_all, list_any, range_with_len}
+use Rattle.lb_check.proofs.Words.{reverse-append, Every, some_of, and_first, and_second}
 use Rattle.std.proofs.Common.{◌≡◌, ℕ, zero, suc, ◌+◌, ◌<◌, Bool, true, false, cond, List, [], ◌∷◌}
 use Rattle.std.proofs.Common.{◌++◌, Option, Some, None, map, flat_map, refl, sym, ap₂, subst, arith}
-use Rattle.std.specs.Prelude.{◌||◌, reverse, IfSome}
-use Rattle.std.specs.List.{list_all, list_any, filter, range_with_len}
-use Rattle.std.proofs.lemmas.List.{reverse-append}
-use Rattle.lb_syntax.specs.Lists.{Every, some_of}
-use Rattle.lb_syntax.proofs.TruthValues.{and_first, and_second}
+use Rattle.std.specs.List.{filter}
 
 pub Every-map :
     {A : Type 0} (P Q : A → Type 0) → ((a : A) → P a → Q a) → (xs : List A) →

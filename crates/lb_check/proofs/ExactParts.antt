@@ -1,19 +1,9 @@
 -- In a small program the scalar elements of each element of an array are exactly as many as a
 -- checked program lends.
-use Rattle.std.proofs.Common.{◌≡◌, ℕ, ◌≤◌, min, true, None, Some, arith}
-use Rattle.std.specs.Prelude.{slice_get}
-use Rattle.lb_syntax.specs.Lists.{In}
-use Rattle.lb_syntax.specs.Tree.{Expr}
-use Rattle.lb_static.specs.Instances.{Program, Instance, instances}
-use Rattle.lb_static.specs.Instantiation.{static_refusal}
-use Rattle.lb_static.specs.Parts.{node_parts}
-use Rattle.lb_static.proofs.Members.{in_at}
-use Rattle.lb_check.specs.Acceptance.{check_refusal}
-use Rattle.lb_check.specs.FoundTerms.{HasTypes}
-use Rattle.lb_check.specs.PlacedTypes.{found_in, parts_of}
-use Rattle.lb_check.specs.Streams.{part_count}
-use Rattle.lb_check.specs.TypeRules.{is_small}
-use Rattle.lb_check.specs.declared.found_types.NodeTypes.{NodeTypes}
+use Rattle.lb_check.proofs.Words.{◌≡◌, ℕ, ◌≤◌, min, true, None, Some, arith, slice_get, In, Expr}
+use Rattle.lb_check.proofs.Words.{Program, Instance, instances, static_refusal, node_parts, in_at}
+use Rattle.lb_check.proofs.Words.{check_refusal, HasTypes, found_in, parts_of, part_count, is_small}
+use Rattle.lb_check.proofs.Words.{NodeTypes}
 use Rattle.lb_check.proofs.PositiveTypes.{part_small}
 
 module _ (P : Program) (accepted : static_refusal P ≡ None) (checked : check_refusal P ≡ None)

@@ -1,13 +1,9 @@
 -- The first item of a list that fails a test, and what a loop over the list knows of it.
-use Rattle.std.proofs.Common.{◌≡◌, ℕ, zero, suc, ◌+◌, ◌<◌, ◌≤◌, Bool, true, false, cond, List, []}
-use Rattle.std.proofs.Common.{◌∷◌, length, drop, get_or, Option, Some, None, refl, ap, sym, ◌∙◌}
-use Rattle.std.proofs.Common.{subst, arith}
-use Rattle.std.specs.Prelude.{◌&&◌, is_some, not, option_map, slice_get}
+use Rattle.lb_check.proofs.Words.{◌≡◌, ℕ, zero, suc, ◌+◌, ◌<◌, ◌≤◌, Bool, true, false, cond, List}
+use Rattle.lb_check.proofs.Words.{[], ◌∷◌, length, drop, get_or, Option, Some, None, refl, ap, sym}
+use Rattle.lb_check.proofs.Words.{◌∙◌, subst, arith, ◌&&◌, is_some, not, option_map, slice_get}
+use Rattle.lb_check.proofs.Words.{drop_all, drop_more, and-true, listed, at_place, first_broken}
 use Rattle.std.specs.List.{list_all, position_from}
-use Rattle.std.proofs.lemmas.List.{drop_all, drop_more}
-use Rattle.std.proofs.Math.Bool.{and-true}
-use Rattle.lb_syntax.specs.Lists.{listed}
-use Rattle.lb_check.specs.BrokenParts.{at_place, first_broken}
 
 module _ {A : Type 0} (f : A → Bool) where
   -- the place of the first item from a place on that fails the test

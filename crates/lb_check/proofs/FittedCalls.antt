@@ -1,22 +1,12 @@
 -- The types of what a specialization calls are those that the definitions give it.
-use Rattle.std.proofs.Common.{◌≡◌, ℕ, ◌<◌, length, map, Some, refl, ap, sym, ◌∙◌, subst, arith}
-use Rattle.std.specs.Prelude.{option_map, slice_get}
-use Rattle.std.proofs.lemmas.Option.{slice_get-map, slice_get_within, get_or_from_slice_get}
-use Rattle.lb_syntax.specs.Lists.{◌>>=◌, either_or}
-use Rattle.lb_syntax.specs.Tree.{Node_named}
-use Rattle.lb_syntax.proofs.ListPlaces.{item_at}
-use Rattle.lb_static.specs.declared.reach.Reached.{Reached}
-use Rattle.lb_static.specs.declared.resolved.CallId.{CallId}
-use Rattle.lb_static.specs.declared.resolved.ResolvedNode.{ResolvedNode}
-use Rattle.lb_static.specs.declared.table.Specialization.{Specialization}
-use Rattle.lb_static.specs.declared.table.Table.{Table}
+use Rattle.lb_check.proofs.Words.{◌≡◌, ℕ, ◌<◌, length, map, Some, refl, ap, sym, ◌∙◌, subst, arith}
+use Rattle.lb_check.proofs.Words.{option_map, slice_get, slice_get-map, slice_get_within}
+use Rattle.lb_check.proofs.Words.{get_or_from_slice_get, ◌>>=◌, either_or, Node_named, item_at}
+use Rattle.lb_check.proofs.Words.{Reached, CallId, ResolvedNode, Specialization, Table, Program}
+use Rattle.lb_check.proofs.Words.{Path, Root, Child, Site, static_value, node_sites, IsReached}
+use Rattle.lb_check.proofs.Words.{source_names, IsResolved, node_of, statics_of, site_at, no_site}
+use Rattle.lb_check.proofs.Words.{operator_types, callee_types, call_types_of, call_types_at}
 use Rattle.lb_static.specs.InstanceTable.{IsTable, IsSpecialized, instance_of, specialized_at}
-use Rattle.lb_static.specs.Instances.{Program, Path, Root, Child, Site, static_value, node_sites}
-use Rattle.lb_static.specs.ReachedNodes.{IsReached, source_names}
-use Rattle.lb_static.specs.ResolvedNodes.{IsResolved, node_of, statics_of}
-use Rattle.lb_static.specs.ResolvedTerms.{site_at, no_site}
-use Rattle.lb_check.specs.Types.{operator_types}
-use Rattle.lb_check.specs.TermTypes.{callee_types, call_types_of, call_types_at}
 use Rattle.lb_check.proofs.CallTypes.{call_types, call_types_are, same_callee}
 
 module _ (P : Program) (r : Reached) (t : Table) (reached : IsReached P r)

@@ -1,40 +1,21 @@
 -- What the code reads of a specialization is what the definitions say of its instances.
-use Rattle.std.proofs.Common.{◌≡◌, ℤ, true, List, [], length, map, Option, Some, None}
-use Rattle.std.proofs.Common.{refl, ap, sym, ◌∙◌, subst}
-use Rattle.std.specs.Prelude.{option_map, slice_get, nat_lt}
-use Rattle.std.proofs.lemmas.Option.{slice_get-map}
-use Rattle.std.proofs.lemmas.Bool.{not-true}
-use Rattle.std.proofs.lemmas.List.{length-map}
-use Rattle.lb_syntax.specs.Lists.{◌>>=◌, either_or}
-use Rattle.lb_syntax.specs.Tree.{Name, Static, Whole, Named, Negated, Combined, Grouped}
-use Rattle.lb_syntax.proofs.ListPlaces.{all_at}
-use Rattle.lb_syntax.proofs.TruthValues.{and_second}
-use Rattle.lb_static.specs.declared.reach.Reached.{Reached}
-use Rattle.lb_static.specs.declared.resolved.CallId.{CallId}
-use Rattle.lb_static.specs.declared.resolved.CallSite.{CallSite}
-use Rattle.lb_static.specs.declared.resolved.ResolvedNode.{ResolvedNode}
-use Rattle.lb_static.specs.declared.resolved.StaticId.{StaticId}
-use Rattle.lb_static.specs.declared.resolved.VariableId.{VariableId}
-use Rattle.lb_static.specs.declared.table.Specialization.{Specialization}
-use Rattle.lb_static.specs.declared.table.Table.{Table}
-use Rattle.lb_static.specs.InstanceTable.{instance_of}
-use Rattle.lb_static.specs.Instances.{Program, Instance, Path, Site, name_value, static_value}
-use Rattle.lb_static.specs.Instances.{static_count, node_sites}
-use Rattle.lb_static.specs.Names.{are_distinct}
-use Rattle.lb_static.specs.Parts.{variable_names}
-use Rattle.lb_static.specs.ReachedNodes.{source_names}
-use Rattle.lb_static.specs.ResolvedNodes.{IsResolved, node_of, statics_of, counts_of}
-use Rattle.lb_static.specs.ResolvedTerms.{static_of, static_at, name_at, site_at, site_of, no_site}
-use Rattle.lb_static.specs.ResolvedTerms.{named_value, is_variable, is_static, is_call}
-use Rattle.lb_static.specs.ResolvedTerms.{is_no_variable, are_statics, is_count_within}
-use Rattle.lb_static.specs.ResolvedTerms.{is_site_within}
-use Rattle.lb_static.specs.DataTypes.{DataType, variables, variable_type}
-use Rattle.lb_static.specs.StaticValues.{named}
-use Rattle.lb_check.specs.Types.{constant_type, data_types, name_data_type, singly}
-use Rattle.lb_check.specs.TypeRules.{type_of_name}
-use Rattle.lb_static.specs.StoredTypes.{declared_type}
+use Rattle.lb_check.proofs.Words.{option_map, slice_get, nat_lt, slice_get-map, not-true}
+use Rattle.lb_check.proofs.Words.{length-map, ◌>>=◌, either_or, Name, Static, Whole, all_at}
+use Rattle.lb_check.proofs.Words.{and_second, Reached, CallId, CallSite, ResolvedNode, StaticId}
+use Rattle.lb_check.proofs.Words.{VariableId, Specialization, Table, instance_of, Program, Instance}
+use Rattle.lb_check.proofs.Words.{Path, Site, name_value, static_value, static_count, node_sites}
+use Rattle.lb_check.proofs.Words.{are_distinct, variable_names, source_names, IsResolved, node_of}
+use Rattle.lb_check.proofs.Words.{statics_of, counts_of, static_at, name_at, site_at, site_of}
+use Rattle.lb_check.proofs.Words.{no_site, named_value, is_variable, is_static, is_call}
+use Rattle.lb_check.proofs.Words.{is_no_variable, are_statics, DataType, variables, variable_type}
+use Rattle.lb_check.proofs.Words.{named, constant_type, data_types, name_data_type, singly}
+use Rattle.lb_check.proofs.Words.{type_of_name, declared_type, constant_at, count_at, repeats_of}
+use Rattle.std.proofs.Common.{◌≡◌, ℤ, true, List, [], length, map, Option, Some, None, refl, ap}
+use Rattle.std.proofs.Common.{sym, ◌∙◌, subst}
+use Rattle.lb_syntax.specs.Tree.{Named, Negated, Combined, Grouped}
+use Rattle.lb_static.specs.ResolvedTerms.{static_of, is_count_within, is_site_within}
 use Rattle.lb_static.proofs.DeclaredTypes.{declared_is}
-use Rattle.lb_check.specs.TermTypes.{constant_at, count_at, variable_at, repeats_of, repeats_at}
+use Rattle.lb_check.specs.TermTypes.{variable_at, repeats_at}
 use Rattle.lb_check.proofs.FittedTypes.{value_at, count_is, declared_at, unfound}
 use Rattle.lb_check.proofs.DistinctNames.{held_at}
 

@@ -1,22 +1,12 @@
 -- What the numbers of a specialization stand for is what the definitions say of its instances.
-use Rattle.std.proofs.Common.{◌≡◌, ℕ, zero, suc, Bool, true, false, List, [], ◌∷◌, map}
-use Rattle.std.proofs.Common.{Option, Some, None, refl, ap, sym, ◌∙◌, subst}
-use Rattle.std.specs.Prelude.{ℤ, not, option_map, slice_get}
-use Rattle.std.specs.Str.{bytes_eq}
-use Rattle.std.proofs.lemmas.Option.{slice_get-map}
-use Rattle.std.proofs.lemmas.Slice.Eq.{bytes_eq-Decides}
-use Rattle.std.proofs.lemmas.Bool.{not-true}
-use Rattle.lb_syntax.specs.Lists.{◌>>=◌, either_or, zip2}
-use Rattle.lb_syntax.specs.Tree.{Name, Static, Whole, Declaration}
-use Rattle.lb_syntax.proofs.TruthValues.{and_first, and_second, or_first, or_second}
-use Rattle.lb_static.specs.declared.resolved.StaticId.{StaticId}
+use Rattle.lb_check.proofs.Words.{◌≡◌, ℕ, zero, suc, Bool, true, false, List, [], ◌∷◌, map, Option}
+use Rattle.lb_check.proofs.Words.{Some, None, refl, ap, sym, ◌∙◌, subst, ℤ, not, option_map}
+use Rattle.lb_check.proofs.Words.{slice_get, bytes_eq, slice_get-map, bytes_eq-Decides, not-true}
+use Rattle.lb_check.proofs.Words.{◌>>=◌, either_or, zip2, Name, Static, Whole, Declaration}
+use Rattle.lb_check.proofs.Words.{and_first, and_second, or_first, or_second, StaticId, Program}
+use Rattle.lb_check.proofs.Words.{Instance, static_value, static_count, are_distinct, among}
+use Rattle.lb_check.proofs.Words.{declaration_of, static_at, named, natural, count_at}
 use Rattle.lb_static.specs.declared.resolved.Variable.{Variable as Declared}
-use Rattle.lb_static.specs.Instances.{Program, Instance, static_value, static_count}
-use Rattle.lb_static.specs.Names.{are_distinct}
-use Rattle.lb_static.specs.Parts.{among}
-use Rattle.lb_static.specs.ResolvedTerms.{declaration_of, static_at}
-use Rattle.lb_static.specs.StaticValues.{named, natural}
-use Rattle.lb_check.specs.TermTypes.{count_at}
 use Rattle.lb_check.proofs.DistinctNames.{not_among}
 
 -- ## Static values

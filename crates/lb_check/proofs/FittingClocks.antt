@@ -1,25 +1,17 @@
 -- Whether operands stand on the clocks that the code expects of them is whether they stand on those
 -- that the caller sees.
-use Rattle.std.proofs.Common.{◌≡◌, ℕ, zero, suc, Bool, true, List, [], ◌∷◌, Option, Some, None}
-use Rattle.std.proofs.Common.{refl, ap, sym, ◌∙◌}
-use Rattle.std.specs.Prelude.{◌&&◌, option_map, slice_get}
-use Rattle.lb_syntax.specs.Lists.{either_or, holds}
-use Rattle.lb_static.specs.ResolvedNodes.{counts_of}
-use Rattle.lb_static.specs.ResolvedTerms.{is_variable}
-use Rattle.lb_static.specs.declared.resolved.ResolvedNode.{ResolvedNode}
-use Rattle.lb_static.specs.declared.resolved.Sampling.{Sampling}
-use Rattle.lb_static.specs.declared.resolved.VariableId.{VariableId}
-use Rattle.lb_check.specs.Clocks as tree
-use Rattle.lb_check.specs.ClockRules.{is_clock}
-use Rattle.lb_check.specs.OwnClocks.{HasClocks, clock_in, is_clock_within}
-use Rattle.lb_check.specs.TermClocks.{is_same, accepts_clock, expected, base_of, all_fit}
+use Rattle.lb_check.proofs.Words.{◌≡◌, ℕ, zero, suc, Bool, true, List, [], ◌∷◌, Option, Some, None}
+use Rattle.lb_check.proofs.Words.{refl, ap, sym, ◌∙◌, ◌&&◌, option_map, slice_get, either_or, holds}
+use Rattle.lb_check.proofs.Words.{counts_of, is_variable, ResolvedNode, Sampling, VariableId}
+use Rattle.lb_check.proofs.Words.{is_clock, HasClocks, clock_in, is_clock_within, is_same}
+use Rattle.lb_check.proofs.Words.{accepts_clock, expected, base_of, all_fit, ClockSet, NoClock}
+use Rattle.lb_check.proofs.Words.{AnyClock, OneClock}
 use Rattle.lb_check.specs.declared.own_clock.Clock.{Clock}
 use Rattle.lb_check.specs.declared.own_clock.Clock.TheVariants.{On}
-use Rattle.lb_check.specs.declared.clock_set.ClockSet.{ClockSet}
-use Rattle.lb_check.specs.declared.clock_set.ClockSet.TheVariants.{NoClock, AnyClock, OneClock}
 use Rattle.lb_check.proofs.ListPairs.{each_pair, pair_at, same_pairs}
 use Rattle.lb_check.proofs.ClockTests.{clock_same}
 use Rattle.lb_check.proofs.OuterClocks.{stood, same_is, expected_on}
+use Rattle.lb_check.specs.Clocks as tree
 
 -- ## The base clock of a callee
 

@@ -1,34 +1,14 @@
 -- What the code finds of the nodes of a program, clock by clock and call by call, is what their
 -- texts say.
-use Rattle.std.proofs.Common.{◌≡◌, ℕ, Bool, true, None, List, [], ◌∷◌, map, Some, refl, ap, sym}
-use Rattle.std.proofs.Common.{◌∙◌, subst}
-use Rattle.std.specs.Prelude.{option_map, slice_get}
-use Rattle.std.specs.List.{list_all}
-use Rattle.std.proofs.lemmas.Option.{slice_get-map}
-use Rattle.std.proofs.lemmas.Bool.{and_from}
-use Rattle.lb_syntax.specs.Lists.{holds}
-use Rattle.lb_syntax.specs.Refusals.{E9, E10, unless}
-use Rattle.lb_syntax.specs.Tree.{Node}
-use Rattle.lb_syntax.proofs.ListPlaces.{mapped_from, all_at}
-use Rattle.lb_syntax.proofs.TruthValues.{and_first, and_second}
-use Rattle.lb_static.specs.Elaborated.{elaborated_program, IsLawful}
-use Rattle.lb_static.specs.Instances.{Program, Instance, instances}
-use Rattle.lb_static.specs.ReachedNodes.{tree_at}
-use Rattle.lb_static.specs.ResolvedNodes.{node_of}
-use Rattle.lb_static.specs.declared.elab.Elaboration.{Elaboration}
-use Rattle.lb_static.specs.declared.reach.Reached.{Reached}
-use Rattle.lb_static.specs.declared.resolved.ResolvedNode.{ResolvedNode}
-use Rattle.lb_static.specs.declared.table.Specialization.{Specialization}
-use Rattle.lb_static.specs.declared.table.Table.{Table}
-use Rattle.lb_check.specs.Acceptance.{check_refusal}
-use Rattle.lb_check.specs.ClockRules.{is_clocked}
-use Rattle.lb_check.specs.FoundTerms.{HasTermClocks, HasFoundCalls, HasFoundClocks}
-use Rattle.lb_check.specs.FoundTerms.{is_call_within}
-use Rattle.lb_check.specs.JudgedPrograms.{IsJudged}
-use Rattle.lb_check.specs.Occurrences.{node_occurrences}
-use Rattle.lb_check.specs.OwnClocks.{is_clock_within}
+use Rattle.lb_check.proofs.Words.{◌≡◌, ℕ, Bool, true, None, List, [], ◌∷◌, map, Some, refl, ap, sym}
+use Rattle.lb_check.proofs.Words.{◌∙◌, subst, option_map, slice_get, list_all, slice_get-map}
+use Rattle.lb_check.proofs.Words.{and_from, holds, E9, E10, unless, Node, mapped_from, all_at}
+use Rattle.lb_check.proofs.Words.{and_first, and_second, elaborated_program, IsLawful, Program}
+use Rattle.lb_check.proofs.Words.{Instance, instances, tree_at, node_of, Elaboration, Reached}
+use Rattle.lb_check.proofs.Words.{ResolvedNode, Specialization, Table, check_refusal, is_clocked}
+use Rattle.lb_check.proofs.Words.{IsJudged, node_occurrences, is_clock_within, is_typed}
+use Rattle.lb_check.specs.FoundTerms.{HasTermClocks, HasFoundCalls, HasFoundClocks, is_call_within}
 use Rattle.lb_check.specs.PlacedClocks.{call_in, found_in, node_terms, nothing_found, with_terms}
-use Rattle.lb_check.specs.TypeRules.{is_typed}
 use Rattle.lb_check.specs.declared.found_clocks.NodeClocks.{NodeClocks}
 use Rattle.lb_check.proofs.CallClockSets.{call_stands}
 use Rattle.lb_check.proofs.Checks.{first_none, second_none, kept, judged}

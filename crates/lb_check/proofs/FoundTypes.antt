@@ -1,30 +1,16 @@
 -- The types that the code finds of the terms of a specialization are those of the expressions of
 -- each of its instances.
-use Rattle.std.proofs.Common.{◌≡◌, ◌≤◌, ℕ, Option, Some, None, List, Vec, Global, map, flat_map, ap}
-use Rattle.std.proofs.Common.{sym, ◌∙◌, subst}
-use Rattle.std.specs.Prelude.{slice_get, sum_by}
-use Rattle.std.proofs.lemmas.Option.{same_Some}
-use Rattle.lb_syntax.specs.Lists.{listed}
-use Rattle.lb_syntax.proofs.ListPlaces.{mapped_from}
-use Rattle.lb_static.specs.Elaborated.{elaborated_program, IsLawful}
-use Rattle.lb_static.specs.InstanceTable.{IsTable, instance_of, specialized_at}
-use Rattle.lb_static.specs.Instances.{Program, Instance, Path}
-use Rattle.lb_static.specs.Parts.{node_parts, parts, right_side}
-use Rattle.lb_static.specs.ReachedNodes.{IsReached, source_names}
-use Rattle.lb_static.specs.ResolvedNodes.{IsResolved, counts_of, node_of, texts_of}
-use Rattle.lb_static.specs.declared.elab.Elaboration.{Elaboration}
-use Rattle.lb_static.specs.declared.reach.Reached.{Reached}
-use Rattle.lb_static.specs.declared.resolved.ResolvedNode.{ResolvedNode}
-use Rattle.lb_static.specs.declared.table.Specialization.{Specialization}
-use Rattle.lb_static.specs.declared.table.Table.{Table}
-use Rattle.lb_check.specs.FoundTerms.{HasFoundTypes, HasTypes}
-use Rattle.lb_check.specs.JudgedPrograms.{IsJudged}
+use Rattle.lb_check.proofs.Words.{◌≡◌, ◌≤◌, ℕ, Option, Some, None, List, Vec, Global, map, flat_map}
+use Rattle.lb_check.proofs.Words.{ap, sym, ◌∙◌, subst, slice_get, sum_by, same_Some, listed}
+use Rattle.lb_check.proofs.Words.{mapped_from, elaborated_program, IsLawful, IsTable, instance_of}
+use Rattle.lb_check.proofs.Words.{specialized_at, Program, Instance, Path, node_parts, parts}
+use Rattle.lb_check.proofs.Words.{right_side, IsReached, source_names, IsResolved, counts_of}
+use Rattle.lb_check.proofs.Words.{node_of, texts_of, Elaboration, Reached, ResolvedNode}
+use Rattle.lb_check.proofs.Words.{Specialization, Table, HasFoundTypes, HasTypes, IsJudged}
+use Rattle.lb_check.proofs.Words.{expression_size, data_types, NodeTypes}
 use Rattle.lb_check.specs.PlacedTypes.{AreFound, FoundTypes, found_in, found_of, node_types}
 use Rattle.lb_check.specs.PlacedTypes.{nothing_found, size_of, specialization_types, with_terms}
 use Rattle.lb_check.specs.TermTypes.{context_of}
-use Rattle.lb_check.specs.TypeRules.{expression_size}
-use Rattle.lb_check.specs.Types.{data_types}
-use Rattle.lb_check.specs.declared.found_types.NodeTypes.{NodeTypes}
 use Rattle.lb_check.proofs.Checks.{judged}
 use Rattle.lb_check.proofs.FittedCalls.{node_at, specialized_instance}
 use Rattle.lb_check.proofs.KeptTypes.{size_within, types_kept}

@@ -1,41 +1,23 @@
 -- What is given for the variables of a callee has the names of the caller's variables.
-use Rattle.std.proofs.Common.{◌≡◌, ℕ, zero, suc, ◌+◌, ◌<◌, ◌≤◌, Bool, true, false, List, [], ◌∷◌}
-use Rattle.std.proofs.Common.{◌++◌, length, map, Option, Some, None, refl, ap, sym, ◌∙◌, subst}
-use Rattle.std.proofs.Common.{arith}
-use Rattle.std.specs.Prelude.{not, option_map, slice_get, nat_lt}
-use Rattle.std.specs.Str.{bytes_eq}
-use Rattle.std.proofs.lemmas.Bool.Decides.{nat_tests}
-use Rattle.std.proofs.lemmas.List.{length-append, map-append}
-use Rattle.std.proofs.lemmas.Option.{slice_get_within}
-use Rattle.std.proofs.lemmas.Slice.Eq.{bytes_eq-Decides}
-use Rattle.std.proofs.lemmas.Bool.{not-true}
-use Rattle.lb_syntax.specs.Lists.{either_or, listed}
-use Rattle.lb_syntax.specs.Tree as tree
-use Rattle.lb_syntax.specs.Tree.{Name, Declaration}
-use Rattle.lb_syntax.proofs.ListPlaces.{item_at, get_first, get_later}
-use Rattle.lb_syntax.proofs.TruthValues.{and_first, and_second}
-use Rattle.lb_static.specs.Names.{are_distinct}
-use Rattle.lb_static.specs.Parts.{among, variable_names}
-use Rattle.lb_static.specs.ResolvedNodes.{node_of, texts_of}
-use Rattle.lb_static.specs.ResolvedTerms.{Texts, Counts, expr_of, exprs_of, name_at, is_within}
-use Rattle.lb_static.specs.ResolvedTerms.{is_variable}
-use Rattle.lb_static.specs.DataTypes.{variables}
-use Rattle.lb_static.specs.StaticValues.{named}
-use Rattle.lb_static.specs.declared.resolved.ResolvedNode.{ResolvedNode}
-use Rattle.lb_static.specs.declared.resolved.Term.{Term, Variable, Group'}
+use Rattle.lb_check.proofs.Words.{◌≡◌, ℕ, zero, suc, ◌+◌, ◌<◌, ◌≤◌, Bool, true, false, List, []}
+use Rattle.lb_check.proofs.Words.{◌∷◌, ◌++◌, length, map, Option, Some, None, refl, ap, sym, ◌∙◌}
+use Rattle.lb_check.proofs.Words.{subst, arith, not, option_map, slice_get, nat_lt, bytes_eq}
+use Rattle.lb_check.proofs.Words.{nat_tests, length-append, map-append, slice_get_within}
+use Rattle.lb_check.proofs.Words.{bytes_eq-Decides, not-true, either_or, listed, Name, Declaration}
+use Rattle.lb_check.proofs.Words.{item_at, get_first, get_later, and_first, and_second}
+use Rattle.lb_check.proofs.Words.{are_distinct, among, variable_names, node_of, texts_of, Texts}
+use Rattle.lb_check.proofs.Words.{Counts, expr_of, exprs_of, name_at, is_within, is_variable}
+use Rattle.lb_check.proofs.Words.{variables, named, ResolvedNode, Term, Group', VariableId}
+use Rattle.lb_check.proofs.Words.{distinct_last, variable_of, Given, as_variable, given_inputs}
+use Rattle.lb_check.proofs.Words.{given_outputs, HasClocks, name_in, Context, infer_clock}
+use Rattle.lb_check.proofs.Words.{operands_of, given_at, clock_sets, ClockSet, OneClock}
+use Rattle.lb_static.specs.declared.resolved.Term.{Variable}
 use Rattle.lb_static.specs.declared.resolved.Variable.{Variable as Declared}
-use Rattle.lb_static.specs.declared.resolved.VariableId.{VariableId}
-use Rattle.lb_static.proofs.ReachedPlaces.{distinct_last}
-use Rattle.lb_check.specs.CallClocks.{variable_of}
-use Rattle.lb_check.specs.Clocks.{Given, as_variable, given_inputs, given_outputs}
-use Rattle.lb_check.specs.OwnClocks.{HasClocks, name_in}
-use Rattle.lb_check.specs.TermClocks.{Context, infer_clock, operands_of, given_at, clock_sets}
-use Rattle.lb_check.specs.declared.clock_set.ClockSet.{ClockSet}
-use Rattle.lb_check.specs.declared.clock_set.ClockSet.TheVariants.{OneClock}
 use Rattle.lb_check.proofs.CallClocks.{skipped, none_given}
 use Rattle.lb_check.proofs.ClockedNodes.{get_name, among_first, first_names}
 use Rattle.lb_check.proofs.OuterClocks.{place_name}
 use Rattle.lb_check.proofs.DistinctNames.{distinct_first, not_among}
+use Rattle.lb_syntax.specs.Tree as tree
 
 -- ## Operands that are variables
 

@@ -1,28 +1,20 @@
 -- The clocks of the parameters of what a call calls: each variable that such a clock waits for is
 -- a clock parameter, and the call gives it a variable of the caller.
-use Rattle.std.proofs.Common.{◌≡◌, ◌⊎◌, inl, inr, ℕ, suc, Bool, true, false, cond, Option}
-use Rattle.std.proofs.Common.{Some, None, List, [], ◌∷◌, ◌++◌, length, map, refl, ap, ap₂, sym, ◌∙◌}
-use Rattle.std.proofs.Common.{subst, arith}
-use Rattle.std.specs.Prelude.{◌||◌, not, is_some, option_map, filter}
-use Rattle.std.specs.Str.{bytes_eq}
-use Rattle.std.proofs.lemmas.List.{append_assoc, map-append}
-use Rattle.std.proofs.lemmas.Slice.Eq.{bytes_eq-Decides}
-use Rattle.lb_syntax.specs.Lists.{◌>>=◌, In, either_or, holds, listed}
-use Rattle.lb_syntax.specs.Tree.{Name, Exprs, Declaration, Sampling, Node}
-use Rattle.lb_syntax.proofs.ListPlaces.{all_in}
-use Rattle.lb_syntax.proofs.TruthValues.{and_first, and_second, implied}
-use Rattle.lb_static.specs.DataTypes.{variables}
-use Rattle.lb_static.specs.Instances.{Program, Instance, Path, Child, instance_at}
-use Rattle.lb_static.specs.Parts.{among, variable_names}
-use Rattle.lb_static.specs.StaticValues.{named}
-use Rattle.lb_static.proofs.Members.{any_in}
-use Rattle.lb_check.specs.ClockRules.{is_clocked_by, are_declared_clocks}
-use Rattle.lb_check.specs.ClockRules.{is_given_variable, are_given_variables, is_base_clocked_node}
-use Rattle.lb_check.specs.Clocks.{Clock, Base, On, Given, variable_clock, declared_clock}
-use Rattle.lb_check.specs.Clocks.{given_name, outer, given_inputs, given_outputs}
-use Rattle.lb_check.specs.Needs.{WholeClock, Always, Where, is_clock_parameter, call_at, given_to}
-use Rattle.lb_check.specs.Needs.{given_at, serves, serving, whole_clock, site_clock, runs_on}
-use Rattle.lb_check.specs.Occurrences.{Occurrence}
+use Rattle.lb_check.proofs.Words.{◌≡◌, ◌⊎◌, inl, inr, ℕ, suc, Bool, true, false, cond, Option, Some}
+use Rattle.lb_check.proofs.Words.{None, List, [], ◌∷◌, ◌++◌, length, map, refl, ap, ap₂, sym, ◌∙◌}
+use Rattle.lb_check.proofs.Words.{subst, arith, ◌||◌, not, is_some, option_map, filter, bytes_eq}
+use Rattle.lb_check.proofs.Words.{append_assoc, map-append, bytes_eq-Decides, ◌>>=◌, In, either_or}
+use Rattle.lb_check.proofs.Words.{holds, listed, Name, Exprs, Declaration, Node, all_in, and_first}
+use Rattle.lb_check.proofs.Words.{and_second, implied, variables, Program, Instance, Path, Child}
+use Rattle.lb_check.proofs.Words.{instance_at, among, variable_names, named, any_in, is_clocked_by}
+use Rattle.lb_check.proofs.Words.{are_declared_clocks, is_given_variable, are_given_variables}
+use Rattle.lb_check.proofs.Words.{is_base_clocked_node, Clock, On, Given, variable_clock}
+use Rattle.lb_check.proofs.Words.{declared_clock, given_name, outer, given_inputs, given_outputs}
+use Rattle.lb_check.proofs.Words.{WholeClock, Always, Where, is_clock_parameter, call_at, given_to}
+use Rattle.lb_check.proofs.Words.{serves, serving, whole_clock, site_clock, runs_on, Occurrence}
+use Rattle.lb_syntax.specs.Tree.{Sampling}
+use Rattle.lb_check.specs.Clocks.{Base}
+use Rattle.lb_check.specs.Needs.{given_at}
 use Rattle.lb_check.proofs.ApartLists.{in_either, Every-at, Every-from}
 use Rattle.lb_check.proofs.CallClocks.{none_given}
 use Rattle.lb_check.proofs.NamedClocks.{IsOver, found_first, named_over, clock_or_over, own_names}

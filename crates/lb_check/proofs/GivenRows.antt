@@ -1,20 +1,12 @@
 -- Flags of what is waited for, and the pairs that a loop over places finds, from a place on.
-use Rattle.std.proofs.Common.{◌≡◌, ◌≢◌, ℕ, suc, ◌+◌, ◌-◌, ◌<◌, ◌≤◌, List, [], ◌∷◌, ◌++◌, Option}
-use Rattle.std.proofs.Common.{refl, ap, sym, ◌∙◌, arith, Bool, true, false, length, drop, get_or}
-use Rattle.std.proofs.Common.{subst}
-use Rattle.std.specs.Prelude.{◌||◌, nat_eq}
-use Rattle.std.specs.List.{list_any}
+use Rattle.lb_check.proofs.Words.{◌≡◌, ◌≢◌, ℕ, suc, ◌+◌, ◌-◌, ◌<◌, ◌≤◌, List, [], ◌∷◌, ◌++◌, Option}
+use Rattle.lb_check.proofs.Words.{refl, ap, sym, ◌∙◌, arith, Bool, true, false, length, drop}
+use Rattle.lb_check.proofs.Words.{get_or, subst, ◌||◌, nat_eq, list_any, set, nat_tests}
+use Rattle.lb_check.proofs.Words.{append_assoc, append-nil, drop_more, listed, ResolvedNode}
+use Rattle.lb_check.proofs.Words.{Variable, VariableId, given_from, given_variable, waits_at}
+use Rattle.lb_check.proofs.Words.{GivenVariable}
 use Rattle.std.proofs.Math.Bool.{or_assoc, or_comm}
-use Rattle.std.proofs.Math.ListN.{set}
-use Rattle.std.proofs.lemmas.Bool.Decides.{nat_tests}
-use Rattle.std.proofs.lemmas.List.{append_assoc, append-nil, drop_more, get_or-set_other}
-use Rattle.std.proofs.lemmas.List.{get_or-set_same}
-use Rattle.lb_syntax.specs.Lists.{listed}
-use Rattle.lb_static.specs.declared.resolved.ResolvedNode.{ResolvedNode}
-use Rattle.lb_static.specs.declared.resolved.Variable.{Variable}
-use Rattle.lb_static.specs.declared.resolved.VariableId.{VariableId}
-use Rattle.lb_check.specs.PlacedClocks.{given_from, given_variable, waits_at}
-use Rattle.lb_check.specs.declared.found_clocks.GivenVariable.{GivenVariable}
+use Rattle.std.proofs.lemmas.List.{get_or-set_other, get_or-set_same}
 
 -- ## Flags
 

@@ -1,44 +1,26 @@
 -- The variables that the code finds to stand for clock parameters of a callee are those that the
 -- text gives.
-use Rattle.std.proofs.Common.{◌≡◌, ℕ, zero, suc, ◌+◌, ◌<◌, Bool, true, false, List, []}
-use Rattle.std.proofs.Common.{◌∷◌, ◌++◌, length, map, take, Option, Some, None, refl, ap, ap₂, sym}
-use Rattle.std.proofs.Common.{◌∙◌, subst, arith}
-use Rattle.std.specs.Prelude.{◌||◌, ◌==◌, cond, filter, not, is_some, option_map, nat_eq}
-use Rattle.std.specs.Prelude.{nat_lt, slice_get, if◌then◌else◌}
-use Rattle.std.specs.List.{list_all, list_any}
-use Rattle.std.specs.Str.{bytes_eq}
-use Rattle.std.proofs.lemmas.Bool.Decides.{nat_tests}
-use Rattle.std.proofs.lemmas.List.{append_assoc, length-append, map-append, length-take-le}
-use Rattle.std.proofs.lemmas.Option.{slice_get_within}
+use Rattle.lb_check.proofs.Words.{◌≡◌, ℕ, zero, suc, ◌+◌, ◌<◌, Bool, true, false, List, [], ◌∷◌}
+use Rattle.lb_check.proofs.Words.{◌++◌, length, map, take, Option, Some, None, refl, ap, ap₂, sym}
+use Rattle.lb_check.proofs.Words.{◌∙◌, subst, arith, ◌||◌, ◌==◌, filter, not, is_some, option_map}
+use Rattle.lb_check.proofs.Words.{nat_eq, nat_lt, slice_get, if◌then◌else◌, list_all, list_any}
+use Rattle.lb_check.proofs.Words.{bytes_eq, nat_tests, append_assoc, length-append, map-append}
+use Rattle.lb_check.proofs.Words.{length-take-le, slice_get_within, add-sub_cancel_left, lt-ltb}
+use Rattle.lb_check.proofs.Words.{either_or, holds, listed, zip2, Name, Declaration, item_at}
+use Rattle.lb_check.proofs.Words.{and_first, and_second, variable_names, node_of, statics_of}
+use Rattle.lb_check.proofs.Words.{texts_of, declaration_of, expr_of, exprs_of, name_at}
+use Rattle.lb_check.proofs.Words.{ResolvedNode, Sampling, Term, VariableId, variable_of, Given}
+use Rattle.lb_check.proofs.Words.{as_variable, given_inputs, given_outputs, waits_below, pair_names}
+use Rattle.lb_check.proofs.Words.{is_clock_parameter, given_parameters, HasClocks, name_in}
+use Rattle.lb_check.proofs.Words.{given_from, given_variable, given_variables, is_awaited, pair_at}
+use Rattle.lb_check.proofs.Words.{waits_at, Context, are_given, given_at, is_given, operands_of}
+use Rattle.lb_check.proofs.Words.{stands_for, GivenVariable}
+use Rattle.std.specs.Prelude.{cond}
 use Rattle.std.proofs.lemmas.List.Elements.{filter-append}
-use Rattle.std.proofs.Math.Nat.{add-sub_cancel_left}
-use Rattle.std.proofs.lemmas.Bool.{lt-ltb}
-use Rattle.lb_syntax.specs.Lists.{either_or, holds, listed, zip2}
-use Rattle.lb_syntax.specs.Tree.{Name, Declaration}
-use Rattle.lb_syntax.proofs.ListPlaces.{item_at}
-use Rattle.lb_syntax.proofs.TruthValues.{and_first, and_second}
-use Rattle.lb_static.specs.Parts.{variable_names}
-use Rattle.lb_static.specs.ResolvedNodes.{node_of, statics_of, texts_of}
-use Rattle.lb_static.specs.ResolvedTerms.{declaration_of, expr_of, exprs_of, name_at}
-use Rattle.lb_static.specs.declared.resolved.ResolvedNode.{ResolvedNode}
-use Rattle.lb_static.specs.declared.resolved.Sampling.{Sampling}
-use Rattle.lb_static.specs.declared.resolved.Term.{Term}
 use Rattle.lb_static.specs.declared.resolved.Variable.{Variable as Declared}
-use Rattle.lb_static.specs.declared.resolved.VariableId.{VariableId}
-use Rattle.lb_check.specs.CallClocks.{variable_of}
-use Rattle.lb_check.specs.Clocks.{Given, as_variable, given_inputs, given_outputs}
-use Rattle.lb_check.specs.ClockDepths.{waits_below}
-use Rattle.lb_check.specs.FoundTerms.{pair_names}
-use Rattle.lb_check.specs.Needs.{is_clock_parameter, given_parameters}
-use Rattle.lb_check.specs.OwnClocks.{HasClocks, name_in}
-use Rattle.lb_check.specs.PlacedClocks.{given_from, given_variable, given_variables, is_awaited}
-use Rattle.lb_check.specs.PlacedClocks.{pair_at, waits_at}
-use Rattle.lb_check.specs.TermClocks.{Context, are_given, given_at, is_given, operands_of}
-use Rattle.lb_check.specs.TermClocks.{stands_for}
-use Rattle.lb_check.specs.declared.found_clocks.GivenVariable.{GivenVariable}
 use Rattle.lb_check.proofs.ClockLists.{later_place}
-use Rattle.lb_check.proofs.ClockedNodes.{as_many_names, same_taken, within_names}
-use Rattle.lb_check.proofs.ClockedNodes.{all_taken, zip_split}
+use Rattle.lb_check.proofs.ClockedNodes.{as_many_names, same_taken, within_names, all_taken}
+use Rattle.lb_check.proofs.ClockedNodes.{zip_split}
 use Rattle.lb_check.proofs.DistinctNames.{distinct_at}
 use Rattle.lb_check.proofs.GivenNames.{all_variables, input_at, output_at, variable_as}
 use Rattle.lb_check.proofs.GivenNames.{variable_held}

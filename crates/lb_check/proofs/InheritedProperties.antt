@@ -1,15 +1,11 @@
 -- What holds of the starts of a program, and passes from an instance to those of each call in its
 -- text, holds of all its instances.
-use Rattle.std.proofs.Common.{◌≡◌, ℕ, zero, suc, ◌+◌, ◌<◌, true, Option, Some, None, refl, sym}
-use Rattle.std.proofs.Common.{subst, arith}
-use Rattle.std.specs.Prelude.{IfSome}
-use Rattle.std.specs.List.{range_with_len}
-use Rattle.lb_syntax.specs.Lists.{Every, In, either_or, listed}
-use Rattle.lb_static.specs.Instances.{Program, Instance, Root, Observer, Site, node_sites}
-use Rattle.lb_static.specs.Instances.{numbered_sites, instance_count, callee_of, instance_at}
-use Rattle.lb_static.specs.Instances.{site_instances, children, instances_from, instances}
-use Rattle.lb_check.specs.Occurrences.{Occurrence, node_occurrences}
-use Rattle.lb_check.specs.TypeRules.{is_typed}
+use Rattle.lb_check.proofs.Words.{◌≡◌, ℕ, zero, suc, ◌+◌, ◌<◌, true, Option, Some, None, refl, sym}
+use Rattle.lb_check.proofs.Words.{subst, arith, IfSome, range_with_len, Every, In, either_or}
+use Rattle.lb_check.proofs.Words.{listed, Program, Instance, Root, Observer, Site, node_sites}
+use Rattle.lb_check.proofs.Words.{numbered_sites, instance_count, callee_of, instance_at}
+use Rattle.lb_check.proofs.Words.{site_instances, children, instances_from, instances, Occurrence}
+use Rattle.lb_check.proofs.Words.{node_occurrences, is_typed}
 use Rattle.lb_check.proofs.ApartLists.{Every-from}
 use Rattle.lb_check.proofs.Every.{Every-map, Every-both, Every-append, Every-first, Every-second}
 use Rattle.lb_check.proofs.Every.{Every-piece, Every-of_pieces, Every-found, Every-of_range}

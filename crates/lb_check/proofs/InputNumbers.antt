@@ -1,22 +1,16 @@
 -- The first elements of an accepted program are its scalar inputs, in the order of the signature.
-use Rattle.std.proofs.Common.{◌≡◌, ℕ, zero, suc, ◌+◌, Option, Some, None, option_map, inl, reverse}
-use Rattle.std.proofs.Common.{List, [], ◌∷◌, ◌++◌, map, length, flat_map, replicate, take, refl}
-use Rattle.std.proofs.Common.{sym, ap, ap₂, ◌∙◌, subst}
-use Rattle.std.specs.List.{range_with_len}
-use Rattle.std.proofs.lemmas.Grind.{flat_map-append}
-use Rattle.std.proofs.lemmas.List.{length-replicate, append_assoc, map-append}
-use Rattle.std.proofs.Math.Seq.{take-append_seam}
-use Rattle.lb_syntax.specs.declared.tree.Kind.{Kind}
-use Rattle.lb_syntax.specs.Lists.{In, either_or, listed, all_some}
-use Rattle.lb_syntax.specs.Tree.{Name, Declaration}
-use Rattle.lb_static.specs.DataTypes.{DataType, variables, width, element_count, element_names}
-use Rattle.lb_static.specs.DataTypes.{scalar_elements, input_kinds}
-use Rattle.lb_static.specs.Instances.{Program, Instance, Root, Observer, children, instance_at}
-use Rattle.lb_static.specs.Instances.{instances, instances_from, static_count}
-use Rattle.lb_static.specs.Instantiation.{static_refusal}
+use Rattle.lb_check.proofs.Words.{◌≡◌, ℕ, zero, suc, ◌+◌, Option, Some, None, inl, List, [], ◌∷◌}
+use Rattle.lb_check.proofs.Words.{◌++◌, map, length, flat_map, replicate, take, refl, sym, ap, ap₂}
+use Rattle.lb_check.proofs.Words.{◌∙◌, subst, range_with_len, flat_map-append, length-replicate}
+use Rattle.lb_check.proofs.Words.{append_assoc, map-append, take-append_seam, Kind, In, either_or}
+use Rattle.lb_check.proofs.Words.{listed, all_some, Name, Declaration, DataType, variables, width}
+use Rattle.lb_check.proofs.Words.{element_count, Program, Instance, Root, Observer, children}
+use Rattle.lb_check.proofs.Words.{instance_at, instances, instances_from, static_count}
+use Rattle.lb_check.proofs.Words.{static_refusal, program_elements, element_kinds, numbers_of}
+use Rattle.std.proofs.Common.{option_map, reverse}
+use Rattle.lb_static.specs.DataTypes.{element_names, scalar_elements, input_kinds}
 use Rattle.lb_static.specs.Signature.{kinds_of}
 use Rattle.lb_static.proofs.ElementNames.{length-element_names}
-use Rattle.lb_check.specs.Elements.{program_elements, element_kinds, numbers_of}
 use Rattle.lb_check.proofs.AcceptedNumbers.{numbers_walk, numbers_width}
 use Rattle.lb_check.proofs.ElementKinds.{kinds_in}
 use Rattle.lb_check.proofs.ElementValues.{pieces_count}

@@ -1,28 +1,19 @@
 -- The node of each instance is reached by name, so in an accepted program no instance has two
 -- variables of one name.
+use Rattle.lb_check.proofs.Words.{◌||◌, not, find, slice_get, bytes_eq, list_all, list_any}
+use Rattle.lb_check.proofs.Words.{range_with_len, bytes_eq-Decides, or_right, same_Some, Every, In}
+use Rattle.lb_check.proofs.Words.{listed, all_some, Name, Node, all_in, and_first, and_second}
+use Rattle.lb_check.proofs.Words.{Program, Instance, Path, Root, Observer, Site, node_sites}
+use Rattle.lb_check.proofs.Words.{numbered_sites, node_named, static_value, instance_count}
+use Rattle.lb_check.proofs.Words.{callee_of, start_at, instance_at, site_instances, children}
+use Rattle.lb_check.proofs.Words.{instances_from, instances, static_refusal, are_distinct}
+use Rattle.lb_check.proofs.Words.{declares_once, is_named, keeps_names, reached_nodes, among}
+use Rattle.lb_check.proofs.Words.{variable_names, in_at, in_filter, any_in, in_any, found_passes}
 use Rattle.std.proofs.Common.{◌≡◌, inl, inr, ℕ, zero, suc, Bool, true, false, cond, Option, Some}
 use Rattle.std.proofs.Common.{None, option_map, List, [], ◌∷◌, map, refl, ap, sym, ◌∙◌}
-use Rattle.std.specs.Prelude.{◌||◌, not, find, slice_get}
-use Rattle.std.specs.Str.{bytes_eq}
-use Rattle.std.specs.List.{list_all, list_any, range_with_len}
-use Rattle.std.proofs.lemmas.Slice.Eq.{bytes_eq-Decides}
-use Rattle.std.proofs.lemmas.Bool.{or_left, or_right}
-use Rattle.std.proofs.lemmas.Option.{same_Some}
-use Rattle.lb_syntax.specs.Lists.{Every, In, listed, all_some}
-use Rattle.lb_syntax.specs.Tree.{Name, Node}
-use Rattle.lb_syntax.proofs.ListPlaces.{all_in}
-use Rattle.lb_syntax.proofs.TruthValues.{and_first, and_second}
-use Rattle.lb_static.specs.Instances.{Program, Instance, Path, Root, Observer, Site, node_sites}
-use Rattle.lb_static.specs.Instances.{numbered_sites, node_named, static_value, instance_count}
-use Rattle.lb_static.specs.Instances.{callee_of, start_at, instance_at, site_instances, children}
-use Rattle.lb_static.specs.Instances.{instances_from, instances}
-use Rattle.lb_static.specs.Instantiation.{static_refusal}
-use Rattle.lb_static.specs.Names.{are_distinct, calls, declares_once, is_named, keeps_names}
-use Rattle.lb_static.specs.Names.{reached_nodes, reached_within, start_names}
-use Rattle.lb_static.specs.Parts.{among, variable_names}
-use Rattle.lb_static.proofs.Members.{in_at, in_filter, any_in, in_any}
+use Rattle.std.proofs.lemmas.Bool.{or_left}
+use Rattle.lb_static.specs.Names.{calls, reached_within, start_names}
 use Rattle.lb_static.proofs.Saturation.{enough_calls}
-use Rattle.lb_static.proofs.TestedItems.{found_passes}
 use Rattle.lb_check.proofs.Checks.{names_kept}
 use Rattle.lb_check.proofs.DistinctNames.{distinct_first}
 use Rattle.lb_check.proofs.Every.{Every-map, Every-all, Every-append, Every-of_pieces, Every-found}

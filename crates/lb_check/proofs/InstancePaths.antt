@@ -1,23 +1,16 @@
 -- Instances by their paths: each stands where its path says, each that stands at a path is among
 -- the instances, and no path has two.
-use Rattle.std.proofs.Common.{◌≡◌, ◌⊎◌, inl, inr, ℕ, zero, suc, ◌+◌, ◌<◌, ◌≤◌, Bool, true, false}
-use Rattle.std.proofs.Common.{Option, Some, None, List, [], ◌∷◌}
-use Rattle.std.proofs.Common.{refl, ap, ap₂, sym, subst, ◌∙◌, arith}
-use Rattle.std.specs.Prelude.{nat_eq, nat_lt, slice_get, IfSome, if◌then◌else◌}
-use Rattle.std.specs.List.{range_with_len}
-use Rattle.std.proofs.lemmas.Bool.Decides.{nat_tests}
-use Rattle.std.proofs.lemmas.Bool.{eqb-true, ltb-true, and_from}
-use Rattle.std.proofs.lemmas.Option.{same_Some}
-use Rattle.lb_syntax.specs.Lists.{Every, In, listed}
-use Rattle.lb_syntax.proofs.SameNames.{same_number}
-use Rattle.lb_syntax.proofs.TruthValues.{and_first, and_second}
-use Rattle.lb_static.specs.Instances.{Program, Instance, Path, Root, Observer, Child, is_path, Site}
-use Rattle.lb_static.specs.Instances.{node_sites, numbered_sites, instance_count}
-use Rattle.lb_static.specs.Instances.{callee_of, start_at, instance_at, site_instances, children}
-use Rattle.lb_static.specs.Instances.{instances_from, instances}
-use Rattle.lb_static.specs.Instantiation.{level, instantiation_refusal}
-use Rattle.lb_check.proofs.Every.{Every-map, Every-both, Every-append, Every-of_pieces}
-use Rattle.lb_check.proofs.Every.{Every-found, Every-of_range}
+use Rattle.lb_check.proofs.Words.{◌≡◌, ◌⊎◌, inl, inr, ℕ, zero, suc, ◌+◌, ◌<◌, ◌≤◌, Bool, true}
+use Rattle.lb_check.proofs.Words.{false, Option, Some, None, List, [], ◌∷◌, refl, ap, ap₂, sym}
+use Rattle.lb_check.proofs.Words.{subst, ◌∙◌, arith, nat_eq, nat_lt, slice_get, IfSome}
+use Rattle.lb_check.proofs.Words.{if◌then◌else◌, range_with_len, nat_tests, eqb-true, ltb-true}
+use Rattle.lb_check.proofs.Words.{and_from, same_Some, Every, In, listed, same_number, and_first}
+use Rattle.lb_check.proofs.Words.{and_second, Program, Instance, Path, Root, Observer, Child}
+use Rattle.lb_check.proofs.Words.{is_path, Site, node_sites, numbered_sites, instance_count}
+use Rattle.lb_check.proofs.Words.{callee_of, start_at, instance_at, site_instances, children}
+use Rattle.lb_check.proofs.Words.{instances_from, instances, level, instantiation_refusal}
+use Rattle.lb_check.proofs.Every.{Every-map, Every-both, Every-append, Every-of_pieces, Every-found}
+use Rattle.lb_check.proofs.Every.{Every-of_range}
 use Rattle.lb_check.proofs.NamedClocks.{if_some}
 use Rattle.lb_check.proofs.OperandTypes.{bound}
 use Rattle.lb_check.proofs.SameInstances.{callee_path, all_entered, all_children, started}

@@ -1,27 +1,17 @@
 -- What is kept of the types of terms gives the type of each.
-use Rattle.std.proofs.Common.{◌≡◌, ℕ, zero, suc, ◌+◌, ◌-◌, ◌<◌, ◌≤◌, min, Some, None, List, [], ◌∷◌}
-use Rattle.std.proofs.Common.{◌++◌, map, flat_map, take, drop, length, get_or, reverse, refl, ap}
-use Rattle.std.proofs.Common.{ap₂, sym, ◌∙◌, subst, arith}
-use Rattle.std.specs.Prelude.{slice_get, sum_by}
-use Rattle.std.proofs.lemmas.List.{append_assoc, append-nil, length-append, reverse-append}
+use Rattle.lb_check.proofs.Words.{◌≡◌, ℕ, zero, suc, ◌+◌, ◌-◌, ◌<◌, ◌≤◌, min, Some, None, List, []}
+use Rattle.lb_check.proofs.Words.{◌∷◌, ◌++◌, map, flat_map, take, drop, length, get_or, refl, ap}
+use Rattle.lb_check.proofs.Words.{ap₂, sym, ◌∙◌, subst, arith, slice_get, sum_by, append_assoc}
+use Rattle.lb_check.proofs.Words.{append-nil, length-append, reverse-append, ◌>>=◌, either_or}
+use Rattle.lb_check.proofs.Words.{listed, tail_of, Expr, Kind, DataType, int, product, total}
+use Rattle.lb_check.proofs.Words.{Program, Instance, node_parts, HasTypes, FoundNode, FoundTypes}
+use Rattle.lb_check.proofs.Words.{found_in, nothing_found, part_size, parts_of, size_of, type_among}
+use Rattle.lb_check.proofs.Words.{with_term, expression_size, data_types, only, NodeTypes, TermType}
+use Rattle.std.proofs.Common.{reverse}
 use Rattle.std.proofs.lemmas.List.Sums.{sum_by-cons, sum_by-take-le, sum_by_more}
-use Rattle.lb_syntax.specs.Lists.{◌>>=◌, either_or, listed, tail_of}
-use Rattle.lb_syntax.specs.Tree.{Expr}
-use Rattle.lb_syntax.specs.declared.tree.Kind.{Kind}
-use Rattle.lb_static.specs.DataTypes.{DataType, int, product}
-use Rattle.lb_static.specs.Instances.{Program, Instance}
-use Rattle.lb_static.specs.Parts.{node_parts}
 use Rattle.lb_static.proofs.TypeViews.{product_reverse}
-use Rattle.lb_check.specs.FoundTerms.{HasTypes}
-use Rattle.lb_check.specs.PlacedTypes.{FoundNode, FoundTypes, found_in, sizes_of}
-use Rattle.lb_check.specs.PlacedTypes.{nothing_found, part_size, parts_of, size_of, type_among}
-use Rattle.lb_check.specs.PlacedTypes.{with_term, with_terms}
+use Rattle.lb_check.specs.PlacedTypes.{sizes_of, with_terms}
 use Rattle.lb_check.specs.Streams.{data_type}
-use Rattle.lb_check.specs.TypeRules.{expression_size}
-use Rattle.lb_static.specs.DataTypes.{total}
-use Rattle.lb_check.specs.Types.{data_types, only}
-use Rattle.lb_check.specs.declared.found_types.NodeTypes.{NodeTypes}
-use Rattle.lb_check.specs.declared.found_types.TermType.{TermType}
 
 take_seam : {A : Type 0} (xs ys : List A) → take (length xs) (xs ++ ys) ≡ xs
 take_seam [] ys = refl

@@ -1,19 +1,9 @@
 -- What a checked program lends of the types of terms, as the layer above reads it: number by
 -- number.
-use Rattle.std.proofs.Common.{◌≡◌, ℕ, false, Option, None, Some, Vec, Global}
-use Rattle.std.proofs.Common.{sym, ◌∙◌, subst}
-use Rattle.std.specs.Prelude.{slice_get}
-use Rattle.std.proofs.lemmas.Option.{same_Some}
-use Rattle.lb_syntax.specs.Lists.{◌>>=◌}
-use Rattle.lb_static.specs.Instances.{Program, Instance, Path}
-use Rattle.lb_static.specs.InstanceTable.{IsTable, specialized_at}
-use Rattle.lb_static.specs.ReachedNodes.{IsReached}
-use Rattle.lb_static.specs.declared.reach.Reached.{Reached}
-use Rattle.lb_static.specs.declared.table.Specialization.{Specialization}
-use Rattle.lb_static.specs.declared.table.Table.{Table}
-use Rattle.lb_check.specs.FoundTerms.{HasFoundTypes, HasTypes}
-use Rattle.lb_check.specs.TypeRules.{is_small}
-use Rattle.lb_check.specs.declared.found_types.NodeTypes.{NodeTypes}
+use Rattle.lb_check.proofs.Words.{◌≡◌, ℕ, false, Option, None, Some, Vec, Global, sym, ◌∙◌, subst}
+use Rattle.lb_check.proofs.Words.{slice_get, same_Some, ◌>>=◌, Program, Instance, Path, IsTable}
+use Rattle.lb_check.proofs.Words.{specialized_at, IsReached, Reached, Specialization, Table}
+use Rattle.lb_check.proofs.Words.{HasFoundTypes, HasTypes, is_small, NodeTypes}
 use Rattle.lb_check.proofs.FittedCalls.{node_at}
 use Rattle.lb_check.proofs.FoundTypes.{types_lent}
 

@@ -1,9 +1,7 @@
 -- What two lists hold, place by place.
-use Rattle.std.proofs.Common.{◌≡◌, ℕ, zero, suc, ◌+◌, ◌<◌, Bool, true, List, [], ◌∷◌, take, drop}
-use Rattle.std.proofs.Common.{map, Some, refl, ap, sym, ◌∙◌, arith}
-use Rattle.std.specs.Prelude.{◌&&◌, slice_get}
-use Rattle.std.proofs.lemmas.Bool.{and_from}
-use Rattle.lb_syntax.proofs.TruthValues.{and_first, and_second}
+use Rattle.lb_check.proofs.Words.{◌≡◌, ℕ, zero, suc, ◌+◌, ◌<◌, Bool, true, List, [], ◌∷◌, take}
+use Rattle.lb_check.proofs.Words.{drop, map, Some, refl, ap, sym, ◌∙◌, arith, ◌&&◌, slice_get}
+use Rattle.lb_check.proofs.Words.{and_from, and_first, and_second}
 
 -- ## Lists
 

@@ -1,32 +1,21 @@
 -- In a solution of an accepted program each instance has the instants of the trace, and so have the
 -- clocks and the streams of its variables.
-use Rattle.std.proofs.Common.{◌≡◌, ℕ, zero, suc, ◌+◌, ◌<◌, Bool, true, false, Option, Some, None}
-use Rattle.std.proofs.Common.{List, [], ◌∷◌, length, replicate, refl, ap, sym, ◌∙◌, subst, arith}
-use Rattle.std.proofs.lemmas.List.{length-replicate}
-use Rattle.std.proofs.lemmas.Slice.Eq.{bytes_eq-Decides}
-use Rattle.std.proofs.lemmas.Option.{same_Some}
-use Rattle.lb_syntax.specs.declared.tree.Kind.{Kind}
-use Rattle.lb_syntax.specs.declared.tree.ArrayIterator.{ArrayIterator}
-use Rattle.lb_syntax.specs.Lists.{◌>>=◌, Every, zip2, either_or}
-use Rattle.lb_syntax.specs.Tree.{Name, Node_named, Symbol, Expr, Call, Iterate, Exprs, Declaration}
-use Rattle.lb_syntax.specs.Tree.{Sampling, Node}
-use Rattle.lb_syntax.proofs.TruthValues.{and_second}
-use Rattle.lb_static.specs.DataTypes.{variables}
-use Rattle.lb_static.specs.Instances.{Program, Instance, Path, Root, Observer, Child, Site}
-use Rattle.lb_static.specs.Instances.{call_site, node_sites, node_named, instance_count, callee_of}
-use Rattle.lb_static.specs.Instances.{instance_at, instances}
-use Rattle.lb_static.specs.Instantiation.{static_refusal}
-use Rattle.lb_static.specs.StaticValues.{named}
-use Rattle.lb_check.specs.Acceptance.{check_refusal}
-use Rattle.lb_check.specs.ClockRules.{are_declared_clocks, is_clocked}
-use Rattle.lb_check.specs.Clocks.{Clock, Base, On, sampled, clock_within, variable_clock, clock_or}
-use Rattle.lb_check.specs.Clocks.{declared_clock, base_clock}
-use Rattle.lb_check.specs.Occurrences.{Occurrence, node_occurrences}
-use Rattle.lb_check.specs.Scalars.{Stream, is_of_kind}
-use Rattle.lb_check.specs.Solutions.{Inputs, IsCallJoined, IsIteratorJoined, IsJoinedAt, IsJoined}
-use Rattle.lb_check.specs.Solutions.{fits, variable_presence, Fits, SolvesAt, Solves}
-use Rattle.lb_check.specs.Streams.{History, signed, presence, number}
-use Rattle.lb_check.specs.TypeRules.{is_typed}
+use Rattle.lb_check.proofs.Words.{◌≡◌, ℕ, zero, suc, ◌+◌, ◌<◌, Bool, true, false, Option, Some}
+use Rattle.lb_check.proofs.Words.{None, List, [], ◌∷◌, length, replicate, refl, ap, sym, ◌∙◌, subst}
+use Rattle.lb_check.proofs.Words.{arith, length-replicate, bytes_eq-Decides, same_Some, Kind}
+use Rattle.lb_check.proofs.Words.{ArrayIterator, ◌>>=◌, Every, zip2, either_or, Name, Node_named}
+use Rattle.lb_check.proofs.Words.{Symbol, Expr, Call, Iterate, Exprs, Declaration, Node, and_second}
+use Rattle.lb_check.proofs.Words.{variables, Program, Instance, Path, Root, Observer, Child, Site}
+use Rattle.lb_check.proofs.Words.{call_site, node_sites, node_named, instance_count, callee_of}
+use Rattle.lb_check.proofs.Words.{instance_at, instances, static_refusal, named, check_refusal}
+use Rattle.lb_check.proofs.Words.{are_declared_clocks, is_clocked, Clock, On, sampled, clock_within}
+use Rattle.lb_check.proofs.Words.{variable_clock, clock_or, declared_clock, base_clock, Occurrence}
+use Rattle.lb_check.proofs.Words.{node_occurrences, Stream, Inputs, IsCallJoined, IsIteratorJoined}
+use Rattle.lb_check.proofs.Words.{IsJoinedAt, IsJoined, fits, variable_presence, Fits, SolvesAt}
+use Rattle.lb_check.proofs.Words.{Solves, History, signed, presence, number, is_typed}
+use Rattle.lb_syntax.specs.Tree.{Sampling}
+use Rattle.lb_check.specs.Clocks.{Base}
+use Rattle.lb_check.specs.Scalars.{is_of_kind}
 use Rattle.lb_check.proofs.ApartLists.{Every-at}
 use Rattle.lb_check.proofs.AcceptedRules.{all_typed, all_clocked, all_declared}
 use Rattle.lb_check.proofs.CalledProperties.{calls_have}

@@ -1,26 +1,19 @@
 -- The types that the code finds for a term are those of the expression that it stands for.
-use Rattle.std.proofs.Common.{◌≡◌, ℕ, Bool, true, false, List, [], ◌∷◌, Option, Some, None, refl}
-use Rattle.std.proofs.Common.{ap, sym, ◌∙◌}
-use Rattle.std.specs.Prelude.{◌&&◌}
-use Rattle.lb_syntax.specs.Lists.{◌>>=◌, where_true, either_or}
-use Rattle.lb_syntax.specs.Tree.{Whole, Node_named}
-use Rattle.lb_syntax.proofs.TruthValues.{and_first, and_second}
-use Rattle.lb_static.specs.declared.resolved.Term.{Term, Literal, Truth, Variable, Value, Group'}
-use Rattle.lb_static.specs.declared.resolved.Term.{Unary', Binary', If', Arrow', Fby', Pre'}
-use Rattle.lb_static.specs.declared.resolved.Term.{Current', When', Replicate', Index', Slice'}
-use Rattle.lb_static.specs.declared.resolved.Term.{Join', Array', AtMostOne', Nor', Call'}
-use Rattle.lb_static.specs.declared.resolved.Term.{IterateNode', IterateSymbol', Row_of-Term}
-use Rattle.lb_static.specs.declared.resolved.Term.{end_of-Term, more_of-Term}
-use Rattle.lb_static.specs.Instances.{Program, Instance, static_count}
-use Rattle.lb_static.specs.ResolvedTerms.{Texts, Counts, expr_of, row_of, named_value, name_at}
-use Rattle.lb_static.specs.ResolvedTerms.{static_at, site_at, is_variable, is_static, is_call}
-use Rattle.lb_static.specs.ResolvedTerms.{is_no_variable, is_within, are_within, is_unhidden}
-use Rattle.lb_static.specs.ResolvedTerms.{are_unhidden}
-use Rattle.lb_static.specs.DataTypes.{DataType, truth, is_type}
-use Rattle.lb_check.specs.Types.{data_types, all_types, name_data_type, operator_types, unary_type}
-use Rattle.lb_check.specs.Types.{binary_type, common_type, array_of, index_type, slice_type}
-use Rattle.lb_check.specs.Types.{join_type, list_type, symbol_types, iterator_types, from_one}
-use Rattle.lb_check.specs.Types.{from_two, from_truths, singly, only}
+use Rattle.lb_check.proofs.Words.{◌≡◌, ℕ, Bool, true, false, List, [], ◌∷◌, Option, Some, None}
+use Rattle.lb_check.proofs.Words.{refl, ap, sym, ◌∙◌, ◌&&◌, ◌>>=◌, where_true, either_or, Whole}
+use Rattle.lb_check.proofs.Words.{Node_named, and_first, and_second, Term, Literal, Truth, Value}
+use Rattle.lb_check.proofs.Words.{Group', Unary', Binary', If', Arrow', Fby', Pre', Current', When'}
+use Rattle.lb_check.proofs.Words.{Replicate', Index', Slice', Join', Array', AtMostOne', Nor'}
+use Rattle.lb_check.proofs.Words.{Call', IterateNode', IterateSymbol', Row_of-Term, end_of-Term}
+use Rattle.lb_check.proofs.Words.{more_of-Term, Program, Instance, static_count, Texts, Counts}
+use Rattle.lb_check.proofs.Words.{expr_of, row_of, named_value, name_at, static_at, site_at}
+use Rattle.lb_check.proofs.Words.{is_variable, is_static, is_call, is_no_variable, is_within}
+use Rattle.lb_check.proofs.Words.{are_within, is_unhidden, are_unhidden, DataType, truth, is_type}
+use Rattle.lb_check.proofs.Words.{data_types, all_types, name_data_type, operator_types, unary_type}
+use Rattle.lb_check.proofs.Words.{binary_type, common_type, array_of, index_type, slice_type}
+use Rattle.lb_check.proofs.Words.{join_type, list_type, symbol_types, iterator_types, from_one}
+use Rattle.lb_check.proofs.Words.{from_two, from_truths, singly, only}
+use Rattle.lb_static.specs.declared.resolved.Term.{Variable}
 use Rattle.lb_check.specs.TermTypes.{Context, type_of, types_in, results, when_both, when_truth}
 use Rattle.lb_check.proofs.OneType.{type_is_only}
 

@@ -1,25 +1,18 @@
 -- The clocks in the text of a node that keeps the rules of clocks wait for its variables alone.
-use Rattle.std.proofs.Common.{◌≡◌, ℕ, zero, suc, Bool, true, false, cond, List, [], ◌∷◌, ◌++◌}
-use Rattle.std.proofs.Common.{length, map, Option, Some, None, refl, ap, sym, ◌∙◌, subst}
-use Rattle.std.specs.Prelude.{◌&&◌, ◌||◌, not, IfSome, option_map}
-use Rattle.std.specs.List.{list_all}
-use Rattle.std.specs.Str.{bytes_eq}
-use Rattle.std.proofs.lemmas.Slice.Eq.{bytes_eq-Decides}
-use Rattle.std.proofs.lemmas.Bool.{or_right}
-use Rattle.lb_syntax.specs.Lists.{◌>>=◌, Every, either_or, holds, listed, or_else}
+use Rattle.lb_check.proofs.Words.{◌≡◌, ℕ, zero, suc, Bool, true, false, cond, List, [], ◌∷◌, ◌++◌}
+use Rattle.lb_check.proofs.Words.{length, map, Option, Some, None, refl, ap, sym, ◌∙◌, subst, ◌&&◌}
+use Rattle.lb_check.proofs.Words.{◌||◌, not, IfSome, option_map, list_all, bytes_eq}
+use Rattle.lb_check.proofs.Words.{bytes_eq-Decides, or_right, ◌>>=◌, Every, either_or, holds}
+use Rattle.lb_check.proofs.Words.{listed, or_else, bind_some, and_first, and_second, implied, among}
+use Rattle.lb_check.proofs.Words.{variable_names, variables, named, Clock, On, Given, sampled}
+use Rattle.lb_check.proofs.Words.{clock_within, variable_clock, clock_or, declared_clock, parent}
+use Rattle.lb_check.proofs.Words.{above, own_depth, given_name, outer, given_inputs, base_from}
+use Rattle.lb_check.proofs.Words.{base_clock, first_result_clock, argument_clocks, is_clocked_by}
+use Rattle.lb_check.proofs.Words.{are_declared_clocks, is_given_variable, are_given_variables}
 use Rattle.lb_syntax.specs.Tree.{Name, Exprs, Declaration, Sampling, Node}
-use Rattle.lb_syntax.proofs.Readers.{bind_some}
 use Rattle.lb_syntax.proofs.SameNames.{name_same}
-use Rattle.lb_syntax.proofs.TruthValues.{and_first, and_second, implied}
-use Rattle.lb_static.specs.Parts.{among, variable_names}
-use Rattle.lb_static.specs.DataTypes.{variables}
-use Rattle.lb_static.specs.StaticValues.{named}
-use Rattle.lb_check.specs.Clocks.{Clock, Base, On, Given, sampled, clock_within, variable_clock}
-use Rattle.lb_check.specs.Clocks.{clock_or, declared_clock, parent, above, own_depth, given_name}
-use Rattle.lb_check.specs.Clocks.{outer, given_inputs, base_from, base_clock, first_result_clock}
-use Rattle.lb_check.specs.Clocks.{argument_clocks}
-use Rattle.lb_check.specs.ClockRules.{if_clocked, is_clocked_by, are_declared_clocks}
-use Rattle.lb_check.specs.ClockRules.{is_given_variable, are_given_variables}
+use Rattle.lb_check.specs.Clocks.{Base}
+use Rattle.lb_check.specs.ClockRules.{if_clocked}
 use Rattle.lb_check.proofs.Every.{Every-tested, Every-both, Every-first, Every-second}
 
 -- ## Options

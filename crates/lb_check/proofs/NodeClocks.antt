@@ -1,28 +1,16 @@
 -- A node that is reached keeps the rules of clocks where its declared clocks and its statements do.
-use Rattle.std.proofs.Common.{◌≡◌, ℕ, Bool, true, Some, None, ap, sym, ◌∙◌, subst}
-use Rattle.std.specs.Prelude.{◌&&◌, option_map, slice_get}
-use Rattle.std.proofs.Math.Bool.{and-false}
-use Rattle.std.proofs.lemmas.Option.{slice_get-map, slice_get_within, get_or_from_slice_get}
-use Rattle.lb_syntax.specs.Lists.{holds}
-use Rattle.lb_static.specs.Instances.{Program}
-use Rattle.lb_static.specs.Names.{are_distinct, keeps_names}
-use Rattle.lb_static.specs.Parts.{variable_names}
-use Rattle.lb_static.specs.ReachedNodes.{IsReached, source_names, trees}
-use Rattle.lb_static.specs.ResolvedNodes.{IsResolved, node_of}
-use Rattle.lb_static.specs.declared.reach.NodeId.{NodeId}
-use Rattle.lb_static.specs.declared.reach.Reached.{Reached}
-use Rattle.lb_static.specs.declared.resolved.ResolvedNode.{ResolvedNode}
-use Rattle.lb_static.specs.declared.resolved.ResolvedStatement.{ResolvedStatement}
-use Rattle.lb_check.specs.declared.part.Part.{Part}
-use Rattle.lb_check.specs.declared.part.Part.TheVariants as part
-use Rattle.lb_check.specs.BrokenParts.{first_broken}
-use Rattle.lb_check.specs.ClockRules.{are_declared_clocks}
-use Rattle.lb_check.specs.FoundParts.{IsDeclaredClock, IsIllClocked, IsPartIllClocked}
-use Rattle.lb_check.specs.NodeClocks.{is_node_clocked, is_clocked_at}
-use Rattle.lb_check.specs.OwnClocks.{HasClocks}
-use Rattle.lb_check.specs.TermClocks.{context_of, is_body_clocked, is_resolved_statement_clocked}
+use Rattle.lb_check.proofs.Words.{◌≡◌, ℕ, Bool, true, Some, None, ap, sym, ◌∙◌, subst, ◌&&◌}
+use Rattle.lb_check.proofs.Words.{option_map, slice_get, and-false, slice_get-map, slice_get_within}
+use Rattle.lb_check.proofs.Words.{get_or_from_slice_get, holds, Program, are_distinct, keeps_names}
+use Rattle.lb_check.proofs.Words.{variable_names, IsReached, source_names, trees, IsResolved}
+use Rattle.lb_check.proofs.Words.{node_of, NodeId, Reached, ResolvedNode, ResolvedStatement, Part}
+use Rattle.lb_check.proofs.Words.{first_broken, are_declared_clocks, IsDeclaredClock, IsIllClocked}
+use Rattle.lb_check.proofs.Words.{is_node_clocked, is_clocked_at, HasClocks, context_of}
+use Rattle.lb_check.proofs.Words.{is_body_clocked, is_resolved_statement_clocked}
+use Rattle.lb_check.specs.FoundParts.{IsPartIllClocked}
 use Rattle.lb_check.proofs.FirstBroken.{all_pass, fails_there, not_all_pass}
 use Rattle.lb_check.proofs.NodePlaces.{distinct_variables}
+use Rattle.lb_check.specs.declared.part.Part.TheVariants as part
 
 -- ## A node that is reached
 

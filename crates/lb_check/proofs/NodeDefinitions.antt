@@ -1,60 +1,42 @@
 -- The rules of definitions of a node with resolved names are what the code finds.
-use Rattle.std.proofs.Common.{length-append, ◌≡◌, ℕ, ◌+◌, ◌-◌, ◌<◌, ◌≤◌, Bool, true, false}
-use Rattle.std.proofs.Common.{cond, List, [], ◌∷◌, ◌++◌, length, map, Option, Some, None, refl, ap}
-use Rattle.std.proofs.Common.{sym, ◌∙◌, subst, arith}
-use Rattle.std.specs.Prelude.{◌&&◌, ◌||◌, not, nat_lt, nat_eq, option_map, slice_get, flat_map}
-use Rattle.std.specs.Prelude.{◌==◌, ◌≢◌, if◌then◌else◌}
-use Rattle.std.specs.List.{list_all}
-use Rattle.std.specs.Str.{bytes_eq}
-use Rattle.std.proofs.lemmas.Bool.Decides.{nat_tests}
-use Rattle.std.proofs.lemmas.List.{length-map}
-use Rattle.std.proofs.lemmas.List.Folds.{list_all-append}
+use Rattle.lb_check.proofs.Words.{◌≡◌, ℕ, ◌+◌, ◌-◌, ◌<◌, ◌≤◌, Bool, true, false, cond, List, []}
+use Rattle.lb_check.proofs.Words.{◌∷◌, ◌++◌, length, map, Option, Some, None, refl, ap, sym, ◌∙◌}
+use Rattle.lb_check.proofs.Words.{subst, arith, ◌&&◌, ◌||◌, not, nat_lt, nat_eq, option_map}
+use Rattle.lb_check.proofs.Words.{slice_get, ◌==◌, if◌then◌else◌, list_all, bytes_eq, nat_tests}
+use Rattle.lb_check.proofs.Words.{length-map, list_all-append, slice_get-map, slice_get_within}
+use Rattle.lb_check.proofs.Words.{get_or_from_slice_get, and-true, and-false, either_or, holds}
+use Rattle.lb_check.proofs.Words.{listed, Name, Node, Declaration, Expr, Statement, Static}
+use Rattle.lb_check.proofs.Words.{get_first, get_later, item_at, all_at, all_from, and_first}
+use Rattle.lb_check.proofs.Words.{and_second, NodeId, Reached, CallId, ResolvedNode, VariableId}
+use Rattle.lb_check.proofs.Words.{ResolvedStatement, Term, Value, Group', Unary', Binary', If'}
+use Rattle.lb_check.proofs.Words.{When', Replicate', Index', Slice', Join', Array', AtMostOne'}
+use Rattle.lb_check.proofs.Words.{Nor', Call', IterateNode', IterateSymbol', Row_of-Term}
+use Rattle.lb_check.proofs.Words.{end_of-Term, more_of-Term, Program, node_sites, are_distinct}
+use Rattle.lb_check.proofs.Words.{keeps_names, left_names, node_parts, parts, parts_in, right_side}
+use Rattle.lb_check.proofs.Words.{variable_names, IsReached, source_names, tree_at, trees}
+use Rattle.lb_check.proofs.Words.{IsResolved, node_of, texts_of, counts_of, Texts, Counts}
+use Rattle.lb_check.proofs.Words.{is_variable, is_call, is_static, is_within, are_within}
+use Rattle.lb_check.proofs.Words.{is_statement_within, name_at, static_at, named_value, expr_of}
+use Rattle.lb_check.proofs.Words.{row_of, statement_of, site_at, variables, Part, at_place}
+use Rattle.lb_check.proofs.Words.{first_broken, is_part_defined, if_node, is_defined, IsIllDefined}
+use Rattle.lb_check.proofs.Words.{count_left, count_statement, count_statements, calls_function}
+use Rattle.lb_check.proofs.Words.{is_statement_memoryless, is_defined_at}
+use Rattle.std.proofs.Common.{length-append}
+use Rattle.std.specs.Prelude.{flat_map, ◌≢◌}
 use Rattle.std.proofs.lemmas.List.Recursion.{is_count_by}
-use Rattle.std.proofs.lemmas.Option.{slice_get-map, slice_get_within, get_or_from_slice_get}
 use Rattle.std.proofs.lemmas.Bool.{ltb-true, eq-eqb, eqb-true, lt-ltb, le-ltb, ne_eqb}
-use Rattle.std.proofs.Math.Bool.{and-true, and-false}
-use Rattle.lb_syntax.specs.Lists.{either_or, holds, listed}
-use Rattle.lb_syntax.specs.Tree.{Name, Node, Declaration, Expr, Statement, Static}
-use Rattle.lb_syntax.specs.Tree as tree
-use Rattle.lb_syntax.proofs.ListPlaces.{get_first, get_later, item_at, all_at, all_from}
-use Rattle.lb_syntax.proofs.TruthValues.{and_first, and_second}
-use Rattle.lb_static.specs.declared.reach.NodeId.{NodeId}
-use Rattle.lb_static.specs.declared.reach.Reached.{Reached}
-use Rattle.lb_static.specs.declared.resolved.CallId.{CallId}
-use Rattle.lb_static.specs.declared.resolved.ResolvedNode.{ResolvedNode}
-use Rattle.lb_static.specs.declared.resolved.VariableId.{VariableId}
-use Rattle.lb_static.specs.declared.resolved.ResolvedStatement.{ResolvedStatement}
-use Rattle.lb_static.specs.declared.resolved.ResolvedStatement.TheVariants as statement
-use Rattle.lb_static.specs.declared.resolved.Term.{Term, Value, Group', Unary', Binary'}
-use Rattle.lb_static.specs.declared.resolved.Term.{If', When', Replicate', Index', Slice', Join'}
-use Rattle.lb_static.specs.declared.resolved.Term.{Array', AtMostOne', Nor', Call', IterateNode'}
-use Rattle.lb_static.specs.declared.resolved.Term.{IterateSymbol', Row_of-Term, end_of-Term}
-use Rattle.lb_static.specs.declared.resolved.Term.{more_of-Term}
-use Rattle.lb_static.specs.Instances.{Program, node_sites}
-use Rattle.lb_static.specs.Names.{are_distinct, keeps_names}
-use Rattle.lb_static.specs.Parts.{left_names, node_parts, parts, parts_in, right_side}
-use Rattle.lb_static.specs.Parts.{variable_names}
-use Rattle.lb_static.specs.ReachedNodes.{IsReached, source_names, tree_at, trees}
-use Rattle.lb_static.specs.ResolvedNodes.{IsResolved, node_of, texts_of, counts_of}
-use Rattle.lb_static.specs.ResolvedTerms.{Texts, Counts, is_variable, is_call, is_static, is_within}
-use Rattle.lb_static.specs.ResolvedTerms.{are_within, is_statement_within, name_at, static_at}
-use Rattle.lb_static.specs.ResolvedTerms.{named_value, expr_of, row_of, statement_of, site_at}
-use Rattle.lb_static.specs.DataTypes.{variables}
-use Rattle.lb_check.specs.declared.part.Part.{Part}
-use Rattle.lb_check.specs.declared.part.Part.TheVariants as part
-use Rattle.lb_check.specs.BrokenParts.{at_place, first_broken, is_defined_right, is_part_defined}
-use Rattle.lb_check.specs.ClockRules.{if_node}
+use Rattle.lb_check.specs.BrokenParts.{is_defined_right}
 use Rattle.lb_check.specs.DefinitionRules.{definition_count, defines_once, is_memoryless}
-use Rattle.lb_check.specs.DefinitionRules.{is_defined}
-use Rattle.lb_check.specs.FoundParts.{IsDefinedPlace, IsIllDefined}
-use Rattle.lb_check.specs.NodeDefinitions as mirror
-use Rattle.lb_check.specs.NodeDefinitions.{count_left, count_statement, count_statements}
-use Rattle.lb_check.specs.NodeDefinitions.{calls_function, is_statement_memoryless, is_defined_at}
+use Rattle.lb_check.specs.FoundParts.{IsDefinedPlace}
 use Rattle.lb_check.specs.NodeDefinitions.{memory_in_function, wanted_count}
 use Rattle.lb_check.proofs.DistinctNames.{distinct_at}
 use Rattle.lb_check.proofs.FirstBroken.{all_pass, fails_at, found_item, not_all_pass}
 use Rattle.lb_check.proofs.NodePlaces.{distinct_variables}
 use Rattle.lb_check.proofs.SiteCallees.{callee_found}
+use Rattle.lb_syntax.specs.Tree as tree
+use Rattle.lb_static.specs.declared.resolved.ResolvedStatement.TheVariants as statement
+use Rattle.lb_check.specs.declared.part.Part.TheVariants as part
+use Rattle.lb_check.specs.NodeDefinitions as mirror
 
 -- ## How often a name stands on the left
 

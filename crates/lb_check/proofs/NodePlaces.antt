@@ -1,21 +1,12 @@
 -- Where names are distinct a place is found by its name, and what a node of the source is called by
 -- is that of its place.
-use Rattle.std.proofs.Common.{◌≡◌, ℕ, zero, suc, true, List, [], ◌∷◌, map, Some, refl, ap, sym, ◌∙◌}
-use Rattle.std.proofs.Common.{subst}
-use Rattle.std.specs.Prelude.{not, option_map, slice_get}
-use Rattle.std.specs.List.{Contains}
-use Rattle.std.proofs.lemmas.Option.{slice_get-map, slice_get-get_or}
-use Rattle.std.proofs.lemmas.Slice.Eq.{bytes_eq-Decides}
-use Rattle.std.proofs.lemmas.Bool.{not-true}
-use Rattle.lb_syntax.specs.Tree.{Node}
-use Rattle.lb_syntax.proofs.ListPlaces.{all_at}
-use Rattle.lb_syntax.proofs.TruthValues.{and_first, and_second}
-use Rattle.lb_static.specs.Instances.{Program, node_named}
-use Rattle.lb_static.specs.Names.{are_distinct, is_named, declares_once, reached_nodes, keeps_names}
+use Rattle.lb_check.proofs.Words.{◌≡◌, ℕ, zero, suc, true, List, [], ◌∷◌, map, Some, refl, ap, sym}
+use Rattle.lb_check.proofs.Words.{◌∙◌, subst, not, option_map, slice_get, Contains, slice_get-map}
+use Rattle.lb_check.proofs.Words.{slice_get-get_or, bytes_eq-Decides, not-true, Node, all_at}
+use Rattle.lb_check.proofs.Words.{and_first, and_second, Program, node_named, are_distinct}
+use Rattle.lb_check.proofs.Words.{is_named, declares_once, reached_nodes, keeps_names, among}
+use Rattle.lb_check.proofs.Words.{variable_names, named, distinct_last}
 use Rattle.lb_static.specs.Names.{global_names}
-use Rattle.lb_static.specs.Parts.{among, variable_names}
-use Rattle.lb_static.specs.StaticValues.{named}
-use Rattle.lb_static.proofs.ReachedPlaces.{distinct_last}
 use Rattle.lb_check.proofs.DistinctNames.{distinct_first, not_among}
 
 -- ## Distinct names

@@ -1,33 +1,22 @@
 -- The numbers of scalar elements: each variable of an instance has as many as it is wide, and all
 -- together are the numbers from 0 on, in the order of the elements.
-use Rattle.std.proofs.Common.{◌≡◌, inl, inr, ℕ, zero, suc, ◌+◌, ◌<◌, Bool, true, false, Option}
-use Rattle.std.proofs.Common.{Some, None, List, [], ◌∷◌, ◌++◌, flat_map, map, length, refl, ap, ap₂}
-use Rattle.std.proofs.Common.{sym, subst, ◌∙◌, arith}
-use Rattle.std.specs.Prelude.{not, slice_get}
-use Rattle.std.specs.Str.{bytes_eq}
-use Rattle.std.specs.List.{range_with_len}
-use Rattle.std.proofs.lemmas.List.{length-append, length-map, map-append}
+use Rattle.lb_check.proofs.Words.{◌≡◌, inl, inr, ℕ, zero, suc, ◌+◌, ◌<◌, Bool, true, false, Option}
+use Rattle.lb_check.proofs.Words.{Some, None, List, [], ◌∷◌, ◌++◌, flat_map, map, length, refl, ap}
+use Rattle.lb_check.proofs.Words.{ap₂, sym, subst, ◌∙◌, arith, not, slice_get, bytes_eq}
+use Rattle.lb_check.proofs.Words.{range_with_len, length-append, length-map, map-append}
+use Rattle.lb_check.proofs.Words.{bytes_eq-Decides, slice_get_within, same_Some, false_from_ne_true}
+use Rattle.lb_check.proofs.Words.{not-true, Every, In, listed, Name, Declaration, and_first}
+use Rattle.lb_check.proofs.Words.{and_second, or_first, or_second, variables, width, Program}
+use Rattle.lb_check.proofs.Words.{Instance, Path, is_path, instances, are_distinct, among, place_in}
+use Rattle.lb_check.proofs.Words.{in_map, instance_elements, program_elements, numbers_of, Element}
+use Rattle.lb_check.proofs.Words.{elements}
 use Rattle.std.proofs.lemmas.List.FromFn.{length-range_with_len}
-use Rattle.std.proofs.lemmas.Slice.Eq.{bytes_eq-Decides}
-use Rattle.std.proofs.lemmas.Option.{slice_get_within, same_Some}
-use Rattle.std.proofs.lemmas.Bool.{false_from_ne_true, not-true}
-use Rattle.lb_syntax.specs.Lists.{Every, In, listed}
-use Rattle.lb_syntax.specs.Tree.{Name, Declaration}
-use Rattle.lb_syntax.proofs.TruthValues.{and_first, and_second, or_first, or_second}
-use Rattle.lb_static.specs.DataTypes.{variables, width}
-use Rattle.lb_static.specs.Instances.{Program, Instance, Path, is_path, instances}
-use Rattle.lb_static.specs.Names.{are_distinct}
-use Rattle.lb_static.specs.Parts.{among}
-use Rattle.lb_static.proofs.Members.{place_in, in_map}
-use Rattle.lb_check.specs.Elements.{instance_elements, program_elements, found_from, numbers_from}
-use Rattle.lb_check.specs.Elements.{numbers_of}
-use Rattle.lb_check.specs.Needs.{Element, elements}
+use Rattle.lb_check.specs.Elements.{found_from, numbers_from}
 use Rattle.lb_check.proofs.Every.{Every-map, Every-all, flat_same}
 use Rattle.lb_check.proofs.ListPairs.{get_mapped}
-use Rattle.lb_check.proofs.ApartLists.{Every-at, Every-from, AreApart}
-use Rattle.lb_check.proofs.ApartLists.{to_pieces, in_range}
-use Rattle.lb_check.proofs.InstancePaths.{is_path-same, same_path, IsAt, all_at}
-use Rattle.lb_check.proofs.InstancePaths.{same_instance, instances_apart}
+use Rattle.lb_check.proofs.ApartLists.{Every-at, Every-from, AreApart, to_pieces, in_range}
+use Rattle.lb_check.proofs.InstancePaths.{is_path-same, same_path, IsAt, all_at, same_instance}
+use Rattle.lb_check.proofs.InstancePaths.{instances_apart}
 
 -- ## Ranges and places
 

@@ -1,17 +1,9 @@
 -- In an accepted program each occurrence in the text of an instance has types, and its clock waits
 -- for variables of the instance alone.
-use Rattle.std.proofs.Common.{◌≡◌, true, Some, None, List}
-use Rattle.lb_syntax.specs.Lists.{Every, In}
-use Rattle.lb_syntax.specs.Tree.{Name, Node}
-use Rattle.lb_static.specs.DataTypes.{DataType, variables}
-use Rattle.lb_static.specs.Instances.{Program, Instance, node_sites, instances}
-use Rattle.lb_static.specs.Instantiation.{static_refusal}
-use Rattle.lb_static.specs.Parts.{variable_names}
-use Rattle.lb_static.proofs.Members.{in_map}
-use Rattle.lb_check.specs.Acceptance.{check_refusal}
-use Rattle.lb_check.specs.ClockRules.{are_declared_clocks}
-use Rattle.lb_check.specs.Occurrences.{Occurrence, node_occurrences}
-use Rattle.lb_check.specs.Types.{data_types}
+use Rattle.lb_check.proofs.Words.{◌≡◌, true, Some, None, List, Every, In, Name, Node, DataType}
+use Rattle.lb_check.proofs.Words.{variables, Program, Instance, node_sites, instances}
+use Rattle.lb_check.proofs.Words.{static_refusal, variable_names, in_map, check_refusal}
+use Rattle.lb_check.proofs.Words.{are_declared_clocks, Occurrence, node_occurrences, data_types}
 use Rattle.lb_check.proofs.AcceptedRules.{typed, clocked, all_declared}
 use Rattle.lb_check.proofs.ApartLists.{Every-at, Every-from}
 use Rattle.lb_check.proofs.CalledProperties.{calls_have}

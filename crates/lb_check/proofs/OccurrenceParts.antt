@@ -1,30 +1,21 @@
 -- The occurrences of a node whose types are right are its parts, in text order.
-use Rattle.std.proofs.Common.{◌≡◌, ℕ, suc, ◌+◌, true, Option, Some, None, List, []}
-use Rattle.std.proofs.Common.{◌∷◌, ◌++◌, map, flat_map, length, refl, ap, ap₂, sym, ◌∙◌}
-use Rattle.std.proofs.Common.{arith}
-use Rattle.std.specs.List.{list_all}
-use Rattle.std.proofs.lemmas.List.{length-map, map-append}
-use Rattle.lb_syntax.specs.Lists.{all_some}
+use Rattle.lb_check.proofs.Words.{◌≡◌, ℕ, suc, ◌+◌, true, Option, Some, None, List, [], ◌∷◌, ◌++◌}
+use Rattle.lb_check.proofs.Words.{map, flat_map, length, refl, ap, ap₂, sym, ◌∙◌, arith, list_all}
+use Rattle.lb_check.proofs.Words.{length-map, map-append, all_some, and_first, and_second, DataType}
+use Rattle.lb_check.proofs.Words.{truth, is_type, are_types, variable_type, variables, Program}
+use Rattle.lb_check.proofs.Words.{Instance, statement_sites, node_named, static_count, are_same}
+use Rattle.lb_check.proofs.Words.{node_parts, parts, parts_in, right_side, length-all_some, Clock}
+use Rattle.lb_check.proofs.Words.{clock_of, clock_or, declared_clock, given_inputs, base_clock}
+use Rattle.lb_check.proofs.Words.{outer, Occurrence, call_count, call_clocks, occurrences}
+use Rattle.lb_check.proofs.Words.{occurrences_in, occurrences_each, node_occurrences, right_sides}
+use Rattle.lb_check.proofs.Words.{statement_clock, is_clock_typed, is_statement_typed, is_typed}
+use Rattle.lb_check.proofs.Words.{type_of_name, data_types, all_types, singly, name_data_type}
+use Rattle.lb_check.proofs.Words.{from_one, from_truths, unary_type, binary_type, common_type}
+use Rattle.lb_check.proofs.Words.{array_of, index_type, slice_type, join_type, operator_types}
 use Rattle.lb_syntax.specs.Tree.{Name, Static, Node_named, Symbol, Expr, Literal, Truth, Variable}
 use Rattle.lb_syntax.specs.Tree.{Group, Unary, Binary, If, Arrow, Fby, Pre, Current, When}
 use Rattle.lb_syntax.specs.Tree.{Replicate, Index, Slice, Join, Array, AtMostOne, Nor, Call}
-use Rattle.lb_syntax.specs.Tree.{Iterate, Exprs, Nil, Cons, Statement, Equation}
-use Rattle.lb_syntax.specs.Tree.{Assertion}
-use Rattle.lb_syntax.proofs.TruthValues.{and_first, and_second}
-use Rattle.lb_static.specs.DataTypes.{DataType, truth, is_type, are_types, variable_type, variables}
-use Rattle.lb_static.specs.Instances.{Program, Instance, statement_sites, node_named, static_count}
-use Rattle.lb_static.specs.Instantiation.{are_same}
-use Rattle.lb_static.specs.Parts.{node_parts, parts, parts_in, right_side}
-use Rattle.lb_static.proofs.Options.{length-all_some}
-use Rattle.lb_check.specs.Clocks.{Clock, clock_of, clock_or, declared_clock, given_inputs}
-use Rattle.lb_check.specs.Clocks.{base_clock, outer}
-use Rattle.lb_check.specs.Occurrences.{Occurrence, call_count, call_clocks, occurrences}
-use Rattle.lb_check.specs.Occurrences.{occurrences_in, occurrences_each, node_occurrences}
-use Rattle.lb_check.specs.Occurrences.{right_sides, statement_clock}
-use Rattle.lb_check.specs.TypeRules.{is_clock_typed, is_statement_typed, is_typed, type_of_name}
-use Rattle.lb_check.specs.Types.{data_types, all_types, singly, name_data_type, from_one}
-use Rattle.lb_check.specs.Types.{from_truths, unary_type, binary_type, common_type, array_of}
-use Rattle.lb_check.specs.Types.{index_type, slice_type, join_type, operator_types}
+use Rattle.lb_syntax.specs.Tree.{Iterate, Exprs, Nil, Cons, Statement, Equation, Assertion}
 use Rattle.lb_check.proofs.OperandTypes.{bound, one, two, from_true, truly, first_of_all, called}
 use Rattle.lb_check.proofs.OperandTypes.{placed}
 

@@ -1,25 +1,18 @@
 -- The calls in the text of a node by their numbers: the occurrence of a call stands at the number
 -- of its site, and is the first that has this number.
-use Rattle.std.proofs.Common.{◌≡◌, inl, inr, ℕ, suc, ◌+◌, ◌<◌, ◌≤◌, Bool, true, false, cond, Option}
-use Rattle.std.proofs.Common.{Some, None, List, [], ◌∷◌, ◌++◌, length, flat_map, refl, ap, sym}
-use Rattle.std.proofs.Common.{subst, ◌∙◌, arith}
-use Rattle.std.specs.Prelude.{◌&&◌, nat_eq, is_some, find, slice_get}
-use Rattle.std.proofs.lemmas.Bool.Decides.{nat_tests}
-use Rattle.std.proofs.Math.Bool.{and-false}
-use Rattle.std.proofs.lemmas.Bool.{and_from}
-use Rattle.lb_syntax.specs.Lists.{Every, In}
-use Rattle.lb_syntax.specs.Tree.{Node_named, Symbol, Expr, Literal, Truth, Variable, Group, Unary}
-use Rattle.lb_syntax.specs.Tree.{Binary, If, Arrow, Fby, Pre, Current, When, Replicate, Index}
-use Rattle.lb_syntax.specs.Tree.{Slice, Join, Array, AtMostOne, Nor, Call, Iterate, Exprs, Nil}
-use Rattle.lb_syntax.specs.Tree.{Cons, Node, Statement, Equation, Assertion}
-use Rattle.lb_static.specs.Instances.{Program, Site, call_site, sites, sites_in, node_named}
-use Rattle.lb_static.specs.Instances.{node_sites, numbered_sites, statement_sites}
-use Rattle.lb_static.specs.Parts.{right_side}
-use Rattle.lb_check.specs.Clocks.{Clock, clock_of, clock_or, declared_clock}
-use Rattle.lb_check.specs.Needs.{is_site}
-use Rattle.lb_check.specs.Occurrences.{Occurrence, at, call_count, call_clocks, occurrences}
-use Rattle.lb_check.specs.Occurrences.{occurrences_in, occurrences_each, statement_clock}
-use Rattle.lb_check.specs.Occurrences.{right_sides, node_occurrences}
+use Rattle.lb_check.proofs.Words.{◌≡◌, inl, inr, ℕ, suc, ◌+◌, ◌<◌, ◌≤◌, Bool, true, false, cond}
+use Rattle.lb_check.proofs.Words.{Option, Some, None, List, [], ◌∷◌, ◌++◌, length, flat_map, refl}
+use Rattle.lb_check.proofs.Words.{ap, sym, subst, ◌∙◌, arith, ◌&&◌, nat_eq, is_some, find}
+use Rattle.lb_check.proofs.Words.{slice_get, nat_tests, and-false, and_from, Every, In, Node_named}
+use Rattle.lb_check.proofs.Words.{Symbol, Expr, Group, Unary, Binary, If, Arrow, Fby, Pre, Current}
+use Rattle.lb_check.proofs.Words.{When, Replicate, Index, Slice, Join, Array, AtMostOne, Nor, Call}
+use Rattle.lb_check.proofs.Words.{Iterate, Exprs, Nil, Cons, Node, Statement, Equation, Assertion}
+use Rattle.lb_check.proofs.Words.{Program, Site, call_site, sites, sites_in, node_named, node_sites}
+use Rattle.lb_check.proofs.Words.{numbered_sites, statement_sites, right_side, Clock, clock_of}
+use Rattle.lb_check.proofs.Words.{clock_or, declared_clock, is_site, Occurrence, at, call_count}
+use Rattle.lb_check.proofs.Words.{call_clocks, occurrences, occurrences_in, occurrences_each}
+use Rattle.lb_check.proofs.Words.{statement_clock, right_sides, node_occurrences}
+use Rattle.lb_syntax.specs.Tree.{Literal, Truth, Variable}
 use Rattle.lb_check.proofs.ApartLists.{in_first, in_second, Every-at}
 use Rattle.lb_check.proofs.Every.{Every-map, Every-append, Every-both}
 use Rattle.lb_check.proofs.InstancePaths.{numbered_stand}

@@ -1,15 +1,11 @@
 -- The one type of a term is that of its results, and so an equation of one variable is judged by
 -- types alone, with no list of them.
-use Rattle.std.proofs.Common.{◌≡◌, ◌≢◌, false, List, [], ◌∷◌, length, Option, Some}
-use Rattle.std.proofs.Common.{None, inl, Vec, Global, refl, ap, sym, ◌∙◌}
-use Rattle.std.specs.Prelude.{option_map}
-use Rattle.std.proofs.Math.Bool.{and-true, and-false}
-use Rattle.lb_syntax.specs.Lists.{◌>>=◌, all_some}
-use Rattle.lb_static.specs.declared.resolved.Term.{Term, Array, Group', Array', AtMostOne', Nor'}
-use Rattle.lb_static.specs.declared.resolved.Term.{Call', IterateNode', IterateSymbol'}
-use Rattle.lb_static.specs.DataTypes.{DataType, is_type}
-use Rattle.lb_check.specs.Types.{list_type, only, singly}
-use Rattle.lb_check.specs.TermSignatures.{are_one}
+use Rattle.lb_check.proofs.Words.{◌≡◌, ◌≢◌, false, List, [], ◌∷◌, length, Option, Some, None, inl}
+use Rattle.lb_check.proofs.Words.{Vec, Global, refl, ap, sym, ◌∙◌, option_map, and-true, and-false}
+use Rattle.lb_check.proofs.Words.{◌>>=◌, all_some, Term, Group', Array', AtMostOne', Nor', Call'}
+use Rattle.lb_check.proofs.Words.{IterateNode', IterateSymbol', DataType, is_type, list_type, only}
+use Rattle.lb_check.proofs.Words.{singly, are_one}
+use Rattle.lb_static.specs.declared.resolved.Term.{Array}
 use Rattle.lb_check.specs.TermTypes.{Context, type_of, types_of, results, row_results, are_equal}
 use Rattle.lb_check.proofs.TypeRows.{results_of_row}
 

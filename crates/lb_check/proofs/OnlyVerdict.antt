@@ -1,16 +1,11 @@
 -- A trace on which a program has one history has one verdict.
-use Rattle.std.proofs.Common.{◌≡◌, ℕ, zero, suc, ◌<◌, ◌⊎◌, inl, inr, Option, Some, None, length}
-use Rattle.std.proofs.Common.{flat_map, refl, ap, ap₂, sym, ◌∙◌, arith}
-use Rattle.std.specs.Prelude.{◌||◌, IfSome}
-use Rattle.lb_syntax.specs.Lists.{listed}
-use Rattle.lb_syntax.specs.Tree.{Name}
+use Rattle.lb_check.proofs.Words.{◌≡◌, ℕ, zero, suc, ◌<◌, ◌⊎◌, inl, inr, Option, Some, None, length}
+use Rattle.lb_check.proofs.Words.{flat_map, refl, ap, ap₂, sym, ◌∙◌, arith, ◌||◌, IfSome, listed}
+use Rattle.lb_check.proofs.Words.{Name, Program, Instance, Root, Observer, instance_at, instances}
+use Rattle.lb_check.proofs.Words.{variables, static_refusal, instantiation_refusal, check_refusal}
+use Rattle.lb_check.proofs.Words.{Inputs, Solves, AgreeAt, AreSame, History}
 use Rattle.lb_syntax.proofs.TruthValues.{contrary}
-use Rattle.lb_static.specs.Instances.{Program, Instance, Root, Observer, instance_at, instances}
-use Rattle.lb_static.specs.DataTypes.{variables}
-use Rattle.lb_static.specs.Instantiation.{static_refusal, instantiation_refusal}
-use Rattle.lb_check.specs.Acceptance.{check_refusal}
-use Rattle.lb_check.specs.Solutions.{Inputs, Solves, AgreeAt, AreSame, HasOneHistory}
-use Rattle.lb_check.specs.Streams.{History}
+use Rattle.lb_check.specs.Solutions.{HasOneHistory}
 use Rattle.lb_check.specs.Verdicts.{Verdict, Passed, Fault, Undefined, Assertion_fails, False}
 use Rattle.lb_check.specs.Verdicts.{is_bad, is_nil, is_false, some_at, is_fault, is_undefined}
 use Rattle.lb_check.specs.Verdicts.{is_failed, property_path, property_columns, is_violated}

@@ -1,16 +1,13 @@
 -- What holds of all occurrences of an expression holds of those of the operands of operators with
 -- a memory.
-use Rattle.std.proofs.Common.{ℕ, ◌+◌, List, [], ◌∷◌, ◌++◌, flat_map}
-use Rattle.lb_syntax.specs.Lists.{Every}
-use Rattle.lb_syntax.specs.Tree.{Node_named, Symbol, Expr, Literal, Truth, Variable, Group, Unary}
-use Rattle.lb_syntax.specs.Tree.{Binary, If, Arrow, Fby, Pre, Current, When, Replicate, Index}
-use Rattle.lb_syntax.specs.Tree.{Slice, Join, Array, AtMostOne, Nor, Call, Iterate, Exprs, Nil}
-use Rattle.lb_syntax.specs.Tree.{Cons, Node}
-use Rattle.lb_static.specs.Instances.{Program, node_named}
-use Rattle.lb_check.specs.Clocks.{Clock, clock_of, clock_or, declared_clock}
-use Rattle.lb_check.specs.Occurrences.{Occurrence, call_count, call_clocks, occurrences}
-use Rattle.lb_check.specs.Occurrences.{occurrences_in, occurrences_each, right_sides}
-use Rattle.lb_check.specs.Occurrences.{node_occurrences}
+use Rattle.lb_check.proofs.Words.{ℕ, ◌+◌, List, [], ◌∷◌, ◌++◌, flat_map, Every, Node_named, Symbol}
+use Rattle.lb_check.proofs.Words.{Expr, Group, Unary, Binary, If, Arrow, Fby, Pre, Current, When}
+use Rattle.lb_check.proofs.Words.{Replicate, Index, Slice, Join, Array, AtMostOne, Nor, Call}
+use Rattle.lb_check.proofs.Words.{Iterate, Exprs, Nil, Cons, Node, Program, node_named, Clock}
+use Rattle.lb_check.proofs.Words.{clock_of, clock_or, declared_clock, Occurrence, call_count}
+use Rattle.lb_check.proofs.Words.{call_clocks, occurrences, occurrences_in, occurrences_each}
+use Rattle.lb_check.proofs.Words.{right_sides, node_occurrences}
+use Rattle.lb_syntax.specs.Tree.{Literal, Truth, Variable}
 use Rattle.lb_check.proofs.Every.{Every-append, Every-first, Every-second}
 
 module _ (P : Program) (here : Node) (Q : Occurrence → Type 0) where

@@ -1,17 +1,12 @@
 -- What the types of an expression say of its operands, and of what it calls.
+use Rattle.lb_check.proofs.Words.{list_all, zip, same_Some, ◌>>=◌, all_some, where_true, Name}
+use Rattle.lb_check.proofs.Words.{Static, Node_named, Expr, Exprs, Call, Cons, Declaration, Node}
+use Rattle.lb_check.proofs.Words.{Program, Instance, Child, call_site, callee_of, node_named}
+use Rattle.lb_check.proofs.Words.{static_value, DataType, truth, is_type, are_types, input_types}
+use Rattle.lb_check.proofs.Words.{output_types, variable_type, data_types, all_types, only, singly}
+use Rattle.lb_check.proofs.Words.{from_one, from_two, from_truths, operator_types}
 use Rattle.std.proofs.Common.{◌≡◌, ℕ, Bool, true, false, ℤ, Option, Some, None, option_map, List}
 use Rattle.std.proofs.Common.{[], ◌∷◌, map, refl, sym, ap, ap₂, ◌∙◌}
-use Rattle.std.specs.List.{list_all, zip}
-use Rattle.std.proofs.lemmas.Option.{same_Some}
-use Rattle.lb_syntax.specs.Lists.{◌>>=◌, all_some, where_true}
-use Rattle.lb_syntax.specs.Tree.{Name, Static, Node_named, Expr, Exprs, Call, Cons, Declaration}
-use Rattle.lb_syntax.specs.Tree.{Node}
-use Rattle.lb_static.specs.Instances.{Program, Instance, Child, call_site, callee_of, node_named}
-use Rattle.lb_static.specs.Instances.{static_value}
-use Rattle.lb_static.specs.DataTypes.{DataType, truth, is_type, are_types, input_types}
-use Rattle.lb_static.specs.DataTypes.{output_types, variable_type}
-use Rattle.lb_check.specs.Types.{data_types, all_types, only, singly, from_one, from_two}
-use Rattle.lb_check.specs.Types.{from_truths, operator_types}
 
 -- ## Inversions
 

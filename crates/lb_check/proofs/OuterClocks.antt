@@ -1,33 +1,18 @@
 -- The clocks of a callee, as its caller sees them, from the numbers of both.
-use Rattle.std.proofs.Common.{◌≡◌, ℕ, ◌<◌, ◌≤◌, ◌⊎◌, inl, inr, Bool, true, false, [], length}
-use Rattle.std.proofs.Common.{Option, Some, None, refl, ap, sym, ◌∙◌, subst, arith}
-use Rattle.std.specs.Prelude.{◌&&◌, ◌==◌, option_map, slice_get, nat_eq}
-use Rattle.std.proofs.lemmas.Bool.Decides.{nat_tests}
-use Rattle.std.proofs.lemmas.Option.{slice_get_within}
-use Rattle.lb_syntax.specs.Lists.{either_or}
-use Rattle.lb_syntax.specs.Tree.{Name}
-use Rattle.lb_syntax.proofs.ListPlaces.{item_at}
-use Rattle.lb_static.specs.Parts.{variable_names}
-use Rattle.lb_static.specs.ResolvedNodes.{node_of, counts_of}
-use Rattle.lb_static.specs.ResolvedTerms.{is_variable}
-use Rattle.lb_static.specs.declared.resolved.ResolvedNode.{ResolvedNode}
-use Rattle.lb_static.specs.declared.resolved.Sampling.{Sampling}
-use Rattle.lb_static.specs.declared.resolved.Variable.{Variable}
-use Rattle.lb_static.specs.declared.resolved.VariableId.{VariableId}
-use Rattle.lb_check.specs.Clocks as tree
-use Rattle.lb_check.specs.Clocks.{Given, given_name, outer, above, depth, declared_clock}
-use Rattle.lb_check.specs.ClockRules.{is_clock}
-use Rattle.lb_check.specs.ClockDepths.{awaited}
-use Rattle.lb_check.specs.OwnClocks.{HasClocks, name_in, clock_in, is_clock_within}
-use Rattle.lb_check.specs.Scalars.{same}
-use Rattle.lb_check.specs.TermClocks.{declared_in, is_same}
+use Rattle.lb_check.proofs.Words.{◌≡◌, ℕ, ◌<◌, ◌≤◌, ◌⊎◌, inl, inr, Bool, true, false, [], length}
+use Rattle.lb_check.proofs.Words.{Option, Some, None, refl, ap, sym, ◌∙◌, subst, arith, ◌&&◌, ◌==◌}
+use Rattle.lb_check.proofs.Words.{option_map, slice_get, nat_eq, nat_tests, slice_get_within}
+use Rattle.lb_check.proofs.Words.{either_or, Name, item_at, variable_names, node_of, counts_of}
+use Rattle.lb_check.proofs.Words.{is_variable, ResolvedNode, Sampling, Variable, VariableId, Given}
+use Rattle.lb_check.proofs.Words.{given_name, outer, above, depth, declared_clock, is_clock}
+use Rattle.lb_check.proofs.Words.{awaited, HasClocks, name_in, clock_in, is_clock_within, same}
+use Rattle.lb_check.proofs.Words.{declared_in, is_same, Base, ClockSet, NoClock, AnyClock, OneClock}
 use Rattle.lb_check.specs.declared.own_clock.Clock.{Clock}
-use Rattle.lb_check.specs.declared.own_clock.Clock.TheVariants.{Base, On}
-use Rattle.lb_check.specs.declared.clock_set.ClockSet.{ClockSet}
-use Rattle.lb_check.specs.declared.clock_set.ClockSet.TheVariants.{NoClock, AnyClock, OneClock}
+use Rattle.lb_check.specs.declared.own_clock.Clock.TheVariants.{On}
 use Rattle.lb_check.proofs.ClockTests.{clock_same}
 use Rattle.lb_check.proofs.ClockedNodes.{are_awaited}
 use Rattle.lb_check.proofs.OwnClocks.{clock_of_free, clock_of_waiting, same_clock, clock_itself}
+use Rattle.lb_check.specs.Clocks as tree
 
 -- ## Clocks of the text
 

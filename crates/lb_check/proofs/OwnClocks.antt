@@ -1,37 +1,20 @@
 -- The clock of a declared variable stands one step below that of the variable that it waits for.
-use Rattle.std.proofs.Common.{◌≡◌, ◌≢◌, ℕ, zero, suc, ◌<◌, Bool, true, false, List, [], ◌++◌}
-use Rattle.std.proofs.Common.{length, Option, Some, None, refl, ap, sym, ◌∙◌, subst, arith}
-use Rattle.std.specs.Prelude.{◌&&◌, ◌==◌, is_some, option_map, slice_get, nat_eq}
-use Rattle.std.specs.Str.{bytes_eq}
-use Rattle.std.proofs.lemmas.Slice.Eq.{bytes_eq-Decides}
-use mathlib.Core.Bool.{beq}
-use Rattle.std.specs.List.{list_all}
-use Rattle.std.proofs.lemmas.Bool.Decides.{nat_tests}
-use Rattle.std.proofs.Math.Bool.{and-true}
-use Rattle.lb_syntax.specs.Lists.{◌>>=◌, either_or}
-use Rattle.lb_syntax.specs.Tree as tree
-use Rattle.lb_syntax.specs.Tree.{Name, Declaration}
-use Rattle.lb_syntax.proofs.ListPlaces.{all_at, item_at}
-use Rattle.lb_syntax.proofs.TruthValues.{and_second}
-use Rattle.lb_static.specs.StaticValues.{named}
-use Rattle.lb_static.specs.Parts.{variable_names}
-use Rattle.lb_static.specs.DataTypes.{variables}
-use Rattle.lb_static.specs.ResolvedTerms.{declaration_of, sampling_of, is_variable}
-use Rattle.lb_static.specs.ResolvedNodes.{node_of, statics_of, counts_of}
-use Rattle.lb_static.specs.declared.resolved.ResolvedNode.{ResolvedNode}
-use Rattle.lb_static.specs.declared.resolved.Sampling.{Sampling}
-use Rattle.lb_static.specs.declared.resolved.Variable.{Variable}
-use Rattle.lb_static.specs.declared.resolved.VariableId.{VariableId}
-use Rattle.lb_check.specs.Clocks.{Clock, Base, On, clock_within, sampled, clock_or, variable_clock}
-use Rattle.lb_check.specs.Clocks.{declared_clock}
-use Rattle.lb_check.specs.ClockRules.{is_clocked_by, is_clock}
-use Rattle.lb_check.specs.Scalars.{same}
-use Rattle.lb_check.specs.ClockDepths.{awaited}
-use Rattle.lb_check.specs.OwnClocks.{HasClocks, name_in, clock_in, is_clock_within}
+use Rattle.lb_check.proofs.Words.{◌≡◌, ◌≢◌, ℕ, zero, suc, ◌<◌, Bool, true, false, List, [], ◌++◌}
+use Rattle.lb_check.proofs.Words.{length, Option, Some, None, refl, ap, sym, ◌∙◌, subst, arith}
+use Rattle.lb_check.proofs.Words.{◌&&◌, ◌==◌, is_some, option_map, slice_get, nat_eq, bytes_eq}
+use Rattle.lb_check.proofs.Words.{bytes_eq-Decides, beq, list_all, nat_tests, and-true, ◌>>=◌}
+use Rattle.lb_check.proofs.Words.{either_or, Name, Declaration, all_at, item_at, and_second, named}
+use Rattle.lb_check.proofs.Words.{variable_names, variables, declaration_of, sampling_of}
+use Rattle.lb_check.proofs.Words.{is_variable, node_of, statics_of, counts_of, ResolvedNode}
+use Rattle.lb_check.proofs.Words.{Sampling, Variable, VariableId, Clock, On, clock_within, sampled}
+use Rattle.lb_check.proofs.Words.{clock_or, variable_clock, declared_clock, is_clocked_by, is_clock}
+use Rattle.lb_check.proofs.Words.{same, awaited, HasClocks, name_in, clock_in, is_clock_within}
+use Rattle.lb_check.specs.Clocks.{Base}
 use Rattle.lb_check.specs.declared.own_clock.Clock.{Clock as Compared}
-use Rattle.lb_check.specs.declared.own_clock.Clock.TheVariants as code
 use Rattle.lb_check.proofs.DistinctNames.{distinct_at}
 use Rattle.lb_check.proofs.ClockedNodes.{at_place, at_name, as_many_names, are_awaited}
+use Rattle.lb_syntax.specs.Tree as tree
+use Rattle.lb_check.specs.declared.own_clock.Clock.TheVariants as code
 
 pub beq_same : (a b : Bool) → beq a b ≡ same a b
 beq_same true true = refl

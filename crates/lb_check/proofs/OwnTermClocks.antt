@@ -1,20 +1,14 @@
 -- The clocks that are found of a node are the base clock or those of one of its variables.
-use Rattle.std.proofs.Common.{◌≡◌, None, List, [], ◌∷◌, map, refl, sym, subst}
-use Rattle.lb_syntax.specs.Lists.{Every, In}
-use Rattle.lb_static.specs.Instances.{Program, Instance, instances}
-use Rattle.lb_static.specs.Instantiation.{static_refusal}
-use Rattle.lb_static.specs.ResolvedNodes.{node_of}
-use Rattle.lb_static.specs.declared.resolved.ResolvedNode.{ResolvedNode}
-use Rattle.lb_check.specs.Acceptance.{check_refusal}
-use Rattle.lb_check.specs.Clocks as tree
-use Rattle.lb_check.specs.FoundTerms.{HasTermClocks}
-use Rattle.lb_check.specs.Occurrences.{Occurrence, node_occurrences}
-use Rattle.lb_check.specs.OwnClocks.{clock_in}
+use Rattle.lb_check.proofs.Words.{◌≡◌, None, List, [], ◌∷◌, map, refl, sym, subst, Every, In}
+use Rattle.lb_check.proofs.Words.{Program, Instance, instances, static_refusal, node_of}
+use Rattle.lb_check.proofs.Words.{ResolvedNode, check_refusal, HasTermClocks, Occurrence}
+use Rattle.lb_check.proofs.Words.{node_occurrences, clock_in, Base}
 use Rattle.lb_check.specs.declared.own_clock.Clock.{Clock}
-use Rattle.lb_check.specs.declared.own_clock.Clock.TheVariants.{Base, On}
+use Rattle.lb_check.specs.declared.own_clock.Clock.TheVariants.{On}
 use Rattle.lb_check.proofs.DeclaredClocks.{IsOwn}
 use Rattle.lb_check.proofs.NamedClocks.{IsOver}
 use Rattle.lb_check.proofs.OccurrenceClocks.{IsVariable, IsTypedOver, occurrences_fit}
+use Rattle.lb_check.specs.Clocks as tree
 
 first_clock : (x y : tree.Clock) (xs ys : List tree.Clock) → x ∷ xs ≡ y ∷ ys → x ≡ y
 first_clock x y xs ys e = cc

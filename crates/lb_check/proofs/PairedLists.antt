@@ -1,8 +1,6 @@
 -- Two lists of which each item stands for that at its place in the other.
-use Rattle.std.proofs.Common.{◌≡◌, ℕ, zero, suc, List, [], ◌∷◌, ◌++◌}
-use Rattle.std.proofs.Common.{Some, refl, subst}
-use Rattle.std.specs.Prelude.{slice_get}
-use Rattle.lb_syntax.specs.Lists.{Every}
+use Rattle.lb_check.proofs.Words.{◌≡◌, ℕ, zero, suc, List, [], ◌∷◌, ◌++◌, Some, refl, subst}
+use Rattle.lb_check.proofs.Words.{slice_get, Every}
 
 abbrev pub Pairs : {A B : Type 0} → (A → B → Type 0) → List A → List B → Type 0
 Pairs R [] [] = Unit {0}

@@ -1,18 +1,13 @@
 -- How many scalar elements parts count with, and what is kept of them.
-use Rattle.std.proofs.Common.{◌≡◌, ◌≢◌, ℕ, ◌+◌, ◌-◌, ◌<◌, ◌≤◌, min, List, [], ◌∷◌, ◌++◌, map}
-use Rattle.std.proofs.Common.{length, drop, zero, suc, false, Option, Some, None, refl, ap}
-use Rattle.std.proofs.Common.{sym, ◌∙◌, arith}
-use Rattle.std.specs.Prelude.{nat_eq, option_map, reverse, sum_by, if◌then◌else◌}
-use Rattle.std.proofs.lemmas.Bool.Decides.{nat_tests}
-use Rattle.std.proofs.lemmas.List.{append_assoc, append-nil, drop_all, map-append}
-use Rattle.std.proofs.lemmas.List.{reverse-append, reverse-reverse}
-use Rattle.std.proofs.lemmas.List.Sums.{sum_by-cons}
-use Rattle.lb_syntax.specs.Lists.{all_some, either_or}
-use Rattle.lb_static.specs.DataTypes.{DataType, element_count, total}
-use Rattle.lb_check.specs.PlacedTypes.{FoundNode, FoundPart, FoundTypes, IsCounted, Kept}
-use Rattle.lb_check.specs.PlacedTypes.{found_part, kept, noted, noted_part, part_in, part_size}
-use Rattle.lb_check.specs.PlacedTypes.{type_among, with_parts, with_row, with_term, with_terms}
-use Rattle.lb_check.specs.TermSignatures.{type_at}
+use Rattle.lb_check.proofs.Words.{◌≡◌, ◌≢◌, ℕ, ◌+◌, ◌-◌, ◌<◌, ◌≤◌, min, List, [], ◌∷◌, ◌++◌, map}
+use Rattle.lb_check.proofs.Words.{length, drop, zero, suc, false, Option, Some, None, refl, ap, sym}
+use Rattle.lb_check.proofs.Words.{◌∙◌, arith, nat_eq, option_map, reverse, sum_by, if◌then◌else◌}
+use Rattle.lb_check.proofs.Words.{nat_tests, append_assoc, append-nil, drop_all, map-append}
+use Rattle.lb_check.proofs.Words.{reverse-append, reverse-reverse, sum_by-cons, all_some, either_or}
+use Rattle.lb_check.proofs.Words.{DataType, element_count, total, FoundNode, FoundTypes, Kept, kept}
+use Rattle.lb_check.proofs.Words.{noted, part_in, part_size, type_among, with_parts, with_row}
+use Rattle.lb_check.proofs.Words.{with_term, type_at}
+use Rattle.lb_check.specs.PlacedTypes.{FoundPart, IsCounted, found_part, noted_part, with_terms}
 use Rattle.lb_check.specs.declared.part_types.PartType.{PartType}
 use Rattle.lb_check.proofs.SignatureRows.{drop_at}
 

@@ -1,29 +1,15 @@
 -- The clocks on which the code places the arguments of a call are those that the caller sees.
-use Rattle.std.proofs.Common.{◌≡◌, ℕ, zero, suc, ◌<◌, ◌≤◌, true, List, [], ◌∷◌}
-use Rattle.std.proofs.Common.{take, length, map, Option, Some, None, refl, ap, ap₂, sym, ◌∙◌}
-use Rattle.std.proofs.Common.{arith}
-use Rattle.std.specs.Prelude.{option_map, slice_get}
-use Rattle.std.specs.List.{list_all}
-use Rattle.std.proofs.lemmas.List.{length-map, length-take-le}
-use Rattle.std.proofs.lemmas.Option.{slice_get_within}
-use Rattle.lb_syntax.specs.Lists.{either_or}
-use Rattle.lb_syntax.specs.Tree.{Declaration}
-use Rattle.lb_syntax.proofs.ListPlaces.{mapped_from}
-use Rattle.lb_static.specs.Instances.{Program}
-use Rattle.lb_static.specs.ResolvedNodes.{node_of, texts_of, counts_of}
-use Rattle.lb_static.specs.ResolvedTerms.{exprs_of, is_within, is_unhidden}
-use Rattle.lb_static.specs.declared.resolved.ResolvedNode.{ResolvedNode}
-use Rattle.lb_static.specs.declared.resolved.Sampling.{Sampling}
-use Rattle.lb_static.specs.declared.resolved.Term.{Term}
+use Rattle.lb_check.proofs.Words.{◌≡◌, ℕ, zero, suc, ◌<◌, ◌≤◌, true, List, [], ◌∷◌, take, length}
+use Rattle.lb_check.proofs.Words.{map, Option, Some, None, refl, ap, ap₂, sym, ◌∙◌, arith}
+use Rattle.lb_check.proofs.Words.{option_map, slice_get, list_all, length-map, length-take-le}
+use Rattle.lb_check.proofs.Words.{slice_get_within, either_or, Declaration, mapped_from, Program}
+use Rattle.lb_check.proofs.Words.{node_of, texts_of, counts_of, exprs_of, is_within, is_unhidden}
+use Rattle.lb_check.proofs.Words.{ResolvedNode, Sampling, Term, VariableId, given_inputs, outer}
+use Rattle.lb_check.proofs.Words.{declared_clock, AreClockSets, HasClocks, clock_in, Context}
+use Rattle.lb_check.proofs.Words.{declared_in, operands_of, given_at, clock_sets, are_given}
+use Rattle.lb_check.proofs.Words.{input_clocks, expected}
 use Rattle.lb_static.specs.declared.resolved.Variable.{Variable as Declared}
-use Rattle.lb_static.specs.declared.resolved.VariableId.{VariableId}
-use Rattle.lb_check.specs.Clocks as tree
-use Rattle.lb_check.specs.Clocks.{given_inputs, outer, declared_clock}
-use Rattle.lb_check.specs.ClockSets.{AreClockSets}
-use Rattle.lb_check.specs.OwnClocks.{HasClocks, clock_in}
 use Rattle.lb_check.specs.PlacedClocks.{argument_clocks}
-use Rattle.lb_check.specs.TermClocks.{Context, declared_in, operands_of, given_at, clock_sets}
-use Rattle.lb_check.specs.TermClocks.{are_given, input_clocks, expected}
 use Rattle.lb_check.specs.declared.own_clock.Clock.{Clock}
 use Rattle.lb_check.specs.declared.own_clock.Clock.TheVariants.{On}
 use Rattle.lb_check.proofs.CallOperands.{waited_given, input_waits, inputs_seen, inputs_is_given}
@@ -32,6 +18,7 @@ use Rattle.lb_check.proofs.FittingClocks.{IsGiven, fits_on}
 use Rattle.lb_check.proofs.GivenNames.{input_at, variable_held}
 use Rattle.lb_check.proofs.ListPairs.{get_mapped, get_taken}
 use Rattle.lb_check.proofs.OuterClocks.{expected_on, variable_at, AreGiven}
+use Rattle.lb_check.specs.Clocks as tree
 
 -- two lists of one length with the same item at each place
 pub same_items :

@@ -1,57 +1,35 @@
 -- What the code finds of the terms of a node, clock by clock and call by call, is what the
 -- occurrences in its text say.
-use Rattle.std.proofs.Common.{◌≡◌, ℕ, ◌+◌, ◌<◌, ◌≤◌, Bool, true, false, List, [], ◌∷◌, ◌++◌, length}
-use Rattle.std.proofs.Common.{map, flat_map, Option, Some, None, refl, ap, ap₂, sym, ◌∙◌, subst}
+use Rattle.lb_check.proofs.Words.{◌≡◌, ℕ, ◌+◌, ◌<◌, ◌≤◌, Bool, true, false, List, [], ◌∷◌, ◌++◌}
+use Rattle.lb_check.proofs.Words.{length, map, flat_map, Option, Some, None, refl, ap, ap₂, sym}
+use Rattle.lb_check.proofs.Words.{◌∙◌, subst, list_all, zip, list_all-append, Count, ◌>>=◌, Every}
+use Rattle.lb_check.proofs.Words.{either_or, listed, Name, Expr, Statement, and_first, and_second}
+use Rattle.lb_check.proofs.Words.{Program, node_named, statement_sites, left_names, right_side}
+use Rattle.lb_check.proofs.Words.{variable_names, node_of, texts_of, counts_of, Texts, expr_of}
+use Rattle.lb_check.proofs.Words.{exprs_of, named_value, row_of, static_at, site_at, statement_of}
+use Rattle.lb_check.proofs.Words.{is_variable, is_call, is_within, are_within, is_unhidden}
+use Rattle.lb_check.proofs.Words.{are_unhidden, is_statement_within, is_statement_unhidden, Reached}
+use Rattle.lb_check.proofs.Words.{CallId, ResolvedNode, ResolvedStatement, Term, Value, Group'}
+use Rattle.lb_check.proofs.Words.{Call', IterateNode', Row_of-Term, items-the_row-Term, VariableId}
+use Rattle.lb_check.proofs.Words.{base_clock, clock_of, clock_or, declared_clock, given_inputs}
+use Rattle.lb_check.proofs.Words.{outer, ungrouped, are_declared_clocks, are_on_results, is_clocked}
+use Rattle.lb_check.proofs.Words.{is_occurrence_clocked, is_statement_clocked, HasFoundCalls}
+use Rattle.lb_check.proofs.Words.{HasTermClocks, pair_names, given_parameters, given_to, is_site}
+use Rattle.lb_check.proofs.Words.{lefts_at, Occurrence, at, node_occurrences, occurrences}
+use Rattle.lb_check.proofs.Words.{occurrences_each, occurrences_in, right_sides, statement_clock}
+use Rattle.lb_check.proofs.Words.{clock_in, name_in, SeesClocks, is_clocked_on, are_single}
+use Rattle.lb_check.proofs.Words.{is_single, is_single_within, is_statement_single, FoundCall}
+use Rattle.lb_check.proofs.Words.{FoundTerm, side_clocks, side_call, determined_clock}
+use Rattle.lb_check.proofs.Words.{given_variables, placed_arguments, placed_row, placed_terms}
+use Rattle.lb_check.proofs.Words.{placed_side, placed_statement, node_terms, callee_in, Context}
+use Rattle.lb_check.proofs.Words.{context_of, declared_in, infer_clock, left_clock, operands_in}
+use Rattle.lb_check.proofs.Words.{operands_of, result_base, stands_for, Operand, Base}
 use Rattle.std.specs.Prelude.{◌&&◌, cond, nat_eq}
-use Rattle.std.specs.List.{list_all, zip}
-use Rattle.std.proofs.lemmas.List.Folds.{list_all-append}
-use mathlib.Core.Former.{Count}
-use Rattle.lb_syntax.specs.Lists.{◌>>=◌, Every, either_or, listed}
-use Rattle.lb_syntax.specs.Tree as tree
-use Rattle.lb_syntax.specs.Tree.{Name, Expr, Statement}
-use Rattle.lb_syntax.proofs.TruthValues.{and_first, and_second}
-use Rattle.lb_static.specs.Instances.{Program, node_named, statement_sites}
-use Rattle.lb_static.specs.Parts.{left_names, right_side, variable_names}
-use Rattle.lb_static.specs.ResolvedNodes.{node_of, texts_of, counts_of}
-use Rattle.lb_static.specs.ResolvedTerms.{Texts, expr_of, exprs_of, named_value, row_of, static_at}
-use Rattle.lb_static.specs.ResolvedTerms.{site_at, statement_of, is_variable, is_call, is_within}
-use Rattle.lb_static.specs.ResolvedTerms.{are_within, is_unhidden, are_unhidden}
-use Rattle.lb_static.specs.ResolvedTerms.{is_statement_within, is_statement_unhidden}
-use Rattle.lb_static.specs.declared.reach.Reached.{Reached}
-use Rattle.lb_static.specs.declared.resolved.CallId.{CallId}
-use Rattle.lb_static.specs.declared.resolved.ResolvedNode.{ResolvedNode}
-use Rattle.lb_static.specs.declared.resolved.ResolvedStatement.{ResolvedStatement}
-use Rattle.lb_static.specs.declared.resolved.ResolvedStatement.TheVariants as statement
-use Rattle.lb_static.specs.declared.resolved.Term.{Term, Value, Group', Call', IterateNode'}
-use Rattle.lb_static.specs.declared.resolved.Term.{Row_of-Term, items-the_row-Term}
-use Rattle.lb_static.specs.declared.resolved.VariableId.{VariableId}
-use Rattle.lb_check.specs.Clocks.{base_clock, clock_of, clock_or, declared_clock, given_inputs}
-use Rattle.lb_check.specs.Clocks.{outer, ungrouped}
-use Rattle.lb_check.specs.ClockRules.{are_declared_clocks, are_on_results, is_clocked}
-use Rattle.lb_check.specs.ClockRules.{is_occurrence_clocked, is_statement_clocked}
-use Rattle.lb_check.specs.FoundTerms.{HasFoundCalls, HasTermClocks, pair_names}
-use Rattle.lb_check.specs.Needs.{given_parameters, given_to, is_site, lefts_at}
-use Rattle.lb_check.specs.Occurrences.{Occurrence, at, node_occurrences, occurrences}
-use Rattle.lb_check.specs.Occurrences.{occurrences_each, occurrences_in, right_sides}
-use Rattle.lb_check.specs.Occurrences.{statement_clock}
-use Rattle.lb_check.specs.Occurrences as text
-use Rattle.lb_check.specs.OwnClocks.{clock_in, name_in}
-use Rattle.lb_check.specs.ClockSets.{SeesClocks, is_clocked_on, are_single, is_single}
-use Rattle.lb_check.specs.ClockSets.{is_single_within, is_statement_single}
-use Rattle.lb_check.specs.PlacedClocks.{FoundCall, FoundTerm, argument_clocks, side_clocks}
-use Rattle.lb_check.specs.PlacedClocks.{side_call, determined_clock, given_variables}
-use Rattle.lb_check.specs.PlacedClocks.{placed_arguments, placed_row, placed_terms, placed_side}
-use Rattle.lb_check.specs.PlacedClocks.{placed_statement, node_terms}
-use Rattle.lb_static.specs.ReachedNodes.{callee_in}
-use Rattle.lb_check.specs.TermClocks.{Context, context_of, declared_in, infer_clock}
-use Rattle.lb_check.specs.TermClocks.{left_clock, operands_in, operands_of, result_base, stands_for}
-use Rattle.lb_check.specs.declared.clock_set.Operand.{Operand}
+use Rattle.lb_check.specs.PlacedClocks.{argument_clocks}
 use Rattle.lb_check.specs.declared.own_clock.Clock.{Clock}
-use Rattle.lb_check.specs.declared.own_clock.Clock.TheVariants.{Base}
 use Rattle.lb_check.proofs.CallClockSets.{call_stands}
 use Rattle.lb_check.proofs.CountedCalls.{call_placed as call_at_place, calls_in, counted_from}
 use Rattle.lb_check.proofs.ClockTests.{declared_is}
-use Rattle.lb_check.proofs.EquationClockSets as side
 use Rattle.lb_check.proofs.Every.{Every-all}
 use Rattle.lb_check.proofs.GivenVariables.{given_is}
 use Rattle.lb_check.proofs.NodeClocks.{resolved_at}
@@ -67,6 +45,10 @@ use Rattle.lb_check.proofs.RightCalls.{statement_below, statements_from}
 use Rattle.lb_check.proofs.SiteCallees.{callee_found}
 use Rattle.lb_check.proofs.TermClockSets.{row_items, within_items, unhidden_items, operands_items}
 use Rattle.lb_check.proofs.TermClockSets.{term_stands, row_stands}
+use Rattle.lb_syntax.specs.Tree as tree
+use Rattle.lb_static.specs.declared.resolved.ResolvedStatement.TheVariants as statement
+use Rattle.lb_check.specs.Occurrences as text
+use Rattle.lb_check.proofs.EquationClockSets as side
 
 abbrev no_names : List Name
 no_names = []

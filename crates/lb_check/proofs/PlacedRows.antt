@@ -1,27 +1,20 @@
 -- What is found of the parts of a term, from what is found of its operands, and of rows of terms
 -- from a place on.
-use Rattle.std.proofs.Common.{◌≡◌, ◌⊎◌, inl, inr, ℕ, ◌+◌, ◌<◌, ◌≤◌, List, [], ◌∷◌, ◌++◌}
-use Rattle.std.proofs.Common.{length, take, drop, map, flat_map, get_or, Some, None, Box}
-use Rattle.std.proofs.Common.{Global, Vec, refl, ap, ap₂, sym, ◌∙◌, arith}
-use Rattle.std.specs.Prelude.{slice_get}
-use Rattle.std.proofs.lemmas.List.{append_assoc, append-nil, drop_all, drop_at, drop_more}
-use Rattle.std.proofs.lemmas.List.{map-append, take_at}
+use Rattle.lb_check.proofs.Words.{◌≡◌, ◌⊎◌, inl, inr, ℕ, ◌+◌, ◌<◌, ◌≤◌, List, [], ◌∷◌, ◌++◌, length}
+use Rattle.lb_check.proofs.Words.{take, drop, map, flat_map, get_or, Some, None, Box, Global, Vec}
+use Rattle.lb_check.proofs.Words.{refl, ap, ap₂, sym, ◌∙◌, arith, slice_get, append_assoc}
+use Rattle.lb_check.proofs.Words.{append-nil, drop_all, drop_more, map-append, listed, CallId, Term}
+use Rattle.lb_check.proofs.Words.{Row_of-Term, end_of-Term, more_of-Term, items-the_row-Term}
+use Rattle.lb_check.proofs.Words.{items_hidden-the_row-Term-0, VariableId, IsPair, FoundCall}
+use Rattle.lb_check.proofs.Words.{FoundTerm, IsPlaced, part, row_term, called, with_terms}
+use Rattle.lb_check.proofs.Words.{placed_terms, placed_row, placed_arguments, placed_all}
+use Rattle.lb_check.proofs.Words.{placed_each, placed_side, placed_call, side_clocks}
+use Rattle.lb_check.proofs.Words.{determined_clock, nested_call, side_call, Context, infer_clock}
+use Rattle.lb_check.proofs.Words.{operands_in, operands_of, left_clock, IsLeaf, Operand}
+use Rattle.std.proofs.lemmas.List.{drop_at, take_at}
 use Rattle.std.proofs.lemmas.Option.{slice_get_cases}
-use Rattle.lb_syntax.specs.Lists.{listed}
-use Rattle.lb_static.specs.declared.resolved.CallId.{CallId}
-use Rattle.lb_static.specs.declared.resolved.Term.{Term, Group, If, Current, Call, Row_of-Term}
-use Rattle.lb_static.specs.declared.resolved.Term.{end_of-Term, more_of-Term, items-the_row-Term}
-use Rattle.lb_static.specs.declared.resolved.Term.{items_hidden-the_row-Term-0}
-use Rattle.lb_static.specs.declared.resolved.VariableId.{VariableId}
-use Rattle.lb_static.specs.TermForms.{IsPair}
-use Rattle.lb_check.specs.PlacedClocks.{FoundCall, FoundNode, FoundTerm, IsPlaced, part, row_term}
-use Rattle.lb_check.specs.PlacedClocks.{called, with_term, with_terms, placed_terms, placed_row}
-use Rattle.lb_check.specs.PlacedClocks.{placed_arguments, placed_all, placed_each, placed_side}
-use Rattle.lb_check.specs.PlacedClocks.{placed_call, operand_clock, call_clocks, side_clocks}
-use Rattle.lb_check.specs.PlacedClocks.{determined_clock, nested_call, side_call}
-use Rattle.lb_check.specs.TermClocks.{Context, infer_clock, operands_in, operands_of, left_clock}
-use Rattle.lb_check.specs.TermOperands.{IsLeaf}
-use Rattle.lb_check.specs.declared.clock_set.Operand.{Operand}
+use Rattle.lb_static.specs.declared.resolved.Term.{Group, If, Current, Call}
+use Rattle.lb_check.specs.PlacedClocks.{FoundNode, with_term, operand_clock, call_clocks}
 use Rattle.lb_check.specs.declared.own_clock.Clock.{Clock}
 use Rattle.lb_check.proofs.ClockRows.{same_operands}
 use Rattle.lb_check.proofs.TypeRows.{row_in, row_is}

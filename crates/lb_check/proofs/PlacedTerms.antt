@@ -1,54 +1,31 @@
 -- What the code finds of the parts of a term, clock by clock and call by call, is what its
 -- occurrences say.
-use Rattle.std.proofs.Common.{◌≡◌, ℕ, ◌+◌, Bool, true, false, List, [], ◌∷◌, ◌++◌, map, Option}
-use Rattle.std.proofs.Common.{Some, None, refl, ap, ap₂, sym, ◌∙◌, subst, arith}
-use Rattle.std.specs.Prelude.{◌&&◌, nat_eq}
-use Rattle.std.specs.List.{list_all}
-use Rattle.std.proofs.lemmas.Bool.Decides.{nat_tests}
-use Rattle.std.proofs.lemmas.List.Folds.{list_all-append}
-use mathlib.Core.Former.{Count}
-use Rattle.lb_syntax.specs.Lists.{◌>>=◌, either_or, holds, listed}
-use Rattle.lb_syntax.specs.Tree as tree
-use Rattle.lb_syntax.specs.Tree.{Name, Static, Expr}
-use Rattle.lb_syntax.proofs.TruthValues.{and_first, and_second}
-use Rattle.lb_static.specs.Instances.{Program, node_named}
-use Rattle.lb_static.specs.Parts.{variable_names}
-use Rattle.lb_static.specs.ResolvedNodes.{node_of, texts_of, counts_of}
-use Rattle.lb_static.specs.ResolvedTerms.{Texts, expr_of, exprs_of, row_of, named_value, static_at}
-use Rattle.lb_static.specs.ResolvedTerms.{site_at, is_variable, is_static, is_call, is_within}
-use Rattle.lb_static.specs.ResolvedTerms.{are_within, is_unhidden, are_unhidden}
-use Rattle.lb_static.specs.declared.reach.Reached.{Reached}
-use Rattle.lb_static.specs.declared.resolved.CallId.{CallId}
-use Rattle.lb_static.specs.declared.resolved.ResolvedNode.{ResolvedNode}
-use Rattle.lb_static.specs.declared.resolved.Term.{Term, Literal, Truth, Variable, Value, Group'}
-use Rattle.lb_static.specs.declared.resolved.Term.{Unary', Binary', If', Arrow', Fby', Pre'}
-use Rattle.lb_static.specs.declared.resolved.Term.{Current', When', Replicate', Index', Slice'}
-use Rattle.lb_static.specs.declared.resolved.Term.{Join', Array', AtMostOne', Nor', Call'}
-use Rattle.lb_static.specs.declared.resolved.Term.{IterateNode', IterateSymbol', Row_of-Term}
-use Rattle.lb_static.specs.declared.resolved.Term.{end_of-Term, more_of-Term, items-the_row-Term}
-use Rattle.lb_check.specs.Clocks as clocks
-use Rattle.lb_check.specs.Clocks.{Given, clock_of, clock_or, declared_clock, given_inputs, outer}
-use Rattle.lb_check.specs.ClockRules.{is_occurrence_clocked}
-use Rattle.lb_check.specs.FoundTerms.{are_parameters, given_names, pair_names}
-use Rattle.lb_check.specs.Needs.{given_parameters, is_site, site_clock}
-use Rattle.lb_check.specs.Occurrences.{Occurrence, at, call_count, occurrences, occurrences_in}
-use Rattle.lb_check.specs.Occurrences.{occurrences_each}
-use Rattle.lb_check.specs.Occurrences as text
-use Rattle.lb_check.specs.OwnClocks.{name_in, clock_in}
-use Rattle.lb_check.specs.ClockSets.{IsClockSet, SeesClocks, is_clocked_on, is_single}
-use Rattle.lb_check.specs.ClockSets.{are_single, calls_single}
-use Rattle.lb_check.specs.PlacedClocks.{FoundCall, FoundTerm, part, placed_terms, placed_row}
-use Rattle.lb_check.specs.PlacedClocks.{placed_arguments, argument_clocks, call_clocks}
-use Rattle.lb_check.specs.PlacedClocks.{determined_clock, given_variables, nested_call}
-use Rattle.lb_static.specs.ReachedNodes.{callee_in}
-use Rattle.lb_check.specs.TermClocks.{Context, context_of, declared_in, infer_clock}
-use Rattle.lb_check.specs.TermClocks.{operands_in, operands_of, input_clocks, clock_sets, base_of}
-use Rattle.lb_check.specs.TermClocks.{given_at}
+use Rattle.lb_check.proofs.Words.{◌≡◌, ℕ, ◌+◌, Bool, true, false, List, [], ◌∷◌, ◌++◌, map, Option}
+use Rattle.lb_check.proofs.Words.{Some, None, refl, ap, ap₂, sym, ◌∙◌, subst, arith, ◌&&◌, nat_eq}
+use Rattle.lb_check.proofs.Words.{list_all, nat_tests, list_all-append, Count, ◌>>=◌, either_or}
+use Rattle.lb_check.proofs.Words.{holds, listed, Name, Static, Expr, and_first, and_second, Program}
+use Rattle.lb_check.proofs.Words.{node_named, variable_names, node_of, texts_of, counts_of, Texts}
+use Rattle.lb_check.proofs.Words.{expr_of, exprs_of, row_of, named_value, static_at, site_at}
+use Rattle.lb_check.proofs.Words.{is_variable, is_static, is_call, is_within, are_within}
+use Rattle.lb_check.proofs.Words.{is_unhidden, are_unhidden, Reached, CallId, ResolvedNode, Term}
+use Rattle.lb_check.proofs.Words.{Literal, Truth, Value, Group', Unary', Binary', If', Arrow', Fby'}
+use Rattle.lb_check.proofs.Words.{Pre', Current', When', Replicate', Index', Slice', Join', Array'}
+use Rattle.lb_check.proofs.Words.{AtMostOne', Nor', Call', IterateNode', IterateSymbol'}
+use Rattle.lb_check.proofs.Words.{Row_of-Term, end_of-Term, more_of-Term, items-the_row-Term, Given}
+use Rattle.lb_check.proofs.Words.{clock_of, clock_or, declared_clock, given_inputs, outer}
+use Rattle.lb_check.proofs.Words.{is_occurrence_clocked, pair_names, given_parameters, is_site}
+use Rattle.lb_check.proofs.Words.{site_clock, Occurrence, at, call_count, occurrences}
+use Rattle.lb_check.proofs.Words.{occurrences_in, occurrences_each, name_in, clock_in, IsClockSet}
+use Rattle.lb_check.proofs.Words.{SeesClocks, is_clocked_on, is_single, are_single, calls_single}
+use Rattle.lb_check.proofs.Words.{FoundCall, FoundTerm, part, placed_terms, placed_row}
+use Rattle.lb_check.proofs.Words.{placed_arguments, determined_clock, given_variables, nested_call}
+use Rattle.lb_check.proofs.Words.{callee_in, Context, context_of, declared_in, infer_clock}
+use Rattle.lb_check.proofs.Words.{operands_in, operands_of, input_clocks, clock_sets, base_of}
+use Rattle.lb_check.proofs.Words.{given_at, Operand, ClockSet, NoClock, AnyClock, OneClock}
+use Rattle.lb_static.specs.declared.resolved.Term.{Variable}
+use Rattle.lb_check.specs.FoundTerms.{are_parameters, given_names}
+use Rattle.lb_check.specs.PlacedClocks.{argument_clocks, call_clocks}
 use Rattle.lb_check.specs.declared.own_clock.Clock.{Clock}
-use Rattle.lb_check.specs.declared.clock_set.Operand.{Operand}
-use Rattle.lb_check.specs.declared.clock_set.ClockSet.{ClockSet}
-use Rattle.lb_check.specs.declared.clock_set.ClockSet.TheVariants.{NoClock, AnyClock, OneClock}
-use Rattle.lb_check.proofs.CallClockSets as one
 use Rattle.lb_check.proofs.CallClockSets.{call_stands}
 use Rattle.lb_check.proofs.ClockTests.{declared_is}
 use Rattle.lb_check.proofs.GivenVariables.{given_is}
@@ -58,6 +35,10 @@ use Rattle.lb_check.proofs.PlacedWithin.{are_among, parameters_within}
 use Rattle.lb_check.proofs.SiteCallees.{callee_found}
 use Rattle.lb_check.proofs.TermClockSets.{row_items, within_items, unhidden_items, operands_items}
 use Rattle.lb_check.proofs.TermClockSets.{term_stands, row_stands}
+use Rattle.lb_syntax.specs.Tree as tree
+use Rattle.lb_check.specs.Clocks as clocks
+use Rattle.lb_check.specs.Occurrences as text
+use Rattle.lb_check.proofs.CallClockSets as one
 
 -- ## What is found of an occurrence
 

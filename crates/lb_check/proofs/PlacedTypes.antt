@@ -1,31 +1,21 @@
 -- The types that the code finds of the parts of a term are those of the parts of its text.
-use Rattle.std.proofs.Common.{◌≡◌, true, List, [], ◌∷◌, ◌++◌, map, flat_map}
-use Rattle.std.proofs.Common.{refl, ap, ap₂, sym, ◌∙◌}
-use Rattle.std.specs.Prelude.{◌&&◌}
-use Rattle.std.specs.List.{list_all}
-use Rattle.std.proofs.lemmas.List.{map-append}
-use mathlib.Core.Former.{Count}
-use Rattle.lb_syntax.specs.Tree as tree
-use Rattle.lb_syntax.specs.Tree.{Expr, Static}
-use Rattle.lb_syntax.proofs.TruthValues.{and_first, and_second}
-use Rattle.lb_static.specs.Instances.{Program, Instance}
-use Rattle.lb_static.specs.Parts.{parts, parts_in, right_side}
-use Rattle.lb_static.specs.ResolvedTerms.{Texts, Counts, expr_of, row_of, named_value, static_at}
-use Rattle.lb_static.specs.ResolvedTerms.{statement_of, is_variable, is_static, is_call, is_within}
-use Rattle.lb_static.specs.ResolvedTerms.{are_within, is_unhidden, are_unhidden}
-use Rattle.lb_static.specs.ResolvedTerms.{is_statement_within, is_statement_unhidden}
-use Rattle.lb_static.specs.declared.resolved.ResolvedStatement.{ResolvedStatement}
-use Rattle.lb_static.specs.declared.resolved.ResolvedStatement.TheVariants as statement
-use Rattle.lb_static.specs.declared.resolved.Term.{Term, Literal, Truth, Variable, Value, Group'}
-use Rattle.lb_static.specs.declared.resolved.Term.{Unary', Binary', If', Arrow', Fby', Pre'}
-use Rattle.lb_static.specs.declared.resolved.Term.{Current', When', Replicate', Index', Slice'}
-use Rattle.lb_static.specs.declared.resolved.Term.{Join', Array', AtMostOne', Nor', Call'}
-use Rattle.lb_static.specs.declared.resolved.Term.{IterateNode', IterateSymbol', Row_of-Term}
-use Rattle.lb_static.specs.declared.resolved.Term.{end_of-Term, more_of-Term}
-use Rattle.lb_check.specs.PlacedTypes.{FoundTypes, placed_types, placed_row_types, statement_types}
-use Rattle.lb_check.specs.TermTypes.{Context, results}
-use Rattle.lb_check.specs.Types.{data_types}
+use Rattle.lb_check.proofs.Words.{◌≡◌, true, List, [], ◌∷◌, ◌++◌, map, flat_map, refl, ap, ap₂, sym}
+use Rattle.lb_check.proofs.Words.{◌∙◌, ◌&&◌, list_all, map-append, Count, Expr, Static, and_first}
+use Rattle.lb_check.proofs.Words.{and_second, Program, Instance, parts, parts_in, right_side, Texts}
+use Rattle.lb_check.proofs.Words.{Counts, expr_of, row_of, named_value, static_at, statement_of}
+use Rattle.lb_check.proofs.Words.{is_variable, is_static, is_call, is_within, are_within}
+use Rattle.lb_check.proofs.Words.{is_unhidden, are_unhidden, is_statement_within}
+use Rattle.lb_check.proofs.Words.{is_statement_unhidden, ResolvedStatement, Term, Literal, Truth}
+use Rattle.lb_check.proofs.Words.{Value, Group', Unary', Binary', If', Arrow', Fby', Pre', Current'}
+use Rattle.lb_check.proofs.Words.{When', Replicate', Index', Slice', Join', Array', AtMostOne'}
+use Rattle.lb_check.proofs.Words.{Nor', Call', IterateNode', IterateSymbol', Row_of-Term}
+use Rattle.lb_check.proofs.Words.{end_of-Term, more_of-Term, FoundTypes, placed_types}
+use Rattle.lb_check.proofs.Words.{placed_row_types, statement_types, results, data_types}
+use Rattle.lb_static.specs.declared.resolved.Term.{Variable}
+use Rattle.lb_check.specs.TermTypes.{Context}
 use Rattle.lb_check.proofs.MirroredTypes.{Fits, term_results}
+use Rattle.lb_syntax.specs.Tree as tree
+use Rattle.lb_static.specs.declared.resolved.ResolvedStatement.TheVariants as statement
 
 module _ (P : Program) (here : Instance) (texts : Texts) (n : Counts) (ctx : Context)
     (fits : Fits P here texts n ctx) where

@@ -1,62 +1,38 @@
 -- What the code finds of the terms and calls of a node names variables of the node, and of the
 -- callee of a call variables of the callee.
-use Rattle.std.proofs.Common.{◌≡◌, ℕ, zero, suc, ◌+◌, ◌-◌, ◌<◌, ◌≤◌, Bool, true, false, List, []}
-use Rattle.std.proofs.Common.{◌∷◌, ◌++◌, length, map, flat_map, take, Option, Some, None, refl}
-use Rattle.std.proofs.Common.{arith}
-use Rattle.std.specs.Prelude.{◌&&◌, nat_lt, slice_get, option_map, if◌then◌else◌}
-use Rattle.std.specs.List.{list_all}
-use Rattle.std.proofs.lemmas.Bool.Decides.{nat_tests}
-use Rattle.std.proofs.lemmas.List.{length-take}
-use mathlib.Core.Former.{Count}
-use Rattle.std.proofs.lemmas.Bool.{and_from}
-use Rattle.lb_syntax.specs.Lists.{◌>>=◌, Every, either_or, holds, listed, or_else}
-use Rattle.lb_syntax.specs.Tree.{Node}
-use Rattle.lb_syntax.proofs.ListPlaces.{all_at}
-use Rattle.lb_syntax.proofs.TruthValues.{and_first, and_second}
-use Rattle.lb_static.specs.Parts.{variable_names}
-use Rattle.lb_static.specs.ResolvedNodes.{node_of, counts_of}
-use Rattle.lb_static.specs.ResolvedTerms.{is_variable, is_static, is_call, is_within, are_within}
-use Rattle.lb_static.specs.ResolvedTerms.{is_declared_within, is_sampling_within, are_statics}
-use Rattle.lb_static.specs.ResolvedTerms.{is_statement_within}
-use Rattle.lb_static.specs.declared.reach.Reached.{Reached}
-use Rattle.lb_static.specs.declared.resolved.ResolvedNode.{ResolvedNode}
-use Rattle.lb_static.specs.declared.resolved.ResolvedStatement.{ResolvedStatement}
-use Rattle.lb_static.specs.declared.resolved.ResolvedStatement.TheVariants as statement
-use Rattle.lb_static.specs.declared.resolved.Sampling.{Sampling}
-use Rattle.lb_static.specs.declared.resolved.Term.{Term, Literal, Truth, Variable, Value, Group'}
-use Rattle.lb_static.specs.declared.resolved.Term.{Unary', Binary', If', Arrow', Fby', Pre'}
-use Rattle.lb_static.specs.declared.resolved.Term.{Current', When', Replicate', Index', Slice'}
-use Rattle.lb_static.specs.declared.resolved.Term.{Join', Array', AtMostOne', Nor', Call'}
-use Rattle.lb_static.specs.declared.resolved.Term.{IterateNode', IterateSymbol', Row_of-Term}
-use Rattle.lb_static.specs.declared.resolved.Term.{end_of-Term, more_of-Term}
+use Rattle.lb_check.proofs.Words.{◌≡◌, ℕ, zero, suc, ◌+◌, ◌-◌, ◌<◌, ◌≤◌, Bool, true, false, List}
+use Rattle.lb_check.proofs.Words.{[], ◌∷◌, ◌++◌, length, map, flat_map, take, Option, Some, None}
+use Rattle.lb_check.proofs.Words.{refl, arith, ◌&&◌, nat_lt, slice_get, option_map, if◌then◌else◌}
+use Rattle.lb_check.proofs.Words.{list_all, nat_tests, length-take, Count, and_from, ◌>>=◌, Every}
+use Rattle.lb_check.proofs.Words.{either_or, holds, listed, or_else, Node, all_at, and_first}
+use Rattle.lb_check.proofs.Words.{and_second, variable_names, node_of, counts_of, is_variable}
+use Rattle.lb_check.proofs.Words.{is_static, is_call, is_within, are_within, is_declared_within}
+use Rattle.lb_check.proofs.Words.{is_sampling_within, are_statics, is_statement_within, Reached}
+use Rattle.lb_check.proofs.Words.{ResolvedNode, ResolvedStatement, Sampling, Term, Literal, Truth}
+use Rattle.lb_check.proofs.Words.{Value, Group', Unary', Binary', If', Arrow', Fby', Pre', Current'}
+use Rattle.lb_check.proofs.Words.{When', Replicate', Index', Slice', Join', Array', AtMostOne'}
+use Rattle.lb_check.proofs.Words.{Nor', Call', IterateNode', IterateSymbol', Row_of-Term}
+use Rattle.lb_check.proofs.Words.{end_of-Term, more_of-Term, VariableId, variable_of}
+use Rattle.lb_check.proofs.Words.{is_call_within, HasClocks, is_clock_within, FoundCall, FoundTerm}
+use Rattle.lb_check.proofs.Words.{determined_clock, given_from, given_variable, given_variables}
+use Rattle.lb_check.proofs.Words.{is_awaited, nested_call, node_terms, pair_at, placed_arguments}
+use Rattle.lb_check.proofs.Words.{placed_row, placed_side, placed_statement, placed_terms}
+use Rattle.lb_check.proofs.Words.{side_call, side_clocks, Context, accepts_clock, all_fit}
+use Rattle.lb_check.proofs.Words.{are_given, base_of, both, call_clock_set, clock_set_on}
+use Rattle.lb_check.proofs.Words.{is_base_clocked, clock_sets, clock_with, context_of, declared_in}
+use Rattle.lb_check.proofs.Words.{expected, first_result, given_at, infer_clock, input_clocks}
+use Rattle.lb_check.proofs.Words.{is_same, left_clock, left_clock_sets, operands_in, output_clocks}
+use Rattle.lb_check.proofs.Words.{raised, result_base, stands_for, together, ClockSet, NoClock}
+use Rattle.lb_check.proofs.Words.{AnyClock, OneClock, Operand, GivenVariable, Base}
+use Rattle.lb_static.specs.declared.resolved.Term.{Variable}
 use Rattle.lb_static.specs.declared.resolved.Variable.{Variable as Declared}
-use Rattle.lb_static.specs.declared.resolved.VariableId.{VariableId}
-use Rattle.lb_check.specs.CallClocks.{variable_of}
-use Rattle.lb_check.specs.FoundTerms.{is_call_within}
-use Rattle.lb_check.specs.OwnClocks.{HasClocks, is_clock_within}
-use Rattle.lb_check.specs.PlacedClocks.{FoundCall, FoundTerm, argument_clocks, call_base}
-use Rattle.lb_check.specs.PlacedClocks.{call_clocks, determined_clock, given_from, given_variable}
-use Rattle.lb_check.specs.PlacedClocks.{given_variables, is_awaited, nested_call, node_terms}
-use Rattle.lb_check.specs.PlacedClocks.{pair_at}
-use Rattle.lb_check.specs.PlacedClocks.{placed_arguments, placed_row, placed_side}
-use Rattle.lb_check.specs.PlacedClocks.{placed_statement, placed_terms, side_base, side_call}
-use Rattle.lb_check.specs.PlacedClocks.{side_clocks}
-use Rattle.lb_check.specs.TermClocks.{Context, accepts_clock, all_fit, are_given, base_of, both}
-use Rattle.lb_check.specs.TermClocks.{call_clock_set, clock_set_on, is_base_clocked}
-use Rattle.lb_check.specs.TermClocks.{clock_sets, clock_with, context_of, declared_in, expected}
-use Rattle.lb_check.specs.TermClocks.{first_result, given_at, infer_clock, input_clocks}
-use Rattle.lb_check.specs.TermClocks.{is_same, left_clock, left_clock_sets, operands_in}
-use Rattle.lb_check.specs.TermClocks.{output_clocks, raised, result_base}
-use Rattle.lb_check.specs.TermClocks.{stands_for, together}
-use Rattle.lb_check.specs.declared.clock_set.ClockSet.{ClockSet}
-use Rattle.lb_check.specs.declared.clock_set.ClockSet.TheVariants.{NoClock, AnyClock, OneClock}
-use Rattle.lb_check.specs.declared.clock_set.Operand.{Operand}
-use Rattle.lb_check.specs.declared.found_clocks.GivenVariable.{GivenVariable}
+use Rattle.lb_check.specs.PlacedClocks.{argument_clocks, call_base, call_clocks, side_base}
 use Rattle.lb_check.specs.declared.own_clock.Clock.{Clock}
-use Rattle.lb_check.specs.declared.own_clock.Clock.TheVariants.{Base, On}
+use Rattle.lb_check.specs.declared.own_clock.Clock.TheVariants.{On}
 use Rattle.lb_check.proofs.ClockedNodes.{as_many_names}
 use Rattle.lb_check.proofs.Every.{Every-append}
 use Rattle.lb_check.proofs.PlacedRows.{calls_among, clocks_among}
+use Rattle.lb_static.specs.declared.resolved.ResolvedStatement.TheVariants as statement
 
 -- ## Variables of a callee
 

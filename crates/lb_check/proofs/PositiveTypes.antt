@@ -1,50 +1,29 @@
 -- In an accepted program no length of the type of an expression is 0.
-use Rattle.std.proofs.Common.{◌≡◌, inl, inr, ℕ, zero, suc, ◌+◌, ◌*◌, ◌-◌, ◌<◌, ◌≤◌, Bool}
-use Rattle.std.proofs.Common.{true, false, Option, Some, None, List, []}
-use Rattle.std.proofs.Common.{◌∷◌, ◌++◌, map, flat_map, refl, ap, sym}
-use Rattle.std.proofs.Common.{◌∙◌, subst, arith, cond, length}
+use Rattle.lb_check.proofs.Words.{◌≡◌, inl, inr, ℕ, zero, suc, ◌+◌, ◌*◌, ◌-◌, ◌<◌, ◌≤◌, Bool, true}
+use Rattle.lb_check.proofs.Words.{false, Option, Some, None, List, [], ◌∷◌, ◌++◌, map, flat_map}
+use Rattle.lb_check.proofs.Words.{refl, ap, sym, ◌∙◌, subst, arith, cond, length, list_all}
+use Rattle.lb_check.proofs.Words.{bytes_eq, nat_tests, suc-mul, sum_by-cons, same_Some, ◌>>=◌}
+use Rattle.lb_check.proofs.Words.{Every, In, all_some, either_or, holds, tail_of, where_true, Name}
+use Rattle.lb_check.proofs.Words.{Static, Node_named, Symbol, Expr, Group, Unary, Binary, If, Arrow}
+use Rattle.lb_check.proofs.Words.{Fby, Pre, Current, When, Replicate, Index, Slice, Join, Array}
+use Rattle.lb_check.proofs.Words.{AtMostOne, Nor, Call, Iterate, Exprs, Nil, Cons, Declaration}
+use Rattle.lb_check.proofs.Words.{Statement, ArrayIterator, Map, Red, Fill, BinaryOperator}
+use Rattle.lb_check.proofs.Words.{UnaryOperator, Kind, all_in, and_first, is_int, DataType, int}
+use Rattle.lb_check.proofs.Words.{truth, product, element_count, variables, is_type, variable_type}
+use Rattle.lb_check.proofs.Words.{width, total, Program, Instance, Child, Site, static_count}
+use Rattle.lb_check.proofs.Words.{instances, instance_count, name_value, static_refusal, is_between}
+use Rattle.lb_check.proofs.Words.{declared_sizes, node_parts, node_sizes, own_sizes, parts}
+use Rattle.lb_check.proofs.Words.{parts_in, right_side, named, map_in, check_refusal}
+use Rattle.lb_check.proofs.Words.{node_occurrences, part_count, expression_size, instance_size}
+use Rattle.lb_check.proofs.Words.{is_small, size, constant_type, data_types, all_types, only}
+use Rattle.lb_check.proofs.Words.{singly, name_data_type, from_one, from_truths, unary_type}
+use Rattle.lb_check.proofs.Words.{binary_type, common_type, array_of, index_type, slice_type}
+use Rattle.lb_check.proofs.Words.{join_type, list_type, iterator_types, operator_types}
+use Rattle.lb_check.proofs.Words.{is_arithmetic, is_logical}
 use Rattle.std.specs.Prelude.{◌&&◌, ℤ, pos, nat_le, nat_lt, option_map, if◌then◌else◌, sum_by}
-use Rattle.std.specs.List.{list_all}
-use Rattle.std.specs.Str.{bytes_eq}
-use Rattle.std.proofs.lemmas.Bool.Decides.{nat_tests}
-use Rattle.std.proofs.Math.Nat.{suc-mul}
-use Rattle.std.proofs.lemmas.List.Sums.{sum_by-cons}
-use Rattle.std.proofs.lemmas.Option.{same_Some}
-use Rattle.lb_syntax.specs.Lists.{◌>>=◌, Every, In, all_some, either_or, holds, tail_of}
-use Rattle.lb_syntax.specs.Lists.{where_true}
-use Rattle.lb_syntax.specs.Tree.{Name, Static, Node_named, Symbol, Expr, Literal, Truth, Variable}
-use Rattle.lb_syntax.specs.Tree.{Group, Unary, Binary, If, Arrow, Fby, Pre, Current, When}
-use Rattle.lb_syntax.specs.Tree.{Replicate, Index, Slice, Join, Array, AtMostOne, Nor, Call}
-use Rattle.lb_syntax.specs.Tree.{Iterate, Exprs, Nil, Cons, Declaration, Statement}
-use Rattle.lb_syntax.specs.declared.tree.ArrayIterator.{ArrayIterator}
-use Rattle.lb_syntax.specs.declared.tree.ArrayIterator.TheVariants.{Map, Red, Fill}
-use Rattle.lb_syntax.specs.declared.tree.BinaryOperator.{BinaryOperator}
-use Rattle.lb_syntax.specs.declared.tree.UnaryOperator.{UnaryOperator}
+use Rattle.lb_syntax.specs.Tree.{Literal, Truth, Variable}
 use Rattle.lb_syntax.specs.declared.tree.UnaryOperator.TheVariants.{Not, Negate}
-use Rattle.lb_syntax.specs.declared.tree.Kind.{Kind}
-use Rattle.lb_syntax.proofs.ListPlaces.{all_in}
-use Rattle.lb_syntax.proofs.TruthValues.{and_first}
-use Rattle.lb_static.specs.Arithmetic.{is_int}
-use Rattle.lb_static.specs.DataTypes.{DataType, int, truth, product, element_count, variables}
-use Rattle.lb_static.specs.DataTypes.{is_type, variable_type, width}
-use Rattle.lb_static.specs.Instances.{Program, Instance, Child, Site, static_count, instances}
-use Rattle.lb_static.specs.Instances.{instance_count, name_value}
-use Rattle.lb_static.specs.Instantiation.{static_refusal, is_between}
-use Rattle.lb_static.specs.Parts.{declared_sizes, node_parts, node_sizes, own_sizes, parts}
-use Rattle.lb_static.specs.Parts.{parts_in, right_side}
-use Rattle.lb_static.specs.StaticValues.{named}
-use Rattle.lb_static.proofs.Members.{map_in}
-use Rattle.lb_check.specs.Acceptance.{check_refusal}
-use Rattle.lb_check.specs.Occurrences.{node_occurrences}
-use Rattle.lb_check.specs.Streams.{part_count}
-use Rattle.lb_check.specs.TypeRules.{expression_size, instance_size, is_small, size}
-use Rattle.lb_static.specs.DataTypes.{total}
-use Rattle.lb_check.specs.Types.{constant_type}
-use Rattle.lb_check.specs.Types.{data_types, all_types, only, singly, name_data_type, from_one}
-use Rattle.lb_check.specs.Types.{from_truths, unary_type, binary_type, common_type, array_of}
-use Rattle.lb_check.specs.Types.{element_of, index_type, slice_type, join_type, list_type}
-use Rattle.lb_check.specs.Types.{iterator_types, operator_types, is_arithmetic, is_logical}
-use Rattle.lb_check.specs.Types.{is_equality}
+use Rattle.lb_check.specs.Types.{element_of, is_equality}
 use Rattle.lb_check.proofs.AcceptedRules.{typed, valued}
 use Rattle.lb_check.proofs.ApartLists.{in_first, in_second, to_pieces, Every-at}
 use Rattle.lb_check.proofs.CalledInstances.{instance_there}

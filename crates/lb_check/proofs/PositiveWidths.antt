@@ -1,17 +1,11 @@
 -- In an accepted program each variable has an element, since no size is 0.
-use Rattle.std.proofs.Common.{◌≡◌, ℕ, zero, suc, ◌*◌, ◌<◌, true, Option, Some, None, option_map}
-use Rattle.std.proofs.Common.{List, [], ◌∷◌, map, flat_map, reverse, arith}
-use Rattle.std.specs.Prelude.{◌&&◌, nat_le}
-use Rattle.std.proofs.lemmas.Bool.Decides.{nat_tests}
-use Rattle.std.proofs.Math.Nat.{suc-mul}
-use Rattle.lb_syntax.specs.Lists.{Every, In, holds, either_or, all_some}
-use Rattle.lb_syntax.specs.Tree.{Static, Declaration}
-use Rattle.lb_syntax.proofs.ListPlaces.{all_in}
-use Rattle.lb_syntax.proofs.TruthValues.{and_first}
-use Rattle.lb_static.specs.DataTypes.{product, element_count, variables, width}
-use Rattle.lb_static.specs.Instances.{Program, Instance, static_count, instances}
-use Rattle.lb_static.specs.Instantiation.{static_refusal, is_between}
-use Rattle.lb_static.specs.Parts.{declared_sizes, node_sizes, own_sizes, node_parts}
+use Rattle.lb_check.proofs.Words.{◌≡◌, ℕ, zero, suc, ◌*◌, ◌<◌, true, Option, Some, None, List, []}
+use Rattle.lb_check.proofs.Words.{◌∷◌, map, flat_map, arith, ◌&&◌, nat_le, nat_tests, suc-mul}
+use Rattle.lb_check.proofs.Words.{Every, In, holds, either_or, all_some, Static, Declaration}
+use Rattle.lb_check.proofs.Words.{all_in, and_first, product, element_count, variables, width}
+use Rattle.lb_check.proofs.Words.{Program, Instance, static_count, instances, static_refusal}
+use Rattle.lb_check.proofs.Words.{is_between, declared_sizes, node_sizes, own_sizes, node_parts}
+use Rattle.std.proofs.Common.{option_map, reverse}
 use Rattle.lb_check.proofs.ApartLists.{in_first, to_pieces, Every-at, Every-from}
 use Rattle.lb_check.proofs.Checks.{instantiation_kept}
 use Rattle.lb_check.proofs.Every.{Every-reverse}

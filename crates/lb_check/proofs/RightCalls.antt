@@ -1,17 +1,12 @@
 -- The left variables of the call of a number, statement by statement.
-use Rattle.std.proofs.Common.{◌≡◌, ℕ, ◌+◌, ◌<◌, ◌≤◌, Bool, true, false, Some}
-use Rattle.std.proofs.Common.{None, List, [], ◌∷◌, length, zip, refl, ap, sym, ◌∙◌, arith}
-use Rattle.std.specs.Prelude.{◌&&◌, cond, find, nat_eq}
-use Rattle.std.proofs.lemmas.Bool.Decides.{nat_tests}
-use Rattle.std.proofs.Math.Bool.{and-false}
-use Rattle.lb_syntax.specs.Lists.{Every, In, listed}
-use Rattle.lb_syntax.specs.Tree.{Name, Expr, Exprs, Node, Statement}
-use Rattle.lb_static.specs.Instances.{Program, Site, sites_in, statement_sites, numbered_sites}
-use Rattle.lb_static.specs.Parts.{left_names, right_side}
-use Rattle.lb_check.specs.Clocks.{Clock, ungrouped}
-use Rattle.lb_check.specs.Needs.{is_right_side, is_site}
-use Rattle.lb_check.specs.Occurrences.{Occurrence, at, occurrences, occurrences_each}
-use Rattle.lb_check.specs.Occurrences.{occurrences_in, right_sides, statement_clock}
+use Rattle.lb_check.proofs.Words.{◌&&◌, find, nat_eq, nat_tests, and-false, Every, In, listed, Name}
+use Rattle.lb_check.proofs.Words.{Expr, Exprs, Node, Statement, Program, Site, sites_in}
+use Rattle.lb_check.proofs.Words.{statement_sites, numbered_sites, left_names, right_side, Clock}
+use Rattle.lb_check.proofs.Words.{ungrouped, is_right_side, is_site, Occurrence, at, occurrences}
+use Rattle.lb_check.proofs.Words.{occurrences_each, occurrences_in, right_sides, statement_clock}
+use Rattle.std.proofs.Common.{◌≡◌, ℕ, ◌+◌, ◌<◌, ◌≤◌, Bool, true, false, Some, None, List, [], ◌∷◌}
+use Rattle.std.proofs.Common.{length, zip, refl, ap, sym, ◌∙◌, arith}
+use Rattle.std.specs.Prelude.{cond}
 use Rattle.lb_check.proofs.CallNumbers.{statement_has_site}
 use Rattle.lb_check.proofs.Every.{Every-map}
 use Rattle.lb_check.proofs.OccurrenceSites.{AreCalls, body_calls, body_occurrences, calls_each}

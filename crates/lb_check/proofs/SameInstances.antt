@@ -1,29 +1,18 @@
 -- What holds of all instances of a program holds of those that an instance calls, and two histories
 -- that agree on all of them have the same streams at all named places.
+use Rattle.lb_check.proofs.Words.{◌&&◌, nat_le, nat_lt, IfSome, list_all, range_with_len, nat_tests}
+use Rattle.lb_check.proofs.Words.{same_Some, Every, either_or, holds, listed, all_some, E5, E6, E9}
+use Rattle.lb_check.proofs.Words.{E10, E12, unless, Name, Static, Node, and_first, and_second}
+use Rattle.lb_check.proofs.Words.{Program, Instance, Path, Root, Observer, Child, Site, node_sites}
+use Rattle.lb_check.proofs.Words.{numbered_sites, node_named, static_value, static_count}
+use Rattle.lb_check.proofs.Words.{instance_count, callee_of, start_at, instance_at, site_instances}
+use Rattle.lb_check.proofs.Words.{children, instances_from, instances, node_sizes, is_between}
+use Rattle.lb_check.proofs.Words.{is_in_range, has_values, level, may_enter, instance_refusal}
+use Rattle.lb_check.proofs.Words.{instantiation_refusal, check_refusal, are_declared_clocks}
+use Rattle.lb_check.proofs.Words.{is_clocked, AgreeAt, AreSame, History, is_typed}
 use Rattle.std.proofs.Common.{◌≡◌, ℕ, zero, suc, ◌+◌, ◌<◌, ◌≤◌, true, Option, Some, None}
 use Rattle.std.proofs.Common.{option_map, List, [], ◌∷◌, map, refl, ap, sym, subst, arith}
-use Rattle.std.specs.Prelude.{◌&&◌, nat_le, nat_lt, IfSome}
-use Rattle.std.specs.List.{list_all, range_with_len}
-use Rattle.std.proofs.lemmas.Bool.Decides.{nat_tests}
-use Rattle.std.proofs.lemmas.Option.{same_Some}
-use Rattle.lb_syntax.specs.Lists.{Every, either_or, holds, listed, all_some}
-use Rattle.lb_syntax.specs.Refusals.{E5, E6, E9, E10, E12, unless}
-use Rattle.lb_syntax.specs.Tree.{Name, Static, Node}
-use Rattle.lb_syntax.proofs.TruthValues.{and_first, and_second}
-use Rattle.lb_static.specs.Instances.{Program, Instance, Path, Root, Observer, Child, Site}
-use Rattle.lb_static.specs.Instances.{node_sites, numbered_sites, node_named, static_value}
-use Rattle.lb_static.specs.Instances.{static_count, instance_count, callee_of, start_at}
-use Rattle.lb_static.specs.Instances.{instance_at, site_instances, children, instances_from}
-use Rattle.lb_static.specs.Instances.{instances}
-use Rattle.lb_static.specs.Parts.{node_sizes}
-use Rattle.lb_static.specs.Instantiation.{is_between, is_in_range, has_values, level, may_enter}
-use Rattle.lb_static.specs.Instantiation.{instance_refusal, instantiation_refusal}
 use Rattle.lb_static.proofs.SiteCounts.{passes, counted, node_counts}
-use Rattle.lb_check.specs.Acceptance.{check_refusal}
-use Rattle.lb_check.specs.ClockRules.{are_declared_clocks, is_clocked}
-use Rattle.lb_check.specs.Solutions.{AgreeAt, AreSame}
-use Rattle.lb_check.specs.Streams.{History}
-use Rattle.lb_check.specs.TypeRules.{is_typed}
 use Rattle.lb_check.proofs.Checks.{first_none, second_none, kept}
 use Rattle.lb_check.proofs.DeterminedClocks.{OfCalled, Sited}
 use Rattle.lb_check.proofs.Every.{Every-map, Every-both, Every-tested, Every-all, Every-append}

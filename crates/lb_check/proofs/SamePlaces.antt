@@ -1,24 +1,15 @@
 -- Two histories that agree on an instance and on those that it calls have the same streams at the
 -- named places of the instance.
-use Rattle.std.proofs.Common.{◌≡◌, ℕ, ◌+◌, true, false, Option, Some, None, List, [], ◌∷◌, ◌++◌}
-use Rattle.std.proofs.Common.{flat_map, zip, refl, ap₂}
-use Rattle.std.specs.Prelude.{IfSome}
-use Rattle.std.specs.List.{list_all}
-use Rattle.lb_syntax.specs.Lists.{Every}
-use Rattle.lb_syntax.specs.Tree.{Name, Expr, Statement, Equation, Assertion}
-use Rattle.lb_syntax.proofs.TruthValues.{and_first, and_second}
-use Rattle.lb_static.specs.Instances.{Program, Instance, sites, statement_sites, node_sites}
-use Rattle.lb_static.specs.Parts.{among, clock_names}
-use Rattle.lb_static.specs.DataTypes.{DataType, truth, is_type, variables}
-use Rattle.lb_static.specs.Instantiation.{are_same}
-use Rattle.lb_check.specs.ClockRules.{is_clocked, is_occurrence_clocked, are_declared_clocks}
-use Rattle.lb_check.specs.Clocks.{clock_of}
-use Rattle.lb_check.specs.Occurrences.{Occurrence, call_count, occurrences, statement_clock}
-use Rattle.lb_check.specs.Occurrences.{right_sides, statements, node_occurrences}
-use Rattle.lb_check.specs.Solutions.{AgreeAt, streams_at}
-use Rattle.lb_check.specs.Streams.{History}
-use Rattle.lb_check.specs.TypeRules.{is_statement_typed, is_clock_typed, is_typed}
-use Rattle.lb_check.specs.Types.{data_types}
+use Rattle.lb_check.proofs.Words.{◌≡◌, ℕ, ◌+◌, true, false, Option, Some, None, List, [], ◌∷◌, ◌++◌}
+use Rattle.lb_check.proofs.Words.{flat_map, refl, ap₂, IfSome, list_all, Every, Name, Expr}
+use Rattle.lb_check.proofs.Words.{Statement, Equation, Assertion, and_first, and_second, Program}
+use Rattle.lb_check.proofs.Words.{Instance, sites, statement_sites, node_sites, among, clock_names}
+use Rattle.lb_check.proofs.Words.{DataType, truth, is_type, variables, are_same, is_clocked}
+use Rattle.lb_check.proofs.Words.{is_occurrence_clocked, are_declared_clocks, clock_of, Occurrence}
+use Rattle.lb_check.proofs.Words.{call_count, occurrences, statement_clock, right_sides, statements}
+use Rattle.lb_check.proofs.Words.{node_occurrences, AgreeAt, streams_at, History}
+use Rattle.lb_check.proofs.Words.{is_statement_typed, is_clock_typed, is_typed, data_types}
+use Rattle.std.proofs.Common.{zip}
 use Rattle.lb_check.specs.Verdicts.{assertion_of, assertions, memory_operand, memory_operands}
 use Rattle.lb_check.specs.Verdicts.{variable_columns, memory_columns, assertion_columns}
 use Rattle.lb_check.specs.Verdicts.{named_places, clock_variables, clock_columns}

@@ -1,31 +1,24 @@
 -- What has the same streams as a solution of an accepted program, and runs its starts at every
 -- instant, solves it too.
-use Rattle.std.proofs.Common.{◌≡◌, ℕ, zero, suc, ◌+◌, ◌<◌, true, Option, Some, None, List, [], ◌∷◌}
-use Rattle.std.proofs.Common.{◌++◌, length, map, replicate, refl, ap, ap₂, sym, ◌∙◌, subst, arith}
-use Rattle.std.specs.Prelude.{IfSome, option_map}
-use Rattle.lb_syntax.specs.declared.tree.ArrayIterator.{ArrayIterator}
-use Rattle.lb_syntax.specs.declared.tree.ArrayIterator.TheVariants.{Map, Red, Fill}
-use Rattle.lb_syntax.specs.Lists.{Every, part}
-use Rattle.lb_syntax.specs.Tree.{Name, Static, Node_named, Symbol, Expr, Call, Iterate, Exprs, Nil}
-use Rattle.lb_syntax.specs.Tree.{Cons, Declaration, Node, Statement, Equation, Assertion}
-use Rattle.lb_static.specs.Instances.{Program, Instance, Path, Root, Observer, Child, sites}
-use Rattle.lb_static.specs.Instances.{sites_in, node_sites, node_named, static_count, start_at}
-use Rattle.lb_static.specs.Instances.{instance_at, instances}
-use Rattle.lb_static.specs.DataTypes.{DataType, variables}
-use Rattle.lb_static.specs.Instantiation.{instantiation_refusal, static_refusal}
-use Rattle.lb_check.specs.Acceptance.{check_refusal}
-use Rattle.lb_check.specs.ClockRules.{are_declared_clocks, is_clocked}
-use Rattle.lb_check.specs.Clocks.{Clock, declared_clock, base_clock, argument_clocks}
-use Rattle.lb_check.specs.Occurrences.{Occurrence, at, call_count, call_clocks, occurrences}
-use Rattle.lb_check.specs.Occurrences.{occurrences_each, statements, node_occurrences}
-use Rattle.lb_check.specs.Scalars.{Stream}
-use Rattle.lb_check.specs.Solutions.{Receives, accumulated, iterator_inputs, IsIteratorJoined}
-use Rattle.lb_check.specs.Solutions.{IsCallJoined, IsJoinedAt, IsJoined, AreEqual, streams_at, fits}
-use Rattle.lb_check.specs.Solutions.{Fits, variable_presence, Inputs, columns_at, IsObserved}
-use Rattle.lb_check.specs.Solutions.{IsGiven, SolvesAt, Solves, AgreeAt, AreSame}
+use Rattle.lb_check.proofs.Words.{◌≡◌, ℕ, zero, suc, ◌+◌, ◌<◌, true, Option, Some, None, List, []}
+use Rattle.lb_check.proofs.Words.{◌∷◌, ◌++◌, length, map, replicate, refl, ap, ap₂, sym, ◌∙◌, subst}
+use Rattle.lb_check.proofs.Words.{arith, IfSome, option_map, ArrayIterator, Map, Red, Fill, Every}
+use Rattle.lb_check.proofs.Words.{Name, Static, Node_named, Symbol, Expr, Call, Iterate, Exprs, Nil}
+use Rattle.lb_check.proofs.Words.{Cons, Declaration, Node, Statement, Equation, Assertion, Program}
+use Rattle.lb_check.proofs.Words.{Instance, Path, Root, Observer, Child, sites, sites_in}
+use Rattle.lb_check.proofs.Words.{node_sites, node_named, static_count, start_at, instance_at}
+use Rattle.lb_check.proofs.Words.{instances, DataType, variables, instantiation_refusal}
+use Rattle.lb_check.proofs.Words.{static_refusal, check_refusal, are_declared_clocks, is_clocked}
+use Rattle.lb_check.proofs.Words.{Clock, declared_clock, base_clock, argument_clocks, Occurrence}
+use Rattle.lb_check.proofs.Words.{at, call_count, call_clocks, occurrences, occurrences_each}
+use Rattle.lb_check.proofs.Words.{statements, node_occurrences, Stream, IsIteratorJoined}
+use Rattle.lb_check.proofs.Words.{IsCallJoined, IsJoinedAt, IsJoined, streams_at, fits, Fits}
+use Rattle.lb_check.proofs.Words.{variable_presence, Inputs, SolvesAt, Solves, AgreeAt, AreSame}
+use Rattle.lb_check.proofs.Words.{is_typed, all_types, operator_types}
+use Rattle.lb_syntax.specs.Lists.{part}
+use Rattle.lb_check.specs.Solutions.{Receives, accumulated, iterator_inputs, AreEqual, columns_at}
+use Rattle.lb_check.specs.Solutions.{IsObserved, IsGiven}
 use Rattle.lb_check.specs.Streams.{History, presence, all_streams, argument_streams, number}
-use Rattle.lb_check.specs.TypeRules.{is_typed}
-use Rattle.lb_check.specs.Types.{all_types, operator_types}
 use Rattle.lb_check.proofs.Checks.{instantiation_kept}
 use Rattle.lb_check.proofs.DeterminedClocks.{OfCalled, Sited, AllLawful, AreSited, fore, aft}
 use Rattle.lb_check.proofs.DeterminedClocks.{sited_first, sited_second, sited_after}

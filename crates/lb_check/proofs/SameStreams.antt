@@ -1,38 +1,31 @@
 -- Two histories that agree on an instance and on those that it calls have the same streams of each
 -- expression in its text.
-use Rattle.std.proofs.Common.{◌≡◌, ℕ, suc, ◌+◌, ◌-◌, ◌*◌, ◌<◌, true, Option, Some, None, List, []}
-use Rattle.std.proofs.Common.{◌∷◌, ◌++◌, map, drop, take, pos, refl, ap, ap₂, sym, ◌∙◌, subst}
-use Rattle.std.proofs.Common.{arith}
-use Rattle.std.specs.Prelude.{IfSome, option_map}
-use Rattle.std.specs.List.{range_with_len}
-use Rattle.lb_syntax.specs.declared.tree.ArrayIterator.{ArrayIterator}
-use Rattle.lb_syntax.specs.declared.tree.ArrayIterator.TheVariants.{Map, Red, Fill}
-use Rattle.lb_syntax.specs.Lists.{Every, zip2, copies, joined, either_or, listed}
-use Rattle.lb_syntax.specs.Tree.{Name, Static, Node_named, Symbol, Expr, Literal, Truth, Variable}
-use Rattle.lb_syntax.specs.Tree.{Group, Unary, Binary, If, Arrow, Fby, Pre, Current, When}
-use Rattle.lb_syntax.specs.Tree.{Replicate, Index, Slice, Join, Array, AtMostOne, Nor, Call}
-use Rattle.lb_syntax.specs.Tree.{Iterate, Exprs, Nil, Cons, Declaration, Node}
-use Rattle.lb_syntax.proofs.TruthValues.{and_first}
-use Rattle.lb_static.specs.Instances.{Program, Instance, Child, Site, call_site, sites, sites_in}
-use Rattle.lb_static.specs.Instances.{node_named, name_value, static_count}
-use Rattle.lb_static.specs.DataTypes.{DataType, variables}
-use Rattle.lb_static.specs.StaticValues.{named}
-use Rattle.lb_check.specs.ClockRules.{are_declared_clocks, are_given_variables, is_call_clocked}
-use Rattle.lb_check.specs.ClockRules.{is_on_clock}
-use Rattle.lb_check.specs.Clocks.{Clock, Base, On, clock_of, clock_or, declared_clock}
-use Rattle.lb_check.specs.Occurrences.{Occurrence, call_count, call_clocks, occurrences}
-use Rattle.lb_check.specs.Occurrences.{occurrences_in, occurrences_each}
+use Rattle.lb_check.proofs.Words.{◌≡◌, ℕ, suc, ◌+◌, ◌-◌, ◌*◌, ◌<◌, true, Option, Some, None, List}
+use Rattle.lb_check.proofs.Words.{[], ◌∷◌, ◌++◌, map, drop, take, refl, ap, ap₂, sym, ◌∙◌, subst}
+use Rattle.lb_check.proofs.Words.{arith, IfSome, option_map, range_with_len, ArrayIterator, Map}
+use Rattle.lb_check.proofs.Words.{Red, Fill, Every, zip2, either_or, listed, Name, Static}
+use Rattle.lb_check.proofs.Words.{Node_named, Symbol, Expr, Group, Unary, Binary, If, Arrow, Fby}
+use Rattle.lb_check.proofs.Words.{Pre, Current, When, Replicate, Index, Slice, Join, Array}
+use Rattle.lb_check.proofs.Words.{AtMostOne, Nor, Call, Iterate, Exprs, Nil, Cons, Declaration}
+use Rattle.lb_check.proofs.Words.{Node, and_first, Program, Instance, Child, Site, call_site, sites}
+use Rattle.lb_check.proofs.Words.{sites_in, node_named, name_value, static_count, DataType}
+use Rattle.lb_check.proofs.Words.{variables, named, are_declared_clocks, are_given_variables}
+use Rattle.lb_check.proofs.Words.{is_call_clocked, is_on_clock, Clock, On, clock_of, clock_or}
+use Rattle.lb_check.proofs.Words.{declared_clock, Occurrence, call_count, call_clocks, occurrences}
+use Rattle.lb_check.proofs.Words.{occurrences_in, occurrences_each, AgreeAt, streams_at, History}
+use Rattle.lb_check.proofs.Words.{presence, signed, all_streams, number, part_count, data_types}
+use Rattle.lb_check.proofs.Words.{all_types, singly, name_data_type, from_one, from_truths}
+use Rattle.lb_check.proofs.Words.{unary_type, binary_type, common_type, array_of, index_type}
+use Rattle.lb_check.proofs.Words.{slice_type, join_type, operator_types, memory_operand}
+use Rattle.std.proofs.Common.{pos}
+use Rattle.lb_syntax.specs.Lists.{copies, joined}
+use Rattle.lb_syntax.specs.Tree.{Literal, Truth, Variable}
+use Rattle.lb_check.specs.Clocks.{Base}
 use Rattle.lb_check.specs.Scalars.{or_fault, Integer, Boolean, two_scalars, one_scalar, at_most_one}
 use Rattle.lb_check.specs.Scalars.{none_true, first_value}
-use Rattle.lb_check.specs.Solutions.{AgreeAt, streams_at}
-use Rattle.lb_check.specs.Streams.{History, presence, signed, constantly, along, along_two, choices}
-use Rattle.lb_check.specs.Streams.{across, first_then, previous, sample, latest, gathered, last_of}
-use Rattle.lb_check.specs.Streams.{iterated, symbols, streams, all_streams, number, part_count}
-use Rattle.lb_check.specs.Streams.{outputs_of, name_streams}
-use Rattle.lb_check.specs.Types.{data_types, all_types, singly, name_data_type, from_one}
-use Rattle.lb_check.specs.Types.{from_truths, unary_type, binary_type, common_type, array_of}
-use Rattle.lb_check.specs.Types.{index_type, slice_type, join_type, operator_types}
-use Rattle.lb_check.specs.Verdicts.{memory_operand}
+use Rattle.lb_check.specs.Streams.{constantly, along, along_two, choices, across, first_then}
+use Rattle.lb_check.specs.Streams.{previous, sample, latest, gathered, last_of, iterated, symbols}
+use Rattle.lb_check.specs.Streams.{streams, outputs_of, name_streams}
 use Rattle.lb_check.proofs.ClockTests.{clock_same}
 use Rattle.lb_check.proofs.DeterminedClocks.{count_of, AllLawful, AreSited, OfCalled, fore, aft}
 use Rattle.lb_check.proofs.DeterminedClocks.{sited_first, sited_second, sited_after, called_passes}

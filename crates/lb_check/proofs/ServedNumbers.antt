@@ -1,38 +1,27 @@
 -- The variables that clocks of an accepted program wait for, as the whole program sees them, are
 -- variables of instances, each with a first element.
-use Rattle.std.proofs.Common.{◌≡◌, ◌⊎◌, inl, inr, ℕ, ◌<◌, Bool, true, false, cond, Option, Some}
-use Rattle.std.proofs.Common.{None, List, [], ◌∷◌, ◌++◌, length, map, flat_map, zip, refl, ap, sym}
-use Rattle.std.proofs.Common.{◌∙◌, subst, arith}
-use Rattle.std.specs.Prelude.{◌&&◌, ◌||◌, not, nat_eq, filter, slice_get}
-use Rattle.std.specs.List.{list_all}
-use Rattle.std.specs.Str.{bytes_eq}
-use Rattle.std.proofs.lemmas.Slice.Eq.{bytes_eq-Decides}
-use Rattle.std.proofs.lemmas.Bool.{eqb-true}
-use Rattle.std.proofs.lemmas.Option.{same_Some}
-use Rattle.lb_syntax.specs.Lists.{◌>>=◌, In, either_or, holds, listed}
-use Rattle.lb_syntax.specs.Tree.{Name, Static, Expr, Call, Exprs}
-use Rattle.lb_syntax.specs.Tree.{Declaration, Sampling, Node, Statement}
-use Rattle.lb_syntax.proofs.ListPlaces.{all_in, item_at}
-use Rattle.lb_syntax.proofs.TruthValues.{and_first, and_second, implied}
-use Rattle.lb_static.specs.DataTypes.{variables, width}
-use Rattle.lb_static.specs.Instances.{Program, Instance, Path, Root, Observer, Child, instance_at}
-use Rattle.lb_static.specs.Instances.{instances, node_named, node_sites}
-use Rattle.lb_static.specs.Instantiation.{static_refusal}
-use Rattle.lb_static.specs.Names.{declares_once, is_callable, is_known, is_static_name, is_named}
-use Rattle.lb_static.specs.Names.{is_variable}
-use Rattle.lb_static.specs.Parts.{among, variable_names, left_names, clock_names, node_names}
-use Rattle.lb_static.specs.Parts.{node_static_names}
-use Rattle.lb_static.proofs.Members.{map_in, in_any, filter_in}
-use Rattle.lb_static.proofs.TestedItems.{found_passes}
-use Rattle.lb_check.specs.Acceptance.{check_refusal}
-use Rattle.lb_check.specs.ClockRules.{are_given_variables, is_given_variable, is_call_clocked}
-use Rattle.lb_check.specs.ClockRules.{is_occurrence_clocked, are_declared_clocks}
+use Rattle.lb_check.proofs.Words.{◌≡◌, ◌⊎◌, inl, inr, ℕ, ◌<◌, Bool, true, false, cond, Option, Some}
+use Rattle.lb_check.proofs.Words.{None, List, [], ◌∷◌, ◌++◌, length, map, flat_map, refl, ap, sym}
+use Rattle.lb_check.proofs.Words.{◌∙◌, subst, arith, ◌&&◌, ◌||◌, not, nat_eq, filter, slice_get}
+use Rattle.lb_check.proofs.Words.{list_all, bytes_eq, bytes_eq-Decides, eqb-true, same_Some, ◌>>=◌}
+use Rattle.lb_check.proofs.Words.{In, either_or, holds, listed, Name, Static, Expr, Call, Exprs}
+use Rattle.lb_check.proofs.Words.{Declaration, Node, Statement, all_in, item_at, and_first}
+use Rattle.lb_check.proofs.Words.{and_second, implied, variables, width, Program, Instance, Path}
+use Rattle.lb_check.proofs.Words.{Root, Observer, Child, instance_at, instances, node_named}
+use Rattle.lb_check.proofs.Words.{node_sites, static_refusal, declares_once, is_named, among}
+use Rattle.lb_check.proofs.Words.{variable_names, left_names, clock_names, map_in, in_any}
+use Rattle.lb_check.proofs.Words.{found_passes, check_refusal, are_given_variables}
+use Rattle.lb_check.proofs.Words.{is_given_variable, is_call_clocked, is_occurrence_clocked}
+use Rattle.lb_check.proofs.Words.{are_declared_clocks, numbers_of, Occurrence, at, node_occurrences}
+use Rattle.std.proofs.Common.{zip}
+use Rattle.lb_syntax.specs.Tree.{Sampling}
+use Rattle.lb_static.specs.Names.{is_callable, is_known, is_static_name, is_variable}
+use Rattle.lb_static.specs.Parts.{node_names, node_static_names}
+use Rattle.lb_static.proofs.Members.{filter_in}
 use Rattle.lb_check.specs.Clocks.{Clock, Base, On, Given, base_clock, given_inputs, given_outputs}
-use Rattle.lb_check.specs.Elements.{numbers_of}
 use Rattle.lb_check.specs.Needs.{WholeClock, Always, Where, is_clock_parameter, is_site, call_at}
 use Rattle.lb_check.specs.Needs.{lefts_at, given_parameters, given_to, given_at, serves, serving}
 use Rattle.lb_check.specs.Needs.{whole_clock, site_clock, runs_on}
-use Rattle.lb_check.specs.Occurrences.{Occurrence, at, node_occurrences}
 use Rattle.lb_check.proofs.AcceptedNumbers.{numbers_width}
 use Rattle.lb_check.proofs.AcceptedRules.{clocked}
 use Rattle.lb_check.proofs.ApartLists.{in_second, Every-at, to_pieces}
@@ -40,8 +29,7 @@ use Rattle.lb_check.proofs.CallClocks.{none_given}
 use Rattle.lb_check.proofs.CallNumbers.{IsRightSide, lefts_are}
 use Rattle.lb_check.proofs.Checks.{instantiation_kept, names_kept}
 use Rattle.lb_check.proofs.DeterminedClocks.{called_passes}
-use Rattle.lb_check.proofs.GivenParameters.{found_in, found_filtered, given_after}
-use Rattle.lb_check.proofs.GivenParameters.{same_before}
+use Rattle.lb_check.proofs.GivenParameters.{found_in, found_filtered, given_after, same_before}
 use Rattle.lb_check.proofs.InstanceNames.{find_in, instances_named}
 use Rattle.lb_check.proofs.InstancePaths.{called, path_is, in_instances}
 use Rattle.lb_check.proofs.NamedClocks.{IsOver, base_over, one_clock}

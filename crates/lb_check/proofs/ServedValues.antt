@@ -1,22 +1,16 @@
 -- What is the same of a variable of a callee and of the variable of its caller that is given for
 -- it is the same of each variable and of what serves for it in a clock.
-use Rattle.std.proofs.Common.{◌≡◌, ◌⊎◌, inl, inr, ℕ, ◌<◌, Option, Some, None, List, [], ◌∷◌, ◌++◌}
-use Rattle.std.proofs.Common.{refl, ap, ap₂, sym, ◌∙◌, subst, arith}
-use Rattle.std.specs.Prelude.{slice_get}
-use Rattle.std.proofs.lemmas.Option.{same_Some}
-use Rattle.lb_syntax.specs.Lists.{In, listed}
-use Rattle.lb_syntax.specs.Tree.{Name, Static, Expr, Call, Exprs, Declaration, Node, Statement}
-use Rattle.lb_syntax.specs.Tree.{Equation, Assertion}
-use Rattle.lb_static.specs.Instances.{Program, Instance, Path, Root, Observer, Child, Site}
-use Rattle.lb_static.specs.Instances.{call_site, instance_at, instances, instance_count, callee_of}
-use Rattle.lb_static.specs.Instances.{node_named, node_sites}
-use Rattle.lb_static.specs.Instantiation.{static_refusal}
-use Rattle.lb_static.specs.Parts.{right_side, left_names}
-use Rattle.lb_check.specs.Acceptance.{check_refusal}
-use Rattle.lb_check.specs.Clocks.{Clock, given_inputs, given_outputs, ungrouped}
-use Rattle.lb_check.specs.Needs.{call_at, lefts_at, given_parameters, given_to, given_at, serves}
-use Rattle.lb_check.specs.Needs.{serving}
-use Rattle.lb_check.specs.Occurrences.{Occurrence, at, node_occurrences, statements}
+use Rattle.lb_check.proofs.Words.{◌≡◌, ◌⊎◌, inl, inr, ℕ, ◌<◌, Option, Some, None, List, [], ◌∷◌}
+use Rattle.lb_check.proofs.Words.{◌++◌, refl, ap, ap₂, sym, ◌∙◌, subst, arith, slice_get, same_Some}
+use Rattle.lb_check.proofs.Words.{In, listed, Name, Static, Expr, Call, Exprs, Declaration, Node}
+use Rattle.lb_check.proofs.Words.{Statement, Equation, Assertion, Program, Instance, Path, Root}
+use Rattle.lb_check.proofs.Words.{Observer, Child, Site, call_site, instance_at, instances}
+use Rattle.lb_check.proofs.Words.{instance_count, callee_of, node_named, node_sites, static_refusal}
+use Rattle.lb_check.proofs.Words.{right_side, left_names, check_refusal, Clock, given_inputs}
+use Rattle.lb_check.proofs.Words.{given_outputs, ungrouped, call_at, lefts_at, given_parameters}
+use Rattle.lb_check.proofs.Words.{given_to, serves, serving, Occurrence, at, node_occurrences}
+use Rattle.lb_check.proofs.Words.{statements}
+use Rattle.lb_check.specs.Needs.{given_at}
 use Rattle.lb_check.proofs.CallNumbers.{IsRightSide, lefts_are}
 use Rattle.lb_check.proofs.Checks.{instantiation_kept}
 use Rattle.lb_check.proofs.GivenParameters.{found_in, given_after, same_before}

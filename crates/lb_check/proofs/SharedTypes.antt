@@ -1,46 +1,31 @@
 -- What keeps the rules of types by what the specializations of a node share keeps them in each of
 -- them.
-use Rattle.std.proofs.Common.{◌≡◌, ◌⊎◌, inl, inr, ℕ, zero, suc, Bool, true, false, List, [], ◌∷◌}
-use Rattle.std.proofs.Common.{length, map, take, drop, Option, Some, None}
-use Rattle.std.proofs.Common.{refl, ap, sym, ◌∙◌, subst}
+use Rattle.lb_check.proofs.Words.{◌≡◌, ◌⊎◌, inl, inr, ℕ, zero, suc, Bool, true, false, List, []}
+use Rattle.lb_check.proofs.Words.{◌∷◌, length, map, take, drop, Option, Some, None, refl, ap, sym}
+use Rattle.lb_check.proofs.Words.{◌∙◌, subst, list_all, zip, slice_get_past, ◌>>=◌, where_true}
+use Rattle.lb_check.proofs.Words.{all_some, either_or, holds, and_first, and_second, is_int}
+use Rattle.lb_check.proofs.Words.{DataType, int, truth, is_type, are_types, natural, naturals}
+use Rattle.lb_check.proofs.Words.{declared_type, Reached, CallId, CallSite, ResolvedNode}
+use Rattle.lb_check.proofs.Words.{ResolvedStatement, StaticId, Term, Literal, Truth, Value, Group'}
+use Rattle.lb_check.proofs.Words.{Unary', Binary', If', Arrow', Fby', Pre', Current', When'}
+use Rattle.lb_check.proofs.Words.{Replicate', Index', Slice', Join', Array', AtMostOne', Nor'}
+use Rattle.lb_check.proofs.Words.{Call', IterateNode', IterateSymbol', Row_of-Term, end_of-Term}
+use Rattle.lb_check.proofs.Words.{more_of-Term, VariableId, Specialization, Table, is_part_shared}
+use Rattle.lb_check.proofs.Words.{AreSettled, type_of, types_in, results, are_equal, row_results}
+use Rattle.lb_check.proofs.Words.{when_both, when_truth, constant_at, count_at, repeats_of}
+use Rattle.lb_check.proofs.Words.{callee_types, is_resolved_statement_typed, constant_type}
+use Rattle.lb_check.proofs.Words.{unary_type, binary_type, common_type, array_of, index_type}
+use Rattle.lb_check.proofs.Words.{slice_type, join_type, only, singly, symbol_types, iterator_types}
 use Rattle.std.specs.Prelude.{ℤ, ◌&&◌, ◌||◌, ◌==◌, option_map, slice_get, is_none, reverse}
-use Rattle.std.specs.List.{list_all, zip}
 use Rattle.std.specs.Ordering.{int_eq}
 use Rattle.std.proofs.lemmas.Bool.{leb-true}
 use Rattle.std.proofs.lemmas.Bool.Decides.{Decides-eqb, Decides-int_eq}
-use Rattle.std.proofs.lemmas.Option.{slice_get_past}
-use Rattle.lb_syntax.specs.Lists.{◌>>=◌, where_true, all_some, either_or, holds}
-use Rattle.lb_syntax.proofs.TruthValues.{and_first, and_second}
-use Rattle.lb_static.specs.Arithmetic.{is_int}
-use Rattle.lb_static.specs.DataTypes.{DataType, int, truth, is_type, are_types}
-use Rattle.lb_static.specs.StaticValues.{natural}
-use Rattle.lb_static.specs.StoredTypes.{naturals, declared_type}
-use Rattle.lb_static.specs.declared.reach.Reached.{Reached}
-use Rattle.lb_static.specs.declared.resolved.CallId.{CallId}
-use Rattle.lb_static.specs.declared.resolved.CallSite.{CallSite}
-use Rattle.lb_static.specs.declared.resolved.ResolvedNode.{ResolvedNode}
-use Rattle.lb_static.specs.declared.resolved.ResolvedStatement.{ResolvedStatement}
-use Rattle.lb_static.specs.declared.resolved.ResolvedStatement.TheVariants as statement
-use Rattle.lb_static.specs.declared.resolved.StaticId.{StaticId}
-use Rattle.lb_static.specs.declared.resolved.Term.{Term, Literal, Truth, Variable, Value, Group'}
-use Rattle.lb_static.specs.declared.resolved.Term.{Unary', Binary', If', Arrow', Fby', Pre'}
-use Rattle.lb_static.specs.declared.resolved.Term.{Current', When', Replicate', Index', Slice'}
-use Rattle.lb_static.specs.declared.resolved.Term.{Join', Array', AtMostOne', Nor', Call'}
-use Rattle.lb_static.specs.declared.resolved.Term.{IterateNode', IterateSymbol', Row_of-Term}
-use Rattle.lb_static.specs.declared.resolved.Term.{end_of-Term, more_of-Term}
+use Rattle.lb_static.specs.declared.resolved.Term.{Variable}
 use Rattle.lb_static.specs.declared.resolved.Variable.{Variable as Declared}
-use Rattle.lb_static.specs.declared.resolved.VariableId.{VariableId}
-use Rattle.lb_static.specs.declared.table.Specialization.{Specialization}
 use Rattle.lb_static.specs.declared.table.SpecializationId.{SpecializationId}
-use Rattle.lb_static.specs.declared.table.Table.{Table}
 use Rattle.lb_check.specs.SharedTypes.{all_paired, is_value_shared, is_callee_shared}
-use Rattle.lb_check.specs.SharedTypes.{is_part_shared, AreSettled}
-use Rattle.lb_check.specs.TermTypes.{Context, type_of, types_in, results, are_equal, row_results}
-use Rattle.lb_check.specs.TermTypes.{when_both, when_truth, context_of, constant_at, count_at}
-use Rattle.lb_check.specs.TermTypes.{repeats_of, callee_types, is_resolved_statement_typed}
-use Rattle.lb_check.specs.Types.{constant_type, unary_type, binary_type, common_type, array_of}
-use Rattle.lb_check.specs.Types.{index_type, slice_type, join_type, only, singly, symbol_types}
-use Rattle.lb_check.specs.Types.{iterator_types}
+use Rattle.lb_check.specs.TermTypes.{Context, context_of}
+use Rattle.lb_static.specs.declared.resolved.ResolvedStatement.TheVariants as statement
 
 -- ## Where one is there, the other is the same
 

@@ -1,32 +1,22 @@
 -- Types of a row, one at a time: what the code makes of them, and of operands from the last to the
 -- first.
-use Rattle.std.proofs.Common.{◌≡◌, ◌≢◌, ℕ, zero, suc, ◌+◌, ◌<◌, ◌≤◌, Bool, true, false, List, [], ◌∷◌}
-use Rattle.std.proofs.Common.{length, map, drop, get_or, slice_get, Option, Some, None, refl, ap, sym}
-use Rattle.std.proofs.Common.{◌∙◌, arith}
-use Rattle.std.specs.Prelude.{ℤ, ◌&&◌, nat_eq, option_map, replicate, if◌then◌else◌}
-use Rattle.std.specs.List.{list_all}
-use Rattle.std.proofs.Math.Bool.{and-false, and_comm}
-use Rattle.std.proofs.lemmas.Bool.Decides.{nat_tests}
-use Rattle.std.proofs.lemmas.List.{drop_all, drop_more, length-map}
-use Rattle.std.proofs.lemmas.Option.{slice_get-get_or, slice_get-map}
-use Rattle.lb_syntax.specs.Lists.{◌>>=◌, all_some, either_or, where_true}
-use Rattle.lb_syntax.proofs.TruthValues.{and_first, and_second}
-use Rattle.lb_static.specs.declared.resolved.CallId.{CallId}
-use Rattle.lb_static.specs.declared.resolved.Variable.{Variable}
-use Rattle.lb_static.specs.declared.resolved.ResolvedNode.{ResolvedNode}
-use Rattle.lb_static.specs.declared.table.Specialization.{Specialization}
-use Rattle.lb_static.specs.CalledSpecializations.{called_by}
-use Rattle.lb_static.specs.DataTypes.{DataType, is_kind, is_type, same_sizes}
-use Rattle.lb_syntax.specs.declared.tree.Kind.{Kind}
+use Rattle.lb_check.proofs.Words.{◌≡◌, ◌≢◌, ℕ, zero, suc, ◌+◌, ◌<◌, ◌≤◌, Bool, true, false, List}
+use Rattle.lb_check.proofs.Words.{[], ◌∷◌, length, map, drop, get_or, Option, Some, None, refl, ap}
+use Rattle.lb_check.proofs.Words.{sym, ◌∙◌, arith, ℤ, ◌&&◌, nat_eq, option_map, if◌then◌else◌}
+use Rattle.lb_check.proofs.Words.{list_all, and-false, nat_tests, drop_all, drop_more, length-map}
+use Rattle.lb_check.proofs.Words.{slice_get-get_or, slice_get-map, ◌>>=◌, all_some, either_or}
+use Rattle.lb_check.proofs.Words.{where_true, and_first, and_second, CallId, Variable, ResolvedNode}
+use Rattle.lb_check.proofs.Words.{Specialization, called_by, DataType, is_kind, is_type, same_sizes}
+use Rattle.lb_check.proofs.Words.{Kind, length-all_some, context_in, Signature, are_met, are_one}
+use Rattle.lb_check.proofs.Words.{arrays, calls_in, common, evaluated, has_arity, like_later}
+use Rattle.lb_check.proofs.Words.{list_of, rest_arrays, type_at, callee_types, call_types_of}
+use Rattle.lb_check.proofs.Words.{when_both, array_of, common_type, list_type, only}
+use Rattle.std.proofs.Common.{slice_get}
+use Rattle.std.specs.Prelude.{replicate}
+use Rattle.std.proofs.Math.Bool.{and_comm}
 use Rattle.lb_syntax.specs.declared.tree.Kind.TheVariants.{Int as Int_kind, Bool as Bool_kind}
-use Rattle.lb_static.proofs.Options.{length-all_some}
-use Rattle.lb_check.specs.StoredTypes.{context_in}
-use Rattle.lb_check.specs.TermSignatures.{Signature, are_met, are_one, arrays, arrays_in, calls_in}
-use Rattle.lb_check.specs.TermSignatures.{common, evaluated, callee_signature, has_arity}
-use Rattle.lb_check.specs.TermSignatures.{declared_signature, like_later, list_of, nothing}
-use Rattle.lb_check.specs.TermSignatures.{rest_arrays, type_at}
-use Rattle.lb_check.specs.TermTypes.{callee_types, call_types_of, context_of, when_both}
-use Rattle.lb_check.specs.Types.{array_of, common_type, list_type, only}
+use Rattle.lb_check.specs.TermSignatures.{arrays_in, callee_signature, declared_signature, nothing}
+use Rattle.lb_check.specs.TermTypes.{context_of}
 use Rattle.lb_check.specs.declared.signature.Arrays.{Arrays}
 use Rattle.lb_check.specs.declared.signature.Arrays.TheVariants.{No, All, Rest}
 use Rattle.lb_check.specs.declared.type_env.TypeEnv.{TypeEnv}

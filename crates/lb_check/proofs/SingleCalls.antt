@@ -1,53 +1,31 @@
 -- Where the rules of types hold each call has one result, but for one that is a whole right side.
-use Rattle.std.proofs.Common.{◌≡◌, ℕ, Bool, true, false, List, [], ◌∷◌, ◌++◌, length, map, take}
-use Rattle.std.proofs.Common.{drop, Option, Some, None, refl, ap, sym, ◌∙◌, arith, length-append}
-use Rattle.std.proofs.Common.{length-take, length-drop}
-use Rattle.std.specs.Prelude.{◌&&◌, is_some, slice_get, nat_eq, ℤ}
-use Rattle.std.specs.List.{list_all}
-use Rattle.std.proofs.lemmas.Bool.Decides.{nat_tests}
-use Rattle.std.proofs.lemmas.List.{length-map}
-use Rattle.std.proofs.lemmas.Bool.{and_from}
-use Rattle.lb_syntax.specs.Lists.{◌>>=◌, all_some, holds, where_true}
-use Rattle.lb_syntax.specs.Tree.{Node}
-use Rattle.lb_syntax.proofs.Readers.{bind_some}
-use Rattle.lb_syntax.proofs.ListPlaces.{all_at}
-use Rattle.lb_syntax.proofs.TruthValues.{and_first, and_second}
-use Rattle.lb_static.specs.declared.reach.Reached.{Reached}
-use Rattle.lb_static.specs.declared.resolved.CallId.{CallId}
-use Rattle.lb_static.specs.declared.resolved.ResolvedNode.{ResolvedNode}
-use Rattle.lb_static.specs.declared.resolved.ResolvedStatement.{ResolvedStatement}
-use Rattle.lb_static.specs.declared.resolved.ResolvedStatement.TheVariants as statement
-use Rattle.lb_static.specs.declared.resolved.Term.{Term, Literal, Truth, Variable, Value, Group'}
-use Rattle.lb_static.specs.declared.resolved.Term.{Unary', Binary', If', Arrow', Fby', Pre'}
-use Rattle.lb_static.specs.declared.resolved.Term.{Current', When', Replicate', Index', Slice'}
-use Rattle.lb_static.specs.declared.resolved.Term.{Join', Array', AtMostOne', Nor', Call'}
-use Rattle.lb_static.specs.declared.resolved.Term.{IterateNode', IterateSymbol', Row_of-Term}
-use Rattle.lb_static.specs.declared.resolved.Term.{end_of-Term, more_of-Term}
-use Rattle.lb_static.specs.declared.table.Specialization.{Specialization}
-use Rattle.lb_static.specs.declared.table.Table.{Table}
-use Rattle.lb_static.specs.InstanceTable.{instance_of}
-use Rattle.lb_static.specs.Instances.{Program, Instance, Root, Child, Site, callee_of, node_named}
-use Rattle.lb_static.specs.Instances.{static_value}
-use Rattle.lb_static.specs.CalledSpecializations.{called_by}
-use Rattle.lb_static.specs.ReachedNodes.{source_names}
-use Rattle.lb_static.specs.ResolvedNodes.{IsResolved, node_of, counts_of}
-use Rattle.lb_static.specs.ResolvedTerms.{is_call, is_static, is_variable, is_within, are_within}
-use Rattle.lb_static.specs.ResolvedTerms.{is_statement_within}
-use Rattle.lb_static.specs.DataTypes.{DataType, truth, is_type, are_types}
-use Rattle.lb_check.specs.JudgedPrograms.{IsJudged}
-use Rattle.lb_check.specs.ClockSets.{is_single, are_single, calls_single, is_single_within}
-use Rattle.lb_check.specs.ClockSets.{is_statement_single}
-use Rattle.lb_static.specs.StoredTypes.{declared_type, declared_types}
-use Rattle.lb_static.proofs.Options.{length-all_some}
-use Rattle.lb_check.specs.TermTypes.{Context, CallTypes, context_of}
-use Rattle.lb_check.specs.TermTypes.{call_types_of, callee_types, call_types_at}
-use Rattle.lb_check.specs.TermTypes.{are_typed, is_specialization_typed, is_variable_typed}
-use Rattle.lb_check.specs.TermTypes.{is_resolved_statement_typed, is_node_typed, are_equal, results}
-use Rattle.lb_check.specs.TermTypes.{type_of, types_in, when_truth}
-use Rattle.lb_check.specs.Types.{only, singly}
+use Rattle.lb_check.proofs.Words.{◌≡◌, ℕ, Bool, true, false, List, [], ◌∷◌, ◌++◌, length, map, take}
+use Rattle.lb_check.proofs.Words.{drop, Option, Some, None, refl, ap, sym, ◌∙◌, arith, ◌&&◌}
+use Rattle.lb_check.proofs.Words.{is_some, slice_get, nat_eq, ℤ, list_all, nat_tests, length-map}
+use Rattle.lb_check.proofs.Words.{and_from, ◌>>=◌, all_some, holds, where_true, Node, bind_some}
+use Rattle.lb_check.proofs.Words.{all_at, and_first, and_second, Reached, CallId, ResolvedNode}
+use Rattle.lb_check.proofs.Words.{ResolvedStatement, Term, Literal, Truth, Value, Group', Unary'}
+use Rattle.lb_check.proofs.Words.{Binary', If', Arrow', Fby', Pre', Current', When', Replicate'}
+use Rattle.lb_check.proofs.Words.{Index', Slice', Join', Array', AtMostOne', Nor', Call'}
+use Rattle.lb_check.proofs.Words.{IterateNode', IterateSymbol', Row_of-Term, end_of-Term}
+use Rattle.lb_check.proofs.Words.{more_of-Term, Specialization, Table, instance_of, Program}
+use Rattle.lb_check.proofs.Words.{Instance, Root, Child, Site, callee_of, node_named, static_value}
+use Rattle.lb_check.proofs.Words.{called_by, source_names, IsResolved, node_of, counts_of, is_call}
+use Rattle.lb_check.proofs.Words.{is_static, is_variable, is_within, are_within}
+use Rattle.lb_check.proofs.Words.{is_statement_within, DataType, truth, is_type, are_types}
+use Rattle.lb_check.proofs.Words.{IsJudged, is_single, are_single, calls_single, is_single_within}
+use Rattle.lb_check.proofs.Words.{is_statement_single, declared_type, declared_types}
+use Rattle.lb_check.proofs.Words.{length-all_some, CallTypes, call_types_of, callee_types}
+use Rattle.lb_check.proofs.Words.{call_types_at, are_typed, is_specialization_typed}
+use Rattle.lb_check.proofs.Words.{is_variable_typed, is_resolved_statement_typed, is_node_typed}
+use Rattle.lb_check.proofs.Words.{are_equal, results, type_of, types_in, when_truth, only, singly}
+use Rattle.std.proofs.Common.{length-append, length-take, length-drop}
+use Rattle.lb_static.specs.declared.resolved.Term.{Variable}
+use Rattle.lb_check.specs.TermTypes.{Context, context_of}
 use Rattle.lb_check.proofs.FittedCalls.{specialized_instance}
 use Rattle.lb_check.proofs.OneType.{type_is_only}
 use Rattle.lb_check.proofs.SiteCallees.{callee_found, node_resolved, site_found}
+use Rattle.lb_static.specs.declared.resolved.ResolvedStatement.TheVariants as statement
 
 -- ## What is there
 

@@ -1,21 +1,13 @@
 -- The node that a call of a reached node calls, and the tree that its name stands for.
-use Rattle.std.proofs.Common.{◌≡◌, ℕ, Bool, true, List, [], Option, Some, None, refl, ap, sym, ◌∙◌}
-use Rattle.std.proofs.Common.{subst}
-use Rattle.std.specs.Prelude.{option_map, slice_get, nat_lt, length}
-use Rattle.std.proofs.lemmas.Option.{slice_get-map, slice_get_within, get_or_from_slice_get}
-use Rattle.lb_syntax.specs.Lists.{◌>>=◌, either_or, holds}
-use Rattle.lb_syntax.proofs.ListPlaces.{all_at}
-use Rattle.lb_static.specs.declared.reach.Reached.{Reached}
-use Rattle.lb_static.specs.declared.resolved.CallId.{CallId}
-use Rattle.lb_static.specs.declared.resolved.CallSite.{CallSite}
-use Rattle.lb_static.specs.declared.resolved.ResolvedNode.{ResolvedNode}
-use Rattle.lb_static.specs.Instances.{Program, Site, node_named, node_sites}
-use Rattle.lb_static.specs.Names.{keeps_names}
-use Rattle.lb_static.specs.ReachedNodes.{IsReached, are_linked, id_at, is_linked, source_names}
-use Rattle.lb_static.specs.ReachedNodes.{tree_at}
-use Rattle.lb_static.specs.ResolvedNodes.{IsResolved, node_of, statics_of, counts_of}
-use Rattle.lb_static.specs.ResolvedTerms.{is_call, no_site, site_at, site_of}
-use Rattle.lb_static.specs.ReachedNodes.{callee_in}
+use Rattle.lb_check.proofs.Words.{◌≡◌, ℕ, Bool, true, List, [], Option, Some, None, refl, ap, sym}
+use Rattle.lb_check.proofs.Words.{◌∙◌, subst, option_map, slice_get, nat_lt, slice_get-map}
+use Rattle.lb_check.proofs.Words.{slice_get_within, get_or_from_slice_get, ◌>>=◌, either_or, holds}
+use Rattle.lb_check.proofs.Words.{all_at, Reached, CallId, CallSite, ResolvedNode, Program, Site}
+use Rattle.lb_check.proofs.Words.{node_named, node_sites, keeps_names, IsReached, id_at}
+use Rattle.lb_check.proofs.Words.{source_names, tree_at, callee_in, IsResolved, node_of, statics_of}
+use Rattle.lb_check.proofs.Words.{counts_of, is_call, no_site, site_at, site_of}
+use Rattle.std.specs.Prelude.{length}
+use Rattle.lb_static.specs.ReachedNodes.{are_linked, is_linked}
 use Rattle.lb_check.proofs.DistinctNames.{held_at}
 use Rattle.lb_check.proofs.NodePlaces.{named_at}
 

@@ -1,31 +1,22 @@
 -- In an accepted program each call in the text of an instance is an occurrence, at the number of
 -- its site.
-use Rattle.std.proofs.Common.{◌≡◌, ℕ, suc, ◌+◌, true, Option, Some, None, option_map, List}
-use Rattle.std.proofs.Common.{[], ◌∷◌, ◌++◌, length, map, flat_map, refl, ap, ap₂, sym, ◌∙◌, subst}
-use Rattle.std.proofs.Common.{arith}
-use Rattle.std.specs.Prelude.{slice_get}
-use Rattle.std.specs.List.{list_all}
-use Rattle.std.proofs.lemmas.Option.{same_Some}
-use Rattle.lb_syntax.specs.Lists.{In, some_of}
-use Rattle.lb_syntax.specs.Tree.{Node_named, Symbol, Expr, Literal, Truth, Variable}
-use Rattle.lb_syntax.specs.Tree.{Group, Unary, Binary, If, Arrow, Fby, Pre, Current, When}
-use Rattle.lb_syntax.specs.Tree.{Replicate, Index, Slice, Join, Array, AtMostOne, Nor, Call}
-use Rattle.lb_syntax.specs.Tree.{Iterate, Exprs, Nil, Cons, Statement, Equation, Assertion}
-use Rattle.lb_syntax.proofs.TruthValues.{and_first, and_second}
-use Rattle.lb_static.specs.DataTypes.{DataType, are_types, variables}
-use Rattle.lb_static.specs.Instances.{Program, Instance, Site, call_site, sites, sites_in}
-use Rattle.lb_static.specs.Instances.{statement_sites, node_sites, numbered_sites, node_named}
-use Rattle.lb_static.specs.Instances.{static_count, instances}
-use Rattle.lb_static.specs.Parts.{right_side}
-use Rattle.lb_check.specs.Acceptance.{check_refusal}
-use Rattle.lb_check.specs.Clocks.{Clock, clock_of, clock_or, declared_clock}
-use Rattle.lb_check.specs.Occurrences.{Occurrence, call_count, call_clocks, occurrences}
-use Rattle.lb_check.specs.Occurrences.{occurrences_in, occurrences_each, statement_clock}
-use Rattle.lb_check.specs.Occurrences.{node_occurrences}
-use Rattle.lb_check.specs.TypeRules.{is_clock_typed, is_statement_typed, is_typed}
-use Rattle.lb_check.specs.Types.{data_types, all_types, singly, name_data_type, from_one}
-use Rattle.lb_check.specs.Types.{from_truths, unary_type, binary_type, common_type, array_of}
-use Rattle.lb_check.specs.Types.{index_type, slice_type, join_type, operator_types}
+use Rattle.lb_check.proofs.Words.{slice_get, list_all, same_Some, In, some_of, Node_named, Symbol}
+use Rattle.lb_check.proofs.Words.{Expr, Group, Unary, Binary, If, Arrow, Fby, Pre, Current, When}
+use Rattle.lb_check.proofs.Words.{Replicate, Index, Slice, Join, Array, AtMostOne, Nor, Call}
+use Rattle.lb_check.proofs.Words.{Iterate, Exprs, Nil, Cons, Statement, Equation, Assertion}
+use Rattle.lb_check.proofs.Words.{and_first, and_second, DataType, are_types, variables, Program}
+use Rattle.lb_check.proofs.Words.{Instance, Site, call_site, sites, sites_in, statement_sites}
+use Rattle.lb_check.proofs.Words.{node_sites, numbered_sites, node_named, static_count, instances}
+use Rattle.lb_check.proofs.Words.{right_side, check_refusal, Clock, clock_of, clock_or}
+use Rattle.lb_check.proofs.Words.{declared_clock, Occurrence, call_count, call_clocks, occurrences}
+use Rattle.lb_check.proofs.Words.{occurrences_in, occurrences_each, statement_clock}
+use Rattle.lb_check.proofs.Words.{node_occurrences, is_clock_typed, is_statement_typed, is_typed}
+use Rattle.lb_check.proofs.Words.{data_types, all_types, singly, name_data_type, from_one}
+use Rattle.lb_check.proofs.Words.{from_truths, unary_type, binary_type, common_type, array_of}
+use Rattle.lb_check.proofs.Words.{index_type, slice_type, join_type, operator_types}
+use Rattle.std.proofs.Common.{◌≡◌, ℕ, suc, ◌+◌, true, Option, Some, None, option_map, List, [], ◌∷◌}
+use Rattle.std.proofs.Common.{◌++◌, length, map, flat_map, refl, ap, ap₂, sym, ◌∙◌, subst, arith}
+use Rattle.lb_syntax.specs.Tree.{Literal, Truth, Variable}
 use Rattle.lb_check.proofs.AcceptedRules.{typed}
 use Rattle.lb_check.proofs.ApartLists.{some_in}
 use Rattle.lb_check.proofs.InstancePaths.{numbered_in}

@@ -1,27 +1,16 @@
 -- The expressions of all specializations together have at most as many scalar elements as the
 -- program is large.
-use Rattle.std.proofs.Common.{◌≡◌, ℕ, zero, suc, ◌+◌, ◌<◌, ◌≤◌, Bool, true, false, Some}
-use Rattle.std.proofs.Common.{option_map, List, [], ◌∷◌, map, take, length, refl, ap}
-use Rattle.std.proofs.Common.{sym, subst, arith, cond}
-use Rattle.std.specs.Prelude.{nat_le, nat_lt, slice_get, slice_index_or, sum_by}
-use Rattle.std.specs.List.{Contains}
-use Rattle.std.proofs.lemmas.Bool.Decides.{nat_tests}
+use Rattle.lb_check.proofs.Words.{nat_le, nat_lt, slice_get, slice_index_or, sum_by, Contains}
+use Rattle.lb_check.proofs.Words.{nat_tests, sum_by-cons, sum_by_more, get_or_from_slice_get}
+use Rattle.lb_check.proofs.Words.{either_or, zip2, item_at, variables, width, Program, Instance}
+use Rattle.lb_check.proofs.Words.{Path, instances, IsTable, paths_of, row_at, specialized_at}
+use Rattle.lb_check.proofs.Words.{node_parts, Reached, Specialization, Table, paths_length}
+use Rattle.lb_check.proofs.Words.{expression_size, instance_size, is_small, size}
+use Rattle.std.proofs.Common.{◌≡◌, ℕ, zero, suc, ◌+◌, ◌<◌, ◌≤◌, Bool, true, false, Some, option_map}
+use Rattle.std.proofs.Common.{List, [], ◌∷◌, map, take, length, refl, ap, sym, subst, arith, cond}
 use Rattle.std.proofs.lemmas.List.{take_all}
-use Rattle.std.proofs.lemmas.List.Sums.{sum_by-cons, sum_by_more}
-use Rattle.std.proofs.lemmas.Option.{get_or_from_slice_get}
-use Rattle.lb_syntax.specs.Lists.{either_or, zip2}
-use Rattle.lb_syntax.proofs.ListPlaces.{item_at}
-use Rattle.lb_static.specs.DataTypes.{variables, width}
-use Rattle.lb_static.specs.Instances.{Program, Instance, Path, instances}
-use Rattle.lb_static.specs.InstanceTable.{IsTable, paths_of, row_at, specialized_at}
-use Rattle.lb_static.specs.Parts.{node_parts}
-use Rattle.lb_static.specs.declared.reach.Reached.{Reached}
-use Rattle.lb_static.specs.declared.table.Instance as row
-use Rattle.lb_static.specs.declared.table.Specialization.{Specialization}
-use Rattle.lb_static.specs.declared.table.Table.{Table}
-use Rattle.lb_static.proofs.InstanceRows.{paths_length}
-use Rattle.lb_check.specs.TypeRules.{expression_size, instance_size, is_small, size}
 use Rattle.lb_check.proofs.TableRows.{row_held}
+use Rattle.lb_static.specs.declared.table.Instance as row
 
 -- ## Sums over places
 

@@ -1,21 +1,12 @@
 -- What holds of the node of each specialization holds of the node of each instance, and the other
 -- way round.
-use Rattle.std.proofs.Common.{◌≡◌, Bool, true, List, [], ◌∷◌, map, Option, Some, None, refl, ap}
-use Rattle.std.proofs.Common.{sym, ◌∙◌}
-use Rattle.std.specs.Prelude.{option_map, slice_get}
-use Rattle.std.specs.List.{list_all}
-use Rattle.lb_syntax.specs.Lists.{either_or, holds, zip2}
-use Rattle.lb_syntax.specs.Tree.{Node}
-use Rattle.lb_syntax.proofs.ListPlaces.{all_at, all_from, all_in}
-use Rattle.lb_syntax.proofs.TruthValues.{both_ways}
-use Rattle.lb_static.specs.Instances.{Program, Instance, Path, instances}
-use Rattle.lb_static.specs.InstanceTable.{IsTable, instance_of, specialized_at, paths_of, row_at}
-use Rattle.lb_static.specs.ReachedNodes.{tree_at}
-use Rattle.lb_static.specs.declared.reach.Reached.{Reached}
-use Rattle.lb_static.specs.declared.table.Instance as row
-use Rattle.lb_static.specs.declared.table.Specialization.{Specialization}
-use Rattle.lb_static.specs.declared.table.Table.{Table}
+use Rattle.lb_check.proofs.Words.{◌≡◌, Bool, true, List, [], ◌∷◌, map, Option, Some, None, refl, ap}
+use Rattle.lb_check.proofs.Words.{sym, ◌∙◌, option_map, slice_get, list_all, either_or, holds, zip2}
+use Rattle.lb_check.proofs.Words.{Node, all_at, all_from, all_in, both_ways, Program, Instance}
+use Rattle.lb_check.proofs.Words.{Path, instances, IsTable, instance_of, specialized_at, paths_of}
+use Rattle.lb_check.proofs.Words.{row_at, tree_at, Reached, Specialization, Table}
 use Rattle.lb_check.proofs.TableRows.{has_instance}
+use Rattle.lb_static.specs.declared.table.Instance as row
 
 module _ (P : Program) (r : Reached) (t : Table) (table : IsTable P r t) (f : Node → Bool) where
   abbrev of_one : Specialization → Bool

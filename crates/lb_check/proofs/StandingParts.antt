@@ -1,31 +1,24 @@
 -- Each part of a text that keeps the rules of types and clocks keeps them where it stands, and its
 -- clock is over names of which something holds, where it holds of the variables of the node.
+use Rattle.lb_check.proofs.Words.{option_map, list_all, Every, all_some, Name, Static, Node_named}
+use Rattle.lb_check.proofs.Words.{Symbol, Expr, Group, Unary, Binary, If, Arrow, Fby, Pre, Current}
+use Rattle.lb_check.proofs.Words.{When, Replicate, Index, Slice, Join, Array, AtMostOne, Nor, Call}
+use Rattle.lb_check.proofs.Words.{Iterate, Exprs, Nil, Cons, Statement, Equation, Assertion}
+use Rattle.lb_check.proofs.Words.{and_first, and_second, Program, Instance, Child, call_site, sites}
+use Rattle.lb_check.proofs.Words.{sites_in, statement_sites, node_sites, node_named, static_count}
+use Rattle.lb_check.proofs.Words.{DataType, variables, variable_type, are_same, left_names, named}
+use Rattle.lb_check.proofs.Words.{are_declared_clocks, are_given_variables, is_call_clocked}
+use Rattle.lb_check.proofs.Words.{is_on_clock, is_clocked, is_occurrence_clocked, Clock, On}
+use Rattle.lb_check.proofs.Words.{clock_of, clock_or, declared_clock, Occurrence, call_count}
+use Rattle.lb_check.proofs.Words.{call_clocks, occurrences, occurrences_in, occurrences_each}
+use Rattle.lb_check.proofs.Words.{statement_clock, right_sides, statements, node_occurrences}
+use Rattle.lb_check.proofs.Words.{type_of_name, is_statement_typed, is_clock_typed, is_typed}
+use Rattle.lb_check.proofs.Words.{data_types, all_types, from_one, from_truths, singly}
+use Rattle.lb_check.proofs.Words.{name_data_type, unary_type, binary_type, common_type, array_of}
+use Rattle.lb_check.proofs.Words.{index_type, slice_type, join_type, operator_types}
 use Rattle.std.proofs.Common.{◌≡◌, ℕ, ◌+◌, true, Option, Some, None, List, [], ◌∷◌, ◌++◌, map}
 use Rattle.std.proofs.Common.{flat_map, zip, refl, sym, subst, arith}
-use Rattle.std.specs.Prelude.{option_map}
-use Rattle.std.specs.List.{list_all}
-use Rattle.lb_syntax.specs.Lists.{Every, all_some}
-use Rattle.lb_syntax.specs.Tree.{Name, Static, Node_named, Symbol, Expr, Literal, Truth, Variable}
-use Rattle.lb_syntax.specs.Tree.{Group, Unary, Binary, If, Arrow, Fby, Pre, Current, When}
-use Rattle.lb_syntax.specs.Tree.{Replicate, Index, Slice, Join, Array, AtMostOne, Nor, Call}
-use Rattle.lb_syntax.specs.Tree.{Iterate, Exprs, Nil, Cons, Statement, Equation, Assertion}
-use Rattle.lb_syntax.proofs.TruthValues.{and_first, and_second}
-use Rattle.lb_static.specs.Instances.{Program, Instance, Child, call_site, sites, sites_in}
-use Rattle.lb_static.specs.Instances.{statement_sites, node_sites, node_named, static_count}
-use Rattle.lb_static.specs.DataTypes.{DataType, variables, variable_type}
-use Rattle.lb_static.specs.Instantiation.{are_same}
-use Rattle.lb_static.specs.Parts.{left_names}
-use Rattle.lb_static.specs.StaticValues.{named}
-use Rattle.lb_check.specs.ClockRules.{are_declared_clocks, are_given_variables, is_call_clocked}
-use Rattle.lb_check.specs.ClockRules.{is_on_clock, is_clocked, is_occurrence_clocked}
-use Rattle.lb_check.specs.Clocks.{Clock, On, clock_of, clock_or, declared_clock}
-use Rattle.lb_check.specs.Occurrences.{Occurrence, call_count, call_clocks, occurrences}
-use Rattle.lb_check.specs.Occurrences.{occurrences_in, occurrences_each, statement_clock}
-use Rattle.lb_check.specs.Occurrences.{right_sides, statements, node_occurrences}
-use Rattle.lb_check.specs.TypeRules.{type_of_name, is_statement_typed, is_clock_typed, is_typed}
-use Rattle.lb_check.specs.Types.{data_types, all_types, from_one, from_truths, singly}
-use Rattle.lb_check.specs.Types.{name_data_type, unary_type, binary_type, common_type, array_of}
-use Rattle.lb_check.specs.Types.{index_type, slice_type, join_type, operator_types}
+use Rattle.lb_syntax.specs.Tree.{Literal, Truth, Variable}
 use Rattle.lb_check.proofs.ClockTests.{clock_same}
 use Rattle.lb_check.proofs.DeterminedClocks.{AllLawful, AreSited, OfCalled, fore, aft, sited_first}
 use Rattle.lb_check.proofs.DeterminedClocks.{sited_second, sited_after, called_passes, left, right}

@@ -1,63 +1,43 @@
 -- The statements of a node keep the rules of clocks where the code finds that they do.
-use Rattle.std.proofs.Common.{◌≡◌, ℕ, zero, suc, ◌<◌, Bool, true, false, ◌+◌, List, [], ◌∷◌, length}
-use Rattle.std.proofs.Common.{map, Option, Some, None, refl, ap, sym, ◌∙◌, subst, arith}
-use Rattle.std.specs.Prelude.{◌&&◌, ◌==◌, slice_get, flat_map, nat_eq}
-use Rattle.std.specs.List.{list_all, zip}
-use Rattle.std.proofs.lemmas.Bool.Decides.{nat_tests}
-use Rattle.std.proofs.lemmas.List.Folds.{list_all-append}
-use Rattle.std.proofs.lemmas.Option.{slice_get_within, get_or_from_slice_get}
-use Rattle.std.proofs.Math.Bool.{and-true}
-use Rattle.lb_syntax.specs.Lists.{◌>>=◌, holds}
-use Rattle.lb_syntax.specs.Tree as tree
-use Rattle.lb_syntax.specs.Tree.{Name, Node, Expr, Exprs, Cons, Static, Statement}
-use Rattle.lb_syntax.proofs.ListPlaces.{all_at}
-use Rattle.lb_syntax.proofs.TruthValues.{and_first, and_second}
-use Rattle.lb_static.specs.Instances.{Program, Site, node_named, node_sites, statement_sites}
-use Rattle.lb_static.specs.Parts.{right_side}
-use Rattle.lb_static.specs.ReachedNodes.{source_names}
-use Rattle.lb_static.specs.ResolvedNodes.{IsResolved, node_of, texts_of, counts_of}
-use Rattle.lb_static.specs.ResolvedTerms.{Texts, is_variable, is_call, is_within, are_within}
-use Rattle.lb_static.specs.ResolvedTerms.{is_unhidden, are_unhidden, is_declared_within}
-use Rattle.lb_static.specs.ResolvedTerms.{is_sampling_within, are_statics, is_statement_within}
-use Rattle.lb_static.specs.ResolvedTerms.{is_statement_unhidden, expr_of, exprs_of, row_of}
-use Rattle.lb_static.specs.ResolvedTerms.{named_value, static_at, statement_of, site_at}
-use Rattle.lb_static.specs.declared.reach.Reached.{Reached}
-use Rattle.lb_static.specs.declared.resolved.CallId.{CallId}
-use Rattle.lb_static.specs.declared.resolved.ResolvedNode.{ResolvedNode}
-use Rattle.lb_static.specs.declared.resolved.Sampling.{Sampling}
-use Rattle.lb_static.specs.declared.resolved.ResolvedStatement.{ResolvedStatement}
-use Rattle.lb_static.specs.declared.resolved.ResolvedStatement.TheVariants as statement
-use Rattle.lb_static.specs.declared.resolved.Term.{Term, Value, Group', Call', Row_of-Term}
-use Rattle.lb_static.specs.declared.resolved.Term.{end_of-Term, more_of-Term}
-use Rattle.lb_static.specs.declared.resolved.VariableId.{VariableId}
-use Rattle.lb_check.specs.Scalars.{same}
-use Rattle.lb_check.specs.Clocks as clocks
-use Rattle.lb_check.specs.Clocks.{clock_of, clock_or, declared_clock, ungrouped}
-use Rattle.lb_check.specs.ClockRules.{is_clock, is_clocked, is_occurrence_clocked}
-use Rattle.lb_check.specs.ClockRules.{is_statement_clocked, are_on_results, left_clocks}
-use Rattle.lb_check.specs.declared.part.Part.TheVariants as part
-use Rattle.lb_check.specs.BrokenParts.{at_place, is_part_clocked, is_side_clocked}
-use Rattle.lb_check.specs.Occurrences.{Occurrence, at, occurrences, right_sides, statement_clock}
-use Rattle.lb_check.specs.Occurrences.{statements}
-use Rattle.lb_check.specs.OwnClocks.{HasClocks, clock_in, is_clock_within, name_in}
-use Rattle.lb_check.specs.ClockSets.{is_clocked_on, IsClockSet, AreClockSets, SeesClocks, is_single}
-use Rattle.lb_check.specs.ClockSets.{are_single, is_single_within, is_statement_single}
-use Rattle.lb_static.specs.ReachedNodes.{callee_in}
-use Rattle.lb_check.specs.TermClocks.{Context, clock_with, context_of, declared_in}
-use Rattle.lb_check.specs.TermClocks.{is_same, accepts_clock, operands_in, operands_of, operand_of}
-use Rattle.lb_check.specs.TermClocks.{infer_clock, left_clock, is_one_clocked, is_call_clocked}
-use Rattle.lb_check.specs.TermClocks.{is_equation_clocked, stands, is_resolved_statement_clocked}
-use Rattle.lb_check.specs.TermClocks.{is_body_clocked}
+use Rattle.lb_check.proofs.Words.{◌≡◌, ℕ, zero, suc, ◌<◌, Bool, true, false, ◌+◌, List, [], ◌∷◌}
+use Rattle.lb_check.proofs.Words.{length, map, Option, Some, None, refl, ap, sym, ◌∙◌, subst, arith}
+use Rattle.lb_check.proofs.Words.{◌&&◌, ◌==◌, slice_get, nat_eq, list_all, zip, nat_tests}
+use Rattle.lb_check.proofs.Words.{list_all-append, slice_get_within, get_or_from_slice_get}
+use Rattle.lb_check.proofs.Words.{and-true, ◌>>=◌, holds, Name, Node, Expr, Exprs, Cons, Static}
+use Rattle.lb_check.proofs.Words.{Statement, all_at, and_first, and_second, Program, Site}
+use Rattle.lb_check.proofs.Words.{node_named, node_sites, statement_sites, right_side, source_names}
+use Rattle.lb_check.proofs.Words.{callee_in, IsResolved, node_of, texts_of, counts_of, Texts}
+use Rattle.lb_check.proofs.Words.{is_variable, is_call, is_within, are_within, is_unhidden}
+use Rattle.lb_check.proofs.Words.{are_unhidden, is_declared_within, is_sampling_within, are_statics}
+use Rattle.lb_check.proofs.Words.{is_statement_within, is_statement_unhidden, expr_of, exprs_of}
+use Rattle.lb_check.proofs.Words.{row_of, named_value, static_at, statement_of, site_at, Reached}
+use Rattle.lb_check.proofs.Words.{CallId, ResolvedNode, Sampling, ResolvedStatement, Term, Value}
+use Rattle.lb_check.proofs.Words.{Group', Call', Row_of-Term, end_of-Term, more_of-Term, VariableId}
+use Rattle.lb_check.proofs.Words.{same, clock_of, clock_or, declared_clock, ungrouped, is_clock}
+use Rattle.lb_check.proofs.Words.{is_clocked, is_occurrence_clocked, is_statement_clocked}
+use Rattle.lb_check.proofs.Words.{are_on_results, left_clocks, at_place, is_part_clocked}
+use Rattle.lb_check.proofs.Words.{Occurrence, at, occurrences, right_sides, statement_clock}
+use Rattle.lb_check.proofs.Words.{statements, HasClocks, clock_in, is_clock_within, name_in}
+use Rattle.lb_check.proofs.Words.{is_clocked_on, IsClockSet, AreClockSets, SeesClocks, is_single}
+use Rattle.lb_check.proofs.Words.{are_single, is_single_within, is_statement_single, Context}
+use Rattle.lb_check.proofs.Words.{clock_with, context_of, declared_in, is_same, accepts_clock}
+use Rattle.lb_check.proofs.Words.{operands_in, operands_of, operand_of, infer_clock, left_clock}
+use Rattle.lb_check.proofs.Words.{is_equation_clocked, is_resolved_statement_clocked}
+use Rattle.lb_check.proofs.Words.{is_body_clocked, Operand, ClockSet, NoClock, AnyClock, OneClock}
+use Rattle.std.specs.Prelude.{flat_map}
+use Rattle.lb_check.specs.BrokenParts.{is_side_clocked}
+use Rattle.lb_check.specs.TermClocks.{is_one_clocked, is_call_clocked, stands}
 use Rattle.lb_check.specs.declared.own_clock.Clock.{Clock}
 use Rattle.lb_check.specs.declared.own_clock.Clock.TheVariants.{Base, On}
-use Rattle.lb_check.specs.declared.clock_set.Operand.{Operand}
-use Rattle.lb_check.specs.declared.clock_set.ClockSet.{ClockSet}
-use Rattle.lb_check.specs.declared.clock_set.ClockSet.TheVariants.{NoClock, AnyClock, OneClock}
 use Rattle.lb_check.proofs.DistinctNames.{held_at}
 use Rattle.lb_check.proofs.FirstBroken.{fails_at, item_there}
 use Rattle.lb_check.proofs.SiteCallees.{callee_found}
 use Rattle.lb_check.proofs.OwnClocks.{clock_of_free, clock_of_waiting, same_clock, clock_itself}
 use Rattle.lb_check.proofs.OuterClocks.{same_turned}
+use Rattle.lb_syntax.specs.Tree as tree
+use Rattle.lb_static.specs.declared.resolved.ResolvedStatement.TheVariants as statement
+use Rattle.lb_check.specs.Clocks as clocks
+use Rattle.lb_check.specs.declared.part.Part.TheVariants as part
 
 regrouped : (a b c d : Bool) → ((a && b) && (c && d)) ≡ ((a && c) && (b && d))
 regrouped true true c d = refl

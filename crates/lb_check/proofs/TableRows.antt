@@ -1,20 +1,12 @@
 -- A rule that looks at a specialization alone holds of each instance where it holds of each
 -- specialization.
-use Rattle.std.proofs.Common.{◌≡◌, ℕ, zero, suc, ◌<◌, Bool, true, List, [], ◌∷◌, length, map}
-use Rattle.std.proofs.Common.{Option, Some, None, refl, inl, inr, ap, sym, ◌∙◌, subst, arith}
-use Rattle.std.specs.Prelude.{option_map, slice_get, slice_index_or}
-use Rattle.std.specs.List.{list_all}
-use Rattle.std.proofs.lemmas.Option.{slice_get_within}
-use Rattle.lb_syntax.specs.Lists.{In, either_or, zip2}
-use Rattle.lb_syntax.proofs.ListPlaces.{all_at, all_in, all_from}
-use Rattle.lb_syntax.proofs.TruthValues.{both_ways}
-use Rattle.lb_static.specs.declared.reach.Reached.{Reached}
+use Rattle.lb_check.proofs.Words.{◌≡◌, ℕ, zero, suc, ◌<◌, Bool, true, List, [], ◌∷◌, length, map}
+use Rattle.lb_check.proofs.Words.{Option, Some, None, refl, inl, inr, ap, sym, ◌∙◌, subst, arith}
+use Rattle.lb_check.proofs.Words.{option_map, slice_get, slice_index_or, list_all, slice_get_within}
+use Rattle.lb_check.proofs.Words.{In, either_or, zip2, all_at, all_in, all_from, both_ways, Reached}
+use Rattle.lb_check.proofs.Words.{Specialization, Table, IsTable, paths_of, row_at, specialized_at}
+use Rattle.lb_check.proofs.Words.{Program, Instance, Path, instances, paths_length}
 use Rattle.lb_static.specs.declared.table.Instance as row
-use Rattle.lb_static.specs.declared.table.Specialization.{Specialization}
-use Rattle.lb_static.specs.declared.table.Table.{Table}
-use Rattle.lb_static.specs.InstanceTable.{IsTable, paths_of, row_at, specialized_at}
-use Rattle.lb_static.specs.Instances.{Program, Instance, Path, instances}
-use Rattle.lb_static.proofs.InstanceRows.{paths_length}
 
 -- where a number stands among those that rows give
 place_of : (f : row.Instance → ℕ) (rows : List row.Instance) (k i : ℕ) → k < length (map f rows) →

@@ -1,63 +1,43 @@
 -- Where the code finds that a term may stand is where the rules of clocks let its expression stand.
-use Rattle.std.proofs.Common.{◌≡◌, ℕ, suc, ◌+◌, Bool, true, false, List, [], ◌∷◌, ◌++◌, length}
-use Rattle.std.proofs.Common.{take, Option, Some, None, refl, ap, sym, ◌∙◌, subst, arith}
+use Rattle.lb_check.proofs.Words.{◌≡◌, ℕ, suc, ◌+◌, Bool, true, false, List, [], ◌∷◌, ◌++◌, length}
+use Rattle.lb_check.proofs.Words.{take, Option, Some, None, refl, ap, sym, ◌∙◌, subst, arith, ◌&&◌}
+use Rattle.lb_check.proofs.Words.{◌||◌, not, is_some, option_map, nat_eq, if◌then◌else◌, list_all}
+use Rattle.lb_check.proofs.Words.{append_assoc, list_all-append, nat_tests, Count, and-true}
+use Rattle.lb_check.proofs.Words.{and-false, not-true, ◌>>=◌, either_or, holds, or_else, listed}
+use Rattle.lb_check.proofs.Words.{zip2, Name, Static, Expr, Node, ArrayIterator, and_first}
+use Rattle.lb_check.proofs.Words.{and_second, Reached, CallId, ResolvedNode, Sampling, Term}
+use Rattle.lb_check.proofs.Words.{Literal, Truth, Value, Group', Unary', Binary', If', Arrow', Fby'}
+use Rattle.lb_check.proofs.Words.{Pre', Current', When', Replicate', Index', Slice', Join', Array'}
+use Rattle.lb_check.proofs.Words.{AtMostOne', Nor', Call', IterateNode', IterateSymbol'}
+use Rattle.lb_check.proofs.Words.{Row_of-Term, end_of-Term, more_of-Term, items-the_row-Term}
+use Rattle.lb_check.proofs.Words.{VariableId, Program, Site, node_named, among, variable_names}
+use Rattle.lb_check.proofs.Words.{node_of, statics_of, texts_of, counts_of, Texts, Counts, expr_of}
+use Rattle.lb_check.proofs.Words.{row_of, exprs_of, named_value, static_at, site_at, declaration_of}
+use Rattle.lb_check.proofs.Words.{sampling_of, is_variable, is_static, is_call, is_no_variable}
+use Rattle.lb_check.proofs.Words.{is_within, are_within, is_unhidden, are_unhidden, variables}
+use Rattle.lb_check.proofs.Words.{clock_of, clock_or, clock_within, declared_clock, parent}
+use Rattle.lb_check.proofs.Words.{is_clock, is_occurrence_clocked, is_base_clocked_node, if_node}
+use Rattle.lb_check.proofs.Words.{at, call_count, occurrences, occurrences_in, HasClocks, name_in}
+use Rattle.lb_check.proofs.Words.{clock_in, AreClockSets, IsClockSet, SeesClocks, is_clocked_on}
+use Rattle.lb_check.proofs.Words.{is_single, are_single, calls_single, callee_in, Base, Operand}
+use Rattle.lb_check.proofs.Words.{ClockSet, NoClock, AnyClock, OneClock}
 use Rattle.std.proofs.Common.{length-append}
-use Rattle.std.specs.Prelude.{◌&&◌, ◌||◌, not, is_some, option_map, nat_eq, if◌then◌else◌}
-use Rattle.std.specs.List.{list_all}
-use Rattle.std.proofs.lemmas.List.{append_assoc}
-use Rattle.std.proofs.lemmas.List.Folds.{list_all-append}
-use Rattle.std.proofs.lemmas.Bool.Decides.{nat_tests}
-use mathlib.Core.Former.{Count}
-use Rattle.std.proofs.Math.Bool.{and-true, and-false}
-use Rattle.std.proofs.lemmas.Bool.{not-true}
-use Rattle.lb_syntax.specs.Lists.{◌>>=◌, either_or, holds, or_else, listed, zip2}
-use Rattle.lb_syntax.specs.Tree as tree
-use Rattle.lb_syntax.specs.Tree.{Name, Static, Expr, Node}
-use Rattle.lb_syntax.specs.declared.tree.ArrayIterator.{ArrayIterator}
-use Rattle.lb_syntax.proofs.TruthValues.{and_first, and_second}
-use Rattle.lb_static.specs.declared.reach.Reached.{Reached}
-use Rattle.lb_static.specs.declared.resolved.CallId.{CallId}
-use Rattle.lb_static.specs.declared.resolved.ResolvedNode.{ResolvedNode}
-use Rattle.lb_static.specs.declared.resolved.Sampling.{Sampling}
-use Rattle.lb_static.specs.declared.resolved.Term.{Term, Literal, Truth, Variable, Value, Group'}
-use Rattle.lb_static.specs.declared.resolved.Term.{Unary', Binary', If', Arrow', Fby', Pre'}
-use Rattle.lb_static.specs.declared.resolved.Term.{Current', When', Replicate', Index', Slice'}
-use Rattle.lb_static.specs.declared.resolved.Term.{Join', Array', AtMostOne', Nor', Call'}
-use Rattle.lb_static.specs.declared.resolved.Term.{IterateNode', IterateSymbol', Row_of-Term}
-use Rattle.lb_static.specs.declared.resolved.Term.{end_of-Term, more_of-Term, items-the_row-Term}
+use Rattle.lb_static.specs.declared.resolved.Term.{Variable}
 use Rattle.lb_static.specs.declared.resolved.Variable.{Variable as Declared}
-use Rattle.lb_static.specs.declared.resolved.VariableId.{VariableId}
-use Rattle.lb_static.specs.Instances.{Program, Site, node_named}
-use Rattle.lb_static.specs.Parts.{among, variable_names}
-use Rattle.lb_static.specs.ResolvedNodes.{node_of, statics_of, texts_of, counts_of}
-use Rattle.lb_static.specs.ResolvedTerms.{Texts, Counts, expr_of, row_of, exprs_of, named_value}
-use Rattle.lb_static.specs.ResolvedTerms.{static_at, site_at, declaration_of, sampling_of}
-use Rattle.lb_static.specs.ResolvedTerms.{iterate_expr, is_variable, is_static, is_call}
-use Rattle.lb_static.specs.ResolvedTerms.{is_no_variable, is_within, are_within, is_unhidden}
-use Rattle.lb_static.specs.ResolvedTerms.{are_unhidden}
-use Rattle.lb_static.specs.DataTypes.{variables}
-use Rattle.lb_check.specs.Clocks as clocks
-use Rattle.lb_check.specs.Clocks.{clock_of, clock_or, clock_within, declared_clock, parent}
-use Rattle.lb_check.specs.ClockRules.{is_clock, is_just_below, is_occurrence_clocked}
-use Rattle.lb_check.specs.ClockRules.{is_base_clocked_node, if_node}
-use Rattle.lb_check.specs.Occurrences.{at, call_count, occurrences, occurrences_in}
-use Rattle.lb_check.specs.OwnClocks.{HasClocks, name_in, clock_in}
-use Rattle.lb_check.specs.ClockSets.{AreClockSets, IsClockSet, SeesClocks, is_clocked_on, is_single}
-use Rattle.lb_check.specs.ClockSets.{are_single, calls_single}
-use Rattle.lb_static.specs.ReachedNodes.{callee_in}
-use Rattle.lb_check.specs.TermClocks.{Context, context_of, declared_in, is_same, both}
-use Rattle.lb_check.specs.TermClocks.{together, sampled, raised, is_base_clocked, call_clock_set}
-use Rattle.lb_check.specs.TermClocks.{infer_clock, operands_in, operand_of, operands_of}
-use Rattle.lb_check.specs.declared.own_clock.Clock.TheVariants.{Base, On}
-use Rattle.lb_check.specs.declared.clock_set.Operand.{Operand}
-use Rattle.lb_check.specs.declared.clock_set.ClockSet.{ClockSet}
-use Rattle.lb_check.specs.declared.clock_set.ClockSet.TheVariants.{NoClock, AnyClock, OneClock}
-use Rattle.lb_check.proofs.ClockTests.{clock_turned, on_one, on_two, same_is}
-use Rattle.lb_check.proofs.ClockTests.{name_among, declared_is, declared_within, has_declared}
+use Rattle.lb_static.specs.ResolvedTerms.{iterate_expr}
+use Rattle.lb_check.specs.ClockRules.{is_just_below}
+use Rattle.lb_check.specs.TermClocks.{Context, context_of, declared_in, is_same, both, together}
+use Rattle.lb_check.specs.TermClocks.{sampled, raised, is_base_clocked, call_clock_set, infer_clock}
+use Rattle.lb_check.specs.TermClocks.{operands_in, operand_of, operands_of}
+use Rattle.lb_check.specs.declared.own_clock.Clock.TheVariants.{On}
+use Rattle.lb_check.proofs.ClockTests.{clock_turned, on_one, on_two, same_is, name_among}
+use Rattle.lb_check.proofs.ClockTests.{declared_is, declared_within, has_declared}
 use Rattle.lb_check.proofs.ClockedNodes.{as_many_names, same_taken, zip_split}
 use Rattle.lb_check.proofs.FittedTypes.{unfound}
 use Rattle.lb_check.proofs.SiteCallees.{callee_found}
 use Rattle.lb_check.proofs.OwnClocks.{clock_itself}
+use Rattle.lb_syntax.specs.Tree as tree
+use Rattle.lb_check.specs.Clocks as clocks
 
 both_are : (a b c d : Bool) → a ≡ c → b ≡ d → (a && b) ≡ (c && d)
 both_are a b c d e f = ap (λ x. x && b) e ∙ ap (λ x. c && x) f

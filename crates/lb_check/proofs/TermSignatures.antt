@@ -1,27 +1,19 @@
 -- What a term with a row of operands takes and gives, type by type, gives the types of its results.
-use Rattle.std.proofs.Common.{◌≡◌, inl, inr, ℕ, Bool, true, false, List, [], ◌∷◌, length, map}
-use Rattle.std.proofs.Common.{Option, Some, None, Vec, Global, refl, ap, sym, subst, ◌∙◌, arith}
+use Rattle.lb_check.proofs.Words.{◌≡◌, inl, inr, ℕ, Bool, true, false, List, [], ◌∷◌, length, map}
+use Rattle.lb_check.proofs.Words.{Option, Some, None, Vec, Global, refl, ap, sym, subst, ◌∙◌, arith}
+use Rattle.lb_check.proofs.Words.{list_all, and-false, nat_tests, ArrayIterator, Map, Red, Fill}
+use Rattle.lb_check.proofs.Words.{BinaryOperator, ◌>>=◌, all_some, holds, where_true, CallId, Term}
+use Rattle.lb_check.proofs.Words.{IterateNode, IterateSymbol, DataType, are_types, int, is_type}
+use Rattle.lb_check.proofs.Words.{truth, IsGiven, Signature, are_met, are_one, arrays, evaluated}
+use Rattle.lb_check.proofs.Words.{given_of, outcome, rest_arrays, type_at, CallTypes, are_equal}
+use Rattle.lb_check.proofs.Words.{results, row_results, type_of, array_of, is_arithmetic}
+use Rattle.lb_check.proofs.Words.{is_logical, iterator_types, symbol_types}
 use Rattle.std.specs.Prelude.{◌&&◌, nat_eq, nat_lt, option_map, replicate, if◌then◌else◌}
-use Rattle.std.specs.List.{list_all}
-use Rattle.std.proofs.Math.Bool.{and-false}
-use Rattle.std.proofs.lemmas.Bool.Decides.{nat_tests}
-use Rattle.lb_syntax.specs.declared.tree.ArrayIterator.{ArrayIterator}
-use Rattle.lb_syntax.specs.declared.tree.ArrayIterator.TheVariants.{Map, Red, Fill}
-use Rattle.lb_syntax.specs.declared.tree.BinaryOperator.{BinaryOperator}
 use Rattle.lb_syntax.specs.declared.tree.Kind.TheVariants.{Int as Int_kind, Bool as Bool_kind}
-use Rattle.lb_syntax.specs.Lists.{◌>>=◌, all_some, holds, where_true}
-use Rattle.lb_static.specs.declared.resolved.CallId.{CallId}
-use Rattle.lb_static.specs.declared.resolved.Term.{Term, AtMostOne, Nor, Call, IterateNode}
-use Rattle.lb_static.specs.declared.resolved.Term.{IterateSymbol}
-use Rattle.lb_static.specs.DataTypes.{DataType, are_types, int, is_type, truth}
-use Rattle.lb_check.specs.TermOperands.{IsGiven}
-use Rattle.lb_check.specs.TermSignatures.{Signature, are_met, are_one, arrays, evaluated, given_of}
-use Rattle.lb_check.specs.TermSignatures.{iterated, iterated_by, outcome, pair_of, rest_arrays}
-use Rattle.lb_check.specs.TermSignatures.{scalars, symbol_signature, type_at}
-use Rattle.lb_check.specs.TermTypes.{CallTypes, Context, are_equal, results, row_results}
-use Rattle.lb_check.specs.TermTypes.{truth_results, type_of}
-use Rattle.lb_check.specs.Types.{array_of, fill_types, is_arithmetic, is_logical, iterator_types}
-use Rattle.lb_check.specs.Types.{map_types, red_types, symbol_types}
+use Rattle.lb_static.specs.declared.resolved.Term.{AtMostOne, Nor, Call}
+use Rattle.lb_check.specs.TermSignatures.{iterated, iterated_by, pair_of, scalars, symbol_signature}
+use Rattle.lb_check.specs.TermTypes.{Context, truth_results}
+use Rattle.lb_check.specs.Types.{fill_types, map_types, red_types}
 use Rattle.lb_check.proofs.TypeRows.{results_of_row}
 
 -- types that are there or not

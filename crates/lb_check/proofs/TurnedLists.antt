@@ -1,8 +1,7 @@
 -- Lists that are gone through, or that grow, against their order.
-use Rattle.std.proofs.Common.{◌≡◌, ℕ, ◌+◌, ◌-◌, ◌<◌, ◌≤◌, List, [], ◌∷◌, ◌++◌, length, drop}
-use Rattle.std.proofs.Common.{get_or, ap, sym, ◌∙◌, arith}
-use Rattle.std.specs.Prelude.{reverse}
-use Rattle.std.proofs.lemmas.List.{append_assoc, drop_all, drop_more, reverse-append}
+use Rattle.lb_check.proofs.Words.{◌≡◌, ℕ, ◌+◌, ◌-◌, ◌<◌, ◌≤◌, List, [], ◌∷◌, ◌++◌, length, drop}
+use Rattle.lb_check.proofs.Words.{get_or, ap, sym, ◌∙◌, arith, reverse, append_assoc, drop_all}
+use Rattle.lb_check.proofs.Words.{drop_more, reverse-append}
 
 -- some items, and then those that stand before them
 pub further :

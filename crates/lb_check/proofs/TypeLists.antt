@@ -1,7 +1,5 @@
 -- Sizes of a type, the outermost last.
-use Rattle.std.proofs.Common.{◌≡◌, ℕ, List, [], ◌∷◌, ◌++◌}
-use Rattle.std.specs.Prelude.{reverse}
-use Rattle.std.proofs.lemmas.List.{reverse-append}
+use Rattle.lb_check.proofs.Words.{◌≡◌, ℕ, List, [], ◌∷◌, ◌++◌, reverse, reverse-append}
 
 pub outermost : (ns : List ℕ) (n : ℕ) → reverse (ns ++ n ∷ []) ≡ n ∷ reverse ns
 outermost ns n = reverse-append ns (n ∷ [])

@@ -1,16 +1,11 @@
 -- The type of a term from those of its one, two or three operands.
-use Rattle.std.proofs.Common.{◌≡◌, ℕ, ◌⊎◌, inl, inr, Bool, true, false, Option, Some, None, Box}
-use Rattle.std.proofs.Common.{Global, refl, ap, ◌∙◌}
-use Rattle.lb_syntax.specs.declared.tree.UnaryOperator.{UnaryOperator}
-use Rattle.lb_syntax.specs.Lists.{◌>>=◌, where_true}
-use Rattle.lb_static.specs.declared.resolved.StaticId.{StaticId}
-use Rattle.lb_static.specs.declared.resolved.VariableId.{VariableId}
-use Rattle.lb_static.specs.declared.resolved.Term.{Term, Group, Unary, Pre, Current, When}
-use Rattle.lb_static.specs.declared.resolved.Term.{Replicate, Index, Slice}
-use Rattle.lb_static.specs.DataTypes.{DataType, is_type, truth}
-use Rattle.lb_static.specs.TermForms.{IsPair}
-use Rattle.lb_check.specs.Types.{array_of, index_type, slice_type}
-use Rattle.lb_check.specs.TermTypes.{Context, one_type, two_types, type_of, when_truth}
+use Rattle.lb_check.proofs.Words.{◌≡◌, ℕ, ◌⊎◌, inl, inr, Bool, true, false, Option, Some, None, Box}
+use Rattle.lb_check.proofs.Words.{Global, refl, ap, ◌∙◌, UnaryOperator, ◌>>=◌, where_true, StaticId}
+use Rattle.lb_check.proofs.Words.{VariableId, Term, DataType, is_type, truth, IsPair, array_of}
+use Rattle.lb_check.proofs.Words.{index_type, slice_type, one_type, type_of, when_truth}
+use Rattle.lb_static.specs.declared.resolved.Term.{Group, Unary, Pre, Current, When, Replicate}
+use Rattle.lb_static.specs.declared.resolved.Term.{Index, Slice}
+use Rattle.lb_check.specs.TermTypes.{Context, two_types}
 
 -- a term with this one operand
 abbrev pub IsSingle : Term → Box Term Global → Type 0

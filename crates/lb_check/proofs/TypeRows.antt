@@ -1,15 +1,9 @@
 -- A row of terms in a tree is the list in the vector, and so are its types.
-use Rattle.std.proofs.Common.{◌≡◌, inl, inr, List, ◌∷◌, map, Option, Some, None, Vec, Global}
-use Rattle.std.proofs.Common.{refl, ap, ◌∙◌}
-use Rattle.std.specs.Prelude.{option_map}
-use mathlib.Core.Former.{Count}
-use Rattle.lb_syntax.specs.Lists.{◌>>=◌, all_some}
-use Rattle.lb_static.specs.declared.resolved.Term.{Term, Array', AtMostOne', Nor', Call'}
-use Rattle.lb_static.specs.declared.resolved.Term.{IterateNode', IterateSymbol', Row_of-Term}
-use Rattle.lb_static.specs.declared.resolved.Term.{end_of-Term, more_of-Term, items-the_row-Term}
-use Rattle.lb_static.specs.declared.resolved.Term.{items_hidden-the_row-Term-0}
-use Rattle.lb_static.specs.DataTypes.{DataType}
-use Rattle.lb_static.specs.TermForms.{IsRow}
+use Rattle.lb_check.proofs.Words.{◌≡◌, inl, inr, List, ◌∷◌, map, Option, Some, None, Vec, Global}
+use Rattle.lb_check.proofs.Words.{refl, ap, ◌∙◌, option_map, Count, ◌>>=◌, all_some, Term, Array'}
+use Rattle.lb_check.proofs.Words.{AtMostOne', Nor', Call', IterateNode', IterateSymbol'}
+use Rattle.lb_check.proofs.Words.{Row_of-Term, end_of-Term, more_of-Term, items-the_row-Term}
+use Rattle.lb_check.proofs.Words.{items_hidden-the_row-Term-0, DataType, IsRow}
 use Rattle.lb_check.specs.TermTypes.{Context, type_of, types_in, types_of, results, row_results}
 
 pub types_items : (ctx : Context) (n : _) (row : Row_of-Term n) →

@@ -1,17 +1,13 @@
 -- What is kept of the types of the parts of a term, from what is kept of its operands, and of rows
 -- of terms from a place on.
-use Rattle.std.proofs.Common.{◌≡◌, inl, inr, ℕ, ◌+◌, ◌<◌, ◌≤◌, List, [], ◌∷◌, ◌++◌}
-use Rattle.std.proofs.Common.{length, drop, flat_map, get_or, Box, Global, Vec, refl, ap}
-use Rattle.std.proofs.Common.{sym, ◌∙◌}
-use Rattle.std.proofs.lemmas.List.{drop_all, drop_more}
-use Rattle.lb_static.specs.declared.resolved.Term.{Term, Group, If}
-use Rattle.lb_static.specs.declared.resolved.Term.{Row_of-Term, end_of-Term, more_of-Term}
-use Rattle.lb_static.specs.declared.resolved.Term.{items-the_row-Term}
-use Rattle.lb_static.specs.TermForms.{IsSingle, IsPair, IsRow}
+use Rattle.lb_check.proofs.Words.{◌≡◌, inl, inr, ℕ, ◌+◌, ◌<◌, ◌≤◌, List, [], ◌∷◌, ◌++◌, length}
+use Rattle.lb_check.proofs.Words.{drop, flat_map, get_or, Box, Global, Vec, refl, ap, sym, ◌∙◌}
+use Rattle.lb_check.proofs.Words.{drop_all, drop_more, Term, Row_of-Term, end_of-Term, more_of-Term}
+use Rattle.lb_check.proofs.Words.{items-the_row-Term, IsSingle, IsPair, IsRow, IsLeaf, results}
+use Rattle.lb_static.specs.declared.resolved.Term.{Group, If}
 use Rattle.lb_check.specs.PlacedTypes.{FoundNode, FoundTypes, with_term, with_terms, placed_types}
 use Rattle.lb_check.specs.PlacedTypes.{placed_row_types, placed_all_types}
-use Rattle.lb_check.specs.TermOperands.{IsLeaf}
-use Rattle.lb_check.specs.TermTypes.{Context, results}
+use Rattle.lb_check.specs.TermTypes.{Context}
 use Rattle.lb_check.proofs.TypeRows.{row_in, row_is}
 
 -- ## What is kept grows

@@ -1,26 +1,14 @@
 -- The types of a call in the text of an instance of an accepted program, and of an equation whose
 -- whole right side it is.
-use Rattle.std.proofs.Common.{◌≡◌, inl, inr, ℕ, Bool, true, false, cond, Option, Some, None}
-use Rattle.std.proofs.Common.{List, [], ◌∷◌, map, refl, ap, sym, ◌∙◌, subst}
-use Rattle.std.specs.Str.{bytes_eq}
-use Rattle.std.proofs.lemmas.Slice.Eq.{bytes_eq-Decides}
-use Rattle.std.proofs.lemmas.Option.{same_Some}
-use Rattle.lb_syntax.specs.Lists.{In, all_some}
-use Rattle.lb_syntax.specs.Tree.{Name, Static, Node_named, Expr, Group, Call, Exprs, Declaration}
-use Rattle.lb_syntax.specs.Tree.{Equation}
-use Rattle.lb_syntax.proofs.ListPlaces.{all_in}
-use Rattle.lb_syntax.proofs.TruthValues.{and_second}
-use Rattle.lb_static.specs.DataTypes.{DataType, are_types, variable_type}
-use Rattle.lb_static.specs.Instances.{Program, Instance, Child, call_site, callee_of, node_named}
-use Rattle.lb_static.specs.Instances.{instances}
-use Rattle.lb_static.specs.Instantiation.{static_refusal, are_same}
-use Rattle.lb_static.specs.StaticValues.{named}
-use Rattle.lb_static.proofs.TestedItems.{found_passes}
-use Rattle.lb_check.specs.Acceptance.{check_refusal}
-use Rattle.lb_check.specs.Clocks.{Clock, ungrouped}
-use Rattle.lb_check.specs.Occurrences.{at, node_occurrences}
-use Rattle.lb_check.specs.TypeRules.{type_of_name, is_statement_typed}
-use Rattle.lb_check.specs.Types.{data_types, all_types, operator_types}
+use Rattle.lb_check.proofs.Words.{◌≡◌, inl, inr, ℕ, Bool, true, false, cond, Option, Some, None}
+use Rattle.lb_check.proofs.Words.{List, [], ◌∷◌, map, refl, ap, sym, ◌∙◌, subst, bytes_eq}
+use Rattle.lb_check.proofs.Words.{bytes_eq-Decides, same_Some, In, all_some, Name, Static}
+use Rattle.lb_check.proofs.Words.{Node_named, Expr, Group, Call, Exprs, Declaration, Equation}
+use Rattle.lb_check.proofs.Words.{all_in, and_second, DataType, are_types, variable_type, Program}
+use Rattle.lb_check.proofs.Words.{Instance, Child, call_site, callee_of, node_named, instances}
+use Rattle.lb_check.proofs.Words.{static_refusal, are_same, named, found_passes, check_refusal}
+use Rattle.lb_check.proofs.Words.{Clock, ungrouped, at, node_occurrences, type_of_name}
+use Rattle.lb_check.proofs.Words.{is_statement_typed, data_types, all_types, operator_types}
 use Rattle.lb_check.proofs.AcceptedRules.{typed}
 use Rattle.lb_check.proofs.OccurrenceClocks.{occurrence_fits}
 use Rattle.lb_check.proofs.OperandTypes.{bound, truly, called, placed}

@@ -1,21 +1,13 @@
 -- A specialization breaks the rules of types in the first part of its node that does, and keeps
 -- them where each part does.
-use Rattle.std.proofs.Common.{◌≡◌, ℕ, Bool, true, false, Some, None, ap, sym, ◌∙◌, subst}
-use Rattle.std.specs.Prelude.{◌&&◌, slice_get}
-use Rattle.std.specs.List.{list_all}
-use Rattle.std.proofs.Math.Bool.{and-false}
-use Rattle.lb_syntax.specs.Lists.{holds}
-use Rattle.lb_static.specs.declared.reach.Reached.{Reached}
-use Rattle.lb_static.specs.declared.resolved.ResolvedNode.{ResolvedNode}
-use Rattle.lb_static.specs.declared.table.Specialization.{Specialization}
-use Rattle.lb_static.specs.declared.table.Table.{Table}
-use Rattle.lb_check.specs.declared.part.Part.{Part}
-use Rattle.lb_check.specs.declared.part.Part.TheVariants as part
-use Rattle.lb_check.specs.BrokenParts.{first_broken}
-use Rattle.lb_check.specs.FoundParts.{is_part_typed_in, IsIllTyped}
-use Rattle.lb_check.specs.TermTypes.{Context, context_of, is_node_typed, is_specialization_typed}
-use Rattle.lb_check.specs.TermTypes.{is_resolved_statement_typed, is_variable_typed}
+use Rattle.lb_check.proofs.Words.{◌≡◌, ℕ, Bool, true, false, Some, None, ap, sym, ◌∙◌, subst, ◌&&◌}
+use Rattle.lb_check.proofs.Words.{slice_get, list_all, and-false, holds, Reached, ResolvedNode}
+use Rattle.lb_check.proofs.Words.{Specialization, Table, Part, first_broken, is_part_typed_in}
+use Rattle.lb_check.proofs.Words.{IsIllTyped, is_node_typed, is_specialization_typed}
+use Rattle.lb_check.proofs.Words.{is_resolved_statement_typed, is_variable_typed}
+use Rattle.lb_check.specs.TermTypes.{Context, context_of}
 use Rattle.lb_check.proofs.FirstBroken.{all_pass, fails_there, not_all_pass}
+use Rattle.lb_check.specs.declared.part.Part.TheVariants as part
 
 -- a specialization of no node
 pub no_node : (r : Reached) (t : Table) (s : Specialization) (p : Part) →

@@ -1,12 +1,7 @@
 -- Each expression in the text of each instance of an accepted program has types.
-use Rattle.std.proofs.Common.{◌≡◌, None, Some, List}
-use Rattle.lb_syntax.specs.Lists.{Every}
-use Rattle.lb_static.specs.DataTypes.{DataType}
-use Rattle.lb_static.specs.Instances.{Program, Instance, instances}
-use Rattle.lb_static.specs.Instantiation.{static_refusal}
-use Rattle.lb_check.specs.Acceptance.{check_refusal}
-use Rattle.lb_check.specs.Occurrences.{Occurrence, node_occurrences}
-use Rattle.lb_check.specs.Types.{data_types}
+use Rattle.lb_check.proofs.Words.{◌≡◌, None, Some, List, Every, DataType, Program, Instance}
+use Rattle.lb_check.proofs.Words.{instances, static_refusal, check_refusal, Occurrence}
+use Rattle.lb_check.proofs.Words.{node_occurrences, data_types}
 use Rattle.lb_check.proofs.ApartLists.{Every-from}
 use Rattle.lb_check.proofs.Every.{Every-map}
 use Rattle.lb_check.proofs.OccurrenceClocks.{IsVariable, IsTypedOver, occurrences_fit}

@@ -1,52 +1,34 @@
 -- The rules of types of a specialization are those of each of its instances.
-use Rattle.std.proofs.Common.{◌≡◌, ℕ, zero, suc, ◌<◌, Bool, true, false, List, [], ◌∷◌, length, map}
-use Rattle.std.proofs.Common.{Option, Some, None, refl, ap, sym, ◌∙◌, subst, arith}
-use Rattle.std.specs.Prelude.{◌&&◌, option_map, slice_get, slice_index_or}
-use Rattle.std.specs.List.{list_all}
-use Rattle.std.proofs.lemmas.Option.{slice_get-map, slice_get_within, get_or_from_slice_get}
-use Rattle.std.proofs.lemmas.List.{length-map}
-use Rattle.std.proofs.Math.Bool.{and-true}
-use Rattle.lb_syntax.specs.Lists.{all_some, holds, listed, zip2}
-use Rattle.lb_syntax.specs.Tree.{Name, Node}
-use Rattle.lb_syntax.proofs.ListPlaces.{all_at, item_at}
-use Rattle.lb_syntax.proofs.TruthValues.{and_first, and_second}
-use Rattle.lb_static.specs.declared.reach.Reached.{Reached}
-use Rattle.lb_static.specs.declared.resolved.ResolvedNode.{ResolvedNode}
-use Rattle.lb_static.specs.declared.resolved.Sampling.{Sampling}
-use Rattle.lb_static.specs.declared.resolved.ResolvedStatement.{ResolvedStatement}
-use Rattle.lb_static.specs.declared.resolved.ResolvedStatement.TheVariants as statement
+use Rattle.lb_check.proofs.Words.{◌≡◌, ℕ, zero, suc, ◌<◌, Bool, true, false, List, [], ◌∷◌, length}
+use Rattle.lb_check.proofs.Words.{map, Option, Some, None, refl, ap, sym, ◌∙◌, subst, arith, ◌&&◌}
+use Rattle.lb_check.proofs.Words.{option_map, slice_get, slice_index_or, list_all, slice_get-map}
+use Rattle.lb_check.proofs.Words.{slice_get_within, get_or_from_slice_get, length-map, and-true}
+use Rattle.lb_check.proofs.Words.{all_some, holds, listed, zip2, Name, Node, all_at, item_at}
+use Rattle.lb_check.proofs.Words.{and_first, and_second, Reached, ResolvedNode, Sampling}
+use Rattle.lb_check.proofs.Words.{ResolvedStatement, VariableId, Specialization, Table, instance_of}
+use Rattle.lb_check.proofs.Words.{specialized_at, Program, Instance, Path, static_value, instances}
+use Rattle.lb_check.proofs.Words.{are_distinct, is_named, declares_once, reached_nodes}
+use Rattle.lb_check.proofs.Words.{variable_names, source_names, trees, IsResolved, node_of}
+use Rattle.lb_check.proofs.Words.{statics_of, texts_of, counts_of, name_at, declaration_of}
+use Rattle.lb_check.proofs.Words.{sampling_of, statement_of, is_variable, is_within}
+use Rattle.lb_check.proofs.Words.{is_statement_within, is_statement_unhidden, are_statics}
+use Rattle.lb_check.proofs.Words.{is_sampling_within, is_declared_within, DataType, truth, is_type}
+use Rattle.lb_check.proofs.Words.{variables, are_same, Part, is_part_typed, is_part_typed_in}
+use Rattle.lb_check.proofs.Words.{IsIllTyped, IsJudged, type_of_name, is_statement_typed}
+use Rattle.lb_check.proofs.Words.{is_clock_typed, is_typed, results, are_equal}
 use Rattle.lb_static.specs.declared.resolved.Variable.{Variable as Declared}
-use Rattle.lb_static.specs.declared.resolved.VariableId.{VariableId}
-use Rattle.lb_static.specs.declared.table.Specialization.{Specialization}
-use Rattle.lb_static.specs.declared.table.Table.{Table}
-use Rattle.lb_static.specs.InstanceTable.{instance_of, specialized_at}
-use Rattle.lb_static.specs.Instances.{Program, Instance, Path, static_value, instances}
-use Rattle.lb_static.specs.Names.{are_distinct, is_named, declares_once, reached_nodes}
-use Rattle.lb_static.specs.Parts.{variable_names}
-use Rattle.lb_static.specs.ReachedNodes.{source_names, trees}
-use Rattle.lb_static.specs.ResolvedNodes.{IsResolved, node_of, statics_of, texts_of, counts_of}
-use Rattle.lb_static.specs.ResolvedTerms.{name_at, declaration_of, sampling_of, statement_of}
-use Rattle.lb_static.specs.ResolvedTerms.{is_variable, is_within, is_statement_within}
-use Rattle.lb_static.specs.ResolvedTerms.{is_statement_unhidden, are_statics, is_sampling_within}
-use Rattle.lb_static.specs.ResolvedTerms.{is_declared_within}
-use Rattle.lb_static.specs.DataTypes.{DataType, truth, is_type, variables}
-use Rattle.lb_static.specs.Instantiation.{are_same}
-use Rattle.lb_check.specs.declared.part.Part.{Part}
-use Rattle.lb_check.specs.declared.part.Part.TheVariants as part
-use Rattle.lb_check.specs.BrokenParts.{is_part_typed}
-use Rattle.lb_check.specs.FoundParts.{is_part_typed_in, IsIllTyped}
-use Rattle.lb_check.specs.JudgedPrograms.{IsJudged}
-use Rattle.lb_check.specs.TypeRules.{type_of_name, is_statement_typed, is_clock_typed, is_typed}
-use Rattle.lb_check.specs.TermTypes as mirror
-use Rattle.lb_check.specs.TermTypes.{Context, context_of, results, are_equal}
+use Rattle.lb_check.specs.TermTypes.{Context, context_of}
 use Rattle.lb_check.proofs.FittedCalls.{node_at, specialized_instance, values_at, call_is}
-use Rattle.lb_check.proofs.FittedEnvs.{variable_is, left_is, value_is, static_is}
-use Rattle.lb_check.proofs.FittedEnvs.{repeats_is, call_at}
+use Rattle.lb_check.proofs.FittedEnvs.{variable_is, left_is, value_is, static_is, repeats_is}
+use Rattle.lb_check.proofs.FittedEnvs.{call_at}
 use Rattle.lb_check.proofs.MirroredTypes.{Fits, term_results}
 use Rattle.lb_check.proofs.ClockedNodes.{zip_at}
 use Rattle.lb_check.proofs.DistinctNames.{distinct_first}
 use Rattle.lb_check.proofs.FirstBroken.{fails_at, item_there}
 use Rattle.lb_check.proofs.TableRows.{each_judged}
+use Rattle.lb_static.specs.declared.resolved.ResolvedStatement.TheVariants as statement
+use Rattle.lb_check.specs.declared.part.Part.TheVariants as part
+use Rattle.lb_check.specs.TermTypes as mirror
 
 -- ## Distinct names
 

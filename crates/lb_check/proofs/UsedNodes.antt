@@ -1,14 +1,9 @@
 -- The nodes of some specializations, each once.
-use Rattle.std.proofs.Common.{◌≡◌, ◌⊎◌, inl, inr, ℕ, ◌+◌, ◌<◌, Bool, true, false, List, [], ◌∷◌}
-use Rattle.std.proofs.Common.{length, drop, get_or, refl, ap, sym, ◌∙◌, subst}
-use Rattle.std.specs.Prelude.{◌&&◌, ◌++◌, Some, cond, find, map, not}
-use Rattle.std.specs.List.{list_all}
-use Rattle.std.proofs.lemmas.List.{append_assoc, drop_more}
-use Rattle.std.proofs.Math.Bool.{and_assoc, and-true}
-use Rattle.std.proofs.lemmas.Bool.{not-false}
-use Rattle.lb_syntax.proofs.TruthValues.{and_first, and_second}
-use Rattle.lb_static.specs.declared.reach.NodeId.{NodeId}
-use Rattle.lb_static.specs.declared.table.Specialization.{Specialization}
+use Rattle.lb_check.proofs.Words.{◌≡◌, ◌⊎◌, inl, inr, ℕ, ◌+◌, ◌<◌, Bool, true, false, List, [], ◌∷◌}
+use Rattle.lb_check.proofs.Words.{length, drop, get_or, refl, ap, sym, ◌∙◌, subst, ◌&&◌, find, not}
+use Rattle.lb_check.proofs.Words.{list_all, append_assoc, drop_more, and_assoc, and-true, not-false}
+use Rattle.lb_check.proofs.Words.{and_first, and_second, NodeId, Specialization}
+use Rattle.std.specs.Prelude.{◌++◌, Some, cond, map}
 
 with_last : (f : NodeId → Bool) (ids : List NodeId) (x : NodeId) →
     list_all f (ids ++ x ∷ []) ≡ (list_all f ids && f x)

@@ -1,30 +1,18 @@
 -- What a walk over a term knows of its clocks, from what it knows of the operands of the term.
-use Rattle.std.proofs.Common.{◌≡◌, ◌⊎◌, inl, inr, ℕ, ◌+◌, ◌-◌, ◌<◌, ◌≤◌, Bool, List, [], ◌∷◌}
-use Rattle.std.proofs.Common.{◌++◌, length, drop, get_or, Option, Box, Vec, Global, refl, ap, ap₂}
-use Rattle.std.proofs.Common.{sym, ◌∙◌}
-use Rattle.std.specs.Prelude.{reverse}
-use Rattle.std.proofs.lemmas.List.{append-nil, reverse-append, reverse-reverse}
-use Rattle.lb_syntax.specs.declared.tree.ArrayIterator.{ArrayIterator}
-use Rattle.lb_syntax.specs.declared.tree.BinaryOperator.{BinaryOperator}
-use Rattle.lb_syntax.specs.declared.tree.UnaryOperator.{UnaryOperator}
-use Rattle.lb_static.specs.TermForms.{IsPair, IsRow}
-use Rattle.lb_static.specs.declared.resolved.CallId.{CallId}
-use Rattle.lb_static.specs.declared.resolved.StaticId.{StaticId}
-use Rattle.lb_static.specs.declared.resolved.Term.{Term, Variable, Group, Unary, If, Pre, Current}
-use Rattle.lb_static.specs.declared.resolved.Term.{When, Replicate, Index, Slice, Array, AtMostOne}
-use Rattle.lb_static.specs.declared.resolved.Term.{Nor, Call, IterateNode, IterateSymbol}
-use Rattle.lb_static.specs.declared.resolved.Term.{Row_of-Term, end_of-Term, more_of-Term}
-use Rattle.lb_static.specs.declared.resolved.Term.{items-the_row-Term, items_hidden-the_row-Term-0}
-use Rattle.lb_static.specs.declared.resolved.VariableId.{VariableId}
-use Rattle.lb_check.specs.CallClocks.{variable_of}
-use Rattle.lb_check.specs.TermClocks.{Context, both, infer_clock, operand_of, operands_of}
-use Rattle.lb_check.specs.TermClocks.{row_clock_set, unary_clock_set}
-use Rattle.lb_check.specs.TermOperands.{IsLeaf}
-use Rattle.lb_check.specs.WalkedClocks.{IsRowWalked, IsWalked, known_among, known_in}
-use Rattle.lb_check.specs.WalkedClocks.{known_operands}
-use Rattle.lb_check.specs.declared.clock_set.ClockSet.{ClockSet}
-use Rattle.lb_check.specs.declared.clock_set.ClockSet.TheVariants.{AnyClock, OneClock}
-use Rattle.lb_check.specs.declared.clock_set.Operand.{Operand}
+use Rattle.lb_check.proofs.Words.{◌≡◌, ◌⊎◌, inl, inr, ℕ, ◌+◌, ◌-◌, ◌<◌, ◌≤◌, Bool, List, [], ◌∷◌}
+use Rattle.lb_check.proofs.Words.{◌++◌, length, drop, get_or, Option, Box, Vec, Global, refl, ap}
+use Rattle.lb_check.proofs.Words.{ap₂, sym, ◌∙◌, reverse, append-nil, reverse-append}
+use Rattle.lb_check.proofs.Words.{reverse-reverse, ArrayIterator, BinaryOperator, UnaryOperator}
+use Rattle.lb_check.proofs.Words.{IsPair, IsRow, CallId, StaticId, Term, IterateNode, IterateSymbol}
+use Rattle.lb_check.proofs.Words.{Row_of-Term, end_of-Term, more_of-Term, items-the_row-Term}
+use Rattle.lb_check.proofs.Words.{items_hidden-the_row-Term-0, VariableId, variable_of, Context}
+use Rattle.lb_check.proofs.Words.{both, infer_clock, operand_of, operands_of, row_clock_set}
+use Rattle.lb_check.proofs.Words.{unary_clock_set, IsLeaf, IsRowWalked, known_among, known_operands}
+use Rattle.lb_check.proofs.Words.{ClockSet, AnyClock, OneClock, Operand}
+use Rattle.lb_static.specs.declared.resolved.Term.{Variable, Group, Unary, If, Pre, Current, When}
+use Rattle.lb_static.specs.declared.resolved.Term.{Replicate, Index, Slice, Array, AtMostOne, Nor}
+use Rattle.lb_static.specs.declared.resolved.Term.{Call}
+use Rattle.lb_check.specs.WalkedClocks.{IsWalked, known_in}
 use Rattle.lb_check.proofs.ClockParts.{IsFree, choice_stands, free_stands, pair_stands}
 use Rattle.lb_check.proofs.ClockParts.{single_stands}
 use Rattle.lb_check.proofs.ClockRows.{same_operands, stands_row}

@@ -1,23 +1,15 @@
 -- What a walk over a term notes, from what it notes for the operands of the term.
-use Rattle.std.proofs.Common.{◌≡◌, inl, inr, ℕ, ◌+◌, ◌-◌, ◌<◌, ◌≤◌, List, [], ◌∷◌, ◌++◌, length}
-use Rattle.std.proofs.Common.{map, drop, get_or, Option, Some, None, Box, Vec, Global, refl, ap}
-use Rattle.std.proofs.Common.{sym, subst, ◌∙◌, arith, Result, IfOk, OnOk}
-use Rattle.std.specs.Prelude.{option_map}
-use Rattle.std.proofs.lemmas.List.{length-drop, length-map}
-use Rattle.lb_syntax.specs.Lists.{◌>>=◌, all_some}
-use Rattle.lb_static.specs.declared.resolved.CallId.{CallId}
-use Rattle.lb_static.specs.declared.resolved.Term.{Term, Array, Group, If}
-use Rattle.lb_static.specs.DataTypes.{DataType}
-use Rattle.lb_static.specs.StoredTypes.{view_type}
-use Rattle.lb_static.specs.declared.data_type.DataType as stored
-use Rattle.lb_static.specs.TermForms.{IsSingle, IsPair}
-use Rattle.lb_check.specs.PlacedTypes.{FoundTypes, IsWalked, Kept, kept, noted, placed_types}
-use Rattle.lb_check.specs.PlacedTypes.{placed_all_types}
-use Rattle.lb_check.specs.TermOperands.{IsGiven, IsLeaf}
-use Rattle.lb_check.specs.TermSignatures.{Signature, evaluated, given_of, list_of}
-use Rattle.lb_check.specs.TermTypes.{Context, leaf_type, one_type, results, type_of}
-use Rattle.lb_check.specs.TermTypes.{when_both, when_truth}
-use Rattle.lb_check.specs.Types.{common_type, only, singly}
+use Rattle.lb_check.proofs.Words.{◌≡◌, inl, inr, ℕ, ◌+◌, ◌-◌, ◌<◌, ◌≤◌, List, [], ◌∷◌, ◌++◌, length}
+use Rattle.lb_check.proofs.Words.{map, drop, get_or, Option, Some, None, Box, Vec, Global, refl, ap}
+use Rattle.lb_check.proofs.Words.{sym, subst, ◌∙◌, arith, IfOk, OnOk, option_map, length-drop}
+use Rattle.lb_check.proofs.Words.{length-map, ◌>>=◌, all_some, CallId, Term, DataType, view_type}
+use Rattle.lb_check.proofs.Words.{IsSingle, IsPair, FoundTypes, IsWalked, Kept, kept, noted}
+use Rattle.lb_check.proofs.Words.{placed_types, placed_all_types, IsGiven, IsLeaf, Signature}
+use Rattle.lb_check.proofs.Words.{evaluated, given_of, list_of, one_type, results, type_of}
+use Rattle.lb_check.proofs.Words.{when_both, when_truth, common_type, only, singly}
+use Rattle.std.proofs.Common.{Result}
+use Rattle.lb_static.specs.declared.resolved.Term.{Array, Group, If}
+use Rattle.lb_check.specs.TermTypes.{Context, leaf_type}
 use Rattle.lb_check.proofs.BrokenRules.{both_found, if_found}
 use Rattle.lb_check.proofs.OneType.{list_results, list_type_is, type_is_only}
 use Rattle.lb_check.proofs.PartSizes.{kept_both}
@@ -26,6 +18,7 @@ use Rattle.lb_check.proofs.TermSignatures.{results_given}
 use Rattle.lb_check.proofs.TurnedLists.{all_last, more_last, none_last}
 use Rattle.lb_check.proofs.TypeParts.{single_none, single_type}
 use Rattle.lb_check.proofs.TypeWalks.{group_placed, row_placed}
+use Rattle.lb_static.specs.declared.data_type.DataType as stored
 
 -- some parts, and then those that stand before them
 pub further : (before mid after : Kept) (xs ys : List FoundTypes) → mid ≡ kept before ys →

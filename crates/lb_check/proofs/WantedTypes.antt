@@ -1,23 +1,14 @@
 -- Whether a declared type, or an array of it, is the one with these sizes: each size against the
 -- value that is declared, and no type is made.
-use Rattle.std.proofs.Common.{◌≡◌, ℕ, Bool, true, false, List, [], ◌∷◌, length, map}
-use Rattle.std.proofs.Common.{Option, Some, None, refl, ap, sym, ◌∙◌, arith}
-use Rattle.std.specs.Prelude.{ℤ, ◌&&◌, ◌==◌, nat_le, option_map, reverse}
-use Rattle.std.specs.List.{list_all, zip}
-use Rattle.std.proofs.Math.Bool.{and-false, and_assoc}
+use Rattle.lb_check.proofs.Words.{◌≡◌, ℕ, Bool, true, false, List, [], ◌∷◌, length, map, Option}
+use Rattle.lb_check.proofs.Words.{Some, None, refl, ap, sym, ◌∙◌, arith, ℤ, ◌&&◌, ◌==◌, nat_le}
+use Rattle.lb_check.proofs.Words.{option_map, reverse, list_all, zip, and-false, and_assoc, eq-eqb}
+use Rattle.lb_check.proofs.Words.{reverse-reverse, all_some, holds, where_true, Kind, both_ways}
+use Rattle.lb_check.proofs.Words.{DataType, is_kind, same_sizes, natural, naturals, are_one, arrays}
 use Rattle.std.proofs.Math.Dec.{eqb-suc-suc, eqb-suc-zero, eqb-zero-suc}
-use Rattle.std.proofs.lemmas.Bool.{eq-eqb}
-use Rattle.std.proofs.lemmas.List.{reverse-reverse}
-use Rattle.lb_syntax.specs.Lists.{all_some, holds, where_true}
-use Rattle.lb_syntax.specs.declared.tree.Kind.{Kind}
 use Rattle.lb_syntax.specs.declared.tree.Kind.TheVariants.{Int as Int_kind, Bool as Bool_kind}
 use Rattle.lb_syntax.specs.contracts.tree.Kind.{the_type}
-use Rattle.lb_syntax.proofs.TruthValues.{both_ways}
-use Rattle.lb_static.specs.DataTypes.{DataType, is_kind, same_sizes}
-use Rattle.lb_static.specs.StaticValues.{natural}
-use Rattle.lb_static.specs.StoredTypes.{naturals}
-use Rattle.lb_check.specs.TermSignatures.{are_one, are_sizes, arrays, is_size, is_type_with}
-use Rattle.lb_check.specs.TermSignatures.{type_with}
+use Rattle.lb_check.specs.TermSignatures.{are_sizes, is_size, is_type_with, type_with}
 use Rattle.lb_check.proofs.SignatureRows.{same_sizes_are}
 use denote.Enum.Bare.{sameb}
 

@@ -1,45 +1,26 @@
 -- The rules of clocks of a program are what the code finds of the nodes of its specializations.
-use Rattle.std.proofs.Common.{◌≡◌, ℕ, suc, ◌<◌, Bool, true, false, List, [], ◌∷◌, length, map}
-use Rattle.std.proofs.Common.{Option, Some, None, refl, ap, sym, ◌∙◌, subst, arith}
-use Rattle.std.specs.Prelude.{◌&&◌, ℤ, option_map, slice_get}
-use Rattle.std.specs.List.{list_all, zip}
-use Rattle.std.proofs.lemmas.Option.{slice_get-map, slice_get_within, get_or_from_slice_get}
+use Rattle.lb_check.proofs.Words.{◌≡◌, ℕ, suc, ◌<◌, Bool, true, false, List, [], ◌∷◌, length, map}
+use Rattle.lb_check.proofs.Words.{Option, Some, None, refl, ap, sym, ◌∙◌, subst, arith, ◌&&◌, ℤ}
+use Rattle.lb_check.proofs.Words.{option_map, slice_get, list_all, zip, slice_get-map}
+use Rattle.lb_check.proofs.Words.{slice_get_within, get_or_from_slice_get, ◌>>=◌, all_some}
+use Rattle.lb_check.proofs.Words.{either_or, holds, Node, item_at, all_at, and_first, NodeId}
+use Rattle.lb_check.proofs.Words.{Reached, CallId, CallSite, ResolvedNode, Specialization, Table}
+use Rattle.lb_check.proofs.Words.{instance_of, Program, Instance, Root, Child, Site, callee_of}
+use Rattle.lb_check.proofs.Words.{instances, node_named, node_sites, static_value, id_at}
+use Rattle.lb_check.proofs.Words.{source_names, tree_at, callee_in, IsResolved, node_of, statics_of}
+use Rattle.lb_check.proofs.Words.{texts_of, site_of, is_statement_unhidden, are_declared_clocks}
+use Rattle.lb_check.proofs.Words.{is_clocked, IsJudged, is_node_clocked, is_clocked_at, HasClocks}
+use Rattle.lb_check.proofs.Words.{SeesClocks, is_statement_single, Part, at_place, is_part_clocked}
+use Rattle.lb_check.proofs.Words.{IsIllClocked, context_of, is_body_clocked}
+use Rattle.lb_check.proofs.Words.{is_resolved_statement_clocked, are_typed, is_typed}
 use Rattle.std.proofs.lemmas.Bool.{and_left}
-use Rattle.lb_syntax.specs.Lists.{◌>>=◌, all_some, either_or, holds}
-use Rattle.lb_syntax.specs.Tree.{Node}
-use Rattle.lb_syntax.proofs.ListPlaces.{item_at, all_at}
-use Rattle.lb_syntax.proofs.TruthValues.{and_first}
-use Rattle.lb_static.specs.declared.reach.NodeId.{NodeId}
-use Rattle.lb_static.specs.declared.reach.Reached.{Reached}
-use Rattle.lb_static.specs.declared.resolved.CallId.{CallId}
-use Rattle.lb_static.specs.declared.resolved.CallSite.{CallSite}
-use Rattle.lb_static.specs.declared.resolved.ResolvedNode.{ResolvedNode}
-use Rattle.lb_static.specs.declared.table.Specialization.{Specialization}
-use Rattle.lb_static.specs.declared.table.Table.{Table}
-use Rattle.lb_static.specs.InstanceTable.{instance_of}
-use Rattle.lb_static.specs.Instances.{Program, Instance, Root, Child, Site, callee_of, instances}
-use Rattle.lb_static.specs.Instances.{node_named, node_sites, static_value}
-use Rattle.lb_static.specs.ReachedNodes.{id_at, source_names, tree_at}
-use Rattle.lb_static.specs.ResolvedNodes.{IsResolved, node_of, statics_of, texts_of}
-use Rattle.lb_static.specs.ResolvedTerms.{site_of, is_statement_unhidden}
-use Rattle.lb_check.specs.ClockRules.{are_declared_clocks, is_clocked}
-use Rattle.lb_check.specs.JudgedPrograms.{IsJudged}
-use Rattle.lb_check.specs.NodeClocks.{is_node_clocked, is_clocked_at, are_clocked_at}
-use Rattle.lb_check.specs.OwnClocks.{HasClocks}
-use Rattle.lb_check.specs.ClockSets.{SeesClocks, is_statement_single}
-use Rattle.lb_static.specs.ReachedNodes.{callee_in}
-use Rattle.lb_check.specs.declared.part.Part.{Part}
-use Rattle.lb_check.specs.declared.part.Part.TheVariants as part
-use Rattle.lb_check.specs.BrokenParts.{at_place, is_part_clocked}
-use Rattle.lb_check.specs.FoundParts.{IsIllClocked}
-use Rattle.lb_check.specs.TermClocks.{context_of, is_body_clocked, is_resolved_statement_clocked}
-use Rattle.lb_check.specs.TermTypes.{are_typed}
-use Rattle.lb_check.specs.TypeRules.{is_typed}
+use Rattle.lb_check.specs.NodeClocks.{are_clocked_at}
 use Rattle.lb_check.proofs.FittedCalls.{node_at, specialized_instance}
 use Rattle.lb_check.proofs.NodeClocks.{resolved_at, clocks_at}
 use Rattle.lb_check.proofs.NodePlaces.{named_at}
 use Rattle.lb_check.proofs.Specializations.{all_specializations}
 use Rattle.lb_check.proofs.TypedSpecializations.{instances_typed}
+use Rattle.lb_check.specs.declared.part.Part.TheVariants as part
 
 both_ways : (a b : Bool) → (a ≡ true → a ≡ b) → (b ≡ true → a ≡ b) → a ≡ b
 both_ways true b f g = f refl

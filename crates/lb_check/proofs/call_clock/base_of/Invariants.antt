@@ -1,5 +1,4 @@
-use Rattle.std.proofs.Common.{◌≡◌, drop}
-use Rattle.lb_check.specs.StoredClocks.{clocks_of}
+use Rattle.lb_check.proofs.Words.{◌≡◌, drop, clocks_of}
 use Rattle.lb_check.specs.TermClocks as mirror
 use Rattle.lb_check.proofs.call_clock.base_of.Given as goal
 

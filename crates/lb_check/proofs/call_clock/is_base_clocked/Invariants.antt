@@ -1,6 +1,4 @@
-use Rattle.std.proofs.Common.{◌≡◌, drop}
-use Rattle.std.specs.Prelude.{not, is_some}
-use Rattle.std.specs.List.{list_all}
+use Rattle.lb_check.proofs.Words.{◌≡◌, drop, not, is_some, list_all}
 use Rattle.lb_check.specs.TermClocks as mirror
 use Rattle.lb_check.proofs.call_clock.is_base_clocked.Given as goal
 

@@ -1,10 +1,7 @@
 -- The first of the rules that an elaborated program breaks, with the part of a node that breaks it.
-use Rattle.std.proofs.Common.{ap, ◌∙◌}
+use Rattle.lb_check.proofs.Words.{ap, ◌∙◌, is_part_clocked, is_part_defined, is_part_typed}
+use Rattle.lb_check.proofs.Words.{is_clocked, is_defined, is_typed}
 use Rattle.std.specs.Prelude.{string_bytes}
-use Rattle.lb_check.specs.BrokenParts.{is_part_clocked, is_part_defined, is_part_typed}
-use Rattle.lb_check.specs.ClockRules.{is_clocked}
-use Rattle.lb_check.specs.DefinitionRules.{is_defined}
-use Rattle.lb_check.specs.TypeRules.{is_typed}
 use Rattle.lb_check.proofs.BrokenRules.{broken_in, told}
 use Rattle.lb_check.proofs.Checks.{broken, kept_by, not_typed, not_clocked, not_defined, all_kept}
 use Rattle.lb_check.proofs.checker.broken_rule.Goals as goal

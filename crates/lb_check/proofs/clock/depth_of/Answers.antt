@@ -1,5 +1,4 @@
-use Rattle.std.proofs.Common.{◌≡◌, ◌+◌, subst, arith}
-use Rattle.lb_check.specs.ClockDepths.{HasDepth}
+use Rattle.lb_check.proofs.Words.{◌≡◌, ◌+◌, subst, arith, HasDepth}
 use Rattle.lb_check.proofs.ClockDepths.{awaits, awaits_none, known_depth, step_more, stands_below}
 use Rattle.lb_check.proofs.ClockDepths.{stands_here, no_depth}
 use Rattle.lb_check.proofs.clock.depth_of.Goals as goal

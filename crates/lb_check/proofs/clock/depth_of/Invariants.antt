@@ -1,5 +1,4 @@
-use Rattle.std.proofs.Common.{◌<◌, length}
-use Rattle.lb_check.specs.ClockDepths.{LeadsTo}
+use Rattle.lb_check.proofs.Words.{◌<◌, length, LeadsTo}
 use Rattle.lb_check.proofs.clock.depth_of.Given as goal
 
 abbrev pub invariant-loop-steps : goal.invariant-loop-steps

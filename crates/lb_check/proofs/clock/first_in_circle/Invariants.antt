@@ -1,5 +1,4 @@
-use Rattle.std.proofs.Common.{ℕ, ◌<◌}
-use Rattle.lb_check.specs.ClockDepths.{AreDepths, IsKnown}
+use Rattle.lb_check.proofs.Words.{ℕ, ◌<◌, AreDepths, IsKnown}
 use Rattle.lb_check.proofs.clock.first_in_circle.Given as goal
 
 abbrev pub invariant-loop-variable : goal.invariant-loop-variable

@@ -1,6 +1,4 @@
-use Rattle.std.proofs.Common.{◌≡◌, drop}
-use Rattle.lb_check.specs.BrokenParts.{first_broken}
-use Rattle.lb_check.specs.ClockDepths.{waits_below}
+use Rattle.lb_check.proofs.Words.{◌≡◌, drop, first_broken, waits_below}
 use Rattle.lb_check.proofs.FirstBroken.{broken_from}
 use Rattle.lb_check.proofs.clock.first_waiting_past.Given as goal
 

@@ -1,9 +1,5 @@
-use Rattle.std.proofs.Common.{◌≡◌, true, length, subst, ap, sym}
-use Rattle.std.proofs.Common.{◌∙◌}
-use Rattle.std.specs.List.{list_all}
-use Rattle.lb_static.specs.ResolvedNodes.{counts_of}
-use Rattle.lb_check.specs.BrokenParts.{first_broken}
-use Rattle.lb_check.specs.ClockDepths.{waits_below}
+use Rattle.lb_check.proofs.Words.{◌≡◌, true, length, subst, ap, sym, ◌∙◌, list_all, counts_of}
+use Rattle.lb_check.proofs.Words.{first_broken, waits_below}
 use Rattle.lb_check.proofs.ClockedNodes.{all_awaited, within_all}
 use Rattle.lb_check.proofs.FirstBroken.{all_pass, is_none_found, none_found}
 use Rattle.lb_check.proofs.clock.is_whole.Goals as goal

@@ -1,5 +1,4 @@
-use Rattle.std.proofs.Common.{◌≡◌, ◌⊎◌, ℕ, ◌-◌, ◌<◌, length}
-use Rattle.lb_check.specs.ClockDepths.{AreDepths, IsKnown, HasDepth}
+use Rattle.lb_check.proofs.Words.{◌≡◌, ◌⊎◌, ℕ, ◌-◌, ◌<◌, length, AreDepths, IsKnown, HasDepth}
 use Rattle.lb_check.proofs.clock.note_depths.Given as goal
 
 abbrev pub invariant-loop-above : goal.invariant-loop-above

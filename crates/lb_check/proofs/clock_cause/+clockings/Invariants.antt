@@ -1,5 +1,4 @@
-use Rattle.std.proofs.Common.{◌+◌, ◌*◌}
-use Rattle.lb_static.specs.declared.resolved.Term.{size-Term}
+use Rattle.lb_check.proofs.Words.{◌+◌, ◌*◌, size-Term}
 use Rattle.lb_check.proofs.clock_cause.+clockings.Given as goal
 
 abbrev pub decreases-clocked_operands : goal.decreases-clocked_operands

@@ -1,6 +1,4 @@
-use Rattle.std.proofs.Common.{◌≡◌, drop}
-use Rattle.std.specs.List.{list_all}
-use Rattle.lb_static.specs.declared.resolved.VariableId.{VariableId}
+use Rattle.lb_check.proofs.Words.{◌≡◌, drop, list_all, VariableId}
 use Rattle.lb_check.specs.StoredClocks.{context_in}
 use Rattle.lb_check.specs.TermClocks as mirror
 use Rattle.lb_check.proofs.clock_rules.are_on.Given as goal

@@ -1,7 +1,5 @@
-use Rattle.std.proofs.Common.{◌≡◌, drop}
-use Rattle.lb_check.specs.BrokenParts.{first_broken}
+use Rattle.lb_check.proofs.Words.{◌≡◌, drop, first_broken, is_resolved_statement_clocked}
 use Rattle.lb_check.specs.StoredClocks.{context_in}
-use Rattle.lb_check.specs.TermClocks.{is_resolved_statement_clocked}
 use Rattle.lb_check.proofs.FirstBroken.{broken_from}
 use Rattle.lb_check.proofs.clock_rules.first_ill_clocked_statement.Given as goal
 

@@ -1,11 +1,6 @@
-use Rattle.std.proofs.Common.{ap, ◌∙◌}
-use Rattle.std.specs.Prelude.{List, find, map, not}
-use Rattle.lb_static.specs.declared.reach.NodeId.{NodeId}
-use Rattle.lb_static.specs.declared.table.Specialization.{Specialization}
-use Rattle.lb_check.specs.ClockRules.{is_clocked}
-use Rattle.lb_check.specs.BrokenParts.{is_part_clocked}
-use Rattle.lb_check.specs.FoundParts.{IsIllClocked}
-use Rattle.lb_check.specs.NodeClocks.{is_clocked_at}
+use Rattle.lb_check.proofs.Words.{ap, ◌∙◌, find, not, NodeId, Specialization, is_clocked}
+use Rattle.lb_check.proofs.Words.{is_part_clocked, IsIllClocked, is_clocked_at}
+use Rattle.std.specs.Prelude.{List, map}
 use Rattle.lb_check.proofs.BrokenRules.{find_mapped, both_found, if_found, not_all, part_named}
 use Rattle.lb_check.proofs.CallClockSets.{call_stands}
 use Rattle.lb_check.proofs.EquationClockSets.{equation_stands}

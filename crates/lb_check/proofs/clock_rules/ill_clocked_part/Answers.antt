@@ -1,7 +1,4 @@
-use Rattle.std.proofs.Common.{subst, sym, ◌∙◌}
-use Rattle.lb_static.specs.ReachedNodes.{source_names}
-use Rattle.lb_static.specs.ResolvedNodes.{node_of}
-use Rattle.lb_check.specs.FoundParts.{IsDeclaredClock}
+use Rattle.lb_check.proofs.Words.{subst, sym, ◌∙◌, source_names, node_of, IsDeclaredClock}
 use Rattle.lb_check.proofs.NodeClocks.{all_clocked, declared_found, distinct_at, resolved_at}
 use Rattle.lb_check.proofs.NodeClocks.{statement_found}
 use Rattle.lb_check.proofs.clock_rules.ill_clocked_part.Goals as goal

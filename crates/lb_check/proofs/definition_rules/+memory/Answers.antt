@@ -1,8 +1,6 @@
-use Rattle.std.proofs.Common.{ap, sym, ◌∙◌}
-use Rattle.std.specs.Prelude.{◌&&◌}
-use Rattle.std.specs.List.{list_all}
-use Rattle.lb_check.specs.NodeDefinitions as mirror
+use Rattle.lb_check.proofs.Words.{ap, sym, ◌∙◌, ◌&&◌, list_all}
 use Rattle.lb_check.proofs.Defining.{memoryless_call, memoryless_row}
+use Rattle.lb_check.specs.NodeDefinitions as mirror
 use Rattle.lb_check.proofs.definition_rules.+memory.Goals as goal
 
 pub is_memoryless-returns-then-calls_function : goal.is_memoryless-returns-then-calls_function

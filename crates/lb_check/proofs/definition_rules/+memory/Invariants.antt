@@ -1,5 +1,4 @@
-use Rattle.std.proofs.Common.{◌≡◌, drop}
-use Rattle.std.specs.List.{list_all}
+use Rattle.lb_check.proofs.Words.{◌≡◌, drop, list_all}
 use Rattle.lb_check.specs.NodeDefinitions as mirror
 use Rattle.lb_check.proofs.definition_rules.+memory.Given as goal
 

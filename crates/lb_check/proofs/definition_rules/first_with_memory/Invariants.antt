@@ -1,6 +1,4 @@
-use Rattle.std.proofs.Common.{◌≡◌, drop}
-use Rattle.lb_check.specs.BrokenParts.{first_broken}
-use Rattle.lb_check.specs.NodeDefinitions.{is_statement_memoryless}
+use Rattle.lb_check.proofs.Words.{◌≡◌, drop, first_broken, is_statement_memoryless}
 use Rattle.lb_check.proofs.FirstBroken.{broken_from}
 use Rattle.lb_check.proofs.definition_rules.first_with_memory.Given as goal
 

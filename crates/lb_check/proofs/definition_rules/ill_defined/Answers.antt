@@ -1,11 +1,6 @@
-use Rattle.std.proofs.Common.{ap, ◌∙◌}
-use Rattle.std.specs.Prelude.{List, find, map, not}
-use Rattle.lb_static.specs.declared.reach.NodeId.{NodeId}
-use Rattle.lb_static.specs.declared.table.Specialization.{Specialization}
-use Rattle.lb_check.specs.BrokenParts.{is_part_defined}
-use Rattle.lb_check.specs.DefinitionRules.{is_defined}
-use Rattle.lb_check.specs.FoundParts.{IsIllDefined}
-use Rattle.lb_check.specs.NodeDefinitions.{is_defined_at}
+use Rattle.lb_check.proofs.Words.{ap, ◌∙◌, find, not, NodeId, Specialization, is_part_defined}
+use Rattle.lb_check.proofs.Words.{is_defined, IsIllDefined, is_defined_at}
+use Rattle.std.specs.Prelude.{List, map}
 use Rattle.lb_check.proofs.BrokenRules.{both_found, find_mapped, if_found, not_all, part_named}
 use Rattle.lb_check.proofs.Specializations.{all_specializations}
 use Rattle.lb_check.proofs.definition_rules.ill_defined.Goals as goal

@@ -1,7 +1,5 @@
-use Rattle.std.proofs.Common.{◌≡◌, ◌<◌, ◌+◌, ℕ, Bool, List, false, drop, get_or, length, ap, sym}
-use Rattle.std.proofs.Common.{◌∙◌, subst, arith, rules}
-use Rattle.std.specs.Prelude.{◌||◌}
-use Rattle.std.proofs.lemmas.List.{places, with_items_is}
+use Rattle.lb_check.proofs.Words.{◌≡◌, ◌<◌, ◌+◌, ℕ, Bool, List, false, drop, get_or, length, ap}
+use Rattle.lb_check.proofs.Words.{sym, ◌∙◌, subst, arith, rules, ◌||◌, places, with_items_is}
 use Rattle.lb_check.proofs.GivenRows.{is_waited, waited_more}
 use Rattle.lb_check.proofs.given_variables.awaited_parameters.Goals as goal
 

@@ -1,5 +1,4 @@
-use Rattle.std.proofs.Common.{◌≡◌, ◌<◌, ℕ, false, drop, get_or, length}
-use Rattle.std.specs.Prelude.{◌||◌}
+use Rattle.lb_check.proofs.Words.{◌≡◌, ◌<◌, ℕ, false, drop, get_or, length, ◌||◌}
 use Rattle.lb_check.proofs.GivenRows.{is_waited}
 use Rattle.lb_check.proofs.given_variables.awaited_parameters.Given as goal
 

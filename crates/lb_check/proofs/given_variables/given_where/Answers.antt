@@ -1,5 +1,4 @@
-use Rattle.std.proofs.Common.{length, sym, arith}
-use Rattle.lb_check.specs.StoredClocks.{given_in}
+use Rattle.lb_check.proofs.Words.{length, sym, arith, given_in}
 use Rattle.lb_check.proofs.GivenRows.{given_more, given_end}
 use Rattle.lb_check.proofs.given_variables.given_where.Goals as goal
 

@@ -1,7 +1,5 @@
-use Rattle.std.proofs.Common.{◌≡◌, ◌++◌, ◌-◌, length}
-use Rattle.lb_static.specs.declared.resolved.ResolvedNode.{ResolvedNode}
-use Rattle.lb_check.specs.PlacedClocks.{AreAwaited, given_from}
-use Rattle.lb_check.specs.StoredClocks.{given_in}
+use Rattle.lb_check.proofs.Words.{◌≡◌, ◌++◌, ◌-◌, length, ResolvedNode, given_from, given_in}
+use Rattle.lb_check.specs.PlacedClocks.{AreAwaited}
 use Rattle.lb_check.proofs.given_variables.given_where.Given as goal
 
 abbrev pub invariant-loop-place : goal.invariant-loop-place

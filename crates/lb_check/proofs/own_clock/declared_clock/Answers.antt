@@ -1,8 +1,6 @@
-use Rattle.std.proofs.Common.{◌≡◌, ◌<◌, ◌≤◌, length, refl, ap, ◌∙◌, subst, arith}
-use Rattle.std.specs.Prelude.{Some, slice_get}
-use Rattle.std.proofs.lemmas.Bool.Decides.{nat_tests}
-use Rattle.std.proofs.lemmas.Option.{slice_get_read}
-use Rattle.lb_check.specs.OwnClocks.{clock_in}
+use Rattle.lb_check.proofs.Words.{◌≡◌, ◌<◌, ◌≤◌, length, refl, ap, ◌∙◌, subst, arith, slice_get}
+use Rattle.lb_check.proofs.Words.{nat_tests, slice_get_read, clock_in}
+use Rattle.std.specs.Prelude.{Some}
 use Rattle.lb_check.proofs.ClockSetRows.{declared_nowhere, declared_there}
 use Rattle.lb_check.proofs.own_clock.declared_clock.Goals as goal
 

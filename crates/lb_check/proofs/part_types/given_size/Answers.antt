@@ -1,8 +1,5 @@
-use Rattle.std.proofs.Common.{◌+◌, ap, min, sym, ◌∙◌, arith}
-use Rattle.std.specs.Prelude.{option_map}
-use Rattle.lb_static.specs.StoredTypes.{view_type}
-use Rattle.lb_syntax.specs.Lists.{all_some}
-use Rattle.lb_check.specs.TermSignatures.{row_in}
+use Rattle.lb_check.proofs.Words.{◌+◌, ap, min, sym, ◌∙◌, arith, option_map, view_type, all_some}
+use Rattle.lb_check.proofs.Words.{row_in}
 use Rattle.lb_check.proofs.PartSizes.{none_before, size_end, size_more, size_none}
 use Rattle.lb_check.proofs.part_types.given_size.Goals as goal
 

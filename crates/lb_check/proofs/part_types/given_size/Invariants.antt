@@ -1,7 +1,4 @@
-use Rattle.std.proofs.Common.{◌≡◌, ◌≤◌, drop}
-use Rattle.lb_syntax.specs.Lists.{all_some}
-use Rattle.lb_check.specs.PlacedTypes.{part_size}
-use Rattle.lb_check.specs.TermSignatures.{row_in}
+use Rattle.lb_check.proofs.Words.{◌≡◌, ◌≤◌, drop, all_some, part_size, row_in}
 use Rattle.lb_check.proofs.PartSizes.{counted_from}
 use Rattle.lb_check.proofs.part_types.given_size.Given as goal
 

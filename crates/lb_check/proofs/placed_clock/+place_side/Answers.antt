@@ -1,8 +1,7 @@
-use Rattle.std.proofs.Common.{◌≡◌, ◌++◌, OnOk, ap, sym, subst, ◌∙◌}
-use Rattle.lb_check.specs.PlacedClocks.{found_in, placed_call, placed_side, with_terms}
+use Rattle.lb_check.proofs.Words.{◌≡◌, ◌++◌, OnOk, ap, sym, subst, ◌∙◌, placed_call, placed_side}
+use Rattle.lb_check.proofs.Words.{with_terms, operands_of, known_among, known_operands}
+use Rattle.lb_check.specs.PlacedClocks.{found_in}
 use Rattle.lb_check.specs.StoredClocks.{context_in}
-use Rattle.lb_check.specs.TermClocks.{operands_of}
-use Rattle.lb_check.specs.WalkedClocks.{known_among, known_operands}
 use Rattle.lb_check.proofs.PlacedRows.{side_group, side_placed}
 use Rattle.lb_check.proofs.WalkedClocks.{call_known, group_known}
 use Rattle.lb_check.proofs.placed_clock.+place_side.Goals as goal

@@ -1,16 +1,11 @@
-use Rattle.std.proofs.Common.{◌≡◌, ◌+◌, [], ◌∷◌, ◌++◌, drop, length, IfOk, ap, ap₂, refl}
-use Rattle.std.proofs.Common.{sym, subst, ◌∙◌, arith}
-use Rattle.std.specs.Prelude.{slice_get}
-use Rattle.std.proofs.lemmas.List.{drop_all, length-map}
-use Rattle.lb_check.specs.PlacedClocks.{IsPlaced, call_clocks, called, current_clock, found_in}
-use Rattle.lb_check.specs.PlacedClocks.{determined_clock, nested_call, part}
-use Rattle.lb_check.specs.PlacedClocks.{placed_all, placed_each, placed_terms, row_term, with_term}
-use Rattle.lb_check.specs.PlacedClocks.{with_terms}
-use Rattle.lb_syntax.specs.Lists.{listed}
+use Rattle.lb_check.proofs.Words.{◌≡◌, ◌+◌, [], ◌∷◌, ◌++◌, drop, length, IfOk, ap, ap₂, refl, sym}
+use Rattle.lb_check.proofs.Words.{subst, ◌∙◌, arith, slice_get, drop_all, length-map, IsPlaced}
+use Rattle.lb_check.proofs.Words.{called, determined_clock, nested_call, part, placed_all}
+use Rattle.lb_check.proofs.Words.{placed_each, placed_terms, row_term, with_terms, listed}
+use Rattle.lb_check.proofs.Words.{infer_clock, operand_of, operands_of, known_among, known_operands}
+use Rattle.lb_check.proofs.Words.{Base}
+use Rattle.lb_check.specs.PlacedClocks.{call_clocks, current_clock, found_in, with_term}
 use Rattle.lb_check.specs.StoredClocks.{context_in}
-use Rattle.lb_check.specs.TermClocks.{infer_clock, operand_of, operands_of}
-use Rattle.lb_check.specs.WalkedClocks.{known_among, known_operands}
-use Rattle.lb_check.specs.declared.own_clock.Clock.TheVariants.{Base}
 use Rattle.lb_check.proofs.BrokenRules.{if_found}
 use Rattle.lb_check.proofs.PlacedRows.{call_placed, choice_placed, current_placed, each_next}
 use Rattle.lb_check.proofs.PlacedRows.{flat_next, group_placed, leaf_placed, left_end, left_more}

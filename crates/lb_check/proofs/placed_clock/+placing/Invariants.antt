@@ -1,8 +1,7 @@
-use Rattle.std.proofs.Common.{drop}
-use Rattle.lb_check.specs.PlacedClocks as placed_mirror
+use Rattle.lb_check.proofs.Words.{drop, known_among}
 use Rattle.lb_check.specs.StoredClocks.{context_in}
-use Rattle.lb_check.specs.WalkedClocks.{known_among}
 use Rattle.lb_check.proofs.PlacedRows.{AreLeft}
+use Rattle.lb_check.specs.PlacedClocks as placed_mirror
 use Rattle.lb_check.proofs.placed_clock.+placing.Given as goal
 
 abbrev pub invariant-place_all-loop-term : goal.invariant-place_all-loop-term

@@ -1,10 +1,7 @@
-use Rattle.std.proofs.Common.{◌≡◌, ◌++◌, map, drop}
-use Rattle.lb_syntax.specs.Lists.{either_or}
-use Rattle.lb_static.specs.declared.resolved.Variable.{Variable}
-use Rattle.lb_check.specs.StoredClocks.{given_in}
+use Rattle.lb_check.proofs.Words.{◌≡◌, ◌++◌, map, drop, either_or, Variable, given_in}
+use Rattle.std.specs.Prelude.{Some}
 use Rattle.lb_check.specs.TermClocks as mirror
 use Rattle.lb_check.proofs.placed_clock.argument_clocks.Given as goal
-use Rattle.std.specs.Prelude.{Some}
 
 abbrev pub invariant-loop-input : goal.invariant-loop-input
 invariant-loop-input l =

@@ -1,6 +1,5 @@
-use Rattle.std.proofs.Common.{sym}
-use Rattle.lb_check.specs.PlacedClocks.{found_in, node_terms, nothing_found, placed_statement}
-use Rattle.lb_check.specs.PlacedClocks.{with_terms}
+use Rattle.lb_check.proofs.Words.{sym, node_terms, placed_statement, with_terms}
+use Rattle.lb_check.specs.PlacedClocks.{found_in, nothing_found}
 use Rattle.lb_check.specs.StoredClocks.{context_in}
 use Rattle.lb_check.proofs.PlacedRows.{flat_more, flat_end}
 use Rattle.lb_check.proofs.placed_clock.node_clocks.Goals as goal

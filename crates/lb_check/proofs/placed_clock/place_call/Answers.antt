@@ -1,10 +1,8 @@
-use Rattle.std.proofs.Common.{◌≡◌, [], ap, ap₂, sym, ◌∙◌, arith}
-use Rattle.std.proofs.lemmas.List.{append-nil, length-map}
-use Rattle.lb_check.specs.PlacedClocks.{called, found_in, placed_each, side_call, side_clocks}
-use Rattle.lb_check.specs.PlacedClocks.{with_term, with_terms}
+use Rattle.lb_check.proofs.Words.{◌≡◌, [], ap, ap₂, sym, ◌∙◌, arith, append-nil, length-map, called}
+use Rattle.lb_check.proofs.Words.{placed_each, side_call, side_clocks, with_terms, left_clock}
+use Rattle.lb_check.proofs.Words.{operand_of, operands_of, known_among}
+use Rattle.lb_check.specs.PlacedClocks.{found_in, with_term}
 use Rattle.lb_check.specs.StoredClocks.{context_in}
-use Rattle.lb_check.specs.TermClocks.{left_clock, operand_of, operands_of}
-use Rattle.lb_check.specs.WalkedClocks.{known_among}
 use Rattle.lb_check.proofs.PlacedRows.{left_past, taken_first}
 use Rattle.lb_check.proofs.placed_clock.place_call.Goals as goal
 

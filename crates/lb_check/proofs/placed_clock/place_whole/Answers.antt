@@ -1,5 +1,4 @@
-use Rattle.std.proofs.Common.{[], sym, ◌∙◌}
-use Rattle.std.proofs.lemmas.List.{append-nil}
+use Rattle.lb_check.proofs.Words.{[], sym, ◌∙◌, append-nil}
 use Rattle.lb_check.proofs.placed_clock.place_whole.Goals as goal
 
 pub returns : goal.returns

@@ -1,6 +1,5 @@
-use Rattle.std.proofs.Common.{map}
-use Rattle.lb_static.specs.declared.resolved.ResolvedNode.{ResolvedNode}
-use Rattle.lb_check.specs.PlacedClocks.{found_in, node_terms, nothing_found, with_terms}
+use Rattle.lb_check.proofs.Words.{map, ResolvedNode, node_terms, with_terms}
+use Rattle.lb_check.specs.PlacedClocks.{found_in, nothing_found}
 use Rattle.lb_check.proofs.PlacedRows.{map_more}
 use Rattle.lb_check.proofs.placed_clock.placed_clocks.Goals as goal
 

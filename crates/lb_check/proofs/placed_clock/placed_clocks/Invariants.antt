@@ -1,5 +1,4 @@
-use Rattle.std.proofs.Common.{◌≡◌, ◌++◌, map, drop}
-use Rattle.lb_static.specs.declared.resolved.ResolvedNode.{ResolvedNode}
+use Rattle.lb_check.proofs.Words.{◌≡◌, ◌++◌, map, drop, ResolvedNode}
 use Rattle.lb_check.specs.PlacedClocks as placed_mirror
 use Rattle.lb_check.proofs.placed_clock.placed_clocks.Given as goal
 

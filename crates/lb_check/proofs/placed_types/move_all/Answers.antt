@@ -1,5 +1,4 @@
-use Rattle.std.proofs.Common.{ap, ◌∙◌}
-use Rattle.lb_check.specs.PlacedTypes.{found_in, with_row}
+use Rattle.lb_check.proofs.Words.{ap, ◌∙◌, found_in, with_row}
 use Rattle.lb_check.proofs.PartSizes.{part_moved}
 use Rattle.lb_check.proofs.placed_types.move_all.Goals as goal
 

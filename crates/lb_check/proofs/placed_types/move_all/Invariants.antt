@@ -1,6 +1,4 @@
-use Rattle.std.proofs.Common.{◌≡◌, length, map}
-use Rattle.std.specs.Prelude.{reverse}
-use Rattle.lb_check.specs.PlacedTypes.{found_in, part_in, with_parts}
+use Rattle.lb_check.proofs.Words.{◌≡◌, length, map, reverse, found_in, part_in, with_parts}
 use Rattle.lb_check.proofs.placed_types.move_all.Given as goal
 
 abbrev pub invariant-loop-part : goal.invariant-loop-part

@@ -1,7 +1,5 @@
-use Rattle.std.proofs.Common.{◌≡◌, ◌+◌, ◌-◌, ◌≤◌, [], flat_map, drop}
-use Rattle.std.specs.Prelude.{sum_by}
+use Rattle.lb_check.proofs.Words.{◌≡◌, ◌+◌, ◌-◌, ◌≤◌, [], flat_map, drop, sum_by, context_in}
 use Rattle.lb_check.specs.PlacedTypes as placed_mirror
-use Rattle.lb_check.specs.StoredTypes.{context_in}
 use Rattle.lb_check.proofs.placed_types.node_types.Given as goal
 
 abbrev pub invariant-loop-statement : goal.invariant-loop-statement

@@ -1,6 +1,4 @@
-use Rattle.std.proofs.Common.{◌≡◌, ◌-◌, ◌++◌, map, drop, take}
-use Rattle.std.specs.Prelude.{sum_by}
-use Rattle.lb_static.specs.declared.table.Specialization.{Specialization}
+use Rattle.lb_check.proofs.Words.{◌≡◌, ◌-◌, ◌++◌, map, drop, take, sum_by, Specialization}
 use Rattle.lb_check.specs.PlacedTypes as placed_mirror
 use Rattle.lb_check.proofs.placed_types.placed_types.Given as goal
 

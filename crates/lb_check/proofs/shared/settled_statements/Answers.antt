@@ -1,6 +1,5 @@
-use Rattle.std.proofs.Common.{◌≡◌, true, ap, subst, sym, ◌∙◌}
-use Rattle.std.specs.Prelude.{slice_get}
-use Rattle.lb_check.specs.SharedTypes.{IsJudgedPart, AreSettled, is_part_shared}
+use Rattle.lb_check.proofs.Words.{◌≡◌, true, ap, subst, sym, ◌∙◌, slice_get, IsJudgedPart}
+use Rattle.lb_check.proofs.Words.{AreSettled, is_part_shared}
 use Rattle.lb_check.specs.TermTypes.{context_of}
 use Rattle.lb_check.proofs.SharedTypes.{same_node, still_settled}
 use Rattle.lb_check.proofs.shared.settled_statements.Goals as goal

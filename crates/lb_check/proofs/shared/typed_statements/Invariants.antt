@@ -1,6 +1,4 @@
-use Rattle.std.proofs.Common.{◌≡◌, map, take}
-use Rattle.lb_check.specs.StoredTypes.{context_in}
-use Rattle.lb_check.specs.TermTypes.{is_resolved_statement_typed}
+use Rattle.lb_check.proofs.Words.{◌≡◌, map, take, context_in, is_resolved_statement_typed}
 use Rattle.lb_check.proofs.shared.typed_statements.Given as goal
 
 abbrev pub invariant-loop-statement : goal.invariant-loop-statement

@@ -1,7 +1,4 @@
-use Rattle.std.proofs.Common.{◌≡◌, IfOk, subst, sym, ◌∙◌}
-use Rattle.std.specs.Prelude.{option_map}
-use Rattle.lb_static.specs.StoredTypes.{view_type}
-use Rattle.lb_check.specs.TermSignatures.{row_in}
+use Rattle.lb_check.proofs.Words.{◌≡◌, IfOk, subst, sym, ◌∙◌, option_map, view_type, row_in}
 use Rattle.lb_check.proofs.SignatureRows.{one_given, several_given}
 use Rattle.lb_check.proofs.signature.only_type.Goals as goal
 

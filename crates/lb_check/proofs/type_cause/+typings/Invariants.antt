@@ -1,5 +1,4 @@
-use Rattle.std.proofs.Common.{◌+◌, ◌*◌}
-use Rattle.lb_static.specs.declared.resolved.Term.{size-Term}
+use Rattle.lb_check.proofs.Words.{◌+◌, ◌*◌, size-Term}
 use Rattle.lb_check.proofs.type_cause.+typings.Given as goal
 
 abbrev pub decreases-typed_row : goal.decreases-typed_row

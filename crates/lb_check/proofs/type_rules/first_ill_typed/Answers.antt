@@ -1,6 +1,4 @@
-use Rattle.std.proofs.Common.{length, refl, ap, subst, sym, ◌∙◌}
-use Rattle.std.specs.Prelude.{slice_get}
-use Rattle.std.proofs.lemmas.Option.{slice_get_read}
+use Rattle.lb_check.proofs.Words.{length, refl, ap, subst, sym, ◌∙◌, slice_get, slice_get_read}
 use Rattle.lb_check.specs.FoundParts.{IsTypedPart}
 use Rattle.lb_check.proofs.type_rules.first_ill_typed.Goals as goal
 

@@ -1,6 +1,4 @@
-use Rattle.std.proofs.Common.{◌≡◌, drop}
-use Rattle.lb_check.specs.BrokenParts.{first_broken}
-use Rattle.lb_check.specs.TermTypes.{is_specialization_typed}
+use Rattle.lb_check.proofs.Words.{◌≡◌, drop, first_broken, is_specialization_typed}
 use Rattle.lb_check.proofs.FirstBroken.{broken_from}
 use Rattle.lb_check.proofs.type_rules.first_ill_typed.Given as goal
 

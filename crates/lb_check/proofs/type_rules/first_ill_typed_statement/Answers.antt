@@ -1,9 +1,5 @@
-use Rattle.std.proofs.Common.{length, refl, sym, ◌∙◌}
-use Rattle.std.specs.Prelude.{slice_get}
-use Rattle.std.proofs.lemmas.Option.{slice_get_read}
-use Rattle.lb_check.specs.BrokenParts.{first_broken}
-use Rattle.lb_check.specs.StoredTypes.{context_in}
-use Rattle.lb_check.specs.TermTypes.{is_resolved_statement_typed}
+use Rattle.lb_check.proofs.Words.{length, refl, sym, ◌∙◌, slice_get, slice_get_read, first_broken}
+use Rattle.lb_check.proofs.Words.{context_in, is_resolved_statement_typed}
 use Rattle.lb_check.proofs.FirstBroken.{broken_more}
 use Rattle.lb_check.proofs.SharedTypes.{is_there}
 use Rattle.lb_check.proofs.type_rules.first_ill_typed_statement.Goals as goal

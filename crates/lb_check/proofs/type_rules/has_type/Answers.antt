@@ -1,11 +1,5 @@
-use Rattle.std.proofs.Common.{[], ◌∷◌, map, ap, sym, ◌∙◌}
-use Rattle.std.specs.Prelude.{option_map}
-use Rattle.std.proofs.lemmas.List.{length-map}
-use Rattle.lb_syntax.specs.Lists.{all_some}
-use Rattle.lb_static.specs.StoredTypes.{view_type}
-use Rattle.lb_check.specs.StoredTypes.{context_in}
-use Rattle.lb_check.specs.TermTypes.{are_equal, left_types}
-use Rattle.lb_check.specs.Types.{singly}
+use Rattle.lb_check.proofs.Words.{[], ◌∷◌, map, ap, sym, ◌∙◌, option_map, length-map, all_some}
+use Rattle.lb_check.proofs.Words.{view_type, context_in, are_equal, left_types, singly}
 use Rattle.lb_check.proofs.OneType.{single_apart, single_met}
 use Rattle.lb_check.proofs.SignatureRows.{one_item}
 use Rattle.lb_check.proofs.type_rules.has_type.Goals as goal

@@ -1,7 +1,4 @@
-use Rattle.std.proofs.Common.{map, false, true, sym, ◌∙◌}
-use Rattle.std.proofs.lemmas.List.{length-map}
-use Rattle.lb_check.specs.StoredTypes.{context_in}
-use Rattle.lb_check.specs.TermSignatures.{row_in}
+use Rattle.lb_check.proofs.Words.{map, false, true, sym, ◌∙◌, length-map, context_in, row_in}
 use Rattle.lb_check.proofs.SignatureRows.{met_apart, met_end, met_next}
 use Rattle.lb_check.proofs.type_rules.have_types.Goals as goal
 

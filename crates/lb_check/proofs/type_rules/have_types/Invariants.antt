@@ -1,6 +1,4 @@
-use Rattle.std.proofs.Common.{◌≡◌, drop, map}
-use Rattle.lb_check.specs.StoredTypes.{context_in}
-use Rattle.lb_check.specs.TermSignatures.{are_met, row_in}
+use Rattle.lb_check.proofs.Words.{◌≡◌, drop, map, context_in, are_met, row_in}
 use Rattle.lb_check.proofs.type_rules.have_types.Given as goal
 
 abbrev pub invariant-loop-i : goal.invariant-loop-i

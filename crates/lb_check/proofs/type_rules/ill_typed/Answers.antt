@@ -1,6 +1,4 @@
-use Rattle.lb_check.specs.TermTypes.{is_specialization_typed}
-use Rattle.std.proofs.Common.{ap, ◌∙◌}
-use Rattle.std.specs.Prelude.{not}
+use Rattle.lb_check.proofs.Words.{is_specialization_typed, ap, ◌∙◌, not}
 use Rattle.lb_check.proofs.BrokenRules.{if_found, types_named}
 use Rattle.lb_check.proofs.FirstBroken.{is_found}
 use Rattle.lb_check.proofs.TypedSpecializations.{instances_typed}

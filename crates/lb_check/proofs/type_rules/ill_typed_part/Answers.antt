@@ -1,6 +1,4 @@
-use Rattle.std.proofs.Common.{ap, subst, sym, ◌∙◌}
-use Rattle.lb_check.specs.BrokenParts.{first_broken}
-use Rattle.lb_check.specs.SharedTypes.{AreSettled}
+use Rattle.lb_check.proofs.Words.{ap, subst, sym, ◌∙◌, first_broken, AreSettled}
 use Rattle.lb_check.specs.TermTypes.{context_of, is_resolved_statement_typed, is_variable_typed}
 use Rattle.lb_check.proofs.TypedNodes.{all_typed, statement_untyped, variable_untyped}
 use Rattle.lb_check.proofs.type_rules.ill_typed_part.Goals as goal

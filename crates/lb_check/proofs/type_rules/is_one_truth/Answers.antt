@@ -1,8 +1,5 @@
-use Rattle.std.proofs.Common.{None, Some, ap, sym, ◌∙◌}
-use Rattle.std.specs.Prelude.{option_map}
-use Rattle.lb_static.specs.DataTypes.{truth}
-use Rattle.lb_static.specs.StoredTypes.{view_type}
-use Rattle.lb_check.specs.StoredTypes.{context_in}
+use Rattle.lb_check.proofs.Words.{None, Some, ap, sym, ◌∙◌, option_map, truth, view_type}
+use Rattle.lb_check.proofs.Words.{context_in}
 use Rattle.lb_check.proofs.OneType.{results_are_one}
 use Rattle.lb_check.proofs.type_rules.is_one_truth.Goals as goal
 

@@ -1,9 +1,5 @@
-use Rattle.std.proofs.Common.{map, ap, sym, ◌∙◌}
-use Rattle.lb_syntax.specs.Lists.{◌>>=◌, all_some}
-use Rattle.lb_check.specs.StoredTypes.{context_in}
-use Rattle.lb_check.specs.TermSignatures.{calls_in, given_of, list_of}
-use Rattle.lb_check.specs.TermTypes.{type_of}
-use Rattle.lb_check.specs.Types.{singly}
+use Rattle.lb_check.proofs.Words.{map, ap, sym, ◌∙◌, ◌>>=◌, all_some, context_in, calls_in}
+use Rattle.lb_check.proofs.Words.{given_of, list_of, type_of, singly}
 use Rattle.lb_check.proofs.SignatureRows.{calls_are}
 use Rattle.lb_check.proofs.TermSignatures.{results_given}
 use Rattle.lb_check.proofs.WalkedTypes.{list_from, list_one}

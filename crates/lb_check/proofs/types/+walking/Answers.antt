@@ -1,29 +1,21 @@
 -- What is noted for a term, by its forms.
-use Rattle.std.proofs.Common.{◌≡◌, ◌+◌, ◌++◌, ◌-◌, ◌∷◌, length, map, drop, inl, ap, sym}
-use Rattle.std.proofs.Common.{subst, ◌∙◌, arith}
-use Rattle.std.specs.Prelude.{◌&&◌, option_map}
-use Rattle.std.proofs.lemmas.List.{length-map}
-use Rattle.lb_syntax.specs.Lists.{◌>>=◌, where_true}
-use Rattle.lb_static.specs.StoredTypes.{view_type}
-use Rattle.lb_check.specs.PlacedTypes.{IsRowWalked, IsWalked, kept_in, placed_all_types}
-use Rattle.lb_check.specs.PlacedTypes.{placed_types}
-use Rattle.lb_check.specs.StoredTypes.{context_in}
-use Rattle.lb_check.specs.TermSignatures.{are_met, are_one, arrays, calls_in, common, given_of}
-use Rattle.lb_check.specs.TermSignatures.{has_arity, like_later, list_of, outcome, row_in}
-use Rattle.lb_check.specs.TermSignatures.{signature, signature_in, type_at}
-use Rattle.lb_check.specs.TermTypes.{one_type, type_of, when_both, when_truth}
-use Rattle.lb_check.specs.Types.{common_type}
+use Rattle.lb_check.proofs.Words.{◌≡◌, ◌+◌, ◌++◌, ◌-◌, ◌∷◌, length, map, drop, inl, ap, sym, subst}
+use Rattle.lb_check.proofs.Words.{◌∙◌, arith, ◌&&◌, option_map, length-map, ◌>>=◌, where_true}
+use Rattle.lb_check.proofs.Words.{view_type, IsWalked, kept_in, placed_all_types, placed_types}
+use Rattle.lb_check.proofs.Words.{context_in, are_met, are_one, arrays, calls_in, common, given_of}
+use Rattle.lb_check.proofs.Words.{has_arity, like_later, list_of, outcome, row_in, signature_in}
+use Rattle.lb_check.proofs.Words.{type_at, one_type, type_of, when_both, when_truth, common_type}
+use Rattle.lb_check.specs.PlacedTypes.{IsRowWalked}
+use Rattle.lb_check.specs.TermSignatures.{signature}
 use Rattle.lb_check.proofs.BrokenRules.{if_found}
 use Rattle.lb_check.proofs.DecidedRows.{list_decided, row_decided}
 use Rattle.lb_check.proofs.SignatureRows.{calls_are, fits_end, fits_more, fits_start, like_next}
 use Rattle.lb_check.proofs.TypeParts.{pair_type}
-use Rattle.lb_check.proofs.TypeWalks.{choice_placed, operand_placed, operands_placed}
-use Rattle.lb_check.proofs.TypeWalks.{row_placed}
+use Rattle.lb_check.proofs.TypeWalks.{choice_placed, operand_placed, operands_placed, row_placed}
 use Rattle.lb_check.proofs.WalkedTypes.{choice_one, choice_type, further, later, later_all}
-use Rattle.lb_check.proofs.WalkedTypes.{later_length, later_more, later_none}
-use Rattle.lb_check.proofs.WalkedTypes.{list_from, list_one, noted_all, noted_more, noted_none}
-use Rattle.lb_check.proofs.WalkedTypes.{pair_one, returns_given, returns_group, returns_one}
-use Rattle.lb_check.proofs.WalkedTypes.{single_from, single_one}
+use Rattle.lb_check.proofs.WalkedTypes.{later_length, later_more, later_none, list_from, list_one}
+use Rattle.lb_check.proofs.WalkedTypes.{noted_all, noted_more, noted_none, pair_one, returns_given}
+use Rattle.lb_check.proofs.WalkedTypes.{returns_group, returns_one, single_from, single_one}
 use Rattle.lb_check.proofs.types.+walking.Goals as goal
 
 -- ## The elements of a list

@@ -1,9 +1,5 @@
-use Rattle.std.proofs.Common.{◌≡◌, ◌-◌, drop, length}
-use Rattle.std.specs.Prelude.{◌&&◌, option_map}
-use Rattle.lb_static.specs.StoredTypes.{view_type}
-use Rattle.lb_check.specs.PlacedTypes.{kept_in}
-use Rattle.lb_check.specs.StoredTypes.{context_in}
-use Rattle.lb_check.specs.TermSignatures.{are_met, common, has_arity, signature_in}
+use Rattle.lb_check.proofs.Words.{◌≡◌, ◌-◌, drop, length, ◌&&◌, option_map, view_type, kept_in}
+use Rattle.lb_check.proofs.Words.{context_in, are_met, common, has_arity, signature_in}
 use Rattle.lb_check.proofs.WalkedTypes.{AreNoted, later}
 use Rattle.lb_check.proofs.types.+walking.Given as goal
 

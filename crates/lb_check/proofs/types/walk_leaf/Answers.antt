@@ -1,8 +1,4 @@
-use Rattle.std.proofs.Common.{[], refl, ◌∙◌}
-use Rattle.std.specs.Prelude.{option_map}
-use Rattle.lb_static.specs.StoredTypes.{view_type}
-use Rattle.lb_check.specs.PlacedTypes.{kept_in}
-use Rattle.lb_check.specs.StoredTypes.{context_in}
+use Rattle.lb_check.proofs.Words.{[], refl, ◌∙◌, option_map, view_type, kept_in, context_in}
 use Rattle.lb_check.proofs.TypeWalks.{leaf_placed}
 use Rattle.lb_check.proofs.WalkedTypes.{leaf_is, leaf_one, returns_one}
 use Rattle.lb_check.proofs.types.walk_leaf.Goals as goal

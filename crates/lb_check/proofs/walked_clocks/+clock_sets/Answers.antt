@@ -1,9 +1,7 @@
-use Rattle.std.proofs.Common.{◌≡◌, [], ◌++◌, ap, subst, ◌∙◌, rules}
-use Rattle.lb_check.specs.CallClocks.{variable_of}
+use Rattle.lb_check.proofs.Words.{◌≡◌, [], ◌++◌, ap, subst, ◌∙◌, rules, variable_of, both}
+use Rattle.lb_check.proofs.Words.{row_clock_set, IsRowWalked, OneClock}
 use Rattle.lb_check.specs.StoredClocks.{context_in}
-use Rattle.lb_check.specs.TermClocks.{both, row_clock_set}
-use Rattle.lb_check.specs.WalkedClocks.{IsRowWalked, IsWalked}
-use Rattle.lb_check.specs.declared.clock_set.ClockSet.TheVariants.{OneClock}
+use Rattle.lb_check.specs.WalkedClocks.{IsWalked}
 use Rattle.lb_check.proofs.WalkedClocks.{row_end, row_more, row_start, walked_call, walked_choice}
 use Rattle.lb_check.proofs.WalkedClocks.{walked_current, walked_free, walked_pair, walked_plain}
 use Rattle.lb_check.proofs.WalkedClocks.{walked_row, walked_variable}

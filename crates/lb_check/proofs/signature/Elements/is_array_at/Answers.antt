@@ -1,5 +1,4 @@
-use Rattle.std.proofs.Common.{Some, ap, length, sym, ◌∙◌}
-use Rattle.std.specs.Prelude.{◌&&◌, ◌==◌, nat_le, reverse}
+use Rattle.lb_check.proofs.Words.{Some, ap, length, sym, ◌∙◌, ◌&&◌, ◌==◌, nat_le, reverse}
 use Rattle.lb_check.specs.TermSignatures.{are_one, arrays, elements_in, type_at}
 use Rattle.lb_check.proofs.TypeLists.{outermost}
 use Rattle.lb_check.proofs.WantedTypes.{array_is, scalar_is_none}
