@@ -1,4 +1,4 @@
--- The flat program of what was emitted.
+-- The flat program that is put together from the emitted equations.
 -- This file mirrors code (src/expansion/program_emission.rt); no definition of the language stands
 -- on it.
 use Rattle.std.specs.Prelude.{ℕ, List, ◌++◌}
@@ -7,12 +7,12 @@ use Rattle.lb_flat.specs.Emit.{State}
 use Rattle.lb_flat.specs.Flat.{FlatEquation}
 use Rattle.lb_flat.specs.Judging.{FlatProgram}
 
--- with these equations of elements of variables before its own
+-- the state with `qs` before its own equations of elements of variables
 abbrev pub after_copies : List FlatEquation → State → State
 after_copies qs s = record s { copies = qs ++ s.copies }
 
--- the flat program of what was emitted, on inputs of these kinds: the kinds of its elements, how
--- many of them are those of variables, those that serve as clocks, and that of the property
+-- the flat program of a state, with the kinds of its inputs and of its elements, the number of
+-- elements of variables, the elements that serve as clocks, and the element of the property
 abbrev pub assembled :
     State → (inputs kinds : List Kind) → (variables : ℕ) → List ℕ → (property : ℕ) → FlatProgram
 assembled s inputs kinds variables clock_elements property = record {

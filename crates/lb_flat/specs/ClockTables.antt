@@ -16,20 +16,20 @@ use Rattle.lb_flat.specs.NumberedLayouts.{signs_of}
 use Rattle.lb_flat.specs.declared.equation.Clock as table
 use Rattle.lb_flat.specs.declared.equation.ClockId.{ClockId}
 
--- the row for a sign stands this far after the first of a variable
+-- the distance of the row for a sign from the first row of its variable
 abbrev pub sign_place : Bool → ℕ
 sign_place false = 0
 sign_place true = 1
 
--- the place of a clock of the instance at a path, where the rows of variables and the clocks of
--- instances are these
+-- the place of a clock of the instance at a path, where `place` gives the first row of each
+-- variable and `runs` the clock of each instance
 abbrev pub clock_place :
     (Path → Name → ℕ) → (Path → Option ClockId) → Path → Clock → Option ClockId
 clock_place place runs p Base = runs p
 clock_place place runs p (On k x sign) = Some (record { 0 = place p x + sign_place sign })
 
--- the row of a variable of an instance for a sign: below that of its declared clock, the first
--- element that serves for it
+-- the row of a variable of an instance for a sign: its parent is the declared clock of the
+-- variable, and its element is the first that serves for the variable
 pub record IsClockRow (P : Program) (clocks : List table.Clock) (place : Path → Name → ℕ)
     (runs : Path → Option ClockId) (here : Instance) (x : Name) (sign : Bool) : Type 0 where
   pub row : table.Clock
@@ -38,8 +38,8 @@ pub record IsClockRow (P : Program) (clocks : List table.Clock) (place : Path �
   pub signed : row.sign ≡ sign
   pub serves : slice_get (signs_of P here.path x) 0 ≡ Some row.element.0
 
--- each variable of each instance has its rows, each instance runs on the clock of its call, and the
--- table is long enough for all
+-- each variable of each instance has its rows, each instance runs on the clock of its call and has
+-- its variables after those of its caller, and the table is long enough for all
 pub record IsClockTable (P : Program) (clocks : List table.Clock) (place : Path → Name → ℕ)
     (runs : Path → Option ClockId) (before : Path → ℕ) : Type 0 where
   pub rows :

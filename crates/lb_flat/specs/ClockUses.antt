@@ -47,11 +47,11 @@ abbrev mutual
   whens_in_row end_of-Term = []
   whens_in_row (more_of-Term e rest) = whens_in e ++ whens_in_row rest
 
--- in a list of terms
+-- the numbers of the variables that some `when` in a list of terms names
 abbrev pub whens_in_all : List Term → List ℕ
 whens_in_all es = flat_map whens_in es
 
--- in a statement
+-- the numbers of the variables that some `when` in a statement names
 abbrev pub statement_whens : ResolvedStatement → List ℕ
 statement_whens (statement.Equation lefts e) = whens_in e
 statement_whens (statement.Assertion e) = whens_in e
@@ -60,28 +60,28 @@ statement_whens (statement.Assertion e) = whens_in e
 abbrev pub declared_when : Declared → List ℕ
 declared_when v = listed (λ s. s.variable.0 ∷ []) v.clock
 
--- all that a node names
+-- the numbers of the variables that a declared clock or a `when` of a node names
 abbrev pub clocks_named : ResolvedNode → List ℕ
 clocks_named n =
     flat_map declared_when n.variables.items ++ flat_map statement_whens n.body.items
 
--- a variable is among those with these numbers
+-- whether the number `x` is in `xs`
 abbrev pub is_among : List ℕ → ℕ → Bool
 is_among xs x = list_any (λ y. y == x) xs
 
--- those that serve as clocks, in the order of their declarations
+-- the numbers of the variables that serve as clocks, in the order of their declarations
 abbrev pub clock_numbers : ResolvedNode → List ℕ
 clock_numbers n = filter (is_among (clocks_named n)) (range_with_len 0 (length n.variables.items))
 
--- of the first so many variables, those that have a flag
+-- the numbers of those of the first `n` variables whose flag is set
 abbrev pub flagged_below : List Bool → ℕ → List ℕ
 flagged_below flags n = filter (λ x. get_or flags x false) (range_with_len 0 n)
 
--- of all
+-- the numbers of all variables whose flag is set
 abbrev pub flagged : List Bool → List ℕ
 flagged flags = flagged_below flags (length flags)
 
--- each of so many variables has a flag: whether it is among these
+-- each of `count` variables has a flag, which says whether its number is in `names`
 pub record HasFlags (count : ℕ) (names : List ℕ) (flags : List Bool) : Type 0 where
   pub long : length flags ≡ count
   pub flag : (x : ℕ) → x < count → get_or flags x false ≡ is_among names x

@@ -1,4 +1,4 @@
--- What `expand`, `order` and `eval_trace` promise.
+-- The promises of `expand`, `order` and `eval_trace`.
 -- This file says what data of the program mean; no definition of the language stands on it.
 use Rattle.std.specs.Prelude.{◌≡◌, ℕ, ◌<◌, true, false, Some, slice_get, List, [], length}
 use Rattle.std.specs.Prelude.{Result, Ok, Err}
@@ -31,7 +31,7 @@ use Rattle.lb_traces.specs.Traces.{Recording}
 
 -- ## Expansion
 
--- an element of a program reads another, by their numbers
+-- element `x` of a program reads element `y`, directly or by way of any elements of `f`
 pub record HasReads (P : Program) (f : FlatProgram) (x y : Element) : Type 0 where
   pub one : ℕ
   pub other : ℕ
@@ -39,9 +39,9 @@ pub record HasReads (P : Program) (f : FlatProgram) (x y : Element) : Type 0 whe
   pub is_other : slice_get (program_elements P) other ≡ Some y
   pub chain : Chain f other one
 
--- a flat program stands for a program, and gives each element once; an element of a variable that
--- reads that of another by way of further elements needs it at the same instant, and what an
--- element needs it reads
+-- `f` stands for `P`, and gives each element once; an element of a variable needs, at the same
+-- instant, each such element that it reads directly or by way of temporaries; and each element
+-- reads all that it needs
 pub record IsExpansionOf (P : Program) (f : FlatProgram) : Type 0 where
   pub flat : IsFlatOf P f
   pub given : IsGiven f
@@ -57,26 +57,26 @@ IsExpansionAnswer P (Err (error.Large fault)) = (is_small P ≡ false) × IsSize
 
 -- ## Order
 
--- the same equations in another order
+-- two lists hold the same equations, in any order
 pub record IsOrderingOf (Q Q' : List FlatEquation) : Type 0 where
   pub there : (q : FlatEquation) → In q Q → In q Q'
   pub back : (q : FlatEquation) → In q Q' → In q Q
 
--- the same flat program, with its equations in an order in which they can be computed
+-- `g` is `f`, with its equations in an order in which they can be computed
 pub record IsOrderOf (f g : FlatProgram) : Type 0 where
   pub same : g ≡ record f { equations = g.equations }
   pub ordering : IsOrderingOf f.equations g.equations
   pub ready : Ready g.size [] g.equations
 
--- why equations have no order: elements of variables read one another in a cycle, and in each
--- program that the equations are of, each of these elements needs the next; unless memory ran out
+-- why the equations of `f` have no order: elements of variables read one another in a cycle, and in
+-- each program whose expansion is `f` each of these elements needs the next; or memory ran out
 abbrev pub IsCycleFound : FlatProgram → OrderError → Type 0
 IsCycleFound f order_error.Memory = Unit {0}
 IsCycleFound f (order_error.Cycle c) =
     let is = numbers_of c.value.elements.items in
     IsReadCycle f is × ((P : Program) → IsExpansionOf P f → IsCertificate P is)
 
--- the same cycle, with a place for each of its elements, unless memory ran out
+-- the second error is the cycle of the first with a place for each element; or memory ran out
 abbrev pub IsPlaced : OrderError → OrderError → Type 0
 IsPlaced e order_error.Memory = Unit {0}
 IsPlaced order_error.Memory (order_error.Cycle d) = ⊥
@@ -86,9 +86,9 @@ IsPlaced (order_error.Cycle c) (order_error.Cycle d) =
 
 -- ## Verdicts
 
--- v is the verdict of trace k: that of each program that the flat one stands for, where the traces
--- have its signature, by the one history that solves it; and there is no other, where the flat
--- program stands for one and the traces have the kinds of its inputs
+-- `v` is the verdict of trace `k`: the only verdict of each program that `f` stands for and whose
+-- signature the traces have, by the one history that solves it; and the right verdict of `f`, where
+-- `f` stands for a program and the traces have the kinds of its inputs
 pub record IsVerdictOf (f : FlatProgram) (r : Recording) (k : ℕ) (v : Verdict) : Type 0 where
   pub only_verdict :
       (P : Program) → IsFlatOf P f → signature P ≡ r.signature →

@@ -1,4 +1,4 @@
--- Why equations without an order make a program cyclic.
+-- Programs whose equations have no order are cyclic.
 -- This file says what data of the program mean; no definition of the language stands on it.
 use Rattle.lb_static.specs.Instances.{Program}
 use Rattle.lb_check.specs.Needs.{IsCyclic}
@@ -7,7 +7,7 @@ use Rattle.lb_flat.specs.declared.error.OrderError.TheVariants.{Memory, Cycle}
 use Rattle.lb_flat.specs.Correct.{IsExpansionOf}
 use Rattle.lb_flat.specs.Judging.{FlatProgram}
 
--- each program that equations without an order are of is cyclic, unless memory ran out
+-- memory ran out, or each program whose expansion is `f` is cyclic
 abbrev pub AreOfCyclic : FlatProgram → OrderError → Type 0
 AreOfCyclic f Memory = Unit {0}
 AreOfCyclic f (Cycle c) = (P : Program) → IsExpansionOf P f → IsCyclic P

@@ -1,4 +1,4 @@
--- What one push of the code that expands asks for.
+-- The condition for one push of an equation in the code that expands.
 -- This file says what data of the program mean; no definition of the language stands on it.
 use Rattle.std.specs.Prelude.{ℕ, ◌+◌, ◌<◌}
 use Rattle.lb_flat.specs.declared.equation.Operation.{Operation}
@@ -6,7 +6,7 @@ use Rattle.lb_flat.specs.declared.equation.Operation.TheVariants.{Input, Constan
 use Rattle.lb_flat.specs.declared.equation.Operation.TheVariants.{ApplyBinary, Choose, FirstThen}
 use Rattle.lb_flat.specs.declared.equation.Operation.TheVariants.{Previous, Latest, Sample}
 
--- the operands of an operation are below an element
+-- the operands of an operation are below element `n`
 abbrev pub AreBelow : ℕ → Operation → Type 0
 AreBelow n (Input j) = Unit {0}
 AreBelow n (Constant v) = Unit {0}
@@ -19,7 +19,7 @@ AreBelow n (Previous v a) = a.0 < n
 AreBelow n (Latest v a) = a.0 < n
 AreBelow n (Sample a) = a.0 < n
 
--- there is one more number for an element, and the operands of its operation are below it
+-- element `n` can be pushed: there is a number after it, and its operands are below it
 pub record CanPush (n : ℕ) (o : Operation) : Type 0 where
   pub room : n + 1 < 4294967296
   pub operands : AreBelow n o

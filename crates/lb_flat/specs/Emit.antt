@@ -28,14 +28,14 @@ use Rattle.lb_check.specs.Solutions.{iterator_inputs}
 use Rattle.lb_check.specs.Verdicts.{property_path, clock_variables}
 use Rattle.lb_flat.specs.Flat.{FlatClock, Operation, Input, Constant, Copy, ApplyUnary, ApplyBinary}
 use Rattle.lb_flat.specs.Flat.{Choose, FirstThen, Previous, Latest, Sample, FlatEquation}
-use Rattle.lb_flat.specs.FurtherKinds.{kinds_from}
+use Rattle.lb_flat.specs.TemporaryKinds.{kinds_from}
 use Rattle.lb_flat.specs.Judging.{FlatProgram}
 use Rattle.lb_flat.specs.Layouts.{Layout, flat_clock}
 
 -- ## What was emitted so far
 
--- the equations of the further elements, those of elements of variables, the next free element, and
--- the elements of the operands that memories keep and of assertions
+-- the state of emission: the equations of temporaries, the equations of elements of variables,
+-- the next free element, the operands that memories keep, and the assertions
 pub record State : Type 0 where
   pub equations : List FlatEquation
   pub copies : List FlatEquation
@@ -43,33 +43,33 @@ pub record State : Type 0 where
   pub memory_operands : List ℕ
   pub asserted : List ℕ
 
--- and the elements that hold a result
+-- the state behind an emission, and the elements that hold its result
 pub record Emitted : Type 0 where
   pub state : State
   pub found : List ℕ
 
--- and those of several results
+-- the state behind an emission, and the elements of each of its results
 pub record EmittedAll : Type 0 where
   pub state : State
   pub found : List (List ℕ)
 
--- nothing is emitted
+-- the result `is`, for which nothing is emitted
 abbrev pub gives : State → List ℕ → Emitted
 gives s is = record { state = s; found = is }
 
--- one equation more, of the next element
+-- adds the equation of the next element
 abbrev pub push : FlatClock → State → Operation → State
 push k s o =
     let new : FlatEquation = record { element = s.next; clock = k; operation = o } in
     record s { equations = s.equations ++ (new ∷ []); next = suc s.next }
 
--- equations of the elements from number i on
+-- equations of the elements from number `i` on, one for each operation
 abbrev pub numbered : ℕ → FlatClock → List Operation → List FlatEquation
 numbered i k [] = []
 numbered i k (o ∷ os) =
     record { element = i; clock = k; operation = o } ∷ numbered (suc i) k os
 
--- their elements, and the number after them
+-- the elements that `numbered` gives; `after` is the number after them
 abbrev pub numbers : ℕ → List Operation → List ℕ
 numbers i [] = []
 numbers i (o ∷ os) = i ∷ numbers (suc i) os
@@ -88,18 +88,18 @@ add k s os = record {
   found = numbers s.next os;
 }
 
--- these elements are operands that memories keep
+-- adds the result to the operands that memories keep
 unfoldable pub keep : Emitted → Emitted
 keep x = record {
   state = record x.state { memory_operands = x.state.memory_operands ++ x.found };
   found = x.found;
 }
 
--- these are assertions
+-- adds the result to the assertions
 unfoldable pub assert : Emitted → State
 assert x = record x.state { asserted = x.state.asserted ++ x.found }
 
--- some equations of elements of variables
+-- adds the equations `qs` of elements of variables; the result is `is`
 unfoldable pub joins : State → List FlatEquation → List ℕ → Emitted
 joins s qs is = record {
   state = record s { copies = s.copies ++ qs };
@@ -108,19 +108,19 @@ joins s qs is = record {
 
 -- ## Operators of several elements
 
--- `if`, where each condition has its branches
+-- `if` by the first condition, on each pair of elements of the two branches
 abbrev pub chosen_by : List ℕ → List ℕ → List ℕ → List Operation
 chosen_by [] xs ys = []
 chosen_by (c ∷ cs) xs ys = zip2 (Choose c) xs ys
 
--- from an initial element over others, each result the next operand
+-- `op` from an initial element over others; each result is the left operand of the next
 unfoldable pub chained : FlatClock → BinaryOperator → State → ℕ → List ℕ → Emitted
 chained k op s init [] = gives s (init ∷ [])
 chained k op s init (y ∷ ys) =
     chained k op (push k s (ApplyBinary op init y)) s.next ys
 
--- whether two of these elements are true, where `any` and `two` tell whether one was before them,
--- and whether two were
+-- whether two of a list of elements are true; `any` and `two` hold whether one, and whether two,
+-- were true before
 unfoldable pub twice : FlatClock → State → (any two : ℕ) → List ℕ → Emitted
 twice k s any two [] = gives s (two ∷ [])
 twice k s any two (x ∷ xs) =
@@ -136,7 +136,7 @@ abbrev pub emit_nor : FlatClock → State → List ℕ → Emitted
 emit_nor k s is =
     negated k (chained k Or (push k s (Constant (Boolean false))) s.next is)
 
--- `#`: whether at most one of them is
+-- `#`: whether at most one of these elements is true
 abbrev pub emit_at_most_one : FlatClock → State → List ℕ → Emitted
 emit_at_most_one k s is =
     negated k (twice k (push k s (Constant (Boolean false))) s.next s.next is)
@@ -155,20 +155,20 @@ pub record Target : Type 0 where
   pub place : ℕ
   pub clock : FlatClock
 
--- the elements of a variable of an instance of this node
+-- the elements of variable `x` of the instance of node `n` at path `p`, with their clock
 abbrev pub targets : Layout → Node → Path → Name → List Target
 targets Y n p x =
     let k = flat_clock Y p (declared_clock n x) in
     map (λ i. record { place = i; clock = k }) (Y.places p x)
 
--- each of these elements is a copy
+-- the equations by which each target is a copy of an element
 abbrev pub copied : List Target → List ℕ → List FlatEquation
 copied [] js = []
 copied (t ∷ ts) [] = []
 copied (t ∷ ts) (j ∷ js) =
     record { element = t.place; clock = t.clock; operation = Copy j } ∷ copied ts js
 
--- the inputs of an instance are copies of these
+-- the equations by which the inputs of the instance at path `p` are copies of `iss`
 abbrev pub received :
     Layout → Node → Path → List Declaration → List (List ℕ) → List FlatEquation
 received Y callee p [] iss = []
@@ -176,12 +176,12 @@ received Y callee p (d ∷ ds) [] = []
 received Y callee p (d ∷ ds) (is ∷ iss) =
     copied (targets Y callee p d.name) is ++ received Y callee p ds iss
 
--- those of the instance of a call
+-- the copies for the inputs of the instance of a call
 abbrev pub call_copies : Layout → Path → Option Node → List (List ℕ) → List FlatEquation
 call_copies Y p None iss = []
 call_copies Y p (Some callee) iss = received Y callee p callee.inputs iss
 
--- those of the m instances of an iterator
+-- the copies for the inputs of the `m` instances of an iterator
 abbrev pub iterator_copies :
     Layout → Path → ℕ → ArrayIterator → ℕ → Option Node → List (List ℕ) → List FlatEquation
 iterator_copies Y p n it m None iss = []
@@ -195,15 +195,14 @@ iterator_copies Y p n it m (Some callee) iss =
 -- ## Expressions
 
 module _ (Y : Layout) (P : Program) (here : Instance) where
-  -- the elements of a variable; a constant or static parameter is a new element
+  -- emits a name: a variable has its elements; a constant or static parameter gets a new one
   abbrev pub emit_name : Clock → State → Name → Option Declaration → Emitted
   emit_name k s x (Some d) = gives s (Y.places here.path d.name)
   emit_name k s x None =
       add (flat_clock Y here.path k) s (Constant (or_fault (name_value P here x)) ∷ [])
 
 unfoldable mutual
-  -- the equations of an expression that stands on clock k after n calls of its node, after those of
-  -- s
+  -- emits, after the equations of `s`, an expression on clock `k` with `n` calls before it
   pub emit : Layout → Program → Instance → Clock → ℕ → State → Expr → Emitted
   emit Y P here k n s (Literal m) =
       add (flat_clock Y here.path k) s (Constant (Integer (pos m)) ∷ [])
@@ -282,7 +281,7 @@ unfoldable mutual
       let r = emit_all Y P here k n s es in
       emit_symbol (flat_clock Y here.path k) op r.state it r.found
 
-  -- those of expressions on one clock
+  -- emits expressions on one clock
   pub emit_all : Layout → Program → Instance → Clock → ℕ → State → Exprs → EmittedAll
   emit_all Y P here k n s Nil = record { state = s; found = [] }
   emit_all Y P here k n s (Cons e es) =
@@ -290,7 +289,7 @@ unfoldable mutual
       let r = emit_all Y P here k (n + call_count e) x.state es in
       record { state = r.state; found = x.found ∷ r.found }
 
-  -- those of expressions each on a clock of its own
+  -- emits expressions, each on a clock of its own
   pub emit_each : Layout → Program → Instance → List Clock → ℕ → State → Exprs → EmittedAll
   emit_each Y P here ks n s Nil = record { state = s; found = [] }
   emit_each Y P here [] n s (Cons e es) = record { state = s; found = [] }
@@ -301,7 +300,7 @@ unfoldable mutual
 
 -- ## Statements and instances
 
--- the equations of the statements of an instance, before which there are n calls in its text
+-- emits the statements of an instance, before which its text has `n` calls
 unfoldable pub emit_body : Layout → Program → Instance → ℕ → State → List Statement → State
 emit_body Y P here n s [] = s
 emit_body Y P here n s (Equation lefts e ∷ rest) =
@@ -312,20 +311,20 @@ emit_body Y P here n s (Assertion e ∷ rest) =
     let x = emit Y P here (statement_clock P here.node (Assertion e)) n s e in
     emit_body Y P here (n + call_count e) (assert x) rest
 
--- those of these instances, one after another
+-- emits instances, one after another
 unfoldable pub emit_instances : Layout → Program → State → List Instance → State
 emit_instances Y P s [] = s
 emit_instances Y P s (here ∷ rest) =
     emit_instances Y P (emit_body Y P here 0 s here.node.body) rest
 
--- before any instance, where so many elements are those of variables
+-- the state before any instance; the first elements, `elements` of them, are those of variables
 abbrev pub before_instances : ℕ → State
 before_instances elements =
     record { equations = []; copies = []; next = elements; memory_operands = []; asserted = [] }
 
 -- ## The whole program
 
--- these elements are scalars of the trace, from number j on
+-- the equations by which targets are scalars of the trace, from number `j` on
 abbrev pub from_inputs : ℕ → List Target → List FlatEquation
 from_inputs j [] = []
 from_inputs j (t ∷ ts) =
@@ -335,11 +334,11 @@ from_inputs j (t ∷ ts) =
 abbrev pub input_targets : Layout → Instance → List Target
 input_targets Y root = flat_map (λ d. targets Y root.node Root d.name) root.node.inputs
 
--- are those of the trace
+-- the equations by which the inputs of the node under test are those of the trace
 abbrev pub given_inputs : Layout → Option Instance → List FlatEquation
 given_inputs Y root = listed (λ root. from_inputs 0 (input_targets Y root)) root
 
--- what an observer of this node receives
+-- the elements that an observer receives: the inputs and outputs of the node under test
 abbrev pub observed_places : Layout → Instance → List (List ℕ)
 observed_places Y root =
     map (λ d. Y.places Root d.name) (root.node.inputs ++ root.node.outputs)
@@ -361,7 +360,7 @@ clock_places Y is =
     flat_map (λ here.
     flat_map (λ d. Y.places here.path d.name) (clock_variables here.node)) is
 
--- the whole program, where so many elements are those of variables
+-- the whole flat program, of which the first `count` elements are those of variables
 abbrev pub expanded : Layout → Program → ℕ → FlatProgram
 expanded Y P count =
     let s = emit_instances Y P (before_instances count) (instances P) in

@@ -14,17 +14,17 @@ use Rattle.lb_flat.specs.EmitTerms.{Context, first_place, emit_statements}
 use Rattle.lb_flat.specs.Frames.{HasPlaces}
 use Rattle.lb_flat.specs.TableClocks.{node_at}
 
--- the statements of a row of this node, with what its numbers stand for
+-- the statements of node `n`, with the context of their row
 abbrev pub with_body : Context → ResolvedNode → List (Context × List ResolvedStatement)
 with_body ctx n = (ctx, n.body.items) ∷ []
 
--- of the row with a number
+-- the statements of row `j`, with its context
 abbrev pub body_in :
     Reached → Table → (ℕ → Context) → ℕ → row.Instance →
     List (Context × List ResolvedStatement)
 body_in r t cs j i = listed (with_body (cs j)) (node_at r t i)
 
--- of these rows, the first of which has this number
+-- the statements of rows, each with its context; the first row has number `j`
 unfoldable pub bodies :
     Reached → Table → (ℕ → Context) → ℕ → List row.Instance →
     List (Context × List ResolvedStatement)
@@ -35,11 +35,11 @@ bodies r t cs j (i ∷ rows) = body_in r t cs j i ++ bodies r t cs (suc j) rows
 abbrev pub IsCounted : Context × List ResolvedStatement → Type 0
 IsCounted row = (s : State) → HasPlaces (emit_statements row.0 first_place s row.1).place
 
--- there is a row with a number, where the row has a node
+-- row `j` is there, if it has a node
 abbrev pub HasRow : Reached → Table → (ℕ → Bool) → ℕ → row.Instance → Type 0
 HasRow r t is_row j i = (n : ResolvedNode) → node_at r t i ≡ Some n → is_row j ≡ true
 
--- and so are all
+-- each row that has a node is there
 abbrev pub HasRows : Reached → Table → (ℕ → Bool) → Type 0
 HasRows r t is_row =
     (j : ℕ) (i : row.Instance) → slice_get t.instances.items j ≡ Some i → HasRow r t is_row j i

@@ -1,7 +1,7 @@
 -- This file mirrors code (src/expansion/term_emission.rt and what stands beside it): the equations
--- that are emitted for resolved terms, where what a number stands for is had from a context.
--- It is `Emit` with numbers for names. Terms and calls are counted as they come, in text order, and
--- parentheses are none; the operands of a row give one list of elements.
+-- that are emitted for resolved terms, where a context says what each number stands for. It is
+-- `Emit` with numbers instead of names. Terms and calls are counted in text order, without
+-- parentheses; the operands of a row give one list of elements.
 use Rattle.std.specs.Prelude.{ℕ, zero, suc, ◌-◌, ◌*◌, Bool, false, nat_le, pos, Option, Some}
 use Rattle.std.specs.Prelude.{None, List, [], ◌∷◌, ◌++◌, length, map, take, drop, flat_map}
 use Rattle.std.specs.Prelude.{if◌then◌else◌}
@@ -28,7 +28,8 @@ use Rattle.lb_flat.specs.Emit.{emit_nor, emit_at_most_one, Target, copied}
 
 -- ## What the numbers of an instance stand for
 
--- a clock is that of a flat program; a variable, a static expression, a term and a call are numbers
+-- the meaning of the numbers of an instance: variables, static expressions, terms and calls are
+-- numbers, and clocks are those of a flat program
 pub record Context : Type 0 where
   -- the elements of a variable, its clock, and the clock of the instants at which it has a sign
   pub places : ℕ → List ℕ
@@ -40,14 +41,14 @@ pub record Context : Type 0 where
   -- of a term: its clock, and how many scalar elements each element of its array has
   pub clock : ℕ → FlatClock
   pub parts : ℕ → ℕ
-  -- of a call: what it calls, and how often; and of a variable of the instance that it calls at an
-  -- index the elements and the clock
+  -- of a call: what it calls, and how often; and the elements and the clock of a variable of the
+  -- instance that it calls at an index
   pub callee : ℕ → Option Callee
   pub repeats : ℕ → ℕ
   pub child : (call index variable : ℕ) → List ℕ
   pub input : (call index variable : ℕ) → FlatClock
 
--- how many terms and calls of a node stand before something in its text
+-- a place in the text of a node: how many terms and calls stand before it
 pub record Cursor : Type 0 where
   pub term : ℕ
   pub call : ℕ
@@ -61,7 +62,7 @@ next_term at = record at { term = suc at.term }
 abbrev pub next_call : Cursor → Cursor
 next_call at = record { term = suc at.term; call = suc at.call }
 
--- what was emitted for a term or for a row of terms, and the place after it
+-- the emission of a term or of a row of terms, and the place after it
 pub record PlacedEmitted : Type 0 where
   pub place : Cursor
   pub emitted : Emitted
@@ -79,28 +80,28 @@ literal n = if nat_le n 2147483647 then Integer (pos n) else Bad
 abbrev pub constant : FlatClock → State → Scalar → Emitted
 constant k s v = add k s (Constant v ∷ [])
 
--- an operation on each of some elements
+-- operation `f` on each element of a result
 abbrev pub each : FlatClock → (ℕ → Operation) → Emitted → Emitted
 each k f x = add k x.state (map f x.found)
 
--- one on each of some elements, which memories keep
+-- operation `f` on each element of a result, which memories keep
 abbrev pub memory : FlatClock → (ℕ → Operation) → Emitted → Emitted
 memory k f x = each k f (keep x)
 
--- one on each of the elements of two operands, the first of which has these
+-- operation `f` on each pair of elements of two operands: one of `xs`, and one of the result `y`
 abbrev pub pairs : FlatClock → (ℕ → ℕ → Operation) → List ℕ → Emitted → Emitted
 pairs k f xs y = add k y.state (zip2 f xs y.found)
 
--- `if`, whose condition and first branch have these elements
+-- `if` with the condition `cs`, the first branch `xs` and the second branch `y`
 abbrev pub choose : FlatClock → List ℕ → List ℕ → Emitted → Emitted
 choose k cs xs y = add k y.state (chosen_by cs xs y.found)
 
--- so many elements from this one on
+-- `count` elements of a result, from number `from` on
 abbrev pub picked : ℕ → ℕ → Emitted → Emitted
 picked from count x = gives x.state (take count (drop from x.found))
 
--- an iterated symbol, over the elements of its operands: those of two arrays of so many, or an
--- initial one and those of an array
+-- an iterated symbol over the elements of its operands: those of two arrays of `n` for `map`, an
+-- initial one and those of an array for `red`
 abbrev pub red : FlatClock → BinaryOperator → State → List ℕ → Emitted
 red k op s [] = gives s []
 red k op s (init ∷ ys) = chained k op s init ys
@@ -112,12 +113,12 @@ symbol k op n Fill x = gives x.state []
 
 -- ## Calls
 
--- the elements of an input of what a call calls at an index
+-- the elements of an input of the instance that a call calls at an index
 abbrev pub input_targets : Context → (call index variable : ℕ) → List Target
 input_targets ctx c i x =
     map (λ p. record { place = p; clock = ctx.input c i x }) (ctx.child c i x)
 
--- the inputs of what is called are copies of the elements of the operands
+-- the equations by which the inputs of a called node are copies of the elements of the operands
 abbrev pub call_copies : Context → ℕ → Option Callee → List ℕ → List FlatEquation
 call_copies ctx c None is = []
 call_copies ctx c (Some n) is =
@@ -127,7 +128,7 @@ abbrev pub call_outputs : Context → ℕ → Option Callee → List ℕ
 call_outputs ctx c None = []
 call_outputs ctx c (Some n) = flat_map (ctx.child c 0) (range_with_len n.inputs n.outputs)
 
--- these inputs of the instance at an index, of so many, are copies of its parts of arrays
+-- the equations by which inputs of instance `i` of `m` are copies of its parts of the arrays `is`
 abbrev pub part_copies :
     Context → (call repeats index : ℕ) → List ℕ → List ℕ → List FlatEquation
 part_copies ctx c m i [] is = []
@@ -141,7 +142,7 @@ abbrev pub accumulator : Context → ℕ → Callee → ℕ → List ℕ → Lis
 accumulator ctx c n zero is = is
 accumulator ctx c n (suc i) is = ctx.child c i n.inputs
 
--- what the instance at an index, of so many, receives
+-- the equations by which instance `i` of `m` receives its inputs
 abbrev pub index_copies :
     Context → ℕ → ℕ → ArrayIterator → Callee → List ℕ → ℕ → List FlatEquation
 index_copies ctx c m Map n is i = part_copies ctx c m i (range_with_len 0 n.inputs) is
@@ -158,12 +159,12 @@ iterator_copies ctx c it None is = []
 iterator_copies ctx c it (Some n) is =
     flat_map (index_copies ctx c (ctx.repeats c) it n is) (range_with_len 0 (ctx.repeats c))
 
--- of so many instances these outputs, the elements of each by instance
+-- the elements of the outputs `outs` of `m` instances: for each output, instance after instance
 abbrev pub gathered_at : Context → ℕ → ℕ → List ℕ → List ℕ
 gathered_at ctx c m outs =
     flat_map (λ o. flat_map (λ i. ctx.child c i o) (range_with_len 0 m)) outs
 
--- what an iterated node gives
+-- the elements of the outputs of an iterated node
 abbrev pub index_outputs : Context → ℕ → ℕ → ArrayIterator → Callee → List ℕ
 index_outputs ctx c m Map n = gathered_at ctx c m (range_with_len n.inputs n.outputs)
 index_outputs ctx c m Red n = ctx.child c (m - 1) n.inputs
@@ -175,12 +176,12 @@ abbrev pub iterator_outputs : Context → ℕ → ArrayIterator → Option Calle
 iterator_outputs ctx c it None = []
 iterator_outputs ctx c it (Some n) = index_outputs ctx c (ctx.repeats c) it n
 
--- a call with these operands
+-- a call whose operands are the elements of `r`
 abbrev pub call : Context → ℕ → Emitted → Emitted
 call ctx c r =
     joins r.state (call_copies ctx c (ctx.callee c) r.found) (call_outputs ctx c (ctx.callee c))
 
--- an iterated node with these
+-- an iterated node whose operands are the elements of `r`
 abbrev pub iterate : Context → ℕ → ArrayIterator → Emitted → Emitted
 iterate ctx c it r =
     joins r.state (iterator_copies ctx c it (ctx.callee c) r.found)
@@ -188,7 +189,7 @@ iterate ctx c it r =
 
 -- ## Terms
 
--- a term at a place, from what was emitted for its one operand
+-- the emission of a term with one operand, from that of the operand
 abbrev pub with_one : Context → Cursor → Term → Emitted → Emitted
 with_one ctx at (Unary' op p a) x = each (ctx.clock at.term) (ApplyUnary op) x
 with_one ctx at (Pre' p a) x = memory (ctx.clock at.term) (Previous first_value) x
@@ -202,7 +203,8 @@ with_one ctx at (Slice' p a i j) x =
     picked (parts * ctx.count i.0) (parts * (suc (ctx.count j.0) - ctx.count i.0)) x
 with_one ctx at e x = x
 
--- from what was emitted for its second operand, where the first one has these elements
+-- the emission of a term with two operands, from the elements `xs` of the first one and the
+-- emission of the second one
 abbrev pub with_two : Context → Cursor → Term → List ℕ → Emitted → Emitted
 with_two ctx at (Binary' op p a q b) xs y = pairs (ctx.clock at.term) (ApplyBinary op) xs y
 with_two ctx at (Arrow' p a q b) xs y = pairs (ctx.clock at.term) (FirstThen false) xs y
@@ -211,7 +213,7 @@ with_two ctx at (Fby' p a q b) xs y =
     pairs k (FirstThen false) xs (memory k (Previous first_value) y)
 with_two ctx at e xs y = gives y.state (xs ++ y.found)
 
--- from what was emitted for its operands in a row
+-- the emission of a term with a row of operands, from that of the row
 abbrev pub with_all : Context → Cursor → Term → Emitted → Emitted
 with_all ctx at (AtMostOne' arity all) r = emit_at_most_one (ctx.clock at.term) r.state r.found
 with_all ctx at (Nor' arity all) r = emit_nor (ctx.clock at.term) r.state r.found
@@ -221,14 +223,14 @@ with_all ctx at (IterateSymbol' it op n arity all) r =
     symbol (ctx.clock at.term) op (ctx.count n.0) it r
 with_all ctx at e r = r
 
--- the place of its operands in a row
+-- the place of the row of operands of a term
 abbrev pub row_place : Cursor → Term → Cursor
 row_place at (Call' c arity all) = next_call at
 row_place at (IterateNode' it c arity all) = next_call at
 row_place at e = next_term at
 
 unfoldable mutual
-  -- the equations of a term at a place, after those of s
+  -- emits a term at a place, after the equations of `s`
   pub emit_term : Context → Cursor → State → Term → PlacedEmitted
   emit_term ctx at s (Literal n) =
       placed (next_term at) (constant (ctx.clock at.term) s (literal n))
@@ -299,7 +301,7 @@ unfoldable mutual
       let r = emit_row ctx (next_term at) s all in
       placed r.place (with_all ctx at (IterateSymbol' it op n arity all) r.emitted)
 
-  -- those of a row of terms from a place on, with their elements one after another
+  -- emits a row of terms from a place on, with their elements one after another
   pub emit_row : {m : _} → Context → Cursor → State → Row_of-Term m → PlacedEmitted
   emit_row ctx at s end_of-Term = placed at (gives s [])
   emit_row ctx at s (more_of-Term e rest) =
@@ -307,7 +309,7 @@ unfoldable mutual
       let r = emit_row ctx x.place x.emitted.state rest in
       placed r.place (gives r.emitted.state (x.emitted.found ++ r.emitted.found))
 
--- those of a list of terms
+-- emits a list of terms
 unfoldable pub emit_list : Context → Cursor → State → List Term → PlacedEmitted
 emit_list ctx at s [] = placed at (gives s [])
 emit_list ctx at s (e ∷ es) =
@@ -317,12 +319,12 @@ emit_list ctx at s (e ∷ es) =
 
 -- ## Statements and instances
 
--- what was emitted for a statement, and the place after it
+-- the state behind a statement, and the place after the statement
 pub record PlacedState : Type 0 where
   pub place : Cursor
   pub state : State
 
--- the elements of a left variable
+-- the elements of a variable on the left of an equation, with their clock
 abbrev pub left_targets : Context → VariableId → List Target
 left_targets ctx x =
     map (λ p. record { place = p; clock = ctx.declared x.0 }) (ctx.places x.0)
@@ -340,7 +342,7 @@ emit_statements ctx at s [] = record { place = at; state = s }
 emit_statements ctx at s (x ∷ xs) =
     let r = emit_statement ctx at s x in emit_statements ctx r.place r.state xs
 
--- those of instances, one after another, each with the statements of its node
+-- emits instances one after another, each with the statements of its node
 unfoldable pub emit_rows : State → List (Context × List ResolvedStatement) → State
 emit_rows s [] = s
 emit_rows s (row ∷ rows) = emit_rows (emit_statements row.0 first_place s row.1).state rows

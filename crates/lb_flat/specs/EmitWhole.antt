@@ -19,13 +19,13 @@ use Rattle.lb_flat.specs.Emit.{Target, copied, from_inputs, before_instances}
 use Rattle.lb_flat.specs.EmitRows.{bodies}
 use Rattle.lb_flat.specs.EmitTerms.{Context, emit_rows}
 use Rattle.lb_flat.specs.Flat.{FlatClock, FlatEquation, Input}
-use Rattle.lb_flat.specs.FurtherKinds.{kinds_from}
+use Rattle.lb_flat.specs.TemporaryKinds.{kinds_from}
 use Rattle.lb_flat.specs.Judging.{FlatProgram}
 use Rattle.lb_flat.specs.TableClocks.{node_at}
 
 -- ## Variables of a row
 
--- an element that is a scalar of the trace
+-- the equation by which an element is a scalar of the trace
 abbrev pub input_of : FlatClock → (element input : ℕ) → FlatEquation
 input_of k i j = record { element = i; clock = k; operation = Input j }
 
@@ -33,11 +33,11 @@ input_of k i j = record { element = i; clock = k; operation = Input j }
 abbrev pub variable_targets : Context → ℕ → List Target
 variable_targets ctx x = map (λ p. record { place = p; clock = ctx.declared x }) (ctx.places x)
 
--- those of the first so many variables
+-- the elements of the first `n` variables, as targets
 abbrev pub parameter_targets : Context → ℕ → List Target
 parameter_targets ctx n = flat_map (variable_targets ctx) (range_with_len 0 n)
 
--- the elements of so many variables from one on
+-- the elements of `n` variables, from number `first` on
 abbrev pub places_from : Context → (first count : ℕ) → List ℕ
 places_from ctx first n = flat_map ctx.places (range_with_len first n)
 
@@ -48,7 +48,7 @@ is_start false origin.UnderTest = true
 is_start true origin.Observer = true
 is_start b o = false
 
--- a row that starts, whose node is this
+-- the start at row `j`, whose node is `n`
 abbrev pub start_of : ℕ → ResolvedNode → Start
 start_of j n = record { row = j; inputs = n.inputs; outputs = n.outputs }
 
@@ -64,23 +64,23 @@ abbrev pub start_in : Reached → Table → (observer : Bool) → Option Start
 start_in r t b = start_from r t b 0 t.instances.items
 
 module _ (cs : ℕ → Context) where
-  -- its inputs are those of the trace
+  -- the equations by which the inputs of a row that starts are those of the trace
   abbrev pub given_at : Option Start → List FlatEquation
   given_at None = []
   given_at (Some s) = from_inputs 0 (parameter_targets (cs s.row) s.inputs)
 
-  -- the observer receives the inputs and outputs of the node under test
+  -- the equations by which the observer receives the inputs and outputs of the node under test
   abbrev pub observed_at : Option Start → Option Start → List FlatEquation
   observed_at (Some root) (Some o) =
       copied (parameter_targets (cs o.row) o.inputs)
       (places_from (cs root.row) 0 (root.inputs + root.outputs))
   observed_at root o = []
 
-  -- what begins a flat program
+  -- the equations that begin a flat program
   abbrev pub begun_at : Option Start → Option Start → List FlatEquation
   begun_at root o = given_at root ++ observed_at root o
 
-  -- the elements of outputs
+  -- the elements of the outputs of a row that starts
   abbrev pub outputs_at : Option Start → List ℕ
   outputs_at None = []
   outputs_at (Some s) = places_from (cs s.row) s.inputs s.outputs
@@ -95,14 +95,15 @@ pub record IsReady (cs : ℕ → Context) (is_row : ℕ → Bool) (s : Start) : 
   pub inputs_counted : length (parameter_targets (cs s.row) s.inputs) < 2 ^ 32
   pub all_counted : s.inputs + s.outputs < 2 ^ 64
 
--- of these rows, the first of which has this number
+-- the elements of the variables of rows that serve as clocks; the first row has number `j`
 unfoldable pub row_clocks : Reached → Table → (ℕ → Context) → ℕ → List row.Instance → List ℕ
 row_clocks r t cs j [] = []
 row_clocks r t cs j (i ∷ rows) = clocks_in cs r t j i ++ row_clocks r t cs (suc j) rows
 
 -- ## The whole program
 
--- on inputs of these kinds, where so many elements are those of variables, which have these kinds
+-- the whole flat program on inputs of the kinds `inputs`; its first `count` elements are those of
+-- variables, and have the kinds `kinds`
 abbrev pub whole :
     Reached → Table → (ℕ → Context) → (inputs kinds : List Kind) → ℕ → FlatProgram
 whole r t cs inputs kinds count =

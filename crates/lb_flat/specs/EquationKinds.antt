@@ -1,8 +1,8 @@
--- The kind of what an equation of the code gives, after elements of these kinds.
--- This file mirrors code (src/further_kinds.rt); no definition of the language stands on it.
+-- The kind of the element that an equation of the code gives, from the kinds of other elements.
+-- This file mirrors code (src/temporary_kinds.rt); no definition of the language stands on it.
 use Rattle.std.specs.Prelude.{List}
 use Rattle.lb_syntax.specs.declared.tree.Kind.{Kind}
-use Rattle.lb_flat.specs.FurtherKinds.{operation_kind, kind_among}
+use Rattle.lb_flat.specs.TemporaryKinds.{operation_kind, kind_among}
 use Rattle.lb_flat.specs.Values.{operation_of}
 use Rattle.lb_flat.specs.declared.equation.Equation.{Equation}
 

@@ -1,4 +1,4 @@
--- When the clocks and the kinds of the elements of a flat program fit its equations.
+-- Clocks and kinds of the elements of a flat program that fit its equations.
 -- Source: this project's rule; the kinds that operators take and give are those of the Lustre V6
 -- reference manual.
 use Rattle.std.specs.Prelude.{◌≡◌, ℕ, ◌<◌, Bool, true, Option, Some, None, List, length, slice_get}
@@ -19,8 +19,8 @@ use Rattle.lb_flat.specs.Flat.{FlatEquation}
 
 -- ## Clocks
 
--- the clocks of what an operation reads, where K gives the clock of each element, and there are so
--- many inputs
+-- the operands of an operation on clock `k` have clocks that fit, where `K` gives the clock of each
+-- element, and there are `inputs` inputs
 abbrev pub OperandsFit : ℕ → (ℕ → FlatClock) → FlatClock → Operation → Type 0
 OperandsFit inputs K k (Input j) = (k ≡ Always) × (j < inputs)
 OperandsFit inputs K k (Constant v) = Unit {0}
@@ -40,7 +40,7 @@ pub record ClockFits (inputs : ℕ) (K : ℕ → FlatClock) (q : FlatEquation) :
 
 -- ## Kinds
 
--- the kind that an operator gives of two integers, and of two truth values, if it takes them
+-- the kind of an operator's result on two integers, and on two truth values, if it takes them
 abbrev pub integers_kind : BinaryOperator → Option Kind
 integers_kind Plus = Some Int
 integers_kind Minus = Some Int
@@ -64,7 +64,7 @@ truths_kind Equal = Some Truth
 truths_kind Unequal = Some Truth
 truths_kind op = None
 
--- the kind that an operator gives of operands of two kinds, if it takes them
+-- the kind of the result of an operator on operands of two kinds, if it takes them
 abbrev pub binary_kind : BinaryOperator → Kind → Kind → Option Kind
 binary_kind op Int Int = integers_kind op
 binary_kind op Truth Truth = truths_kind op
@@ -75,11 +75,12 @@ unary_kind Negate Int = Some Int
 unary_kind Not Truth = Some Truth
 unary_kind op k = None
 
--- a scalar is one of a kind
+-- scalar `v` is of kind `k`
 abbrev pub IsOf : Kind → Scalar → Type 0
 IsOf k v = is_of_kind k v ≡ true
 
--- the kinds of what an operation reads, where N gives the kind of each element
+-- the operands of an operation fit a result of kind `kind`, where `N` gives the kind of each
+-- element
 abbrev pub OperandKinds : List Kind → (ℕ → Kind) → Kind → Operation → Type 0
 OperandKinds inputs N kind (Input j) = slice_get inputs j ≡ Some kind
 OperandKinds inputs N kind (Constant v) = IsOf kind v

@@ -18,8 +18,8 @@ pub data FlatClock : Type 0 where
   Where : FlatClock → (element : ℕ) → (sign : Bool) → FlatClock
   deriving IsSet as FlatClock-set
 
--- how an element is had from others, which are named by their numbers; what a memory holds is part
--- of its operation
+-- the operation that gives an element from others, which are named by their numbers; the content of
+-- a memory is part of its operation
 pub data Operation : Type 0 where
   Input : ℕ → Operation  -- a scalar of the trace
   Constant : Scalar → Operation
@@ -32,7 +32,7 @@ pub data Operation : Type 0 where
   Latest : (memory : Scalar) → ℕ → Operation  -- `current`
   Sample : ℕ → Operation  -- `when`: the element at the instants of the clock
 
--- an element, the clock that it is on, and how it is had
+-- an element, the clock that it is on, and the operation that gives it
 pub record FlatEquation : Type 0 where
   pub element : ℕ
   pub clock : FlatClock
@@ -49,7 +49,7 @@ abbrev pub instants : Inputs → List Stream → FlatClock → List Bool
 instants X F Always = replicate (length X) true
 instants X F (Where k i sign) = sampled_at (instants X F k) sign (column X F i)
 
--- what an operation on this clock gives
+-- the stream of an operation on clock `k`
 abbrev pub operate : Inputs → List Stream → FlatClock → Operation → Stream
 operate X F k (Input j) = column_of X j
 operate X F k (Constant v) = constantly v (instants X F k)
@@ -67,11 +67,11 @@ operate X F k (Sample a) = zip2 sample (instants X F k) (column X F a)
 abbrev pub Holds : Inputs → List Stream → FlatEquation → Type 0
 Holds X F q = column X F q.element ≡ operate X F q.clock q.operation
 
--- streams are each as long as the trace
+-- each stream is as long as the trace
 abbrev pub AreLong : Inputs → List Stream → Type 0
 AreLong X F = Every (λ xs. length xs ≡ length X) F
 
--- there is a stream as long as the trace for each of so many elements, and every equation holds
+-- each of `size` elements has a stream as long as the trace, and every equation holds
 pub record FlatSolves (size : ℕ) (Q : List FlatEquation) (X : Inputs) (F : List Stream) :
     Type 0 where
   pub elements : length F ≡ size

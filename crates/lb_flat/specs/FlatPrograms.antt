@@ -1,4 +1,4 @@
--- When a flat program stands for a program.
+-- The relation between a flat program and a program that it stands for.
 -- Source: this project's rule.
 use Rattle.std.specs.Prelude.{◌≡◌, ℕ, ◌<◌, true, None, List, length, replicate, take}
 use Rattle.lb_static.specs.DataTypes.{input_kinds}
@@ -13,16 +13,15 @@ use Rattle.lb_flat.specs.Fitting.{IsFitting}
 use Rattle.lb_flat.specs.Flat.{FlatClock}
 use Rattle.lb_flat.specs.FlatSolutions.{IsFlatSolution}
 use Rattle.lb_flat.specs.Flattening.{history_of, IsWatched}
-use Rattle.lb_flat.specs.FurtherKinds.{kind_among}
+use Rattle.lb_flat.specs.TemporaryKinds.{kind_among}
 use Rattle.lb_flat.specs.Judging.{FlatProgram}
 use Rattle.lb_flat.specs.MemoryPlaces.{HasAllMemories}
 use Rattle.lb_flat.specs.NumberedLayouts.{layout}
 
--- the program breaks no rule; its inputs, and the scalar elements of its variables, which come
--- first, have their kinds, and the clocks and kinds of all elements fit; the streams that solve the
--- flat program, with presence and kinds, and the histories that solve the program on a trace, are
--- the same; what decides a verdict is watched; and the memories of all operators stand in the flat
--- program
+-- `f` stands for `P`: `P` breaks no rule; the inputs, and the elements of variables, which come
+-- first, have the kinds of `P`; the clocks and kinds of all elements fit; each solution of `f` on a
+-- trace gives a history that solves `P`, and each such history comes from a solution; the elements
+-- that decide a verdict are watched; and the memories of all operators stand in `f`
 pub record IsFlatOf (P : Program) (f : FlatProgram) : Type 0 where
   pub accepted : static_refusal P ≡ None
   pub checked : check_refusal P ≡ None
@@ -43,7 +42,7 @@ pub record IsFlatOf (P : Program) (f : FlatProgram) : Type 0 where
       (t : ℕ) → t < length X → IsWatched P f X F (history_of (layout P) X F) t
   pub memories : HasAllMemories P (layout P) (kind_among f.kinds) f
 
--- a history is that of streams that solve a flat program, and an observer runs at every instant
+-- history `H` comes from streams that solve `f`, and an observer runs at every instant
 pub record IsStreamed (P : Program) (f : FlatProgram) (X : Inputs) (H : History) : Type 0 where
   pub observer_runs : H.ticks Observer ≡ replicate (length X) true
   pub streams : List Stream

@@ -1,5 +1,5 @@
--- What it is for streams to solve a flat program, with the kinds of its elements and the instants
--- at which each is present.
+-- Solutions of a flat program: streams that solve its equations, with the kinds of its elements and
+-- the instants at which each is present.
 -- Source: this project's rule.
 use Rattle.std.specs.Prelude.{◌≡◌, ℕ, true, List}
 use Rattle.lb_syntax.specs.declared.tree.Kind.{Kind}

@@ -1,4 +1,5 @@
--- What the streams of a flat program say of a program: its history, and what decides a verdict.
+-- The history of a program that the streams of a flat program give, and the elements that decide a
+-- verdict.
 -- Source: this project's rule.
 use Rattle.std.specs.Prelude.{◌≡◌, ℕ, List, [], ◌∷◌, map, true}
 use Rattle.lb_syntax.specs.Lists.{Every}

@@ -11,7 +11,7 @@ use Rattle.lb_flat.specs.Judging.{FlatProgram}
 use Rattle.lb_flat.specs.PreparedPrograms.{Every-prop}
 use Rattle.lb_flat.specs.Run.{equation_reads}
 
--- each element has exactly one equation, and that of a further element reads lower ones alone
+-- each element has exactly one equation, and that of a temporary reads only lower elements
 pub record IsGiven (f : FlatProgram) : Type 0 where
   pub each : (i : ℕ) → i < f.size → In i (map (λ q. q.element) f.equations)
   pub once : AreApart (map (λ q. q.element) f.equations)
@@ -19,12 +19,12 @@ pub record IsGiven (f : FlatProgram) : Type 0 where
       Every (λ q. f.variables ≤ q.element → Every (λ i. i < q.element) (equation_reads q))
       f.equations
 
--- ## There is one proof of it at most
+-- ## `IsGiven` has at most one proof
 
 same_prop : (i j : ℕ) → IsProp (i ≡ j)
 same_prop i j = Prim.hlevel props
 
--- a number stands at one place at most of a list in which nothing stands twice
+-- a number has at most one place in a list in which nothing stands twice
 in_prop : (i : ℕ) (is : List ℕ) → AreApart is → (a b : In i is) → a ≡ b
 in_prop i [] h a b = absurd a
 in_prop i (j ∷ is) h (inl p) (inl q) = ap inl (same_prop j i p q)

@@ -18,6 +18,6 @@ scalar_in Bool v = Boolean (int_le (pos 1) v)
 abbrev pub scalars_in : Elements → Row → List Scalar
 scalars_in elements row = zip2 scalar_in (kinds_of elements) row
 
--- the inputs of a trace of some recorded ones
+-- the inputs of trace `k` of a recording
 abbrev pub inputs_of : Recording → ℕ → Inputs
 inputs_of r k = map (scalars_in r.signature) (trace_at r.traces k).1

@@ -1,4 +1,4 @@
--- What a flat program watches, and the verdict that its rows give.
+-- The elements that a flat program watches, and the verdict that its rows give.
 -- Source: this project's rule: that of verdicts, on the elements of a flat program.
 use Rattle.std.specs.Prelude.{ℕ, suc, Bool, Option, Some, List, [], ◌∷◌, ◌++◌, if◌then◌else◌}
 use Rattle.std.specs.List.{list_any, range_with_len}
@@ -12,9 +12,9 @@ use Rattle.lb_check.specs.Verdicts.{is_bad, is_nil, is_false, or_later}
 use Rattle.lb_flat.specs.Flat.{FlatEquation}
 use Rattle.lb_flat.specs.Run.{Row, cell, run}
 
--- equations on so many elements, of which the first are those of variables, with the kinds of the
--- inputs and of each element; the elements that hold the operands of memories, the variables that
--- serve as clocks and the assertions, and that of the property
+-- equations on `size` elements, the first `variables` of which are those of variables, with the
+-- kinds of the inputs and of each element; and the elements that hold the operands of memories, the
+-- variables that serve as clocks, the assertions and the property
 pub record FlatProgram : Type 0 where
   pub inputs : List Kind
   pub kinds : List Kind
@@ -38,7 +38,7 @@ truth_elements f = f.clock_elements ++ (f.asserted ++ f.property ∷ [])
 abbrev pub some_in : (Option Cell → Bool) → Row → List ℕ → Bool
 some_in test row is = list_any (λ i. test (Some (cell row i))) is
 
--- what a row decides; `Passed` where it decides nothing
+-- the verdict of the row of instant `t`; `Passed` where it decides nothing
 abbrev pub row_judged : FlatProgram → ℕ → Row → Verdict
 row_judged f t row =
     if some_in is_bad row (named_elements f) then Fault t else

@@ -7,14 +7,15 @@ use Rattle.lb_static.specs.Instances.{Path}
 use Rattle.lb_check.specs.Clocks.{Clock, Base, On}
 use Rattle.lb_flat.specs.Flat.{FlatClock, Where}
 
--- where the elements of each variable stand, those that serve for it in a clock, and the clock on
--- which each instance runs
+-- the elements of each variable, the elements that serve for it in a clock, and the clock on which
+-- each instance runs
 pub record Layout : Type 0 where
   pub places : Path → Name → List ℕ
   pub signs : Path → Name → List ℕ
   pub runs : Path → FlatClock
 
--- a clock at the instants at which the first of these elements has this sign
+-- the instants of clock `k` at which the first element of a list has the sign `sign`; `k` where the
+-- list is empty
 abbrev pub where_signed : FlatClock → Bool → List ℕ → FlatClock
 where_signed k sign [] = k
 where_signed k sign (i ∷ is) = Where k i sign

@@ -36,7 +36,7 @@ pub mod FlatPrograms
 pub mod Standing
 pub mod RightVerdicts
 pub mod MemoryPlaces
-pub mod FurtherKinds
+pub mod TemporaryKinds
 pub mod ClockTables
 pub mod ClockUses
 pub mod EmitRows

@@ -1,5 +1,5 @@
--- Where the memories of `pre`, `fby`, `current` and `->` stand in a flat program, and what they
--- hold after some instants.
+-- The places of the memories of `pre`, `fby`, `current` and `->` in a flat program, and their
+-- contents after some instants.
 -- Source: this project's rule.
 use Rattle.std.specs.Prelude.{◌≡◌, ℕ, ◌+◌, false, ◌||◌, is_some, List, [], ◌∷◌, map, length}
 use Rattle.std.specs.List.{list_any}
@@ -21,7 +21,7 @@ use Rattle.lb_flat.specs.Judging.{FlatProgram}
 use Rattle.lb_flat.specs.Layouts.{Layout, flat_clock}
 use Rattle.lb_flat.specs.Run.{Row, cell, advanced}
 
--- ## Where they stand
+-- ## Places
 
 -- the equations that give these elements by these operations
 abbrev pub equations_at : FlatClock → List ℕ → List Operation → List FlatEquation
@@ -34,8 +34,7 @@ HoldStreams P Y kinds f here a is =
     (X : Inputs) (F : List Stream) → IsFlatSolution (input_kinds P) kinds f X F →
     map (column X F) is ≡ streams_at P (history_of Y X F) here a
 
--- the operand of an operator with a memory is kept, scalar element by scalar element, at these
--- places
+-- the operand of an operator with a memory is kept at `places`, one for each of its scalar elements
 pub record KeepsOperand (P : Program) (Y : Layout) (kinds : ℕ → Kind) (f : FlatProgram)
     (here : Instance) (k : Clock) (a : Occurrence) (o : ℕ → Operation) : Type 0 where
   pub places : List ℕ
@@ -46,8 +45,8 @@ pub record KeepsOperand (P : Program) (Y : Layout) (kinds : ℕ → Kind) (f : F
       (equations_at (flat_clock Y here.path k) places (map o operands))
   pub streams : HoldStreams P Y kinds f here a operands
 
--- whether `->` has had its first tick is kept, scalar element by scalar element of its first
--- operand, at these places
+-- whether `->` has had its first tick is kept at `places`, for each scalar element of its first
+-- operand
 pub record KeepsFlag (P : Program) (Y : Layout) (kinds : ℕ → Kind) (f : FlatProgram)
     (here : Instance) (k : Clock) (a : Occurrence) : Type 0 where
   pub places : List ℕ
@@ -60,7 +59,7 @@ pub record KeepsFlag (P : Program) (Y : Layout) (kinds : ℕ → Kind) (f : Flat
       (equations_at (flat_clock Y here.path k) places (zip2 (FirstThen false) firsts thens))
   pub streams : HoldStreams P Y kinds f here a firsts
 
--- where the memories of an operator stand
+-- `f` has the memories of an operator
 abbrev pub HasMemories :
     Program → Layout → (ℕ → Kind) → FlatProgram → Instance → Clock → ℕ → Expr → Type 0
 HasMemories P Y kinds f here k n (Pre a) =
@@ -73,7 +72,7 @@ HasMemories P Y kinds f here k n (Fby a b) =
     × KeepsFlag P Y kinds f here k (at k n a)
 HasMemories P Y kinds f here k n e = Unit {0}
 
--- those of all operators of a program
+-- `f` has the memories of all operators of a program
 abbrev pub HasAllMemories : Program → Layout → (ℕ → Kind) → FlatProgram → Type 0
 HasAllMemories P Y kinds f =
     Every (λ here.
@@ -81,9 +80,9 @@ HasAllMemories P Y kinds f =
     (node_occurrences P here.node))
     (instances P)
 
--- ## What they hold after some rows
+-- ## Contents after some rows
 
--- the newest scalar of a stream, and this before there is one
+-- the newest scalar of a stream; `v` before there is one
 abbrev pub newest_of : Scalar → Stream → Scalar
 newest_of v [] = v
 newest_of v (x ∷ xs) = newest_of (newest v x) xs
@@ -93,11 +92,11 @@ abbrev pub after_rows : List FlatEquation → List Row → List FlatEquation
 after_rows Q [] = Q
 after_rows Q (row ∷ rows) = after_rows (map (advanced row) Q) rows
 
--- what an element held in these rows
+-- the cells of element `i` in rows
 abbrev pub cells_in : List Row → ℕ → Stream
 cells_in rows i = map (λ row. cell row i) rows
 
--- an operation with what its memory holds after these rows
+-- an operation with the content of its memory after `rows`
 abbrev pub remembers : List Row → Operation → Operation
 remembers rows (FirstThen started a b) =
     FirstThen (started || list_any is_some (cells_in rows a)) a b

@@ -22,7 +22,7 @@ abbrev pub signs_of : Program → Path → Name → List ℕ
 signs_of P p x =
     listed (λ s. let y = serving P p x in numbers_of P y.0 y.1) (found_from P 0 (instances P) p)
 
--- where the elements of a program stand, and on which clocks
+-- the layout of a program: the numbers of its elements, and the clocks of its instances
 abbrev pub layout : Program → Layout
 layout P = record {
   places = numbers_of P;

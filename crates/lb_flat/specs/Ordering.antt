@@ -1,4 +1,4 @@
--- What the parts of `order` promise each other.
+-- The promises of the parts of `order` to each other.
 -- This file says what data of the program mean; no definition of the language stands on it.
 use Rattle.std.specs.Prelude.{◌≡◌, ℕ, suc, ◌<◌, Bool, true, false, not, Option, Some, None}
 use Rattle.std.specs.Prelude.{option_and_then, slice_get, List, [], ◌∷◌, ◌++◌, length, replicate}
@@ -33,7 +33,7 @@ clock_at clocks k = option_and_then (λ id. slice_get clocks id.0) k
 
 -- ## The table of equations
 
--- each element of a table has an equation of its own, from elements of the table
+-- each equation of a table stands at its element, and uses elements and clocks of the table alone
 pub record IsTable (clocks : List Clock) (table : List (Option Equation)) : Type 0 where
   pub table_clocks : AreClocks (length table) clocks
   pub own :
@@ -41,7 +41,7 @@ pub record IsTable (clocks : List Clock) (table : List (Option Equation)) : Type
   pub within :
       (e : ℕ) (q : Equation) → get_or table e None ≡ Some q → IsWithin (length table) clocks q
 
--- a table for so many elements has these equations, each at its element
+-- a table of `size` entries has the equations `qs`, each at its element
 pub record IsTableOf (size : ℕ) (qs : List Equation) (table : List (Option Equation)) :
     Type 0 where
   pub entries : length table ≡ size
@@ -49,7 +49,7 @@ pub record IsTableOf (size : ℕ) (qs : List Equation) (table : List (Option Equ
   pub own : (e : ℕ) (q : Equation) → get_or table e None ≡ Some q → q.element.0 ≡ e
   pub each : (q : Equation) → In q qs → get_or table q.element.0 None ≡ Some q
 
--- ## What is scheduled
+-- ## Scheduling
 
 -- the first of these elements that is not done
 abbrev pub first_left : List Bool → List ℕ → Option ℕ
@@ -59,7 +59,7 @@ first_left done is = find (λ i. not (is_done done i)) is
 abbrev pub awaited : List Clock → List Bool → Equation → Option ℕ
 awaited clocks done q = first_left done (equation_reads (equation_of clocks q))
 
--- what the equations of elements that are done read is done
+-- where an element is done, all that its equation reads is done
 abbrev pub AreSettled : List Clock → List (Option Equation) → List Bool → Type 0
 AreSettled clocks table done =
     (e : ℕ) (q : Equation) → is_done done e ≡ true → get_or table e None ≡ Some q →
@@ -71,13 +71,13 @@ pub record IsOn (table : List (Option Equation)) (e : ℕ) (clock : Option Clock
   pub stands : get_or table e None ≡ Some equation
   pub clock_is : equation.clock ≡ clock
 
--- how many are not done
+-- how many elements are not done
 abbrev pub left : List Bool → ℕ
 left [] = 0
 left (true ∷ done) = left done
 left (false ∷ done) = suc (left done)
 
--- the equations so far begin an order, and the elements that they give are done
+-- the equations `out` begin an order, and the elements that they give are done
 pub record IsScheduled (clocks : List Clock) (table : List (Option Equation)) (done : List Bool)
     (out : List Equation) : Type 0 where
   pub marks : length done ≡ length table

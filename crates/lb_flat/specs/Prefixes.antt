@@ -1,5 +1,5 @@
--- When a history is the beginning of another, and when inputs determine histories instant by
--- instant.
+-- Histories that are the beginning of others, and programs whose inputs determine their histories
+-- instant by instant.
 -- Source: this project's rule.
 use Rattle.std.specs.Prelude.{◌≡◌, ℕ, ◌++◌, length, map, take}
 use Rattle.lb_syntax.specs.Lists.{Every}
@@ -9,20 +9,20 @@ use Rattle.lb_check.specs.Streams.{History}
 use Rattle.lb_check.specs.Solutions.{Inputs, Solves, HasOneHistory}
 use Rattle.lb_flat.specs.Flattening.{IsTrace}
 
--- at an instance, the clock and the streams of each variable are the first n instants of those of
--- the other history
+-- at an instance, the clock and the streams of variables in `H'` are the first `n` instants of
+-- those in `H`
 pub record IsPrefixAt (H' H : History) (n : ℕ) (here : Instance) : Type 0 where
   pub ticks : H'.ticks here.path ≡ take n (H.ticks here.path)
   pub columns :
       Every (λ d. H'.columns here.path d.name ≡ map (take n) (H.columns here.path d.name))
       (variables here.node)
 
--- a history is the first n instants of another, as far as a program's instances and variables go
+-- history `H'` is the first `n` instants of `H`, for all instances and variables of a program
 abbrev pub IsPrefix : Program → History → History → ℕ → Type 0
 IsPrefix P H' H n = Every (IsPrefixAt H' H n) (instances P)
 
--- a program has one history on each trace, and that on the beginning of a trace is the beginning of
--- that on the whole trace
+-- a program has one history on each trace, and its history on the beginning of a trace is the
+-- beginning of its history on the whole trace
 pub record IsDetermined (P : Program) : Type 0 where
   pub one : (X : Inputs) → IsTrace P X → HasOneHistory P X
   pub prefix :

@@ -1,4 +1,4 @@
--- What of a flat program is known before its instants, and what is left for each.
+-- The parts of a flat program that are known before its instants, and those left for each instant.
 -- Source: this project's rule.
 use Rattle.std.specs.Prelude.{ℕ, suc, Bool, true, false, not, ◌||◌, ◌≡◌, List, [], ◌∷◌, map}
 use Rattle.std.specs.Prelude.{if◌then◌else◌}
@@ -9,7 +9,7 @@ use Rattle.lb_flat.specs.Flat.{FlatClock, Always, Where, Operation, Input, Const
 use Rattle.lb_flat.specs.Flat.{Previous, Latest, FlatEquation}
 use Rattle.lb_flat.specs.Run.{Row, cell, now}
 
--- a scalar of the trace
+-- whether an operation is a scalar of the trace
 abbrev pub is_input : Operation → Bool
 is_input (Input j) = true
 is_input o = false
@@ -26,7 +26,7 @@ is_fixed k o = false
 abbrev pub fixed_in : List FlatEquation → List FlatEquation
 fixed_in Q = filter (λ q. is_fixed q.clock q.operation) Q
 
--- what is computed at each instant
+-- whether an equation is computed at each instant
 abbrev pub is_step : FlatEquation → Bool
 is_step q = not (is_input q.operation || is_fixed q.clock q.operation)
 
@@ -37,21 +37,21 @@ steps_in Q = filter is_step Q
 abbrev pub place_equation : InputPlace → FlatEquation
 place_equation p = record { element = p.element.0; clock = Always; operation = Input p.input.0 }
 
--- the inputs of a program, which are present at each instant
+-- an equation moved to the base clock: inputs are present at each instant
 abbrev pub on_base : FlatEquation → FlatEquation
 on_base q = record q { clock = Always }
 
 abbrev pub inputs_in : List FlatEquation → List FlatEquation
 inputs_in Q = map on_base (filter (λ q. is_input q.operation) Q)
 
--- what changes from an instant to the next
+-- whether an operation has a memory, which changes from an instant to the next
 abbrev pub has_memory : Operation → Bool
 has_memory (FirstThen started a b) = true
 has_memory (Previous v a) = true
 has_memory (Latest v a) = true
 has_memory o = false
 
--- the places of the memories among equations, from a first place on
+-- the places of the equations that have a memory, where the first equation has place `n`
 abbrev pub memory_places : ℕ → List FlatEquation → List ℕ
 memory_places n [] = []
 memory_places n (q ∷ Q) =

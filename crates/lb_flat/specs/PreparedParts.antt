@@ -1,4 +1,4 @@
--- What contracts say of prepared programs, of traces that are ready to be read, and of room.
+-- Statements of contracts on prepared programs, on traces that are ready to be read, and on room.
 -- This file says what data of the program mean; no definition of the language stands on it.
 use Rattle.std.specs.Prelude.{◌≡◌, vec_len}
 use Rattle.lb_traces.specs.Traces.{Recording}
@@ -15,7 +15,7 @@ program_in p = p.program.now
 abbrev pub recording_in : Recorded → Recording
 recording_in r = r.set.now
 
--- there is a place for each step and each element of a program, whatever they hold
+-- the room has a place for each step and each element of a program, with any contents
 pub record IsRoomFor (p : Prepared) (s : Scratch) : Type 0 where
   pub steps : vec_len s.steps ≡ vec_len p.steps
   pub row : vec_len s.row ≡ vec_len p.row

@@ -1,4 +1,4 @@
--- What is found of a flat program once, before the instants of any trace.
+-- The parts of a prepared program, which are found once, before the instants of any trace.
 -- This file says what data of the program mean; no definition of the language stands on it.
 use mathlib.Core.Sum.{⊎_set}
 use Rattle.std.specs.Prelude.{◌≡◌, ℕ, ◌<◌, List, [], ◌∷◌, length, map, All}
@@ -15,8 +15,8 @@ use Rattle.lb_flat.specs.Programs.{flat_equations, program_of}
 use Rattle.lb_flat.specs.Values.{cell_of}
 use Rattle.lb_flat.specs.Within.{IsWithin}
 
--- the elements that hold inputs, the equations that are computed at each instant, the places of
--- those that have a memory, and a row that holds the constants
+-- the parts of a prepared program: the elements that hold inputs, the equations that are computed
+-- at each instant, the places of those that have a memory, and a row that holds the constants
 pub record IsPrepared (p : FlatProgram) (inputs : List InputPlace) (steps : List Equation)
     (memories : List ℕ) (row : List Cell) : Type 0 where
   pub inputs_are : map place_equation inputs ≡ inputs_in (program_of p).equations
@@ -27,11 +27,11 @@ pub record IsPrepared (p : FlatProgram) (inputs : List InputPlace) (steps : List
   pub has_all_elements : length row ≡ p.size
   pub constants_set : AreFixed (map cell_of row) (program_of p).equations
 
--- there is one proof at most that each of a list is so, where there is one at most of each
+-- `Every P xs` has at most one proof, where each `P x` has at most one
 pub Every-prop :
     {A : Type 0} {P : A → Type 0} → ((x : A) → IsProp (P x)) → (xs : List A) → IsProp (Every P xs)
 Every-prop one [] = Unit-prop
 Every-prop one (x ∷ xs) = ×_prop (one x) (Every-prop one xs)
 
--- what shows that there is one proof at most that a program is prepared
+-- the rules that show that `IsPrepared` has at most one proof
 pub ruleset prepared_props = (FlatClock-set, Every-prop, ⊎_set, props)

@@ -1,4 +1,4 @@
--- What a flat program of the code stands for, and when it can be run.
+-- The meaning of a flat program of the code, and the conditions under which it can be run.
 -- Source: this project's rule.
 use Rattle.std.specs.Prelude.{◌≡◌, ℕ, ◌<◌, ◌≤◌, List, [], length, map, All}
 use Rattle.lb_flat.specs.declared.equation.ElementId.{ElementId}
@@ -19,7 +19,7 @@ numbers_of ids = map (λ a. a.0) ids
 abbrev pub flat_equations : List Clock → List Equation → List FlatEquation
 flat_equations clocks qs = map (equation_of clocks) qs
 
--- a flat program
+-- the meaning of a flat program of the code
 abbrev pub program_of : FlatProgram → judging.FlatProgram
 program_of p = record {
   inputs = p.inputs.items;

@@ -1,4 +1,4 @@
--- What the numbers in the text of a row's node stand for.
+-- The meaning of the numbers in the text of a row's node.
 -- This file mirrors code (src/expansion/frame.rt); no definition of the language stands on it.
 use Rattle.std.specs.Prelude.{ℕ, ℤ, Bool, List, slice_get, option_map}
 use Rattle.lb_syntax.specs.Lists.{either_or}
@@ -14,15 +14,15 @@ use Rattle.lb_flat.specs.EmitTerms.{Context}
 use Rattle.lb_flat.specs.Flat.{FlatClock}
 use Rattle.lb_flat.specs.Rows.{row_numbers, child_numbers}
 
--- the value of a static expression as an operand, where these are all
+-- the value of static expression `i` as an operand, where `statics` holds the values of all
 abbrev pub value_at : List ℤ → ℕ → Scalar
 value_at statics i = or_fault (slice_get statics i)
 
--- as a size or an index
+-- the value of static expression `i` as a size or an index; 0 where it is none
 abbrev pub size_at : List ℤ → ℕ → ℕ
 size_at statics i = either_or (count_at statics (record { 0 = i })) 0
 
--- how often a call is iterated
+-- how often call `c` is iterated; 0 where it is not
 abbrev pub times_at : ResolvedNode → Specialization → ℕ → ℕ
 times_at n s c = either_or (repeats_at n s (record { 0 = c })) 0
 
@@ -38,7 +38,7 @@ pub record RowClocks : Type 0 where
   pub parts : ℕ → ℕ
   pub input : (call index variable : ℕ) → FlatClock
 
--- what the numbers stand for in a row of this node and this specialization
+-- the context of row `j`, which is of node `n` and specialization `s`
 abbrev pub row_context :
     Reached → Table → RowClocks → ℕ → ResolvedNode → Specialization → Context
 row_context r t k j n s = record {

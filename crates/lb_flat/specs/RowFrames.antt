@@ -1,4 +1,4 @@
--- What the numbers in the text of a row's node stand for, as they are read of what is stored.
+-- The meaning of the numbers in the text of a row's node, as the code reads it from stored data.
 -- This file mirrors code (src/row_frame.rt); no definition of the language stands on it.
 use Rattle.std.specs.Prelude.{◌≡◌, ℕ, ◌+◌, nat_le, ℤ, Bool, true, false, Option, Some, None}
 use Rattle.std.specs.Prelude.{option_map, List, [], length, get_or, slice_get}
@@ -35,17 +35,17 @@ int_value z = if is_int z then Integer z else Bad
 abbrev pub held_value : List ℤ → ℕ → Scalar
 held_value statics i = either_or (option_map int_value (slice_get statics i)) Bad
 
--- these elements, where they stand before this one
+-- the elements `ns`, if they stand before element `count`; otherwise none
 abbrev pub held_below : ℕ → List ℕ → List ℕ
 held_below count ns = if nat_le (get_or ns 0 0 + length ns) count then ns else []
 
--- what a call calls, where its inputs and outputs are among its variables
+-- the numbers of inputs and outputs of a called node, if these are among its variables
 abbrev pub held_callee : ResolvedNode → Option Callee
 held_callee m =
     if nat_le (m.inputs + m.outputs) (length m.variables.items)
     then Some (parameters_of m) else None
 
--- what is read of a row
+-- the stored data from which the context of a row is read
 pub record Read : Type 0 where
   pub checked : Checking
   pub layout : Layout
@@ -70,7 +70,7 @@ read_of f = record {
   types = option_map (λ types. types.now) f.types;
 }
 
--- the row that it calls
+-- the row that call `c` of the row calls at index `i`
 abbrev pub read_child : Read → (call index : ℕ) → Option ℕ
 read_child z c i = called_row z.children.rows z.row c i
 
@@ -79,11 +79,11 @@ abbrev pub read_numbers : Read → (row variable : ℕ) → List ℕ
 read_numbers z j x =
     held_below z.layout.count (numbers_at z.layout.variables.items z.layout.starts.items j x)
 
--- the place of a clock of a row
+-- the place of clock `k` of row `j`
 abbrev pub read_id : Read → ℕ → Clock → Option ClockId
 read_id z j k = clock_id z.layout.variables.items z.clocks.runs.items j k
 
--- of the clock of a variable of a row that is called
+-- the place of the clock of a variable of a called row
 abbrev pub input_id : Read → (call index variable : ℕ) → Option ClockId
 input_id z c i x =
     read_child z c i >>= λ m.
@@ -98,7 +98,7 @@ read_clock z k = clock_of z.clocks.table.items k
 abbrev pub read_parts : Read → ℕ → ℕ
 read_parts z t = either_or (option_map (λ types. parts_of (found_in types) t) z.types) 0
 
--- the clocks that are read
+-- the clocks of a row, as they are read
 abbrev pub read_clocks : Read → RowClocks
 read_clocks z = record {
   declared = λ x. read_clock z (read_id z z.row (declared_in z.node (record { 0 = x })));
@@ -108,7 +108,7 @@ read_clocks z = record {
   input = λ c i x. read_clock z (input_id z c i x);
 }
 
--- all that is read
+-- the context of a row, as it is read
 abbrev pub read_context : Read → Context
 read_context z = record {
   places = λ x. read_numbers z z.row x;
@@ -147,7 +147,7 @@ found_types c j =
     slice_get c.elab.table.instances.items j >>= λ i.
     c.types >>= λ all. slice_get all.items i.specialization.0
 
--- a frame is that of a row of a checked program, with what is known of all rows
+-- `z` is the data of row `j` of a checked program, with the tables of all rows
 pub record IsFrameOf (c : Checking) (l : Layout) (all : Children) (k : Clocks) (j : ℕ) (z : Read) :
     Type 0 where
   pub checked : z.checked ≡ c
@@ -167,7 +167,7 @@ is_row c j =
 
 -- ## All rows
 
--- what is read of a row of this node and this specialization
+-- the data of row `j`, which is of node `n` and specialization `s`
 abbrev pub row_read :
     Checking → Layout → Children → Clocks → ℕ → ResolvedNode → Specialization → Read
 row_read c l all k j n s = record {
@@ -182,7 +182,7 @@ row_read c l all k j n s = record {
   types = found_types c j;
 }
 
--- what the numbers stand for where there is no row
+-- the context where there is no row
 abbrev pub no_context : Context
 no_context = record {
   places = λ x. [];
@@ -202,12 +202,12 @@ abbrev pub row_found_context :
     Checking → Layout → Children → Clocks → ℕ → Specialization × ResolvedNode → Context
 row_found_context c l all k j found = read_context (row_read c l all k j found.1 found.0)
 
--- what the numbers of the row with a number stand for
+-- the context of row `j`
 abbrev pub frame_contexts : Checking → Layout → Children → Clocks → ℕ → Context
 frame_contexts c l all k j =
     either_or (option_map (row_found_context c l all k j) (found_row c j)) no_context
 
--- of the rows that a frame can go to
+-- the contexts of the rows that a frame can go to
 abbrev pub contexts_of : RowFrame → ℕ → Context
 contexts_of f = frame_contexts f.checked.now f.layout.now f.children.now f.clocks.now
 

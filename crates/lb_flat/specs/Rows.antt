@@ -1,5 +1,5 @@
--- Where the scalar elements of the rows of the table of instances stand, and which row is what a
--- row calls.
+-- The places of the scalar elements of the rows of the table of instances, and the rows that a row
+-- calls.
 -- This file mirrors code (src/layout.rt, src/children.rt); no definition of the language stands on
 -- it.
 use Rattle.std.specs.Prelude.{◌≡◌, ◌≤◌, ℕ, suc, ◌+◌, ◌-◌, ℤ, nat_eq, nat_lt, Bool, false, ◌&&◌}
@@ -29,21 +29,21 @@ sum_of ns = sum_by (λ n. n) ns
 abbrev pub declared_width : List ℤ → Declared → ℕ
 declared_width statics v = either_or (option_map element_count (declared_type statics v)) 0
 
--- those of the variables of a specialization
+-- the widths of the variables of a specialization
 abbrev pub widths_of : Reached → Specialization → List ℕ
 widths_of r s =
     listed (λ n. map (declared_width s.statics.items) n.variables.items)
     (slice_get r.nodes.items s.node.0)
 
--- of a row of the table
+-- the widths of the variables of a row of the table
 abbrev pub widths_in : Reached → Table → row.Instance → List ℕ
 widths_in r t i = listed (widths_of r) (slice_get t.specializations.items i.specialization.0)
 
--- of the row with a number
+-- the widths of the variables of row `j`
 abbrev pub row_widths : Reached → Table → ℕ → List ℕ
 row_widths r t j = listed (widths_in r t) (slice_get t.instances.items j)
 
--- of all rows
+-- the widths of the variables of all rows
 abbrev pub table_widths : Reached → Table → List ℕ
 table_widths r t = flat_map (widths_in r t) t.instances.items
 
@@ -69,28 +69,28 @@ row_numbers r t j x =
 
 -- ## Numbers as they are stored
 
--- the sums of these and a number, as far as each of them
+-- the running sums of a list, on top of `n`: 2 and 3 on top of 1 give 3 and 6
 abbrev pub sums_after : ℕ → List ℕ → List ℕ
 sums_after n [] = []
 sums_after n (w ∷ ws) = (n + w) ∷ sums_after (n + w) ws
 
--- Behind the starts of elements stand those that widths give: the last element is known, and there
--- are at most 65,536.
+-- `after` is `before` and then the starts that the widths `ws` give on top of `last`; `next` is
+-- `last` plus all widths, and at most 65,536
 pub record AreAdded (ws : List ℕ) (last : ℕ) (before after : List ℕ) (next : ℕ) : Type 0 where
   pub starts : after ≡ before ++ sums_after last ws
   pub next_is : next ≡ last + sum_of ws
   pub few : next ≤ 65536
 
--- the numbers from one on, before another
+-- the numbers from `from` on, before `to`
 abbrev pub numbers_between : (from to : ℕ) → List ℕ
 numbers_between from to = range_with_len from (to - from)
 
--- how many variables a row has, where so many stand before each
+-- how many variables row `j` has, where `variables` holds how many stand before each row
 abbrev pub count_at : (variables : List ℕ) → (row : ℕ) → ℕ
 count_at variables j = get_or variables (j + 1) 0 - get_or variables j 0
 
--- the numbers of the elements of a variable of a row, where so many variables stand before each
--- row, and so many elements before each variable
+-- the numbers of the elements of variable `x` of row `j`, where `variables` holds how many
+-- variables stand before each row, and `elements` how many elements before each variable
 abbrev pub numbers_at : (variables elements : List ℕ) → (row variable : ℕ) → List ℕ
 numbers_at variables elements j x =
     let first = get_or variables j 0 in
@@ -100,11 +100,11 @@ numbers_at variables elements j x =
 
 -- ## What a row calls
 
--- two calls of rows, each by the row, the number of the call and the index, are one
+-- two calls are the same; each is a row, the number of a call in it, and an index
 abbrev pub same_call : (one other : ℕ × ℕ × ℕ) → Bool
 same_call x y = (nat_eq x.0 y.0 && nat_eq x.1 y.1) && nat_eq x.2 y.2
 
--- a row is the call of this number of the row with another, at an index
+-- a row is reached by call `c` of row `j` at index `i`
 abbrev pub is_called : (caller call index : ℕ) → Origin → Bool
 is_called j c i (origin.Called caller call index) =
     same_call (caller.0, call.0, index) (j, c, i)
@@ -115,16 +115,15 @@ abbrev pub place_where : {A : Type 0} → (A → Bool) → List A → Option ℕ
 place_where test [] = None
 place_where test (x ∷ xs) = if test x then Some 0 else option_map suc (place_where test xs)
 
--- the row of what a row calls
+-- the row that call `c` of row `j` calls at index `i`
 abbrev pub child_row : Table → (caller call index : ℕ) → Option ℕ
 child_row t j c i = place_where (λ (z : row.Instance). is_called j c i z.origin) t.instances.items
 
--- the row of a call that is kept
+-- the row of a call, as the map `m` holds it
 abbrev pub called_row :
     {S : Type 0} → HashMap (ℕ × ℕ × ℕ) ℕ S → (caller call index : ℕ) → Option ℕ
 called_row m j c i = get same_call m (j, c, i)
 
--- the numbers of the elements of a variable of what a row calls, and none where there is no such
--- row
+-- the numbers of the elements of a variable of a called row; none where there is no such row
 abbrev pub child_numbers : Reached → Table → (caller call index : ℕ) → VariableId → List ℕ
 child_numbers r t j c i x = listed (λ k. row_numbers r t k x) (child_row t j c i)

@@ -1,4 +1,4 @@
--- How a flat program runs: a row of cells at each instant, from the memories and the inputs.
+-- The run of a flat program: a row of cells at each instant, from the memories and the inputs.
 -- Source: this project's rule.
 use Rattle.std.specs.Prelude.{ℕ, ◌<◌, Bool, true, false, ◌&&◌, Some, None, List, [], ◌∷◌, ◌++◌, map}
 use Rattle.std.specs.Prelude.{get_or, set, replicate, slice_get}
@@ -12,7 +12,7 @@ use Rattle.lb_flat.specs.Flat.{FlatEquation}
 
 -- ## One instant
 
--- what every element holds at one instant
+-- the cells of all elements at one instant
 abbrev pub Row : Type 0
 Row = List Cell
 
@@ -30,7 +30,7 @@ abbrev pub chosen_cell : Cell → Cell → Cell → Cell
 chosen_cell (Some c) (Some v) (Some w) = Some (chosen c v w)
 chosen_cell c x y = None
 
--- what an operation gives at an instant
+-- the cell that an operation gives at an instant
 abbrev pub now : List Scalar → Row → FlatClock → Operation → Cell
 now given row k (Input j) = slice_get given j
 now given row k (Constant v) = held v (is_now row k)
@@ -44,7 +44,7 @@ now given row k (Previous v a) = held v (is_now row k)
 now given row k (Latest v a) = held (newest v (cell row a)) (is_now row k)
 now given row k (Sample a) = sample (is_now row k) (cell row a)
 
--- an instant fills a row, equation by equation
+-- a row after the equations of an instant, which fill it one by one
 abbrev pub filled : List Scalar → Row → List FlatEquation → Row
 filled given row [] = row
 filled given row (q ∷ qs) =
@@ -58,7 +58,7 @@ started_by true x = true
 started_by false None = false
 started_by false (Some v) = true
 
--- an operation with what its memory holds then, and an equation with it
+-- an operation with the content of its memory after an instant; `advanced` does this to an equation
 abbrev pub remembered : Row → Operation → Operation
 remembered row (Input j) = Input j
 remembered row (Constant v) = Constant v
@@ -93,7 +93,7 @@ reads (Previous v a) = []
 reads (Latest v a) = a ∷ []
 reads (Sample a) = a ∷ []
 
--- both together
+-- the elements that an equation reads, by its operation and by its clock
 abbrev pub equation_reads : FlatEquation → List ℕ
 equation_reads q = reads q.operation ++ clock_reads q.clock
 
@@ -102,14 +102,14 @@ abbrev pub keeps : Operation → List ℕ
 keeps (Previous v a) = a ∷ []
 keeps o = []
 
--- an equation can be computed where these are done, in a program of so many elements
+-- an equation can be computed where the elements `done` are done, in a program of `size` elements
 pub record IsNext (size : ℕ) (done : List ℕ) (q : FlatEquation) : Type 0 where
   pub reads_done : Every (λ i. In i done) (equation_reads q)
   pub keeps_element : Every (λ i. i < size) (keeps q.operation)
   pub is_element : q.element < size
   pub is_new : In q.element done → ⊥
 
--- in order: each equation reads what is done before it and gives an element that was not, and at
+-- equations in order: each reads only elements that are done before it and gives a new one, and at
 -- the end all elements are done
 abbrev pub Ready : ℕ → List ℕ → List FlatEquation → Type 0
 Ready size done [] = (i : ℕ) → i < size → In i done
@@ -117,18 +117,18 @@ Ready size done (q ∷ qs) = IsNext size done q × Ready size (q.element ∷ don
 
 -- ## All instants
 
--- the row of an instant, from one of no cells
+-- the row of an instant, filled from a row in which all elements are absent
 abbrev pub row_of : ℕ → List FlatEquation → List Scalar → Row
 row_of size Q given = filled given (replicate size None) Q
 
--- the rows of all instants, each from the memories that the ones before it left
+-- the rows of all instants, each from the memories after the instants before it
 abbrev pub run : ℕ → List FlatEquation → Inputs → List Row
 run size Q [] = []
 run size Q (given ∷ X) =
     let row = row_of size Q given in
     row ∷ run size (map (advanced row) Q) X
 
--- the streams of so many elements, from their rows
+-- the streams of `size` elements, from their rows
 abbrev pub streams_of : ℕ → List Row → List Stream
 streams_of size [] = replicate size []
 streams_of size (row ∷ rows) = zip2 (λ x xs. x ∷ xs) row (streams_of size rows)

@@ -28,7 +28,7 @@ use Rattle.lb_flat.specs.declared.equation.ClockId.{ClockId}
 use Rattle.lb_flat.specs.declared.equation.ElementId.{ElementId}
 use Rattle.lb_flat.specs.declared.layout.Layout.{Layout}
 
--- ## What it is filled from
+-- ## Sources of the table
 
 pub record Sources : Type 0 where
   pub reached : Reached
@@ -46,27 +46,26 @@ sources_of c l = record {
   starts = l.starts.items;
 }
 
--- rows one after another, the first of which has this number, each of which adds a piece to a list
+-- a list to which rows add a piece each, one after another; the first row has number `n`
 abbrev pub added_after :
     {A B : Type 0} → (ℕ → A → List B → List B) → ℕ → List B → List A → List B
 added_after piece n before [] = before
 added_after piece n before (i ∷ rows) =
     added_after piece (suc n) (before ++ piece n i before) rows
 
--- ## What is read of a row
+-- ## Reads of a row
 
--- the number of a variable among those of all rows; one that is further on than there are counts as
--- the 65,537th
+-- the number of variable `x` of row `j` among the variables of all rows; 65,536 where it is greater
 abbrev pub variable_number : List ℕ → (row variable : ℕ) → ℕ
 variable_number variables j x = min (get_or variables j 0 + x) 65536
 
--- the place of a clock of a row, where rows run on these
+-- the place of a clock of row `j`, where `runs` holds the clock on which each row runs
 abbrev pub clock_id : List ℕ → List (Option ClockId) → ℕ → Clock → Option ClockId
 clock_id variables runs j Base = get_or runs j None
 clock_id variables runs j (On x sign) =
     Some (record { 0 = 2 * variable_number variables j x.0 + sign_place sign })
 
--- what is found of a call of a row
+-- the `CallClock` that is found for call `c` of row `j`
 abbrev pub found_call : Table → List NodeClocks → (row call : ℕ) → Option CallClock
 found_call t found j c =
     slice_get t.instances.items j >>= λ i.
@@ -79,9 +78,9 @@ node_at r t i =
     slice_get t.specializations.items i.specialization.0 >>= λ s.
     slice_get r.nodes.items s.node.0
 
--- ## On which clock rows run
+-- ## Clocks on which rows run
 
--- a row, where those before it run on these
+-- the clock on which a row runs, where `before` holds those of the rows before it
 abbrev pub row_runs : Sources → List (Option ClockId) → Origin → Option ClockId
 row_runs from before (origin.Called caller call index) =
     either_or
@@ -92,13 +91,13 @@ row_runs from before _ = None
 abbrev pub table_runs : Sources → List row.Instance → List (Option ClockId)
 table_runs from rows = added_after (λ j i before. row_runs from before i.origin ∷ []) 0 [] rows
 
--- ## What serves for variables in clocks
+-- ## Elements that serve for variables in clocks
 
--- the variable of the caller that is given for one of the callee
+-- the variable of the caller that is given for variable `x` of the callee
 abbrev pub given_for : List GivenVariable → ℕ → Option VariableId
 given_for gs x = option_map (λ g. g.caller) (find (λ g. nat_eq g.callee.0 x) gs)
 
--- the number, among all variables, of that of its caller that stands for a variable of a row
+-- the number, among all variables, of the caller's variable that is given for variable `x` of a row
 abbrev pub caller_number : Sources → Origin → ℕ → Option ℕ
 caller_number from (origin.Called caller call index) x =
     found_call from.table from.found caller.0 call.0 >>= λ c.
@@ -112,7 +111,7 @@ no_element = record { 0 = 0 }
 abbrev pub own_element : (variables starts : List ℕ) → (row variable : ℕ) → ElementId
 own_element variables starts j x = record { 0 = get_or (numbers_at variables starts j x) 0 0 }
 
--- the element that serves for a variable of a row, where these serve for the variables before it
+-- the element that serves for variable `x` of row `j`; `before` holds those of the rows before it
 abbrev pub serving_element : Sources → List ElementId → ℕ → Origin → ℕ → ElementId
 serving_element from before j o x =
     either_or (option_map (λ n. get_or before n no_element) (caller_number from o x))
@@ -127,7 +126,8 @@ table_serving from rows = added_after (λ j i before. row_serving from j i.origi
 
 -- ## The table
 
--- the clocks of a variable of a row, where rows run on these and these serve for variables
+-- the two clocks of a variable of a row, where `runs` holds the clocks of rows, and `serving` the
+-- elements that serve for variables
 abbrev pub signed_clock : Option ClockId → ElementId → Bool → table.Clock
 signed_clock parent element sign =
     record { parent = parent; element = element; sign = sign }
@@ -165,7 +165,8 @@ abbrev pub clocks_among :
 clocks_among from runs serving rows =
     table_clocks from.reached from.table from.variables runs serving rows
 
--- the clocks of all rows, and those on which they run
+-- the clocks on which all rows run, the elements that serve for their variables, and the clocks of
+-- their variables
 abbrev pub all_runs : Sources → List (Option ClockId)
 all_runs from = table_runs from from.table.instances.items
 
@@ -177,8 +178,8 @@ all_clocks from = clocks_among from (all_runs from) (all_serving from) from.tabl
 
 -- ## Layouts
 
--- a layout holds where the elements of the variables of the rows of a table stand, all before the
--- 65,536th
+-- a layout holds the places of the elements of the variables of a table's rows, of which there are
+-- at most 65,536
 pub record IsLayoutOf (r : Reached) (t : Table) (l : Layout) : Type 0 where
   pub numbers :
       (j x : ℕ) →

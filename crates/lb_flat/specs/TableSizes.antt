@@ -14,19 +14,21 @@ use Rattle.lb_check.specs.TypeRules.{expression_size}
 use Rattle.lb_check.specs.declared.found_types.NodeTypes.{NodeTypes}
 use Rattle.lb_check.specs.declared.found_types.TermType.{TermType}
 
--- the elements of the expressions of all rows, where those of each specialization have so many
+-- how many elements the expressions of all rows have, where `size` gives this for each
+-- specialization
 abbrev pub term_total : Table → (ℕ → ℕ) → ℕ
 term_total t size = sum_by (λ (i : row.Instance). size i.specialization.0) t.instances.items
 
--- the sizes of specializations are those of the expressions of their instances, as far as 65,537
+-- `size` gives, for each specialization, how many elements the expressions of its instances have,
+-- and at most 65,537
 abbrev pub HasTermSizes : Program → Reached → Table → (ℕ → ℕ) → Type 0
 HasTermSizes P r t size =
     (i : ℕ) (s : Specialization) → slice_get t.specializations.items i ≡ Some s →
     (p : Path) (here : Instance) → specialized_at r p s ≡ Some here →
     size i ≡ min (sum_by (expression_size P here) (node_parts here.node)) 65537
 
--- the size that is found of the specialization with a number, as far as 65,537: this too where
--- nothing is found of it
+-- the size that is found of specialization `i`, at most 65,537; 65,537 also where nothing is found
+-- of it
 abbrev pub lent_size : Option (Vec NodeTypes Global) → ℕ → ℕ
 lent_size types i =
     either_or (option_map

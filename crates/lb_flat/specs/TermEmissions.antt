@@ -1,4 +1,4 @@
--- What the state of the code that expands resolved terms stands for.
+-- The meaning of the state of the code that expands resolved terms.
 -- This file says what data of the program mean; no definition of the language stands on it.
 use Rattle.std.specs.Prelude.{ℕ, List, [], ◌∷◌, ◌++◌, take, drop}
 use Rattle.std.specs.List.{slice_range}
@@ -9,7 +9,7 @@ use Rattle.lb_flat.specs.Flat as flat
 use Rattle.lb_flat.specs.Flat.{FlatClock}
 use Rattle.lb_flat.specs.Programs.{numbers_of, flat_equations}
 
--- what was emitted so far, under the table of clocks
+-- the state of emission that `e` stands for, under its table of clocks
 abbrev pub state_of : TermEmission → State
 state_of e = record {
   equations = flat_equations e.clocks.items e.equations.items;
@@ -19,64 +19,64 @@ state_of e = record {
   asserted = numbers_of e.asserted.items;
 }
 
--- the same with the elements on the stack
+-- the state of `e`, with the elements on its stack as the result
 abbrev pub emitted_of : TermEmission → Emitted
 emitted_of e = record { state = state_of e; found = numbers_of e.found.items }
 
--- the same with one element
+-- the state of `e`, with the element `a` as the result
 abbrev pub held : TermEmission → ElementId → Emitted
 held e a = record { state = state_of e; found = a.0 ∷ [] }
 
 -- ## A stack of elements
 
--- with these elements below its own
+-- an emission with the elements `below` below its own
 abbrev pub onto : List ℕ → Emitted → Emitted
 onto below x = record { state = x.state; found = below ++ x.found }
 
--- without so many elements below
+-- an emission without its first `from` elements
 abbrev pub above : ℕ → Emitted → Emitted
 above from x = record { state = x.state; found = drop from x.found }
 
--- without those between two places
+-- an emission without its elements from place `from` on, before place `to`
 abbrev pub without : ℕ → ℕ → Emitted → Emitted
 without from to x = record { state = x.state; found = take from x.found ++ drop to x.found }
 
--- a word on the elements from one on, which leaves those below it
+-- `f` on the elements from place `from` on; those below stay as they are
 abbrev pub on_top : ℕ → (Emitted → Emitted) → Emitted → Emitted
 on_top from f x = onto (take from x.found) (f (above from x))
 
--- one on those from one place on and those from another on
+-- `f` on the elements from place `from` to `middle`, and those from `middle` on
 abbrev pub on_two : ℕ → ℕ → (List ℕ → Emitted → Emitted) → Emitted → Emitted
 on_two from middle f x =
     onto (take from x.found) (f (slice_range x.found from middle) (above middle x))
 
--- one on those from each of three places on
+-- `f` on the elements from place `from` to `second`, from `second` to `third`, and from `third` on
 abbrev pub on_three :
     ℕ → ℕ → ℕ → (List ℕ → List ℕ → Emitted → Emitted) → Emitted → Emitted
 on_three from second third f x =
     onto (take from x.found)
     (f (slice_range x.found from second) (slice_range x.found second third) (above third x))
 
--- memories keep these
+-- an emission with `is` added to the operands that memories keep
 abbrev pub with_kept : Emitted → List ℕ → Emitted
 with_kept x is = record {
   state = record x.state { memory_operands = x.state.memory_operands ++ is };
   found = x.found;
 }
 
--- memories keep those from one on
+-- an emission whose elements from place `from` on are kept by memories
 abbrev pub kept : ℕ → Emitted → Emitted
 kept from x = with_kept x (drop from x.found)
 
--- these are assertions
+-- the state with `is` added to the assertions
 abbrev pub with_asserted : State → List ℕ → State
 with_asserted s is = record s { asserted = s.asserted ++ is }
 
--- one element more, which this operation gives
+-- an emission with one more element, which operation `o` gives
 abbrev pub pushed : FlatClock → flat.Operation → Emitted → Emitted
 pushed k o x =
     record { state = push k x.state o; found = x.found ++ x.state.next ∷ [] }
 
--- one for each of these
+-- an emission with one more element for each operation of `os`
 abbrev pub added : FlatClock → List flat.Operation → Emitted → Emitted
 added k os x = onto x.found (add k x.state os)

@@ -1,4 +1,4 @@
--- What the scalars, clocks and equations of the code stand for.
+-- The meaning of the scalars, clocks and equations of the code.
 -- Source: this project's rule.
 use Rattle.std.specs.Prelude.{ℕ, zero, suc, Option, Some, None, List, length, slice_get}
 use Rattle.lb_check.specs.Scalars as scalars
@@ -15,14 +15,14 @@ use Rattle.lb_flat.specs.declared.equation.Operation.TheVariants.{Previous, Late
 use Rattle.lb_flat.specs.declared.equation.Equation.{Equation}
 use Rattle.lb_flat.specs.Flat as flat
 
--- a scalar
+-- the meaning of a scalar of the code
 abbrev pub scalar_of : Scalar → scalars.Scalar
 scalar_of (Integer z) = scalars.Integer z
 scalar_of (Boolean b) = scalars.Boolean b
 scalar_of Nil = scalars.Nil
 scalar_of Bad = scalars.Bad
 
--- a cell
+-- the meaning of a cell of the code
 abbrev pub cell_of : code.Cell → scalars.Cell
 cell_of cells.Absent = None
 cell_of cells.Nil = Some scalars.Nil
@@ -30,7 +30,7 @@ cell_of cells.Bad = Some scalars.Bad
 cell_of (cells.Integer z) = Some (scalars.Integer z)
 cell_of (cells.Boolean b) = Some (scalars.Boolean b)
 
--- a clock of the table, where the clock above it is known
+-- the meaning of a clock of the table, where `above` gives that of its parent
 abbrev pub clock_from : (Option ClockId → flat.FlatClock) → Option Clock → flat.FlatClock
 clock_from above None = flat.Always
 clock_from above (Some t) = flat.Where (above t.parent) t.element.0 t.sign
@@ -46,7 +46,7 @@ clock_within (suc n) clocks (Some i) =
 abbrev pub clock_of : List Clock → Option ClockId → flat.FlatClock
 clock_of clocks k = clock_within (length clocks) clocks k
 
--- an operation, with what its memory holds
+-- the meaning of an operation, with the content of its memory
 abbrev pub operation_of : Operation → flat.Operation
 operation_of (Input j) = flat.Input j.0
 operation_of (Constant v) = flat.Constant (scalar_of v)
@@ -59,7 +59,7 @@ operation_of (Previous v a) = flat.Previous (scalar_of v) a.0
 operation_of (Latest v a) = flat.Latest (scalar_of v) a.0
 operation_of (Sample a) = flat.Sample a.0
 
--- an equation, under the table of its clocks
+-- the meaning of an equation, under the table of its clocks
 abbrev pub equation_of : List Clock → Equation → flat.FlatEquation
 equation_of clocks q = record {
   element = q.element.0;

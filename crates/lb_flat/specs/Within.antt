@@ -1,4 +1,4 @@
--- What indexes of the code are in range.
+-- Conditions under which indexes of the code are in range.
 -- Source: this project's rule.
 use Rattle.std.specs.Prelude.{ℕ, ◌<◌, Option, List, length, All}
 use Rattle.std.specs.Option.{ForSome}
@@ -12,16 +12,17 @@ use Rattle.lb_flat.specs.Values.{operation_of}
 abbrev pub IsClock : List Clock → Option ClockId → Type 0
 IsClock clocks k = ForSome k (λ i. i.0 < length clocks)
 
--- a clock waits for one of so many elements, on a clock of the table
+-- a clock waits for one of `size` elements, and its parent is a clock of the table or the base
+-- clock
 pub record IsTableClock (size : ℕ) (clocks : List Clock) (t : Clock) : Type 0 where
   pub element : t.element.0 < size
   pub parent : IsClock clocks t.parent
 
--- each clock of a table
+-- each clock of a table waits for one of `size` elements, with its parent in the table
 abbrev pub AreClocks : ℕ → List Clock → Type 0
 AreClocks size clocks = All (IsTableClock size clocks) clocks
 
--- an equation gives one of so many elements, from others of them, on a clock of the table
+-- an equation gives one of `size` elements, from others of them, on a clock of the table
 pub record IsWithin (size : ℕ) (clocks : List Clock) (q : Equation) : Type 0 where
   pub element : q.element.0 < size
   pub clock : IsClock clocks q.clock

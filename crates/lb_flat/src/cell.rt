@@ -1,9 +1,9 @@
 //! Cells and the tables of the data operators.
 //!
-//! Arithmetic is exact: where a result is out of the range of `int`, or there is no quotient, it is
-//! the value of a fault. An operator with a faulty operand gives that value too, and else with a
-//! nil operand nil; `if` takes the chosen branch alone. Where an operand is absent, so is the
-//! result.
+//! Arithmetic is exact: a result out of the range of `int`, or a quotient that does not exist, is
+//! the value of a fault. An operator with a faulty operand gives that value too; otherwise, with a
+//! nil operand, it gives nil. `if` takes the chosen branch alone. Where an operand is absent, so is
+//! the result.
 
 ghost use Rattle.std.specs.Prelude.{◌≡◌, Some, IfSome, IfNone};
 ghost use Rattle.lb_check.specs.Scalars.{Boolean, Bad, two_integers, two_booleans, two_scalars};
@@ -16,7 +16,7 @@ use crate::scalar::Scalar;
 use lb_static::{arithmetic, negated};
 use lb_syntax::{BinaryOperator, UnaryOperator};
 
-/// What an element holds at an instant: nothing, or a scalar.
+/// The content of an element at an instant: nothing, or a scalar.
 #[derive(Clone, Copy, PartialEq, Eq)]
 pub enum Cell {
     /// Nothing: the element is absent.
@@ -73,7 +73,7 @@ fn two_integers(op: BinaryOperator, a: i32, b: i32) -> Cell
     }
 }
 
-/// What an operator gives on two Booleans; none where it is not one on Booleans.
+/// The result of an operator on two Booleans; none where it is not one on Booleans.
 pub(crate) fn two_booleans(op: BinaryOperator, a: bool, b: bool) -> Option<bool>
     ensures truth { IfSome result (λ c. two_booleans op a b ≡ Boolean c) }
     ensures none { IfNone result (two_booleans op a b ≡ Bad) }

@@ -1,13 +1,13 @@
-//! Which row of the table of instances is what a row calls.
+//! The rows of the table of instances, by the calls that reach them.
 
 use lb_static::{CallId, InstanceId, Origin, Table};
 use std::alloc::{AllocError, Global};
 use std::collections::HashMap;
 
-/// The rows of a table by what calls them.
+/// The rows of a table, by the calls that reach them.
 #[derive(Drop)]
 pub(crate) struct Children {
-    /// The row of each call: the row that calls, the number of the call and the index.
+    /// The row of each call: a call is the row that calls, the number of the call and the index.
     rows: HashMap<(u32, usize, u32), u32>,
 }
 
@@ -15,7 +15,7 @@ impl Children {
     ghost use Rattle.std.specs.Prelude.{◌≡◌, ◌<◌, ◌^◌, ℕ, length, option_map, IfOk};
     ghost use Rattle.lb_flat.specs.Rows.{called_row, child_row};
 
-    /// The rows of a table by what calls them.
+    /// The rows of a table, by the calls that reach them.
     pub(crate) fn new(alloc: Global, table: &Table) -> Result<Children, AllocError>
         requires few { length table.now.instances.items < 2 ^ 32 }
         ensures { IfOk result (λ c. (caller call index : ℕ) →

@@ -7,8 +7,8 @@
 //! row 0: c, y when c     0: c is false, 1: c is true, 2: on 1, y is false, 3: on 1, y is true
 //! ```
 //!
-//! Where a call gives a variable of its caller for a variable that clocks of the callee wait for,
-//! the first element of the caller's serves for it.
+//! A call may give a variable of the caller for a variable that clocks of the callee wait for. Then
+//! the first element of the caller's variable serves for it.
 
 ghost use Rattle.std.specs.Prelude.{◌≡◌, ◌++◌, ◌∷◌, [], ◌<◌, ◌+◌, ◌*◌, ◌^◌, min, map};
 ghost use Rattle.std.specs.Prelude.{option_map, length, get_or, flat_map, take, IfOk, OnOk};
@@ -43,7 +43,7 @@ fn variable_number(layout: &Layout, row: InstanceId, x: usize) -> usize
     number.min(MOST)
 }
 
-/// The place of a clock of a row, where rows run on these.
+/// The place of a clock of a row, where `runs` holds the clock on which each row runs.
 fn clock_id(
     layout: &Layout,
     runs: &[Option<ClockId>],
@@ -61,7 +61,7 @@ fn clock_id(
     }
 }
 
-/// What is found of a call of a row.
+/// The `CallClock` that is found for a call of a row.
 fn found_call<'a>(checked: &'a Checked, row: InstanceId, call: CallId) -> Option<&'a CallClock>
     ensures { option_map (λ found. found.now) result
         ≡ mirror.found_call checked.now.elab.table checked.now.clocks.items row.0 call.0 }
@@ -85,7 +85,7 @@ pub(crate) fn node_at<'a, 's>(
     reached.nodes.get(specialization.node.0)
 }
 
-/// The clock on which a row runs, where those before it run on these.
+/// The clock on which a row runs, where `before` holds those of the rows before it.
 fn row_runs(
     checked: &Checked,
     layout: &Layout,
@@ -121,7 +121,7 @@ fn table_runs(
     Ok(runs)
 }
 
-/// The variable of the caller that is given for one of the callee.
+/// The variable of the caller that is given for variable `x` of the callee.
 fn given_for(given: &[GivenVariable], x: usize) -> Option<VariableId>
     ensures { result ≡ mirror.given_for given.now x }
 {
@@ -133,7 +133,7 @@ fn given_for(given: &[GivenVariable], x: usize) -> Option<VariableId>
     None
 }
 
-/// The number, among all variables, of that of its caller which stands for a variable of a row.
+/// The number, among all variables, of the caller's variable that is given for variable `x`.
 fn caller_number(checked: &Checked, layout: &Layout, origin: Origin, x: usize) -> Option<usize>
     ensures { result ≡ mirror.caller_number (sources_of checked.now layout.now) origin x }
 {
@@ -165,7 +165,7 @@ fn element_at(elements: &[ElementId], place: usize) -> ElementId
     elements.get(place).copied().unwrap_or(ElementId(0))
 }
 
-/// The first so many elements.
+/// The first `count` elements, or all where there are fewer.
 fn first_elements(elements: &[ElementId], count: usize) -> &[ElementId]
     ensures { result.now ≡ take count elements.now }
 {
@@ -176,7 +176,7 @@ fn first_elements(elements: &[ElementId], count: usize) -> &[ElementId]
     }
 }
 
-/// The element that serves for a variable of a row, where these serve for the variables before it.
+/// The element that serves for variable `x` of a row; `before` holds those of the rows before it.
 fn serving_element(
     checked: &Checked,
     layout: &Layout,
@@ -240,7 +240,8 @@ fn table_serving(
     Ok(serving)
 }
 
-/// Adds the clocks of the instants of a clock at which an element is false, and true.
+/// Adds two clocks: the instants of `parent` at which `element` is false, and those where it is
+/// true.
 fn push_signs(
     clocks: &mut Vec<Clock>,
     parent: Option<ClockId>,
@@ -282,7 +283,7 @@ fn push_clocks(
     Ok(())
 }
 
-/// Adds the clocks of the variables of a row, if it is of a node.
+/// Adds the clocks of the variables of a row, if it has a node.
 #[tactic(auto, using(lb_syntax::proofs::ListPlaces::nothing_added))]
 fn push_row(
     clocks: &mut Vec<Clock>,
@@ -302,8 +303,8 @@ fn push_row(
     }
 }
 
-/// The clocks of the variables of the rows of a table, where rows run on these and these elements
-/// serve for variables.
+/// The clocks of the variables of the rows of a table, where `runs` holds the clocks on which rows
+/// run, and `serving` the elements that serve for variables.
 fn table_clocks(
     alloc: Global,
     reached: &Reached,

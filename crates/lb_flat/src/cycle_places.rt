@@ -1,7 +1,7 @@
-//! Where the elements of a cycle are defined.
+//! The places at which the elements of a cycle are defined.
 //!
-//! Nothing of it is kept while a program is put in order: it is read of the trees once an order is
-//! refused.
+//! No place is kept while a program is put in order: the places are read from the trees once an
+//! order is refused.
 
 ghost use Rattle.std.specs.Prelude.{◌≡◌, length, IfOk};
 ghost use Rattle.lb_flat.specs.Correct.{IsPlaced};
@@ -27,7 +27,7 @@ struct Definitions<'s> {
     equations: Vec<Option<u32>>,
 }
 
-/// What the places of elements are read of.
+/// The data from which the places of elements are read.
 #[derive(Clone, Copy)]
 struct Places<'a, 's> {
     reached: &'a Reached<'s>,
@@ -82,7 +82,7 @@ fn all_definitions<'s>(
     Ok(all)
 }
 
-/// How many elements an array of these sizes has, as far as there are numbers for it.
+/// How many elements an array of these sizes has, at most the greatest `u64`.
 fn product(sizes: &[StaticInt]) -> u64 {
     let mut product: u64 = 1;
     for size in sizes {
@@ -92,7 +92,7 @@ fn product(sizes: &[StaticInt]) -> u64 {
 }
 
 /// The name of an element of a variable, as users write it: `x`, or `a[2][0]` where the variable
-/// has sizes, of which the last is the outermost.
+/// has sizes; the last of `sizes` is the outermost.
 fn element_name(
     alloc: Global,
     variable: &str,
@@ -120,7 +120,7 @@ struct Defined<'a> {
 }
 
 impl<'a, 's> Places<'a, 's> {
-    /// The offset of the call by which a row is reached; 0 of the node under test and the observer.
+    /// The offset of the call that reaches a row; 0 for the node under test and the observer.
     fn call_offset(&self, origin: Origin) -> u32 {
         let Origin::Called { caller, call, .. } = origin else {
             return 0;
@@ -137,7 +137,7 @@ impl<'a, 's> Places<'a, 's> {
         }
     }
 
-    /// The variable at a place: an equation defines it, or as an input the call of its node.
+    /// The variable at a place; an equation defines it, or the call of its node if it is an input.
     fn defined(&self, at: ElementPlace) -> Option<Defined<'a>> {
         let row = self.table.instances.get(at.row)?;
         let specialization = self
@@ -162,7 +162,7 @@ impl<'a, 's> Places<'a, 's> {
         })
     }
 
-    /// The place of an element, whose row is reached by the way with a number.
+    /// The place of an element, whose row is reached by way number `instance`.
     fn place(
         &self,
         alloc: Global,
@@ -183,7 +183,7 @@ impl<'a, 's> Places<'a, 's> {
         })
     }
 
-    /// The number of the way to a row among those that are known, to which it is added.
+    /// The number of the way to a row among `instances`; adds the way if it is not known yet.
     fn instance(
         &self,
         alloc: Global,
@@ -253,9 +253,9 @@ fn placed_cycle(
     Ok(places.cycle(alloc, elements)?)
 }
 
-/// Why a program has no order, with the places of the elements of a cycle: `order` tells the
-/// elements alone. It reads the program of which `expand` made what `order` refused, and takes
-/// memory: where that runs out, this is what it answers.
+/// Why a program has no order, with the places of the elements of a cycle: `order` reports the
+/// elements alone. `checked` is the program that `expand` expanded and `order` refused. It takes
+/// memory; where that runs out, the answer is `OrderError::Memory`.
 ///
 /// ```text
 /// let ordered = match order(alloc, expand(alloc, &checked)?) {

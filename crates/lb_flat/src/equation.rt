@@ -24,8 +24,8 @@ pub struct ClockId(pub u32);
 #[derive(Clone, Copy)]
 pub struct InputId(pub u32);
 
-/// A clock: the instants of another one, or of the base clock where there is none, at which an
-/// element has this sign.
+/// A clock: the instants of its parent at which its element has its sign. The parent is another
+/// clock, or the base clock where there is none.
 #[derive(Clone, Copy)]
 pub struct Clock {
     pub parent: Option<ClockId>,
@@ -33,14 +33,14 @@ pub struct Clock {
     pub sign: bool,
 }
 
-/// How an element is had from others. What a memory holds is part of its operation.
+/// The operation that gives an element from others. The content of a memory is part of it.
 #[derive(Clone, Copy)]
 pub enum Operation {
     /// A scalar of the trace.
     Input(InputId),
     /// A literal or a constant.
     Constant(Scalar),
-    /// The same as another element.
+    /// A copy of another element.
     Copy(ElementId),
     /// `not a`, `- a`
     ApplyUnary(UnaryOperator, ElementId),
@@ -58,7 +58,7 @@ pub enum Operation {
     Sample(ElementId),
 }
 
-/// An element, the clock that it is on (none is the base clock), and how it is had.
+/// An element, the clock that it is on (none is the base clock), and the operation that gives it.
 #[derive(Clone, Copy)]
 pub struct Equation {
     pub element: ElementId,

@@ -13,10 +13,10 @@ use std::alloc::{AllocError, AllocFailed, Global};
 pub struct SizeFault {
     /// How many scalar elements its variables and expressions have together, in all instances.
     pub size: u64,
-    /// Whether there may be more: expressions whose elements alone are over the limit are not
-    /// counted.
+    /// Whether the true size may be greater: expressions whose elements alone are over the limit
+    /// are not counted.
     pub is_least: bool,
-    /// How many there may be at most.
+    /// The greatest size that is accepted.
     pub limit: u32,
 }
 
@@ -36,8 +36,8 @@ pub enum FlatError {
 pub struct CyclePlace {
     /// Its name, as users write it: `x`, or `a[2]` where the variable is an array.
     pub name: String,
-    /// The offset of the equation that defines its variable; of an input of a called node that of
-    /// the name of the node in the call.
+    /// The offset of the equation that defines its variable; for an input of a called node, the
+    /// offset of the name of the node in the call.
     pub offset: u32,
     /// The number of the instance in which it stands, among those of the cycle.
     pub instance: usize,

@@ -103,7 +103,7 @@ fn run<I: Instants>(
     Verdict::Passed
 }
 
-/// The verdict of a trace, in room that may hold anything before.
+/// The verdict of a trace, computed in `scratch`, which may hold anything before.
 pub fn evaluate<I: Instants>(prepared: &Prepared<'_>, scratch: &mut Scratch, trace: &I) -> Verdict
     requires { IsRoomFor prepared.now scratch.old }
     ensures room { IsRoomFor prepared.now scratch.new }

@@ -1,5 +1,5 @@
 //! One instant of a flat program: every step computes its cell from the cells before it, and after
-//! the instant the memories move on.
+//! the instant the memories are updated.
 
 ghost use Rattle.std.specs.Prelude.{◌≡◌, ◌<◌, ℕ, [], Some, length, map, All, IfSome};
 ghost use Rattle.lb_check.specs.Scalars.{Boolean};
@@ -48,7 +48,7 @@ fn is_now(clocks: &[Clock], row: &[Cell], clock: Option<ClockId>) -> bool
 
 // ## One instant
 
-// What an equation gives, where the cells that it reads are computed. The inputs are read before.
+// The cell that an equation gives, from the computed cells that it reads. Inputs are read before.
 fn now(clocks: &[Clock], row: &[Cell], q: &Equation) -> Cell
     requires table { AreClocks (length row.now) clocks.now }
     requires within { IsWithin (length row.now) clocks.now q.now }
@@ -70,7 +70,7 @@ fn now(clocks: &[Clock], row: &[Cell], q: &Equation) -> Cell
     }
 }
 
-// What an operator gives on Booleans, where it gives one.
+// The Boolean that an operator gives on Booleans; none where the operation is anything else.
 fn truth(row: &[Cell], operation: &Operation) -> Option<bool>
     requires operands { All (λ i. i < length row.now) (reads (operation_of operation.now)) }
     ensures { IfSome result (λ b. (clock : FlatClock) →
@@ -100,7 +100,7 @@ pub(crate) fn compute(row: &mut [Cell], clocks: &[Clock], steps: &[Equation])
     for i in 0..steps.len() {
         let q = &steps[i];
         let element = q.element.0 as usize;
-        // Most steps give a Boolean, which is written without what a cell else can hold.
+        // Most steps give a Boolean, which is written without the other forms of a cell.
         if let Some(b) = truth(row, &q.operation) {
             row[element] = Cell::Boolean(b);
         } else {
@@ -111,7 +111,7 @@ pub(crate) fn compute(row: &mut [Cell], clocks: &[Clock], steps: &[Equation])
 
 // ## Memories
 
-// Moves the memory of an operation on, after the instant of a row.
+// Updates the memory of an operation, after an instant with the row `row`.
 fn remember(row: &[Cell], operation: &mut Operation)
     requires operands { All (λ i. i < length row.now) (reads (operation_of operation.old)) }
     requires memory_operands { All (λ i. i < length row.now) (keeps (operation_of operation.old)) }
@@ -130,8 +130,8 @@ fn remember(row: &[Cell], operation: &mut Operation)
     }
 }
 
-/// Moves every memory on, after the row of an instant. The memories are those of the steps at
-/// these places.
+/// Updates every memory, after an instant with the row `row`. `memories` holds the places of the
+/// steps that have a memory.
 pub(crate) fn commit(steps: &mut [Equation], memories: &[usize], row: &[Cell], clocks: &[Clock])
     requires within { All (IsWithin (length row.now) clocks.now) steps.old }
     requires places { memories.now ≡ memory_places 0 (flat_equations clocks.now steps.old) }

@@ -1,4 +1,4 @@
-//! What the row of an instant decides.
+//! The verdict that the row of an instant decides.
 
 ghost use Rattle.std.specs.Prelude.{◌≡◌, ◌<◌, ◌≤◌, Some, length, map, All, if◌then◌else◌};
 ghost use Rattle.std.specs.List.{range_with_len};
@@ -43,7 +43,7 @@ fn is_false(x: Cell) -> bool
     }
 }
 
-// Whether one of the first elements holds a fault.
+// Whether one of the first `count` elements holds a fault.
 fn first_bad(row: &[Cell], count: u32) -> bool
     requires { count ≤ length row.now }
     ensures { result ≡ some_in is_bad (map cell_of row.now) (range_with_len 0 count) }
@@ -95,7 +95,7 @@ fn some_false(row: &[Cell], elements: &[ElementId]) -> bool
     false
 }
 
-// What instant `t` decides where no fault is told and nothing is nil that is wanted as a truth.
+// The verdict of instant `t` where there is no fault, and no nil where a truth is wanted.
 fn truth_verdict(is_assertion_false: bool, is_property_false: bool, t: u32) -> Verdict
     ensures { result ≡ if is_assertion_false then Assertion t
         else if is_property_false then False t else Passed }
@@ -109,10 +109,10 @@ fn truth_verdict(is_assertion_false: bool, is_property_false: bool, t: u32) -> V
     Verdict::Passed
 }
 
-/// What the row of instant `t` decides; `Passed` where it decides nothing.
+/// The verdict of the row of instant `t`; `Passed` where it decides nothing.
 ///
-/// A fault comes before nil where a truth is wanted, that before a failed assertion, and that
-/// before a false property.
+/// The first of these decides: fault, nil where a truth is wanted, failed assertion, false
+/// property.
 pub(crate) fn instant_verdict(program: &FlatProgram, row: &[Cell], t: u32) -> Verdict
     requires elements { length row.now ≡ program.now.size }
     requires in_range { IsInRange program.now }

@@ -1,4 +1,4 @@
-//! Where the scalar elements of the rows of the table of instances stand.
+//! The places of the scalar elements of the rows of the table of instances.
 //!
 //! The variables of all rows stand one after another, and so do their elements:
 //!
@@ -49,7 +49,7 @@ impl<T: Drop> From<AllocFailed<T>> for LayoutError {
     }
 }
 
-/// Where an element stands: its row, its variable among those of the row, and its place in it.
+/// The place of an element: its row, its variable among those of the row, and its index in that.
 #[derive(Clone, Copy)]
 pub(crate) struct ElementPlace {
     pub(crate) row: usize,
@@ -57,12 +57,12 @@ pub(crate) struct ElementPlace {
     pub(crate) index: u32,
 }
 
-/// Where the elements of the rows of a table stand.
+/// The places of the elements of the rows of a table.
 #[derive(Drop)]
 pub(crate) struct Layout {
     /// How many variables stand before each row; one more at the end: all variables.
     variables: Vec<usize>,
-    /// How many elements stand before each variable of all rows; one more at the end.
+    /// How many elements stand before each variable of all rows; one more at the end: all elements.
     starts: Vec<u32>,
     /// How many elements there are.
     pub(crate) count: u32,
@@ -76,7 +76,7 @@ pub(crate) fn width(statics: &[StaticInt], variable: &Variable) -> u32
     elements_of(sizes) as u32
 }
 
-/// Adds the starts of some variables behind so many elements; answers how many there are then.
+/// Adds the starts of some variables behind `last` elements; returns how many there are then.
 fn add_variables(
     starts: &mut Vec<u32>,
     last: u32,
@@ -129,7 +129,7 @@ impl Layout {
     ghost use Rattle.lb_flat.specs.Rows.{variables_before, element_total, row_numbers};
     ghost use Rattle.lb_flat.specs.Rows.{count_at, numbers_between, numbers_at};
 
-    /// Where the elements of the rows of a table stand.
+    /// The places of the elements of the rows of a table.
     ///
     /// Fails with `Large` where there are more than 65,536.
     pub(crate) fn new(
@@ -197,7 +197,7 @@ impl Layout {
         let end = self.starts.get(variable + 1).copied().unwrap_or(0);
         start..end
     }
-    /// Where an element stands.
+    /// The place of an element.
     pub(crate) fn place_of(&self, element: ElementId) -> ElementPlace {
         let starts = self.starts.partition_point(|start| *start <= element.0);
         let variable = starts.saturating_sub(1);

@@ -11,7 +11,6 @@ mod error;
 mod evaluate;
 mod expansion;
 mod flat;
-mod further_kinds;
 mod instant;
 mod instant_verdict;
 mod laws;
@@ -25,6 +24,7 @@ mod scalar;
 mod scheduling;
 mod scratch;
 mod table_size;
+mod temporary_kinds;
 mod trace_run;
 mod variable_kinds;
 

@@ -1,4 +1,4 @@
-//! What is known of a flat program before the instants of a trace, and what is left for each.
+//! The parts of a flat program that are known before all instants, and those left for each instant.
 //!
 //! A constant on the base clock holds the same cell at each instant, so its element is set once. An
 //! input is read. The other equations are steps, computed at each instant; few have a memory.
@@ -51,7 +51,7 @@ fn has_memory(operation: &Operation) -> bool
     }
 }
 
-/// Puts the equations of a program apart: the elements that hold inputs, the equations that are
+/// Splits the equations of a program: the elements that hold inputs, the equations that are
 /// computed at each instant, and the places of those that have a memory.
 pub(crate) fn put_apart(
     equations: &[Equation],

@@ -5,7 +5,7 @@ use lb_syntax::Kind;
 
 /// A program expanded into equations on scalar elements.
 ///
-/// The first elements are those of variables, instance by instance; the others hold what stands
+/// The first elements are those of variables, instance by instance; the others hold the values
 /// inside expressions.
 #[derive(Drop)]
 pub struct FlatProgram {

@@ -52,7 +52,7 @@ fn read_row(set: &TraceSet, kinds: &[Kind], k: u32, t: u32, inputs: &[InputPlace
     }
 }
 
-/// What each column holds.
+/// The kind of each column.
 pub(crate) fn kinds_of(alloc: Global, signature: &Signature) -> Result<Vec<Kind>, AllocError>
     ensures { IfOk result (λ kinds. kinds.items ≡ kinds_of signature.now) }
 {
@@ -63,7 +63,7 @@ pub(crate) fn kinds_of(alloc: Global, signature: &Signature) -> Result<Vec<Kind>
     Ok(kinds)
 }
 
-/// Recorded traces, and what each of their columns holds, looked up once for all of them.
+/// Recorded traces, and the kind of each of their columns, looked up once for all traces.
 #[derive(Drop)]
 pub struct Recorded<'a> {
     pub(crate) set: &'a TraceSet,
@@ -74,7 +74,7 @@ pub struct Recorded<'a> {
 impl<'a> Recorded<'a> {
     ghost use Rattle.lb_flat.specs.PreparedParts.{recording_in};
 
-    /// The traces of a set.
+    /// The traces of `set`, ready to be read.
     pub fn new(alloc: Global, set: &'a TraceSet) -> Result<Recorded<'a>, AllocError>
         ensures { IfOk result (λ r. recording_in r ≡ set.now) }
     {

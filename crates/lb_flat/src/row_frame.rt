@@ -1,4 +1,4 @@
-//! What the numbers in the text of a row's node stand for.
+//! The meaning of the numbers in the text of a row's node.
 
 ghost use Rattle.std.specs.Prelude.{◌≡◌, ◌<◌, ◌+◌, ◌^◌};
 ghost use Rattle.std.specs.Option.{ForSome};
@@ -58,7 +58,7 @@ fn value_at(statics: &[StaticInt], place: StaticId) -> Scalar
     }
 }
 
-/// The static value at a place as a size or an index; one that is none counts as 0.
+/// The static value at a place as a size or an index; 0 where it is none.
 fn size_at(statics: &[StaticInt], place: StaticId) -> u32
     ensures { result ≡ size_at statics.now place.0 }
 {
@@ -71,7 +71,7 @@ fn size_at(statics: &[StaticInt], place: StaticId) -> u32
     }
 }
 
-/// How often a call is iterated; one that is not iterated counts as 0.
+/// How often a call is iterated; 0 where it is not.
 fn times_at(node: &ResolvedNode, specialization: &Specialization, call: usize) -> u32
     ensures { result ≡ times_at node.now specialization.now call }
 {
@@ -99,8 +99,8 @@ fn parameters(node: &ResolvedNode) -> Option<Callee>
     })
 }
 
-/// The elements of a variable of a row, where they are among those that there are.
-#[tactic(auto, using(crate::proofs::HeldReads::held))]
+/// The elements of a variable of a row; none where they are not below the layout's count.
+#[tactic(auto, using(crate::proofs::frames::HeldReads::held))]
 fn elements_at(layout: &Layout, row: InstanceId, x: VariableId) -> Elements
     ensures places { elements_of result ≡ mirror.held_below layout.now.count
         (numbers_at layout.now.variables.items layout.now.starts.items row.0 x.0) }
@@ -170,7 +170,7 @@ impl<'a, 's> RowFrame<'a, 's> {
     }
 
     /// A clock of the table, or the base clock where there is none at this place.
-    #[tactic(auto, using(crate::proofs::HeldReads::past_clock))]
+    #[tactic(auto, using(crate::proofs::frames::HeldReads::past_clock))]
     fn held(&self, clock: Option<ClockId>) -> Option<ClockId>
         ensures clock { clock_of self.now.clocks.now.table.items result
             ≡ clock_of self.now.clocks.now.table.items clock }
@@ -191,7 +191,7 @@ impl<'a, 's> RowFrame<'a, 's> {
         self.clocks.of(self.layout, row, clock)
     }
 
-    /// The place of the clock of a variable of what is called.
+    /// The place of the clock of a variable of a called row.
     fn input_id(&self, call: usize, index: u32, variable: usize) -> Option<ClockId>
         ensures { result ≡ mirror.input_id (mirror.read_of self.now) call index variable }
     {

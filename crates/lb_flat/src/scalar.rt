@@ -1,6 +1,6 @@
 //! Scalars.
 
-/// What a scalar element holds where it is present.
+/// The value of a scalar element that is present.
 #[derive(Clone, Copy, PartialEq, Eq)]
 pub enum Scalar {
     /// An `int`.

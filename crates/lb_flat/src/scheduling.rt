@@ -2,7 +2,7 @@
 //!
 //! The equations go into a table by their elements. Then each element is scheduled whose reads are
 //! scheduled: first by a topological sort, and then in passes over all elements until one schedules
-//! none. The sort decides only how many passes there are: it leaves nothing to the first of them.
+//! none. The sort decides only how many passes there are: it leaves nothing for the first pass.
 
 ghost use Rattle.std.specs.Prelude.{IfErr, IfOk};
 ghost use Rattle.lb_static.specs.Instances.{Program};
@@ -43,8 +43,9 @@ fn ordered_equations(alloc: Global, program: &FlatProgram) -> Result<Vec<Equatio
 
 /// Puts the equations of a flat program in an order in which they can be computed.
 ///
-/// Fails with `Cycle` (E13) only where there is no such order: it names elements of variables of
-/// which each one needs the next at the same instant, and the last needs the first.
+/// Fails with `Cycle` (E13) only where there is no such order. The cycle names elements of
+/// variables, each of which needs the next one at the same instant, and the last of which needs the
+/// first.
 pub fn order(alloc: Global, flat: Flat) -> Result<Ordered, OrderError>
     ensures order { IfOk result (λ o. IsOrderOf (program_of flat.program) (program_of o.program)) }
     ensures stands { IfOk result (λ o.

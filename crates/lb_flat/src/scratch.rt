@@ -7,8 +7,8 @@ use crate::equation::Equation;
 use crate::prepared::Prepared;
 use std::alloc::{AllocError, Global};
 
-/// The steps with their memories, and the row of an instant. A worker makes it once; what it holds
-/// from one trace tells nothing of the next.
+/// The steps with their memories, and the row of an instant. A worker makes it once; its contents
+/// from one trace do not affect the next.
 #[derive(Drop)]
 pub struct Scratch {
     pub(crate) steps: Vec<Equation>,
@@ -29,7 +29,7 @@ impl Scratch {
         Ok(Scratch { steps, row })
     }
 
-    // Puts the memories and the row back to what they are before instant 0.
+    // Resets the memories and the row to their state before instant 0.
     pub(crate) fn restart(&mut self, prepared: &Prepared<'_>)
         requires { IsRoomFor prepared.now self.old }
         ensures steps { self.new.steps.items ≡ prepared.now.steps.items }

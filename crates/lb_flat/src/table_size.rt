@@ -15,12 +15,12 @@ use lb_static::{Instance, Reached, StaticInt, Table, Variable};
 /// The greatest size of a program.
 const MOST: u32 = 65536;
 
-/// The least size that a program may not have.
+/// The least size that is too large.
 const LEAST_TOO_LARGE: u64 = 65537;
 
 /// How many scalar elements the expressions of a row have together, or 65,537 for more than 65,536.
 ///
-/// Where nothing is found of their types the program is too large, and the answer is 65,537 too.
+/// Where no types are found for them, the program is too large, and the answer is 65,537 too.
 fn row_size(checked: &Checked, row: &Instance) -> u32
     ensures { result ≡ lent_size checked.now.types row.now.specialization.0 }
 {
@@ -30,7 +30,7 @@ fn row_size(checked: &Checked, row: &Instance) -> u32
     }
 }
 
-/// Whether a checked program is small enough, where its variables have so many elements.
+/// Whether a checked program is small enough, where its variables have `elements` elements.
 pub(crate) fn is_small(checked: &Checked, elements: u32) -> bool
     requires { elements ≡ element_total checked.now.elab.reached checked.now.elab.table }
     ensures { result ≡ rules.is_small (elaborated_program checked.now.elab) }
@@ -77,8 +77,8 @@ fn all_variables(reached: &Reached, table: &Table) -> u64
     count
 }
 
-/// How many scalar elements the expressions of all rows have, where something is found of the types
-/// of each.
+/// How many scalar elements the expressions of all rows have; none where types of a row are
+/// missing.
 fn all_expressions(checked: &Checked, table: &Table) -> Option<u64>
     ensures found { IfSome result (λ _.
         checked.now.types ≡ None → length table.now.instances.items ≡ 0) }

@@ -1,4 +1,4 @@
-//! What the scalar elements of variables hold, row by row of the table of instances.
+//! The kinds of the scalar elements of variables, row by row of the table of instances.
 
 ghost use Rattle.std.specs.Prelude.{◌≡◌, ◌++◌, flat_map, replicate, IfOk, OnOk};
 ghost use Rattle.lb_flat.specs.RowKinds.{declared_kinds, kinds_in, table_kinds};
@@ -8,8 +8,8 @@ use lb_static::{Instance, Reached, StaticInt, Table, Variable};
 use lb_syntax::Kind;
 use std::alloc::{AllocError, Global};
 
-/// Adds a kind so many times.
-#[tactic(auto, using(crate::proofs::RowKinds::copy_added))]
+/// Adds `kind` `count` times.
+#[tactic(auto, using(crate::proofs::numbering::RowKinds::copy_added))]
 fn push_kind(kinds: &mut Vec<Kind>, kind: Kind, count: u32) -> Result<(), AllocError>
     ensures { OnOk result (kinds.new.items ≡ kinds.old.items ++ replicate count kind) }
 {
@@ -20,7 +20,7 @@ fn push_kind(kinds: &mut Vec<Kind>, kind: Kind, count: u32) -> Result<(), AllocE
 }
 
 /// Adds the kinds of the elements of some variables under these static values.
-#[tactic(auto, using(crate::proofs::RowKinds::piece_added))]
+#[tactic(auto, using(crate::proofs::numbering::RowKinds::piece_added))]
 fn push_variables(
     kinds: &mut Vec<Kind>,
     statics: &[StaticInt],
@@ -55,7 +55,7 @@ fn push_row(
 }
 
 /// The kinds of the elements of all rows.
-#[tactic(auto, using(crate::proofs::RowKinds::piece_next))]
+#[tactic(auto, using(crate::proofs::numbering::RowKinds::piece_next))]
 pub(crate) fn variable_kinds(
     alloc: Global,
     reached: &Reached,

@@ -1,4 +1,4 @@
-//! What begins a flat program, and which of its elements are watched.
+//! The equations that begin a flat program, and the elements of it that are watched.
 
 ghost use Rattle.std.specs.Prelude.{◌≡◌, ◌<◌, ◌≤◌, true, false, get_or, All, OnOk, IfOk};
 ghost use Rattle.std.specs.Option.{ForSome};
@@ -39,8 +39,8 @@ fn watched(root: Option<Start>, observer: Option<Start>) -> Option<Start>
 }
 
 impl TermEmission {
-    /// The inputs of the node under test are those of the trace, and those of the observer copies
-    /// of what the node under test has.
+    /// Emits the inputs of the node under test as those of the trace, and the inputs of the
+    /// observer as copies of the inputs and outputs of the node under test.
     fn begin<F: TableFrame>(
         &mut self,
         frame: &mut F,
@@ -77,7 +77,7 @@ impl TermEmission {
         }
     }
 
-    /// The elements of the outputs of a row that starts come on the stack.
+    /// Pushes the elements of the outputs of a row that starts.
     fn put_start<F: TableFrame>(
         &mut self,
         frame: &mut F,
@@ -105,7 +105,7 @@ impl TermEmission {
         }
     }
 
-    /// The first output of a row that starts; the first element, where there is none.
+    /// The first element of the outputs of a row that starts; element 0 where there is none.
     fn property<F: TableFrame>(
         &mut self,
         frame: &mut F,
@@ -139,8 +139,8 @@ impl TermEmission {
 }
 
 impl Beginning {
-    /// What begins the flat program of a table of instances with these clocks and so many elements
-    /// of variables.
+    /// The beginning of the flat program of a table of instances, with these clocks and `variables`
+    /// elements of variables.
     pub(crate) fn new<F: TableFrame>(
         alloc: Global,
         frame: &mut F,

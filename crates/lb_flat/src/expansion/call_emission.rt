@@ -1,4 +1,4 @@
-//! What is emitted for a call: its inputs are copies of the operands, and its outputs are found.
+//! The emission of a call: its inputs are copies of the operands, and its outputs are pushed.
 
 ghost use Rattle.std.specs.Prelude.{◌≡◌, ◌<◌, ◌≤◌, ℕ, ◌+◌, ◌-◌, ◌*◌, ◌^◌, [], ◌∷◌, drop, flat_map};
 ghost use Rattle.std.specs.Prelude.{length, min, OnOk, IfOk};
@@ -19,8 +19,8 @@ use lb_syntax::ArrayIterator;
 use std::alloc::AllocError;
 
 impl TermEmission {
-    /// An element comes on the stack.
-    #[tactic(auto, using(crate::proofs::EmittedCalls::puts))]
+    /// Pushes an element on the stack.
+    #[tactic(auto, using(crate::proofs::emission::EmittedCalls::puts))]
     fn put_one(&mut self, element: ElementId) -> Result<(), AllocError>
         requires element { element.0 < self.old.next }
         ensures emitted { OnOk result (emitted_of self.new
@@ -33,7 +33,7 @@ impl TermEmission {
         Ok(())
     }
 
-    /// These elements come on the stack.
+    /// Pushes elements on the stack.
     pub(crate) fn put(&mut self, elements: Elements) -> Result<(), AllocError>
         requires elements { AreBefore self.old.next elements }
         ensures emitted { OnOk result (emitted_of self.new
@@ -48,8 +48,8 @@ impl TermEmission {
         Ok(())
     }
 
-    /// An element of a variable is a copy of this one.
-    #[tactic(auto, using(crate::proofs::EmittedCalls::copies))]
+    /// Emits an element of a variable as a copy of `operand`.
+    #[tactic(auto, using(crate::proofs::emission::EmittedCalls::copies))]
     fn copy_one(
         &mut self,
         element: ElementId,
@@ -74,8 +74,8 @@ impl TermEmission {
         Ok(())
     }
 
-    /// Elements of a variable are copies of those of the stack from one on; the place on the stack
-    /// after these.
+    /// Emits elements of a variable as copies of those of the stack from place `from` on; returns
+    /// the place after the copied ones.
     pub(crate) fn copy(
         &mut self,
         targets: Elements,
@@ -104,7 +104,7 @@ impl TermEmission {
         Ok(from + count)
     }
 
-    /// Elements of a variable are copies of other elements.
+    /// Emits the elements `targets` of a variable as copies of `elements`.
     fn copy_elements(
         &mut self,
         targets: Elements,
@@ -129,8 +129,8 @@ impl TermEmission {
         Ok(())
     }
 
-    /// The elements of an input of what a call calls at an index are copies of those of the stack
-    /// from one on; the place on the stack after these.
+    /// Emits an input of the instance that a call calls at an index as a copy of the elements of
+    /// the stack from place `from` on; returns the place after the copied ones.
     fn copy_child<F: Frame>(
         &mut self,
         frame: &F,
@@ -157,8 +157,8 @@ impl TermEmission {
         self.copy(targets, frame.input(call, index, variable), from)
     }
 
-    /// The inputs of what a call calls, of which there are so many, are copies of the elements from
-    /// one on.
+    /// Emits the `inputs` inputs of a called node as copies of the elements of the stack from place
+    /// `from` on.
     fn copy_inputs<F: Frame>(
         &mut self,
         frame: &F,
@@ -184,8 +184,8 @@ impl TermEmission {
         Ok(())
     }
 
-    /// Some inputs of the instance at an index, of so many, are copies of its parts of the elements
-    /// from one on.
+    /// Emits the inputs from `first` to before `inputs` of the instance at `index` as copies of its
+    /// parts of the elements of the stack from place `from` on.
     fn copy_parts<F: Frame>(
         &mut self,
         frame: &F,
@@ -219,8 +219,9 @@ impl TermEmission {
         Ok(())
     }
 
-    /// The accumulator of the instance at an index is a copy of the elements from one on, or of the
-    /// first output of the instance before.
+    /// Emits the accumulator of the instance at `index`: a copy of the elements of the stack from
+    /// place `from` on for the first instance, and of the first output of the instance before for
+    /// the others.
     fn copy_accumulator<F: Frame>(
         &mut self,
         frame: &F,
@@ -251,7 +252,7 @@ impl TermEmission {
         Ok(())
     }
 
-    /// What the instance at an index receives: of a `red` its accumulator, and then its parts.
+    /// Emits the inputs of the instance at `index`: for `red`, its accumulator and then its parts.
     fn copy_index<F: Frame>(
         &mut self,
         frame: &F,
@@ -284,7 +285,7 @@ impl TermEmission {
         }
     }
 
-    /// What all instances of an iterated node receive.
+    /// Emits the inputs of all instances of an iterated node.
     fn copy_all<F: Frame>(
         &mut self,
         frame: &F,
@@ -312,7 +313,7 @@ impl TermEmission {
         Ok(())
     }
 
-    /// A variable of all instances of a call comes on the stack.
+    /// Pushes the elements of a variable of all instances of a call.
     fn put_each<F: Frame>(
         &mut self,
         frame: &F,
@@ -334,7 +335,7 @@ impl TermEmission {
         Ok(())
     }
 
-    /// Some variables of all instances of a call come on the stack.
+    /// Pushes the elements of some variables of all instances of a call.
     fn put_gathered<F: Frame>(
         &mut self,
         frame: &F,
@@ -357,7 +358,7 @@ impl TermEmission {
         Ok(())
     }
 
-    /// What an iterated node gives comes on the stack.
+    /// Pushes the elements of the outputs of an iterated node.
     fn put_outputs<F: Frame>(
         &mut self,
         frame: &F,
@@ -387,7 +388,7 @@ impl TermEmission {
         }
     }
 
-    /// A call whose operands are the elements from one on.
+    /// Emits a call whose operands are the elements of the stack from place `from` on.
     pub(crate) fn call<F: Frame>(
         &mut self,
         frame: &F,
@@ -415,7 +416,7 @@ impl TermEmission {
         }
     }
 
-    /// An iterated node whose operands are the elements from one on.
+    /// Emits an iterated node whose operands are the elements of the stack from place `from` on.
     pub(crate) fn iterate<F: Frame>(
         &mut self,
         frame: &F,

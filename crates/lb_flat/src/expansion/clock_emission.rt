@@ -16,7 +16,7 @@ use lb_static::{Instance, Reached, Table, VariableId};
 use std::alloc::{AllocError, Global};
 
 impl TermEmission {
-    /// The elements of the variables that have a flag come on the stack.
+    /// Pushes the elements of the variables whose flag is set.
     fn put_flagged<F: Frame>(&mut self, frame: &F, flags: &[bool]) -> Result<(), AllocError>
         requires variables { F.variables frame.now ≤ self.old.next }
         ensures emitted { OnOk result (emitted_of self.new
@@ -33,7 +33,7 @@ impl TermEmission {
         Ok(())
     }
 
-    /// The elements of the variables of a row that serve as clocks come on the stack.
+    /// Pushes the elements of the variables of a row that serve as clocks.
     fn put_row_clocks<F: TableFrame>(
         &mut self,
         alloc: Global,
@@ -65,7 +65,7 @@ impl TermEmission {
         }
     }
 
-    /// Those of all rows.
+    /// Pushes the elements of the variables of all rows that serve as clocks.
     pub(crate) fn put_clocks<F: TableFrame>(
         &mut self,
         alloc: Global,

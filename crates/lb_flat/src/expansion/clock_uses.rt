@@ -43,7 +43,7 @@ fn push_term(names: &mut Vec<usize>, term: &Term) -> Result<(), AllocError>
     }
 }
 
-/// Adds those of some terms.
+/// Adds the variables that some `when` in a list of terms names.
 #[cycle(clock_uses)]
 fn push_terms(names: &mut Vec<usize>, terms: &[Term]) -> Result<(), AllocError>
     ensures { OnOk result (names.new.items ≡ names.old.items ++ mirror.whens_in_all terms.now) }
@@ -54,7 +54,7 @@ fn push_terms(names: &mut Vec<usize>, terms: &[Term]) -> Result<(), AllocError>
     Ok(())
 }
 
-/// Adds those of a statement.
+/// Adds the variables that some `when` in a statement names.
 fn push_statement(names: &mut Vec<usize>, statement: &ResolvedStatement) -> Result<(), AllocError>
     ensures { OnOk result (names.new.items
         ≡ names.old.items ++ mirror.statement_whens statement.now) }
@@ -79,8 +79,8 @@ fn push_declared(names: &mut Vec<usize>, variable: &Variable) -> Result<(), Allo
     }
 }
 
-/// Adds those of some variables.
-#[tactic(auto, using(crate::proofs::RowKinds::piece_added))]
+/// Adds the variables that the declared clocks of some variables wait for.
+#[tactic(auto, using(crate::proofs::numbering::RowKinds::piece_added))]
 fn push_variables(names: &mut Vec<usize>, variables: &[Variable]) -> Result<(), AllocError>
     ensures { OnOk result (names.new.items
         ≡ names.old.items ++ flat_map mirror.declared_when variables.now) }
@@ -91,8 +91,8 @@ fn push_variables(names: &mut Vec<usize>, variables: &[Variable]) -> Result<(), 
     Ok(())
 }
 
-/// Adds those of some statements.
-#[tactic(auto, using(crate::proofs::RowKinds::piece_added))]
+/// Adds the variables that some `when` in a list of statements names.
+#[tactic(auto, using(crate::proofs::numbering::RowKinds::piece_added))]
 fn push_statements(
     names: &mut Vec<usize>,
     statements: &[ResolvedStatement],
@@ -106,7 +106,7 @@ fn push_statements(
     Ok(())
 }
 
-/// All that a node names.
+/// The variables that a declared clock or a `when` of a node names.
 fn clocks_named(alloc: Global, node: &ResolvedNode) -> Result<Vec<usize>, AllocError>
     ensures { IfOk result (λ names. names.items ≡ mirror.clocks_named node.now) }
 {
@@ -116,8 +116,8 @@ fn clocks_named(alloc: Global, node: &ResolvedNode) -> Result<Vec<usize>, AllocE
     Ok(names)
 }
 
-/// Sets the flags of these variables, of none of which there is one yet.
-#[tactic(auto, using(crate::proofs::UsedClocks::marks))]
+/// Sets the flags of the variables `names`; no flag is set before.
+#[tactic(auto, using(crate::proofs::clock_tables::UsedClocks::marks))]
 fn mark(flags: &mut [bool], names: &[usize])
     requires { flags.old ≡ replicate (length flags.old) false }
     ensures { mirror.HasFlags (length flags.old) names.now flags.new }
@@ -130,7 +130,7 @@ fn mark(flags: &mut [bool], names: &[usize])
     }
 }
 
-/// Of each variable of a node, whether it serves as a clock.
+/// A flag for each variable of a node: whether it serves as a clock.
 pub(crate) fn clock_flags(alloc: Global, node: &ResolvedNode) -> Result<Vec<bool>, AllocError>
     ensures { IfOk result (λ flags. mirror.HasFlags (length node.now.variables.items)
         (mirror.clocks_named node.now) flags.items) }

@@ -1,4 +1,4 @@
-//! What is emitted for terms of each form and for statements.
+//! The emission of terms of each form and of statements.
 
 ghost use Rattle.std.specs.Prelude.{◌≡◌, ◌<◌, ◌≤◌, ◌+◌, ◌^◌, [], ◌∷◌, flat_map, length, drop, OnOk};
 ghost use Rattle.std.specs.Prelude.{IfOk};
@@ -32,7 +32,7 @@ fn literal(value: u32) -> Scalar
     }
 }
 
-/// The place of the term after one that has no parts, and of the first of its parts.
+/// The place after a term that has no parts; for a term with parts, the place of the first part.
 fn next_term(at: Cursor) -> Cursor
     requires { at.term + 1 < 2 ^ 64 }
     ensures { place_of result ≡ mirror.next_term (place_of at) }
@@ -43,7 +43,7 @@ fn next_term(at: Cursor) -> Cursor
     }
 }
 
-/// The place of the operands of a term in a row.
+/// The place of the row of operands of a term.
 fn row_place(at: Cursor, term: &Term) -> Cursor
     requires { HasPlaces (mirror.row_place (place_of at) term.now) }
     ensures { place_of result ≡ mirror.row_place (place_of at) term.now }
@@ -58,7 +58,7 @@ fn row_place(at: Cursor, term: &Term) -> Cursor
 }
 
 impl TermEmission {
-    /// A term at a place whose one operand has the elements from one on.
+    /// Emits a term whose one operand has the elements of the stack from place `from` on.
     fn with_one<F: Frame>(
         &mut self,
         frame: &F,
@@ -100,7 +100,7 @@ impl TermEmission {
         }
     }
 
-    /// A term whose two operands have the elements from one place on and from another on.
+    /// Emits a term whose two operands have the elements from place `from` on and from `middle` on.
     fn with_two<F: Frame>(
         &mut self,
         frame: &F,
@@ -133,7 +133,7 @@ impl TermEmission {
         }
     }
 
-    /// A term whose operands in a row have the elements from one on.
+    /// Emits a term whose row of operands has the elements of the stack from place `from` on.
     fn with_all<F: Frame>(
         &mut self,
         frame: &F,
@@ -165,7 +165,7 @@ impl TermEmission {
         }
     }
 
-    /// A term at a place; the place after it.
+    /// Emits a term at a place; returns the place after it.
     #[cycle(form_emission)]
     pub(crate) fn emit<F: Frame>(
         &mut self,
@@ -245,7 +245,7 @@ impl TermEmission {
         }
     }
 
-    /// Some terms, one after another; the place after them.
+    /// Emits terms one after another; returns the place after them.
     #[cycle(form_emission)]
     fn emit_all<F: Frame>(
         &mut self,
@@ -270,7 +270,7 @@ impl TermEmission {
         Ok(to)
     }
 
-    /// The elements of left variables are copies of those of the stack from one on.
+    /// Emits the elements of left variables as copies of those of the stack from place `from` on.
     fn copy_lefts<F: Frame>(
         &mut self,
         frame: &F,
@@ -295,8 +295,8 @@ impl TermEmission {
         Ok(())
     }
 
-    /// An element is an assertion.
-    #[tactic(auto, using(crate::proofs::EmittedChains::keeps))]
+    /// Adds an element to the assertions.
+    #[tactic(auto, using(crate::proofs::emission::EmittedChains::keeps))]
     fn assert_one(&mut self, element: ElementId) -> Result<(), AllocError>
         requires element { element.0 < self.old.next }
         ensures state { OnOk result (state_of self.new
@@ -309,7 +309,7 @@ impl TermEmission {
         Ok(())
     }
 
-    /// The elements of the stack from one on are assertions.
+    /// Adds the elements of the stack from place `from` on to the assertions.
     fn assert_from(&mut self, from: usize) -> Result<(), AllocError>
         requires from { from ≤ length self.old.found.items }
         ensures state { OnOk result (state_of self.new
@@ -325,7 +325,7 @@ impl TermEmission {
         Ok(())
     }
 
-    /// A statement at a place; the place after it.
+    /// Emits a statement at a place; returns the place after it.
     pub(crate) fn statement<F: Frame>(
         &mut self,
         frame: &F,

@@ -1,4 +1,4 @@
-//! What the numbers in the resolved terms of an instance stand for.
+//! The meaning of the numbers in the resolved terms of an instance.
 
 use crate::equation::ClockId;
 use crate::scalar::Scalar;
@@ -11,21 +11,21 @@ pub(crate) struct Elements {
     pub(crate) count: u32,
 }
 
-/// How many inputs and outputs a node has that is called.
+/// How many inputs and outputs a called node has.
 #[derive(Clone, Copy)]
 pub(crate) struct Callee {
     pub(crate) inputs: usize,
     pub(crate) outputs: usize,
 }
 
-/// How many terms and calls of a node stand before something in its text.
+/// A place in the text of a node: how many terms and calls stand before it.
 #[derive(Clone, Copy)]
 pub(crate) struct Cursor {
     pub(crate) term: usize,
     pub(crate) call: usize,
 }
 
-/// What the numbers of an instance stand for. A term and a call are counted in text order.
+/// The meaning of the numbers of an instance. Terms and calls are counted in text order.
 pub(crate) trait Frame {
     ghost use Rattle.std.specs.Prelude.{◌≡◌, ◌<◌, ◌+◌, ◌^◌, ℕ, List};
     ghost use Rattle.std.specs.Option.{ForSome};
@@ -41,7 +41,7 @@ pub(crate) trait Frame {
     /// How many elements are those of variables.
     ghost variables: { Self → ℕ };
 
-    /// What the numbers stand for.
+    /// The meaning of the numbers.
     ghost context: { Self → Context };
 
     /// The elements of a variable.
@@ -65,7 +65,7 @@ pub(crate) trait Frame {
     fn value(&self, value: StaticId) -> Scalar
         ensures { scalar_of result ≡ (context self.now).value value.0 };
 
-    /// A size or an index.
+    /// The value of a static expression as a size or an index.
     fn count(&self, size: StaticId) -> u32
         ensures { result ≡ (context self.now).count size.0 };
 
@@ -78,21 +78,21 @@ pub(crate) trait Frame {
     fn parts(&self, term: usize) -> u32
         ensures { result ≡ (context self.now).parts term };
 
-    /// What a call calls.
+    /// The node that a call calls.
     fn callee(&self, call: usize) -> Option<Callee>
         ensures callee { result ≡ (context self.now).callee call }
         ensures room { ForSome result (λ node. node.inputs + node.outputs + 1 < 2 ^ 64) };
 
-    /// How often.
+    /// How often a call is iterated.
     fn repeats(&self, call: usize) -> u32
         ensures { result ≡ (context self.now).repeats call };
 
-    /// The elements of a variable of the instance that it calls at an index.
+    /// The elements of a variable of the instance that a call calls at an index.
     fn child(&self, call: usize, index: u32, variable: usize) -> Elements
         ensures places { elements_of result ≡ (context self.now).child call index variable }
         ensures within { AreBefore (variables self.now) result };
 
-    /// The clock of an input of this instance.
+    /// The clock of an input of the instance that a call calls at an index.
     fn input(&self, call: usize, index: u32, variable: usize) -> Option<ClockId>
         ensures clock { clock_of (clocks self.now) result
             ≡ (context self.now).input call index variable }
@@ -107,7 +107,7 @@ pub(crate) trait TableFrame: Frame {
     /// Whether there is a row with a number.
     ghost is_row: { Self → ℕ → Bool };
 
-    /// What the numbers stand for in it.
+    /// The meaning of the numbers in the row with a number.
     ghost contexts: { Self → ℕ → Context };
 
     /// Goes to the row with a number.

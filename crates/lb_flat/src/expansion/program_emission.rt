@@ -1,4 +1,4 @@
-//! The flat program of what was emitted.
+//! The flat program that is put together from the emitted equations.
 
 ghost use Rattle.std.specs.Prelude.{◌≡◌, ◌<◌, ◌≤◌, IfOk, length, All};
 ghost use Rattle.lb_flat.specs.AssembledPrograms.{after_copies, assembled};
@@ -13,8 +13,8 @@ use lb_syntax::Kind;
 use std::alloc::AllocError;
 
 impl TermEmission {
-    /// The same, where these equations of elements of variables come before its own.
-    #[tactic(auto, using(crate::proofs::EmittedProgram::joined))]
+    /// This state, with the equations `before` before its own equations of elements of variables.
+    #[tactic(auto, using(crate::proofs::emission::EmittedProgram::joined))]
     pub(crate) fn after(self, before: Vec<Equation>) -> Result<TermEmission, AllocError>
         requires within { All (IsWithin self.next self.clocks.items) before.items }
         ensures state { IfOk result (λ e. state_of e ≡ after_copies
@@ -43,10 +43,10 @@ impl TermEmission {
         })
     }
 
-    /// The flat program of what was emitted, on inputs of these kinds: the kinds of its elements,
-    /// how many of them are those of variables, those that serve as clocks, and that of the
+    /// The flat program of this state, with the kinds of its inputs and of its elements, the number
+    /// of elements of variables, the elements that serve as clocks, and the element of the
     /// property.
-    #[tactic(auto, using(crate::proofs::EmittedProgram::joined))]
+    #[tactic(auto, using(crate::proofs::emission::EmittedProgram::joined))]
     pub(crate) fn into_program(
         self,
         inputs: Vec<Kind>,

@@ -1,4 +1,4 @@
-//! What is emitted for the rows of the table of instances, one row after another.
+//! The emission of the rows of the table of instances, one row after another.
 
 ghost use Rattle.std.specs.Prelude.{◌≡◌, ◌<◌, ◌≤◌, ◌^◌, length, OnOk};
 ghost use Rattle.lb_syntax.specs.Lists.{Every};
@@ -16,7 +16,7 @@ use lb_static::{Instance, Reached, ResolvedStatement, Table};
 use std::alloc::AllocError;
 
 impl TermEmission {
-    /// The statements of a node.
+    /// Emits the statements of a node.
     fn statements<F: Frame>(
         &mut self,
         frame: &F,
@@ -42,7 +42,7 @@ impl TermEmission {
         Ok(())
     }
 
-    /// The statements of the row with a number.
+    /// Emits the statements of row `number`.
     fn row<F: TableFrame>(
         &mut self,
         frame: &mut F,
@@ -78,7 +78,7 @@ impl TermEmission {
         }
     }
 
-    /// The statements of all rows.
+    /// Emits the statements of all rows.
     pub(crate) fn rows<F: TableFrame>(
         &mut self,
         frame: &mut F,

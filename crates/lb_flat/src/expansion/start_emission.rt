@@ -1,4 +1,4 @@
-//! What is emitted for the instances that start: the inputs of the node under test are those of the
+//! The emission of the instances that start: the inputs of the node under test are those of the
 //! trace, and the observer receives the inputs and outputs of the node under test.
 
 ghost use Rattle.std.specs.Prelude.{◌≡◌, ◌<◌, ◌≤◌, ◌+◌, ◌-◌, ◌^◌, [], ◌∷◌, drop, flat_map, length};
@@ -19,8 +19,8 @@ use lb_static::VariableId;
 use std::alloc::AllocError;
 
 impl TermEmission {
-    /// An element of a variable is a scalar of the trace.
-    #[tactic(auto, using(crate::proofs::EmittedCalls::copies))]
+    /// Emits an element of a variable as the scalar of the trace with number `input`.
+    #[tactic(auto, using(crate::proofs::emission::EmittedCalls::copies))]
     fn give_one(
         &mut self,
         element: ElementId,
@@ -44,7 +44,8 @@ impl TermEmission {
         Ok(())
     }
 
-    /// Elements of a variable are scalars of the trace, from this one on; the number of the next.
+    /// Emits elements of a variable as scalars of the trace from `input` on; returns the next
+    /// number.
     fn give(
         &mut self,
         targets: Elements,
@@ -68,7 +69,7 @@ impl TermEmission {
         Ok(input + targets.count)
     }
 
-    /// The elements of the first so many variables are the scalars of the trace.
+    /// Emits the elements of the first `inputs` variables as the scalars of the trace.
     pub(crate) fn given<F: Frame>(&mut self, frame: &F, inputs: usize) -> Result<(), AllocError>
         requires clocks { F.clocks frame.now ≡ self.old.clocks.items }
         requires variables { F.variables frame.now ≤ self.old.next }
@@ -87,7 +88,7 @@ impl TermEmission {
         Ok(())
     }
 
-    /// The elements of the first so many variables are copies of those of the stack from one on.
+    /// Emits the elements of the first `inputs` variables as copies of those from place `from` on.
     pub(crate) fn copy_parameters<F: Frame>(
         &mut self,
         frame: &F,
@@ -113,7 +114,7 @@ impl TermEmission {
         Ok(())
     }
 
-    /// The elements of some variables come on the stack.
+    /// Pushes the elements of the variables from `first` to before `end`.
     pub(crate) fn put_parameters<F: Frame>(
         &mut self,
         frame: &F,

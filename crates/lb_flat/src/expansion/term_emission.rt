@@ -1,4 +1,4 @@
-//! What is emitted for terms of all forms, and the words that emit it.
+//! The state of emission, and the functions that emit terms of all forms.
 
 ghost use Rattle.std.specs.Prelude.{◌≡◌, ◌<◌, ◌≤◌, All};
 ghost use Rattle.lb_flat.specs.Within.{IsWithin};
@@ -9,12 +9,12 @@ use crate::scalar::Scalar;
 use lb_syntax::{ArrayIterator, BinaryOperator, UnaryOperator};
 use std::alloc::{AllocError, Global};
 
-/// What was emitted so far, with a stack of the elements that were found.
+/// The state of emission, with a stack of the elements that hold results.
 #[derive(Drop)]
 pub(crate) struct TermEmission {
     /// The clocks of the program.
     pub(crate) clocks: Vec<Clock>,
-    /// The equations of further elements.
+    /// The equations of temporaries.
     pub(crate) equations: Vec<Equation>,
     /// The equations of elements of variables.
     pub(crate) copies: Vec<Equation>,
@@ -50,7 +50,7 @@ impl TermEmission {
     ghost use Rattle.lb_flat.specs.Values.{clock_of, operation_of};
     ghost use Rattle.lb_flat.specs.Within.{IsClock};
 
-    /// Nothing yet, where the first so many elements are those of variables.
+    /// The state before any emission; the first `variables` elements are those of variables.
     pub(crate) fn new(alloc: Global, clocks: Vec<Clock>, variables: u32) -> TermEmission
         ensures state { state_of result ≡ before_instances variables }
         ensures found { result.found.items ≡ [] }
@@ -67,8 +67,8 @@ impl TermEmission {
         }
     }
 
-    /// A new element on a clock, which this operation gives.
-    #[tactic(auto, using(crate::proofs::EmittedStacks::pushes))]
+    /// Emits a new element on a clock, which `operation` gives.
+    #[tactic(auto, using(crate::proofs::emission::EmittedStacks::pushes))]
     fn push(
         &mut self,
         clock: Option<ClockId>,
@@ -94,8 +94,8 @@ impl TermEmission {
         Ok(element)
     }
 
-    /// A new element on the stack.
-    #[tactic(auto, using(crate::proofs::EmittedStacks::pushes))]
+    /// Emits a new element, and pushes it on the stack.
+    #[tactic(auto, using(crate::proofs::emission::EmittedStacks::pushes))]
     pub(crate) fn push_found(
         &mut self,
         clock: Option<ClockId>,
@@ -115,7 +115,7 @@ impl TermEmission {
     }
 
     /// Removes the elements between two places of the stack.
-    #[tactic(auto, using(crate::proofs::EmittedStacks::removes))]
+    #[tactic(auto, using(crate::proofs::emission::EmittedStacks::removes))]
     fn remove(&mut self, from: usize, to: usize)
         requires from { from ≤ to }
         requires to { to ≤ length self.old.found.items }
@@ -126,7 +126,7 @@ impl TermEmission {
         self.found.drain(from..to);
     }
 
-    /// An operation on each of the elements from one on.
+    /// Emits an operation on each of the elements of the stack from place `from` on.
     pub(crate) fn each(
         &mut self,
         clock: Option<ClockId>,
@@ -151,7 +151,8 @@ impl TermEmission {
         Ok(())
     }
 
-    /// An operation on each pair of the elements from one place on and those from another on.
+    /// Emits an operation on each pair of the elements from place `from` on and those from `middle`
+    /// on.
     pub(crate) fn pairs(
         &mut self,
         clock: Option<ClockId>,
@@ -183,8 +184,8 @@ impl TermEmission {
         Ok(())
     }
 
-    /// Memories keep an element.
-    #[tactic(auto, using(crate::proofs::EmittedChains::keeps))]
+    /// Adds an element to those that memories keep.
+    #[tactic(auto, using(crate::proofs::emission::EmittedChains::keeps))]
     fn keep_one(&mut self, element: ElementId) -> Result<(), AllocError>
         requires element { element.0 < self.old.next }
         ensures emitted { OnOk result (emitted_of self.new
@@ -197,7 +198,7 @@ impl TermEmission {
         Ok(())
     }
 
-    /// Memories keep the elements from one on.
+    /// Adds the elements of the stack from place `from` on to those that memories keep.
     fn keep(&mut self, from: usize) -> Result<(), AllocError>
         requires from { from ≤ length self.old.found.items }
         ensures emitted { OnOk result
@@ -213,7 +214,7 @@ impl TermEmission {
         Ok(())
     }
 
-    /// An operation on each of the elements from one on, which memories keep.
+    /// Emits an operation on each of the elements from place `from` on, which memories keep.
     pub(crate) fn memory(
         &mut self,
         clock: Option<ClockId>,
@@ -233,8 +234,8 @@ impl TermEmission {
         self.each(clock, operator, from)
     }
 
-    /// This element stands for those from one on.
-    #[tactic(auto, using(crate::proofs::EmittedChains::replaces))]
+    /// Replaces the elements of the stack from place `from` on by `element`.
+    #[tactic(auto, using(crate::proofs::emission::EmittedChains::replaces))]
     fn replace(&mut self, from: usize, element: ElementId) -> Result<(), AllocError>
         requires element { element.0 < self.old.next }
         ensures emitted { OnOk result (emitted_of self.new
@@ -247,7 +248,8 @@ impl TermEmission {
         Ok(())
     }
 
-    /// From an initial element over those from one on, each result the next operand.
+    /// Emits `operator` from `init` over the elements from place `from` on; each result is the left
+    /// operand of the next.
     fn chain(
         &mut self,
         clock: Option<ClockId>,
@@ -277,7 +279,7 @@ impl TermEmission {
         Ok(last)
     }
 
-    /// Whether two of the elements from one on are true, where this one is false.
+    /// Emits whether two of the elements from place `from` on are true; `no` is a false element.
     fn two_true(
         &mut self,
         clock: Option<ClockId>,
@@ -311,7 +313,7 @@ impl TermEmission {
         Ok(two)
     }
 
-    /// `nor`: whether none of the elements from one on is true.
+    /// Emits `nor`: whether none of the elements of the stack from place `from` on is true.
     pub(crate) fn nor(&mut self, clock: Option<ClockId>, from: usize) -> Result<(), AllocError>
         requires clock { IsClock self.old.clocks.items clock }
         requires from { from ≤ length self.old.found.items }
@@ -328,7 +330,7 @@ impl TermEmission {
         self.replace(from, none)
     }
 
-    /// `#`: whether at most one of the elements from one on is true.
+    /// Emits `#`: whether at most one of the elements of the stack from place `from` on is true.
     pub(crate) fn at_most_one(
         &mut self,
         clock: Option<ClockId>,
@@ -349,7 +351,7 @@ impl TermEmission {
         self.replace(from, one)
     }
 
-    /// From the first of the elements from one on over those after it.
+    /// Emits `operator` from the element of the stack at place `from` over those after it.
     fn red(
         &mut self,
         clock: Option<ClockId>,
@@ -373,8 +375,8 @@ impl TermEmission {
         Ok(())
     }
 
-    /// Only the first so many elements of the stack stay.
-    #[tactic(auto, using(crate::proofs::EmittedCuts::cuts))]
+    /// Keeps only the first `to` elements of the stack.
+    #[tactic(auto, using(crate::proofs::emission::EmittedCuts::cuts))]
     pub(crate) fn cut(&mut self, to: usize)
         ensures emitted { emitted_of self.new
             ≡ emit.gives (state_of self.old) (take to (numbers_of self.old.found.items)) }
@@ -384,8 +386,8 @@ impl TermEmission {
         self.found.truncate(to);
     }
 
-    /// The elements between two places of the stack come on it once more.
-    #[tactic(auto, using(crate::proofs::EmittedCuts::cuts))]
+    /// Pushes the elements of the stack from place `from` to before `to` once more.
+    #[tactic(auto, using(crate::proofs::emission::EmittedCuts::cuts))]
     fn repeat(&mut self, from: usize, to: usize) -> Result<(), AllocError>
         requires from { from ≤ to }
         requires to { to ≤ length self.old.found.items }
@@ -401,7 +403,7 @@ impl TermEmission {
         Ok(())
     }
 
-    /// Of the elements from one on, so many from another of these on.
+    /// Keeps, of the elements of the stack from place `from` on, `count` from number `start` on.
     pub(crate) fn pick(&mut self, from: usize, start: usize, count: usize)
         requires from { from ≤ length self.old.found.items }
         ensures emitted { emitted_of self.new
@@ -415,7 +417,7 @@ impl TermEmission {
         self.cut(from + count.min(above - skipped));
     }
 
-    /// So many copies of the elements from one on.
+    /// Replaces the elements of the stack from place `from` on by `count` copies of them.
     pub(crate) fn copies(&mut self, from: usize, count: u32) -> Result<(), AllocError>
         requires from { from ≤ length self.old.found.items }
         ensures emitted { OnOk result (emitted_of self.new
@@ -432,8 +434,8 @@ impl TermEmission {
         Ok(())
     }
 
-    /// Whether the first of the elements from one on is true chooses one of each pair of those from
-    /// another place on and those from a third one on.
+    /// Emits `if`: the condition is the element of the stack at place `from`, and the branches are
+    /// the elements from place `second` on and from place `third` on.
     pub(crate) fn choose(
         &mut self,
         clock: Option<ClockId>,
@@ -464,7 +466,7 @@ impl TermEmission {
         Ok(())
     }
 
-    /// An iterated symbol, over the elements from one on.
+    /// Emits an iterated symbol over the elements of the stack from place `from` on.
     pub(crate) fn symbol(
         &mut self,
         clock: Option<ClockId>,

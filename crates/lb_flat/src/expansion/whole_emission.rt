@@ -17,8 +17,8 @@ use crate::expansion::begin_emission::Beginning;
 use crate::expansion::frame::TableFrame;
 use crate::expansion::start::Start;
 use crate::expansion::term_emission::TermEmission;
-use crate::further_kinds::further_kinds;
 use crate::program::FlatProgram;
+use crate::temporary_kinds::temporary_kinds;
 use lb_static::{Origin, Reached, Table};
 use lb_syntax::Kind;
 use std::alloc::{AllocError, Global};
@@ -55,7 +55,7 @@ pub(crate) fn start_in(reached: &Reached, table: &Table, observer: bool) -> Opti
 }
 
 impl TermEmission {
-    /// The inputs of the observer are copies of the inputs and outputs of the node under test.
+    /// Emits the inputs of the observer as copies of the inputs and outputs of the node under test.
     pub(crate) fn observe<F: TableFrame>(
         &mut self,
         frame: &mut F,
@@ -88,8 +88,8 @@ impl TermEmission {
     }
 }
 
-/// The flat program of the rows of a table of instances, on inputs of these kinds, where the
-/// elements of variables have these.
+/// The flat program of the rows of a table of instances, on inputs of the kinds `inputs`, where the
+/// elements of variables have the kinds `kinds`.
 pub(crate) fn emit_program<F: TableFrame>(
     alloc: Global,
     frame: &mut F,
@@ -128,7 +128,7 @@ pub(crate) fn emit_program<F: TableFrame>(
     let mut emission = TermEmission::new(alloc, clocks, variables);
     emission.rows(frame, reached, table)?;
     let mut all_kinds = kinds;
-    further_kinds(&mut all_kinds, &emission.equations)?;
+    temporary_kinds(&mut all_kinds, &emission.equations)?;
     let whole = emission.after(copies)?;
     whole.into_program(inputs, all_kinds, variables, clock_elements, property)
 }

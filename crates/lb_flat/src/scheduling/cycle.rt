@@ -12,7 +12,7 @@ use std::alloc::{AllocError, Global};
 
 /// Elements of variables, each of which reads the next one, and the last of which reads the first.
 ///
-/// From an element that is left, the way goes from variable to variable until one comes again.
+/// From an element that is left, the way goes from variable to variable until one repeats.
 pub(super) fn read_cycle(
     alloc: Global,
     program: &FlatProgram,

@@ -1,4 +1,4 @@
-//! From an element that is left to a variable's element that it waits for.
+//! The way from an element that is left to a variable's element that it waits for.
 
 ghost use Rattle.std.specs.Prelude.{◌<◌, ◌≤◌};
 ghost use Rattle.lb_flat.specs.Ordering.{IsLeft, IsStuckAt};
@@ -9,7 +9,7 @@ use super::waiting::awaited;
 use crate::equation::{ElementId, Equation};
 use crate::program::FlatProgram;
 
-// The first element that is left too, of those that the equation of an element reads.
+// The first element that the equation of an element reads and that is left too.
 fn next_left(
     program: &FlatProgram,
     table: &[Option<Equation>],
@@ -34,7 +34,7 @@ fn next_left(
 /// The first variable's element on the way from an element that is left: each element on the way
 /// is left too, and read by the one before.
 ///
-/// A further element reads lower elements alone, so the way ends.
+/// A temporary reads only lower elements, so the way ends.
 pub(super) fn next_variable(
     program: &FlatProgram,
     table: &[Option<Equation>],

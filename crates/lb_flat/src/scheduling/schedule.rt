@@ -15,7 +15,8 @@ use crate::error::{Cycle, OrderError};
 use crate::program::FlatProgram;
 use std::alloc::{AllocError, Global};
 
-/// Puts out the equation of an element, if it can be computed and is not out yet; and whether so.
+/// Adds the equation of `e` to `out`, if it can be computed and is not there yet; returns whether
+/// so.
 pub(super) fn schedule(
     e: usize,
     clocks: &[Clock],
@@ -42,7 +43,7 @@ pub(super) fn schedule(
     Ok(true)
 }
 
-// One pass over all elements, and whether it scheduled one.
+// Makes one pass over all elements; returns whether it scheduled one.
 fn schedule_some(
     clocks: &[Clock],
     table: &[Option<Equation>],

@@ -1,7 +1,7 @@
-//! A topological sort of the elements in depth, which schedules each after what it reads.
+//! A topological sort of the elements, depth first, which schedules each after what it reads.
 //!
-//! The sort leaves an element after all that it reads, but for those on a cycle. It is `schedule`
-//! that decides which equations can be computed.
+//! The sort leaves an element after all that it reads, except for those on a cycle. `schedule`
+//! alone decides which equations can be computed.
 
 ghost use Rattle.std.specs.Prelude.{IfOk};
 ghost use Rattle.lb_flat.specs.Ordering.{IsTable, IsScheduled};
@@ -26,7 +26,7 @@ fn push_operands(stack: &mut Vec<ElementId>, operation: Operation) -> Result<(),
     }
 }
 
-// Pushes the nearest element that a clock reads; the further ones are read by that one's own clock.
+// Pushes the nearest element that a clock reads; the clock of that element reads the further ones.
 fn push_clock(
     stack: &mut Vec<ElementId>,
     clocks: &[Clock],
@@ -38,8 +38,8 @@ fn push_clock(
     Ok(())
 }
 
-// Enters an element that was not entered before, above which then lies what it reads; and whether
-// so.
+// Enters an element that was not entered before, and pushes the elements that it reads above it;
+// returns whether it did.
 fn enter(
     a: ElementId,
     clocks: &[Clock],
@@ -84,7 +84,7 @@ fn schedule_stack(
     Ok(())
 }
 
-/// Schedules the elements of a table, each after what it reads but for those on a cycle.
+/// Schedules the elements of a table, each after what it reads, except for those on a cycle.
 pub(super) fn schedule_in_depth(
     alloc: Global,
     clocks: &[Clock],

@@ -1,4 +1,4 @@
-//! What an equation waits for: the first of the elements that it reads which is not done.
+//! The element that an equation waits for: the first that it reads and that is not done.
 
 ghost use Rattle.std.specs.Prelude.{◌≡◌, ◌<◌, ℕ, All, IfSome, true, length, option_map};
 ghost use Rattle.lb_flat.specs.Ordering.{awaited, first_left, AreSettled, IsOn};
@@ -52,8 +52,8 @@ fn is_on(table: &[Option<Equation>], element: ElementId, clock: Option<ClockId>)
 
 // The first element that a clock reads and that is not done.
 //
-// What a clock reads is the element of its last row, and what the clock of that element reads. So
-// where that element is done, all of it is.
+// A clock reads the element of its last row, and all that the clock of that element reads. So where
+// that element is done, all that the clock reads is done.
 fn awaited_by_clock(
     done: &[bool],
     clocks: &[Clock],

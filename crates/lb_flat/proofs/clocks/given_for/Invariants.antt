@@ -1,5 +1,4 @@
-use Rattle.std.proofs.Common.{◌≡◌, drop}
-use Rattle.lb_flat.specs.TableClocks.{given_for}
+use Rattle.lb_flat.proofs.Words.{◌≡◌, drop, given_for}
 use Rattle.lb_flat.proofs.clocks.given_for.Given as goal
 
 abbrev pub invariant-loop-pair : goal.invariant-loop-pair

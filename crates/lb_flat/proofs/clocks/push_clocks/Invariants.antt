@@ -1,6 +1,4 @@
-use Rattle.std.proofs.Common.{◌≡◌, ◌++◌, flat_map}
-use Rattle.std.specs.List.{range_with_len}
-use Rattle.lb_flat.specs.TableClocks.{variable_clocks}
+use Rattle.lb_flat.proofs.Words.{◌≡◌, ◌++◌, flat_map, range_with_len, variable_clocks}
 use Rattle.lb_flat.proofs.clocks.push_clocks.Given as goal
 
 abbrev pub invariant-loop-x : goal.invariant-loop-x

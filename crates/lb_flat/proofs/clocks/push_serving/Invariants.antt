@@ -1,6 +1,4 @@
-use Rattle.std.proofs.Common.{◌≡◌, ◌++◌, map}
-use Rattle.std.specs.List.{range_with_len}
-use Rattle.lb_flat.specs.TableClocks.{sources_of, serving_element}
+use Rattle.lb_flat.proofs.Words.{◌≡◌, ◌++◌, map, range_with_len, sources_of, serving_element}
 use Rattle.lb_flat.proofs.clocks.push_serving.Given as goal
 
 abbrev pub invariant-loop-x : goal.invariant-loop-x

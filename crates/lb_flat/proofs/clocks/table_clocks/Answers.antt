@@ -1,9 +1,8 @@
--- One row more.
-use Rattle.std.proofs.Common.{◌++◌, ◌<◌, length, ap, ◌∙◌, rules}
-use Rattle.lb_syntax.specs.Lists.{listed}
+-- Each pass adds the clocks of one row.
+use Rattle.lb_flat.proofs.Words.{◌++◌, ◌<◌, length, ap, ◌∙◌, rules, listed, node_clocks}
+use Rattle.lb_flat.specs.TableClocks.{row_clocks}
+use Rattle.lb_flat.proofs.numbering.AddedPieces.{next_added}
 use Rattle.lb_static.specs.declared.table.Instance as row
-use Rattle.lb_flat.specs.TableClocks.{node_clocks, row_clocks}
-use Rattle.lb_flat.proofs.AddedPieces.{next_added}
 use Rattle.lb_flat.proofs.clocks.table_clocks.Goals as goal
 
 pub loop-row-preserved : goal.loop-row-preserved

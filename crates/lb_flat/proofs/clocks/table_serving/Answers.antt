@@ -1,9 +1,8 @@
--- One row more.
-use Rattle.std.proofs.Common.{◌≡◌, ◌++◌, ◌<◌, length, get_or, ap, ◌∙◌, subst, rules}
+-- Each pass adds what serves for the variables of one row.
+use Rattle.lb_flat.proofs.Words.{◌≡◌, ◌++◌, ◌<◌, length, get_or, ap, ◌∙◌, subst, rules, Table}
+use Rattle.lb_flat.proofs.Words.{sources_of, row_serving}
+use Rattle.lb_flat.proofs.numbering.AddedPieces.{next_added}
 use Rattle.lb_static.specs.declared.table.Instance as row
-use Rattle.lb_static.specs.declared.table.Table.{Table}
-use Rattle.lb_flat.specs.TableClocks.{sources_of, row_serving}
-use Rattle.lb_flat.proofs.AddedPieces.{next_added}
 use Rattle.lb_flat.proofs.clocks.table_serving.Goals as goal
 
 pub loop-row-preserved : goal.loop-row-preserved

@@ -1,5 +1,4 @@
-use Rattle.std.proofs.Common.{◌≡◌, take}
-use Rattle.lb_flat.specs.TableClocks.{sources_of, table_serving}
+use Rattle.lb_flat.proofs.Words.{◌≡◌, take, sources_of, table_serving}
 use Rattle.lb_flat.proofs.clocks.table_serving.Given as goal
 
 abbrev pub invariant-loop-row : goal.invariant-loop-row

@@ -1,7 +1,6 @@
--- The elements are those of the cycle that was taken apart.
-use Rattle.std.proofs.Common.{◌≡◌, ◌∙◌, ap, length, subst, sym}
+-- The elements are the elements of the cycle that is given.
+use Rattle.lb_flat.proofs.Words.{◌≡◌, ◌∙◌, ap, length, subst, sym, Cycle}
 use Rattle.lb_flat.specs.Correct.{IsPlaced}
-use Rattle.lb_flat.specs.declared.error.Cycle.{Cycle}
 use Rattle.lb_flat.specs.declared.error.OrderError.TheVariants as order_error
 use Rattle.lb_flat.proofs.cycle_places.with_places.Goals as goal
 

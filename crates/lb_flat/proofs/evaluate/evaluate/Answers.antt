@@ -1,8 +1,7 @@
--- Room that was restarted holds what was prepared.
-use Rattle.std.proofs.Common.{◌∙◌}
-use Rattle.lb_flat.specs.Programs.{flat_equations}
-use Rattle.lb_flat.proofs.InOrder.{ready_of}
-use Rattle.lb_flat.proofs.Starting.{started}
+-- Room that is restarted holds the prepared state.
+use Rattle.lb_flat.proofs.Words.{◌∙◌, flat_equations}
+use Rattle.lb_flat.proofs.ordering.InOrder.{ready_of}
+use Rattle.lb_flat.proofs.runs.Starting.{started}
 use Rattle.lb_flat.proofs.evaluate.evaluate.Goals as goal
 
 pub run-requires : goal.run-requires

@@ -1,6 +1,5 @@
-use Rattle.std.proofs.Common.{◌<◌, length, refl, sym, ◌∙◌, arith}
-use Rattle.lb_flat.specs.Programs.{program_of, flat_equations}
-use Rattle.lb_flat.proofs.Evaluating.{goes_on, ends_with}
+use Rattle.lb_flat.proofs.Words.{◌<◌, length, refl, sym, ◌∙◌, arith, program_of, flat_equations}
+use Rattle.lb_flat.proofs.runs.Evaluating.{goes_on, ends_with}
 use Rattle.lb_flat.proofs.evaluate.run.Goals as goal
 
 pub loop-t-init : goal.loop-t-init

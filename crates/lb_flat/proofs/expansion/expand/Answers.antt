@@ -1,10 +1,8 @@
 -- A program that the layout finds too large is not small; a small one has its expansion.
-use Rattle.std.proofs.Common.{◌<◌, ◌∙◌, Err, ap, ap₂, subst}
-use Rattle.lb_static.specs.Elaborated.{elaborated_program}
-use Rattle.lb_flat.specs.Programs.{program_of}
-use Rattle.lb_flat.specs.Rows.{element_total}
-use Rattle.lb_flat.proofs.RightVerdicts.{stands_for}
-use Rattle.lb_flat.proofs.TableSizes.{too_many}
+use Rattle.lb_flat.proofs.Words.{◌<◌, ◌∙◌, Err, ap, ap₂, subst, elaborated_program, program_of}
+use Rattle.lb_flat.proofs.Words.{element_total}
+use Rattle.lb_flat.proofs.runs.RightVerdicts.{stands_for}
+use Rattle.lb_flat.proofs.widths.TableSizes.{too_many}
 use Rattle.lb_flat.proofs.expansion.expand.Goals as goal
 
 pub size_fault-requires : goal.size_fault-requires

@@ -1,22 +1,14 @@
 -- What is emitted from the rows of a checked program is its expansion.
-use Rattle.std.proofs.Common.{◌≡◌, ℕ, ap, ap₂, refl, rules, sym, subst, ◌∙◌}
+use Rattle.lb_flat.proofs.Words.{◌≡◌, ℕ, ap, ap₂, refl, rules, sym, subst, ◌∙◌, elaborated_program}
+use Rattle.lb_flat.proofs.Words.{kinds_of, Table, IsBounded, IsExpansionOf, program_of, table_kinds}
+use Rattle.lb_flat.proofs.Words.{called_row, child_row, all_clocks, sources_of, AreClocks, Clocks}
 use Rattle.std.specs.Prelude.{false, true}
 use Rattle.std.proofs.lemmas.Result.{IfOk-weaker as then_ok}
-use Rattle.lb_static.specs.Elaborated.{elaborated_program}
-use Rattle.lb_static.specs.Signature.{kinds_of}
-use Rattle.lb_static.specs.declared.table.Table.{Table}
-use Rattle.lb_flat.specs.Bounds.{IsBounded}
-use Rattle.lb_flat.specs.Correct.{IsExpansionOf}
-use Rattle.lb_flat.specs.Programs.{program_of}
-use Rattle.lb_flat.specs.RowKinds.{table_kinds}
-use Rattle.lb_flat.specs.Rows.{called_row, child_row}
-use Rattle.lb_flat.specs.TableClocks.{all_clocks, sources_of}
-use Rattle.lb_flat.specs.Within.{AreClocks}
-use Rattle.lb_flat.specs.declared.clocks.Clocks.{Clocks}
 use Rattle.lb_flat.specs.declared.layout.Layout.{Layout}
-use Rattle.lb_flat.proofs.ClockEntries.{filled_few, filled_whole}
-use Rattle.lb_flat.proofs.ReadyProgram.{both_ok, emits_bounded, first_there, frame_emittable}
-use Rattle.lb_flat.proofs.ReadyProgram.{framed_emit, framed_expansion, no_frame, numbers_small}
+use Rattle.lb_flat.proofs.clock_tables.ClockEntries.{filled_few, filled_whole}
+use Rattle.lb_flat.proofs.frames.ReadyProgram.{both_ok, emits_bounded, first_there, frame_emittable}
+use Rattle.lb_flat.proofs.frames.ReadyProgram.{framed_emit, framed_expansion, no_frame}
+use Rattle.lb_flat.proofs.frames.ReadyProgram.{numbers_small}
 use Rattle.lb_flat.proofs.expansion.flat_program.Goals as goal
 
 pub unreachable-requires : goal.unreachable-requires

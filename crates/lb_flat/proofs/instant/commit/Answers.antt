@@ -1,5 +1,5 @@
 use Rattle.std.proofs.Common.{◌<◌, refl, subst, sym, length-set, get_or}
-use Rattle.lb_flat.proofs.Steps.{places_there, commit_step, within_step, all_committed}
+use Rattle.lb_flat.proofs.runs.Steps.{places_there, commit_step, within_step, all_committed}
 use Rattle.lb_flat.proofs.instant.commit.Goals as goal
 
 pub loop-i-init : goal.loop-i-init

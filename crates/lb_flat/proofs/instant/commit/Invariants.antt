@@ -1,6 +1,5 @@
-use Rattle.std.proofs.Common.{◌<◌, length, All}
-use Rattle.lb_flat.specs.Within.{IsWithin}
-use Rattle.lb_flat.proofs.Steps.{IsCommitting}
+use Rattle.lb_flat.proofs.Words.{◌<◌, length, All, IsWithin}
+use Rattle.lb_flat.proofs.runs.Steps.{IsCommitting}
 use Rattle.lb_flat.proofs.instant.commit.Given as goal
 
 abbrev pub invariant-loop-i : goal.invariant-loop-i

@@ -1,7 +1,5 @@
-use Rattle.std.proofs.Common.{◌≡◌, ℕ, length, map, ◌+◌}
-use Rattle.lb_flat.specs.Run.{is_now}
-use Rattle.lb_flat.specs.Values.{cell_of, clock_of, clock_within}
-use Rattle.lb_flat.specs.Within.{IsClock}
+use Rattle.lb_flat.proofs.Words.{◌≡◌, ℕ, length, map, ◌+◌, is_now, cell_of, clock_of, clock_within}
+use Rattle.lb_flat.proofs.Words.{IsClock}
 use Rattle.lb_flat.proofs.instant.is_now.Given as goal
 
 -- the rest of the clock has an instant exactly where all of it has

@@ -1,11 +1,7 @@
-use Rattle.std.proofs.Common.{◌≡◌, ℕ, ◌+◌, map}
-use Rattle.std.specs.List.{range_with_len}
-use Rattle.lb_check.specs.Verdicts.{is_bad}
-use Rattle.lb_flat.specs.Judging.{some_in}
-use Rattle.lb_flat.specs.Values.{cell_of}
+use Rattle.lb_flat.proofs.Words.{◌≡◌, ℕ, ◌+◌, map, range_with_len, is_bad, some_in, cell_of}
 use Rattle.lb_flat.proofs.instant_verdict.first_bad.Given as goal
 
--- one of all holds a fault exactly where one of the rest does
+-- an element of all holds a fault exactly where an element of the rest does
 abbrev pub invariant-loop-i : goal.invariant-loop-i
 invariant-loop-i l =
     (n : ℕ) → l.i + n ≡ l.count →

@@ -1,7 +1,6 @@
--- One variable more, or too many elements.
-use Rattle.std.proofs.Common.{◌-◌, ◌<◌, ◌≤◌, refl, arith}
-use Rattle.lb_flat.specs.Rows.{declared_width}
-use Rattle.lb_flat.proofs.StoredLayouts.{one_added, past_most}
+-- Each pass adds one variable, or finds too many elements.
+use Rattle.lb_flat.proofs.Words.{◌-◌, ◌<◌, ◌≤◌, refl, arith, declared_width}
+use Rattle.lb_flat.proofs.numbering.StoredLayouts.{one_added, past_most}
 use Rattle.lb_flat.proofs.layout.add_variables.Goals as goal
 
 pub returns-then-width-next-clause-large : goal.returns-then-width-next-clause-large

@@ -1,5 +1,4 @@
-use Rattle.std.proofs.Common.{map, take}
-use Rattle.lb_flat.specs.Rows.{declared_width, AreAdded}
+use Rattle.lb_flat.proofs.Words.{map, take, declared_width, AreAdded}
 use Rattle.lb_flat.proofs.layout.add_variables.Given as goal
 
 abbrev pub invariant-loop-variable : goal.invariant-loop-variable

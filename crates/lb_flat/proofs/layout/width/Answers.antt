@@ -1,7 +1,6 @@
 -- The sizes that are read give the width of the variable.
-use Rattle.std.proofs.Common.{ap, ◌∙◌}
-use Rattle.lb_static.specs.Specialized.{times_sizes}
-use Rattle.lb_flat.proofs.StoredLayouts.{capped}
+use Rattle.lb_flat.proofs.Words.{ap, ◌∙◌, times_sizes}
+use Rattle.lb_flat.proofs.numbering.StoredLayouts.{capped}
 use Rattle.lb_flat.proofs.layout.width.Goals as goal
 
 pub returns : goal.returns

@@ -1,7 +1,7 @@
 -- The next equation is put among the inputs, among the steps, or nowhere.
 use Rattle.std.proofs.Common.{◌≡◌, ◌+◌, length, ap, sym, ◌∙◌, rules}
-use Rattle.lb_flat.proofs.Preparing.{apart_same, input_put, step_put, constant_passed_over}
-use Rattle.lb_flat.proofs.Preparing.{one_memory_more, no_memory_more}
+use Rattle.lb_flat.proofs.runs.Preparing.{apart_same, input_put, step_put, constant_passed_over}
+use Rattle.lb_flat.proofs.runs.Preparing.{one_memory_more, no_memory_more}
 use Rattle.lb_flat.proofs.prepare.put_apart.Goals as goal
 use Rattle.lb_flat.proofs.prepare.put_apart.Goals.{in-Input+in_ok-push}
 use Rattle.lb_flat.proofs.prepare.put_apart.Goals.{in_default+then-is_step+in_ok-push-3}

@@ -1,16 +1,11 @@
-use Rattle.std.proofs.Common.{◌≡◌, ◌+◌, [], is_some, List, drop, length, map, ap, sym, subst, ◌∙◌}
-use Rattle.std.proofs.Common.{arith}
-use Rattle.std.proofs.Math.ListN.{drop_of_length-le}
+use Rattle.lb_flat.proofs.Words.{◌≡◌, ◌+◌, [], is_some, List, drop, length, map, ap, sym, subst}
+use Rattle.lb_flat.proofs.Words.{◌∙◌, arith, drop_of_length-le, fixed_in, AreFixed, flat_equations}
+use Rattle.lb_flat.proofs.Words.{filled, cell_of, length-map}
 use Rattle.lb_flat.specs.declared.cell.Cell.{Cell}
-use Rattle.lb_flat.specs.Prepared.{fixed_in, AreFixed}
-use Rattle.lb_flat.specs.Programs.{flat_equations}
-use Rattle.lb_flat.specs.Run.{filled}
-use Rattle.lb_flat.specs.Values.{cell_of}
-use Rattle.std.proofs.lemmas.List.{length-map}
-use Rattle.lb_flat.proofs.FixedCells.{constants_set}
-use Rattle.lb_flat.proofs.Preparing.{constant_set, constant_passed}
-use Rattle.lb_flat.proofs.prepare.set_constants.Goals as goal
+use Rattle.lb_flat.proofs.runs.FixedCells.{constants_set}
+use Rattle.lb_flat.proofs.runs.Preparing.{constant_set, constant_passed}
 use Rattle.lb_flat.proofs.prepare.set_constants.Goals.{in-Some, in_default}
+use Rattle.lb_flat.proofs.prepare.set_constants.Goals as goal
 
 pub loop-i-preserved : goal.loop-i-preserved
 loop-i-preserved c =

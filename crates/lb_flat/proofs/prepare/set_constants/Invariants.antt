@@ -1,8 +1,5 @@
-use Rattle.std.proofs.Common.{◌≡◌, [], length, map, drop}
-use Rattle.lb_flat.specs.Prepared.{fixed_in}
-use Rattle.lb_flat.specs.Programs.{flat_equations}
-use Rattle.lb_flat.specs.Run.{filled}
-use Rattle.lb_flat.specs.Values.{cell_of}
+use Rattle.lb_flat.proofs.Words.{◌≡◌, [], length, map, drop, fixed_in, flat_equations, filled}
+use Rattle.lb_flat.proofs.Words.{cell_of}
 use Rattle.lb_flat.proofs.prepare.set_constants.Given as goal
 
 -- the rest of the constants gives what all give

@@ -1,32 +1,29 @@
 -- An input is the scalar of its column.
-use Rattle.std.proofs.Common.{rules, ℕ, ◌≡◌, ◌<◌, ◌≤◌, ◌∙◌, [], List, ℤ, Some, None, pos, w32}
-use Rattle.std.proofs.Common.{get_or, length}
-use Rattle.std.proofs.Common.{slice_get, ap, sym, refl, arith, Bool as Truth, true, false, inl, inr}
+use Rattle.lb_flat.proofs.Words.{rules, ℕ, ◌≡◌, ◌<◌, ◌≤◌, ◌∙◌, [], List, ℤ, Some, None, pos, get_or}
+use Rattle.lb_flat.proofs.Words.{length, ap, sym, refl, arith, true, false, inl, inr, get_or-map}
+use Rattle.lb_flat.proofs.Words.{zip2, Kind, Int, kinds_of, Boolean, scalar_in, scalars_in}
+use Rattle.lb_flat.proofs.Words.{inputs_of, Recording, IsRecording, IsCell, trace_at}
+use Rattle.std.proofs.Common.{w32, slice_get, Bool as Truth}
 use Rattle.std.proofs.lemmas.Bool.{true≢false}
 use Rattle.std.specs.Prelude.{int_le, ◌↔◌, IsTrue}
 use Rattle.std.proofs.lemmas.Int.{to_z-of_z}
-use Rattle.std.proofs.lemmas.List.{get_or-map, get_or_default}
+use Rattle.std.proofs.lemmas.List.{get_or_default}
 use mir.Val.{SFits}
-use Rattle.lb_syntax.specs.Lists.{zip2}
-use Rattle.lb_syntax.specs.declared.tree.Kind.{Kind}
-use Rattle.lb_syntax.specs.declared.tree.Kind.TheVariants.{Int, Bool}
-use Rattle.lb_static.specs.Signature.{kinds_of}
-use Rattle.lb_check.specs.Scalars.{Boolean}
-use Rattle.lb_flat.specs.Inputs.{scalar_in, scalars_in, inputs_of}
-use Rattle.lb_traces.specs.Traces.{Recording, IsRecording, IsRow, IsCell, trace_at, cell_at}
+use Rattle.lb_syntax.specs.declared.tree.Kind.TheVariants.{Bool}
+use Rattle.lb_traces.specs.Traces.{IsRow, cell_at}
 use Rattle.lb_traces.proofs.HeldRows.{length-kinds, lawful_cell}
-use Rattle.lb_flat.proofs.RecordedInputs.{scalar_there, no_scalar}
+use Rattle.lb_flat.proofs.runs.RecordedInputs.{scalar_there, no_scalar}
 use Rattle.lb_traces.proofs.RowsFound.{row_follows}
 use Rattle.lb_traces.proofs.Storing.{length-row}
 use Rattle.lb_flat.proofs.recorded.input_at.Goals as goal
 
--- a Boolean is true where its cell is 1
+-- a Boolean is true exactly where its cell is 1
 truth_of : (b : Truth) (v : ℤ) → IsCell Bool v → IsTrue b ↔ (v ≡ pos 1) → b ≡ int_le (pos 1) v
 truth_of true v cell h = sym (ap (int_le (pos 1)) (h.0 refl))
 truth_of false v (inl e) h = sym (ap (int_le (pos 1)) e)
 truth_of false v (inr e) h = absurd (true≢false (sym (h.1 e)))
 
--- the scalars of an instant, and the one of a column
+-- the scalars of instant `t` of trace `k`, and the scalar of column `j`
 module _ (r : Recording) (kinds : List Kind) (k t j : ℕ) (lawful : IsRecording r)
     (is : kinds ≡ kinds_of r.signature) (below : k < length r.traces)
     (inside : t < length (trace_at r.traces k).1) where

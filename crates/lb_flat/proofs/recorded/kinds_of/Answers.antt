@@ -1,8 +1,6 @@
--- The kinds so far are the first ones.
-use Rattle.std.proofs.Common.{◌++◌, ◌∷◌, [], ap₂, ◌∙◌, sym}
-use Rattle.std.proofs.lemmas.List.{take_more}
-use Rattle.std.proofs.lemmas.Option.{get_or_from_slice_get, slice_get_within}
-use Rattle.lb_static.specs.Signature.{kinds_of}
+-- The kinds so far are the kinds of the first inputs.
+use Rattle.lb_flat.proofs.Words.{◌++◌, ◌∷◌, [], ap₂, ◌∙◌, sym, take_more, get_or_from_slice_get}
+use Rattle.lb_flat.proofs.Words.{slice_get_within, kinds_of}
 use Rattle.lb_flat.proofs.recorded.kinds_of.Goals as goal
 
 pub loop-i-preserved : goal.loop-i-preserved

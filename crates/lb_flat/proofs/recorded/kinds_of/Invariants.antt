@@ -1,5 +1,4 @@
-use Rattle.std.proofs.Common.{◌≡◌, take}
-use Rattle.lb_static.specs.Signature.{kinds_of}
+use Rattle.lb_flat.proofs.Words.{◌≡◌, take, kinds_of}
 use Rattle.lb_flat.proofs.recorded.kinds_of.Given as goal
 
 abbrev pub invariant-loop-i : goal.invariant-loop-i

@@ -1,4 +1,4 @@
-use Rattle.lb_flat.proofs.Steps.{fill_step, all_filled}
+use Rattle.lb_flat.proofs.runs.Steps.{fill_step, all_filled}
 use Rattle.lb_flat.proofs.recorded.read_row.Goals as goal
 
 pub loop-i-preserved : goal.loop-i-preserved

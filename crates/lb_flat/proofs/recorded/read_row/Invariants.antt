@@ -1,7 +1,5 @@
-use Rattle.std.proofs.Common.{[], get_or}
-use Rattle.lb_flat.specs.Inputs.{inputs_of}
-use Rattle.lb_flat.specs.Prepared.{place_equation}
-use Rattle.lb_flat.proofs.Steps.{IsFilling}
+use Rattle.lb_flat.proofs.Words.{[], get_or, inputs_of, place_equation}
+use Rattle.lb_flat.proofs.runs.Steps.{IsFilling}
 use Rattle.lb_flat.proofs.recorded.read_row.Given as goal
 
 abbrev pub invariant-loop-i : goal.invariant-loop-i

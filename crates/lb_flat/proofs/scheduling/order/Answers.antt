@@ -1,21 +1,19 @@
--- Equations that are scheduled are those of the program in order.
-use Rattle.std.proofs.Common.{List, refl}
-use Rattle.std.proofs.lemmas.Result.{err_from_is_err_and}
-use Rattle.lb_flat.specs.Correct.{IsCycleFound, IsOrderOf}
+-- The scheduled equations are the equations of the program, in order.
+use Rattle.lb_flat.proofs.Words.{List, refl, err_from_is_err_and, IsOrderOf, AreOrdered}
+use Rattle.lb_flat.proofs.Words.{flat_equations, numbers_of, program_of}
+use Rattle.lb_flat.specs.Correct.{IsCycleFound}
 use Rattle.lb_flat.specs.CyclicPrograms.{AreOfCyclic}
-use Rattle.lb_flat.specs.Judging as judging
-use Rattle.lb_flat.specs.Ordering.{AreOrdered}
-use Rattle.lb_flat.specs.Programs.{flat_equations, numbers_of, program_of}
 use Rattle.lb_flat.specs.declared.equation.Equation.{Equation}
 use Rattle.lb_flat.specs.declared.error.OrderError.{OrderError}
 use Rattle.lb_flat.specs.declared.error.OrderError.TheVariants.{Memory, Cycle}
 use Rattle.lb_flat.specs.declared.program.FlatProgram.{FlatProgram}
-use Rattle.lb_flat.proofs.Certificates.{cyclic_of}
-use Rattle.lb_flat.proofs.ExpansionReads.{expansion_causal}
-use Rattle.lb_flat.proofs.InOrder.{ready_of}
-use Rattle.lb_flat.proofs.OrderedExpansions.{expansion_in_order}
-use Rattle.lb_flat.proofs.RightVerdicts.{stands_in_order}
-use Rattle.lb_flat.proofs.StandingRuns.{flat_in_order, standing_determined}
+use Rattle.lb_flat.proofs.ordering.Certificates.{cyclic_of}
+use Rattle.lb_flat.proofs.ordering.ExpansionReads.{expansion_causal}
+use Rattle.lb_flat.proofs.ordering.InOrder.{ready_of}
+use Rattle.lb_flat.proofs.ordering.OrderedExpansions.{expansion_in_order}
+use Rattle.lb_flat.proofs.runs.RightVerdicts.{stands_in_order}
+use Rattle.lb_flat.proofs.solutions.StandingRuns.{flat_in_order, standing_determined}
+use Rattle.lb_flat.specs.Judging as judging
 use Rattle.lb_flat.proofs.scheduling.order.Goals as goal
 
 is_order :
@@ -66,7 +64,7 @@ returns-clause-order c =
     is_order c.args.flat.program c.in_ok-equations.equations.items
     c.in_ok-equations.ensures.order
 
--- a cycle that is found is one of each program that the equations are of
+-- a cycle that is found is a cycle of each program that the equations come from
 of_cyclic : (f : judging.FlatProgram) (e : OrderError) → IsCycleFound f e → AreOfCyclic f e
 of_cyclic f Memory found = tt
 of_cyclic f (Cycle c) found =

@@ -1,8 +1,5 @@
-use Rattle.std.proofs.Common.{◌≡◌, None, take}
-use Rattle.std.specs.Prelude.{sum_by}
+use Rattle.lb_flat.proofs.Words.{◌≡◌, None, take, sum_by, Counts, lent_size}
 use Rattle.lb_static.specs.declared.table.Instance as row
-use Rattle.lb_flat.specs.SizeFaults.{Counts}
-use Rattle.lb_flat.specs.TableSizes.{lent_size}
 use Rattle.lb_flat.proofs.table_size.all_expressions.Given as goal
 
 abbrev pub invariant-loop-row : goal.invariant-loop-row

@@ -1,10 +1,8 @@
--- The variables of all rows are those of each.
-use Rattle.std.proofs.Common.{◌∙◌, List, ap, flat_map, subst, sym}
+-- The variables of all rows are counted row by row.
+use Rattle.lb_flat.proofs.Words.{◌∙◌, List, ap, flat_map, subst, sym, sum_of, widths_in, Counts}
+use Rattle.lb_flat.proofs.widths.CountedSizes.{all_counted}
+use Rattle.lb_flat.proofs.numbering.StoredLayouts.{sum_pieces}
 use Rattle.lb_static.specs.declared.table.Instance as row
-use Rattle.lb_flat.specs.Rows.{sum_of, widths_in}
-use Rattle.lb_flat.specs.SizeFaults.{Counts}
-use Rattle.lb_flat.proofs.CountedSizes.{all_counted}
-use Rattle.lb_flat.proofs.StoredLayouts.{sum_pieces}
 use Rattle.lb_flat.proofs.table_size.all_variables.Goals as goal
 
 pub returns : goal.returns

@@ -1,8 +1,5 @@
-use Rattle.std.proofs.Common.{take}
-use Rattle.std.specs.Prelude.{sum_by}
+use Rattle.lb_flat.proofs.Words.{take, sum_by, sum_of, widths_in, Counts}
 use Rattle.lb_static.specs.declared.table.Instance as row
-use Rattle.lb_flat.specs.Rows.{sum_of, widths_in}
-use Rattle.lb_flat.specs.SizeFaults.{Counts}
 use Rattle.lb_flat.proofs.table_size.all_variables.Given as goal
 
 abbrev pub invariant-loop-row : goal.invariant-loop-row

@@ -1,7 +1,4 @@
-use Rattle.std.proofs.Common.{take}
-use Rattle.std.specs.Prelude.{sum_by}
-use Rattle.lb_flat.specs.Rows.{declared_width}
-use Rattle.lb_flat.specs.SizeFaults.{Counts}
+use Rattle.lb_flat.proofs.Words.{take, sum_by, declared_width, Counts}
 use Rattle.lb_flat.proofs.table_size.element_count.Given as goal
 
 abbrev pub invariant-loop-variable : goal.invariant-loop-variable

@@ -1,9 +1,8 @@
--- The size of one row more is taken off; what is left tells whether the program is small.
-use Rattle.std.proofs.Common.{ap, ◌∙◌}
+-- Each pass subtracts the size of one row; the program is small exactly where something is left.
+use Rattle.lb_flat.proofs.Words.{ap, ◌∙◌, lent_size}
+use Rattle.lb_flat.proofs.widths.FoundSizes.{left_small}
+use Rattle.lb_flat.proofs.widths.TableSizes.{less_left}
 use Rattle.lb_static.specs.declared.table.Instance as row
-use Rattle.lb_flat.specs.TableSizes.{lent_size}
-use Rattle.lb_flat.proofs.FoundSizes.{left_small}
-use Rattle.lb_flat.proofs.TableSizes.{less_left}
 use Rattle.lb_flat.proofs.table_size.is_small.Goals as goal
 
 pub loop-row-preserved : goal.loop-row-preserved

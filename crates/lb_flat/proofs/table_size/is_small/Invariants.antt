@@ -1,7 +1,5 @@
-use Rattle.std.proofs.Common.{◌≡◌, ◌+◌, ◌-◌, take}
-use Rattle.std.specs.Prelude.{sum_by}
+use Rattle.lb_flat.proofs.Words.{◌≡◌, ◌+◌, ◌-◌, take, sum_by, lent_size}
 use Rattle.lb_static.specs.declared.table.Instance as row
-use Rattle.lb_flat.specs.TableSizes.{lent_size}
 use Rattle.lb_flat.proofs.table_size.is_small.Given as goal
 
 abbrev pub invariant-loop-row : goal.invariant-loop-row

@@ -1,13 +1,9 @@
--- The variables of a row are those of its node, and none where it has no node.
-use Rattle.std.proofs.Common.{◌≡◌, ◌≤◌, Some, map, length, refl, ap, ap₂, sym, subst, ◌∙◌}
-use Rattle.std.specs.Prelude.{slice_get}
-use Rattle.std.proofs.lemmas.Option.{slice_get_past, slice_get_read}
-use Rattle.lb_syntax.specs.Lists.{listed}
-use Rattle.lb_static.specs.declared.resolved.ResolvedNode.{ResolvedNode}
-use Rattle.lb_flat.specs.Rows.{declared_width, sum_of, widths_in, widths_of}
-use Rattle.lb_flat.specs.SizeFaults.{Counts}
-use Rattle.lb_flat.proofs.CountedSizes.{nothing_counted}
-use Rattle.lb_flat.proofs.StoredLayouts.{sum_mapped}
+-- The variables of a row are the variables of its node; a row without a node has none.
+use Rattle.lb_flat.proofs.Words.{◌≡◌, ◌≤◌, Some, map, length, refl, ap, ap₂, sym, subst, ◌∙◌}
+use Rattle.lb_flat.proofs.Words.{slice_get, slice_get_past, slice_get_read, listed, ResolvedNode}
+use Rattle.lb_flat.proofs.Words.{declared_width, sum_of, widths_in, widths_of, Counts}
+use Rattle.lb_flat.proofs.widths.CountedSizes.{nothing_counted}
+use Rattle.lb_flat.proofs.numbering.StoredLayouts.{sum_mapped}
 use Rattle.lb_flat.proofs.table_size.row_variables.Goals as goal
 
 pub returns-in-None : goal.returns-in-None

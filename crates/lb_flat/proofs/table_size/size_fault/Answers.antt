@@ -1,10 +1,7 @@
--- The size that is told was counted, or else is known to be too large.
-use Rattle.std.proofs.Common.{◌∙◌, ap, ap₂, length, refl, subst, sym}
-use Rattle.lb_flat.specs.Rows.{element_total}
-use Rattle.lb_flat.specs.SizeFaults.{Counts}
-use Rattle.lb_flat.specs.TableSizes.{lent_size, term_total}
-use Rattle.lb_static.specs.declared.table.Table.{Table}
-use Rattle.lb_flat.proofs.CountedSizes.{both_over, variables_over}
+-- The size that is reported is counted, or known to be too large.
+use Rattle.lb_flat.proofs.Words.{◌∙◌, ap, ap₂, length, refl, subst, sym, element_total, Counts}
+use Rattle.lb_flat.proofs.Words.{lent_size, term_total, Table}
+use Rattle.lb_flat.proofs.widths.CountedSizes.{both_over, variables_over}
 use Rattle.lb_flat.proofs.table_size.size_fault.Goals as goal
 
 pub returns-in-Some : goal.returns-in-Some

@@ -1,12 +1,9 @@
 -- The verdict of the flat program is that of the program.
-use Rattle.std.proofs.Common.{[]}
-use Rattle.lb_flat.specs.Inputs.{inputs_of}
-use Rattle.lb_flat.specs.Programs.{program_of}
-use Rattle.lb_flat.specs.Run.{Ready}
+use Rattle.lb_flat.proofs.Words.{[], inputs_of, program_of, Ready}
 use Rattle.lb_flat.specs.declared.prepared.Prepared.{Prepared}
-use Rattle.lb_flat.proofs.InOrder.{ready_of}
-use Rattle.lb_flat.proofs.RecordedInputs.{trace_given}
-use Rattle.lb_flat.proofs.StandingRuns.{standing_determined, standing_recorded}
+use Rattle.lb_flat.proofs.ordering.InOrder.{ready_of}
+use Rattle.lb_flat.proofs.runs.RecordedInputs.{trace_given}
+use Rattle.lb_flat.proofs.solutions.StandingRuns.{standing_determined, standing_recorded}
 use Rattle.lb_flat.proofs.trace_run.eval_prepared.Goals as goal
 
 ready : (p : Prepared) → Ready p.program.now.size [] (program_of p.program.now).equations

@@ -1,6 +1,5 @@
--- What was prepared and recorded is the program and the traces that were given.
-use Rattle.std.proofs.Common.{◌<◌, length, sym, subst}
-use Rattle.lb_traces.specs.Traces.{Recording}
+-- What is prepared and recorded comes from the program and the traces that are given.
+use Rattle.lb_flat.proofs.Words.{◌<◌, length, sym, subst, Recording}
 use Rattle.lb_flat.proofs.trace_run.eval_trace.Goals as goal
 
 pub eval_prepared-requires-clause-trace : goal.eval_prepared-requires-clause-trace

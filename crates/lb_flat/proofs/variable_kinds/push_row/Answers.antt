@@ -1,12 +1,8 @@
--- A row has the kinds of the variables of its node, and none where it has no node.
-use Rattle.std.proofs.Common.{◌≡◌, ◌≤◌, ◌++◌, Some, flat_map, length, refl, ap, ap₂, sym, subst}
-use Rattle.std.proofs.Common.{◌∙◌, OnOk}
-use Rattle.std.specs.Prelude.{slice_get}
-use Rattle.std.proofs.lemmas.List.{append-nil}
-use Rattle.std.proofs.lemmas.Option.{slice_get_past, slice_get_read}
-use Rattle.lb_syntax.specs.Lists.{listed}
-use Rattle.lb_static.specs.declared.resolved.ResolvedNode.{ResolvedNode}
-use Rattle.lb_flat.specs.RowKinds.{declared_kinds, kinds_of, kinds_in}
+-- A row has the kinds of the variables of its node; a row without a node has none.
+use Rattle.lb_flat.proofs.Words.{◌≡◌, ◌≤◌, ◌++◌, Some, flat_map, length, refl, ap, ap₂, sym, subst}
+use Rattle.lb_flat.proofs.Words.{◌∙◌, OnOk, slice_get, append-nil, slice_get_past, slice_get_read}
+use Rattle.lb_flat.proofs.Words.{listed, ResolvedNode, declared_kinds, kinds_in}
+use Rattle.lb_flat.specs.RowKinds.{kinds_of}
 use Rattle.lb_flat.proofs.variable_kinds.push_row.Goals as goal
 
 pub returns-in_default : goal.returns-in_default

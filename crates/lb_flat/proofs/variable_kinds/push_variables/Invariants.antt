@@ -1,5 +1,4 @@
-use Rattle.std.proofs.Common.{◌≡◌, ◌++◌, flat_map, take}
-use Rattle.lb_flat.specs.RowKinds.{declared_kinds}
+use Rattle.lb_flat.proofs.Words.{◌≡◌, ◌++◌, flat_map, take, declared_kinds}
 use Rattle.lb_flat.proofs.variable_kinds.push_variables.Given as goal
 
 abbrev pub invariant-loop-variable : goal.invariant-loop-variable

@@ -1,5 +1,4 @@
-use Rattle.std.proofs.Common.{◌≡◌, flat_map, take}
-use Rattle.lb_flat.specs.RowKinds.{kinds_in}
+use Rattle.lb_flat.proofs.Words.{◌≡◌, flat_map, take, kinds_in}
 use Rattle.lb_flat.proofs.variable_kinds.variable_kinds.Given as goal
 
 abbrev pub invariant-loop-row : goal.invariant-loop-row

@@ -1,9 +1,8 @@
--- What is filled is the table of the program, in range.
-use Rattle.std.proofs.Common.{◌≡◌, sym, subst, rules}
-use Rattle.lb_flat.specs.TableClocks.{sources_of, all_clocks, all_runs}
-use Rattle.lb_flat.specs.Within.{AreClocks}
-use Rattle.lb_flat.proofs.ClockEntries.{filled_within}
-use Rattle.lb_flat.proofs.FilledFrom.{clocks_filled}
+-- The clocks that are filled are the table of clocks of the program, and in range.
+use Rattle.lb_flat.proofs.Words.{◌≡◌, sym, subst, rules, sources_of, all_clocks, all_runs}
+use Rattle.lb_flat.proofs.Words.{AreClocks}
+use Rattle.lb_flat.proofs.clock_tables.ClockEntries.{filled_within}
+use Rattle.lb_flat.proofs.clock_tables.FilledFrom.{clocks_filled}
 use Rattle.lb_flat.proofs.clocks.Clocks.new.Goals as goal
 
 pub returns-clause-lawful : goal.returns-clause-lawful

@@ -1,10 +1,9 @@
-use Rattle.std.proofs.Common.{◌≡◌, ◌++◌, ◌∷◌, [], ℕ, List, OnOk, refl, sym, ap, ap₂, subst, ◌∙◌}
-use Rattle.std.proofs.lemmas.List.{append-nil}
-use Rattle.lb_static.specs.declared.resolved.Term.{Term}
-use Rattle.lb_flat.specs.ClockUses.{whens_in, whens_in_all}
-use Rattle.lb_flat.proofs.RowKinds.{piece_added}
-use Rattle.lb_flat.proofs.UsedClocks.{single_whens, group_whens, when_whens, pair_whens, if_whens}
-use Rattle.lb_flat.proofs.UsedClocks.{row_whens, leaf_whens, tail_added}
+use Rattle.lb_flat.proofs.Words.{◌≡◌, ◌++◌, ◌∷◌, [], ℕ, List, OnOk, refl, sym, ap, ap₂, subst, ◌∙◌}
+use Rattle.lb_flat.proofs.Words.{append-nil, Term, whens_in, whens_in_all}
+use Rattle.lb_flat.proofs.numbering.RowKinds.{piece_added}
+use Rattle.lb_flat.proofs.clock_tables.UsedClocks.{single_whens, group_whens, when_whens}
+use Rattle.lb_flat.proofs.clock_tables.UsedClocks.{pair_whens, if_whens}
+use Rattle.lb_flat.proofs.clock_tables.UsedClocks.{row_whens, leaf_whens, tail_added}
 use Rattle.lb_flat.proofs.expansion.clock_uses.+clock_uses.Goals as goal
 
 pub push_term-returns-in-Literal : goal.push_term-returns-in-Literal

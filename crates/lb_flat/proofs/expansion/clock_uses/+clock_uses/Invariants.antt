@@ -1,5 +1,4 @@
-use Rattle.std.proofs.Common.{◌≡◌, ◌++◌, flat_map, take}
-use Rattle.lb_flat.specs.ClockUses.{whens_in}
+use Rattle.lb_flat.proofs.Words.{◌≡◌, ◌++◌, flat_map, take, whens_in}
 use Rattle.lb_flat.proofs.expansion.clock_uses.+clock_uses.Given as goal
 
 abbrev pub invariant-push_terms-loop-term : goal.invariant-push_terms-loop-term

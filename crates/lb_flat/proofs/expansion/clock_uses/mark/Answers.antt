@@ -1,6 +1,5 @@
-use Rattle.std.proofs.Common.{Bool, List, [], length, sym, subst}
-use Rattle.lb_flat.specs.ClockUses.{HasFlags}
-use Rattle.lb_flat.proofs.UsedClocks.{no_flag}
+use Rattle.lb_flat.proofs.Words.{Bool, List, [], length, sym, subst, HasFlags}
+use Rattle.lb_flat.proofs.clock_tables.UsedClocks.{no_flag}
 use Rattle.lb_flat.proofs.expansion.clock_uses.mark.Goals as goal
 
 pub loop-name-init : goal.loop-name-init

@@ -1,5 +1,4 @@
-use Rattle.std.proofs.Common.{take, length}
-use Rattle.lb_flat.specs.ClockUses.{HasFlags}
+use Rattle.lb_flat.proofs.Words.{take, length, HasFlags}
 use Rattle.lb_flat.proofs.expansion.clock_uses.mark.Given as goal
 
 abbrev pub invariant-loop-name : goal.invariant-loop-name

@@ -1,5 +1,4 @@
-use Rattle.std.proofs.Common.{◌≡◌, ◌++◌, ℕ, List, OnOk, sym, ap, subst}
-use Rattle.lb_flat.specs.ClockUses.{statement_whens}
+use Rattle.lb_flat.proofs.Words.{◌≡◌, ◌++◌, ℕ, List, OnOk, sym, ap, subst, statement_whens}
 use Rattle.lb_flat.proofs.expansion.clock_uses.push_statement.Goals as goal
 
 pub returns-in-Equation : goal.returns-in-Equation

@@ -1,5 +1,4 @@
-use Rattle.std.proofs.Common.{◌≡◌, ◌++◌, flat_map, take}
-use Rattle.lb_flat.specs.ClockUses.{statement_whens}
+use Rattle.lb_flat.proofs.Words.{◌≡◌, ◌++◌, flat_map, take, statement_whens}
 use Rattle.lb_flat.proofs.expansion.clock_uses.push_statements.Given as goal
 
 abbrev pub invariant-loop-statement : goal.invariant-loop-statement

@@ -1,5 +1,4 @@
-use Rattle.std.proofs.Common.{◌≡◌, ◌++◌, flat_map, take}
-use Rattle.lb_flat.specs.ClockUses.{declared_when}
+use Rattle.lb_flat.proofs.Words.{◌≡◌, ◌++◌, flat_map, take, declared_when}
 use Rattle.lb_flat.proofs.expansion.clock_uses.push_variables.Given as goal
 
 abbrev pub invariant-loop-variable : goal.invariant-loop-variable

@@ -1,22 +1,15 @@
-use Rattle.std.proofs.Common.{◌≡◌, ◌<◌, ◌^◌, ℕ, Bool, List, ◌++◌, All, Vec}
-use Rattle.std.proofs.Common.{Global, IfOk}
-use Rattle.std.proofs.Common.{arith, sym, ap, ap₂, subst, subst₂, ◌∙◌}
+use Rattle.lb_flat.proofs.Words.{◌≡◌, ◌<◌, ◌^◌, ℕ, Bool, List, ◌++◌, All, Vec, Global, IfOk, arith}
+use Rattle.lb_flat.proofs.Words.{sym, ap, ap₂, subst, subst₂, ◌∙◌, Every, State, before_instances}
+use Rattle.lb_flat.proofs.Words.{bodies, IsCounted, HasRows, Context, emit_rows, kinds_from}
+use Rattle.lb_flat.proofs.Words.{FlatProgram, numbers_of, flat_equations, program_of, state_of}
+use Rattle.lb_flat.proofs.Words.{IsWithin, AreClocks}
 use Rattle.std.proofs.lemmas.Result.{IfOk-weaker as then_ok}
-use Rattle.lb_syntax.specs.Lists.{Every}
 use Rattle.lb_flat.specs.declared.equation.Clock.{Clock}
-use Rattle.lb_flat.specs.Emit.{State, before_instances}
-use Rattle.lb_flat.specs.EmitRows.{bodies, IsCounted, HasRows}
-use Rattle.lb_flat.specs.EmitTerms.{Context, emit_rows}
-use Rattle.lb_flat.specs.FurtherKinds.{kinds_from}
-use Rattle.lb_flat.specs.Judging.{FlatProgram}
-use Rattle.lb_flat.specs.Programs.{numbers_of, flat_equations, program_of}
-use Rattle.lb_flat.specs.TermEmissions.{state_of}
-use Rattle.lb_flat.specs.Within.{IsWithin, AreClocks}
-use Rattle.lb_flat.proofs.EmittedBeginning.{clocks_later, kinds_counted, whole_made}
-use Rattle.lb_flat.proofs.EmittedNumbers.{rows_grow}
-use Rattle.lb_flat.proofs.EmittedStacks.{equations_later}
+use Rattle.lb_flat.proofs.emission.EmittedBeginning.{clocks_later, kinds_counted, whole_made}
+use Rattle.lb_flat.proofs.emission.EmittedNumbers.{rows_grow}
+use Rattle.lb_flat.proofs.emission.EmittedStacks.{equations_later}
+use Rattle.lb_flat.proofs.emission.Emitting.{elements_later}
 use Rattle.lb_flat.proofs.expansion.whole_emission.emit_program.Goals as goal
-use Rattle.lb_flat.proofs.Emitting.{elements_later}
 
 pub rows-requires-clause-clocks : goal.rows-requires-clause-clocks
 rows-requires-clause-clocks g c =
@@ -103,10 +96,10 @@ into_program-requires-clause-kinds g c =
     ∙ ap₂ (λ (s : State) (cs : ℕ → Context). emit_rows s (bodies r t cs 0 t.instances.items))
     c.new-emission.ensures.state c.in_ok-beginning.ensures.contexts in
     kinds_counted c.args.variables (bodies r t cs 0 t.instances.items) c.args.kinds.items
-    c.further_kinds.new.kinds.items (flat_equations e.clocks.items e.equations.items)
+    c.temporary_kinds.new.kinds.items (flat_equations e.clocks.items e.equations.items)
     c.in_ok-whole.whole.next c.requires.kinds (ap (λ (s : State). s.equations) all)
     (ap (λ (s : State). s.next) (c.in_ok-whole.ensures.state) ∙ ap (λ (s : State). s.next) all)
-    (c.in_ok-further_kinds.ensures e.clocks.items
+    (c.in_ok-temporary_kinds.ensures e.clocks.items
     ∙ ap (λ qs. c.args.kinds.items
     ++ kinds_from c.args.kinds.items (flat_equations e.clocks.items qs)) c.deref-2.ensures.value)
 
@@ -166,13 +159,13 @@ returns-clause-program g c =
     (c.in_ok-rows.ensures.clocks ∙ c.new-emission.ensures.clocks) in
     let begun = ap (λ cs. flat_equations cs b.copies.items)
     (clocks ∙ sym c.deref.ensures.value) ∙ c.in_ok-beginning.ensures.copies in
-    let known = c.in_ok-further_kinds.ensures e.clocks.items
+    let known = c.in_ok-temporary_kinds.ensures e.clocks.items
     ∙ ap (λ qs. kinds ++ kinds_from kinds (flat_equations e.clocks.items qs))
     c.deref-2.ensures.value in
     subst (λ (f : FlatProgram). IfOk c.into_program.result (λ p. program_of p ≡ f))
     (whole_made r t cs c.args.inputs.items kinds c.args.variables (state_of e)
     (state_of c.in_ok-whole.whole) (flat_equations e.clocks.items b.copies.items)
-    c.further_kinds.new.kinds.items (numbers_of b.clock_elements.items) b.property.0
+    c.temporary_kinds.new.kinds.items (numbers_of b.clock_elements.items) b.property.0
     c.in_ok-whole.ensures.state begun all known c.in_ok-beginning.ensures.clock_elements
     c.in_ok-beginning.ensures.property) c.into_program.ensures.program
 

@@ -1,7 +1,6 @@
-use Rattle.std.proofs.Common.{◌<◌, length, arith, Some, None, sym, ap, ◌∙◌}
+use Rattle.lb_flat.proofs.Words.{◌<◌, length, arith, Some, None, sym, ap, ◌∙◌, start_in}
 use Rattle.std.specs.Prelude.{option_map}
-use Rattle.lb_flat.specs.EmitWhole.{start_in}
-use Rattle.lb_flat.proofs.EmittedStarts.{start_passed, start_here, start_end}
+use Rattle.lb_flat.proofs.emission.EmittedStarts.{start_passed, start_here, start_end}
 use Rattle.lb_flat.proofs.expansion.whole_emission.start_in.Goals as goal
 
 pub loop-row-preserved : goal.loop-row-preserved

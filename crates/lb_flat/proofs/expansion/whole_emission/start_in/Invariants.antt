@@ -1,5 +1,4 @@
-use Rattle.std.proofs.Common.{◌≡◌, drop}
-use Rattle.lb_flat.specs.EmitWhole.{start_from, start_in}
+use Rattle.lb_flat.proofs.Words.{◌≡◌, drop, start_from, start_in}
 use Rattle.lb_flat.proofs.expansion.whole_emission.start_in.Given as goal
 
 abbrev pub invariant-loop-row : goal.invariant-loop-row

@@ -1,16 +1,14 @@
--- One row more, or too many elements; and what is read of all rows.
-use Rattle.std.proofs.Common.{◌≡◌, ◌+◌, ◌-◌, ◌<◌, ◌≤◌, [], ◌∷◌, ◌++◌, take, get_or, length}
-use Rattle.std.proofs.Common.{flat_map, ap, ◌∙◌, subst, rules}
-use Rattle.std.specs.Prelude.{slice_get, Result, Err}
-use Rattle.std.specs.List.{range_with_len}
-use Rattle.std.proofs.lemmas.Result.{err_from_is_err_and}
-use Rattle.lb_syntax.specs.Lists.{listed}
-use Rattle.lb_flat.specs.Rows.{sum_of, widths_in}
+-- Each pass adds one row, or finds too many elements; and what is read of all rows.
+use Rattle.lb_flat.proofs.Words.{◌≡◌, ◌+◌, ◌-◌, ◌<◌, ◌≤◌, [], ◌∷◌, ◌++◌, take, get_or, length}
+use Rattle.lb_flat.proofs.Words.{flat_map, ap, ◌∙◌, subst, rules, slice_get, range_with_len}
+use Rattle.lb_flat.proofs.Words.{err_from_is_err_and, listed, sum_of, widths_in}
+use Rattle.std.specs.Prelude.{Result, Err}
 use Rattle.lb_flat.specs.declared.layout.LayoutError.TheVariants.{Large}
-use Rattle.lb_flat.proofs.StoredLayouts.{row_stored, rows_past, all_stored, starts, read_numbers}
+use Rattle.lb_flat.proofs.numbering.StoredLayouts.{row_stored, rows_past, all_stored, starts}
+use Rattle.lb_flat.proofs.numbering.StoredLayouts.{read_numbers}
 use Rattle.lb_flat.proofs.layout.Layout.new.Goals as goal
 
--- an error of one result is that of another
+-- equal errors are equal in results of another type
 same_error :
     {A B E : Type 0} (x y : E) → ◌≡◌ {A = Result A E} (Err x) (Err y) →
     ◌≡◌ {A = Result B E} (Err x) (Err y)

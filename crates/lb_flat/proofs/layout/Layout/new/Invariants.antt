@@ -1,6 +1,5 @@
-use Rattle.std.proofs.Common.{take}
-use Rattle.lb_flat.specs.Rows.{widths_in}
-use Rattle.lb_flat.proofs.StoredLayouts.{IsStored}
+use Rattle.lb_flat.proofs.Words.{take, widths_in}
+use Rattle.lb_flat.proofs.numbering.StoredLayouts.{IsStored}
 use Rattle.lb_flat.proofs.layout.Layout.new.Given as goal
 
 abbrev pub invariant-loop-row : goal.invariant-loop-row

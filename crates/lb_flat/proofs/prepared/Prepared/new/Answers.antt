@@ -1,7 +1,6 @@
 -- The equations of a program in order can be computed one after the other.
-use Rattle.std.proofs.Common.{rules, ◌≡◌, length}
-use Rattle.lb_flat.specs.Programs.{flat_equations}
-use Rattle.lb_flat.proofs.InOrder.{ready_of}
+use Rattle.lb_flat.proofs.Words.{rules, ◌≡◌, length, flat_equations}
+use Rattle.lb_flat.proofs.ordering.InOrder.{ready_of}
 use Rattle.lb_flat.proofs.prepared.Prepared.new.Goals as goal
 
 pub set_constants-requires-clause-in_order : goal.set_constants-requires-clause-in_order

@@ -1,11 +1,10 @@
-use Rattle.std.proofs.Common.{◌≡◌, ◌∙◌, Some, [], ◌∷◌, ◌++◌, drop, length, set, vec_len, ap, sym}
-use Rattle.std.proofs.Common.{subst, arith}
+use Rattle.lb_flat.proofs.Words.{◌≡◌, ◌∙◌, Some, [], ◌∷◌, ◌++◌, drop, length, set, ap, sym, subst}
+use Rattle.lb_flat.proofs.Words.{arith, ElementId, numbers_of, program_of, IsReadCycle}
+use Rattle.std.proofs.Common.{vec_len}
 use Rattle.std.proofs.lemmas.List.{length-map, map-append, drop-map as map_drop}
-use Rattle.lb_flat.specs.declared.equation.ElementId.{ElementId}
-use Rattle.lb_flat.specs.Programs.{numbers_of, program_of}
-use Rattle.lb_flat.specs.Reading.{IsReadCycle}
-use Rattle.lb_flat.proofs.ReadCycles.{IsWay, way_closes, way_place, way_noted, way_less, way_free}
-use Rattle.lb_flat.proofs.ReadCycles.{way_more}
+use Rattle.lb_flat.proofs.ordering.ReadCycles.{IsWay, way_closes, way_place, way_noted, way_less}
+use Rattle.lb_flat.proofs.ordering.ReadCycles.{way_free}
+use Rattle.lb_flat.proofs.ordering.ReadCycles.{way_more}
 use Rattle.lb_flat.proofs.scheduling.cycle.read_cycle.Goals as goal
 
 pub split_at-requires : goal.split_at-requires

@@ -1,6 +1,5 @@
-use Rattle.lb_flat.specs.Ordering.{IsLeft}
-use Rattle.lb_flat.specs.Programs.{numbers_of, program_of}
-use Rattle.lb_flat.proofs.ReadCycles.{IsWay, unnoted}
+use Rattle.lb_flat.proofs.Words.{IsLeft, numbers_of, program_of}
+use Rattle.lb_flat.proofs.ordering.ReadCycles.{IsWay, unnoted}
 use Rattle.lb_flat.proofs.scheduling.cycle.read_cycle.Given as goal
 
 abbrev pub invariant-path : goal.invariant-path

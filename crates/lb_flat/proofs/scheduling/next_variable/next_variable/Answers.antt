@@ -1,4 +1,4 @@
-use Rattle.lb_flat.proofs.ReadCycles.{leads_on}
+use Rattle.lb_flat.proofs.ordering.ReadCycles.{leads_on}
 use Rattle.lb_flat.proofs.scheduling.next_variable.next_variable.Goals as goal
 
 pub reads-preserved : goal.reads-preserved

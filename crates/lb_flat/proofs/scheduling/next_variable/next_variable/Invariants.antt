@@ -1,6 +1,4 @@
-use Rattle.lb_flat.specs.Ordering.{IsLeft}
-use Rattle.lb_flat.specs.Programs.{program_of}
-use Rattle.lb_flat.specs.Reading.{Leads}
+use Rattle.lb_flat.proofs.Words.{IsLeft, program_of, Leads}
 use Rattle.lb_flat.proofs.scheduling.next_variable.next_variable.Given as goal
 
 abbrev pub invariant-reads : goal.invariant-reads

@@ -1,7 +1,6 @@
-use Rattle.std.proofs.Common.{subst, sym, ◌∙◌, set, true, arith}
-use Rattle.lb_flat.specs.Ordering.{IsScheduled}
-use Rattle.lb_flat.proofs.Awaiting.{found_none}
-use Rattle.lb_flat.proofs.Ordering.{schedules, left-set}
+use Rattle.lb_flat.proofs.Words.{subst, sym, ◌∙◌, set, true, arith, IsScheduled}
+use Rattle.lb_flat.proofs.ordering.Awaiting.{found_none}
+use Rattle.lb_flat.proofs.ordering.Ordering.{schedules, left-set}
 use Rattle.lb_flat.proofs.scheduling.schedule.schedule.Goals as goal
 
 pub returns-clause-state : goal.returns-clause-state

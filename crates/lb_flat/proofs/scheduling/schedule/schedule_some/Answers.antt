@@ -1,5 +1,5 @@
 use Rattle.std.proofs.Common.{subst, sym, ◌+◌, Bool}
-use Rattle.lb_flat.proofs.Ordering.{IsPassing, one_settled, none_settled}
+use Rattle.lb_flat.proofs.ordering.Ordering.{IsPassing, one_settled, none_settled}
 use Rattle.lb_flat.proofs.scheduling.schedule.schedule_some.Goals as goal
 use Rattle.lb_flat.proofs.scheduling.schedule.schedule_some.Goals.{then-branch, else-branch}
 

@@ -1,5 +1,5 @@
 use Rattle.lb_flat.specs.Ordering.{IsScheduled}
-use Rattle.lb_flat.proofs.Ordering.{IsPassing}
+use Rattle.lb_flat.proofs.ordering.Ordering.{IsPassing}
 use Rattle.lb_flat.proofs.scheduling.schedule.schedule_some.Given as goal
 
 abbrev pub invariant-loop-e : goal.invariant-loop-e

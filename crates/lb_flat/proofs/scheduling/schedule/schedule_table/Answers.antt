@@ -1,13 +1,9 @@
-use Rattle.std.proofs.Common.{◌≡◌, ◌∙◌, Global, Vec, ap, arith, subst, sym}
-use Rattle.lb_static.specs.Instances.{Program}
-use Rattle.lb_flat.specs.Correct.{IsExpansionOf}
-use Rattle.lb_flat.specs.Programs.{numbers_of, program_of}
-use Rattle.lb_flat.specs.Reading.{IsCertificate, IsReadCycle}
-use Rattle.lb_flat.specs.declared.equation.ElementId.{ElementId}
-use Rattle.lb_flat.specs.declared.error.Cycle.{Cycle}
-use Rattle.lb_flat.proofs.ExpansionReads.{expansion_certified}
-use Rattle.lb_flat.proofs.Ordering.{all_settled}
-use Rattle.lb_flat.proofs.Tables.{is_table}
+use Rattle.lb_flat.proofs.Words.{◌≡◌, ◌∙◌, Global, Vec, ap, arith, subst, sym, Program}
+use Rattle.lb_flat.proofs.Words.{IsExpansionOf, numbers_of, program_of, IsCertificate, IsReadCycle}
+use Rattle.lb_flat.proofs.Words.{ElementId, Cycle}
+use Rattle.lb_flat.proofs.ordering.ExpansionReads.{expansion_certified}
+use Rattle.lb_flat.proofs.ordering.Ordering.{all_settled}
+use Rattle.lb_flat.proofs.ordering.Tables.{is_table}
 use Rattle.lb_flat.proofs.scheduling.schedule.schedule_table.Goals as goal
 
 pub schedule_in_depth-requires-clause-table : goal.schedule_in_depth-requires-clause-table

@@ -1,5 +1,4 @@
-use Rattle.std.proofs.Common.{◌≡◌, ◌<◌, ℕ, true}
-use Rattle.lb_flat.specs.InOrder.{is_done}
+use Rattle.lb_flat.proofs.Words.{◌≡◌, ◌<◌, ℕ, true, is_done}
 use Rattle.lb_flat.proofs.scheduling.schedule.schedule_table.Given as goal
 
 abbrev pub invariant-loop-e : goal.invariant-loop-e

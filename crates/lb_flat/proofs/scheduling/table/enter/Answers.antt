@@ -1,4 +1,4 @@
-use Rattle.lb_flat.proofs.Tables.{empty_table, enters}
+use Rattle.lb_flat.proofs.ordering.Tables.{empty_table, enters}
 use Rattle.lb_flat.proofs.scheduling.table.enter.Goals as goal
 
 pub loop-i-init : goal.loop-i-init

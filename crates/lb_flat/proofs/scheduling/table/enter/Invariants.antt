@@ -1,5 +1,4 @@
-use Rattle.std.proofs.Common.{length, take}
-use Rattle.lb_flat.specs.Ordering.{IsTableOf}
+use Rattle.lb_flat.proofs.Words.{length, take, IsTableOf}
 use Rattle.lb_flat.proofs.scheduling.table.enter.Given as goal
 
 abbrev pub invariant-loop-i : goal.invariant-loop-i

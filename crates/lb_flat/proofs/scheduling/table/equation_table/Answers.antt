@@ -1,4 +1,4 @@
-use Rattle.lb_flat.proofs.Tables.{elements_apart}
+use Rattle.lb_flat.proofs.ordering.Tables.{elements_apart}
 use Rattle.lb_flat.proofs.scheduling.table.equation_table.Goals as goal
 
 pub enter-requires-clause-once : goal.enter-requires-clause-once

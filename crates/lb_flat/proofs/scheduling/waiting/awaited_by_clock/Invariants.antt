@@ -1,9 +1,8 @@
-use Rattle.std.proofs.Common.{◌≡◌, ℕ, ◌+◌, length}
-use Rattle.lb_flat.specs.Within.{IsClock}
-use Rattle.lb_flat.proofs.Awaiting.{clock_awaited}
+use Rattle.lb_flat.proofs.Words.{◌≡◌, ℕ, ◌+◌, length, IsClock}
+use Rattle.lb_flat.proofs.ordering.Awaiting.{clock_awaited}
 use Rattle.lb_flat.proofs.scheduling.waiting.awaited_by_clock.Given as goal
 
--- the rest of the clock waits for what all of it waits for
+-- the rest of the clock waits for the same element as the whole clock
 abbrev pub invariant-loop-depth : goal.invariant-loop-depth
 invariant-loop-depth l = record {
   same : (n : ℕ) → n + l.depth ≡ length l.clocks →

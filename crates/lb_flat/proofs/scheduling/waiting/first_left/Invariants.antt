@@ -1,6 +1,4 @@
-use Rattle.std.proofs.Common.{◌≡◌, drop}
-use Rattle.lb_flat.specs.Ordering.{first_left}
-use Rattle.lb_flat.specs.Programs.{numbers_of}
+use Rattle.lb_flat.proofs.Words.{◌≡◌, drop, first_left, numbers_of}
 use Rattle.lb_flat.proofs.scheduling.waiting.first_left.Given as goal
 
 abbrev pub invariant-loop-a : goal.invariant-loop-a

@@ -1,18 +1,11 @@
-use Rattle.std.proofs.Common.{◌<◌, ℕ, Bool, true, false, List, ◌++◌, Option, All}
-use Rattle.std.proofs.Common.{Vec, Global, arith, sym, ap, ap₂, subst, subst₂, ◌∙◌}
+use Rattle.lb_flat.proofs.Words.{◌<◌, ℕ, Bool, true, false, List, ◌++◌, Option, All, Vec, Global}
+use Rattle.lb_flat.proofs.Words.{arith, sym, ap, ap₂, subst, subst₂, ◌∙◌, ForSome, or_else}
+use Rattle.lb_flat.proofs.Words.{ElementId, Start, State, Emitted, HasRows, Context, start_in}
+use Rattle.lb_flat.proofs.Words.{begun_at, outputs_at, row_clocks, IsReady, numbers_of}
+use Rattle.lb_flat.proofs.Words.{flat_equations, IsWithin}
 use Rattle.std.specs.Prelude.{get_or}
-use Rattle.std.specs.Option.{ForSome}
-use Rattle.lb_syntax.specs.Lists.{or_else}
 use Rattle.lb_flat.specs.declared.equation.Clock.{Clock}
-use Rattle.lb_flat.specs.declared.equation.ElementId.{ElementId}
-use Rattle.lb_flat.specs.declared.expansion.start.Start.{Start}
-use Rattle.lb_flat.specs.Emit.{State, Emitted}
-use Rattle.lb_flat.specs.EmitRows.{HasRows}
-use Rattle.lb_flat.specs.EmitTerms.{Context}
-use Rattle.lb_flat.specs.EmitWhole.{start_in, begun_at, outputs_at, row_clocks, IsReady}
-use Rattle.lb_flat.specs.Programs.{numbers_of, flat_equations}
-use Rattle.lb_flat.specs.Within.{IsWithin}
-use Rattle.lb_flat.proofs.EmittedBeginning.{watched_ready}
+use Rattle.lb_flat.proofs.emission.EmittedBeginning.{watched_ready}
 use Rattle.lb_flat.proofs.expansion.begin_emission.Beginning.new.Goals as goal
 
 pub begin-requires-clause-clocks : goal.begin-requires-clause-clocks

@@ -1,9 +1,6 @@
-use Rattle.std.proofs.Common.{◌≡◌, ◌≤◌, drop}
-use Rattle.lb_flat.specs.Frames.{place_of, stacked}
-use Rattle.lb_flat.specs.EmitTerms.{emit_list}
-use Rattle.lb_flat.specs.Programs.{numbers_of}
-use Rattle.lb_flat.specs.TermEmissions.{state_of, emitted_of}
-use Rattle.lb_flat.proofs.EmittedRows.{listed_onto}
+use Rattle.lb_flat.proofs.Words.{◌≡◌, ◌≤◌, drop, place_of, stacked, emit_list, numbers_of, state_of}
+use Rattle.lb_flat.proofs.Words.{emitted_of}
+use Rattle.lb_flat.proofs.emission.EmittedRows.{listed_onto}
 use Rattle.lb_flat.proofs.expansion.term_emission.TermEmission.+form_emission.Given as goal
 
 abbrev pub invariant-emit_all-loop-term : goal.invariant-emit_all-loop-term

@@ -1,6 +1,4 @@
-use Rattle.std.proofs.Common.{◌≡◌, drop}
-use Rattle.lb_flat.specs.Programs.{numbers_of}
-use Rattle.lb_flat.specs.TermEmissions.{state_of, with_asserted}
+use Rattle.lb_flat.proofs.Words.{◌≡◌, drop, numbers_of, state_of, with_asserted}
 use Rattle.lb_flat.proofs.expansion.term_emission.TermEmission.assert_from.Given as goal
 
 abbrev pub invariant-loop-i : goal.invariant-loop-i

@@ -1,7 +1,5 @@
-use Rattle.std.proofs.Common.{◌<◌, ◌^◌, length, arith, sym}
-use Rattle.std.proofs.Common.{subst, ◌∙◌}
-use Rattle.lb_flat.specs.EmitTerms.{Context}
-use Rattle.lb_flat.specs.EmitWhole.{parameter_targets}
+use Rattle.lb_flat.proofs.Words.{◌<◌, ◌^◌, length, arith, sym, subst, ◌∙◌, Context}
+use Rattle.lb_flat.proofs.Words.{parameter_targets}
 use Rattle.lb_flat.proofs.expansion.term_emission.TermEmission.begin.Goals as goal
 
 pub enter-requires : goal.enter-requires

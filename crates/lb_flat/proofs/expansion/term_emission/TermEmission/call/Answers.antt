@@ -1,8 +1,6 @@
-use Rattle.std.proofs.Common.{◌≡◌, ◌+◌, ℕ, List, Vec, Global, OnOk, refl, sym, ap, subst, ◌∙◌}
-use Rattle.lb_flat.specs.declared.equation.ElementId.{ElementId}
-use Rattle.lb_flat.specs.Programs.{numbers_of}
-use Rattle.lb_flat.specs.TermEmissions.{state_of, emitted_of}
-use Rattle.lb_flat.proofs.EmittedCalls.{call_done, nothing_called}
+use Rattle.lb_flat.proofs.Words.{◌≡◌, ◌+◌, ℕ, List, Vec, Global, OnOk, refl, sym, ap, subst, ◌∙◌}
+use Rattle.lb_flat.proofs.Words.{ElementId, numbers_of, state_of, emitted_of}
+use Rattle.lb_flat.proofs.emission.EmittedCalls.{call_done, nothing_called}
 use Rattle.lb_flat.proofs.expansion.term_emission.TermEmission.call.Goals as goal
 
 pub returns-in_ok-copy_inputs-in-Some-clause-emitted :

@@ -1,14 +1,8 @@
-use Rattle.std.proofs.Common.{◌<◌, ◌≤◌, length, get_or, arith, Vec, Global, ap, ◌∙◌, ℕ}
-use Rattle.std.proofs.Common.{List}
-use Rattle.std.proofs.lemmas.List.{length-map}
+use Rattle.lb_flat.proofs.Words.{◌<◌, ◌≤◌, length, get_or, arith, Vec, Global, ap, ◌∙◌, ℕ, List}
+use Rattle.lb_flat.proofs.Words.{length-map, ElementId, FlatClock, numbers_of, state_of, clock_of}
 use Rattle.lb_flat.specs.declared.equation.Clock.{Clock}
-use Rattle.lb_flat.specs.declared.equation.ElementId.{ElementId}
-use Rattle.lb_flat.specs.Flat.{FlatClock}
-use Rattle.lb_flat.specs.Programs.{numbers_of}
-use Rattle.lb_flat.specs.TermEmissions.{state_of}
-use Rattle.lb_flat.specs.Values.{clock_of}
-use Rattle.lb_flat.proofs.EmittedChains.{chain_step, chain_end}
-use Rattle.lb_flat.proofs.EmittedStacks.{number_at}
+use Rattle.lb_flat.proofs.emission.EmittedChains.{chain_step, chain_end}
+use Rattle.lb_flat.proofs.emission.EmittedStacks.{number_at}
 use Rattle.lb_flat.proofs.expansion.term_emission.TermEmission.chain.Goals as goal
 
 pub loop-i-preserved : goal.loop-i-preserved

@@ -1,8 +1,4 @@
-use Rattle.std.proofs.Common.{◌≡◌, ◌<◌, ◌+◌, drop}
-use Rattle.lb_flat.specs.Emit.{chained}
-use Rattle.lb_flat.specs.TermEmissions.{state_of}
-use Rattle.lb_flat.specs.Programs.{numbers_of}
-use Rattle.lb_flat.specs.Values.{clock_of}
+use Rattle.lb_flat.proofs.Words.{◌≡◌, ◌<◌, ◌+◌, drop, chained, state_of, numbers_of, clock_of}
 use Rattle.lb_flat.proofs.expansion.term_emission.TermEmission.chain.Given as goal
 
 abbrev pub invariant-loop-i : goal.invariant-loop-i

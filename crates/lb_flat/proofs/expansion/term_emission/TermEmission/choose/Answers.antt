@@ -1,12 +1,8 @@
-use Rattle.std.proofs.Common.{◌<◌, ◌+◌, ◌-◌, ◌^◌, min, subst}
-use Rattle.std.proofs.Common.{arith, ap, ◌∙◌}
-use Rattle.std.proofs.lemmas.List.{length-map}
-use Rattle.lb_flat.specs.declared.equation.ElementId.{ElementId}
-use Rattle.lb_flat.specs.TermEmissions.{emitted_of}
-use Rattle.lb_flat.specs.Values.{clock_of}
-use Rattle.lb_flat.proofs.EmittedForms.{chosen_is, none_chosen}
-use Rattle.lb_flat.proofs.EmittedRooms.{choose_room}
-use Rattle.lb_flat.proofs.EmittedStacks.{number_at}
+use Rattle.lb_flat.proofs.Words.{◌<◌, ◌+◌, ◌-◌, ◌^◌, min, subst, arith, ap, ◌∙◌, length-map}
+use Rattle.lb_flat.proofs.Words.{ElementId, emitted_of, clock_of}
+use Rattle.lb_flat.proofs.emission.EmittedForms.{chosen_is, none_chosen}
+use Rattle.lb_flat.proofs.emission.EmittedRooms.{choose_room}
+use Rattle.lb_flat.proofs.emission.EmittedStacks.{number_at}
 use Rattle.lb_flat.proofs.expansion.term_emission.TermEmission.choose.Goals as goal
 
 pub pairs-requires-clause-room : goal.pairs-requires-clause-room

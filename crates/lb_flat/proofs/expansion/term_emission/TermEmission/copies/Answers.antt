@@ -1,10 +1,6 @@
-use Rattle.std.proofs.Common.{◌≡◌, ◌≤◌, ℕ, List, length, arith, refl, sym, ap, ◌∙◌}
-use Rattle.std.proofs.lemmas.List.{append-nil, length-map}
-use Rattle.lb_flat.specs.declared.equation.ElementId.{ElementId}
-use Rattle.lb_flat.specs.Emit.{gives}
-use Rattle.lb_flat.specs.Programs.{numbers_of}
-use Rattle.lb_flat.specs.TermEmissions.{state_of, emitted_of}
-use Rattle.lb_flat.proofs.EmittedCuts.{copies_more, copies_end}
+use Rattle.lb_flat.proofs.Words.{◌≡◌, ◌≤◌, ℕ, List, length, arith, refl, sym, ap, ◌∙◌, append-nil}
+use Rattle.lb_flat.proofs.Words.{length-map, ElementId, gives, numbers_of, state_of, emitted_of}
+use Rattle.lb_flat.proofs.emission.EmittedCuts.{copies_more, copies_end}
 use Rattle.lb_flat.proofs.expansion.term_emission.TermEmission.copies.Goals as goal
 
 pub loop-i-init : goal.loop-i-init

@@ -1,8 +1,5 @@
-use Rattle.std.proofs.Common.{◌≡◌, ◌≤◌, drop, length}
-use Rattle.lb_syntax.specs.Lists.{copies}
-use Rattle.lb_flat.specs.Emit.{gives}
-use Rattle.lb_flat.specs.Programs.{numbers_of}
-use Rattle.lb_flat.specs.TermEmissions.{state_of, emitted_of, onto}
+use Rattle.lb_flat.proofs.Words.{◌≡◌, ◌≤◌, drop, length, copies, gives, numbers_of, state_of}
+use Rattle.lb_flat.proofs.Words.{emitted_of, onto}
 use Rattle.lb_flat.proofs.expansion.term_emission.TermEmission.copies.Given as goal
 
 abbrev pub invariant-loop-i : goal.invariant-loop-i

@@ -1,17 +1,11 @@
-use Rattle.std.proofs.Common.{◌<◌, ◌≤◌, ◌+◌, ◌-◌, ℕ, List, length, drop, get_or, min, arith}
-use Rattle.std.proofs.Common.{Vec, Global, refl, sym, ap, ◌∙◌}
-use Rattle.std.proofs.Math.Nat.{min-le_left, min-le_right}
-use Rattle.std.proofs.lemmas.List.{length-map, length-drop, get_or-drop}
+use Rattle.lb_flat.proofs.Words.{◌<◌, ◌≤◌, ◌+◌, ◌-◌, ℕ, List, length, drop, get_or, min, arith, Vec}
+use Rattle.lb_flat.proofs.Words.{Global, refl, sym, ap, ◌∙◌, min-le_left, min-le_right, length-map}
+use Rattle.lb_flat.proofs.Words.{length-drop, get_or-drop, ElementId, copied, FlatClock}
+use Rattle.lb_flat.proofs.Words.{elements_of, targets_of, with_copies, numbers_of, state_of}
+use Rattle.lb_flat.proofs.Words.{clock_of}
 use Rattle.lb_flat.specs.declared.equation.Clock.{Clock}
-use Rattle.lb_flat.specs.declared.equation.ElementId.{ElementId}
-use Rattle.lb_flat.specs.Emit.{copied}
-use Rattle.lb_flat.specs.Flat.{FlatClock}
-use Rattle.lb_flat.specs.Frames.{elements_of, targets_of, with_copies}
-use Rattle.lb_flat.specs.Programs.{numbers_of}
-use Rattle.lb_flat.specs.TermEmissions.{state_of}
-use Rattle.lb_flat.specs.Values.{clock_of}
-use Rattle.lb_flat.proofs.EmittedCalls.{copy_step, copy_ends}
-use Rattle.lb_flat.proofs.EmittedStacks.{number_at}
+use Rattle.lb_flat.proofs.emission.EmittedCalls.{copy_step, copy_ends}
+use Rattle.lb_flat.proofs.emission.EmittedStacks.{number_at}
 use Rattle.lb_flat.proofs.expansion.term_emission.TermEmission.copy.Goals as goal
 
 pub loop-i-preserved : goal.loop-i-preserved

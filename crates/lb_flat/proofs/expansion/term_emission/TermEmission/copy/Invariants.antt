@@ -1,9 +1,5 @@
-use Rattle.std.proofs.Common.{◌≡◌, drop}
-use Rattle.lb_flat.specs.Emit.{copied}
-use Rattle.lb_flat.specs.Frames.{elements_of, targets_of, with_copies}
-use Rattle.lb_flat.specs.Programs.{numbers_of}
-use Rattle.lb_flat.specs.TermEmissions.{state_of}
-use Rattle.lb_flat.specs.Values.{clock_of}
+use Rattle.lb_flat.proofs.Words.{◌≡◌, drop, copied, elements_of, targets_of, with_copies}
+use Rattle.lb_flat.proofs.Words.{numbers_of, state_of, clock_of}
 use Rattle.lb_flat.proofs.expansion.term_emission.TermEmission.copy.Given as goal
 
 abbrev pub invariant-loop-i : goal.invariant-loop-i

@@ -1,14 +1,8 @@
-use Rattle.std.proofs.Common.{ℕ, List, drop, arith, sym, ap, subst, ◌∙◌}
+use Rattle.lb_flat.proofs.Words.{ℕ, List, drop, arith, sym, ap, subst, ◌∙◌, copied, input_targets}
+use Rattle.lb_flat.proofs.Words.{FlatClock, elements_of, with_copies, numbers_of, state_of}
+use Rattle.lb_flat.proofs.Words.{clock_of, IsClock}
 use Rattle.lb_flat.specs.declared.equation.Clock.{Clock}
-use Rattle.lb_flat.specs.Emit.{copied}
-use Rattle.lb_flat.specs.EmitTerms.{input_targets}
-use Rattle.lb_flat.specs.Flat.{FlatClock}
-use Rattle.lb_flat.specs.Frames.{elements_of, with_copies}
-use Rattle.lb_flat.specs.Programs.{numbers_of}
-use Rattle.lb_flat.specs.TermEmissions.{state_of}
-use Rattle.lb_flat.specs.Values.{clock_of}
-use Rattle.lb_flat.specs.Within.{IsClock}
-use Rattle.lb_flat.proofs.EmittedCalls.{child_copied, first_accumulator, next_accumulator}
+use Rattle.lb_flat.proofs.emission.EmittedCalls.{child_copied, first_accumulator, next_accumulator}
 use Rattle.lb_flat.proofs.expansion.term_emission.TermEmission.copy_accumulator.Goals as goal
 
 pub copy_elements-requires-clause-clock : goal.copy_elements-requires-clause-clock

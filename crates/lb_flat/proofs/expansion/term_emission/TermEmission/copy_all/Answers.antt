@@ -1,12 +1,7 @@
-use Rattle.std.proofs.Common.{◌<◌, ℕ, List, drop, arith, Vec, Global, ap, ◌∙◌}
+use Rattle.lb_flat.proofs.Words.{◌<◌, ℕ, List, drop, arith, Vec, Global, ap, ◌∙◌, range_with_len}
+use Rattle.lb_flat.proofs.Words.{ElementId, index_copies, with_copies, numbers_of, state_of}
 use Rattle.std.specs.Prelude.{flat_map}
-use Rattle.std.specs.List.{range_with_len}
-use Rattle.lb_flat.specs.declared.equation.ElementId.{ElementId}
-use Rattle.lb_flat.specs.EmitTerms.{index_copies}
-use Rattle.lb_flat.specs.Frames.{with_copies}
-use Rattle.lb_flat.specs.Programs.{numbers_of}
-use Rattle.lb_flat.specs.TermEmissions.{state_of}
-use Rattle.lb_flat.proofs.EmittedCalls.{index_step, index_ends}
+use Rattle.lb_flat.proofs.emission.EmittedCalls.{index_step, index_ends}
 use Rattle.lb_flat.proofs.expansion.term_emission.TermEmission.copy_all.Goals as goal
 
 pub loop-index-preserved : goal.loop-index-preserved

@@ -1,10 +1,6 @@
-use Rattle.std.proofs.Common.{◌≡◌, drop}
+use Rattle.lb_flat.proofs.Words.{◌≡◌, drop, range_with_len, index_copies, with_copies, numbers_of}
+use Rattle.lb_flat.proofs.Words.{state_of}
 use Rattle.std.specs.Prelude.{flat_map}
-use Rattle.std.specs.List.{range_with_len}
-use Rattle.lb_flat.specs.EmitTerms.{index_copies}
-use Rattle.lb_flat.specs.Frames.{with_copies}
-use Rattle.lb_flat.specs.Programs.{numbers_of}
-use Rattle.lb_flat.specs.TermEmissions.{state_of}
 use Rattle.lb_flat.proofs.expansion.term_emission.TermEmission.copy_all.Given as goal
 
 abbrev pub invariant-loop-index : goal.invariant-loop-index

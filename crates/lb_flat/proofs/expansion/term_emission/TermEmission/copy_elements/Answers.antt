@@ -1,13 +1,9 @@
-use Rattle.std.proofs.Common.{◌<◌, ◌≤◌, length, min, arith, Vec, Global, refl, sym, ap, ◌∙◌}
-use Rattle.std.proofs.Math.Nat.{min-le_left, min-le_right}
-use Rattle.std.proofs.lemmas.List.FromFn.{length-range_with_len, get_or-range_with_len}
+use Rattle.lb_flat.proofs.Words.{◌<◌, ◌≤◌, length, min, arith, Vec, Global, refl, sym, ap, ◌∙◌}
+use Rattle.lb_flat.proofs.Words.{min-le_left, min-le_right, length-range_with_len}
+use Rattle.lb_flat.proofs.Words.{get_or-range_with_len, copied, FlatClock, elements_of, targets_of}
+use Rattle.lb_flat.proofs.Words.{with_copies, state_of, clock_of}
 use Rattle.lb_flat.specs.declared.equation.Clock.{Clock}
-use Rattle.lb_flat.specs.Emit.{copied}
-use Rattle.lb_flat.specs.Flat.{FlatClock}
-use Rattle.lb_flat.specs.Frames.{elements_of, targets_of, with_copies}
-use Rattle.lb_flat.specs.TermEmissions.{state_of}
-use Rattle.lb_flat.specs.Values.{clock_of}
-use Rattle.lb_flat.proofs.EmittedCalls.{copy_step, copy_ends}
+use Rattle.lb_flat.proofs.emission.EmittedCalls.{copy_step, copy_ends}
 use Rattle.lb_flat.proofs.expansion.term_emission.TermEmission.copy_elements.Goals as goal
 
 pub loop-i-preserved : goal.loop-i-preserved

@@ -1,8 +1,5 @@
-use Rattle.std.proofs.Common.{◌≡◌, drop}
-use Rattle.lb_flat.specs.Emit.{copied}
-use Rattle.lb_flat.specs.Frames.{elements_of, targets_of, with_copies}
-use Rattle.lb_flat.specs.TermEmissions.{state_of}
-use Rattle.lb_flat.specs.Values.{clock_of}
+use Rattle.lb_flat.proofs.Words.{◌≡◌, drop, copied, elements_of, targets_of, with_copies, state_of}
+use Rattle.lb_flat.proofs.Words.{clock_of}
 use Rattle.lb_flat.proofs.expansion.term_emission.TermEmission.copy_elements.Given as goal
 
 abbrev pub invariant-loop-i : goal.invariant-loop-i

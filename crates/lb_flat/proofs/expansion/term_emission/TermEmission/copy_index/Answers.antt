@@ -1,16 +1,9 @@
-use Rattle.std.proofs.Common.{◌≡◌, ◌≤◌, ◌+◌, ◌-◌, ℕ, List, length, drop, min, arith, Vec, Global}
-use Rattle.std.proofs.Common.{OnOk, refl, sym, ap, ap₂, subst, ◌∙◌}
-use Rattle.std.specs.List.{range_with_len}
-use Rattle.std.proofs.lemmas.List.{length-map}
-use Rattle.std.proofs.lemmas.List.FromFn.{length-range_with_len}
-use Rattle.lb_syntax.specs.declared.tree.ArrayIterator.{ArrayIterator}
+use Rattle.lb_flat.proofs.Words.{◌≡◌, ◌≤◌, ◌+◌, ◌-◌, ℕ, List, length, drop, min, arith, Vec, Global}
+use Rattle.lb_flat.proofs.Words.{OnOk, refl, sym, ap, ap₂, subst, ◌∙◌, range_with_len, length-map}
+use Rattle.lb_flat.proofs.Words.{length-range_with_len, ArrayIterator, ElementId, index_copies}
+use Rattle.lb_flat.proofs.Words.{part_copies, with_copies, numbers_of, state_of}
 use Rattle.lb_flat.specs.declared.equation.Clock.{Clock}
-use Rattle.lb_flat.specs.declared.equation.ElementId.{ElementId}
-use Rattle.lb_flat.specs.EmitTerms.{index_copies, part_copies}
-use Rattle.lb_flat.specs.Frames.{with_copies}
-use Rattle.lb_flat.specs.Programs.{numbers_of}
-use Rattle.lb_flat.specs.TermEmissions.{state_of}
-use Rattle.lb_flat.proofs.EmittedCalls.{red_copied}
+use Rattle.lb_flat.proofs.emission.EmittedCalls.{red_copied}
 use Rattle.lb_flat.proofs.expansion.term_emission.TermEmission.copy_index.Goals as goal
 
 pub returns-in-Map-clause-state : goal.returns-in-Map-clause-state

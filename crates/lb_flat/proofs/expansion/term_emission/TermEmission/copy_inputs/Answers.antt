@@ -1,17 +1,10 @@
-use Rattle.std.proofs.Common.{◌≡◌, ◌<◌, ◌≤◌, ◌+◌, ◌-◌, ℕ, List, length, drop, min, arith, Vec}
-use Rattle.std.proofs.Common.{Global, sym, ap, ◌∙◌}
+use Rattle.lb_flat.proofs.Words.{◌≡◌, ◌<◌, ◌≤◌, ◌+◌, ◌-◌, ℕ, List, length, drop, min, arith, Vec}
+use Rattle.lb_flat.proofs.Words.{Global, sym, ap, ◌∙◌, range_with_len, min-le_right, length-map}
+use Rattle.lb_flat.proofs.Words.{ElementId, copied, input_targets, with_copies, numbers_of}
+use Rattle.lb_flat.proofs.Words.{state_of}
 use Rattle.std.specs.Prelude.{flat_map}
-use Rattle.std.specs.List.{range_with_len}
-use Rattle.std.proofs.Math.Nat.{min-le_right}
-use Rattle.std.proofs.lemmas.List.{length-map}
 use Rattle.lb_flat.specs.declared.equation.Clock.{Clock}
-use Rattle.lb_flat.specs.declared.equation.ElementId.{ElementId}
-use Rattle.lb_flat.specs.Emit.{copied}
-use Rattle.lb_flat.specs.EmitTerms.{input_targets}
-use Rattle.lb_flat.specs.Frames.{with_copies}
-use Rattle.lb_flat.specs.Programs.{numbers_of}
-use Rattle.lb_flat.specs.TermEmissions.{state_of}
-use Rattle.lb_flat.proofs.EmittedCalls.{input_step, input_ends}
+use Rattle.lb_flat.proofs.emission.EmittedCalls.{input_step, input_ends}
 use Rattle.lb_flat.proofs.expansion.term_emission.TermEmission.copy_inputs.Goals as goal
 
 pub copy_child-requires-clause-clocks : goal.copy_child-requires-clause-clocks

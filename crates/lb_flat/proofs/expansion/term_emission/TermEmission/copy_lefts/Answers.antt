@@ -1,20 +1,11 @@
-use Rattle.std.proofs.Common.{◌≡◌, ◌≤◌, ◌+◌, ◌-◌, ℕ, List, length, drop, min, arith, Vec}
-use Rattle.std.proofs.Common.{Global, refl, sym, ap, ap₂, subst, ◌∙◌}
+use Rattle.lb_flat.proofs.Words.{◌≡◌, ◌≤◌, ◌+◌, ◌-◌, ℕ, List, length, drop, min, arith, Vec, Global}
+use Rattle.lb_flat.proofs.Words.{refl, sym, ap, ap₂, subst, ◌∙◌, min-le_right, length-map}
+use Rattle.lb_flat.proofs.Words.{length-range_with_len, ElementId, copied, left_targets, FlatClock}
+use Rattle.lb_flat.proofs.Words.{elements_of, targets_of, with_copies, numbers_of, state_of}
+use Rattle.lb_flat.proofs.Words.{clock_of, IsClock}
 use Rattle.std.specs.Prelude.{flat_map}
-use Rattle.std.proofs.Math.Nat.{min-le_right}
-use Rattle.std.proofs.lemmas.List.{length-map}
-use Rattle.std.proofs.lemmas.List.FromFn.{length-range_with_len}
 use Rattle.lb_flat.specs.declared.equation.Clock.{Clock}
-use Rattle.lb_flat.specs.declared.equation.ElementId.{ElementId}
-use Rattle.lb_flat.specs.Emit.{copied}
-use Rattle.lb_flat.specs.EmitTerms.{left_targets}
-use Rattle.lb_flat.specs.Flat.{FlatClock}
-use Rattle.lb_flat.specs.Frames.{elements_of, targets_of, with_copies}
-use Rattle.lb_flat.specs.Programs.{numbers_of}
-use Rattle.lb_flat.specs.TermEmissions.{state_of}
-use Rattle.lb_flat.specs.Values.{clock_of}
-use Rattle.lb_flat.specs.Within.{IsClock}
-use Rattle.lb_flat.proofs.EmittedStatements.{left_step, left_ends}
+use Rattle.lb_flat.proofs.emission.EmittedStatements.{left_step, left_ends}
 use Rattle.lb_flat.proofs.expansion.term_emission.TermEmission.copy_lefts.Goals as goal
 
 pub copy-requires-clause-targets : goal.copy-requires-clause-targets

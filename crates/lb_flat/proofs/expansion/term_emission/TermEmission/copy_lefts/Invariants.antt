@@ -1,10 +1,6 @@
-use Rattle.std.proofs.Common.{◌≡◌, ◌≤◌, drop, length}
+use Rattle.lb_flat.proofs.Words.{◌≡◌, ◌≤◌, drop, length, copied, left_targets, with_copies}
+use Rattle.lb_flat.proofs.Words.{numbers_of, state_of}
 use Rattle.std.specs.Prelude.{flat_map}
-use Rattle.lb_flat.specs.Emit.{copied}
-use Rattle.lb_flat.specs.EmitTerms.{left_targets}
-use Rattle.lb_flat.specs.Frames.{with_copies}
-use Rattle.lb_flat.specs.Programs.{numbers_of}
-use Rattle.lb_flat.specs.TermEmissions.{state_of}
 use Rattle.lb_flat.proofs.expansion.term_emission.TermEmission.copy_lefts.Given as goal
 
 abbrev pub invariant-loop-x : goal.invariant-loop-x

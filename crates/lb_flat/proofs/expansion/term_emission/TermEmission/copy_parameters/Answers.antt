@@ -1,19 +1,10 @@
-use Rattle.std.proofs.Common.{◌≡◌, ◌<◌, ◌≤◌, ◌+◌, ◌-◌, ℕ, List, length, drop, min, arith, Vec}
-use Rattle.std.proofs.Common.{Global, sym, ap, ap₂, subst, ◌∙◌}
-use Rattle.std.proofs.Math.Nat.{min-le_right}
-use Rattle.std.proofs.lemmas.List.{length-map}
-use Rattle.std.proofs.lemmas.List.FromFn.{length-range_with_len}
+use Rattle.lb_flat.proofs.Words.{◌≡◌, ◌<◌, ◌≤◌, ◌+◌, ◌-◌, ℕ, List, length, drop, min, arith, Vec}
+use Rattle.lb_flat.proofs.Words.{Global, sym, ap, ap₂, subst, ◌∙◌, min-le_right, length-map}
+use Rattle.lb_flat.proofs.Words.{length-range_with_len, ElementId, copied, parameter_targets}
+use Rattle.lb_flat.proofs.Words.{FlatClock, elements_of, targets_of, with_copies, numbers_of}
+use Rattle.lb_flat.proofs.Words.{state_of, clock_of, IsClock}
 use Rattle.lb_flat.specs.declared.equation.Clock.{Clock}
-use Rattle.lb_flat.specs.declared.equation.ElementId.{ElementId}
-use Rattle.lb_flat.specs.Emit.{copied}
-use Rattle.lb_flat.specs.EmitWhole.{parameter_targets}
-use Rattle.lb_flat.specs.Flat.{FlatClock}
-use Rattle.lb_flat.specs.Frames.{elements_of, targets_of, with_copies}
-use Rattle.lb_flat.specs.Programs.{numbers_of}
-use Rattle.lb_flat.specs.TermEmissions.{state_of}
-use Rattle.lb_flat.specs.Values.{clock_of}
-use Rattle.lb_flat.specs.Within.{IsClock}
-use Rattle.lb_flat.proofs.EmittedStarts.{parameter_step, parameter_ends}
+use Rattle.lb_flat.proofs.emission.EmittedStarts.{parameter_step, parameter_ends}
 use Rattle.lb_flat.proofs.expansion.term_emission.TermEmission.copy_parameters.Goals as goal
 
 pub copy-requires-clause-targets : goal.copy-requires-clause-targets

@@ -1,11 +1,6 @@
-use Rattle.std.proofs.Common.{◌≡◌, ◌≤◌, drop, length}
+use Rattle.lb_flat.proofs.Words.{◌≡◌, ◌≤◌, drop, length, range_with_len, copied, variable_targets}
+use Rattle.lb_flat.proofs.Words.{parameter_targets, with_copies, numbers_of, state_of}
 use Rattle.std.specs.Prelude.{flat_map}
-use Rattle.std.specs.List.{range_with_len}
-use Rattle.lb_flat.specs.Emit.{copied}
-use Rattle.lb_flat.specs.EmitWhole.{variable_targets, parameter_targets}
-use Rattle.lb_flat.specs.Frames.{with_copies}
-use Rattle.lb_flat.specs.Programs.{numbers_of}
-use Rattle.lb_flat.specs.TermEmissions.{state_of}
 use Rattle.lb_flat.proofs.expansion.term_emission.TermEmission.copy_parameters.Given as goal
 
 abbrev pub invariant-loop-x : goal.invariant-loop-x

@@ -1,17 +1,9 @@
-use Rattle.std.proofs.Common.{◌≡◌, ◌<◌, ◌≤◌, ◌+◌, ◌-◌, ◌*◌, ℕ, List, length, drop, min, arith, Vec}
-use Rattle.std.proofs.Common.{Global, refl, sym, ap, ap₂, ◌∙◌}
-use Rattle.std.specs.List.{range_with_len}
-use Rattle.std.proofs.Math.Nat.{min-le_right}
-use Rattle.std.proofs.lemmas.List.{length-map}
-use Rattle.std.proofs.lemmas.List.FromFn.{length-range_with_len}
+use Rattle.lb_flat.proofs.Words.{◌≡◌, ◌<◌, ◌≤◌, ◌+◌, ◌-◌, ◌*◌, ℕ, List, length, drop, min, arith}
+use Rattle.lb_flat.proofs.Words.{Vec, Global, refl, sym, ap, ap₂, ◌∙◌, range_with_len, min-le_right}
+use Rattle.lb_flat.proofs.Words.{length-map, length-range_with_len, ElementId, copied}
+use Rattle.lb_flat.proofs.Words.{input_targets, part_copies, with_copies, numbers_of, state_of}
 use Rattle.lb_flat.specs.declared.equation.Clock.{Clock}
-use Rattle.lb_flat.specs.declared.equation.ElementId.{ElementId}
-use Rattle.lb_flat.specs.Emit.{copied}
-use Rattle.lb_flat.specs.EmitTerms.{input_targets, part_copies}
-use Rattle.lb_flat.specs.Frames.{with_copies}
-use Rattle.lb_flat.specs.Programs.{numbers_of}
-use Rattle.lb_flat.specs.TermEmissions.{state_of}
-use Rattle.lb_flat.proofs.EmittedCalls.{part_step, part_ends}
+use Rattle.lb_flat.proofs.emission.EmittedCalls.{part_step, part_ends}
 use Rattle.lb_flat.proofs.expansion.term_emission.TermEmission.copy_parts.Goals as goal
 
 pub loop-x-init : goal.loop-x-init

@@ -1,9 +1,5 @@
-use Rattle.std.proofs.Common.{◌≡◌, ◌≤◌, ◌-◌, drop, length}
-use Rattle.std.specs.List.{range_with_len}
-use Rattle.lb_flat.specs.EmitTerms.{part_copies}
-use Rattle.lb_flat.specs.Frames.{with_copies}
-use Rattle.lb_flat.specs.Programs.{numbers_of}
-use Rattle.lb_flat.specs.TermEmissions.{state_of}
+use Rattle.lb_flat.proofs.Words.{◌≡◌, ◌≤◌, ◌-◌, drop, length, range_with_len, part_copies}
+use Rattle.lb_flat.proofs.Words.{with_copies, numbers_of, state_of}
 use Rattle.lb_flat.proofs.expansion.term_emission.TermEmission.copy_parts.Given as goal
 
 abbrev pub invariant-loop-x : goal.invariant-loop-x

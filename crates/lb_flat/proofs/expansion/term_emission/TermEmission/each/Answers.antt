@@ -1,13 +1,8 @@
-use Rattle.std.proofs.Common.{◌≡◌, ◌<◌, ◌≤◌, length, map, drop, arith, Vec, Global, ap, ◌∙◌}
-use Rattle.std.proofs.lemmas.List.{length-map}
+use Rattle.lb_flat.proofs.Words.{◌≡◌, ◌<◌, ◌≤◌, length, map, drop, arith, Vec, Global, ap, ◌∙◌}
+use Rattle.lb_flat.proofs.Words.{length-map, ElementId, FlatClock, unary_of, numbers_of, emitted_of}
+use Rattle.lb_flat.proofs.Words.{without, clock_of, operation_of}
 use Rattle.lb_flat.specs.declared.equation.Clock.{Clock}
-use Rattle.lb_flat.specs.declared.equation.ElementId.{ElementId}
-use Rattle.lb_flat.specs.Flat.{FlatClock}
-use Rattle.lb_flat.specs.Operators.{unary_of}
-use Rattle.lb_flat.specs.Programs.{numbers_of}
-use Rattle.lb_flat.specs.TermEmissions.{emitted_of, without}
-use Rattle.lb_flat.specs.Values.{clock_of, operation_of}
-use Rattle.lb_flat.proofs.EmittedStacks.{each_step, below_at, adding_ends, map_all}
+use Rattle.lb_flat.proofs.emission.EmittedStacks.{each_step, below_at, adding_ends, map_all}
 use Rattle.lb_flat.proofs.expansion.term_emission.TermEmission.each.Goals as goal
 
 pub loop-i-preserved : goal.loop-i-preserved

@@ -1,9 +1,5 @@
-use Rattle.std.proofs.Common.{◌≡◌, ◌+◌, map, drop}
-use Rattle.lb_flat.specs.TermEmissions.{emitted_of}
-use Rattle.lb_flat.specs.Operators.{unary_of}
-use Rattle.lb_flat.specs.Programs.{numbers_of}
-use Rattle.lb_flat.specs.Values.{clock_of}
-use Rattle.lb_flat.proofs.EmittedStacks.{IsAdding}
+use Rattle.lb_flat.proofs.Words.{◌≡◌, ◌+◌, map, drop, emitted_of, unary_of, numbers_of, clock_of}
+use Rattle.lb_flat.proofs.emission.EmittedStacks.{IsAdding}
 use Rattle.lb_flat.proofs.expansion.term_emission.TermEmission.each.Given as goal
 
 abbrev pub invariant-loop-i : goal.invariant-loop-i

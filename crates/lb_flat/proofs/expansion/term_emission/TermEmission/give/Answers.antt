@@ -1,13 +1,8 @@
-use Rattle.std.proofs.Common.{◌≡◌, ◌+◌, List, arith, Vec, Global, refl, sym, ap, ◌∙◌}
-use Rattle.std.specs.List.{range_with_len}
-use Rattle.std.proofs.lemmas.List.{append-nil}
+use Rattle.lb_flat.proofs.Words.{◌≡◌, ◌+◌, List, arith, Vec, Global, refl, sym, ap, ◌∙◌}
+use Rattle.lb_flat.proofs.Words.{range_with_len, append-nil, from_inputs, FlatClock, FlatEquation}
+use Rattle.lb_flat.proofs.Words.{targets_of, with_copies, state_of, clock_of}
 use Rattle.lb_flat.specs.declared.equation.Clock.{Clock}
-use Rattle.lb_flat.specs.Emit.{from_inputs}
-use Rattle.lb_flat.specs.Flat.{FlatClock, FlatEquation}
-use Rattle.lb_flat.specs.Frames.{targets_of, with_copies}
-use Rattle.lb_flat.specs.TermEmissions.{state_of}
-use Rattle.lb_flat.specs.Values.{clock_of}
-use Rattle.lb_flat.proofs.EmittedStarts.{give_step}
+use Rattle.lb_flat.proofs.emission.EmittedStarts.{give_step}
 use Rattle.lb_flat.proofs.expansion.term_emission.TermEmission.give.Goals as goal
 
 pub loop-i-init : goal.loop-i-init

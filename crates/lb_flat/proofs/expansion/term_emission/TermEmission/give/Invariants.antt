@@ -1,9 +1,5 @@
-use Rattle.std.proofs.Common.{◌≡◌}
-use Rattle.std.specs.List.{range_with_len}
-use Rattle.lb_flat.specs.Emit.{from_inputs}
-use Rattle.lb_flat.specs.Frames.{targets_of, with_copies}
-use Rattle.lb_flat.specs.TermEmissions.{state_of}
-use Rattle.lb_flat.specs.Values.{clock_of}
+use Rattle.lb_flat.proofs.Words.{◌≡◌, range_with_len, from_inputs, targets_of, with_copies}
+use Rattle.lb_flat.proofs.Words.{state_of, clock_of}
 use Rattle.lb_flat.proofs.expansion.term_emission.TermEmission.give.Given as goal
 
 abbrev pub invariant-loop-i : goal.invariant-loop-i

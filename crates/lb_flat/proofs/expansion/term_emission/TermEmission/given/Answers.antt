@@ -1,17 +1,9 @@
-use Rattle.std.proofs.Common.{◌≡◌, ◌<◌, ℕ, List, length, arith, Vec, Global, refl, sym}
-use Rattle.std.proofs.Common.{ap}
-use Rattle.std.proofs.Common.{ap₂, subst, ◌∙◌}
-use Rattle.std.proofs.lemmas.List.{append-nil}
-use Rattle.std.proofs.lemmas.List.FromFn.{length-range_with_len}
+use Rattle.lb_flat.proofs.Words.{◌≡◌, ◌<◌, ℕ, List, length, arith, Vec, Global, refl, sym, ap, ap₂}
+use Rattle.lb_flat.proofs.Words.{subst, ◌∙◌, append-nil, length-range_with_len, from_inputs}
+use Rattle.lb_flat.proofs.Words.{parameter_targets, FlatClock, FlatEquation, elements_of}
+use Rattle.lb_flat.proofs.Words.{targets_of, with_copies, state_of, clock_of, IsClock}
 use Rattle.lb_flat.specs.declared.equation.Clock.{Clock}
-use Rattle.lb_flat.specs.Emit.{from_inputs}
-use Rattle.lb_flat.specs.EmitWhole.{parameter_targets}
-use Rattle.lb_flat.specs.Flat.{FlatClock, FlatEquation}
-use Rattle.lb_flat.specs.Frames.{elements_of, targets_of, with_copies}
-use Rattle.lb_flat.specs.TermEmissions.{state_of}
-use Rattle.lb_flat.specs.Values.{clock_of}
-use Rattle.lb_flat.specs.Within.{IsClock}
-use Rattle.lb_flat.proofs.EmittedStarts.{parameters_count, parameters_within, given_step}
+use Rattle.lb_flat.proofs.emission.EmittedStarts.{parameters_count, parameters_within, given_step}
 use Rattle.lb_flat.proofs.expansion.term_emission.TermEmission.given.Goals as goal
 
 pub give-requires-clause-targets : goal.give-requires-clause-targets

@@ -1,8 +1,4 @@
-use Rattle.std.proofs.Common.{◌≡◌, length}
-use Rattle.lb_flat.specs.Emit.{from_inputs}
-use Rattle.lb_flat.specs.EmitWhole.{parameter_targets}
-use Rattle.lb_flat.specs.Frames.{with_copies}
-use Rattle.lb_flat.specs.TermEmissions.{state_of}
+use Rattle.lb_flat.proofs.Words.{◌≡◌, length, from_inputs, parameter_targets, with_copies, state_of}
 use Rattle.lb_flat.proofs.expansion.term_emission.TermEmission.given.Given as goal
 
 abbrev pub invariant-loop-x : goal.invariant-loop-x

@@ -1,8 +1,6 @@
-use Rattle.std.proofs.Common.{◌≡◌, ℕ, List, Vec, Global, OnOk, refl, sym, ap, subst, ◌∙◌}
-use Rattle.lb_flat.specs.declared.equation.ElementId.{ElementId}
-use Rattle.lb_flat.specs.Programs.{numbers_of}
-use Rattle.lb_flat.specs.TermEmissions.{state_of, emitted_of}
-use Rattle.lb_flat.proofs.EmittedCalls.{iterate_done, nothing_iterated}
+use Rattle.lb_flat.proofs.Words.{◌≡◌, ℕ, List, Vec, Global, OnOk, refl, sym, ap, subst, ◌∙◌}
+use Rattle.lb_flat.proofs.Words.{ElementId, numbers_of, state_of, emitted_of}
+use Rattle.lb_flat.proofs.emission.EmittedCalls.{iterate_done, nothing_iterated}
 use Rattle.lb_flat.proofs.expansion.term_emission.TermEmission.iterate.Goals as goal
 
 pub returns-in_ok-copy_all-in-Some-clause-emitted :

@@ -1,11 +1,8 @@
-use Rattle.std.proofs.Common.{◌<◌, ◌≤◌, ℕ, List, length, get_or, arith, Vec, Global, ap}
-use Rattle.std.proofs.Common.{◌∙◌}
-use Rattle.std.proofs.lemmas.List.{length-map}
-use Rattle.lb_flat.specs.declared.equation.ElementId.{ElementId}
-use Rattle.lb_flat.specs.Programs.{numbers_of}
-use Rattle.lb_flat.specs.TermEmissions.{emitted_of, kept}
-use Rattle.lb_flat.proofs.EmittedChains.{keep_more, keep_ends}
-use Rattle.lb_flat.proofs.EmittedStacks.{number_at}
+use Rattle.lb_flat.proofs.Words.{◌<◌, ◌≤◌, ℕ, List, length, get_or, arith, Vec, Global, ap, ◌∙◌}
+use Rattle.lb_flat.proofs.Words.{length-map, ElementId, numbers_of, emitted_of}
+use Rattle.lb_flat.specs.TermEmissions.{kept}
+use Rattle.lb_flat.proofs.emission.EmittedChains.{keep_more, keep_ends}
+use Rattle.lb_flat.proofs.emission.EmittedStacks.{number_at}
 use Rattle.lb_flat.proofs.expansion.term_emission.TermEmission.keep.Goals as goal
 
 pub loop-i-preserved : goal.loop-i-preserved

@@ -1,6 +1,5 @@
-use Rattle.std.proofs.Common.{◌≡◌, drop}
-use Rattle.lb_flat.specs.Programs.{numbers_of}
-use Rattle.lb_flat.specs.TermEmissions.{emitted_of, kept, with_kept}
+use Rattle.lb_flat.proofs.Words.{◌≡◌, drop, numbers_of, emitted_of, with_kept}
+use Rattle.lb_flat.specs.TermEmissions.{kept}
 use Rattle.lb_flat.proofs.expansion.term_emission.TermEmission.keep.Given as goal
 
 abbrev pub invariant-loop-i : goal.invariant-loop-i

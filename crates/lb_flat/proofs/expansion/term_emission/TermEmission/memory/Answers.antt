@@ -1,11 +1,7 @@
-use Rattle.std.proofs.Common.{◌≡◌, Vec, Global, OnOk, ap, subst, ◌∙◌}
+use Rattle.lb_flat.proofs.Words.{◌≡◌, Vec, Global, OnOk, ap, subst, ◌∙◌, each, FlatClock, unary_of}
+use Rattle.lb_flat.proofs.Words.{emitted_of, on_top, clock_of}
 use Rattle.lb_flat.specs.declared.equation.Clock.{Clock}
-use Rattle.lb_flat.specs.EmitTerms.{each}
-use Rattle.lb_flat.specs.Flat.{FlatClock}
-use Rattle.lb_flat.specs.Operators.{unary_of}
-use Rattle.lb_flat.specs.TermEmissions.{emitted_of, on_top}
-use Rattle.lb_flat.specs.Values.{clock_of}
-use Rattle.lb_flat.proofs.EmittedChains.{kept_each}
+use Rattle.lb_flat.proofs.emission.EmittedChains.{kept_each}
 use Rattle.lb_flat.proofs.expansion.term_emission.TermEmission.memory.Goals as goal
 
 pub returns-clause-emitted : goal.returns-clause-emitted

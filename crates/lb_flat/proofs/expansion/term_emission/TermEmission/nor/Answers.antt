@@ -1,14 +1,8 @@
-use Rattle.std.proofs.Common.{◌≡◌, ◌∷◌, [], take, drop, Vec, Global, OnOk, ap, subst, ◌∙◌, ℕ, List}
-use Rattle.lb_syntax.specs.declared.tree.UnaryOperator.TheVariants.{Not}
-use Rattle.lb_syntax.specs.declared.tree.BinaryOperator.TheVariants.{Or}
+use Rattle.lb_flat.proofs.Words.{◌≡◌, ◌∷◌, [], take, drop, Vec, Global, OnOk, ap, subst, ◌∙◌, ℕ}
+use Rattle.lb_flat.proofs.Words.{List, Not, Or, ElementId, gives, push, chained, FlatClock}
+use Rattle.lb_flat.proofs.Words.{ApplyUnary, numbers_of, state_of, emitted_of, onto, clock_of}
 use Rattle.lb_flat.specs.declared.equation.Clock.{Clock}
-use Rattle.lb_flat.specs.declared.equation.ElementId.{ElementId}
-use Rattle.lb_flat.specs.Emit.{gives, push, chained}
-use Rattle.lb_flat.specs.Flat.{FlatClock, ApplyUnary}
-use Rattle.lb_flat.specs.Programs.{numbers_of}
-use Rattle.lb_flat.specs.TermEmissions.{state_of, emitted_of, onto}
-use Rattle.lb_flat.specs.Values.{clock_of}
-use Rattle.lb_flat.proofs.EmittedChains.{nor_is}
+use Rattle.lb_flat.proofs.emission.EmittedChains.{nor_is}
 use Rattle.lb_flat.proofs.expansion.term_emission.TermEmission.nor.Goals as goal
 
 pub returns-clause-emitted : goal.returns-clause-emitted

@@ -1,16 +1,10 @@
-use Rattle.std.proofs.Common.{◌≡◌, ◌+◌, ◌-◌, ℕ, List, length, take, drop, arith, Vec}
-use Rattle.std.proofs.Common.{Global, sym, ap, ap₂, ◌∙◌}
+use Rattle.lb_flat.proofs.Words.{◌≡◌, ◌+◌, ◌-◌, ℕ, List, length, take, drop, arith, Vec, Global}
+use Rattle.lb_flat.proofs.Words.{sym, ap, ap₂, ◌∙◌, length-map, length-append, ElementId, Emitted}
+use Rattle.lb_flat.proofs.Words.{gives, copied, Context, parameter_targets, places_from}
+use Rattle.lb_flat.proofs.Words.{with_copies, numbers_of, state_of, emitted_of, onto}
 use Rattle.std.specs.Prelude.{Bool}
-use Rattle.std.proofs.lemmas.List.{length-map, length-append}
 use Rattle.lb_flat.specs.declared.equation.Clock.{Clock}
-use Rattle.lb_flat.specs.declared.equation.ElementId.{ElementId}
-use Rattle.lb_flat.specs.Emit.{Emitted, gives, copied}
-use Rattle.lb_flat.specs.EmitTerms.{Context}
-use Rattle.lb_flat.specs.EmitWhole.{parameter_targets, places_from}
-use Rattle.lb_flat.specs.Frames.{with_copies}
-use Rattle.lb_flat.specs.Programs.{numbers_of}
-use Rattle.lb_flat.specs.TermEmissions.{state_of, emitted_of, onto}
-use Rattle.lb_flat.proofs.EmittedStarts.{observed_done, observed_gone}
+use Rattle.lb_flat.proofs.emission.EmittedStarts.{observed_done, observed_gone}
 use Rattle.lb_flat.proofs.expansion.term_emission.TermEmission.observe.Goals as goal
 
 pub enter-requires-2 : goal.enter-requires-2

@@ -1,18 +1,11 @@
-use Rattle.std.proofs.Common.{◌≡◌, ◌<◌, ◌≤◌, ◌+◌, ◌-◌, length, drop, min, arith, Vec, Global, ap}
-use Rattle.std.proofs.Common.{sym, ◌∙◌}
-use Rattle.std.proofs.Math.Nat.{min-le_left, min-le_right}
-use Rattle.std.proofs.lemmas.List.{length-map, length-drop, get_or-drop}
-use Rattle.std.specs.List.{slice_range}
-use Rattle.lb_syntax.specs.Lists.{zip2}
+use Rattle.lb_flat.proofs.Words.{◌≡◌, ◌<◌, ◌≤◌, ◌+◌, ◌-◌, length, drop, min, arith, Vec, Global, ap}
+use Rattle.lb_flat.proofs.Words.{sym, ◌∙◌, min-le_left, min-le_right, length-map, length-drop}
+use Rattle.lb_flat.proofs.Words.{get_or-drop, slice_range, zip2, ElementId, FlatClock, pair_of}
+use Rattle.lb_flat.proofs.Words.{numbers_of, emitted_of, without, clock_of, operation_of}
 use Rattle.lb_flat.specs.declared.equation.Clock.{Clock}
-use Rattle.lb_flat.specs.declared.equation.ElementId.{ElementId}
-use Rattle.lb_flat.specs.Flat.{FlatClock}
-use Rattle.lb_flat.specs.Operators.{pair_of}
-use Rattle.lb_flat.specs.Programs.{numbers_of}
-use Rattle.lb_flat.specs.TermEmissions.{emitted_of, without}
-use Rattle.lb_flat.specs.Values.{clock_of, operation_of}
-use Rattle.lb_flat.proofs.EmittedStacks.{pairs_step, below_at, part_at, length_of_part, adding_ends}
-use Rattle.lb_flat.proofs.EmittedStacks.{zip_done}
+use Rattle.lb_flat.proofs.emission.EmittedStacks.{pairs_step, below_at, part_at, length_of_part}
+use Rattle.lb_flat.proofs.emission.EmittedStacks.{adding_ends}
+use Rattle.lb_flat.proofs.emission.EmittedStacks.{zip_done}
 use Rattle.lb_flat.proofs.expansion.term_emission.TermEmission.pairs.Goals as goal
 
 pub loop-i-preserved : goal.loop-i-preserved

@@ -1,11 +1,6 @@
-use Rattle.std.proofs.Common.{◌≡◌, ◌+◌, drop}
-use Rattle.std.specs.List.{slice_range}
-use Rattle.lb_syntax.specs.Lists.{zip2}
-use Rattle.lb_flat.specs.TermEmissions.{emitted_of}
-use Rattle.lb_flat.specs.Operators.{pair_of}
-use Rattle.lb_flat.specs.Programs.{numbers_of}
-use Rattle.lb_flat.specs.Values.{clock_of}
-use Rattle.lb_flat.proofs.EmittedStacks.{IsAdding}
+use Rattle.lb_flat.proofs.Words.{◌≡◌, ◌+◌, drop, slice_range, zip2, emitted_of, pair_of, numbers_of}
+use Rattle.lb_flat.proofs.Words.{clock_of}
+use Rattle.lb_flat.proofs.emission.EmittedStacks.{IsAdding}
 use Rattle.lb_flat.proofs.expansion.term_emission.TermEmission.pairs.Given as goal
 
 abbrev pub invariant-loop-i : goal.invariant-loop-i

@@ -1,10 +1,6 @@
-use Rattle.std.proofs.Common.{◌≡◌, ◌≤◌, ◌+◌, ◌-◌, length, take, arith, ap, ◌∙◌}
-use Rattle.std.proofs.lemmas.List.{length-map}
-use Rattle.lb_flat.specs.declared.equation.ElementId.{ElementId}
-use Rattle.lb_flat.specs.Emit.{gives}
-use Rattle.lb_flat.specs.TermEmissions.{emitted_of, state_of}
-use Rattle.lb_flat.specs.Programs.{numbers_of}
-use Rattle.lb_flat.proofs.EmittedCuts.{pick_is}
+use Rattle.lb_flat.proofs.Words.{◌≡◌, ◌≤◌, ◌+◌, ◌-◌, length, take, arith, ap, ◌∙◌, length-map}
+use Rattle.lb_flat.proofs.Words.{ElementId, gives, emitted_of, state_of, numbers_of}
+use Rattle.lb_flat.proofs.emission.EmittedCuts.{pick_is}
 use Rattle.lb_flat.proofs.expansion.term_emission.TermEmission.pick.Goals as goal
 
 pub returns-clause-emitted : goal.returns-clause-emitted

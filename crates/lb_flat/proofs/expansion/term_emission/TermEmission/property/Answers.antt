@@ -1,14 +1,9 @@
-use Rattle.std.proofs.Common.{◌≡◌, ◌<◌, ◌≤◌, length, arith, ap, ◌∙◌}
-use Rattle.std.proofs.lemmas.List.{length-map}
-use Rattle.lb_flat.specs.declared.equation.ElementId.{ElementId}
-use Rattle.lb_flat.specs.Emit.{Emitted}
-use Rattle.lb_flat.specs.EmitWhole.{outputs_at}
-use Rattle.lb_flat.specs.Programs.{numbers_of}
-use Rattle.lb_flat.specs.TermEmissions.{state_of, emitted_of}
-use Rattle.lb_flat.proofs.EmittedBeginning.{first_above, none_above, gone_above}
-use Rattle.lb_flat.proofs.expansion.term_emission.TermEmission.property.Goals as goal
+use Rattle.lb_flat.proofs.Words.{◌≡◌, ◌<◌, ◌≤◌, length, arith, ap, ◌∙◌, length-map, ElementId}
+use Rattle.lb_flat.proofs.Words.{Emitted, outputs_at, numbers_of, state_of, emitted_of}
+use Rattle.lb_flat.proofs.emission.EmittedBeginning.{first_above, none_above, gone_above}
 use Rattle.lb_flat.proofs.expansion.term_emission.TermEmission.property.Goals.{then-from-len}
 use Rattle.lb_flat.proofs.expansion.term_emission.TermEmission.property.Goals.{else-from-len}
+use Rattle.lb_flat.proofs.expansion.term_emission.TermEmission.property.Goals as goal
 
 pub returns-clause-emitted : goal.returns-clause-emitted
 returns-clause-emitted g c =

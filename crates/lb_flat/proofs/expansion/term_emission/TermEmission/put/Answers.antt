@@ -1,10 +1,6 @@
-use Rattle.std.proofs.Common.{◌≡◌, ◌+◌, ℕ, List, arith, refl, sym, ap, ◌∙◌}
-use Rattle.std.specs.List.{range_with_len}
-use Rattle.std.proofs.lemmas.List.{append-nil}
-use Rattle.lb_flat.specs.Emit.{gives}
-use Rattle.lb_flat.specs.Programs.{numbers_of}
-use Rattle.lb_flat.specs.TermEmissions.{state_of, emitted_of, onto}
-use Rattle.lb_flat.proofs.EmittedCalls.{put_more}
+use Rattle.lb_flat.proofs.Words.{◌≡◌, ◌+◌, ℕ, List, arith, refl, sym, ap, ◌∙◌, range_with_len}
+use Rattle.lb_flat.proofs.Words.{append-nil, gives, numbers_of, state_of, emitted_of, onto}
+use Rattle.lb_flat.proofs.emission.EmittedCalls.{put_more}
 use Rattle.lb_flat.proofs.expansion.term_emission.TermEmission.put.Goals as goal
 
 pub loop-i-init : goal.loop-i-init

@@ -1,8 +1,4 @@
-use Rattle.std.proofs.Common.{◌≡◌}
-use Rattle.std.specs.List.{range_with_len}
-use Rattle.lb_flat.specs.Emit.{gives}
-use Rattle.lb_flat.specs.Programs.{numbers_of}
-use Rattle.lb_flat.specs.TermEmissions.{state_of, emitted_of, onto}
+use Rattle.lb_flat.proofs.Words.{◌≡◌, range_with_len, gives, numbers_of, state_of, emitted_of, onto}
 use Rattle.lb_flat.proofs.expansion.term_emission.TermEmission.put.Given as goal
 
 abbrev pub invariant-loop-i : goal.invariant-loop-i

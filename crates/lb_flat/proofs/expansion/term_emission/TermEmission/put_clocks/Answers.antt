@@ -1,13 +1,8 @@
-use Rattle.std.proofs.Common.{◌<◌, ℕ, length, arith, refl, sym, ap, subst, ◌∙◌}
+use Rattle.lb_flat.proofs.Words.{◌<◌, ℕ, length, arith, refl, sym, ap, subst, ◌∙◌, slice_get_read}
+use Rattle.lb_flat.proofs.Words.{gives, HasRow, Context, clocks_in, row_clocks, numbers_of}
+use Rattle.lb_flat.proofs.Words.{state_of, emitted_of, onto}
 use Rattle.std.specs.Prelude.{Bool}
-use Rattle.std.proofs.lemmas.Option.{slice_get_read}
-use Rattle.lb_flat.specs.Emit.{gives}
-use Rattle.lb_flat.specs.EmitRows.{HasRow}
-use Rattle.lb_flat.specs.EmitTerms.{Context}
-use Rattle.lb_flat.specs.EmitWhole.{clocks_in, row_clocks}
-use Rattle.lb_flat.specs.Programs.{numbers_of}
-use Rattle.lb_flat.specs.TermEmissions.{state_of, emitted_of, onto}
-use Rattle.lb_flat.proofs.ClockElements.{clocks_step, clocks_end}
+use Rattle.lb_flat.proofs.clock_tables.ClockElements.{clocks_step, clocks_end}
 use Rattle.lb_flat.proofs.expansion.term_emission.TermEmission.put_clocks.Goals as goal
 
 pub put_row_clocks-requires-clause-variables : goal.put_row_clocks-requires-clause-variables

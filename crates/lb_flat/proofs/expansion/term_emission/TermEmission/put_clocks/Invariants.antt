@@ -1,8 +1,4 @@
-use Rattle.std.proofs.Common.{◌≡◌, drop}
-use Rattle.lb_flat.specs.Emit.{gives}
-use Rattle.lb_flat.specs.EmitWhole.{row_clocks}
-use Rattle.lb_flat.specs.Programs.{numbers_of}
-use Rattle.lb_flat.specs.TermEmissions.{state_of, onto}
+use Rattle.lb_flat.proofs.Words.{◌≡◌, drop, gives, row_clocks, numbers_of, state_of, onto}
 use Rattle.lb_flat.proofs.expansion.term_emission.TermEmission.put_clocks.Given as goal
 
 abbrev pub invariant-loop-number : goal.invariant-loop-number

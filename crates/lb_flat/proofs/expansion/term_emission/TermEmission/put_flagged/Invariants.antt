@@ -1,9 +1,5 @@
-use Rattle.std.proofs.Common.{◌≡◌}
+use Rattle.lb_flat.proofs.Words.{◌≡◌, flagged_below, gives, numbers_of, state_of, emitted_of, onto}
 use Rattle.std.specs.Prelude.{flat_map}
-use Rattle.lb_flat.specs.ClockUses.{flagged_below}
-use Rattle.lb_flat.specs.Emit.{gives}
-use Rattle.lb_flat.specs.Programs.{numbers_of}
-use Rattle.lb_flat.specs.TermEmissions.{state_of, emitted_of, onto}
 use Rattle.lb_flat.proofs.expansion.term_emission.TermEmission.put_flagged.Given as goal
 
 abbrev pub invariant-loop-x : goal.invariant-loop-x

@@ -1,12 +1,8 @@
-use Rattle.std.proofs.Common.{◌≡◌, ◌+◌, ◌-◌, ℕ, List, arith, refl, sym, ap, ◌∙◌}
+use Rattle.lb_flat.proofs.Words.{◌≡◌, ◌+◌, ◌-◌, ℕ, List, arith, refl, sym, ap, ◌∙◌, range_with_len}
+use Rattle.lb_flat.proofs.Words.{append-nil, gives, gathered_at, numbers_of, state_of, emitted_of}
+use Rattle.lb_flat.proofs.Words.{onto}
 use Rattle.std.specs.Prelude.{flat_map}
-use Rattle.std.specs.List.{range_with_len}
-use Rattle.std.proofs.lemmas.List.{append-nil}
-use Rattle.lb_flat.specs.Emit.{gives}
-use Rattle.lb_flat.specs.EmitTerms.{gathered_at}
-use Rattle.lb_flat.specs.Programs.{numbers_of}
-use Rattle.lb_flat.specs.TermEmissions.{state_of, emitted_of, onto}
-use Rattle.lb_flat.proofs.EmittedCalls.{put_flat}
+use Rattle.lb_flat.proofs.emission.EmittedCalls.{put_flat}
 use Rattle.lb_flat.proofs.expansion.term_emission.TermEmission.put_gathered.Goals as goal
 
 pub loop-x-init : goal.loop-x-init

@@ -1,9 +1,5 @@
-use Rattle.std.proofs.Common.{◌≡◌, ◌-◌, ◌≤◌}
-use Rattle.std.specs.List.{range_with_len}
-use Rattle.lb_flat.specs.Emit.{gives}
-use Rattle.lb_flat.specs.EmitTerms.{gathered_at}
-use Rattle.lb_flat.specs.Programs.{numbers_of}
-use Rattle.lb_flat.specs.TermEmissions.{state_of, emitted_of, onto}
+use Rattle.lb_flat.proofs.Words.{◌≡◌, ◌-◌, ◌≤◌, range_with_len, gives, gathered_at, numbers_of}
+use Rattle.lb_flat.proofs.Words.{state_of, emitted_of, onto}
 use Rattle.lb_flat.proofs.expansion.term_emission.TermEmission.put_gathered.Given as goal
 
 abbrev pub invariant-loop-x : goal.invariant-loop-x

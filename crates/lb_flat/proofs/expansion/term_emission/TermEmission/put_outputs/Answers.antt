@@ -1,13 +1,7 @@
-use Rattle.std.proofs.Common.{◌≡◌, ◌+◌, ◌-◌, ℕ, List, OnOk, refl, ap}
-use Rattle.std.proofs.Common.{subst, ◌∙◌}
-use Rattle.std.proofs.lemmas.List.{append_assoc}
-use Rattle.std.specs.List.{range_with_len}
-use Rattle.lb_flat.specs.Emit.{Emitted, gives}
-use Rattle.lb_flat.specs.EmitTerms.{gathered_at}
-use Rattle.lb_flat.specs.Frames.{elements_of}
-use Rattle.lb_flat.specs.Programs.{numbers_of}
-use Rattle.lb_flat.specs.TermEmissions.{state_of, emitted_of, onto}
-use Rattle.lb_flat.proofs.EmittedCalls.{map_outputs, red_outputs, fill_outputs}
+use Rattle.lb_flat.proofs.Words.{◌≡◌, ◌+◌, ◌-◌, ℕ, List, OnOk, refl, ap, subst, ◌∙◌, append_assoc}
+use Rattle.lb_flat.proofs.Words.{range_with_len, Emitted, gives, gathered_at, elements_of}
+use Rattle.lb_flat.proofs.Words.{numbers_of, state_of, emitted_of, onto}
+use Rattle.lb_flat.proofs.emission.EmittedCalls.{map_outputs, red_outputs, fill_outputs}
 use Rattle.lb_flat.proofs.expansion.term_emission.TermEmission.put_outputs.Goals as goal
 
 pub returns-in-Map-clause-emitted : goal.returns-in-Map-clause-emitted

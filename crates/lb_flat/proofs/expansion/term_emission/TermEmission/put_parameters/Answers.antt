@@ -1,11 +1,7 @@
-use Rattle.std.proofs.Common.{◌≡◌, ◌+◌, ◌-◌, ℕ, List, arith, refl, sym, ap, ◌∙◌}
-use Rattle.std.proofs.lemmas.List.{append-nil}
-use Rattle.lb_flat.specs.Emit.{gives}
-use Rattle.lb_flat.specs.EmitWhole.{places_from}
-use Rattle.lb_flat.specs.Frames.{elements_of}
-use Rattle.lb_flat.specs.Programs.{numbers_of}
-use Rattle.lb_flat.specs.TermEmissions.{state_of, emitted_of, onto}
-use Rattle.lb_flat.proofs.EmittedCalls.{put_flat}
+use Rattle.lb_flat.proofs.Words.{◌≡◌, ◌+◌, ◌-◌, ℕ, List, arith, refl, sym, ap, ◌∙◌, append-nil}
+use Rattle.lb_flat.proofs.Words.{gives, places_from, elements_of, numbers_of, state_of, emitted_of}
+use Rattle.lb_flat.proofs.Words.{onto}
+use Rattle.lb_flat.proofs.emission.EmittedCalls.{put_flat}
 use Rattle.lb_flat.proofs.expansion.term_emission.TermEmission.put_parameters.Goals as goal
 
 pub loop-x-init : goal.loop-x-init

@@ -1,8 +1,5 @@
-use Rattle.std.proofs.Common.{◌≡◌, ◌-◌, ◌≤◌}
-use Rattle.lb_flat.specs.Emit.{gives}
-use Rattle.lb_flat.specs.EmitWhole.{places_from}
-use Rattle.lb_flat.specs.Programs.{numbers_of}
-use Rattle.lb_flat.specs.TermEmissions.{state_of, emitted_of, onto}
+use Rattle.lb_flat.proofs.Words.{◌≡◌, ◌-◌, ◌≤◌, gives, places_from, numbers_of, state_of}
+use Rattle.lb_flat.proofs.Words.{emitted_of, onto}
 use Rattle.lb_flat.proofs.expansion.term_emission.TermEmission.put_parameters.Given as goal
 
 abbrev pub invariant-loop-x : goal.invariant-loop-x

@@ -1,12 +1,7 @@
-use Rattle.std.proofs.Common.{◌<◌, ℕ, List, length, arith}
-use Rattle.std.proofs.Common.{Vec, Global, ap, ◌∙◌}
-use Rattle.std.proofs.lemmas.List.{length-map}
-use Rattle.lb_flat.specs.declared.equation.ElementId.{ElementId}
-use Rattle.lb_flat.specs.Programs.{numbers_of}
-use Rattle.lb_flat.specs.TermEmissions.{emitted_of}
-use Rattle.lb_flat.specs.Values.{clock_of}
-use Rattle.lb_flat.proofs.EmittedCuts.{red_is, red_none}
-use Rattle.lb_flat.proofs.EmittedStacks.{number_at}
+use Rattle.lb_flat.proofs.Words.{◌<◌, ℕ, List, length, arith, Vec, Global, ap, ◌∙◌, length-map}
+use Rattle.lb_flat.proofs.Words.{ElementId, numbers_of, emitted_of, clock_of}
+use Rattle.lb_flat.proofs.emission.EmittedCuts.{red_is, red_none}
+use Rattle.lb_flat.proofs.emission.EmittedStacks.{number_at}
 use Rattle.lb_flat.proofs.expansion.term_emission.TermEmission.red.Goals as goal
 
 pub returns-in_ok-replace-clause-emitted : goal.returns-in_ok-replace-clause-emitted

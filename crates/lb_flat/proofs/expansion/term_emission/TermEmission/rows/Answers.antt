@@ -1,15 +1,11 @@
-use Rattle.std.proofs.Common.{◌<◌, ◌^◌, ℕ, length, arith, Vec, Global, refl}
-use Rattle.std.proofs.Common.{sym, ap, subst, ◌∙◌}
+use Rattle.lb_flat.proofs.Words.{◌<◌, ◌^◌, ℕ, length, arith, Vec, Global, refl, sym, ap, subst, ◌∙◌}
+use Rattle.lb_flat.proofs.Words.{slice_get_read, Every, State, body_in, bodies, IsCounted, HasRow}
+use Rattle.lb_flat.proofs.Words.{Context, emit_rows, state_of}
 use Rattle.std.specs.Prelude.{Bool}
-use Rattle.std.proofs.lemmas.Option.{slice_get_read}
-use Rattle.lb_syntax.specs.Lists.{Every}
 use Rattle.lb_flat.specs.declared.equation.Clock.{Clock}
-use Rattle.lb_flat.specs.Emit.{State}
-use Rattle.lb_flat.specs.EmitRows.{body_in, bodies, IsCounted, HasRow}
-use Rattle.lb_flat.specs.EmitTerms.{Context, emit_rows}
-use Rattle.lb_flat.specs.TermEmissions.{state_of}
-use Rattle.lb_flat.proofs.EmittingRows.{row_step, rows_end, row_room, row_counted, rest_counted}
-use Rattle.lb_flat.proofs.EmittedNumbers.{rows_grow}
+use Rattle.lb_flat.proofs.emission.EmittingRows.{row_step, rows_end, row_room, row_counted}
+use Rattle.lb_flat.proofs.emission.EmittingRows.{rest_counted}
+use Rattle.lb_flat.proofs.emission.EmittedNumbers.{rows_grow}
 use Rattle.lb_flat.proofs.expansion.term_emission.TermEmission.rows.Goals as goal
 
 pub row-requires-clause-clocks : goal.row-requires-clause-clocks

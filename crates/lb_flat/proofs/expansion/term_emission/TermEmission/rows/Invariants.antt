@@ -1,9 +1,5 @@
-use Rattle.std.proofs.Common.{◌≡◌, ◌≤◌, drop}
-use Rattle.lb_syntax.specs.Lists.{Every}
-use Rattle.lb_flat.specs.EmitRows.{bodies, IsCounted}
-use Rattle.lb_flat.specs.EmitTerms.{emit_rows}
-use Rattle.lb_flat.specs.Programs.{numbers_of}
-use Rattle.lb_flat.specs.TermEmissions.{state_of}
+use Rattle.lb_flat.proofs.Words.{◌≡◌, ◌≤◌, drop, Every, bodies, IsCounted, emit_rows, numbers_of}
+use Rattle.lb_flat.proofs.Words.{state_of}
 use Rattle.lb_flat.proofs.expansion.term_emission.TermEmission.rows.Given as goal
 
 abbrev pub invariant-loop-number : goal.invariant-loop-number

@@ -1,18 +1,12 @@
-use Rattle.std.proofs.Common.{◌≡◌, ℕ, List, length, take, drop, arith, Vec, Global}
-use Rattle.std.proofs.Common.{ap, ◌∙◌}
+use Rattle.lb_flat.proofs.Words.{◌≡◌, ℕ, List, length, take, drop, arith, Vec, Global, ap, ◌∙◌}
+use Rattle.lb_flat.proofs.Words.{length-map, VariableId, ElementId, Emitted, copied, left_targets}
+use Rattle.lb_flat.proofs.Words.{emit_term, place_of, with_copies, numbers_of, state_of, emitted_of}
+use Rattle.lb_flat.proofs.Words.{with_asserted}
 use Rattle.std.specs.Prelude.{flat_map}
-use Rattle.std.proofs.lemmas.List.{length-map}
-use Rattle.lb_static.specs.declared.resolved.VariableId.{VariableId}
-use Rattle.lb_flat.specs.declared.equation.ElementId.{ElementId}
-use Rattle.lb_flat.specs.Emit.{Emitted, copied}
-use Rattle.lb_flat.specs.EmitTerms.{left_targets, emit_term}
-use Rattle.lb_flat.specs.Frames.{place_of, with_copies}
-use Rattle.lb_flat.specs.Programs.{numbers_of}
-use Rattle.lb_flat.specs.TermEmissions.{state_of, emitted_of, with_asserted}
-use Rattle.lb_flat.proofs.EmittedNumbers.{next_grows}
-use Rattle.lb_flat.proofs.EmittedOperands.{left_next}
-use Rattle.lb_flat.proofs.EmittedStatements.{equation_room, equation_done, assertion_room}
-use Rattle.lb_flat.proofs.EmittedStatements.{assertion_done, stack_kept}
+use Rattle.lb_flat.proofs.emission.EmittedNumbers.{next_grows}
+use Rattle.lb_flat.proofs.emission.EmittedOperands.{left_next}
+use Rattle.lb_flat.proofs.emission.EmittedStatements.{equation_room, equation_done, assertion_room}
+use Rattle.lb_flat.proofs.emission.EmittedStatements.{assertion_done, stack_kept}
 use Rattle.lb_flat.proofs.expansion.term_emission.TermEmission.statement.Goals as goal
 
 pub emit-requires-clause-room : goal.emit-requires-clause-room

@@ -1,11 +1,9 @@
-use Rattle.std.proofs.Common.{arith, Vec, Global, sym, ap, ◌∙◌}
+use Rattle.lb_flat.proofs.Words.{arith, Vec, Global, sym, ap, ◌∙◌, PlacedState, first_place}
+use Rattle.lb_flat.proofs.Words.{emit_statements, place_of, state_of}
 use Rattle.lb_flat.specs.declared.equation.Clock.{Clock}
-use Rattle.lb_flat.specs.EmitTerms.{PlacedState, first_place, emit_statements}
-use Rattle.lb_flat.specs.Frames.{place_of}
-use Rattle.lb_flat.specs.TermEmissions.{state_of}
-use Rattle.lb_flat.proofs.EmittingRows.{statement_step, statements_end, statement_room}
-use Rattle.lb_flat.proofs.EmittingRows.{statement_places}
-use Rattle.lb_flat.proofs.EmittedNumbers.{statement_grows}
+use Rattle.lb_flat.proofs.emission.EmittingRows.{statement_step, statements_end, statement_room}
+use Rattle.lb_flat.proofs.emission.EmittingRows.{statement_places}
+use Rattle.lb_flat.proofs.emission.EmittedNumbers.{statement_grows}
 use Rattle.lb_flat.proofs.expansion.term_emission.TermEmission.statements.Goals as goal
 
 pub statement-requires-clause-clocks : goal.statement-requires-clause-clocks

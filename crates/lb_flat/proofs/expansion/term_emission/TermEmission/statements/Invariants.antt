@@ -1,8 +1,5 @@
-use Rattle.std.proofs.Common.{◌≡◌, ◌≤◌, drop}
-use Rattle.lb_flat.specs.EmitTerms.{first_place, emit_statements}
-use Rattle.lb_flat.specs.Frames.{place_of}
-use Rattle.lb_flat.specs.Programs.{numbers_of}
-use Rattle.lb_flat.specs.TermEmissions.{state_of}
+use Rattle.lb_flat.proofs.Words.{◌≡◌, ◌≤◌, drop, first_place, emit_statements, place_of, numbers_of}
+use Rattle.lb_flat.proofs.Words.{state_of}
 use Rattle.lb_flat.proofs.expansion.term_emission.TermEmission.statements.Given as goal
 
 abbrev pub invariant-loop-statement : goal.invariant-loop-statement

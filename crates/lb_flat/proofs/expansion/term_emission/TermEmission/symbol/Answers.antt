@@ -1,12 +1,7 @@
-use Rattle.std.proofs.Common.{◌≡◌, ◌<◌, ◌≤◌, ◌+◌, ◌-◌, ◌^◌, length, min, arith, subst, ap}
-use Rattle.std.proofs.Common.{◌∙◌}
-use Rattle.std.proofs.lemmas.List.{length-map}
-use Rattle.lb_syntax.specs.declared.tree.ArrayIterator.{ArrayIterator}
-use Rattle.lb_flat.specs.declared.equation.ElementId.{ElementId}
-use Rattle.lb_flat.specs.EmitTerms.{symbol}
-use Rattle.lb_flat.specs.TermEmissions.{emitted_of, above}
-use Rattle.lb_flat.specs.Values.{clock_of}
-use Rattle.lb_flat.proofs.EmittedRooms.{map_room, red_room}
+use Rattle.lb_flat.proofs.Words.{◌≡◌, ◌<◌, ◌≤◌, ◌+◌, ◌-◌, ◌^◌, length, min, arith, subst, ap, ◌∙◌}
+use Rattle.lb_flat.proofs.Words.{length-map, ArrayIterator, ElementId, symbol, emitted_of, above}
+use Rattle.lb_flat.proofs.Words.{clock_of}
+use Rattle.lb_flat.proofs.emission.EmittedRooms.{map_room, red_room}
 use Rattle.lb_flat.proofs.expansion.term_emission.TermEmission.symbol.Goals as goal
 
 pub pairs-requires-clause-room : goal.pairs-requires-clause-room

@@ -1,16 +1,9 @@
-use Rattle.std.proofs.Common.{◌<◌, ◌≤◌, ℕ, length, get_or, arith, Vec, Global, ap, ap₂}
-use Rattle.std.proofs.Common.{◌∙◌, List}
-use Rattle.std.proofs.lemmas.List.{length-map}
-use Rattle.lb_syntax.specs.declared.tree.BinaryOperator.TheVariants.{Or, And}
+use Rattle.lb_flat.proofs.Words.{◌<◌, ◌≤◌, ℕ, length, get_or, arith, Vec, Global, ap, ap₂, ◌∙◌}
+use Rattle.lb_flat.proofs.Words.{List, length-map, Or, And, ElementId, push, FlatClock, ApplyBinary}
+use Rattle.lb_flat.proofs.Words.{numbers_of, state_of, clock_of}
 use Rattle.lb_flat.specs.declared.equation.Clock.{Clock}
-use Rattle.lb_flat.specs.declared.equation.ElementId.{ElementId}
-use Rattle.lb_flat.specs.Emit.{push}
-use Rattle.lb_flat.specs.Flat.{FlatClock, ApplyBinary}
-use Rattle.lb_flat.specs.Programs.{numbers_of}
-use Rattle.lb_flat.specs.TermEmissions.{state_of}
-use Rattle.lb_flat.specs.Values.{clock_of}
-use Rattle.lb_flat.proofs.EmittedChains.{twice_step, twice_end}
-use Rattle.lb_flat.proofs.EmittedStacks.{number_at}
+use Rattle.lb_flat.proofs.emission.EmittedChains.{twice_step, twice_end}
+use Rattle.lb_flat.proofs.emission.EmittedStacks.{number_at}
 use Rattle.lb_flat.proofs.expansion.term_emission.TermEmission.two_true.Goals as goal
 
 pub loop-i-preserved : goal.loop-i-preserved

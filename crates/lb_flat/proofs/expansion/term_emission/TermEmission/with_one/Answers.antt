@@ -1,11 +1,7 @@
-use Rattle.std.proofs.Common.{inl, inr}
-use Rattle.lb_check.specs.Scalars.{first_value}
-use Rattle.lb_flat.specs.EmitTerms.{with_one}
-use Rattle.lb_flat.specs.Flat.{ApplyUnary, Previous, Latest, Sample}
-use Rattle.lb_flat.specs.Frames.{place_of}
-use Rattle.lb_flat.specs.TermEmissions.{emitted_of, above}
-use Rattle.lb_flat.proofs.EmittedForms.{unary_form, pre_form, current_form, when_form}
-use Rattle.lb_flat.proofs.EmittedRooms.{each_room, memory_room, same_clock}
+use Rattle.lb_flat.proofs.Words.{inl, inr, first_value, with_one, ApplyUnary, Previous, Latest}
+use Rattle.lb_flat.proofs.Words.{Sample, place_of, emitted_of, above}
+use Rattle.lb_flat.proofs.emission.EmittedForms.{unary_form, pre_form, current_form, when_form}
+use Rattle.lb_flat.proofs.emission.EmittedRooms.{each_room, memory_room, same_clock}
 use Rattle.lb_flat.proofs.expansion.term_emission.TermEmission.with_one.Goals as goal
 
 pub each-requires-clause-room : goal.each-requires-clause-room

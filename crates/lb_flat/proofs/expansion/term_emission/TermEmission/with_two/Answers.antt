@@ -1,19 +1,13 @@
-use Rattle.std.proofs.Common.{◌≡◌, ◌<◌, ◌+◌, ◌-◌, ◌^◌, length, min, arith, inl, inr, ◌++◌, Vec}
-use Rattle.std.proofs.Common.{Global, OnOk, false, refl, sym, ap, subst, ◌∙◌}
-use Rattle.std.specs.List.{slice_range}
-use Rattle.std.proofs.lemmas.List.{length-map}
-use Rattle.lb_check.specs.Scalars.{first_value}
+use Rattle.lb_flat.proofs.Words.{◌≡◌, ◌<◌, ◌+◌, ◌-◌, ◌^◌, length, min, arith, inl, inr, ◌++◌, Vec}
+use Rattle.lb_flat.proofs.Words.{Global, OnOk, false, refl, sym, ap, subst, ◌∙◌, slice_range}
+use Rattle.lb_flat.proofs.Words.{length-map, first_value, ElementId, Emitted, gives, memory, pairs}
+use Rattle.lb_flat.proofs.Words.{with_two, FlatClock, ApplyBinary, FirstThen, Previous, place_of}
+use Rattle.lb_flat.proofs.Words.{emitted_of, above, on_two, clock_of}
 use Rattle.lb_flat.specs.declared.equation.Clock.{Clock}
-use Rattle.lb_flat.specs.declared.equation.ElementId.{ElementId}
-use Rattle.lb_flat.specs.Emit.{Emitted, gives}
-use Rattle.lb_flat.specs.EmitTerms.{memory, pairs, with_two}
-use Rattle.lb_flat.specs.Flat.{FlatClock, ApplyBinary, FirstThen, Previous}
-use Rattle.lb_flat.specs.Frames.{place_of}
-use Rattle.lb_flat.specs.TermEmissions.{emitted_of, above, on_two}
-use Rattle.lb_flat.specs.Values.{clock_of}
-use Rattle.lb_flat.proofs.EmittedForms.{binary_form, arrow_form, fby_form, join_form, two_form}
-use Rattle.lb_flat.proofs.EmittedForms.{joined_stays, pairs_after}
-use Rattle.lb_flat.proofs.EmittedRooms.{two_room, fby_rooms, same_clock}
+use Rattle.lb_flat.proofs.emission.EmittedForms.{binary_form, arrow_form, fby_form, join_form}
+use Rattle.lb_flat.proofs.emission.EmittedForms.{two_form}
+use Rattle.lb_flat.proofs.emission.EmittedForms.{joined_stays, pairs_after}
+use Rattle.lb_flat.proofs.emission.EmittedRooms.{two_room, fby_rooms, same_clock}
 use Rattle.lb_flat.proofs.expansion.term_emission.TermEmission.with_two.Goals as goal
 
 pub pairs-requires-clause-room : goal.pairs-requires-clause-room

@@ -1,0 +1,332 @@
+-- Reads of the clocks that are filled row by row: the clock on which a row runs, the element that
+-- serves for a variable, and the two clocks of a variable.
+use Rattle.lb_flat.proofs.Words.{◌≡◌, ℕ, zero, suc, ◌+◌, ◌*◌, ◌<◌, ◌≤◌, Bool, true, false, Option}
+use Rattle.lb_flat.proofs.Words.{Some, None, option_map, List, [], ◌∷◌, ◌++◌, length, map, flat_map}
+use Rattle.lb_flat.proofs.Words.{take, get_or, refl, ap, sym, ◌∙◌, arith, slice_get, range_with_len}
+use Rattle.lb_flat.proofs.Words.{slice_get_within, get_or_from_slice_get, length-map-range_with_len}
+use Rattle.lb_flat.proofs.Words.{get_or-map-range_with_len, either_or, listed, get_later, item_at}
+use Rattle.lb_flat.proofs.Words.{CallId, ResolvedNode, InstanceId, declared_in, CallClock}
+use Rattle.lb_flat.proofs.Words.{sign_place, count_at, ClockId, ElementId}
+use Rattle.std.proofs.lemmas.List.{length-append, get_or_append_left, get_or-append-add, get_or_at}
+use Rattle.lb_check.specs.declared.own_clock.Clock.{Clock}
+use Rattle.lb_check.specs.declared.own_clock.Clock.TheVariants.{Base, On}
+use Rattle.lb_flat.specs.TableClocks.{Sources, added_after, variable_number, clock_id, found_call}
+use Rattle.lb_flat.specs.TableClocks.{node_at, row_runs, table_runs, caller_number, no_element}
+use Rattle.lb_flat.specs.TableClocks.{own_element, serving_element, row_serving, table_serving}
+use Rattle.lb_flat.specs.TableClocks.{signed_clock, node_clocks, row_clocks, clocks_among}
+use Rattle.lb_flat.proofs.numbering.AddedPieces.{split_added, front_added, row_added}
+use Rattle.lb_static.specs.declared.table.Instance as row
+use Rattle.lb_static.specs.declared.table.Origin.TheVariants as origin
+use Rattle.lb_flat.specs.declared.equation.Clock as table
+
+-- ## Pairs
+
+module _ {B : Type 0} (u v : ℕ → B) where
+  abbrev pair : ℕ → List B
+  pair x = u x ∷ v x ∷ []
+
+  pub pairs_long : (a n : ℕ) → length (flat_map pair (range_with_len a n)) ≡ 2 * n
+  pairs_long a zero = omega arith
+  pairs_long a (suc n) = let rest = pairs_long (a + 1) n in omega (arith, rest)
+
+  pairs_first :
+      (a n : ℕ) (more : List B) (x : ℕ) → x < n → (m : ℕ) → m ≡ 2 * x →
+      slice_get (flat_map pair (range_with_len a n) ++ more) m ≡ Some (u (a + x))
+  pairs_first a zero more x lt m e = absurd (omega (arith, lt))
+  pairs_first a (suc n) more zero lt m e =
+      let none : m ≡ 0 = omega (arith, e) in
+      let same : a ≡ a + 0 = omega arith in
+      ap (slice_get (flat_map pair (range_with_len a (suc n)) ++ more)) none
+      ∙ ap (λ i. Some (u i)) same
+  pairs_first a (suc n) more (suc x) lt m e =
+      let next : m ≡ suc (suc (2 * x)) = omega (arith, e) in
+      let same : (a + 1) + x ≡ a + suc x = omega arith in
+      ap (slice_get (flat_map pair (range_with_len a (suc n)) ++ more)) next
+      ∙ pairs_first (a + 1) n more x (omega (arith, lt)) (2 * x) refl
+      ∙ ap (λ i. Some (u i)) same
+
+  pairs_second :
+      (a n : ℕ) (more : List B) (x : ℕ) → x < n → (m : ℕ) → m ≡ 2 * x + 1 →
+      slice_get (flat_map pair (range_with_len a n) ++ more) m ≡ Some (v (a + x))
+  pairs_second a zero more x lt m e = absurd (omega (arith, lt))
+  pairs_second a (suc n) more zero lt m e =
+      let one : m ≡ 1 = omega (arith, e) in
+      let same : a ≡ a + 0 = omega arith in
+      ap (slice_get (flat_map pair (range_with_len a (suc n)) ++ more)) one
+      ∙ ap (λ i. Some (v i)) same
+  pairs_second a (suc n) more (suc x) lt m e =
+      let next : m ≡ suc (suc (2 * x + 1)) = omega (arith, e) in
+      let same : (a + 1) + x ≡ a + suc x = omega arith in
+      ap (slice_get (flat_map pair (range_with_len a (suc n)) ++ more)) next
+      ∙ pairs_second (a + 1) n more x (omega (arith, lt)) (2 * x + 1) refl
+      ∙ ap (λ i. Some (v i)) same
+
+-- ## What is filled
+
+-- where the variables of each row begin: at 0, and then one row after the other
+pub record AreCounted (from : Sources) : Type 0 where
+  pub first : get_or from.variables 0 0 ≡ 0
+  pub next :
+      (k : ℕ) → k < length from.table.instances.items →
+      get_or from.variables (k + 1) 0 ≡ get_or from.variables k 0 + count_at from.variables k
+
+module _ (from : Sources) (counted : AreCounted from) where
+  abbrev rows : List row.Instance
+  rows = from.table.instances.items
+
+  abbrev before : ℕ → ℕ
+  before k = get_or from.variables k 0
+
+  -- the first k + 1 rows add the pieces of the first k rows, and then the piece of row k
+  next_row :
+      {B : Type 0} (piece : ℕ → row.Instance → List B → List B) (k : ℕ) (i : row.Instance) →
+      slice_get from.table.instances.items k ≡ Some i →
+      added_after piece 0 [] (take (suc k) from.table.instances.items)
+      ≡ added_after piece 0 [] (take k from.table.instances.items)
+      ++ piece k (get_or from.table.instances.items k i)
+      (added_after piece 0 [] (take k from.table.instances.items))
+  next_row piece k i at =
+      let next : suc k ≡ k + 1 = omega arith in
+      ap (λ m. added_after piece 0 [] (take m rows)) next
+      ∙ row_added piece rows k i (slice_get_within rows k i at)
+
+  -- ## The clocks on which rows run
+
+  runs_long :
+      (k : ℕ) → k ≤ length from.table.instances.items →
+      length (table_runs from (take k from.table.instances.items)) ≡ k
+  runs_long zero le = refl
+  runs_long (suc k) le =
+      let i = item_at rows k (omega (arith, le)) in
+      let done = table_runs from (take k rows) in
+      let y = row_runs from done (get_or rows k i.0).origin in
+      let long = length-append done (y ∷ []) in
+      let known = runs_long k (omega (arith, le)) in
+      ap length (next_row (λ j i before. row_runs from before i.origin ∷ []) k i.0 i.1)
+      ∙ (let all : length (done ++ y ∷ []) ≡ suc k = omega (arith, long, known) in all)
+
+  runs_read :
+      (k : ℕ) (i : row.Instance) → slice_get from.table.instances.items k ≡ Some i →
+      get_or (table_runs from from.table.instances.items) k None
+      ≡ row_runs from (table_runs from (take k from.table.instances.items)) i.origin
+  runs_read k i at =
+      let s = split_added (λ j i before. row_runs from before i.origin ∷ []) rows k i at in
+      let done = table_runs from (take k rows) in
+      let within = slice_get_within rows k i at in
+      ap (λ l. get_or l k None) s.1
+      ∙ get_or_at done (row_runs from done i.origin) s.0 None k
+      (runs_long k (omega (arith, within)))
+
+  runs_before :
+      (k j : ℕ) → k ≤ length from.table.instances.items → j < k →
+      get_or (table_runs from (take k from.table.instances.items)) j None
+      ≡ get_or (table_runs from from.table.instances.items) j None
+  runs_before k j le lt =
+      let f = front_added (λ j i before. row_runs from before i.origin ∷ []) rows k in
+      let long = runs_long k le in
+      sym (ap (λ l. get_or l j None) f.1
+      ∙ get_or_append_left (table_runs from (take k rows)) f.0 None j (omega (arith, long, lt)))
+
+  -- a row that is called runs on the clock of its call
+  pub runs_called :
+      (k : ℕ) (i : row.Instance) → slice_get from.table.instances.items k ≡ Some i →
+      (caller : InstanceId) (call : CallId) (index : ℕ) →
+      i.origin ≡ origin.Called caller call index → caller.0 < k → (c : CallClock) →
+      found_call from.table from.found caller.0 call.0 ≡ Some c →
+      get_or (table_runs from from.table.instances.items) k None
+      ≡ clock_id from.variables (table_runs from from.table.instances.items) caller.0 c.runs
+  runs_called k i at caller call index is lt c found =
+      let done = table_runs from (take k rows) in
+      let within = slice_get_within rows k i at in
+      runs_read k i at
+      ∙ ap (row_runs from done) is
+      ∙ ap (λ o. either_or
+      (option_map (λ c. clock_id from.variables done caller.0 c.runs) o) None) found
+      ∙ same_id c.runs (runs_before k caller.0 (omega (arith, within)) lt)
+    where
+      same_id : (l : Clock) →
+          get_or (table_runs from (take k from.table.instances.items)) caller.0 None
+          ≡ get_or (table_runs from from.table.instances.items) caller.0 None →
+          clock_id from.variables (table_runs from (take k from.table.instances.items)) caller.0 l
+          ≡ clock_id from.variables (table_runs from from.table.instances.items) caller.0 l
+      same_id Base e = e
+      same_id (On x sign) e = refl
+
+  -- a row of the node under test runs on the base clock of the program
+  pub runs_first :
+      (k : ℕ) (i : row.Instance) → slice_get from.table.instances.items k ≡ Some i →
+      i.origin ≡ origin.UnderTest →
+      get_or (table_runs from from.table.instances.items) k None ≡ None
+  runs_first k i at is =
+      runs_read k i at ∙ ap (row_runs from (table_runs from (take k rows))) is
+
+  pub runs_observer :
+      (k : ℕ) (i : row.Instance) → slice_get from.table.instances.items k ≡ Some i →
+      i.origin ≡ origin.Observer →
+      get_or (table_runs from from.table.instances.items) k None ≡ None
+  runs_observer k i at is =
+      runs_read k i at ∙ ap (row_runs from (table_runs from (take k rows))) is
+
+  -- ## The elements that serve for variables
+
+  abbrev serving_piece : ℕ → row.Instance → List ElementId → List ElementId
+  serving_piece j i l = row_serving from j i.origin l
+
+  serving_long :
+      (k : ℕ) → k ≤ length from.table.instances.items →
+      length (table_serving from (take k from.table.instances.items))
+      ≡ get_or from.variables k 0
+  serving_long zero le = sym counted.first
+  serving_long (suc k) le =
+      let i = item_at rows k (omega (arith, le)) in
+      let done = table_serving from (take k rows) in
+      let o = (get_or rows k i.0).origin in
+      let long = length-append done (row_serving from k o done) in
+      let own = length-map-range_with_len (serving_element from done k o) 0
+      (count_at from.variables k) in
+      let known = serving_long k (omega (arith, le)) in
+      let next = counted.next k (omega (arith, le)) in
+      let count : before (k + 1) ≡ before (suc k) =
+      let same : k + 1 ≡ suc k = omega arith in ap before same in
+      ap length (next_row serving_piece k i.0 i.1)
+      ∙ (let all : length (done ++ row_serving from k o done) ≡ before (suc k) =
+      omega (arith, long, own, known, next, count) in all)
+
+  serving_read :
+      (k : ℕ) (i : row.Instance) → slice_get from.table.instances.items k ≡ Some i → (x : ℕ) →
+      x < count_at from.variables k →
+      get_or (table_serving from from.table.instances.items) (get_or from.variables k 0 + x)
+      no_element
+      ≡ serving_element from (table_serving from (take k from.table.instances.items)) k i.origin x
+  serving_read k i at x lt =
+      let s = split_added serving_piece rows k i at in
+      let done = table_serving from (take k rows) in
+      let within = slice_get_within rows k i at in
+      let f = serving_element from done k i.origin in
+      let n = count_at from.variables k in
+      let own = map f (range_with_len 0 n) in
+      let long = length-map-range_with_len f 0 n in
+      let start : length done ≡ before k = serving_long k (omega (arith, within)) in
+      ap (λ l. get_or l (before k + x) no_element) s.1
+      ∙ ap (λ m. get_or (done ++ (own ++ s.0)) (m + x) no_element) (sym start)
+      ∙ get_or-append-add done (own ++ s.0) x no_element
+      ∙ get_or_append_left own s.0 no_element x (omega (arith, long, lt))
+      ∙ get_or-map-range_with_len f 0 n x x no_element lt (omega arith)
+
+  -- a variable has its own element, where no variable of its caller is given for it
+  pub serving_own :
+      (k : ℕ) (i : row.Instance) → slice_get from.table.instances.items k ≡ Some i → (x : ℕ) →
+      x < count_at from.variables k → caller_number from i.origin x ≡ None →
+      get_or (table_serving from from.table.instances.items) (get_or from.variables k 0 + x)
+      no_element
+      ≡ own_element from.variables from.starts k x
+  serving_own k i at x lt none =
+      serving_read k i at x lt
+      ∙ ap (λ o. either_or
+      (option_map (λ n. get_or (table_serving from (take k rows)) n no_element) o)
+      (own_element from.variables from.starts k x)) none
+
+  -- else the element that serves for the variable `n` of its caller
+  pub serving_given :
+      (k : ℕ) (i : row.Instance) → slice_get from.table.instances.items k ≡ Some i → (x : ℕ) →
+      x < count_at from.variables k → (n : ℕ) → caller_number from i.origin x ≡ Some n →
+      n < get_or from.variables k 0 →
+      get_or (table_serving from from.table.instances.items) (get_or from.variables k 0 + x)
+      no_element
+      ≡ get_or (table_serving from from.table.instances.items) n no_element
+  serving_given k i at x lt n some low =
+      let f = front_added serving_piece rows k in
+      let done = table_serving from (take k rows) in
+      let within = slice_get_within rows k i at in
+      let long = serving_long k (omega (arith, within)) in
+      serving_read k i at x lt
+      ∙ ap (λ o. either_or (option_map (λ n. get_or done n no_element) o)
+      (own_element from.variables from.starts k x)) some
+      ∙ sym (ap (λ l. get_or l n no_element) f.1
+      ∙ get_or_append_left done f.0 no_element n (omega (arith, long, low)))
+
+  -- ## The table
+
+  module _ (runs : List (Option ClockId)) (serving : List ElementId)
+      (nodes : (k : ℕ) (i : row.Instance) → slice_get from.table.instances.items k ≡ Some i →
+      (n : ResolvedNode) × (node_at from.reached from.table i ≡ Some n)) where
+    abbrev clock_row : ℕ → row.Instance → List table.Clock
+    clock_row j i = row_clocks from.reached from.table from.variables runs serving j i
+
+    abbrev clock_piece : ℕ → row.Instance → List table.Clock → List table.Clock
+    clock_piece j i l = clock_row j i
+
+    abbrev clock_for : ℕ → ResolvedNode → Bool → ℕ → table.Clock
+    clock_for k n sign x =
+        signed_clock (clock_id from.variables runs k (declared_in n (record { 0 = x })))
+        (get_or serving (variable_number from.variables k x) no_element) sign
+
+    row_long :
+        (k : ℕ) (i : row.Instance) → slice_get from.table.instances.items k ≡ Some i →
+        length (clock_row k i) ≡ 2 * count_at from.variables k
+    row_long k i at =
+        let n = nodes k i at in
+        ap (λ o. length (listed (node_clocks from.variables runs serving k) o)) n.1
+        ∙ pairs_long (clock_for k n.0 false) (clock_for k n.0 true) 0 (count_at from.variables k)
+
+    -- there are two clocks for each variable of the first rows
+    pub clocks_long :
+        (k : ℕ) → k ≤ length from.table.instances.items →
+        length (clocks_among from runs serving (take k from.table.instances.items))
+        ≡ 2 * get_or from.variables k 0
+    clocks_long zero le = let none = counted.first in omega (arith, none)
+    clocks_long (suc k) le =
+        let i = item_at rows k (omega (arith, le)) in
+        let done = clocks_among from runs serving (take k rows) in
+        let j = get_or rows k i.0 in
+        let same : j ≡ i.0 = get_or_from_slice_get rows k i.0 i.0 i.1 in
+        let own : length (clock_row k j) ≡ 2 * count_at from.variables k =
+        ap (λ z. length (clock_row k z)) same ∙ row_long k i.0 i.1 in
+        let long = length-append done (clock_row k j) in
+        let known = clocks_long k (omega (arith, le)) in
+        let next = counted.next k (omega (arith, le)) in
+        let count : before (k + 1) ≡ before (suc k) =
+        let same : k + 1 ≡ suc k = omega arith in ap before same in
+        ap length (next_row clock_piece k i.0 i.1)
+        ∙ (let all : length (done ++ clock_row k j) ≡ 2 * before (suc k) =
+        omega (arith, long, own, known, next, count) in all)
+
+    -- the clock of variable `x` for `sign` stands at its place in the table
+    pub clocks_read :
+        (k : ℕ) (i : row.Instance) → slice_get from.table.instances.items k ≡ Some i →
+        (n : ResolvedNode) → node_at from.reached from.table i ≡ Some n → (x : ℕ) →
+        x < count_at from.variables k → (sign : Bool) →
+        slice_get (clocks_among from runs serving from.table.instances.items)
+        (2 * (get_or from.variables k 0 + x) + sign_place sign)
+        ≡ Some (signed_clock (clock_id from.variables runs k (declared_in n (record { 0 = x })))
+        (get_or serving (variable_number from.variables k x) no_element) sign)
+    clocks_read k i at n is x lt sign =
+        let s = split_added clock_piece rows k i at in
+        let done = clocks_among from runs serving (take k rows) in
+        let within = slice_get_within rows k i at in
+        let own = flat_map (λ y. clock_for k n false y ∷ clock_for k n true y ∷ [])
+        (range_with_len 0 (count_at from.variables k)) in
+        let start = clocks_long k (omega (arith, within)) in
+        let here : 2 * (before k + x) + sign_place sign
+        ≡ length done + (2 * x + sign_place sign) = omega (arith, start) in
+        ap (λ l. slice_get l (2 * (before k + x) + sign_place sign)) s.1
+        ∙ ap (λ o. slice_get (done ++ (listed (node_clocks from.variables runs serving k) o ++ s.0))
+        (2 * (before k + x) + sign_place sign)) is
+        ∙ ap (slice_get (done ++ (own ++ s.0))) here
+        ∙ get_later done (own ++ s.0) (2 * x + sign_place sign)
+        ∙ by s.0 sign
+      where
+        by : (more : List table.Clock) (sign : Bool) →
+            slice_get (flat_map (λ y. clock_for k n false y ∷ clock_for k n true y ∷ [])
+            (range_with_len 0 (count_at from.variables k)) ++ more) (2 * x + sign_place sign)
+            ≡ Some (clock_for k n sign x)
+        by more false =
+            let start : 0 + x ≡ x = omega arith in
+            pairs_first (clock_for k n false) (clock_for k n true) 0 (count_at from.variables k)
+            more x lt (2 * x + 0) (omega arith)
+            ∙ ap (λ y. Some (clock_for k n false y)) start
+        by more true =
+            let start : 0 + x ≡ x = omega arith in
+            pairs_second (clock_for k n false) (clock_for k n true) 0 (count_at from.variables k)
+            more x lt (2 * x + 1) refl
+            ∙ ap (λ y. Some (clock_for k n true y)) start

@@ -1,0 +1,291 @@
+-- A variable that a call gives to an input of its callee is copied as it is, and so is an output to
+-- its left variable: both have equally many elements.
+use Rattle.lb_flat.proofs.Words.{◌≡◌, ◌&&◌, inl, inr, ℕ, ◌+◌, Bool, true, false, cond, Option, Some}
+use Rattle.lb_flat.proofs.Words.{None, option_map, List, [], ◌∷◌, ◌++◌, length, map, flat_map, refl}
+use Rattle.lb_flat.proofs.Words.{sym, ap, ap₂, ◌∙◌, subst, bytes_eq, bytes_eq-Decides, same_Some}
+use Rattle.lb_flat.proofs.Words.{Every, In, all_some, either_or, listed, Name, Static, Expr}
+use Rattle.lb_flat.proofs.Words.{Variable, Group, Call, Exprs, Nil, Cons, Declaration, and_first}
+use Rattle.lb_flat.proofs.Words.{and_second, DataType, is_type, are_types, variables, variable_type}
+use Rattle.lb_flat.proofs.Words.{width, Program, Instance, Child, name_value, named, call_count}
+use Rattle.lb_flat.proofs.Words.{outputs_of, type_of_name, data_types, all_types, singly}
+use Rattle.lb_flat.proofs.Words.{constant_type, Every-first, Every-second, found_in, bound}
+use Rattle.lb_flat.proofs.Words.{first_of_all, found_name, FlatEquation, Layout, State, joins}
+use Rattle.lb_flat.proofs.Words.{targets, copied, received, emit_name, emit, emit_each}
+use Rattle.lb_check.specs.Clocks.{Clock, as_variable, given_inputs, given_outputs, ungrouped}
+use Rattle.lb_flat.proofs.copies.CallCopies.{Within}
+use Rattle.lb_flat.proofs.widths.OutputWidths.{each, width_of}
+use Rattle.lb_flat.proofs.widths.TypeFacts.{same_count}
+use Rattle.lb_flat.proofs.numbering.ReceivedInputs.{copied_append, target_count}
+
+-- ## Copies of several variables
+
+module _ (Y : Layout) (P : Program) (here : Instance) where
+  -- ## The elements found for a variable
+
+  pub emit_variable :
+      (k : Clock) (n : ℕ) (s : State) (e : Expr) (x : Name) (d : Declaration) →
+      as_variable e ≡ Some x → named (λ d. d.name) x (variables here.node) ≡ Some d →
+      (emit Y P here k n s e).found ≡ Y.places here.path x
+  unfolding emit
+  emit_variable k n s (Variable z) x d e is =
+      let same = same_Some z x e in
+      ap (λ o. (emit_name Y P here k s z o).found)
+      (ap (λ y. named (λ d. d.name) y (variables here.node)) same ∙ is)
+      ∙ ap (Y.places here.path) (found_name x (variables here.node) d is)
+  emit_variable k n s (Group a) x d e is = emit_variable k n s a x d e is
+  emit_variable k n s _ x d e is = absurd cc
+
+  each_found :
+      (k : Clock) (ks : List Clock) (n : ℕ) (s : State) (e : Expr) (es : Exprs) →
+      (emit_each Y P here (k ∷ ks) n s (Cons e es)).found
+      ≡ (emit Y P here k n s e).found
+      ∷ (emit_each Y P here ks (n + call_count e) (emit Y P here k n s e).state es).found
+  unfolding emit
+  each_found k ks n s e es = refl
+
+  -- a call finds the elements of the outputs of its instance
+  pub call_found :
+      (k : Clock) (n : ℕ) (s : State) (f : Name) (statics : List Static) (es : Exprs) →
+      (emit Y P here k n s (Call f statics es)).found
+      ≡ flat_map (λ o. Y.places (Child here.path n 0) o.name) (outputs_of P here f)
+  unfolding emit joins
+  call_found k n s f statics es = refl
+
+  pub grouped_found :
+      (k : Clock) (n : ℕ) (s : State) (e : Expr) →
+      (emit Y P here k n s e).found ≡ (emit Y P here k n s (ungrouped e)).found
+  unfolding emit
+  grouped_found k n s (Group a) = grouped_found k n s a
+  grouped_found k n s _ = refl
+
+  -- ## Types of variables
+
+  variable_types :
+      (e : Expr) (x : Name) (v : Declaration) → as_variable e ≡ Some x →
+      named (λ d. d.name) x (variables here.node) ≡ Some v →
+      data_types P here e ≡ singly (variable_type P here v)
+  variable_types (Variable z) x v e is =
+      let same = same_Some z x e in
+      ap (λ o. singly (either_or (option_map (variable_type P here) o)
+      (constant_type (name_value P here z))))
+      (ap (λ y. named (λ d. d.name) y (variables here.node)) same ∙ is)
+  variable_types (Group a) x v e is = variable_types a x v e is
+  variable_types _ x v e is = absurd cc
+
+  singled : (o : Option DataType) (t : DataType) → singly o ≡ Some (t ∷ []) → o ≡ Some t
+  singled None t e = absurd cc
+  singled (Some u) t e = ap Some (heads_same u t [] [] (same_Some (u ∷ []) (t ∷ []) e))
+    where
+      heads_same : (a b : DataType) (xs ys : List DataType) → a ∷ xs ≡ b ∷ ys → a ≡ b
+      heads_same a b xs ys e = cc
+
+  -- a variable given for an input has as many elements as the input
+  argument_width :
+      (c : Instance) (d : Declaration) (e : Expr) (x : Name) (v : Declaration) (t u : DataType) →
+      variable_type P c d ≡ Some t → data_types P here e ≡ Some (u ∷ []) →
+      is_type t u ≡ true → as_variable e ≡ Some x →
+      named (λ d. d.name) x (variables here.node) ≡ Some v → width P c d ≡ width P here v
+  argument_width c d e x v t u is_t is_u same var found =
+      let of_v = singled (variable_type P here v) u (sym (variable_types e x v var found) ∙ is_u) in
+      width_of P c d t is_t ∙ same_count t u same ∙ sym (width_of P here v u of_v)
+
+  -- ## Arguments
+
+  module _ (c : Instance) (cs : List FlatEquation) where
+    -- the input `x` is a copy of the caller's variable `y`, and both have equally many elements
+    pub record IsArgument (ds : List Declaration) (x : Name) (v : Declaration) (y : Name) : Type 0
+      where
+        pub input : Declaration
+        pub among : In input ds
+        pub name : input.name ≡ x
+        pub wide : width P c input ≡ width P here v
+        pub copies : Within Y P cs (copied (targets Y c.node c.path x) (Y.places here.path y))
+
+    further :
+        (d : Declaration) (ds : List Declaration) (x : Name) (v : Declaration) (y : Name) →
+        IsArgument ds x v y → IsArgument (d ∷ ds) x v y
+    further d ds x v y h = record {
+      input = h.input;
+      among = inr h.among;
+      name = h.name;
+      wide = h.wide;
+      copies = h.copies;
+    }
+
+    types_first :
+        (t u : DataType) (ts us ins args : List DataType) → ins ≡ t ∷ ts → args ≡ u ∷ us →
+        are_types ins args ≡ true → (is_type t u && are_types ts us) ≡ true
+    types_first t u ts us ins args p q e = ap₂ are_types (sym p) (sym q) ∙ e
+
+    -- a given input of `d ∷ ds` is copied, if `d` is, and if the given inputs of `ds` are
+    first_argument :
+        (k : Clock) (d : Declaration) (ds : List Declaration) (a : Expr) (es : Exprs) (n : ℕ)
+        (s : State) (t u : DataType) → variable_type P c d ≡ Some t →
+        data_types P here a ≡ Some (u ∷ []) → is_type t u ≡ true → (x : Name)
+        (g : Name × Name) (v : Declaration) →
+        named (λ d. d.name) g.1 (variables here.node) ≡ Some v →
+        Within Y P cs
+        (copied (targets Y c.node c.path d.name) (emit Y P here k n s a).found) →
+        (found_in (given_inputs ds es) x ≡ Some g → IsArgument ds x v g.1) →
+        found_in (given_inputs (d ∷ ds) (Cons a es)) x ≡ Some g → IsArgument (d ∷ ds) x v g.1
+    first_argument k d ds a es n s t u is_t is_u same x g v is first again found =
+        by (as_variable a) refl found
+      where
+        this : (y : Name) → as_variable a ≡ Some y → d.name ≡ x → (d.name, y) ≡ g →
+            IsArgument (d ∷ ds) x v g.1
+        this y var name given =
+            let value : y ≡ g.1 = ap (λ (u : Name × Name). u.1) given in
+            let own = var ∙ ap (λ z. Some z) value in
+            let places = emit_variable k n s a g.1 v own is in
+            record {
+              input = d;
+              among = inl refl;
+              name = name;
+              wide = argument_width c d a g.1 v t u is_t is_u same own is;
+              copies =
+                  subst (λ z. Within Y P cs
+                  (copied (targets Y c.node c.path z) (Y.places here.path g.1))) name
+                  (subst (λ fs. Within Y P cs (copied (targets Y c.node c.path d.name) fs)) places
+                  first);
+            }
+
+        by_name : (y : Name) → as_variable a ≡ Some y → (b : Bool) → bytes_eq d.name x ≡ b →
+            cond b (Some (d.name, y)) (found_in (given_inputs ds es) x) ≡ Some g →
+            IsArgument (d ∷ ds) x v g.1
+        by_name y var true name e =
+            this y var ((bytes_eq-Decides d.name x).0 name) (same_Some (d.name, y) g e)
+        by_name y var false name e = further d ds x v g.1 (again e)
+
+        by : (o : Option Name) → as_variable a ≡ o →
+            found_in (listed (λ y. (d.name, y) ∷ []) o ++ given_inputs ds es) x ≡ Some g →
+            IsArgument (d ∷ ds) x v g.1
+        by None var e = further d ds x v g.1 (again e)
+        by (Some y) var e = by_name y var (bytes_eq d.name x) refl e
+
+    -- a variable that is given for an input is copied as it is
+    pub argument_copied :
+        (f : Declaration → Clock) (ds : List Declaration) (es : Exprs) (n : ℕ) (s : State)
+        (ins args : List DataType) → all_some (map (variable_type P c) ds) ≡ Some ins →
+        all_types P here es ≡ Some args → are_types ins args ≡ true →
+        (x : Name) (g : Name × Name) → found_in (given_inputs ds es) x ≡ Some g →
+        (v : Declaration) → named (λ d. d.name) g.1 (variables here.node) ≡ Some v →
+        Within Y P cs (received Y c.node c.path ds (emit_each Y P here (map f ds) n s es).found) →
+        IsArgument ds x v g.1
+    argument_copied f [] es n s ins args p q e x g found v is w = absurd cc
+    argument_copied f (d ∷ ds) Nil n s ins args p q e x g found v is w = absurd cc
+    argument_copied f (d ∷ ds) (Cons a es) n s ins args p q e x g found v is w =
+        let h = each (variable_type P c d) (map (variable_type P c) ds) ins p in
+        let i = first_of_all P here a es args q in
+        let same = types_first h.first i.first h.rest i.rest ins args h.all i.all e in
+        let m = n + call_count a in
+        let z = emit Y P here (f d) n s a in
+        let own = copied (targets Y c.node c.path d.name) z.found in
+        let rest = received Y c.node c.path ds (emit_each Y P here (map f ds) m z.state es).found in
+        let all : Within Y P cs (own ++ rest) =
+        subst (λ fs. Within Y P cs (received Y c.node c.path (d ∷ ds) fs))
+        (each_found (f d) (map f ds) n s a es) w in
+        first_argument (f d) d ds a es n s h.first i.first h.is i.is
+        (and_first (is_type h.first i.first) _ same) x g v is
+        (Every-first (λ q. In q cs) own rest all)
+        (λ later. argument_copied f ds es m z.state h.rest i.rest h.others i.others
+        (and_second (is_type h.first i.first) _ same) x g later v is
+        (Every-second (λ q. In q cs) own rest all))
+        found
+
+    -- ## Left variables
+
+    -- the output `x` is copied to the caller's variable `y`, and both have equally many elements
+    pub record IsResult (ds : List Declaration) (x : Name) (y : Name) : Type 0 where
+      pub output : Declaration
+      pub among : In output ds
+      pub name : output.name ≡ x
+      pub left : Declaration
+      pub is_left : named (λ d. d.name) y (variables here.node) ≡ Some left
+      pub wide : width P c output ≡ width P here left
+      pub copies : Within Y P cs (copied (targets Y here.node here.path y) (Y.places c.path x))
+
+    further_result :
+        (d : Declaration) (ds : List Declaration) (x y : Name) → IsResult ds x y →
+        IsResult (d ∷ ds) x y
+    further_result d ds x y h = record {
+      output = h.output;
+      among = inr h.among;
+      name = h.name;
+      left = h.left;
+      is_left = h.is_left;
+      wide = h.wide;
+      copies = h.copies;
+    }
+
+    -- a given output of `d ∷ ds` is copied, if `d` is, and if the given outputs of `ds` are
+    first_result :
+        (d : Declaration) (ds : List Declaration) (y : Name) (xs : List Name) (v : Declaration) →
+        named (λ d. d.name) y (variables here.node) ≡ Some v →
+        width P c d ≡ width P here v → (x : Name) (g : Name × Name) →
+        Within Y P cs (copied (targets Y here.node here.path y) (Y.places c.path d.name)) →
+        (found_in (given_outputs ds xs) x ≡ Some g → IsResult ds x g.1) →
+        found_in (given_outputs (d ∷ ds) (y ∷ xs)) x ≡ Some g → IsResult (d ∷ ds) x g.1
+    first_result d ds y xs v is wide x g first again found = by (bytes_eq d.name x) refl found
+      where
+        this : d.name ≡ x → (d.name, y) ≡ g → IsResult (d ∷ ds) x g.1
+        this name given =
+            let value : y ≡ g.1 = ap (λ (u : Name × Name). u.1) given in
+            let of_y : IsResult (d ∷ ds) x y = record {
+              output = d;
+              among = inl refl;
+              name = name;
+              left = v;
+              is_left = is;
+              wide = wide;
+              copies =
+                  subst (λ z. Within Y P cs
+                  (copied (targets Y here.node here.path y) (Y.places c.path z))) name first;
+            } in
+            subst (λ z. IsResult (d ∷ ds) x z) value of_y
+
+        by : (b : Bool) → bytes_eq d.name x ≡ b →
+            cond b (Some (d.name, y)) (found_in (given_outputs ds xs) x) ≡ Some g →
+            IsResult (d ∷ ds) x g.1
+        by true name e = this ((bytes_eq-Decides d.name x).0 name) (same_Some (d.name, y) g e)
+        by false name e = further_result d ds x g.1 (again e)
+
+    -- an output is copied to its left variable as it is
+    pub result_copied :
+        (ds : List Declaration) (xs : List Name) (outs lefts : List DataType) →
+        Every (λ d. length (Y.places c.path d.name) ≡ width P c d) ds →
+        ((v : Declaration) (x : Name) →
+        named (λ d. d.name) x (variables here.node) ≡ Some v →
+        length (Y.places here.path x) ≡ width P here v) →
+        all_some (map (variable_type P c) ds) ≡ Some outs →
+        all_some (map (type_of_name P here) xs) ≡ Some lefts → are_types outs lefts ≡ true →
+        (x : Name) (g : Name × Name) → found_in (given_outputs ds xs) x ≡ Some g →
+        Within Y P cs
+        (copied (flat_map (targets Y here.node here.path) xs)
+        (flat_map (λ o. Y.places c.path o.name) ds)) →
+        IsResult ds x g.1
+    result_copied [] xs outs lefts wide own p q e x g found w = absurd cc
+    result_copied (d ∷ ds) [] outs lefts wide own p q e x g found w = absurd cc
+    result_copied (d ∷ ds) (y ∷ xs) outs lefts wide own p q e x g found w =
+        let h = each (variable_type P c d) (map (variable_type P c) ds) outs p in
+        let i = each (type_of_name P here y) (map (type_of_name P here) xs) lefts q in
+        let same = types_first h.first i.first h.rest i.rest outs lefts h.all i.all e in
+        let v = bound (named (λ d. d.name) y (variables here.node)) (variable_type P here) i.first
+        i.is in
+        let width_same : width P c d ≡ width P here v.value =
+        width_of P c d h.first h.is
+        ∙ same_count h.first i.first (and_first (is_type h.first i.first) _ same)
+        ∙ sym (width_of P here v.value i.first v.gives) in
+        let ts = targets Y here.node here.path y in
+        let is = Y.places c.path d.name in
+        let us = flat_map (targets Y here.node here.path) xs in
+        let js = flat_map (λ o. Y.places c.path o.name) ds in
+        let as_long : length ts ≡ length is =
+        target_count Y here.node here.path y ∙ own v.value y v.is ∙ sym width_same ∙ sym wide.0 in
+        let split : Within Y P cs (copied ts is ++ copied us js) =
+        subst (Within Y P cs) (copied_append ts us is js as_long) w in
+        first_result d ds y xs v.value v.is width_same x g
+        (Every-first (λ q. In q cs) (copied ts is) (copied us js) split)
+        (λ later. result_copied ds xs h.rest i.rest wide.1 own h.others i.others
+        (and_second (is_type h.first i.first) _ same) x g later
+        (Every-second (λ q. In q cs) (copied ts is) (copied us js) split))
+        found

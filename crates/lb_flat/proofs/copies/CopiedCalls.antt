@@ -1,0 +1,463 @@
+-- The copies that an expression emits match the definitions of the inputs of its callees, in any
+-- order: each copy is such a definition, and each definition has its copy.
+use Rattle.lb_flat.proofs.Words.{◌≡◌, ℕ, zero, suc, ◌+◌, ◌<◌, ◌≤◌, Option, Some, None, List, []}
+use Rattle.lb_flat.proofs.Words.{◌∷◌, ◌++◌, map, length, flat_map, refl, sym, ap, ◌∙◌, subst, arith}
+use Rattle.lb_flat.proofs.Words.{range_with_len, append-nil, append_assoc, flat_map-append}
+use Rattle.lb_flat.proofs.Words.{ArrayIterator, Every, joined, listed, Name, Static, Node_named}
+use Rattle.lb_flat.proofs.Words.{Symbol, Expr, Literal, Truth, Variable, Group, Unary, Binary, If}
+use Rattle.lb_flat.proofs.Words.{Arrow, Fby, Pre, Current, When, Replicate, Index, Slice, Join}
+use Rattle.lb_flat.proofs.Words.{Array, AtMostOne, Nor, Call, Iterate, Exprs, Nil, Cons}
+use Rattle.lb_flat.proofs.Words.{Declaration, Node, named, Program, Instance, Path, Child}
+use Rattle.lb_flat.proofs.Words.{call_site, callee_of, static_count, node_named, DataType}
+use Rattle.lb_flat.proofs.Words.{variables, all_types, operator_types, Stream, Element, Definition}
+use Rattle.lb_flat.proofs.Words.{elements, itself, needs, all_needs, defined_as, output_elements}
+use Rattle.lb_flat.proofs.Words.{call_definitions, Occurrence, at, call_count, call_clocks}
+use Rattle.lb_flat.proofs.Words.{occurrences, occurrences_in, occurrences_each, iterator_inputs}
+use Rattle.lb_flat.proofs.Words.{History, number, outputs_of, all_streams, argument_streams}
+use Rattle.lb_flat.proofs.Words.{iterated, first_of_all, FlatClock, FlatEquation, Operation, Layout}
+use Rattle.lb_flat.proofs.Words.{flat_clock, State, Emitted, received, call_copies, iterator_copies}
+use Rattle.lb_flat.proofs.Words.{add, keep, emit_name, emit, emit_all, emit_each}
+use Rattle.lb_check.specs.Clocks.{Clock, Given, base_clock, outer, given_inputs, declared_clock}
+use Rattle.lb_check.specs.Needs.{input_definitions}
+use Rattle.lb_flat.proofs.lists.Lists.{Every-first, Every-second}
+use Rattle.lb_flat.proofs.solutions.Emission.{joins_equations, joins_copies}
+use Rattle.lb_flat.proofs.solutions.Placing.{AreAsWide}
+use Rattle.lb_flat.proofs.widths.TypeFacts.{bound}
+use Rattle.lb_flat.proofs.widths.Widths.{called, placed, AreVariablesWide, IsOccurrenceWide}
+use Rattle.lb_flat.proofs.widths.PlacedCalls.{call_as_wide, iterator_as_wide}
+use Rattle.lb_flat.proofs.widths.TypedParts.{IsTypedAt}
+use Rattle.lb_flat.proofs.emission.EmissionSteps.{IsAdding, nor_step, at_most_one_step, symbol_step}
+use Rattle.lb_flat.proofs.emission.EmittedCopies.{add_copies, keep_copies, nor_copies}
+use Rattle.lb_flat.proofs.emission.EmittedCopies.{at_most_one_copies}
+use Rattle.lb_flat.proofs.emission.EmittedCopies.{symbol_copies}
+use Rattle.lb_flat.proofs.widths.FoundWidths.{length-inputs, as_many, all_as_many}
+use Rattle.lb_flat.proofs.copies.GivenCalls.{clocks_enough}
+use Rattle.lb_flat.proofs.ordering.LinkSymbols.{keep_equations}
+use Rattle.lb_flat.proofs.ordering.LinkWords.{Pairs, pairs-append, AllMeet, AreLinks}
+use Rattle.lb_flat.proofs.ordering.LinkWords.{variable_links, added}
+use Rattle.lb_flat.proofs.ordering.LinkTerms.{AreNumbered, IsKnown, outputs_numbered, linked}
+use Rattle.lb_flat.proofs.ordering.LinkTerms.{all_linked}
+use Rattle.lb_flat.proofs.ordering.LinkTerms.{earlier, term_before, all_before, each_before}
+use Rattle.lb_flat.proofs.copies.CopiedDefinitions.{AreMatched, matched-none, matched-append}
+use Rattle.lb_flat.proofs.copies.CopiedDefinitions.{matched-crossed, matched-pairs, IsDefinedBy}
+use Rattle.lb_flat.proofs.copies.CopiedDefinitions.{AreDeclared, AreFed, received_paired, fed_of}
+use Rattle.lb_flat.proofs.copies.CopiedDefinitions.{inputs_linked}
+
+-- lists made of pieces by number are related item by item, where their pieces are
+range_pairs :
+    {A B : Type 0} (R : A → B → Type 0) (f : ℕ → List A) (g : ℕ → List B) (n a m : ℕ) →
+    a + m ≤ n → ((i : ℕ) → i < n → Pairs R (f i) (g i)) →
+    Pairs R (flat_map f (range_with_len a m)) (flat_map g (range_with_len a m))
+range_pairs R f g n a zero le h = tt
+range_pairs R f g n a (suc m) le h =
+    pairs-append R (f a) (g a) (flat_map f (range_with_len (a + 1) m))
+    (flat_map g (range_with_len (a + 1) m)) (h a (omega arith))
+    (range_pairs R f g n (a + 1) m (omega arith) h)
+
+module _ (Y : Layout) (P : Program) (H : History)
+    (same : (p : Path) (x : Name) → length (Y.places p x) ≡ length (H.columns p x))
+    (IsAt : Element → ℕ → Type 0) (Under : ℕ → ℕ → Type 0) (Left : ℕ → Type 0)
+    (here : Instance) (variables_wide : AreVariablesWide P H here here)
+    (numbered : AreNumbered Y P H same IsAt Under Left here here) where
+  abbrev Defined : FlatEquation → Definition → Type 0
+  Defined q d = IsDefinedBy Y P H same IsAt Under Left q d
+
+  abbrev flat : Clock → FlatClock
+  flat k = flat_clock Y here.path k
+
+  abbrev Links : Clock → List ℕ → List (List Element) → Type 0
+  Links k is yss = AreLinks IsAt Under Left (flat k) is yss
+
+  abbrev Parts : List Occurrence → Type 0
+  Parts os = Every (IsKnown Y P H same IsAt Under Left here) os
+
+  abbrev Met : State → Type 0
+  Met s = AllMeet IsAt Under Left s.equations
+
+  -- the inputs of a callee are on the clocks of the arguments, and stand at their numbers
+  abbrev pub IsPassed : Clock → ℕ → Expr → Type 0
+  IsPassed k n (Call f statics es) =
+      (c : Instance) → callee_of P here (call_site f statics) n 0 ≡ Some c →
+      Every (λ d. flat_clock Y c.path (declared_clock c.node d.name)
+      ≡ flat_clock Y here.path
+      (outer (base_clock k c.node) (given_inputs c.node.inputs es) (declared_clock c.node d.name)))
+      c.node.inputs
+      × AreDeclared Y P H same IsAt Under Left c c.node.inputs
+  IsPassed k n (Iterate it (Node_named f statics) m es) =
+      (i : ℕ) → i < number P here m → (c : Instance) →
+      callee_of P here (call_site f statics) n i ≡ Some c →
+      Every (λ d. flat_clock Y c.path (declared_clock c.node d.name) ≡ flat_clock Y here.path k)
+      c.node.inputs
+      × AreDeclared Y P H same IsAt Under Left c c.node.inputs
+  IsPassed k n e = Unit {0}
+
+  abbrev IsGivenTo : Occurrence → Type 0
+  IsGivenTo o = IsPassed o.clock o.calls_before o.expr
+
+  abbrev pub ArePassed : List Occurrence → Type 0
+  ArePassed os = Every IsGivenTo os
+
+  -- the definitions of the inputs of what the occurrences `os` call
+  abbrev pub called_by : List Occurrence → List Definition
+  called_by os = flat_map (λ o. call_definitions P here o.calls_before o.expr) os
+
+  -- the copies that `t` has beyond `s` match the definitions `ds`
+  pub record Defines (s t : State) (ds : List Definition) : Type 0 where
+    pub new : List FlatEquation
+    pub copies : t.copies ≡ s.copies ++ new
+    pub matched : AreMatched Defined new ds
+
+  defines_none : (s t : State) → t.copies ≡ s.copies → Defines s t []
+  defines_none s t e = record {
+    new = [];
+    copies = e ∙ sym (append-nil s.copies);
+    matched = matched-none Defined;
+  }
+
+  defines_after :
+      (s t u : State) (ds : List Definition) → Defines s t ds → u.copies ≡ t.copies →
+      Defines s u ds
+  defines_after s t u ds a e =
+      record { new = a.new; copies = e ∙ a.copies; matched = a.matched }
+
+  defines_two :
+      (s t u : State) (os os' : List Occurrence) → Defines s t (called_by os) →
+      Defines t u (called_by os') → Defines s u (called_by (os ++ os'))
+  defines_two s t u os os' a b = record {
+    new = a.new ++ b.new;
+    copies = b.copies ∙ (ap (λ qs. qs ++ b.new) a.copies ∙ append_assoc s.copies a.new b.new);
+    matched = subst (AreMatched Defined (a.new ++ b.new))
+        (sym (flat_map-append (λ o. call_definitions P here o.calls_before o.expr) os os'))
+        (matched-append Defined a.new b.new (called_by os) (called_by os') a.matched b.matched);
+  }
+
+  -- copies that match `ds`, and then copies that match `own`, match `own ++ ds`
+  defines_call :
+      (s t u : State) (qs : List FlatEquation) (own ds : List Definition) → Defines s t ds →
+      u.copies ≡ t.copies ++ qs → AreMatched Defined qs own → Defines s u (own ++ ds)
+  defines_call s t u qs own ds a e m = record {
+    new = a.new ++ qs;
+    copies = e ∙ (ap (λ rs. rs ++ qs) a.copies ∙ append_assoc s.copies a.new qs);
+    matched = matched-crossed Defined a.new qs ds own a.matched m;
+  }
+
+  fore : (os os' : List Occurrence) → Parts (os ++ os') → Parts os
+  fore os os' h = Every-first (IsKnown Y P H same IsAt Under Left here) os os' h
+
+  aft : (os os' : List Occurrence) → Parts (os ++ os') → Parts os'
+  aft os os' h = Every-second (IsKnown Y P H same IsAt Under Left here) os os' h
+
+  before : (os os' : List Occurrence) → ArePassed (os ++ os') → ArePassed os
+  before os os' h = Every-first IsGivenTo os os' h
+
+  behind : (os os' : List Occurrence) → ArePassed (os ++ os') → ArePassed os'
+  behind os os' h = Every-second IsGivenTo os os' h
+
+  -- ## One call
+
+  each_fed :
+      (p : Path) (callee : Node) (given : Given) (b : Clock) (ds : List Declaration) (n : ℕ)
+      (s : State) (es : Exprs) (us : List DataType) → all_types P here es ≡ Some us →
+      let ks : List Clock = map (λ d. outer b given (declared_clock callee d.name)) ds in
+      length us ≤ length ks → Parts (occurrences_each P here.node ks n es) →
+      Met (emit_each Y P here ks n s es).state →
+      Every (λ d. flat_clock Y p (declared_clock callee d.name)
+      ≡ flat (outer b given (declared_clock callee d.name))) ds →
+      AreAsWide H p ds (argument_streams P H here ks n es) →
+      AreFed Y P H same IsAt Under Left p callee ds (emit_each Y P here ks n s es).found
+      (all_needs P here n es)
+  unfolding emit needs
+  each_fed p callee given b [] n s Nil us is le parts h c w = tt
+  each_fed p callee given b (d ∷ ds) n s Nil us is le parts h c w = absurd w
+  each_fed p callee given b [] n s (Cons e es) us is le parts h c w =
+      let f = first_of_all P here e es us is in
+      absurd (omega (arith, le, ap length f.all))
+  each_fed p callee given b (d ∷ ds) n s (Cons e es) us is le parts h c w =
+      let k = outer b given (declared_clock callee d.name) in
+      let ks : List Clock = map (λ d. outer b given (declared_clock callee d.name)) ds in
+      let m = n + call_count e in
+      let x = emit Y P here k n s e in
+      let oa = occurrences P here.node k n e in
+      let ob = occurrences_each P here.node ks m es in
+      let f = first_of_all P here e es us is in
+      let kept = each_before Y P H same IsAt Under Left here ks m x.state es h in
+      let l = linked Y P H same IsAt Under Left here variables_wide numbered k n s e
+      (fore oa ob parts) kept in (
+        (
+          subst (λ l. AreLinks IsAt Under Left l x.found (needs P here n e)) (sym c.0) l,
+          same p d.name ∙ (w.0 ∙ sym (as_many Y P H here same k n s e)),
+        ),
+        each_fed p callee given b ds m x.state es f.rest f.others
+            (omega (arith, le, ap length f.all)) (aft oa ob parts) h c.1 w.1,
+      )
+
+  call_matched :
+      (k : Clock) (n : ℕ) (s : State) (f : Name) (statics : List Static) (es : Exprs) →
+      IsTypedAt P H here (at k n (Call f statics es)) → IsPassed k n (Call f statics es) →
+      Parts (occurrences_each P here.node (call_clocks k (node_named P f) es) (n + 1) es) →
+      Met (emit_each Y P here (call_clocks k (node_named P f) es) (n + 1) s es).state →
+      AreMatched Defined
+      (call_copies Y (Child here.path n 0) (node_named P f)
+      (emit_each Y P here (call_clocks k (node_named P f) es) (n + 1) s es).found)
+      (call_definitions P here n (Call f statics es))
+  call_matched k n s f statics es t passed parts met =
+      let o = bound (operator_types P here (Node_named f statics)) _ t.types t.are in
+      let c = called P here f statics o.value o.is in
+      let p = placed P here f statics c.callee c.is in
+      let node = c.callee.node in
+      let child = Child here.path n 0 in
+      let callee : Instance = record c.callee { path = child } in
+      let given = passed callee (p.at n 0) in
+      let enough = clocks_enough Y P H here same variables_wide 0 k f statics es t.types t.are in
+      let fewer = subst (λ o. length enough.0 ≤ length (call_clocks k o es)) p.node enough.2 in
+      let own_parts = subst (λ o.
+      Parts (occurrences_each P here.node (call_clocks k o es) (n + 1) es)) p.node parts in
+      let own_met = subst (λ o. Met (emit_each Y P here (call_clocks k o es) (n + 1) s es).state)
+      p.node met in
+      let wide = subst (λ o. Every (IsOccurrenceWide P H here)
+      (occurrences_each P here.node (call_clocks k o es) (n + 1) es)) p.node t.parts.1 in
+      let as_wide = call_as_wide P H here variables_wide k n f statics es t.types t.are t.parts.0
+      node p.node wide in
+      let args = all_needs P here (n + 1) es in
+      let found : Option Node → List (List ℕ) =
+      λ o. (emit_each Y P here (call_clocks k o es) (n + 1) s es).found in
+      let fed = each_fed child node (given_inputs node.inputs es) (base_clock k node) node.inputs
+      (n + 1) s es enough.0 enough.1 fewer own_parts own_met given.0 as_wide in
+      let own = matched-pairs Defined (received Y node child node.inputs (found (Some node)))
+      (defined_as (flat_map (elements P callee) node.inputs) (joined args))
+      (received_paired Y P H same IsAt Under Left callee node node.inputs (found (Some node)) args
+      given.1 fed) in
+      subst (λ o. AreMatched Defined (call_copies Y child o (found o))
+      (input_definitions P (callee_of P here (call_site f statics) n 0) args)) (sym p.node)
+      (subst (λ o. AreMatched Defined (received Y node child node.inputs (found (Some node)))
+      (input_definitions P o args)) (sym (p.at n 0)) own)
+
+  iterator_matched :
+      (k : Clock) (n : ℕ) (s : State) (it : ArrayIterator) (f : Name) (statics : List Static)
+      (m : Static) (es : Exprs) →
+      IsKnown Y P H same IsAt Under Left here (at k n (Iterate it (Node_named f statics) m es)) →
+      IsPassed k n (Iterate it (Node_named f statics) m es) →
+      Pairs (Links k) (emit_all Y P here k (n + 1) s es).found (all_needs P here (n + 1) es) →
+      AreMatched Defined
+      (iterator_copies Y here.path n it (number P here m) (node_named P f)
+      (emit_all Y P here k (n + 1) s es).found)
+      (call_definitions P here n (Iterate it (Node_named f statics) m es))
+  iterator_matched k n s it f statics m es known passed l =
+      let t = known.typed in
+      let size = bound (static_count P here m) _ t.types t.are in
+      let o = bound (operator_types P here (Node_named f statics)) _ t.types size.gives in
+      let c = called P here f statics o.value o.is in
+      let p = placed P here f statics c.callee c.is in
+      let node = c.callee.node in
+      let count = number P here m in
+      let callee : ℕ → Instance = λ i. record c.callee { path = Child here.path n i } in
+      let found = (emit_all Y P here k (n + 1) s es).found in
+      let args = all_needs P here (n + 1) es in
+      let places : ℕ → Name → List ℕ = λ i x. Y.places (Child here.path n i) x in
+      let streams : ℕ → Name → List Stream = λ i x. H.columns (Child here.path n i) x in
+      let outs : ℕ → Name → List (List Element) =
+      λ i x. itself (output_elements P here f statics n i x) in
+      let lengths = all_as_many Y P H here same k (n + 1) s es in
+      let outputs : (i : ℕ) → i < count → (x : Name) → Links k (places i x) (outs i x) =
+      λ i lt x. variable_links IsAt Under Left (flat k) (places i x)
+      (output_elements P here f statics n i x)
+      (outputs_numbered Y P H same IsAt Under Left here f statics n i (callee i) (p.at n i) refl
+      (known.linkable.1 i lt (callee i) (p.at n i)) x) in
+      let copies : ℕ → List FlatEquation =
+      λ i. received Y node (Child here.path n i) node.inputs
+      (iterator_inputs places count it node.outputs found i) in
+      let definitions : ℕ → List Definition =
+      λ i. input_definitions P (callee_of P here (call_site f statics) n i)
+      (iterator_inputs outs count it node.outputs args i) in
+      let one : (i : ℕ) → i < count → Pairs Defined (copies i) (definitions i) =
+      λ i lt.
+      let given = passed i lt (callee i) (p.at n i) in
+      let iss = iterator_inputs places count it node.outputs found i in
+      let ysss = iterator_inputs outs count it node.outputs args i in
+      let fed = fed_of Y P H same IsAt Under Left (flat k) (Child here.path n i) node node.inputs
+      iss ysss
+      (iterator_inputs streams count it node.outputs (all_streams P H here k (n + 1) es) i) given.0
+      (inputs_linked Y P H same IsAt Under Left (flat k) places outs count outputs it node.outputs
+      found args i lt l)
+      (iterator_as_wide P H here variables_wide k n it f statics m es t.types t.are t.parts.0.1 node
+      p.node t.parts.1 i lt)
+      (length-inputs places streams (λ j x. same (Child here.path n j) x) count it node.outputs
+      found (all_streams P H here k (n + 1) es) i lengths) in
+      subst (λ o. Pairs Defined (copies i) (input_definitions P o ysss)) (sym (p.at n i))
+      (received_paired Y P H same IsAt Under Left (callee i) node node.inputs iss ysss given.1
+      fed) in
+      let all = matched-pairs Defined (flat_map copies (range_with_len 0 count))
+      (flat_map definitions (range_with_len 0 count))
+      (range_pairs Defined copies definitions count 0 count (omega arith) one) in
+      subst (λ o. AreMatched Defined (iterator_copies Y here.path n it count o found)
+      (flat_map (λ i. input_definitions P (callee_of P here (call_site f statics) n i)
+      (iterator_inputs outs count it (listed (λ n. n.outputs) o) args i)) (range_with_len 0 count)))
+      (sym p.node) all
+
+  -- ## Expressions
+
+  name_defines : (k : Clock) (s : State) (x : Name) (o : Option Declaration) →
+      Defines s (emit_name Y P here k s x o).state []
+  name_defines k s x None = defines_none s _ (add_copies (flat k) s _)
+  name_defines k s x (Some d) = defines_none s s refl
+
+  added_met : (k : FlatClock) (s : State) (os : List Operation) → Met (add k s os).state → Met s
+  added_met k s os h = let n = added IsAt Under Left k s os h in n.before
+
+  kept_met : (x : Emitted) → Met (keep x).state → Met x.state
+  kept_met x h = subst (AllMeet IsAt Under Left) (keep_equations x) h
+
+  abbrev Earlier : State → State → Type 0
+  Earlier s t = Met t → Met s
+
+  adding : IsAdding Earlier
+  adding = let e = earlier Y P H same IsAt Under Left here in e.adding
+
+  -- the copies of two operands, one after another, match the definitions for both
+  two_defined :
+      (k : Clock) (n : ℕ) (s : State) (a b : Expr) →
+      (let m = n + call_count a in
+      let x = emit Y P here k n s a in
+      let y = emit Y P here k m x.state b in
+      let oa = occurrences P here.node k n a in
+      let ob = occurrences P here.node k m b in
+      (Parts oa → ArePassed oa → Met x.state → Defines s x.state (called_by oa)) →
+      (Parts ob → ArePassed ob → Met y.state → Defines x.state y.state (called_by ob)) →
+      Parts (oa ++ ob) → ArePassed (oa ++ ob) → Met y.state →
+      Defines s y.state (called_by (oa ++ ob)))
+  two_defined k n s a b left right p g h =
+      let m = n + call_count a in
+      let x = emit Y P here k n s a in
+      let oa = occurrences P here.node k n a in
+      let ob = occurrences P here.node k m b in
+      let first = term_before Y P H same IsAt Under Left here k m x.state b h in
+      defines_two s x.state _ oa ob (left (fore oa ob p) (before oa ob g) first)
+      (right (aft oa ob p) (behind oa ob g) h)
+
+  mutual
+    unfolding emit
+
+    -- the copies of an expression match the definitions of the inputs that its calls receive
+    pub calls_defined :
+        (k : Clock) (n : ℕ) (s : State) (e : Expr) → Parts (occurrences P here.node k n e) →
+        ArePassed (occurrences P here.node k n e) → Met (emit Y P here k n s e).state →
+        Defines s (emit Y P here k n s e).state (called_by (occurrences P here.node k n e))
+    calls_defined k n s (Literal m) p g h = defines_none s _ (add_copies (flat k) s _)
+    calls_defined k n s (Truth b) p g h = defines_none s _ (add_copies (flat k) s _)
+    calls_defined k n s (Variable x) p g h =
+        name_defines k s x (named (λ d. d.name) x (variables here.node))
+    calls_defined k n s (Group a) p g h = calls_defined k n s a p g h
+    calls_defined k n s (Unary op a) p g h =
+        defines_after s _ _ _ (calls_defined k n s a p.1 g.1 (added_met _ _ _ h))
+        (add_copies _ _ _)
+    calls_defined k n s (Binary op a b) p g h =
+        defines_after s _ _ _
+        (two_defined k n s a b (calls_defined k n s a) (calls_defined k _ _ b) p.1 g.1
+        (added_met _ _ _ h)) (add_copies _ _ _)
+    calls_defined k n s (If c a b) p g h =
+        let na = n + call_count c in
+        let z = emit Y P here k n s c in
+        let oc = occurrences P here.node k n c in
+        let ob = occurrences P here.node k na a
+        ++ occurrences P here.node k (na + call_count a) b in
+        let x = emit Y P here k na z.state a in
+        let met = added_met _ _ _ h in
+        let second = term_before Y P H same IsAt Under Left here k _ x.state b met in
+        let first = term_before Y P H same IsAt Under Left here k na z.state a second in
+        defines_after s _ _ _
+        (defines_two s z.state _ oc ob
+        (calls_defined k n s c (fore oc ob p.1) (before oc ob g.1) first)
+        (two_defined k na z.state a b (calls_defined k na z.state a) (calls_defined k _ _ b)
+        (aft oc ob p.1) (behind oc ob g.1) met)) (add_copies _ _ _)
+    calls_defined k n s (Arrow a b) p g h =
+        defines_after s _ _ _
+        (two_defined k n s a b (calls_defined k n s a) (calls_defined k _ _ b) p.1 g.1
+        (added_met _ _ _ h)) (add_copies _ _ _)
+    calls_defined k n s (Fby a b) p g h =
+        defines_after s _ _ _
+        (two_defined k n s a b (calls_defined k n s a) (calls_defined k _ _ b) p.1 g.1
+        (kept_met _ (added_met _ _ _ (added_met _ _ _ h))))
+        (add_copies _ _ _ ∙ (add_copies _ _ _ ∙ keep_copies _))
+    calls_defined k n s (Pre a) p g h =
+        defines_after s _ _ _ (calls_defined k n s a p.1 g.1 (kept_met _ (added_met _ _ _ h)))
+        (add_copies _ _ _ ∙ keep_copies _)
+    calls_defined k n s (When a y sign) p g h =
+        defines_after s _ _ _ (calls_defined _ n s a p.1 g.1 (added_met _ _ _ h))
+        (add_copies _ _ _)
+    calls_defined k n s (Current a) p g h =
+        defines_after s _ _ _ (calls_defined _ n s a p.1 g.1 (kept_met _ (added_met _ _ _ h)))
+        (add_copies _ _ _ ∙ keep_copies _)
+    calls_defined k n s (Replicate a m) p g h = calls_defined k n s a p.1 g.1 h
+    calls_defined k n s (Index a i) p g h = calls_defined k n s a p.1 g.1 h
+    calls_defined k n s (Slice a i j) p g h = calls_defined k n s a p.1 g.1 h
+    calls_defined k n s (Join a b) p g h =
+        two_defined k n s a b (calls_defined k n s a) (calls_defined k _ _ b) p.1 g.1 h
+    calls_defined k n s (Array es) p g h = all_defined k n s es p.1 g.1 h
+    calls_defined k n s (AtMostOne es) p g h =
+        defines_after s _ _ _
+        (all_defined k n s es p.1 g.1 (at_most_one_step Earlier adding _ _ _ h))
+        (at_most_one_copies _ _ _)
+    calls_defined k n s (Nor es) p g h =
+        defines_after s _ _ _
+        (all_defined k n s es p.1 g.1 (nor_step Earlier adding _ _ _ h))
+        (nor_copies _ _ _)
+    calls_defined k n s (Call f statics es) p g h =
+        let ks = call_clocks k (node_named P f) es in
+        let r = emit_each Y P here ks (n + 1) s es in
+        let copies = call_copies Y (Child here.path n 0) (node_named P f) r.found in
+        let is = flat_map (λ o. Y.places (Child here.path n 0) o.name) (outputs_of P here f) in
+        let met = subst (AllMeet IsAt Under Left) (joins_equations r.state copies is) h in
+        defines_call s r.state _ copies (call_definitions P here n (Call f statics es))
+        (called_by (occurrences_each P here.node ks (n + 1) es))
+        (each_defined ks (n + 1) s es p.1 g.1 met) (joins_copies r.state copies is)
+        (call_matched k n s f statics es p.0.typed g.0 p.1 met)
+    calls_defined k n s (Iterate it (Node_named f statics) m es) p g h =
+        let r = emit_all Y P here k (n + 1) s es in
+        let count = number P here m in
+        let copies = iterator_copies Y here.path n it count (node_named P f) r.found in
+        let is = iterated (λ i x. Y.places (Child here.path n i) x) count it
+        (outputs_of P here f) in
+        let met = subst (AllMeet IsAt Under Left) (joins_equations r.state copies is) h in
+        let l = all_linked Y P H same IsAt Under Left here variables_wide numbered k (n + 1) s es
+        p.1 met in
+        defines_call s r.state _ copies
+        (call_definitions P here n (Iterate it (Node_named f statics) m es))
+        (called_by (occurrences_in P here.node k (n + 1) es))
+        (all_defined k (n + 1) s es p.1 g.1 met) (joins_copies r.state copies is)
+        (iterator_matched k n s it f statics m es p.0 g.0 l)
+    calls_defined k n s (Iterate it (Symbol op) m es) p g h =
+        defines_after s _ _ _
+        (all_defined k n s es p.1 g.1 (symbol_step Earlier adding _ op _ it _ h))
+        (symbol_copies _ op _ it _)
+
+    all_defined :
+        (k : Clock) (n : ℕ) (s : State) (es : Exprs) → Parts (occurrences_in P here.node k n es) →
+        ArePassed (occurrences_in P here.node k n es) → Met (emit_all Y P here k n s es).state →
+        Defines s (emit_all Y P here k n s es).state (called_by (occurrences_in P here.node k n es))
+    all_defined k n s Nil p g h = defines_none s s refl
+    all_defined k n s (Cons e es) p g h =
+        let m = n + call_count e in
+        let x = emit Y P here k n s e in
+        let oa = occurrences P here.node k n e in
+        let ob = occurrences_in P here.node k m es in
+        let first = all_before Y P H same IsAt Under Left here k m x.state es h in
+        defines_two s x.state _ oa ob (calls_defined k n s e (fore oa ob p) (before oa ob g) first)
+        (all_defined k m x.state es (aft oa ob p) (behind oa ob g) h)
+
+    each_defined :
+        (ks : List Clock) (n : ℕ) (s : State) (es : Exprs) →
+        Parts (occurrences_each P here.node ks n es) →
+        ArePassed (occurrences_each P here.node ks n es) →
+        Met (emit_each Y P here ks n s es).state →
+        Defines s (emit_each Y P here ks n s es).state
+        (called_by (occurrences_each P here.node ks n es))
+    each_defined ks n s Nil p g h = defines_none s s refl
+    each_defined [] n s (Cons e es) p g h = defines_none s s refl
+    each_defined (k ∷ ks) n s (Cons e es) p g h =
+        let m = n + call_count e in
+        let x = emit Y P here k n s e in
+        let oa = occurrences P here.node k n e in
+        let ob = occurrences_each P here.node ks m es in
+        let first = each_before Y P H same IsAt Under Left here ks m x.state es h in
+        defines_two s x.state _ oa ob (calls_defined k n s e (fore oa ob p) (before oa ob g) first)
+        (each_defined ks m x.state es (aft oa ob p) (behind oa ob g) h)

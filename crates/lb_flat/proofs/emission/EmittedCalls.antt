@@ -1,0 +1,443 @@
+-- The words of the code that expands resolved terms which copy the operands of a call and put its
+-- outputs on the stack.
+use Rattle.lb_flat.proofs.Words.{◌≡◌, ◌<◌, ◌≤◌, ℕ, zero, suc, ◌+◌, ◌*◌, ◌-◌, List, [], ◌∷◌, ◌++◌}
+use Rattle.lb_flat.proofs.Words.{length, take, drop, get_or, min, arith, refl, sym, ap, ap₂, subst}
+use Rattle.lb_flat.proofs.Words.{◌∙◌, nat_le, range_with_len, nat_tests, length-range_with_len}
+use Rattle.lb_flat.proofs.Words.{get_or-range_with_len, length-map-range_with_len}
+use Rattle.lb_flat.proofs.Words.{get_or-map-range_with_len, map-range_with_len_more, ArrayIterator}
+use Rattle.lb_flat.proofs.Words.{Map, Red, Fill, Callee, State, Emitted, gives, joins, Target}
+use Rattle.lb_flat.proofs.Words.{copied, Context, input_targets, part_copies, accumulator}
+use Rattle.lb_flat.proofs.Words.{index_copies, gathered_at, index_outputs, call, iterate, FlatClock}
+use Rattle.lb_flat.proofs.Words.{FlatEquation, targets_of, with_copies, onto, on_top}
+use Rattle.std.specs.Prelude.{Bool, true, false, flat_map, Option, Some, None}
+use Rattle.std.proofs.lemmas.List.{drop_more, drop_all, drop-drop, drop_min, length-drop}
+use Rattle.std.proofs.lemmas.List.{length-map, append_assoc, append-nil, map-id}
+use Rattle.std.proofs.lemmas.List.Concat.{flat_map-append}
+use Rattle.lb_flat.specs.EmitTerms.{call_copies, call_outputs, iterator_copies, iterator_outputs}
+use Rattle.lb_flat.specs.Frames.{copy_of}
+use Rattle.lb_flat.proofs.emission.EmittedStacks.{equation_pushed, flat_pushed}
+use Rattle.lb_flat.proofs.emission.Emitting.{elements_push, numbers_push}
+
+-- ## Numbers in order
+
+pub range_last : (a n : ℕ) → range_with_len a (n + 1) ≡ range_with_len a n ++ (a + n) ∷ []
+range_last a n =
+    sym (map-id (range_with_len a (n + 1)))
+    ∙ map-range_with_len_more (λ k. k) a n (a + n) refl
+    ∙ ap (λ ks. ks ++ (a + n) ∷ []) (map-id (range_with_len a n))
+
+pub range_rest : (a n i : ℕ) → i < n →
+    drop i (range_with_len a n) ≡ (a + i) ∷ drop (i + 1) (range_with_len a n)
+range_rest a n i lt =
+    let size = length-range_with_len a n in
+    drop_more (range_with_len a n) i 0 (omega (arith, size, lt))
+    ∙ ap (λ k. k ∷ drop (i + 1) (range_with_len a n)) (get_or-range_with_len a n i 0 lt)
+
+pub range_done : (a n i : ℕ) → n ≤ i → drop i (range_with_len a n) ≡ []
+range_done a n i le =
+    let size = length-range_with_len a n in
+    drop_all i (range_with_len a n) (omega (arith, size, le))
+
+-- ## Elements that come on the stack
+
+-- elements `new` put above `so` on the stack make `so ++ new`
+pub putting_more :
+    (below so new next : List ℕ) (s : State) (x y : Emitted) → x ≡ onto below (gives s so) →
+    y ≡ onto x.found (gives x.state new) → so ++ new ≡ next → y ≡ onto below (gives s next)
+putting_more below so new next s x y h e is =
+    e ∙ ap (λ (x : Emitted). onto x.found (gives x.state new)) h
+    ∙ ap (λ (is : List ℕ). gives s is)
+    (append_assoc below so new ∙ ap (λ (is : List ℕ). below ++ is) is)
+
+-- `a + i`, put above the i numbers from `a` on, makes the i + 1 numbers from `a` on
+pub put_more :
+    (below : List ℕ) (s : State) (x y : Emitted) (a i e : ℕ) →
+    x ≡ onto below (gives s (range_with_len a i)) → y ≡ onto x.found (gives x.state (e ∷ [])) →
+    e ≡ a + i → y ≡ onto below (gives s (range_with_len a (i + 1)))
+put_more below s x y a i e h put is =
+    putting_more below (range_with_len a i) (e ∷ []) (range_with_len a (i + 1)) s x y h put
+    (ap (λ e. range_with_len a i ++ e ∷ []) is ∙ sym (range_last a i))
+
+flat_last : (f : ℕ → List ℕ) (a i : ℕ) →
+    flat_map f (range_with_len a i) ++ f (a + i) ≡ flat_map f (range_with_len a (i + 1))
+flat_last f a i =
+    let so = flat_map f (range_with_len a i) in
+    sym (ap (flat_map f) (range_last a i)
+    ∙ flat_map-append f (range_with_len a i) ((a + i) ∷ [])
+    ∙ ap (λ (ys : List ℕ). so ++ ys) (append-nil (f (a + i))))
+
+-- `f (a + i)`, put above the elements of the i numbers from `a` on, makes those of i + 1 numbers
+pub put_flat :
+    (below : List ℕ) (s : State) (x y : Emitted) (f : ℕ → List ℕ) (a i j k : ℕ)
+    (new : List ℕ) → x ≡ onto below (gives s (flat_map f (range_with_len a i))) →
+    y ≡ onto x.found (gives x.state new) → new ≡ f j → j ≡ a + i → k ≡ i + 1 →
+    y ≡ onto below (gives s (flat_map f (range_with_len a k)))
+put_flat below s x y f a i j k new h put is at last =
+    let so = flat_map f (range_with_len a i) in
+    putting_more below so new (flat_map f (range_with_len a k)) s x y h put
+    (ap (λ (ys : List ℕ). so ++ ys) (is ∙ ap f at) ∙ flat_last f a i
+    ∙ ap (λ n. flat_map f (range_with_len a n)) (sym last))
+
+-- with a single instance, gathering over all instances gives the elements of each variable
+pub flat_single : (f : ℕ → List ℕ) (g : ℕ → ℕ → List ℕ) (xs : List ℕ) →
+    ((x : ℕ) → g 0 x ≡ f x) →
+    flat_map (λ x. flat_map (λ i. g i x) (range_with_len 0 1)) xs ≡ flat_map f xs
+flat_single f g [] h = refl
+flat_single f g (x ∷ xs) h =
+    ap₂ (λ (ys zs : List ℕ). ys ++ zs) (append-nil (g 0 x) ∙ h x) (flat_single f g xs h)
+
+-- ## Copies
+
+-- after the copies `one`, the copies `left` give the whole
+pub copying_more :
+    (s t whole : State) (one left before : List FlatEquation) → t ≡ with_copies s one →
+    before ≡ one ++ left → with_copies s before ≡ whole → with_copies t left ≡ whole
+copying_more s t whole one left before e is h =
+    ap (λ (t : State). with_copies t left) e
+    ∙ ap (λ (qs : List FlatEquation). record s { copies = qs })
+    (append_assoc s.copies one left ∙ ap (λ (qs : List FlatEquation). s.copies ++ qs) (sym is))
+    ∙ h
+
+pub copying_ends :
+    (s whole : State) (left : List FlatEquation) → left ≡ [] → with_copies s left ≡ whole →
+    s ≡ whole
+copying_ends s whole left is h =
+    sym (ap (with_copies s) is
+    ∙ ap (λ (qs : List FlatEquation). record s { copies = qs }) (append-nil s.copies)) ∙ h
+
+copied_more :
+    (ts : List Target) (js : List ℕ) (i : ℕ) (t : Target) (j : ℕ) → i < length ts →
+    i < length js →
+    copied (drop i ts) (drop i js)
+    ≡ copy_of (get_or ts i t).clock (get_or ts i t).place (get_or js i j)
+    ∷ copied (drop (i + 1) ts) (drop (i + 1) js)
+copied_more ts js i t j lt more = ap₂ copied (drop_more ts i t lt) (drop_more js i j more)
+
+-- a step of a loop of copies: after the copy of item i, the copies from i + 1 on are left
+pub copy_step :
+    (k j : FlatClock) (s t whole : State) (first n i e a : ℕ) (js : List ℕ) → i < n →
+    i < length js →
+    with_copies s (copied (drop i (targets_of k (range_with_len first n))) (drop i js)) ≡ whole →
+    t ≡ with_copies s (copy_of j e a ∷ []) → j ≡ k → e ≡ first + i → a ≡ get_or js i 0 →
+    with_copies t (copied (drop (i + 1) (targets_of k (range_with_len first n))) (drop (i + 1) js))
+    ≡ whole
+copy_step k j s t whole first n i e a js lt more h et clock place at =
+    let f : ℕ → Target = λ i. record { place = i; clock = k } in
+    let ts = targets_of k (range_with_len first n) in
+    let size = length-map-range_with_len f first n in
+    let rest = copied (drop (i + 1) ts) (drop (i + 1) js) in
+    let target = get_or-map-range_with_len f first n i e (f 0) lt (sym place) in
+    let one : FlatEquation = copy_of k e a in
+    let step : copied (drop i ts) (drop i js) ≡ one ∷ rest =
+    copied_more ts js i (f 0) 0 (subst (λ n. i < n) (sym size) lt) more
+    ∙ ap₂ (λ (t : Target) (j : ℕ). copy_of t.clock t.place j ∷ rest) target (sym at) in
+    copying_more s t whole (one ∷ []) rest (copied (drop i ts) (drop i js))
+    (et ∙ ap (λ (k : FlatClock). with_copies s (copy_of k e a ∷ [])) clock) step h
+
+none_copied : (ts : List Target) → copied ts [] ≡ []
+none_copied [] = refl
+none_copied (t ∷ ts) = refl
+
+copied_done : (ts : List Target) (js : List ℕ) (i : ℕ) → min (length ts) (length js) ≤ i →
+    copied (drop i ts) (drop i js) ≡ []
+copied_done ts js i h = by (nat_le (length ts) i) refl
+  where
+    by : (b : Bool) → nat_le (length ts) i ≡ b → copied (drop i ts) (drop i js) ≡ []
+    by true e =
+        let le : length ts ≤ i = grind (arith, nat_tests) in
+        ap (λ (ts : List Target). copied ts (drop i js)) (drop_all i ts le)
+    by false e =
+        let le : length js ≤ i = grind (arith, nat_tests) in
+        ap (copied (drop i ts)) (drop_all i js le) ∙ none_copied (drop i ts)
+
+-- when a loop of copies is at its end, its state is the whole
+pub copy_ends :
+    (k : FlatClock) (s whole : State) (first n i : ℕ) (js : List ℕ) → min n (length js) ≤ i →
+    with_copies s (copied (drop i (targets_of k (range_with_len first n))) (drop i js)) ≡ whole →
+    s ≡ whole
+copy_ends k s whole first n i js done h =
+    let f : ℕ → Target = λ i. record { place = i; clock = k } in
+    let ts = targets_of k (range_with_len first n) in
+    let size = length-map-range_with_len f first n in
+    copying_ends s whole (copied (drop i ts) (drop i js))
+    (copied_done ts js i (subst (λ n. min n (length js) ≤ i) (sym size) done)) h
+
+-- copies into `ts ++ us` are copies into `ts`, and then copies of the rest into `us`
+pub copied_append : (ts us : List Target) (js : List ℕ) →
+    copied (ts ++ us) js ≡ copied ts js ++ copied us (drop (length ts) js)
+copied_append [] us js = refl
+copied_append (t ∷ ts) us [] = none_copied (t ∷ ts ++ us) ∙ sym (none_copied us)
+copied_append (t ∷ ts) us (j ∷ js) =
+    ap (λ (qs : List FlatEquation). copy_of t.clock t.place j ∷ qs) (copied_append ts us js)
+
+-- skipping n items behind `at` stops at the end of the list
+pub skipped : (at n : ℕ) (all : List ℕ) → at ≤ length all →
+    drop (at + min n (length all - at)) all ≡ drop n (drop at all)
+skipped at n all le =
+    sym (drop-drop (min n (length all - at)) at all)
+    ∙ ap (λ m. drop (min n m) (drop at all)) (sym (length-drop at all))
+    ∙ drop_min n (drop at all)
+
+-- a loop of copies over the items of a list, one after the other
+module _ {A : Type 0} (f : A → List Target) where
+  pub items_step :
+      (s t whole : State) (x : A) (xs ys : List A) (n at to : ℕ) (all : List ℕ) → ys ≡ x ∷ xs →
+      length (f x) ≡ n → at ≤ length all →
+      with_copies s (copied (flat_map f ys) (drop at all)) ≡ whole →
+      t ≡ with_copies s (copied (f x) (drop at all)) → to ≡ at + min n (length all - at) →
+      with_copies t (copied (flat_map f xs) (drop to all)) ≡ whole
+  items_step s t whole x xs ys n at to all is count within h et place =
+      let one = copied (f x) (drop at all) in
+      let us = flat_map f xs in
+      let rest : drop to all ≡ drop (length (f x)) (drop at all) =
+      ap (λ n. drop n all) place ∙ skipped at n all within
+      ∙ ap (λ n. drop n (drop at all)) (sym count) in
+      copying_more s t whole one (copied us (drop to all)) (copied (flat_map f ys) (drop at all))
+      et
+      (ap (λ (ys : List A). copied (flat_map f ys) (drop at all)) is
+      ∙ copied_append (f x) us (drop at all)
+      ∙ ap (λ (is : List ℕ). one ++ copied us is) (sym rest)) h
+
+  pub items_end :
+      (s whole : State) (ys : List A) (js : List ℕ) → ys ≡ [] →
+      with_copies s (copied (flat_map f ys) js) ≡ whole → s ≡ whole
+  items_end s whole ys js is h =
+      copying_ends s whole _ (ap (λ (ys : List A). copied (flat_map f ys) js) is) h
+
+module _ (ctx : Context) (c : ℕ) where
+  -- copies into the elements of an input are copies into its targets
+  pub child_copied :
+      (s t : State) (i x first n : ℕ) (j k : FlatClock) (js : List ℕ) →
+      t ≡ with_copies s (copied (targets_of j (range_with_len first n)) js) →
+      range_with_len first n ≡ ctx.child c i x → j ≡ k → k ≡ ctx.input c i x →
+      t ≡ with_copies s (copied (input_targets ctx c i x) js)
+  child_copied s t i x first n j k js e is same clock =
+      e ∙ ap₂ (λ (k : FlatClock) (is : List ℕ). with_copies s (copied (targets_of k is) js))
+      (same ∙ clock) is
+
+  -- an input has as many targets as elements
+  target_count : (i x : ℕ) → length (input_targets ctx c i x) ≡ length (ctx.child c i x)
+  target_count i x =
+      length-map (ctx.child c i x) (λ p. record { place = p; clock = ctx.input c i x })
+
+  -- the place in `all` behind the elements that were copied
+  skipped_child : (i x at to m : ℕ) (all : List ℕ) → at ≤ length all →
+      to ≡ at + min (length (ctx.child c i x) * m) (length all - at) →
+      drop to all ≡ drop (length (input_targets ctx c i x) * m) (drop at all)
+  skipped_child i x at to m all within place =
+      let n = length (ctx.child c i x) in
+      ap (λ n. drop n all) place ∙ skipped at (n * m) all within
+      ∙ ap (λ n. drop (n * m) (drop at all)) (sym (target_count i x))
+
+  pub skipped_one : (i x at to : ℕ) (all : List ℕ) → at ≤ length all →
+      to ≡ at + min (length (ctx.child c i x)) (length all - at) →
+      drop to all ≡ drop (length (input_targets ctx c i x)) (drop at all)
+  skipped_one i x at to all within place =
+      ap (λ n. drop n all) place ∙ skipped at (length (ctx.child c i x)) all within
+      ∙ ap (λ n. drop n (drop at all)) (sym (target_count i x))
+
+  -- a step of the loop over the inputs of a call: after input x, those from x + 1 on are left
+  pub input_step :
+      (s t whole : State) (x inputs at to : ℕ) (all : List ℕ) → x < inputs → at ≤ length all →
+      with_copies s (copied (flat_map (input_targets ctx c 0) (drop x (range_with_len 0 inputs)))
+      (drop at all)) ≡ whole →
+      t ≡ with_copies s (copied (input_targets ctx c 0 x) (drop at all)) →
+      to ≡ at + min (length (ctx.child c 0 x)) (length all - at) →
+      with_copies t (copied (flat_map (input_targets ctx c 0)
+      (drop (x + 1) (range_with_len 0 inputs))) (drop to all)) ≡ whole
+  input_step s t whole x inputs at to all lt within h et place =
+      let zero_x : 0 + x ≡ x = omega arith in
+      items_step (input_targets ctx c 0) s t whole x (drop (x + 1) (range_with_len 0 inputs))
+      (drop x (range_with_len 0 inputs)) (length (ctx.child c 0 x)) at to all
+      (range_rest 0 inputs x lt
+      ∙ ap (λ y. y ∷ drop (x + 1) (range_with_len 0 inputs)) zero_x)
+      (target_count 0 x) within h et place
+
+  pub input_ends :
+      (s whole : State) (x inputs at : ℕ) (all : List ℕ) → inputs ≤ x →
+      with_copies s (copied (flat_map (input_targets ctx c 0) (drop x (range_with_len 0 inputs)))
+      (drop at all)) ≡ whole → s ≡ whole
+  input_ends s whole x inputs at all le h =
+      copying_ends s whole _ (ap (λ (is : List ℕ).
+      copied (flat_map (input_targets ctx c 0) is) (drop at all)) (range_done 0 inputs x le)) h
+
+  -- a step of the loop over the inputs of an instance at an index that receive parts of arrays
+  pub part_step :
+      (s t whole : State) (m i a len y x at start to : ℕ) (all : List ℕ) → y < len →
+      a + y ≡ x → at ≤ length all →
+      with_copies s (part_copies ctx c m i (drop y (range_with_len a len)) (drop at all))
+      ≡ whole →
+      t ≡ with_copies s (copied (input_targets ctx c i x) (drop start all)) →
+      start ≡ at + min (length (ctx.child c i x) * i) (length all - at) →
+      to ≡ at + min (length (ctx.child c i x) * m) (length all - at) →
+      with_copies t (part_copies ctx c m i (drop (y + 1) (range_with_len a len)) (drop to all))
+      ≡ whole
+  part_step s t whole m i a len y x at start to all lt ex within h et from after =
+      let xs = drop (y + 1) (range_with_len a len) in
+      let ts = input_targets ctx c i x in
+      let one = skipped_child i x at start i all within from in
+      let two = skipped_child i x at to m all within after in
+      let split : part_copies ctx c m i (drop y (range_with_len a len)) (drop at all)
+      ≡ copied ts (drop start all) ++ part_copies ctx c m i xs (drop to all) =
+      ap (λ (ys : List ℕ). part_copies ctx c m i ys (drop at all))
+      (range_rest a len y lt ∙ ap (λ z. z ∷ xs) ex)
+      ∙ ap₂ (λ (is js : List ℕ). copied ts is ++ part_copies ctx c m i xs js) (sym one) (sym two) in
+      copying_more s t whole (copied ts (drop start all))
+      (part_copies ctx c m i xs (drop to all))
+      (part_copies ctx c m i (drop y (range_with_len a len)) (drop at all)) et split h
+
+  pub part_ends :
+      (s whole : State) (m i a len y at : ℕ) (all : List ℕ) → len ≤ y →
+      with_copies s (part_copies ctx c m i (drop y (range_with_len a len)) (drop at all))
+      ≡ whole → s ≡ whole
+  part_ends s whole m i a len y at all le h =
+      copying_ends s whole _ (ap (λ (is : List ℕ). part_copies ctx c m i is (drop at all))
+      (range_done a len y le)) h
+
+  -- the accumulator of the first instance, and that of each instance after it
+  pub first_accumulator : (n : Callee) (i : ℕ) (is : List ℕ) → i ≡ 0 →
+      accumulator ctx c n i is ≡ is
+  first_accumulator n i is e = ap (λ i. accumulator ctx c n i is) e
+
+  pub next_accumulator : (n : Callee) (i : ℕ) (is : List ℕ) → 0 < i →
+      accumulator ctx c n i is ≡ ctx.child c (i - 1) n.inputs
+  next_accumulator n zero is lt = absurd (omega (arith, lt))
+  next_accumulator n (suc i) is lt =
+      let e : suc i - 1 ≡ i = omega arith in ap (λ j. ctx.child c j n.inputs) (sym e)
+
+  -- `red` copies into its accumulator, and then into its inputs for parts of arrays
+  pub red_copied :
+      (s t u : State) (m i at to : ℕ) (n : Callee) (all : List ℕ) → at ≤ length all →
+      t ≡ with_copies s (copied (input_targets ctx c i 0) (accumulator ctx c n i (drop at all))) →
+      u ≡ with_copies t (part_copies ctx c m i (range_with_len 1 (n.inputs - 1)) (drop to all)) →
+      to ≡ at + min (length (ctx.child c i 0)) (length all - at) →
+      u ≡ with_copies s (index_copies ctx c m Red n (drop at all) i)
+  red_copied s t u m i at to n all within et eu place =
+      let one = copied (input_targets ctx c i 0) (accumulator ctx c n i (drop at all)) in
+      let xs = range_with_len 1 (n.inputs - 1) in
+      let rest = skipped_one i 0 at to all within place in
+      eu ∙ ap (λ (t : State). with_copies t (part_copies ctx c m i xs (drop to all))) et
+      ∙ ap (λ (is : List ℕ). with_copies (with_copies s one) (part_copies ctx c m i xs is)) rest
+      ∙ ap (λ (qs : List FlatEquation). record s { copies = qs })
+      (append_assoc s.copies one
+      (part_copies ctx c m i xs (drop (length (input_targets ctx c i 0)) (drop at all))))
+
+  -- the outputs of an iterated node, for each iterator
+  pub map_outputs : (m first end : ℕ) (it : ArrayIterator) (n : Callee) → it ≡ Map →
+      first ≡ n.inputs → end ≡ n.inputs + n.outputs → m ≡ ctx.repeats c →
+      gathered_at ctx c m (range_with_len first (end - first))
+      ≡ index_outputs ctx c (ctx.repeats c) it n
+  map_outputs m first end it n is from to count =
+      let size : end - first ≡ n.outputs = omega (arith, from, to) in
+      ap₂ (λ (m k : ℕ). gathered_at ctx c m (range_with_len first k)) count size
+      ∙ ap (λ k. gathered_at ctx c (ctx.repeats c) (range_with_len k n.outputs)) from
+      ∙ ap (λ (it : ArrayIterator). index_outputs ctx c (ctx.repeats c) it n) (sym is)
+
+  pub red_outputs : (m k first : ℕ) (is : List ℕ) (it : ArrayIterator) (n : Callee) → it ≡ Red →
+      first ≡ n.inputs → k ≡ m - 1 → m ≡ ctx.repeats c → is ≡ ctx.child c k first →
+      is ≡ index_outputs ctx c (ctx.repeats c) it n
+  red_outputs m k first is it n form from last count same =
+      same ∙ ap₂ (λ k x. ctx.child c k x) (last ∙ ap (λ m. m - 1) count) from
+      ∙ ap (λ (it : ArrayIterator). index_outputs ctx c (ctx.repeats c) it n) (sym form)
+
+  pub fill_outputs :
+      (m k first end : ℕ) (is : List ℕ) (it : ArrayIterator) (n : Callee) → it ≡ Fill →
+      first ≡ n.inputs → end ≡ n.inputs + n.outputs → k ≡ m - 1 → m ≡ ctx.repeats c →
+      is ≡ ctx.child c k first →
+      is ++ gathered_at ctx c m (range_with_len (first + 1) (end - (first + 1)))
+      ≡ index_outputs ctx c (ctx.repeats c) it n
+  fill_outputs m k first end is it n form from to last count same =
+      let size : end - (first + 1) ≡ n.outputs - 1 = omega (arith, from, to) in
+      let next : first + 1 ≡ suc n.inputs = omega (arith, from) in
+      ap₂ (λ (xs ys : List ℕ). xs ++ ys)
+      (same ∙ ap₂ (λ k x. ctx.child c k x) (last ∙ ap (λ m. m - 1) count) from)
+      (ap₂ (λ (m k : ℕ). gathered_at ctx c m (range_with_len (first + 1) k)) count size
+      ∙ ap (λ k. gathered_at ctx c (ctx.repeats c) (range_with_len k (n.outputs - 1))) next)
+      ∙ ap (λ (it : ArrayIterator). index_outputs ctx c (ctx.repeats c) it n) (sym form)
+
+  -- a call or an iterated node: its operands are copied and dropped, and its outputs are put
+  pub call_done :
+      (from : ℕ) (n : Callee) (x y z : Emitted) (t : State) (found : List ℕ) (end : ℕ) →
+      ctx.callee c ≡ Some n →
+      t ≡ with_copies x.state (copied (flat_map (input_targets ctx c 0)
+      (range_with_len 0 n.inputs)) (drop from x.found)) →
+      y ≡ gives t (take from found) → found ≡ x.found → end ≡ n.inputs + n.outputs →
+      z ≡ onto y.found (gives y.state
+      (gathered_at ctx c 1 (range_with_len n.inputs (end - n.inputs)))) →
+      z ≡ on_top from (call ctx c) x
+  unfolding joins
+  call_done from n x y z t found end is et cut same to put =
+      let size : end - n.inputs ≡ n.outputs = omega (arith, to) in
+      let all = range_with_len n.inputs n.outputs in
+      let given = copied (flat_map (input_targets ctx c 0) (range_with_len 0 n.inputs))
+      (drop from x.found) in
+      put ∙ ap (λ (y : Emitted). onto y.found (gives y.state
+      (gathered_at ctx c 1 (range_with_len n.inputs (end - n.inputs))))) cut
+      ∙ ap₂ (λ (t : State) (is : List ℕ). onto (take from is) (gives t
+      (gathered_at ctx c 1 (range_with_len n.inputs (end - n.inputs))))) et same
+      ∙ ap (λ (is : List ℕ). onto (take from x.found) (gives (with_copies x.state given) is))
+      (ap (λ k. gathered_at ctx c 1 (range_with_len n.inputs k)) size
+      ∙ flat_single (ctx.child c 0) (ctx.child c) all (λ x. refl))
+      ∙ ap (λ (o : Option Callee). onto (take from x.found)
+      (joins x.state (call_copies ctx c o (drop from x.found)) (call_outputs ctx c o))) (sym is)
+
+  pub iterate_done :
+      (from : ℕ) (it : ArrayIterator) (n : Callee) (x y z : Emitted) (t : State)
+      (found : List ℕ) → ctx.callee c ≡ Some n →
+      t ≡ with_copies x.state (flat_map (index_copies ctx c (ctx.repeats c) it n
+      (drop from x.found)) (range_with_len 0 (ctx.repeats c))) →
+      y ≡ gives t (take from found) → found ≡ x.found →
+      z ≡ onto y.found (gives y.state (index_outputs ctx c (ctx.repeats c) it n)) →
+      z ≡ on_top from (iterate ctx c it) x
+  unfolding joins
+  iterate_done from it n x y z t found is et cut same put =
+      let outs = index_outputs ctx c (ctx.repeats c) it n in
+      put ∙ ap (λ (y : Emitted). onto y.found (gives y.state outs)) cut
+      ∙ ap₂ (λ (t : State) (is : List ℕ). onto (take from is) (gives t outs)) et same
+      ∙ ap (λ (o : Option Callee). onto (take from x.found)
+      (joins x.state (iterator_copies ctx c it o (drop from x.found))
+      (iterator_outputs ctx c it o))) (sym is)
+
+  -- a call without callee drops its operands
+  pub nothing_called : (from : ℕ) (x y : Emitted) → ctx.callee c ≡ None →
+      y ≡ gives x.state (take from x.found) → y ≡ on_top from (call ctx c) x
+  unfolding joins
+  nothing_called from x y is e =
+      e ∙ ap₂ (λ (qs : List FlatEquation) (is : List ℕ).
+      gives (record x.state { copies = qs }) is) (sym (append-nil x.state.copies))
+      (sym (append-nil (take from x.found)))
+      ∙ ap (λ (o : Option Callee). onto (take from x.found)
+      (joins x.state (call_copies ctx c o (drop from x.found)) (call_outputs ctx c o))) (sym is)
+
+  pub nothing_iterated : (from : ℕ) (it : ArrayIterator) (x y : Emitted) →
+      ctx.callee c ≡ None → y ≡ gives x.state (take from x.found) →
+      y ≡ on_top from (iterate ctx c it) x
+  unfolding joins
+  nothing_iterated from it x y is e =
+      e ∙ ap₂ (λ (qs : List FlatEquation) (is : List ℕ).
+      gives (record x.state { copies = qs }) is) (sym (append-nil x.state.copies))
+      (sym (append-nil (take from x.found)))
+      ∙ ap (λ (o : Option Callee). onto (take from x.found)
+      (joins x.state (iterator_copies ctx c it o (drop from x.found))
+      (iterator_outputs ctx c it o))) (sym is)
+
+-- a step of the loop over indices: after the copies of index i, those from i + 1 on are left
+pub index_step :
+    (s t whole : State) (f : ℕ → List FlatEquation) (i n : ℕ) → i < n →
+    with_copies s (flat_map f (drop i (range_with_len 0 n))) ≡ whole → t ≡ with_copies s (f i) →
+    with_copies t (flat_map f (drop (i + 1) (range_with_len 0 n))) ≡ whole
+index_step s t whole f i n lt h e =
+    let rest = drop (i + 1) (range_with_len 0 n) in
+    let zero_i : 0 + i ≡ i = omega arith in
+    copying_more s t whole (f i) (flat_map f rest) (flat_map f (drop i (range_with_len 0 n))) e
+    (ap (flat_map f) (range_rest 0 n i lt ∙ ap (λ i. i ∷ rest) zero_i)) h
+
+pub index_ends :
+    (s whole : State) (f : ℕ → List FlatEquation) (i n : ℕ) → n ≤ i →
+    with_copies s (flat_map f (drop i (range_with_len 0 n))) ≡ whole → s ≡ whole
+index_ends s whole f i n le h =
+    copying_ends s whole _ (ap (flat_map f) (range_done 0 n i le)) h
+
+pub ruleset puts = (elements_push, numbers_push)
+
+pub ruleset copies = (equation_pushed, flat_pushed)

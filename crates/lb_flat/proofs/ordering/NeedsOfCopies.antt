@@ -1,0 +1,321 @@
+-- Where an element of a variable of an accepted program reads another, by way of temporaries,
+-- it needs that element: by the definition that its copy is, or by the clock of its variable.
+use Rattle.lb_flat.proofs.Words.{◌≡◌, ◌⊎◌, inl, inr, ℕ, suc, ◌<◌, ◌≤◌, Option, Some, None, List, []}
+use Rattle.lb_flat.proofs.Words.{◌∷◌, ◌++◌, length, flat_map, refl, sym, ap, ◌∙◌, subst, arith}
+use Rattle.lb_flat.proofs.Words.{slice_get, range_with_len, Every, In, Declaration, item_at}
+use Rattle.lb_flat.proofs.Words.{variables, width, Program, Instance, Root, Observer, instance_at}
+use Rattle.lb_flat.proofs.Words.{instances, static_refusal, in_at, in_map, map_in, check_refusal}
+use Rattle.lb_flat.proofs.Words.{declared_clock, program_elements, instance_elements, Element}
+use Rattle.lb_flat.proofs.Words.{Definition, elements, definitions, definitions_at}
+use Rattle.lb_flat.proofs.Words.{observer_definitions, equation_definitions, call_definitions}
+use Rattle.lb_flat.proofs.Words.{clock_definitions, waits_for, statements, node_occurrences}
+use Rattle.lb_flat.proofs.Words.{in_first, in_second, in_either, Every-at, Every-from, of_pieces}
+use Rattle.lb_flat.proofs.Words.{to_pieces, declared_over, IsVariable, own_variables, FlatClock}
+use Rattle.lb_flat.proofs.Words.{FlatEquation, history_of, FlatProgram, Layout, flat_clock, layout}
+use Rattle.lb_flat.proofs.Words.{Leads, NeedsAt, clock_reads, reads, equation_reads}
+use Rattle.lb_check.specs.Elements.{numbers_of}
+use Rattle.lb_check.proofs.AcceptedNumbers.{number_in}
+use Rattle.lb_flat.specs.Emit.{State, Target, from_inputs, input_targets, given_inputs, observed}
+use Rattle.lb_flat.specs.Emit.{before_instances, emit_instances, expanded}
+use Rattle.lb_flat.proofs.solutions.Bodies.{all_closed}
+use Rattle.lb_flat.proofs.clock_tables.ClockNumbers.{reads_wait}
+use Rattle.lb_flat.proofs.solutions.Closing.{Closed}
+use Rattle.lb_flat.proofs.copies.CopiedDefinitions.{IsDefinedBy}
+use Rattle.lb_flat.proofs.copies.CopiedProgram.{made, copies_defined, made_in}
+use Rattle.lb_flat.proofs.runs.Filling.{Fresh}
+use Rattle.lb_flat.proofs.copies.GivenProgram.{given_whole}
+use Rattle.lb_flat.proofs.clock_tables.KnownClocks.{clocks_known}
+use Rattle.lb_flat.proofs.ordering.LinkWords.{AllMeet, Meets}
+use Rattle.lb_flat.proofs.ordering.NeedsOfReads.{HasNumber, IsNeeding, PassesOn, ReadsNeeds}
+use Rattle.lb_flat.proofs.ordering.NeedsOfReads.{needs_of}
+use Rattle.lb_flat.proofs.numbering.NumberedPlaces.{is_laid_out}
+use Rattle.lb_flat.proofs.widths.ObserverWidths.{observer_wide}
+use Rattle.lb_flat.proofs.ordering.SourcedInstances.{same, AreClocksKnown}
+use Rattle.lb_flat.proofs.lists.SomeLists.{SomeOf, some_split, some_of_in, in_some}
+
+-- equations of the elements from `n` on give no element below `n`
+fresh_high :
+    (n : ℕ) (qs : List FlatEquation) → Fresh n qs → (q : FlatEquation) → In q qs → n ≤ q.element
+fresh_high n [] h q i = absurd i
+fresh_high n (p ∷ qs) h q (inl e) =
+    let own : n ≡ q.element = sym h.0.element ∙ ap (λ (r : FlatEquation). r.element) e in
+    omega (arith, own)
+fresh_high n (p ∷ qs) h q (inr i) =
+    let above = fresh_high (suc n) qs h.1 q i in omega (arith, above)
+
+-- the operations of inputs read no elements
+inputs_read : (j : ℕ) (ts : List Target) → Every (λ q. reads q.operation ≡ []) (from_inputs j ts)
+inputs_read j [] = tt
+inputs_read j (t ∷ ts) = (refl, inputs_read (suc j) ts)
+
+given_read :
+    (Y : Layout) (root : Option Instance) →
+    Every (λ q. reads q.operation ≡ []) (given_inputs Y root)
+given_read Y None = tt
+given_read Y (Some root) = inputs_read 0 (input_targets Y root)
+
+-- the element with number `i` is an element of a variable of an instance
+record IsElementOf (P : Program) (i : ℕ) : Type 0 where
+  instance : Instance
+  stands : In instance (instances P)
+  declaration : Declaration
+  declares : In declaration (variables instance.node)
+  element : Element
+  is_at : slice_get (program_elements P) i ≡ Some element
+  among : In element (elements P instance declaration)
+  numbered : In i (numbers_of P instance.path declaration.name)
+
+element_in :
+    (P : Program) (x : Element) → In x (program_elements P) →
+    In x (flat_map (instance_elements P) (instances P))
+unfolding program_elements
+element_in P x i = i
+
+element_of :
+    (P : Program) → static_refusal P ≡ None → (i : ℕ) → i < length (program_elements P) →
+    IsElementOf P i
+element_of P accepted i lt =
+    let x = item_at (program_elements P) i lt in
+    let here = of_pieces (instance_elements P) x.0 (instances P)
+    (element_in P x.0 (in_at (program_elements P) i x.0 x.1)) in
+    let c = here.source in
+    let own = of_pieces (elements P c) x.0 (variables c.node) here.holds in
+    let d = own.source in
+    let at = map_in (λ (k : ℕ). let y : Element =
+    record { path = c.path; variable = d.name; index = k } in y) (range_with_len 0 (width P c d))
+    x.0 own.holds in
+    record {
+      instance = c;
+      stands = here.is_in;
+      declaration = d;
+      declares = own.is_in;
+      element = x.0;
+      is_at = x.1;
+      among = own.holds;
+      numbered =
+          subst (λ (y : Element). In i (numbers_of P y.path y.variable)) (sym at.2)
+          (number_in P accepted i x.0 x.1);
+    }
+
+module _ (P : Program) (accepted : static_refusal P ≡ None) (checked : check_refusal P ≡ None)
+    (K : ℕ → FlatClock)
+    (own : Every (λ q. K q.element ≡ q.clock)
+    (expanded (layout P) P (length (program_elements P))).equations)
+    (declared : (c : Instance) → In c (instances P) →
+    Every (λ d. Every (λ i. K i ≡ flat_clock (layout P) c.path (declared_clock c.node d.name))
+    (numbers_of P c.path d.name)) (variables c.node)) where
+  abbrev Y : Layout
+  Y = layout P
+
+  abbrev count : ℕ
+  count = length (program_elements P)
+
+  abbrev f : FlatProgram
+  f = expanded (layout P) P (length (program_elements P))
+
+  abbrev final : State
+  final = emit_instances Y P (before_instances count) (instances P)
+
+  abbrev IsAt : Element → ℕ → Type 0
+  IsAt y i = slice_get (program_elements P) i ≡ Some y
+
+  closed : Closed count final
+  closed =
+      all_closed count Y P (is_laid_out P accepted) (before_instances count) (instances P)
+      (record { fresh = tt; next = omega arith })
+
+  -- ## Needs by a clock
+
+  clock_stands :
+      (c : Instance) → In c (instances P) → (d : Declaration) → In d (variables c.node) →
+      (x : Element) → In x (elements P c d) →
+      In (let z : Definition =
+      record { element = x; needed = waits_for P c (declared_clock c.node d.name) } in z)
+      (definitions P)
+  clock_stands c i d j x k =
+      let needed = waits_for P c (declared_clock c.node d.name) in
+      let z : Definition = record { element = x; needed = needed } in
+      let eqs = flat_map (λ s. equation_definitions P c s.0 s.1) (statements P c.node) in
+      let calls =
+      flat_map (λ o. call_definitions P c o.calls_before o.expr) (node_occurrences P c.node) in
+      let clocks = flat_map (clock_definitions P c) (variables c.node) in
+      let one : In z (clock_definitions P c d) =
+      in_map (λ (x : Element). let z : Definition = record { element = x; needed = needed } in z)
+      (elements P c d) x k in
+      in_first z (flat_map (definitions_at P) (instances P))
+      (observer_definitions P (instance_at P Root) (instance_at P Observer))
+      (to_pieces (definitions_at P) z c (instances P) i
+      (in_second z eqs (calls ++ clocks)
+      (in_second z calls clocks
+      (to_pieces (clock_definitions P c) z d (variables c.node) j one))))
+
+  -- an element of a variable whose clock reads an element that is `Left` needs such an element
+  by_clock :
+      (Left : ℕ → Type 0) (q : FlatEquation) → In q f.equations → q.element < count →
+      SomeOf Left (clock_reads q.clock) → IsNeeding P Left q.element
+  by_clock Left q is low some =
+      let e = element_of P accepted q.element low in
+      let c = e.instance in
+      let d = e.declaration in
+      let k = declared_clock c.node d.name in
+      let clock : q.clock ≡ flat_clock (layout P) c.path k =
+      sym (Every-at (λ q. K q.element ≡ q.clock) f.equations q own is)
+      ∙ Every-at (λ i. K i ≡ flat_clock (layout P) c.path k) (numbers_of P c.path d.name) q.element
+      (Every-at (λ d. Every
+      (λ i. K i ≡ flat_clock (layout P) c.path (declared_clock c.node d.name))
+      (numbers_of P c.path d.name)) (variables c.node) d (declared c e.stands) e.declares)
+      e.numbered in
+      let read = in_some Left (clock_reads q.clock) some in
+      let back = Every-at (λ i.
+      (x : Element) × In x (waits_for P c k) × (slice_get (program_elements P) i ≡ Some x))
+      (clock_reads (flat_clock (layout P) c.path k)) read.0
+      (reads_wait P accepted checked c e.stands k
+      (declared_over (IsVariable c.node) c.node (own_variables c.node) d.name))
+      (subst (λ k. In read.0 (clock_reads k)) clock read.1) in
+      record {
+        definition = record { element = e.element; needed = waits_for P c k };
+        stands = clock_stands c e.stands d e.declares e.element e.among;
+        is_at = e.is_at;
+        needed =
+            some_of_in (HasNumber P Left) (waits_for P c k) back.0 back.1 (read.0, back.2, read.2);
+      }
+
+  -- ## Needs by copies
+
+  module _ (Left : ℕ → Type 0) (passes : PassesOn f Left) where
+    abbrev Under : ℕ → ℕ → Type 0
+    Under t i = ⊥
+
+    further_in : (q : FlatEquation) → In q final.equations → In q f.equations
+    further_in q i =
+        in_second q (given_inputs Y (instance_at P Root)) _
+        (in_second q (observed Y (instance_at P Root) (instance_at P Observer)) _
+        (in_second q final.copies final.equations i))
+
+    further_high : (q : FlatEquation) → In q final.equations → count ≤ q.element
+    further_high q i = fresh_high count final.equations closed.fresh q i
+
+    met : AllMeet IsAt Under Left final.equations
+    met =
+        Every-from (Meets IsAt Under Left) final.equations (λ q i. record {
+          there = λ t u. absurd u;
+          back = λ g. passes q (further_in q i) (further_high q i) g;
+        })
+
+    runs :
+        (c : Instance) → In c (instances P) →
+        Every (λ d. Every (λ i. (t : ℕ) → Under t i →
+        Every (Under t) (clock_reads (flat_clock (layout P) c.path (declared_clock c.node d.name))))
+        (numbers_of P c.path d.name)) (variables c.node)
+    runs c j =
+        Every-from (λ d. Every (λ i. (t : ℕ) → Under t i →
+        Every (Under t) (clock_reads (flat_clock (layout P) c.path (declared_clock c.node d.name))))
+        (numbers_of P c.path d.name)) (variables c.node) (λ d i.
+        Every-from (λ i. (t : ℕ) → Under t i →
+        Every (Under t) (clock_reads (flat_clock (layout P) c.path (declared_clock c.node d.name))))
+        (numbers_of P c.path d.name) (λ m at t u. absurd u))
+
+    known : (here : Instance) → In here (instances P) →
+        AreClocksKnown P accepted checked Under Left here (node_occurrences P here.node)
+    known here j = clocks_known P accepted checked Under Left here runs j
+
+    abbrev Defined : FlatEquation → Definition → Type 0
+    Defined q d =
+        IsDefinedBy Y P (history_of (layout P) [] [])
+        (λ p x. same P accepted checked Under Left p x) IsAt Under Left q d
+
+    abbrev made_all : List Definition
+    made_all = made P accepted checked (observer_wide P accepted [] []) Under Left known
+
+    abbrev every_copy : List FlatEquation
+    every_copy = observed Y (instance_at P Root) (instance_at P Observer) ++ final.copies
+
+    -- an element whose copy is a definition and reads an element that is `Left` needs one
+    defined_needs :
+        (q : FlatEquation) (d : Definition) → In d made_all → Defined q d → In q f.equations →
+        q.element < count → SomeOf Left (equation_reads q) → IsNeeding P Left q.element
+    defined_needs q d stands by is low some =
+        either (some_split Left (reads q.operation) (clock_reads q.clock) some)
+      where
+        linked :
+            SomeOf (HasNumber P Left) d.needed ⊎ SomeOf Left (clock_reads q.clock) →
+            IsNeeding P Left q.element
+        linked (inl h) = record {
+          definition = d;
+          stands =
+              made_in P accepted checked (observer_wide P accepted [] []) Under Left known d stands;
+          is_at = by.is_at;
+          needed = h;
+        }
+        linked (inr h) = by_clock Left q is low h
+
+        single : SomeOf Left (by.operand ∷ []) → IsNeeding P Left q.element
+        single (inl g) = linked (by.link.back g)
+        single (inr h) = absurd h
+
+        either :
+            SomeOf Left (reads q.operation) ⊎ SomeOf Left (clock_reads q.clock) →
+            IsNeeding P Left q.element
+        either (inl h) = single (subst (λ o. SomeOf Left (reads o)) by.copies h)
+        either (inr h) = by_clock Left q is low h
+
+    copied :
+        (q : FlatEquation) → In q every_copy → In q f.equations → q.element < count →
+        SomeOf Left (equation_reads q) → IsNeeding P Left q.element
+    copied q i is low some =
+        let whole =
+        copies_defined P accepted checked (observer_wide P accepted [] []) Under Left known met in
+        let d = in_some (λ d. Defined q d) made_all
+        (Every-at (λ q. SomeOf (λ d. Defined q d) made_all) every_copy q whole.first i) in
+        defined_needs q d.0 d.1 d.2 is low some
+
+    -- an element of a variable that reads an element that is `Left` needs one
+    reading : ReadsNeeds P f Left
+    reading q is low some =
+        first (in_either q (given_inputs Y (instance_at P Root)) _ is)
+      where
+        given : In q (given_inputs Y (instance_at P Root)) →
+            SomeOf Left (reads q.operation) ⊎ SomeOf Left (clock_reads q.clock) →
+            IsNeeding P Left q.element
+        given i (inl h) =
+            absurd (subst (SomeOf Left)
+            (Every-at (λ q. reads q.operation ≡ []) (given_inputs Y (instance_at P Root)) q
+            (given_read Y (instance_at P Root)) i) h)
+        given i (inr h) = by_clock Left q is low h
+
+        third : In q final.copies ⊎ In q final.equations → IsNeeding P Left q.element
+        third (inl i) =
+            copied q
+            (in_second q (observed Y (instance_at P Root) (instance_at P Observer)) final.copies i)
+            is low some
+        third (inr i) = let high = further_high q i in absurd (omega (arith, high, low))
+
+        second :
+            In q (observed Y (instance_at P Root) (instance_at P Observer))
+            ⊎ In q (final.copies ++ final.equations) →
+            IsNeeding P Left q.element
+        second (inl i) =
+            copied q
+            (in_first q (observed Y (instance_at P Root) (instance_at P Observer)) final.copies i)
+            is low some
+        second (inr i) = third (in_either q final.copies final.equations i)
+
+        first :
+            In q (given_inputs Y (instance_at P Root))
+            ⊎ In q
+            (observed Y (instance_at P Root) (instance_at P Observer)
+            ++ (final.copies ++ final.equations)) →
+            IsNeeding P Left q.element
+        first (inl i) =
+            given i (some_split Left (reads q.operation) (clock_reads q.clock) some)
+        first (inr i) =
+            second (in_either q (observed Y (instance_at P Root) (instance_at P Observer))
+            (final.copies ++ final.equations) i)
+
+  -- where element `j` leads to element `i` of a variable, `i` needs `j`
+  pub needs_by_copies :
+      (i j : ℕ) → i < length (program_elements P) → j < length (program_elements P) →
+      Leads (expanded (layout P) P (length (program_elements P))) j i → NeedsAt P i j
+  needs_by_copies i j lt is_variable leads =
+      needs_of P f (given_whole P accepted checked (observer_wide P accepted [] [])) refl reading j
+      is_variable i lt leads

@@ -1,0 +1,172 @@
+-- A table of equations that grows by an equation, and the order that is found with it.
+use Rattle.lb_flat.proofs.Words.{◌≡◌, ℕ, zero, suc, ◌+◌, ◌<◌, true, false, Option, Some, None, List}
+use Rattle.lb_flat.proofs.Words.{[], ◌∷◌, ◌++◌, length, map, replicate, get_or, set, take, All}
+use Rattle.lb_flat.proofs.Words.{refl, sym, ap, subst, ◌∙◌, arith, inl, inr, ⊎_elim, length-set}
+use Rattle.lb_flat.proofs.Words.{cases_eq, get_or-set_same, get_or-set_other, take_more, AreApart}
+use Rattle.lb_flat.proofs.Words.{In, in_first, FlatEquation, IsGiven, is_in_order, AreOrdered}
+use Rattle.lb_flat.proofs.Words.{AreScheduled, IsTableOf, equation_of, IsWithin, AreClocks}
+use Rattle.lb_flat.specs.declared.equation.Clock.{Clock}
+use Rattle.lb_flat.specs.declared.equation.Equation.{Equation}
+use Rattle.lb_flat.specs.declared.program.FlatProgram.{FlatProgram}
+use Rattle.lb_flat.specs.Ordering.{IsTable}
+use Rattle.lb_flat.specs.Programs.{flat_equations, program_of, IsInRange}
+use Rattle.lb_flat.proofs.ordering.Ordering.{In-last, In-cases, In-get_or, In-map, In-All, All-In}
+use Rattle.lb_flat.proofs.ordering.Ordering.{from_map}
+
+-- ## Equations of different elements
+
+abbrev pub elements_of : List Equation → List ℕ
+elements_of qs = map (λ q. q.element.0) qs
+
+flat_elements :
+    (clocks : List Clock) (qs : List Equation) →
+    map (λ q. q.element) (flat_equations clocks qs) ≡ elements_of qs
+flat_elements clocks [] = refl
+flat_elements clocks (q ∷ qs) = ap (λ is. q.element.0 ∷ is) (flat_elements clocks qs)
+
+-- the equations of a program give different elements
+pub elements_apart :
+    (p : FlatProgram) → IsGiven (program_of p) → AreApart (elements_of p.equations.items)
+elements_apart p given =
+    subst AreApart (flat_elements p.clocks.items p.equations.items) given.once
+
+-- no equation before place `i` gives the element of the equation at `i`
+pub new_element :
+    (qs : List Equation) (i : ℕ) (d : Equation) (p : Equation) → AreApart (elements_of qs) →
+    i < length qs → In p (take i qs) → p.element.0 ≡ (get_or qs i d).element.0 → ⊥
+new_element [] i d p h lt is same = absurd (omega arith)
+new_element (q ∷ qs) zero d p h lt is same = is
+new_element (q ∷ qs) (suc i) d p h lt (inl e) same =
+    h.0 (subst (λ n. In n (elements_of qs))
+    (sym same ∙ ap (λ (x : Equation). x.element.0) (sym e))
+    (In-map (λ (x : Equation). x.element.0) (get_or qs i d) qs (In-get_or qs i d (omega arith))))
+new_element (q ∷ qs) (suc i) d p h lt (inr is) same =
+    new_element qs i d p h.1 (omega arith) is same
+
+-- ## Tables
+
+none_in : (n e : ℕ) → get_or (replicate {A = Option Equation} n None) e None ≡ None
+none_in zero e = refl
+none_in (suc n) zero = refl
+none_in (suc n) (suc e) = none_in n e
+
+-- a place of the table that is `None` has no entry
+not_none : (o : Option Equation) (q : Equation) → o ≡ None → o ≡ Some q → ⊥
+not_none o q h k = cc
+
+same_entry : (o : Option Equation) (p q : Equation) → o ≡ Some p → o ≡ Some q → p ≡ q
+same_entry o p q h k = cc
+
+pub empty_table :
+    (table : List (Option Equation)) → table ≡ replicate (length table) None →
+    IsTableOf (length table) [] table
+empty_table table empty =
+    let none = λ (e : ℕ). ap (λ t. get_or t e None) empty ∙ none_in (length table) e in
+    record {
+      entries = refl;
+      listed = λ e q h. absurd (not_none (get_or table e None) q (none e) h);
+      own = λ e q h. absurd (not_none (get_or table e None) q (none e) h);
+      each = λ q i. absurd i;
+    }
+
+-- a table with one equation more
+module _ (size : ℕ) (qs : List Equation) (table : List (Option Equation)) (q : Equation)
+    (t : IsTableOf size qs table)
+    (new : (p : Equation) → In p qs → p.element.0 ≡ q.element.0 → ⊥)
+    (lt : q.element.0 < length table) where
+  abbrev more : List (Option Equation)
+  more = set table q.element.0 (Some q)
+
+  here : get_or more q.element.0 None ≡ Some q
+  here = get_or-set_same table q.element.0 (Some q) None lt
+
+  elsewhere : (e : ℕ) → (e ≡ q.element.0 → ⊥) → get_or more e None ≡ get_or table e None
+  elsewhere e other = get_or-set_other table q.element.0 e (Some q) None other
+
+  at : (e : ℕ) (p : Equation) → e ≡ q.element.0 → get_or more e None ≡ Some p → q ≡ p
+  at e p same h =
+      same_entry (get_or more e None) q p (ap (λ i. get_or more i None) same ∙ here) h
+
+  new_entry : IsTableOf size (qs ++ q ∷ []) more
+  new_entry = record {
+    entries = length-set table q.element.0 (Some q) ∙ t.entries;
+    listed = λ e p h.
+        ⊎_elim
+        (λ (same : e ≡ q.element.0).
+        subst (λ x. In x (qs ++ q ∷ [])) (at e p same h) (In-last q qs))
+        (λ (other : e ≡ q.element.0 → ⊥).
+        in_first p qs (q ∷ []) (t.listed e p (sym (elsewhere e other) ∙ h)))
+        (cases_eq e q.element.0);
+    own = λ e p h.
+        ⊎_elim
+        (λ (same : e ≡ q.element.0). ap (λ x. x.element.0) (sym (at e p same h)) ∙ sym same)
+        (λ (other : e ≡ q.element.0 → ⊥). t.own e p (sym (elsewhere e other) ∙ h))
+        (cases_eq e q.element.0);
+    each = λ p i.
+        ⊎_elim
+        (λ (earlier : In p qs). elsewhere p.element.0 (new p earlier) ∙ t.each p earlier)
+        (λ (last : q ≡ p). subst (λ x. get_or more x.element.0 None ≡ Some x) last here)
+        (In-cases p q qs i);
+  }
+
+-- the table of the first `i + 1` equations is the table of the first `i`, with the next one entered
+pub enters :
+    (size : ℕ) (all : List Equation) (table : List (Option Equation)) (i : ℕ) (d : Equation) →
+    i < length all → IsTableOf size (take i all) table → AreApart (elements_of all) →
+    All (λ q. q.element.0 < size) all →
+    IsTableOf size (take (i + 1) all)
+    (set table (get_or all i d).element.0 (Some (get_or all i d)))
+enters size all table i d lt t apart within =
+    let q = get_or all i d in
+    subst (λ qs. IsTableOf size qs (set table q.element.0 (Some q))) (sym (take_more all i d lt))
+    (new_entry size (take i all) table q t
+    (λ p is same. new_element all i d p apart lt is same)
+    (omega (arith, within i d lt, t.entries)))
+
+-- ## The order
+
+module _ (p : FlatProgram) (table : List (Option Equation))
+    (t : IsTableOf p.size p.equations.items table) (range : IsInRange p) where
+  pub is_table : IsTable p.clocks.items table
+  is_table = record {
+    table_clocks = subst (λ n. AreClocks n p.clocks.items) (sym t.entries) range.clocks;
+    own = t.own;
+    within = λ e q h.
+        subst (λ n. IsWithin n p.clocks.items q) (sym t.entries)
+        (In-All (IsWithin p.size p.clocks.items) q p.equations.items range.equations
+        (t.listed e q h));
+  }
+
+  module _ (out : List Equation) (scheduled : AreScheduled p.clocks.items table out) where
+    listed : (q : Equation) → In q out → In q p.equations.items
+    listed q i = t.listed q.element.0 q (scheduled.entries q i)
+
+    holds : (q : Equation) → In q p.equations.items → In q out
+    holds q i =
+        let w = In-All (IsWithin p.size p.clocks.items) q p.equations.items range.equations i in
+        scheduled.holds q.element.0 q (omega (arith, w.element, t.entries)) (t.each q i)
+
+    -- equations of one list that are also in another stay so as flat equations
+    moved :
+        (qs rs : List Equation) → ((q : Equation) → In q qs → In q rs) → (x : FlatEquation) →
+        In x (flat_equations p.clocks.items qs) → In x (flat_equations p.clocks.items rs)
+    moved qs rs f x i =
+        let s = from_map (equation_of p.clocks.items) x qs i in
+        subst (λ y. In y (flat_equations p.clocks.items rs)) s.is
+        (In-map (equation_of p.clocks.items) s.source rs (f s.source s.is_in))
+
+    pub are_ordered : AreOrdered p out
+    are_ordered = record {
+      within =
+          All-In (IsWithin p.size p.clocks.items) out
+          (λ q i. In-All (IsWithin p.size p.clocks.items) q p.equations.items range.equations
+          (listed q i));
+      ordering = record {
+        there = moved p.equations.items out holds;
+        back = moved out p.equations.items listed;
+      };
+      in_order =
+          subst
+          (λ n. is_in_order (replicate n false) (flat_equations p.clocks.items out) ≡ true)
+          t.entries scheduled.in_order;
+    }

@@ -1,0 +1,233 @@
+-- Streams that are filled in along equations whose clocks and kinds fit are present exactly at the
+-- instants of their clocks, with scalars of their kinds.
+use Rattle.lb_flat.proofs.Words.{◌≡◌, ℕ, suc, ◌+◌, ◌<◌, Bool, true, false, ◌&&◌, Some, None}
+use Rattle.lb_flat.proofs.Words.{is_some, List, [], ◌∷◌, map, length, replicate, refl, sym, ap, ap₂}
+use Rattle.lb_flat.proofs.Words.{◌∙◌, subst, arith, Kind, Every, zip2, tail_of, and_second, Scalar}
+use Rattle.lb_flat.proofs.Words.{Stream, two_scalars, one_scalar, constantly, along, along_two}
+use Rattle.lb_flat.proofs.Words.{choice, previous, first_then, sample, latest, newest, shows}
+use Rattle.lb_flat.proofs.Words.{first_cell, Inputs, column_of, fits, is_row, FlatClock, Operation}
+use Rattle.lb_flat.proofs.Words.{Input, Constant, Copy, ApplyUnary, ApplyBinary, Choose, FirstThen}
+use Rattle.lb_flat.proofs.Words.{Previous, Latest, Sample, FlatEquation, column, instants, operate}
+use Rattle.lb_flat.proofs.Words.{Holds, AreLong, reads, keeps, IsCellFit}
+use Rattle.lb_check.specs.Streams.{sampled_at}
+use Rattle.lb_flat.proofs.lists.Columns.{choice_step, latest_step, column_long, instants_long}
+use Rattle.lb_flat.proofs.runs.FilledKinds.{StreamOf, fits_of, operate_of}
+use Rattle.lb_flat.proofs.runs.Filling.{Fresh, below_reads, below_keeps, below_next}
+use Rattle.lb_flat.proofs.runs.Fitting.{KindFits, all_given}
+use Rattle.lb_flat.proofs.lists.Lists.{Every-map, Every-both}
+use Rattle.lb_flat.proofs.runs.OnClock.{OperandsFit, ClockFits, held_present, one_present}
+use Rattle.lb_flat.proofs.runs.OnClock.{two_present}
+use Rattle.lb_flat.proofs.runs.OnClock.{choice_present, kept_present}
+
+-- ## Where a stream is present
+
+-- at each instant, whether the stream has a cell
+abbrev pub presence_of : Stream → List Bool
+presence_of xs = map is_some xs
+
+first_is : (b c : Bool) (bs cs : List Bool) → b ∷ bs ≡ c ∷ cs → b ≡ c
+first_is b c bs cs e = cc
+
+rest_is : (b c : Bool) (bs cs : List Bool) → b ∷ bs ≡ c ∷ cs → bs ≡ cs
+rest_is b c bs cs e = cc
+
+-- a list is not both empty and of one item or more
+ends : {A : Type 0} (b : Bool) (bs cs : List Bool) → b ∷ bs ≡ cs → [] ≡ cs → A
+ends b bs cs p q = let e : b ∷ bs ≡ [] = p ∙ sym q in absurd cc
+
+-- a stream that fits `bs` is present exactly at the instants of `bs`
+pub fits_present : (kind : Kind) (bs : List Bool) (xs : Stream) → fits kind bs xs ≡ true →
+    presence_of xs ≡ bs
+fits_present kind [] [] e = refl
+fits_present kind (true ∷ bs) (Some v ∷ xs) e =
+    ap (λ cs. true ∷ cs) (fits_present kind bs xs (and_second _ (fits kind bs xs) e))
+fits_present kind (false ∷ bs) (None ∷ xs) e = ap (λ cs. false ∷ cs) (fits_present kind bs xs e)
+fits_present kind _ _ e = cc
+
+own_fits : (kind : Kind) (xs : Stream) → StreamOf kind xs → fits kind (presence_of xs) xs ≡ true
+own_fits kind [] h = refl
+own_fits kind (None ∷ xs) h = own_fits kind xs h.1
+own_fits kind (Some v ∷ xs) h = ap₂ (λ a b. a && b) h.0 (own_fits kind xs h.1)
+
+-- a stream that is present at the instants of `bs` and has the kind fits
+pub fits_made : (kind : Kind) (bs : List Bool) (xs : Stream) → presence_of xs ≡ bs →
+    StreamOf kind xs → fits kind bs xs ≡ true
+fits_made kind bs xs p h = subst (λ cs. fits kind cs xs ≡ true) p (own_fits kind xs h)
+
+-- ## Operators
+
+constantly_there : (v : Scalar) (bs : List Bool) → presence_of (constantly v bs) ≡ bs
+constantly_there v [] = refl
+constantly_there v (b ∷ bs) =
+    ap₂ (λ c cs. c ∷ cs) (held_present v b) (constantly_there v bs)
+
+along_there : (f : Scalar → Scalar) (xs : Stream) → presence_of (along f xs) ≡ presence_of xs
+along_there f [] = refl
+along_there f (x ∷ xs) = ap₂ (λ c cs. c ∷ cs) (one_present f x) (along_there f xs)
+
+along_two_there :
+    (f : Scalar → Scalar → Scalar) (xs ys : Stream) (bs : List Bool) → presence_of xs ≡ bs →
+    presence_of ys ≡ bs → presence_of (along_two f xs ys) ≡ bs
+along_two_there f [] ys bs p q = p
+along_two_there f (x ∷ xs) [] bs p q = q
+along_two_there f (x ∷ xs) (y ∷ ys) [] p q = absurd cc
+along_two_there f (x ∷ xs) (y ∷ ys) (b ∷ bs) p q =
+    ap₂ (λ c cs. c ∷ cs)
+    (two_present f x y b (first_is _ _ _ _ p) (first_is _ _ _ _ q))
+    (along_two_there f xs ys bs (rest_is _ _ _ _ p) (rest_is _ _ _ _ q))
+
+choice_there :
+    (cs xs ys : Stream) (bs : List Bool) → presence_of cs ≡ bs → presence_of xs ≡ bs →
+    presence_of ys ≡ bs → presence_of (choice cs xs ys) ≡ bs
+choice_there [] xs ys bs p q r = p
+choice_there (c ∷ cs) [] ys bs p q r = ends _ _ bs p q
+choice_there (c ∷ cs) (x ∷ xs) [] bs p q r = ends _ _ bs p r
+choice_there (c ∷ cs) (x ∷ xs) (y ∷ ys) [] p q r = absurd cc
+choice_there (c ∷ cs) (x ∷ xs) (y ∷ ys) (b ∷ bs) p q r =
+    ap presence_of (choice_step c x y cs xs ys)
+    ∙ ap₂ (λ d ds. d ∷ ds)
+    (choice_present c x y b (first_is _ _ _ _ p) (first_is _ _ _ _ q) (first_is _ _ _ _ r))
+    (choice_there cs xs ys bs (rest_is _ _ _ _ p) (rest_is _ _ _ _ q) (rest_is _ _ _ _ r))
+
+first_then_there :
+    (xs ys : Stream) (bs : List Bool) → presence_of xs ≡ bs → presence_of ys ≡ bs →
+    presence_of (first_then xs ys) ≡ bs
+first_then_there [] ys bs p q = p
+first_then_there (None ∷ xs) [] bs p q = ends _ _ bs p q
+first_then_there (Some v ∷ xs) [] bs p q = ends _ _ bs p q
+first_then_there (None ∷ xs) (y ∷ ys) [] p q = absurd cc
+first_then_there (Some v ∷ xs) (y ∷ ys) [] p q = absurd cc
+first_then_there (None ∷ xs) (y ∷ ys) (b ∷ bs) p q =
+    ap₂ (λ c cs. c ∷ cs) (first_is _ _ _ _ p)
+    (first_then_there xs ys bs (rest_is _ _ _ _ p) (rest_is _ _ _ _ q))
+first_then_there (Some v ∷ xs) (y ∷ ys) (b ∷ bs) p q =
+    ap₂ (λ c cs. c ∷ cs) (first_is _ _ _ _ p) (rest_is _ _ _ _ q)
+
+previous_there : (v : Scalar) (bs : List Bool) (xs : Stream) →
+    presence_of (previous v bs xs) ≡ bs
+previous_there v [] xs = refl
+previous_there v (b ∷ bs) xs =
+    ap₂ (λ c cs. c ∷ cs) (held_present v b)
+    (previous_there (newest v (first_cell xs)) bs (tail_of xs))
+
+latest_there : (v : Scalar) (bs : List Bool) (xs : Stream) → length xs ≡ length bs →
+    presence_of (latest v bs xs) ≡ bs
+latest_there v [] xs e = refl
+latest_there v (b ∷ bs) [] e = absurd (omega arith)
+latest_there v (b ∷ bs) (x ∷ xs) e =
+    ap presence_of (latest_step v b bs x xs)
+    ∙ ap₂ (λ c cs. c ∷ cs) (held_present (newest v x) b)
+    (latest_there (newest v x) bs xs (omega arith))
+
+sampled_there : (sign : Bool) (xs cs : Stream) →
+    presence_of (zip2 sample (sampled_at (presence_of xs) sign cs) xs)
+    ≡ sampled_at (presence_of xs) sign cs
+sampled_there sign [] cs = refl
+sampled_there sign (x ∷ xs) [] = refl
+sampled_there sign (x ∷ xs) (c ∷ cs) =
+    ap₂ (λ b bs. b ∷ bs) (kept_present (is_some x) (shows sign c) x refl)
+    (sampled_there sign xs cs)
+
+-- ## Equations
+
+module _ (inputs : List Kind) (K : ℕ → FlatClock) (N : ℕ → Kind) (X : Inputs)
+    (rows : Every (λ row. is_row inputs row ≡ true) X) (F : List Stream) (long : AreLong X F) where
+  -- an element is present exactly on its clock
+  abbrev pub IsThere : ℕ → Type 0
+  IsThere i = presence_of (column X F i) ≡ instants X F (K i)
+
+  -- an element is present exactly on its clock, with scalars of its kind
+  abbrev pub ElementFits : ℕ → Type 0
+  ElementFits i = fits (N i) (instants X F (K i)) (column X F i) ≡ true
+
+  given_there :
+      (j : ℕ) → j < length inputs → (Z : Inputs) →
+      Every (λ row. is_row inputs row ≡ true) Z →
+      presence_of (column_of Z j) ≡ replicate (length Z) true
+  given_there j lt [] h = refl
+  given_there j lt (row ∷ Z) h =
+      ap₂ (λ c cs. c ∷ cs) (all_given inputs row h.0 j lt) (given_there j lt Z h.1)
+
+  on : (k : FlatClock) (i : ℕ) → K i ≡ k → IsThere i →
+      presence_of (column X F i) ≡ instants X F k
+  on k i e h = h ∙ ap (instants X F) e
+
+  operate_there :
+      (k : FlatClock) (o : Operation) → OperandsFit (length inputs) K k o →
+      Every IsThere (reads o) → presence_of (operate X F k o) ≡ instants X F k
+  operate_there k (Input j) f h =
+      given_there j f.1 X rows ∙ sym (ap (instants X F) f.0)
+  operate_there k (Constant v) f h = constantly_there v (instants X F k)
+  operate_there k (Copy a) f h = on k a f h.0
+  operate_there k (ApplyUnary op a) f h =
+      along_there (one_scalar op) (column X F a) ∙ on k a f h.0
+  operate_there k (ApplyBinary op a b) f h =
+      along_two_there (two_scalars op) (column X F a) (column X F b) (instants X F k)
+      (on k a f.0 h.0) (on k b f.1 h.1.0)
+  operate_there k (Choose c a b) f h =
+      choice_there (column X F c) (column X F a) (column X F b) (instants X F k)
+      (on k c f.0 h.0) (on k a f.1 h.1.0) (on k b f.2 h.1.1.0)
+  operate_there k (FirstThen true a b) f h = on k b f.1 h.1.0
+  operate_there k (FirstThen false a b) f h =
+      first_then_there (column X F a) (column X F b) (instants X F k) (on k a f.0 h.0)
+      (on k b f.1 h.1.0)
+  operate_there k (Previous v a) f h = previous_there v (instants X F k) (column X F a)
+  operate_there k (Latest v a) f h =
+      latest_there v (instants X F k) (column X F a)
+      (column_long X F long a ∙ sym (instants_long X F long k))
+  operate_there k (Sample a) f h =
+      subst (λ c. presence_of (zip2 sample (instants X F c) (column X F a)) ≡ instants X F c)
+      (sym f.2)
+      (subst (λ bs. presence_of (zip2 sample (sampled_at bs f.1 (column X F f.0)) (column X F a))
+      ≡ sampled_at bs f.1 (column X F f.0)) h.0
+      (sampled_there f.1 (column X F a) (column X F f.0)))
+
+  -- ## Along the equations
+
+  element_there : (i : ℕ) → ElementFits i → IsThere i
+  element_there i h = fits_present (N i) (instants X F (K i)) (column X F i) h
+
+  element_of : (i : ℕ) → ElementFits i → StreamOf (N i) (column X F i)
+  element_of i h = fits_of (N i) (instants X F (K i)) (column X F i) h
+
+  -- where all that an equation names fits, its element fits
+  equation_fits :
+      (q : FlatEquation) → Holds X F q → ClockFits (length inputs) K q → KindFits inputs N q →
+      Every ElementFits (reads q.operation) → Every ElementFits (keeps q.operation) →
+      ElementFits q.element
+  equation_fits q holds clock kind r m =
+      fits_made (N q.element) (instants X F (K q.element)) (column X F q.element)
+      (ap presence_of holds
+      ∙ operate_there q.clock q.operation clock.operands
+      (Every-map ElementFits IsThere element_there (reads q.operation) r)
+      ∙ sym (ap (instants X F) clock.own))
+      (subst (StreamOf (N q.element)) (sym holds)
+      (operate_of inputs N X rows F q.clock (N q.element) q.operation kind
+      (Every-map ElementFits (λ i. StreamOf (N i) (column X F i)) element_of (reads q.operation) r)
+      (Every-map ElementFits (λ i. StreamOf (N i) (column X F i)) element_of (keeps q.operation)
+      m)))
+
+  -- where the elements below the first equation fit, all elements fit
+  pub fresh_fits :
+      (n : ℕ) (qs : List FlatEquation) → Fresh n qs → Every (Holds X F) qs →
+      Every (ClockFits (length inputs) K) qs → Every (KindFits inputs N) qs →
+      ((i : ℕ) → i < n → ElementFits i) → (i : ℕ) → i < n + length qs → ElementFits i
+  fresh_fits n [] fresh holds clocks kinds below i lt = below i (omega arith)
+  fresh_fits n (q ∷ qs) fresh holds clocks kinds below i lt =
+      let new = equation_fits q holds.0 clocks.0 kinds.0
+      (below_reads ElementFits n q fresh.0 below) (below_keeps ElementFits n q fresh.0 below) in
+      fresh_fits (suc n) qs fresh.1 holds.1 clocks.1 kinds.1
+      (below_next ElementFits n q fresh.0 below new) i (omega arith)
+
+-- where all elements fit their clocks and kinds, so do the cells of equations whose clocks fit
+pub cells_fit :
+    (inputs : List Kind) (K : ℕ → FlatClock) (N : ℕ → Kind) (size : ℕ) (X : Inputs)
+    (F : List Stream) (Q : List FlatEquation) → Every (λ q. q.element < size) Q →
+    Every (ClockFits (length inputs) K) Q →
+    ((i : ℕ) → i < size → fits (N i) (instants X F (K i)) (column X F i) ≡ true) →
+    Every (IsCellFit N X F) Q
+cells_fit inputs K N size X F Q within clocks all =
+    Every-map _ (IsCellFit N X F)
+    (λ q h. subst (λ k. fits (N q.element) (instants X F k) (column X F q.element) ≡ true)
+    h.1.own (all q.element h.0)) Q
+    (Every-both (λ q. q.element < size) (ClockFits (length inputs) K) Q within clocks)

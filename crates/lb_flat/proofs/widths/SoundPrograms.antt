@@ -1,0 +1,199 @@
+-- An accepted program is sound in each history in which the variables of its instances are as wide
+-- as their types, where what is called runs on the clocks of the calls.
+use Rattle.lb_flat.proofs.Words.{◌≡◌, true, Option, Some, None, IfSome, List, [], ◌∷◌, ◌++◌, map}
+use Rattle.lb_flat.proofs.Words.{length, refl, sym, ap, ap₂, ◌∙◌, subst, nat_le, length-map}
+use Rattle.lb_flat.proofs.Words.{same_Some, Every, all_some, holds, E4, E7, E8, unless, Declaration}
+use Rattle.lb_flat.proofs.Words.{and_first, and_second, heads_same, tails_same, Program, Instance}
+use Rattle.lb_flat.proofs.Words.{Path, Root, Observer, instance_at, instances, DataType, are_types}
+use Rattle.lb_flat.proofs.Words.{element_count, variable_type, variables, width, input_types}
+use Rattle.lb_flat.proofs.Words.{signature, static_refusal, instantiation_refusal}
+use Rattle.lb_flat.proofs.Words.{has_no_parameters, has_plain_clocks, has_property, fits_observer}
+use Rattle.lb_flat.proofs.Words.{are_same, is_root, keeps_names, is_well_founded, check_refusal}
+use Rattle.lb_flat.proofs.Words.{node_occurrences, Stream, Inputs, columns_at, History, all_typed}
+use Rattle.lb_flat.proofs.Words.{Every-at, Every-from, second_none, kept, instantiation_kept}
+use Rattle.lb_flat.proofs.Words.{in_instances, path_is, column, history_of, Layout}
+use Rattle.lb_check.proofs.NamedClocks.{if_some}
+use Rattle.lb_flat.proofs.solutions.Bodies.{IsSound}
+use Rattle.lb_flat.proofs.lists.Lists.{Every-map, Every-both, Every-append, Every-first}
+use Rattle.lb_flat.proofs.lists.Lists.{Every-second}
+use Rattle.lb_flat.proofs.lists.Lists.{Every-in}
+use Rattle.lb_flat.proofs.widths.OutputWidths.{each, width_of}
+use Rattle.lb_flat.proofs.solutions.Placing.{AreAsWide}
+use Rattle.lb_flat.proofs.widths.RootWidths.{inputs_count}
+use Rattle.lb_flat.proofs.widths.SoundInstances.{RunsAt, instance_sound}
+use Rattle.lb_flat.proofs.widths.TypeFacts.{are_counts}
+use Rattle.lb_flat.proofs.solutions.Whole.{IsProgramSound}
+use Rattle.lb_flat.proofs.widths.WideInstances.{calls_wide}
+use Rattle.lb_flat.proofs.widths.Widths.{AreVariablesWide, IsOccurrenceWide}
+
+-- ## The observer
+
+-- the node under test is there and passes `is_root`, where the static rules hold
+pub root_kept : (P : Program) → static_refusal P ≡ None →
+    holds (is_root P) (instance_at P Root) ≡ true
+root_kept P e =
+    let calls = second_none (unless (keeps_names P) E4) _ e in
+    let parameters = second_none (unless (is_well_founded P) E7) _ calls in
+    let inside = second_none (unless (has_no_parameters P) E8) _ parameters in
+    kept (holds (is_root P) (instance_at P Root)) E8
+    (second_none (instantiation_refusal P 0 (instances P)) _ inside)
+
+module _ (P : Program) where
+  types_there :
+      (o p : Option (List DataType)) → are_same P o p ≡ true →
+      (ts : List DataType) × (us : List DataType) × (o ≡ Some ts) × (p ≡ Some us)
+      × (are_types ts us ≡ true)
+  types_there None p e = cc
+  types_there (Some ts) None e = cc
+  types_there (Some ts) (Some us) e = (ts, us, refl, refl, e)
+
+  widths_are :
+      (c : Instance) (ds : List Declaration) (ts : List DataType) →
+      all_some (map (variable_type P c) ds) ≡ Some ts →
+      map (width P c) ds ≡ map element_count ts
+  widths_are c [] ts e = ap (map element_count) (same_Some [] ts e)
+  widths_are c (d ∷ ds) ts e =
+      let h = each (variable_type P c d) (map (variable_type P c) ds) ts e in
+      ap₂ (λ n ns. n ∷ ns) (width_of P c d h.first h.is) (widths_are c ds h.rest h.others)
+      ∙ sym (ap (map element_count) h.all)
+
+  seen_wide :
+      (H : History) (o r : Instance) (ds es : List Declaration) →
+      map (width P o) ds ≡ map (width P r) es →
+      Every (λ d. length (H.columns Observer d.name) ≡ width P o d) ds →
+      Every (λ d. length (H.columns Root d.name) ≡ width P r d) es →
+      AreAsWide H Observer ds (columns_at H Root es)
+  seen_wide H o r [] [] same a b = tt
+  seen_wide H o r [] (e ∷ es) same a b = absurd cc
+  seen_wide H o r (d ∷ ds) [] same a b = absurd cc
+  seen_wide H o r (d ∷ ds) (e ∷ es) same a b = (
+    a.0 ∙ heads_same _ _ _ _ same ∙ sym b.0,
+    seen_wide H o r ds es (tails_same _ _ _ _ same) a.1 b.1,
+  )
+
+  module _ (elaborated : static_refusal P ≡ None) (H : History)
+      (wide : Every (λ here. AreVariablesWide P H here here) (instances P)) where
+    wide_there :
+        (p : Path) (c : Instance) → instance_at P p ≡ Some c →
+        Every (λ d. length (H.columns p d.name) ≡ width P c d) (variables c.node)
+    wide_there p c is =
+        let own = Every-in (λ here. AreVariablesWide P H here here) c (instances P) wide
+        (in_instances P (instantiation_kept P elaborated) p c is) in
+        subst (λ q. Every (λ d. length (H.columns q d.name) ≡ width P c d) (variables c.node))
+        (path_is P p c is) own
+
+    observer_fits :
+        (root observer : Instance) → instance_at P Root ≡ Some root →
+        instance_at P Observer ≡ Some observer → fits_observer P root observer ≡ true
+    observer_fits root observer is also =
+        let keeps : is_root P root ≡ true =
+        sym (ap (holds (is_root P)) is) ∙ root_kept P elaborated in
+        let later = and_second (has_plain_clocks P root) _ keeps in
+        let property = and_second (nat_le (length (signature P)) 1023) _ later in
+        let all : has_property P root (Some observer) ≡ true =
+        sym (ap (has_property P root) also) ∙ property in
+        and_first (fits_observer P root observer) _ (and_second (has_plain_clocks P observer) _ all)
+
+    abbrev IsSeen : Instance → Instance → Type 0
+    IsSeen root observer =
+        AreAsWide H Observer observer.node.inputs
+        (columns_at H Root (root.node.inputs ++ root.node.outputs))
+
+    one_seen :
+        (root observer : Instance) → instance_at P Root ≡ Some root →
+        instance_at P Observer ≡ Some observer → IsSeen root observer
+    one_seen root observer is also =
+        let ins = root.node.inputs in
+        let outs = root.node.outputs in
+        let locals = root.node.locals in
+        let t = types_there (input_types P observer)
+        (all_some (map (variable_type P root) (ins ++ outs))) (observer_fits root observer is also)
+        in
+        let shown = wide_there Root root is in
+        let sees = wide_there Observer observer also in
+        seen_wide H observer root observer.node.inputs (ins ++ outs)
+        (widths_are observer observer.node.inputs t.0 t.2 ∙ are_counts t.0 t.1 t.4
+        ∙ sym (widths_are root (ins ++ outs) t.1 t.3))
+        (Every-first _ observer.node.inputs (observer.node.outputs ++ observer.node.locals) sees)
+        (Every-append _ ins outs (Every-first _ ins (outs ++ locals) shown)
+        (Every-first _ outs locals (Every-second _ ins (outs ++ locals) shown)))
+
+    -- the observer's inputs are as wide as what it observes
+    pub observer_wide :
+        IfSome (instance_at P Root) (λ root. IfSome (instance_at P Observer) (IsSeen root))
+    observer_wide =
+        if_some (λ root. IfSome (instance_at P Observer) (IsSeen root)) (instance_at P Root)
+        (λ root is.
+        if_some (IsSeen root) (instance_at P Observer) (λ observer also.
+        one_seen root observer is also))
+
+-- ## A whole program
+
+module _ (P : Program) (elaborated : static_refusal P ≡ None)
+    (checked : check_refusal P ≡ None) where
+  module _ (H : History)
+      (wide : Every (λ here. AreVariablesWide P H here here) (instances P)) where
+    -- the calls of all instances are as wide as their types
+    pub all_wide :
+        Every (λ here. Every (IsOccurrenceWide P H here) (node_occurrences P here.node))
+        (instances P)
+    all_wide =
+        Every-from (λ here. Every (IsOccurrenceWide P H here) (node_occurrences P here.node))
+        (instances P)
+        (λ here i.
+        calls_wide P elaborated H
+        (λ c j. Every-at (λ c. AreVariablesWide P H c c) (instances P) c wide j) here i)
+
+    -- the program is sound, where a layout gives the inputs of the node under test their elements
+    pub sound_where_wide :
+        (Y : Layout) →
+        Every (λ here. Every (RunsAt Y P H here) (node_occurrences P here.node)) (instances P) →
+        IfSome (instance_at P Root) (λ root.
+        Every (λ d. length (Y.places Root d.name) ≡ width P root d) root.node.inputs) →
+        IsProgramSound Y P H
+    sound_where_wide Y runs placed = record {
+      instances =
+          Every-map _ (IsSound Y P H)
+          (λ here z. instance_sound Y P H here z.0.0 z.0.1 z.1.0 z.1.1) (instances P)
+          (Every-both _ _ (instances P)
+          (Every-both _ _ (instances P) wide (all_typed P checked))
+          (Every-both _ _ (instances P) all_wide runs));
+      inputs = inputs_count Y P (instance_at P Root) refl placed;
+      observer = observer_wide P elaborated H wide;
+    }
+
+  module _ (Y : Layout)
+      (placed : Every (λ here. Every (λ d. length (Y.places here.path d.name) ≡ width P here d)
+      (variables here.node)) (instances P))
+      (runs : (H : History) →
+      Every (λ here. Every (RunsAt Y P H here) (node_occurrences P here.node)) (instances P)) where
+    -- the variables of all instances are as wide as their types in the history of any streams
+    pub history_wide :
+        (X : Inputs) (F : List Stream) →
+        Every (λ here. AreVariablesWide P (history_of Y X F) here here) (instances P)
+    history_wide X F =
+        Every-map _ (λ here. AreVariablesWide P (history_of Y X F) here here)
+        (λ here h. Every-map _ (λ d. length (map (column X F) (Y.places here.path d.name))
+        ≡ width P here d)
+        (λ d w. length-map (Y.places here.path d.name) (column X F) ∙ w) (variables here.node) h)
+        (instances P) placed
+
+    inputs_placed :
+        IfSome (instance_at P Root) (λ root.
+        Every (λ d. length (Y.places Root d.name) ≡ width P root d) root.node.inputs)
+    inputs_placed =
+        if_some (λ root.
+        Every (λ d. length (Y.places Root d.name) ≡ width P root d) root.node.inputs)
+        (instance_at P Root)
+        (λ root is.
+        let own = Every-in _ root (instances P) placed
+        (in_instances P (instantiation_kept P elaborated) Root root is) in
+        Every-first _ root.node.inputs (root.node.outputs ++ root.node.locals)
+        (subst (λ p. Every (λ d. length (Y.places p d.name) ≡ width P root d)
+        (variables root.node)) (path_is P Root root is) own))
+
+    -- the program is sound in the history of any streams
+    pub program_sound : (X : Inputs) (F : List Stream) → IsProgramSound Y P (history_of Y X F)
+    program_sound X F =
+        sound_where_wide (history_of Y X F) (history_wide X F) Y (runs (history_of Y X F))
+        inputs_placed
