@@ -1,4 +1,4 @@
--- Where clocks do not tick, and operands have no value, the streams of operators have none.
+-- The streams of operators have no value where clocks do not tick and operands have no value.
 use Rattle.std.proofs.Common.{◌≡◌, ℕ, zero, suc, Bool, true, false, Some, None, List, [], ◌∷◌}
 use Rattle.std.proofs.Common.{map, fold, refl, ap, ◌∙◌}
 use Rattle.lb_syntax.specs.declared.tree.ArrayIterator.{ArrayIterator}
@@ -98,7 +98,7 @@ absent_across zero f (false ∷ bs) xss off = refl
 absent_across (suc t) f (true ∷ bs) xss off = absent_across t f bs _ off
 absent_across (suc t) f (false ∷ bs) xss off = absent_across t f bs _ off
 
--- what is present exactly at some instants is absent at the others
+-- a stream that fits a clock is absent where the clock does not tick
 absent_fitting : (t : ℕ) (kind : Kind) (bs : List Bool) (xs : Stream) → fits kind bs xs ≡ true →
     IsOff t bs → IsAbsent t xs
 absent_fitting t kind [] [] h off = refl

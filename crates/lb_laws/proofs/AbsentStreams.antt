@@ -1,5 +1,4 @@
--- In a history that solves a program, an expression has no value at an instant at which the clock
--- on which it stands does not tick.
+-- An expression has no value where its clock does not tick, in a history that solves a program.
 use Rattle.std.proofs.Common.{◌≡◌, inl, inr, ℕ, suc, ◌+◌, ◌-◌, ◌*◌, ◌<◌, true, Option}
 use Rattle.std.proofs.Common.{drop, Some, None, option_map, List, [], ◌∷◌, ◌++◌, map, flat_map}
 use Rattle.std.proofs.Common.{refl, ap, sym, subst, ◌∙◌, arith}
@@ -51,10 +50,10 @@ use Rattle.lb_check.proofs.TypedCalls.{found_name}
 use Rattle.lb_flat.specs.Flat.{instants}
 use Rattle.lb_flat.specs.Layouts.{flat_clock}
 use Rattle.lb_flat.specs.NumberedLayouts.{layout}
-use Rattle.lb_flat.proofs.Adding.{columns}
-use Rattle.lb_flat.proofs.CalleeClocks.{CalleeClocks, callee_clocks}
-use Rattle.lb_flat.proofs.Lists.{Every-take, Every-drop}
-use Rattle.lb_flat.proofs.SignHistories.{clock_instants, runs_history}
+use Rattle.lb_flat.proofs.solutions.Adding.{columns}
+use Rattle.lb_flat.proofs.clock_tables.CalleeClocks.{CalleeClocks, callee_clocks}
+use Rattle.lb_flat.proofs.lists.Lists.{Every-take, Every-drop}
+use Rattle.lb_flat.proofs.clock_tables.SignHistories.{clock_instants, runs_history}
 use Rattle.lb_laws.specs.Ticks.{IsOff, IsAbsent, AreAbsent}
 use Rattle.lb_laws.proofs.AbsentCells.{all_constant, all_one, all_two, all_choices, all_first_then}
 use Rattle.lb_laws.proofs.AbsentCells.{all_previous, all_sampled, all_latest, all_fitting}
@@ -66,7 +65,7 @@ module _ (P : Program) (accepted : static_refusal P ≡ None) (checked : check_r
     (X : Inputs) (H : History) (solves : Solves P X H) (F : List Stream)
     (same : (here : Instance) → In here (instances P) → (x : Name) → IsVariable here.node x →
     columns X F ((layout P).places here.path x) ≡ H.columns here.path x) (t : ℕ) where
-  -- a clock of an instance over its variables
+  -- the ticks of a clock of an instance over its variables are those of its flat clock
   ticking :
       (here : Instance) → In here (instances P) → (k : Clock) → IsOver (IsVariable here.node) k →
       presence H here.path k ≡ instants X F (flat_clock (layout P) here.path k)
@@ -75,7 +74,7 @@ module _ (P : Program) (accepted : static_refusal P ≡ None) (checked : check_r
       (runs_history P accepted checked X H solves F same here.path here (at_path P here stands)) k
       over
 
-  -- the streams of a variable, where its declared clock does not tick
+  -- the streams of a variable have no value where its declared clock does not tick
   variable_absent :
       (here : Instance) → In here (instances P) → (d : Declaration) → In d (variables here.node) →
       IsOff t (presence H here.path (declared_clock here.node d.name)) →
@@ -116,7 +115,8 @@ module _ (P : Program) (accepted : static_refusal P ≡ None) (checked : check_r
     over : (o : Occurrence) → IsHere o → IsOver (IsVariable here.node) o.clock
     over o i = (occurrence_fits P accepted checked here stands o i).over
 
-    -- an output of what a call calls, where it is on the clock of the call
+    -- an output of a callee has no value where the clock of the call does not tick, if the output
+    -- is on that clock
     output_absent :
         (c : Instance) → In c (instances P) → (d : Declaration) → In d c.node.outputs →
         (k : Clock) → IsOver (IsVariable here.node) k →
@@ -132,7 +132,8 @@ module _ (P : Program) (accepted : static_refusal P ≡ None) (checked : check_r
         (in_first d c.node.outputs c.node.locals i))
         (subst (λ bs. IsOff t bs) (sym ticks) off)
 
-    -- a name: a variable, or a static parameter or a constant
+    -- a name has no value where its clock does not tick: a variable, a static parameter or a
+    -- constant
     name_absent :
         (k : Clock) (x : Name) (o : Option Declaration) →
         named (λ d. d.name) x (variables here.node) ≡ o →
@@ -154,7 +155,8 @@ module _ (P : Program) (accepted : static_refusal P ≡ None) (checked : check_r
         (find_in (λ (c : Declaration). bytes_eq c.name x) (variables here.node) d e)
         (subst (λ l. IsOff t (presence H here.path l)) clock off)
 
-    -- what each of some instances of an iterator gives
+    -- the gathered outputs of the instances of an iterator have no value where those of each
+    -- instance have none
     gathered_absent :
         (outputs : ℕ → Name → List Stream) (n : ℕ) (outs : List Declaration) →
         ((i : ℕ) → i < n → (d : Declaration) → In d outs → AreAbsent t (outputs i d.name)) →

@@ -1,4 +1,4 @@
--- In an accepted program the computed clocks of occurrences keep the rules of clocks, and no other
+-- The computed clocks of occurrences in an accepted program keep the rules of clocks, and no other
 -- clocks do.
 use Rattle.std.proofs.Common.{◌≡◌, ℕ, ◌+◌, ◌⊎◌, inl, inr, Bool, true, Option, Some, None}
 use Rattle.std.proofs.Common.{List, [], ◌∷◌, ◌++◌, length, flat_map, refl, ap, sym, subst, ◌∙◌}
@@ -65,7 +65,7 @@ own_of k (Some (On l x sign)) h = record {
   below = (x, sign, ap (λ z. On z x sign) (sym (clock_same k l h)));
 }
 
--- a clock that agrees with the one that is determined is that
+-- a clock that agrees with the determined clock equals it
 only_by : (o : Option Clock) (own l : Clock) → o ≡ Some own → IfSome o (λ c. c ≡ l) → l ≡ own
 only_by None own l e h = absurd cc
 only_by (Some c) own l e h = let same : c ≡ own = cc in sym h ∙ same
@@ -84,7 +84,7 @@ module _ (P : Program) (here : Instance) where
   abbrev Keeps : Clock → ℕ → Expr → Type 0
   Keeps k n e = IsAssigned P here.node k n e (occurrences P here.node k n e)
 
-  -- those of two operands
+  -- the occurrences of two operands keep the rules
   pair :
       (k : Clock) (n : ℕ) (e a b : Expr) → Keeps k n a → Keeps k (n + call_count a) b →
       First (at k n e)
@@ -276,7 +276,7 @@ module _ (P : Program) (here : Instance) where
   same_types None p e = absurd cc
   same_types (Some ss) None e = absurd cc
 
-  -- a list of types that is as long as one type
+  -- a list of types that equals a list of one type has one type
   one_type : (o : Option (List DataType)) (t : DataType) → are_same P o (Some (t ∷ [])) ≡ true →
       (s : DataType) × (o ≡ Some (s ∷ []))
   one_type None t e = absurd cc
@@ -370,7 +370,7 @@ module _ (P : Program) (here : Instance) where
 
 -- ## All instances
 
--- what is accepted keeps the rules of types, clocks and definitions
+-- an accepted program keeps the rules of types, clocks and definitions
 rules_kept : (P : Program) → refusal P ≡ None → check_refusal P ≡ None
 rules_kept P e = first_none (check_refusal P) _ (second_none (static_refusal P) _ e)
 

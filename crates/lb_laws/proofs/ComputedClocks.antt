@@ -1,5 +1,5 @@
--- Where occurrences keep the rules of clocks, the clock that something inside an expression
--- determines is the one on which the expression stands.
+-- The clock that a part of an expression determines is the clock of the expression, where
+-- occurrences keep the rules of clocks.
 use Rattle.std.proofs.Common.{◌≡◌, ℕ, ◌+◌, Bool, true, false, cond, Option, Some, None, List, []}
 use Rattle.std.proofs.Common.{◌∷◌, ◌++◌, map, length, refl, ap, sym, subst, ◌∙◌}
 use Rattle.std.specs.Prelude.{◌&&◌, ◌||◌, not, nat_eq, IfSome, option_map}
@@ -35,7 +35,7 @@ use Rattle.lb_laws.specs.ClockAssignments.{IsAssigned, AreAssigned, AreAssignedE
 
 -- ## Names
 
--- what is found by a name has it
+-- a name by which a declaration is found is among the names
 pub named_among :
     (x : Name) (ds : List Declaration) (v : Declaration) → named (λ d. d.name) x ds ≡ Some v →
     among x (map (λ d. d.name) ds) ≡ true
@@ -59,7 +59,7 @@ named_among x (d ∷ ds) v e = by (named_among x ds v) (bytes_eq d.name x) refl 
     by rest false other h =
         later (bytes_eq x d.name) (among x (map (λ d. d.name) ds)) (rest h)
 
--- a name with a clock is that of a variable
+-- a name with a clock is the name of a variable
 clocked_among :
     (n : Node) (x : Name) (k : Clock) → variable_clock n x ≡ Some k →
     among x (variable_names n) ≡ true
@@ -69,7 +69,7 @@ clocked_among n x k e =
 
 -- ## Clocks that agree
 
--- this is the clock, if there is one
+-- `k` is the clock, if there is one
 abbrev Agrees : Clock → Option Clock → Type 0
 Agrees k o = IfSome o (λ c. c ≡ k)
 
@@ -97,7 +97,7 @@ current_agrees k own x sign None e h = tt
 current_agrees k own x sign (Some c) e h =
     subst (λ z. Agrees k (parent z)) (sym (h ∙ e)) refl
 
--- the clock on which a callee runs, from one argument more
+-- the clock on which a callee runs agrees, with one more argument
 base_agrees :
     (runs : Clock) (callee : Node) (given : Given) (d : Declaration) (ds : List Declaration)
     (o : Option Clock) (ks : List (Option Clock)) →
@@ -108,7 +108,7 @@ base_agrees runs callee given d ds None ks h rest = rest
 base_agrees runs callee given d ds (Some k) ks h rest =
     ap (above (own_depth callee d)) h ∙ above_outer runs given (declared_clock callee d.name)
 
--- the clock of the one result of a call
+-- the clock of the only result of a call agrees
 result_agrees :
     (runs k : Clock) (callee : Node) (given : Given) (outs : List Declaration) (o : Declaration) →
     outs ≡ o ∷ [] →

@@ -1,4 +1,4 @@
--- A lane of a run that comes by some moves from a fresh one stands for the trace that it was given.
+-- A lane stands for the trace that it was given, in a run that moves lead to from a fresh run.
 use Rattle.std.proofs.Common.{◌≡◌, ℕ, ◌<◌, ◌≤◌, ◌++◌, Bool, true, false, List, [], ◌∷◌, cond}
 use Rattle.std.proofs.Common.{refl, ap, sym, subst, ◌∙◌, arith}
 use Rattle.lb_static.specs.Instances.{Program}

@@ -1,4 +1,4 @@
--- In a lane that is active, a memory whose clock does not tick stays what it was.
+-- A memory of an active lane does not change where its clock does not tick.
 use Rattle.std.proofs.Common.{◌≡◌, ℕ, zero, suc, ◌+◌, Bool, true, false, Some, None, List, [], ◌∷◌}
 use Rattle.std.proofs.Common.{◌++◌, length, map, get_or, refl, ap, ap₂, sym, subst, ◌∙◌, arith}
 use Rattle.lb_syntax.specs.Lists.{Every, In, zip2}
@@ -28,14 +28,14 @@ use Rattle.lb_flat.specs.FlatPrograms.{IsFlatOf}
 use Rattle.lb_flat.specs.FlatSolutions.{IsFlatSolution}
 use Rattle.lb_flat.specs.Fitting.{IsFitting}
 use Rattle.lb_flat.specs.Flattening.{history_of, IsTrace}
-use Rattle.lb_flat.specs.FurtherKinds.{kind_among}
+use Rattle.lb_flat.specs.TemporaryKinds.{kind_among}
 use Rattle.lb_flat.specs.Judging.{FlatProgram}
 use Rattle.lb_flat.specs.Layouts.{flat_clock}
 use Rattle.lb_flat.specs.MemoryPlaces.{KeepsOperand, KeepsFlag, HasMemories, equations_at}
 use Rattle.lb_flat.specs.MemoryPlaces.{after_rows, cells_in}
 use Rattle.lb_flat.specs.NumberedLayouts.{layout}
 use Rattle.lb_flat.specs.Run.{Ready, Row, advanced, cell, row_of, run, streams_of}
-use Rattle.lb_flat.proofs.RunSolutions.{run_solves}
+use Rattle.lb_flat.proofs.solutions.RunSolutions.{run_solves}
 use Rattle.lb_lanes.specs.Planes.{on}
 use Rattle.lb_sim.specs.BatchLaws.{IsKept, next_cell}
 use Rattle.lb_sim.specs.BatchRuns.{flag_in, flat_of, lane_in, memory_at}
@@ -89,7 +89,7 @@ module _ (f : FlatProgram) (X : Inputs) (given : List Scalar) (memory later : �
   kept_at : (q : FlatEquation) → In q f.equations → Kept q
   kept_at q i = Every-at Kept f.equations q kept i
 
-  -- an element has no value in the last row where its stream has none
+  -- an element has no value in the last row if its stream has none there
   next_absent : (a : ℕ) → IsAbsent (length X) (column longer own a) → next_cell f X given a ≡ None
   next_absent a h =
       let Q = f.equations in

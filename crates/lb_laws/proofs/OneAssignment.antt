@@ -1,5 +1,5 @@
--- At most one list of occurrences keeps the rules of clocks where an expression stands on a clock,
--- and where a statement stands.
+-- At most one list of occurrences keeps the rules of clocks, for an expression on a clock, and for
+-- a statement.
 use Rattle.std.proofs.Common.{◌≡◌, ℕ, ◌+◌, inl, inr, Bool, List, [], ◌∷◌, ◌++◌, length}
 use Rattle.std.proofs.Common.{ap, ap₂, sym, subst, ◌∙◌}
 use Rattle.lb_syntax.specs.Tree.{Node_named, Symbol, Expr, Literal, Truth, Variable, Group}
@@ -18,7 +18,7 @@ use Rattle.lb_laws.specs.ClockAssignments.{AreStatementsAssigned}
 
 -- ## At most one list
 
--- two lists of which this is said are one
+-- a statement holds of one list of occurrences at most
 abbrev pub Single : Occurrences → Type 0
 Single Those = (xs ys : List Occurrence) → Those xs → Those ys → xs ≡ ys
 
@@ -38,7 +38,7 @@ where_single : (rule : Bool) (Those : Occurrences) → Single Those → Single (
 where_single rule Those single xs ys p q = single xs ys p.1 q.1
 
 module _ (P : Program) (here : Node) where
-  -- of an operator of one operand, and of two
+  -- an operator of one operand, or of two, has one list of occurrences at most
   one_operand :
       (k : Clock) (n : ℕ) (e a : Expr) → Single (IsAssigned P here k n a) →
       Single (First (at k n e) (IsAssigned P here k n a))

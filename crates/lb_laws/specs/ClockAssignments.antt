@@ -1,9 +1,9 @@
--- Which clocks the occurrences of expressions in the text of a node may have, as a relation.
+-- The clocks that the occurrences of expressions in the text of a node may have, as a relation.
 --
 -- `Occurrences` of lb_check computes the clock of each occurrence. Here no clock is computed: a
--- list of occurrences, each with a clock, keeps the rules or does not. Of the operand of `current`
--- it is said that it stands on one clock just below, and that it could stand on no other; of an
--- assertion that it stands on the one clock on which it can stand, or on the base clock.
+-- list of occurrences, each with a clock, keeps the rules or does not. The operand of `current`
+-- stands on one clock just below, and can stand on no other. An assertion stands on the one clock
+-- on which it can stand, or on the base clock.
 -- Source: Lustre V6 reference manual, clocks. The clocks of arguments, and that of an assertion,
 -- are this project's rule.
 use Rattle.std.specs.Prelude.{◌≡◌, ◌⊎◌, ℕ, ◌+◌, Bool, true, List, [], ◌∷◌, ◌++◌, length}
@@ -19,40 +19,40 @@ use Rattle.lb_check.specs.Occurrences.{Occurrence, at, call_count, call_clocks, 
 
 -- ## Lists of occurrences
 
--- what is said of a list of occurrences
+-- a statement on a list of occurrences
 abbrev pub Occurrences : Type 1
 Occurrences = List Occurrence → Type 0
 
--- none
+-- the list is empty
 abbrev pub Nothing : Occurrences
 Nothing os = os ≡ []
 
--- one, and behind it those of its parts
+-- the list has one occurrence, and behind it those of its parts
 abbrev pub First : Occurrence → Occurrences → Occurrences
 First o Parts os = (xs : List Occurrence) × Parts xs × (os ≡ o ∷ xs)
 
--- some, and behind them others
+-- the list has occurrences of `Front`, and behind them those of `Back`
 abbrev pub Both : Occurrences → Occurrences → Occurrences
 Both Front Back os =
     (xs : List Occurrence) × (ys : List Occurrence) × Front xs × Back ys × (os ≡ xs ++ ys)
 
--- such ones, where a rule is kept
+-- a rule is kept, and the statement holds of the list
 abbrev pub Where : Bool → Occurrences → Occurrences
 Where rule Those os = (rule ≡ true) × Those os
 
 -- ## Expressions
 
--- a clock stands one step below another
+-- clock `own` stands one step below clock `k`
 abbrev pub IsJustBelow : Clock → Clock → Type 0
 IsJustBelow k own = (x : Name) × (sign : Bool) × (own ≡ On k x sign)
 
--- no clock but this one is one of some
+-- `own` is the only clock of which the statement holds, whatever the list
 abbrev pub IsOnly : Clock → (Clock → Occurrences) → Type 0
 IsOnly own On_clock = (l : Clock) (xs : List Occurrence) → On_clock l xs → l ≡ own
 
 unfoldable mutual
-  -- the occurrences of an expression and of its parts, in text order, where it stands on clock k
-  -- after n calls, and each rule of clocks is kept
+  -- the occurrences of an expression and of its parts, in text order, where the expression stands
+  -- on clock `k` after `n` calls; each rule of clocks is kept
   pub IsAssigned : Program → Node → Clock → ℕ → Expr → Occurrences
   IsAssigned P here k n (Literal m) = First (at k n (Literal m)) Nothing
   IsAssigned P here k n (Truth b) = First (at k n (Truth b)) Nothing
@@ -101,13 +101,13 @@ unfoldable mutual
   IsAssigned P here k n (Iterate it (Symbol op) m es) =
       First (at k n (Iterate it (Symbol op) m es)) (AreAssigned P here k n es)
 
-  -- those of expressions on one clock
+  -- the occurrences of expressions on one clock
   pub AreAssigned : Program → Node → Clock → ℕ → Exprs → Occurrences
   AreAssigned P here k n Nil = Nothing
   AreAssigned P here k n (Cons e es) =
       Both (IsAssigned P here k n e) (AreAssigned P here k (n + call_count e) es)
 
-  -- those of expressions each on a clock of its own
+  -- the occurrences of expressions, each on a clock of its own
   pub AreAssignedEach : Program → Node → List Clock → ℕ → Exprs → Occurrences
   AreAssignedEach P here ks n Nil = Nothing
   AreAssignedEach P here [] n (Cons e es) = Nothing
@@ -116,28 +116,29 @@ unfoldable mutual
 
 -- ## Statements
 
--- the right side of an equation stands on the declared clock of its first left variable; an
--- assertion on the one clock on which it can stand, or on the base clock
+-- `k` is the clock of a statement: an equation stands on the declared clock of its first left
+-- variable; an assertion on the one clock on which it can stand, or on the base clock
 abbrev pub IsStatementClock : Program → Node → ℕ → Statement → Clock → Type 0
 IsStatementClock P here n (Equation [] e) k = k ≡ Base
 IsStatementClock P here n (Equation (x ∷ xs) e) k = k ≡ declared_clock here x
 IsStatementClock P here n (Assertion e) k = IsOnly k (λ l. IsAssigned P here l n e) ⊎ (k ≡ Base)
 
--- the occurrences in a statement after n calls, where the rules of the statement are kept too
+-- the occurrences in a statement after `n` calls; the rules of the statement are kept too
 unfoldable pub IsStatementAssigned : Program → Node → ℕ → Statement → Occurrences
 IsStatementAssigned P here n s os =
     (k : Clock) × IsStatementClock P here n s k
     × Where (is_statement_clocked P here s (at k n (right_side s)))
     (IsAssigned P here k n (right_side s)) os
 
--- those in some statements
+-- the occurrences in some statements
 unfoldable pub AreStatementsAssigned : Program → Node → ℕ → List Statement → Occurrences
 AreStatementsAssigned P here n [] = Nothing
 AreStatementsAssigned P here n (s ∷ rest) =
     Both (IsStatementAssigned P here n s)
     (AreStatementsAssigned P here (n + length (statement_sites s)) rest)
 
--- the computed occurrences of an instance, with their clocks, keep all rules, and no others do
+-- the computed occurrences of an instance, with their clocks, keep all rules, and no other list
+-- does
 pub record HasOneAssignment (P : Program) (here : Instance) : Type 0 where
   pub keeps_rules :
       AreStatementsAssigned P here.node 0 here.node.body (node_occurrences P here.node)

@@ -13,10 +13,10 @@ ghost use Rattle.lb_sim.specs.declared.batch_run.BatchRun.{BatchRun};
 ghost use Rattle.lb_laws.specs.LaneRuns.{ComesBy, Move, trace_of};
 ghost use Rattle.lb_laws.specs.MemoryWaits.{WaitsForClocks};
 
-/// From a fresh run of some lanes on, by any list of moves, each lane stands for the trace that it
-/// was given, in the terms of each program that the equations are of: its verdict is the one of
-/// that trace, and while it is active its memories are those of the one history that solves the
-/// program on it. This is a law, and computes nothing.
+/// From a fresh run of some lanes, by any list of moves, each lane stands for the trace that it was
+/// given, by the definitions of each program with these equations: its verdict is the one of that
+/// trace, and while it is active its memories are those of the one history that solves the program
+/// on it. This is a law, and computes nothing.
 pub fn each_lane_stands_for_its_own_trace()
     ensures { (P : Program) → (first run : BatchRun) → (n : ℕ) → n ≤ 64 → IsFresh first n
         → (moves : List Move) → ComesBy first moves run → (flat : IsFlatOf P (flat_of run))
@@ -24,8 +24,8 @@ pub fn each_lane_stands_for_its_own_trace()
         → StandsForTrace P run flat i (trace_of i moves) }
 {}
 
-/// In a lane that is active, an instant at which a clock of the program does not tick leaves each
-/// memory of an operand on that clock as it was. This is a law, and computes nothing.
+/// In an active lane, each memory of an operand stays as it is at an instant at which the clock of
+/// the operand does not tick. This is a law, and computes nothing.
 pub fn memories_wait_for_the_clocks_of_the_program()
     ensures { (P : Program) → (r s : BatchRun) → s.program.now ≡ r.program.now
         → (flat : IsFlatOf P (flat_of r)) → (i : ℕ) → (X : Inputs) → (given : List Scalar)

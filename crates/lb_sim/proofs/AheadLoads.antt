@@ -1,4 +1,5 @@
--- Integers of some instants go into the lanes of words, a word for each place and each instant.
+-- Loads of the integers of some instants into lanes of words, a word for each place and each
+-- instant.
 use Rattle.std.proofs.Common.{◌≡◌, ◌≢◌, ℕ, ◌+◌, ◌*◌, ◌<◌, ◌≤◌, ◌==◌, ◌⊎◌, inl, inr, Bool, true}
 use Rattle.std.proofs.Common.{false, List, [], ℤ, pos, get_or, set, length, length-set, refl}
 use Rattle.std.proofs.Common.{sym, ap, ◌∙◌, arith, below_more}
@@ -56,7 +57,7 @@ module _ (r : Recording) (members begins : List ℕ) (t live : ℕ) (columns pla
     others = λ k e i le li o. refl;
   }
 
-  -- members, and then those behind them
+  -- members from `a` to `b` are loaded, and then those from `b` to `c`: those from `a` to `c` are
   pub filled_then :
       (count a b c : ℕ) (x y z : List (List ℤ)) → a ≤ b → b ≤ c → c ≤ 64 → count ≤ 64 →
       Filled count a b x y → Filled count b c y z → Filled count a c x z
@@ -91,7 +92,7 @@ module _ (r : Recording) (members begins : List ℕ) (t live : ℕ) (columns pla
     others = λ k e i le li o. refl;
   }
 
-  -- one instant more
+  -- one more instant of the members is loaded
   pub instant_more :
       (n first end : ℕ) (old rows new : List (List ℤ)) → Filled n first end old rows → n < 64 →
       end ≤ 64 → length new ≡ length rows →
@@ -116,7 +117,7 @@ module _ (r : Recording) (members begins : List ℕ) (t live : ℕ) (columns pla
     others = λ k e i le li o. others k e i le li (inr o) ∙ h.others k e i le li o;
   }
 
-  -- each lane that is live is that of a member
+  -- all live lanes are loaded, if each has a member
   pub all_filled :
       (count n : ℕ) (old new : List (List ℤ)) → Filled count 0 n old new →
       ((i : ℕ) → i < 64 → on live i ≡ true → i < n) →
@@ -126,7 +127,7 @@ module _ (r : Recording) (members begins : List ℕ) (t live : ℕ) (columns pla
         h.put i d k (omega arith) (inside i l e) e (omega (arith, lt)) lk;
   }
 
--- ## What is taken from there
+-- ## Copies of a loaded instant
 
 module _ (room : List (List ℤ)) (d : ℕ) (places : List ℕ) (old : List (List ℤ)) where
   pub record Taken (new : List (List ℤ)) (n : ℕ) : Type 0 where
@@ -137,7 +138,7 @@ module _ (room : List (List ℤ)) (d : ℕ) (places : List ℕ) (old : List (Lis
         lane_of (get_or room (65 * k + d) []) i ≡ value (get_or places k 0)) →
         (k : ℕ) → k < n → lane_of (get_or new (get_or places k 0) []) i ≡ value (get_or places k 0)
 
-  -- one place more
+  -- one more place is taken
   pub taken_more :
       (new : List (List ℤ)) (n : ℕ) (word : List ℤ) → Taken new n → n < length places →
       get_or places n 0 < length old → word ≡ get_or room (65 * n + d) [] →

@@ -24,14 +24,14 @@ use Rattle.lb_sim.specs.declared.place.Value.{Value}
 module _ (read : ℕ → Bool) where
   -- ## Rows of cells
 
-  -- two cells of an element are the same where it is read, and a fault both or none
+  -- two cells of an element are equal where it is read, and a fault both or none
   abbrev AreCellsAlike : Bool → Cell → Cell → Type 0
   AreCellsAlike r x y = (r ≡ true → x ≡ y) × (is_bad (Some x) ≡ is_bad (Some y))
 
   same_cells : (r : Bool) (x y : Cell) → x ≡ y → AreCellsAlike r x y
   same_cells r x y e = (λ _. e, ap (λ (z : Cell). is_bad (Some z)) e)
 
-  -- rows from an element on
+  -- two rows of cells are alike, from element `k` on
   abbrev AreRowsAlike : ℕ → Row → Row → Type 0
   AreRowsAlike k [] [] = Unit {0}
   AreRowsAlike k [] (y ∷ ys) = ⊥
@@ -80,7 +80,7 @@ module _ (read : ℕ → Bool) where
     ticks (Where k i sign) m =
         ap₂ (λ (b : Bool) (x : Cell). b && shows sign x) (ticks k m.1) (found i m.0)
 
-    -- what a memory takes over
+    -- both rows give a memory the same cell to take over
     remembered_same : (o : Operation) → FindsOperands read o → remembered xs o ≡ remembered ys o
     remembered_same (Input j) m = refl
     remembered_same (Constant v) m = refl
@@ -97,7 +97,7 @@ module _ (read : ℕ → Bool) where
 -- ## Equations
 
 module _ (places : List Value) (numbers : List ℕ) (truths : Bool) (read : ℕ → Bool) where
-  -- what an equation reads is found, and an input that is read is loaded
+  -- the elements that an equation reads are found, and an input that is read is loaded
   record IsKnown (q : FlatEquation) : Type 0 where
     pub operands : FindsOperands read q.operation
     pub clock : Every (λ e. read e ≡ true) (clock_reads q.clock)
@@ -141,7 +141,7 @@ module _ (places : List Value) (numbers : List ℕ) (truths : Bool) (read : ℕ 
     known_after xs Q h.1,
   )
 
-  -- both rows leave the same equations
+  -- both rows lead to the same equations
   advanced_same : (xs ys : Row) → AreRowsAlike read 0 xs ys → (Q : List FlatEquation) →
       Every IsKnown Q → map (advanced xs) Q ≡ map (advanced ys) Q
   advanced_same xs ys h [] m = refl
@@ -277,7 +277,7 @@ all_known places numbers truths read (q ∷ Q) operands clocks loads = (
   all_known places numbers truths read Q operands.1 clocks.1 loads.1,
 )
 
--- so the verdict of a trace is that of another one that is alike where inputs are loaded
+-- two traces that are alike where inputs are loaded have one verdict
 pub verdict_alike :
     (f : FlatProgram) (places : List Value) (numbers : List ℕ) (truths : Bool) →
     LoadsReads f places numbers truths → (X Y : Inputs) → AreAllAlike places numbers truths X Y →

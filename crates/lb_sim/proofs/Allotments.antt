@@ -1,5 +1,5 @@
 -- The loops that give constants and memories their places: what holds of the first equations, and
--- at the end of all.
+-- at the end of all equations.
 use Rattle.std.proofs.Common.{◌≡◌, ℕ, ◌+◌, ◌<◌, ◌≤◌, List, [], ◌∷◌, length, get_or, set}
 use Rattle.std.proofs.Common.{map, take, All, refl, sym, ap, ap₂, ◌∙◌, subst, arith, inl}
 use Rattle.std.proofs.Common.{inr}
@@ -12,7 +12,7 @@ use Rattle.lb_syntax.specs.declared.tree.Kind.{Kind}
 use Rattle.lb_check.specs.Scalars.{Scalar}
 use Rattle.lb_flat.specs.Flat.{Operation, Input, Constant, Copy, ApplyUnary, ApplyBinary, Choose}
 use Rattle.lb_flat.specs.Flat.{FirstThen, Previous, Latest, Sample, FlatEquation}
-use Rattle.lb_flat.specs.FurtherKinds.{kind_among}
+use Rattle.lb_flat.specs.TemporaryKinds.{kind_among}
 use Rattle.lb_flat.specs.Judging.{FlatProgram, named_elements}
 use Rattle.lb_flat.specs.Run.{Ready}
 use Rattle.lb_machine.specs.Meaning.{Lane}
@@ -167,7 +167,7 @@ constant_last first last a b m le kind (Previous v x) h g = tt
 constant_last first last a b m le kind (Latest v x) h g = tt
 constant_last first last a b m le kind (Sample x) h g = tt
 
--- memories behind them change no constant
+-- memories behind the constants change no constant
 pub constants_last :
     (f : FlatProgram) (first last : ℕ) (a b : Preset) (table : List Holding) → IsMore a b →
     last ≤ length a.words.items → AreConstants f first last a.words.items table →
@@ -222,7 +222,7 @@ cell_weaker kind W W' v h f g = record {
     by (inl n) = inl n
     by (inr e) = inr (e.0, f e.1)
 
--- the elements of which a memory may leave out the faults are fewer
+-- a memory that is allowed with watched elements `W` is allowed with more watched elements `W'`
 memory_weaker :
     (kind : Kind) (W W' : ℕ → Type 0) (o : Operation) (h : Holding) → ((a : ℕ) → W a → W' a) →
     IsMemory kind W o h → IsMemory kind W' o h

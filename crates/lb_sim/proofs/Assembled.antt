@@ -1,5 +1,5 @@
--- The pieces of a lane program put together: what is known before the code, the code of the
--- equations, what is watched and what memories take over.
+-- The assembly of a lane program: the places before the code, the code of the equations, the planes
+-- that are watched, and the sources of memories.
 use Rattle.std.proofs.Common.{◌≡◌, ℕ, zero, suc, ◌+◌, ◌<◌, ◌≤◌, Bool, List, [], ◌∷◌}
 use Rattle.std.proofs.Common.{cond, get_or, length}
 use Rattle.std.proofs.Common.{map, ℤ, All, refl, sym, ap, ◌∙◌, subst, arith}
@@ -10,7 +10,7 @@ use Rattle.lb_check.specs.Scalars.{Scalar}
 use Rattle.lb_flat.specs.Fitting.{KindFits}
 use Rattle.lb_flat.specs.Flat.{Operation, Input, Constant, Copy, ApplyUnary, ApplyBinary, Choose}
 use Rattle.lb_flat.specs.Flat.{FirstThen, Previous, Latest, Sample, FlatEquation}
-use Rattle.lb_flat.specs.FurtherKinds.{kind_among}
+use Rattle.lb_flat.specs.TemporaryKinds.{kind_among}
 use Rattle.lb_flat.specs.Judging.{FlatProgram}
 use Rattle.lb_lanes.specs.Planes.{on}
 use Rattle.lb_lanes.proofs.OnPlanes.{on-zero}
@@ -100,7 +100,7 @@ has_constant kind first last start (ApplyBinary op a b) constant s c w h = tt
 has_constant kind first last start (Choose x a b) constant s c w h = tt
 has_constant kind first last start (Sample a) constant s c w h = tt
 
--- an element that is shown by what stands in for a memory is shown by the memory
+-- an element that is shown with the holding `held` in place of a memory is shown with the memory
 shown_by :
     (given : List Scalar) (s : Lane) (places : List Place) (home held : Holding) (o : Operation)
     (v : Scalar) → ShowsMemory s o home held → IsShown given s places held o v →
@@ -156,7 +156,7 @@ watched_later f a b places w g h = record {
   violated = plane_grown a b _ w.violated g h.violated;
 }
 
--- each equation is shown, where constants are held
+-- each equation is shown in a lane that holds the constants
 abbrev pub ShowAll : FlatProgram → Code → List Place → (inputs : List Value) →
     (constants held : List Holding) → Type 0
 ShowAll f emitted places inputs constants held =
@@ -205,7 +205,7 @@ module _ (f : FlatProgram) (known : Allotted) (a : AreAllotted f known) where
   module _ (held : List Holding) (clear set : List PlaneId)
       (table : IsTableOf f known.memory_plane (length known.preset.planes.items)
       (length known.preset.words.items) known.kept.items held clear set) where
-    -- what stands in for memories has its places in the code
+    -- the holdings that stand in for memories have their places in the code
     pub table_in :
         (code : Code) → length known.preset.planes.items ≤ code.planes →
         length known.preset.words.items ≤ code.words → All (IsIn code) held
@@ -219,7 +219,7 @@ module _ (f : FlatProgram) (known : Allotted) (a : AreAllotted f known) where
           bad = omega (arith, h.bad, planes);
         }
 
-    -- what the code of the equations asks for
+    -- the places before the code are as the code of the equations asks for
     pub is_allotted :
         (code : Code) → code.planes ≡ length known.preset.planes.items →
         code.words ≡ length known.preset.words.items →
@@ -247,7 +247,7 @@ module _ (f : FlatProgram) (known : Allotted) (a : AreAllotted f known) where
           kinds_of_all held f.equations a.constants.constants a.memories.memories table.held_for;
     }
 
-  -- ## Behind it
+  -- ## The code behind these places
 
   module _ (held : List Holding) (clear set : List PlaneId)
       (table : IsTableOf f known.memory_plane (length known.preset.planes.items)
@@ -323,7 +323,7 @@ module _ (f : FlatProgram) (known : Allotted) (a : AreAllotted f known) where
         start_state = a.memories.start;
       }
 
-  -- put together it is code of the program
+  -- the assembled code is code of the program
   module _ (c : LaneCode) (held : List Holding)
       (table : IsTableOf f known.memory_plane (length known.preset.planes.items)
       (length known.preset.words.items) known.kept.items held c.clear.items c.set.items)
@@ -362,7 +362,7 @@ module _ (f : FlatProgram) (known : Allotted) (a : AreAllotted f known) where
           (sym planes) table.set_homes;
     }
 
--- code within some planes and words is so within more of them
+-- code within `planes` and `words` is within more planes and words
 pub code_within :
     (f : FlatProgram) (inputs : List Value) (kept : List Holding) (start_planes : List ℕ)
     (start_words : List ℤ) (cw mp mw planes words planes' words' : ℕ) (c : LaneCode) →

@@ -1,4 +1,4 @@
--- One instant of a batch, as to each of its lanes; and its start.
+-- One instant of a batch in each of its lanes, and the start of a batch.
 use Rattle.std.proofs.Common.{◌≡◌, ◌≢◌, ◌<◌, ◌≤◌, ◌+◌, ◌-◌, ℕ, Bool, true, false, not, ◌&&◌}
 use Rattle.std.proofs.Common.{◌||◌, List, [], ◌∷◌, ◌++◌, get_or, length, ℤ, pos, refl, sym}
 use Rattle.std.proofs.Common.{ap, ap₂, ◌∙◌, subst, inl, inr, arith}
@@ -14,7 +14,7 @@ use Rattle.lb_check.specs.declared.verdict.Verdict.TheVariants.{Passed, Fault, U
 use Rattle.lb_check.specs.declared.verdict.Verdict.TheVariants.{False}
 use Rattle.lb_flat.specs.Fitting.{IsFitting}
 use Rattle.lb_flat.specs.Flat.{FlatClock}
-use Rattle.lb_flat.specs.FurtherKinds.{kind_among}
+use Rattle.lb_flat.specs.TemporaryKinds.{kind_among}
 use Rattle.lb_flat.specs.Judging.{FlatProgram}
 use Rattle.lb_flat.specs.Programs.{program_of}
 use Rattle.lb_lanes.specs.Kernels.{lane_of}
@@ -40,7 +40,7 @@ use Rattle.lb_sim.proofs.LaneSteps as steps_of
 
 -- ## The start
 
--- a lane of the first planes and words holds what the program starts with
+-- lane `i` of the first planes and words holds what the program starts with
 pub record IsStarted (p : LaneProgram) (planes : List ℕ) (words : List (List ℤ)) (i : ℕ) :
     Type 0 where
   pub planes_put :
@@ -50,7 +50,7 @@ pub record IsStarted (p : LaneProgram) (planes : List ℕ) (words : List (List �
       (k : ℕ) → k < length p.start_words.items →
       lane_of (slice_index_or words k []) i ≡ slice_index_or p.start_words.items k (pos 0)
 
--- the same of other names for the planes and words
+-- `IsStarted` for lists that are equal to the planes and words
 pub started_as :
     (p : LaneProgram) (P p0 : List ℕ) (W w0 : List (List ℤ)) (i : ℕ) → p0 ≡ P → w0 ≡ W →
     IsStarted p P W i → IsStarted p p0 w0 i
@@ -76,7 +76,7 @@ module _ (p : LaneProgram) (planes : List ℕ) (words : List (List ℤ)) (i : �
   ints_start k h =
       started.words_put k (omega (arith, h, start_words_room p p.general p.general_law))
 
-  -- what is the same everywhere is there
+  -- the lane has the constants that are the same everywhere
   pub begun_constants : HasConstants begun
   begun_constants =
       let given : HasConstants at_start =
@@ -87,7 +87,7 @@ module _ (p : LaneProgram) (planes : List ℕ) (words : List (List ℤ)) (i : �
         zero = ints_start 0 (omega (arith, code.zero)) ∙ given.zero;
       }
 
-  -- and so are the constants
+  -- the lane has the constants of the program
   pub begun_constant_words :
       HasConstantWords p.constant_word p.memory_word p.start_words.items begun
   begun_constant_words w from to =
@@ -127,7 +127,7 @@ not_passed (False t) ne = refl
 
 -- ## An instant
 
--- lanes 0, 1 and 2 are one lane before the instant, once a code has run that it suits if it takes
+-- `s0`, `s1` and `s2` are one lane: before the instant, once code has run that suits it if it takes
 -- part, and after the instant
 module _ (p : LaneProgram) (c : LaneCode) (law : IsCodeIn p c) (row : List Scalar)
     (s0 s1 s2 : Lane) (v v' : Verdict) (active live going passed : Bool) (steps : ℕ)
@@ -174,7 +174,7 @@ module _ (p : LaneProgram) (c : LaneCode) (law : IsCodeIn p c) (row : List Scala
       computed.constant_words computed.same carried X steps v v' is_verdict
       (λ e. computed.run (going_there e)) suits_now active passed was is_passed_now stands))
 
-  -- a lane that is not live stands for what it did
+  -- a lane that is not live stands for the trace it stood for
   lane_stays :
       live ≡ false → (X : Inputs) → StandsIn p s0 v active steps X →
       StandsIn p s2 v' passed (steps + 1) X
@@ -183,7 +183,7 @@ module _ (p : LaneProgram) (c : LaneCode) (law : IsCodeIn p c) (row : List Scala
       (layouts.resting_verdict v judged v' active live passed passed_at put_at off)
       (layouts.resting_passed v judged v' active live passed passed_at put_at off)
 
-  -- what is the same everywhere stays so
+  -- the constants that are the same everywhere stay as they are
   lane_constants : HasConstants s2
   lane_constants =
       let c = computed.constants in
@@ -194,7 +194,7 @@ module _ (p : LaneProgram) (c : LaneCode) (law : IsCodeIn p c) (row : List Scala
             carried.first_words 0 (omega (arith, inputs_words p, constants_words p)) ∙ c.zero;
       }
 
-  -- so the instant has moved the lane on
+  -- the instant moves the lane on
   pub lane_moved : IsMovedOn p row s0 s2 v v' active live passed steps
   lane_moved = record {
     moves = lane_moves;
@@ -221,7 +221,7 @@ AreMovedOn p rows planes planes' words words' verdicts verdicts' active live act
     (get_or verdicts i Passed) (get_or verdicts' i Passed) (on active i) (on live i)
     (on active' i) (steps i)
 
--- the same of other names for the lists
+-- the statement for lists that are equal to these
 pub moved_as :
     (p : LaneProgram) (rows : ℕ → List Scalar) (P P' p0 p1 : List ℕ)
     (W W' w0 w1 : List (List ℤ)) (V V' v0 v1 : List Verdict) (B b0 : List ℕ)
@@ -247,7 +247,7 @@ module _ (p : LaneProgram) (rows : ℕ → List Scalar) (planes planes' : List �
     (moved : AreMovedOn p rows planes planes' words words' verdicts verdicts' active live active'
     (instant_in begins t))
     (was : IsPlaneOf (λ i. on live0 i && is_passed (get_or verdicts i Passed)) active) where
-  -- a verdict that was found stays
+  -- a verdict other than `Passed` stays
   pub run_settled :
       (i : ℕ) → i < 64 → get_or verdicts i Passed ≢ Passed →
       get_or verdicts' i Passed ≡ get_or verdicts i Passed
@@ -261,7 +261,7 @@ module _ (p : LaneProgram) (rows : ℕ → List Scalar) (planes planes' : List �
     one_more : (i : ℕ) → i < 64 → instant_in begins t i + 1 ≡ instant_in begins (t + 1) i
     one_more i h = omega (arith, begun i h)
 
-    -- a lane that is not live stands for what it stood for
+    -- a lane that is not live stands for the trace it stood for
     pub run_stays :
         (i : ℕ) (X : Inputs) → i < 64 → on live i ≡ false →
         StandsIn p (lane_at planes words i) (get_or verdicts i Passed) (on active i)
@@ -296,7 +296,7 @@ module _ (p : LaneProgram) (rows : ℕ → List Scalar) (planes planes' : List �
           n (X ++ rows i ∷ []))
           (one_more i h) ((moved i h).moves there (active_was i h there) K fits X stands)
 
-      -- the lanes that are active are those that are live and have passed
+      -- the active lanes are the live lanes that have passed
       pub run_going : IsPlaneOf (λ i. on live i && is_passed (get_or verdicts' i Passed)) active'
       run_going i h = by (on live i) refl
         where
@@ -311,7 +311,7 @@ module _ (p : LaneProgram) (rows : ℕ → List Scalar) (planes planes' : List �
 
 -- ## Lanes that begin again
 
--- lanes hold what the program starts with, and each other lane what it held
+-- `lanes` hold what the program starts with, and any other lane has not changed
 pub record AreRestarted (p : LaneProgram) (planes planes' : List ℕ)
     (words words' : List (List ℤ)) (lanes : ℕ) : Type 0 where
   pub started : (i : ℕ) → i < 64 → on lanes i ≡ true → IsStarted p planes' words' i
@@ -322,7 +322,7 @@ pub record AreRestarted (p : LaneProgram) (planes planes' : List ℕ)
       (k i : ℕ) → i < 64 → on lanes i ≡ false →
       lane_of (slice_index_or words' k []) i ≡ lane_of (slice_index_or words k []) i
 
--- the same of other names for the lists
+-- the statement for lists that are equal to these
 pub restarted_as :
     (p : LaneProgram) (P P' p0 p1 : List ℕ) (W W' w0 w1 : List (List ℤ)) (lanes : ℕ) →
     p0 ≡ P → p1 ≡ P' → w0 ≡ W → w1 ≡ W' → AreRestarted p P P' W W' lanes →
@@ -333,13 +333,13 @@ restarted_as p P P' p0 p1 W W' w0 w1 lanes a b c d h =
     let h3 = subst (λ x. AreRestarted p p0 p1 x W' lanes) (sym c) h2 in
     subst (λ x. AreRestarted p p0 p1 w0 x lanes) (sym d) h3
 
--- lanes that hold the same are the same
+-- two lanes with equal planes and words are equal
 same_lane :
     (s s' : Lane) → ((k : ℕ) → s'.bits k ≡ s.bits k) → ((k : ℕ) → s'.ints k ≡ s.ints k) →
     s' ≡ s
 same_lane s s' bits ints = λ j. record { bits = fun_ext bits j; ints = fun_ext ints j }
 
--- what is the same stands for the same
+-- equal lanes, verdicts and steps stand for the same traces
 stands_as :
     (p : LaneProgram) (s s' : Lane) (v v' : Verdict) (active active' : Bool) (n n' : ℕ)
     (X : Inputs) → s' ≡ s → v' ≡ v → active' ≡ active → n' ≡ n → StandsIn p s v active n X →
@@ -350,12 +350,12 @@ stands_as p s s' v v' active active' n n' X a b c d h =
     let h3 = subst (λ x. StandsIn p s' v' x n X) (sym c) h2 in
     subst (λ x. StandsIn p s' v' active' x X) (sym d) h3
 
--- what lanes have, put where a plane says so
+-- `new` has `v` in each of `lanes`, and the items of `old` elsewhere
 abbrev HavePut : {A : Type 0} (z : A) (lanes : ℕ) (v : A) (old new : List A) → Type 0
 HavePut z lanes v old new =
     (i : ℕ) → i < 64 → get_or new i z ≡ (if on lanes i then v else get_or old i z)
 
--- the same of other names for the lists
+-- the statement for lists that are equal to these
 pub put_as :
     {A : Type 0} (z : A) (lanes : ℕ) (v : A) (old new a b : List A) → a ≡ old → b ≡ new →
     HavePut z lanes v old new → HavePut z lanes v a b
@@ -375,12 +375,12 @@ put_other :
 put_other z lanes v old new h i below e =
     h i below ∙ ap (λ b. if b then v else get_or old i z) e
 
--- the plane whose lanes are not those of none has all lanes
+-- the plane of the lanes that are not in plane 0 has all lanes
 pub every_lane :
     (lanes : ℕ) → IsPlaneOf (λ i. not (on 0 i)) lanes → (i : ℕ) → i < 64 → on lanes i ≡ true
 every_lane lanes h i below = h i below ∙ ap not (on-zero i)
 
--- a plane with the lanes of another
+-- `new` has the lanes of `old` and `lanes`
 abbrev WithLanes : (old new lanes : ℕ) → Type 0
 WithLanes old new lanes = IsPlaneOf (λ i. on old i || on lanes i) new
 
@@ -404,7 +404,7 @@ module _ (p : LaneProgram) (planes planes' : List ℕ) (words words' : List (Lis
       same_lane (lane_at planes words i) (lane_at planes' words' i)
       (λ k. restarted.other_planes k i h off) (λ k. restarted.other_words k i h off)
 
-  -- what is the same everywhere stays so
+  -- the constants that are the same everywhere stay as they are
   pub restart_constants :
       ((i : ℕ) → i < 64 → HasConstants (lane_at planes words i)) → (i : ℕ) → i < 64 →
       HasConstants (lane_at planes' words' i)
@@ -417,7 +417,7 @@ module _ (p : LaneProgram) (planes planes' : List ℕ) (words words' : List (Lis
   abbrev Constants : Lane → Type 0
   Constants = HasConstantWords p.constant_word p.memory_word p.start_words.items
 
-  -- and so do the constants
+  -- the constants of the program stay as they are
   pub restart_constant_words :
       ((i : ℕ) → i < 64 → Constants (lane_at planes words i)) → (i : ℕ) → i < 64 →
       Constants (lane_at planes' words' i)
@@ -429,7 +429,7 @@ module _ (p : LaneProgram) (planes planes' : List ℕ) (words words' : List (Lis
 
 module _ (lanes : ℕ) (begins begins' : List ℕ) (t : ℕ)
     (begins_are : HavePut 0 lanes t begins begins') where
-  -- where all lanes begin at an instant, none begins after it
+  -- where all lanes begin at instant `t`, none begins after it
   pub all_begun :
       ((i : ℕ) → i < 64 → on lanes i ≡ true) → (i : ℕ) → i < 64 → begin_of begins' i ≤ t
   all_begun every i h =
@@ -453,7 +453,7 @@ module _ (lanes : ℕ) (verdicts verdicts' : List Verdict)
       get_or verdicts' i Passed ≡ get_or verdicts i Passed
   restart_verdict = put_other Passed lanes Passed verdicts verdicts' verdicts_are
 
-  -- where all lanes have passed, those that are live are active
+  -- where all lanes have passed, the live lanes are active
   pub all_passed :
       (live : ℕ) → ((i : ℕ) → i < 64 → on lanes i ≡ true) →
       IsPlaneOf (λ i. on live i && is_passed (get_or verdicts' i Passed)) live
@@ -461,7 +461,7 @@ module _ (lanes : ℕ) (verdicts verdicts' : List Verdict)
       sym
       (ap (λ v. on live i && is_passed v) (has_passed i h (every i h)) ∙ and-true (on live i))
 
-  -- the lanes that are active are those that are live and have passed
+  -- the active lanes are the live lanes that have passed
   pub restart_going :
       (live active live' active' : ℕ) →
       IsPlaneOf (λ i. on live i && is_passed (get_or verdicts i Passed)) active →
@@ -497,7 +497,7 @@ module _ (lanes : ℕ) (verdicts verdicts' : List Verdict)
         begun_stands p planes' words' i h (restarted.started i h e) _ _ _ (has_passed i h e)
         (omega (arith, put_there 0 lanes t begins begins' begins_are i h e))
 
-    -- and each other lane for what it stood for
+    -- any other lane stands for the trace it stood for
     pub restart_others :
         (i : ℕ) (X : Inputs) → i < 64 → on lanes i ≡ false →
         StandsIn p (lane_at planes words i) (get_or verdicts i Passed) (on active i)

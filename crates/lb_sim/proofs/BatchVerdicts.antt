@@ -1,16 +1,17 @@
--- The verdict of the flat program on a recorded trace is that of each program that it stands for.
+-- The verdict of the flat program on a recorded trace is that of each program with this flat
+-- program.
 use Rattle.std.proofs.Common.{◌≡◌, ℕ, ◌<◌, [], length}
 use Rattle.lb_check.specs.declared.verdict.Verdict.{Verdict}
 use Rattle.lb_flat.specs.Fitting.{IsFitting}
 use Rattle.lb_flat.specs.Flat.{FlatClock}
-use Rattle.lb_flat.specs.FurtherKinds.{kind_among}
+use Rattle.lb_flat.specs.TemporaryKinds.{kind_among}
 use Rattle.lb_flat.specs.Inputs.{inputs_of}
 use Rattle.lb_flat.specs.Judging.{FlatProgram, flat_verdict}
 use Rattle.lb_flat.specs.Run.{Ready}
 use Rattle.lb_traces.specs.Traces.{Recording, IsRecording}
-use Rattle.lb_flat.proofs.RecordedInputs.{trace_given}
-use Rattle.lb_flat.proofs.RightVerdicts.{right_where_fitting}
-use Rattle.lb_flat.proofs.StandingRuns.{standing_determined, standing_recorded}
+use Rattle.lb_flat.proofs.runs.RecordedInputs.{trace_given}
+use Rattle.lb_flat.proofs.runs.RightVerdicts.{right_where_fitting}
+use Rattle.lb_flat.proofs.solutions.StandingRuns.{standing_determined, standing_recorded}
 use Rattle.lb_flat.specs.Correct.{IsVerdictOf}
 
 pub verdict_of :

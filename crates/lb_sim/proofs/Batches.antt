@@ -1,4 +1,4 @@
--- The traces of a batch, each to its end or to its verdict.
+-- The traces of a batch, each run to its end or to its verdict.
 use Rattle.std.proofs.Common.{◌≡◌, ◌≢◌, ℕ, suc, ◌+◌, ◌<◌, ◌≤◌, ◌&&◌, Bool, true, false, List}
 use Rattle.std.proofs.Common.{[], ◌∷◌, ◌++◌, length, get_or, take, drop, refl, sym, ap, ◌∙◌}
 use Rattle.std.proofs.Common.{arith, ◌⊎◌, inl, inr}
@@ -16,7 +16,7 @@ use Rattle.lb_flat.specs.Run.{Row, run}
 use Rattle.lb_sim.proofs.RunMemories.{run_appended}
 use Rattle.lb_sim.specs.BatchLanes.{IsAt}
 
--- ## A verdict that has been found stays
+-- ## A verdict other than `Passed` stays
 
 judged_found : (f : FlatProgram) (t : ℕ) (rows more : List Row) → rows_judged f t rows ≢ Passed →
     rows_judged f t (rows ++ more) ≡ rows_judged f t rows
@@ -48,7 +48,7 @@ judged_found f t (row ∷ rows) more found =
         ap (λ w. or_later w (rows_judged f (suc t) (rows ++ more))) (sym e)
         ∙ ap (λ w. or_later w (rows_judged f (suc t) rows)) e
 
--- the verdict of the first instants is that of the trace, where they decide
+-- the verdict of the first `n` instants is that of the trace, where it is not `Passed`
 pub verdict_found : (f : FlatProgram) (X : Inputs) (n : ℕ) → flat_verdict f (take n X) ≢ Passed →
     flat_verdict f X ≡ flat_verdict f (take n X)
 verdict_found f X n found =
@@ -59,9 +59,9 @@ verdict_found f X n found =
     ∙ ap (rows_judged f 0) (run_appended f.size front rest f.equations)
     ∙ judged_found f 0 (run f.size f.equations front) (run f.size after rest) found
 
--- ## How far a trace has been run
+-- ## The progress of a trace
 
--- one instant of it more
+-- the first `n` instants of a trace with instant `n` are its first `n + 1` instants
 pub one_more : (X : Inputs) (n t : ℕ) → n ≡ t → t < length X →
     take n X ++ get_or X t [] ∷ [] ≡ take (t + 1) X
 one_more X n t e lt =
@@ -71,12 +71,12 @@ not_second : (a b : Bool) → a ≡ true → (a && b) ≡ false → b ≡ false
 not_second true b is e = e
 not_second false b is e = absurd (true≢false (sym is))
 
--- where a lane has an instant, it is there, and is active
+-- a live lane is active, and its trace goes on
 pub moves_on : (active running live : Bool) → live ≡ (active && running) → live ≡ true →
     (active ≡ true) × (running ≡ true)
 moves_on active running live is e = and_parts active running (sym is ∙ e)
 
--- a lane that had the instant
+-- `IsAt` after an instant, for a lane that had it
 pub at_next : (v : Verdict) (active passed : Bool) (as_long t : ℕ) → t < as_long →
     active ≡ passed → (passed ≡ false → v ≢ Passed) → IsAt v active as_long (t + 1) (t + 1)
 at_next v active passed as_long t lt is found = record {
@@ -85,7 +85,7 @@ at_next v active passed as_long t lt is found = record {
   ended = λ e. inr (found (sym is ∙ e));
 }
 
--- a lane that did not have it
+-- `IsAt` after an instant, for a lane that did not have it
 pub at_end : (v v' : Verdict) (active running live active' : Bool) (as_long n t : ℕ) →
     IsAt v active as_long n t → live ≡ (active && running) → live ≡ false →
     running ≡ nat_lt t as_long → active' ≡ false → (v ≢ Passed → v' ≡ v) →

@@ -1,4 +1,4 @@
--- Planes that are in some lanes as another is.
+-- Planes that equal one plane in some lanes.
 use Rattle.std.proofs.Common.{◌≡◌, ◌<◌, ◌≤◌, ◌+◌, ℕ, Bool, true, false, ◌&&◌, ◌||◌, List, get_or}
 use Rattle.std.proofs.Common.{length, All, refl, sym, ap, ◌∙◌, subst, arith, below_more}
 use Rattle.std.proofs.lemmas.Bool.{true≢false}
@@ -18,7 +18,7 @@ neither : (a b : Bool) → (a || b) ≡ false → (a ≡ false) × (b ≡ false)
 neither true b e = absurd (true≢false e)
 neither false b e = (refl, e)
 
--- the first n of some planes are as one is, outside the lanes of another
+-- the first `n` of some planes equal the plane `one`, outside the lanes of `other`
 pub record AreAs (planes : List ℕ) (each : List PlaneId) (one other n : ℕ) : Type 0 where
   pub as_one :
       (k i : ℕ) (d : PlaneId) → k < n → i < 64 → on other i ≡ false →
@@ -28,7 +28,7 @@ module _ (planes : List ℕ) (each : List PlaneId) (one : ℕ) where
   pub none_as : AreAs planes each one 0 0
   none_as = record { as_one = λ k i d lt. absurd (omega (arith, lt)) }
 
-  -- and one more
+  -- one more of the planes is compared
   pub as_more :
       (other other' x n : ℕ) (d : PlaneId) → AreAs planes each one other n → n < length each →
       IsPlaneOf (λ i. differ (on (slice_index planes (get_or each n d).0) i) (on one i)) x →
@@ -43,7 +43,7 @@ module _ (planes : List ℕ) (each : List PlaneId) (one : ℕ) where
         k l;
   }
 
-  -- all of them are so in lanes of which the other plane has none
+  -- all planes equal `one` in `lanes`, if `other` has none of these lanes
   pub all_as :
       (other lanes w n : ℕ) → AreAs planes each one other n → length each ≤ n →
       IsPlaneOf (λ i. on other i && on lanes i) w → w ≡ 0 → (i : ℕ) → i < 64 →

@@ -30,7 +30,7 @@ abbrev height : FlatClock → ℕ
 height Always = 0
 height (Where k i sign) = suc (height k)
 
--- how high a clock of a table is
+-- the height of a clock of a table
 abbrev pub height_of : List Clock → Option ClockId → ℕ
 height_of clocks k = height (clock_of clocks k)
 
@@ -39,7 +39,7 @@ base_within clocks zero = refl
 base_within clocks (suc n) = refl
 
 module _ (clocks : List Clock) (known : List (Option PlaneId)) (id : ClockId) (t : Clock) where
-  -- one clock more on a way
+  -- a way to `id`, followed by `id`, is a way to its parent
   pub way_more :
       (clock : Option ClockId) (way : List ClockId) → IsWay clocks known clock way (Some id) →
       get_or known id.0 None ≡ None → slice_get clocks id.0 ≡ Some t →
@@ -58,7 +58,8 @@ pub record IsHighest (clocks : List Clock) (known : List (Option PlaneId)) (id :
 
 module _ (clocks : List Clock) (known : List (Option PlaneId)) (id : ClockId)
     (above : Option ClockId) where
-  -- one clock fewer
+  -- a way without its last clock `id` is a way to `id`, which is the highest clock of the longer
+  -- way
   pub way_fewer :
       (clock : Option ClockId) (way : List ClockId) →
       IsWay clocks known clock (way ++ id ∷ []) above →
@@ -81,7 +82,7 @@ module _ (clocks : List Clock) (whole : AreWhole clocks) where
       height_of clocks (Some k) ≡ suc (height_of clocks t.parent)
   one_higher k t at = ap height (whole k t at)
 
-  -- the clock above another one is less high
+  -- the parent of a clock has a lower height
   pub lower :
       (clock : Option ClockId) (k : ClockId) (t : Clock) → clock ≡ Some k →
       slice_get clocks k.0 ≡ Some t → height_of clocks t.parent < height_of clocks clock
@@ -100,7 +101,7 @@ module _ (clocks : List Clock) (whole : AreWhole clocks) where
         let less = lower clock k h.2.0 h.0 h.2.1.0 in
         omega (arith, rest, less)
 
-    -- a clock reads what each clock above it on a way reads
+    -- a clock reads each element that a clock above it on a way reads
     pub way_reads : (clock : Option ClockId) (way : List ClockId) (above : Option ClockId) →
         IsWay clocks known clock way above → IsReadBy clocks clock above
     way_reads clock [] above h e i =
@@ -111,7 +112,7 @@ module _ (clocks : List Clock) (whole : AreWhole clocks) where
         subst (λ c. In e (clock_reads (clock_of clocks c))) (sym h.0)
         (subst (λ c. In e (clock_reads c)) (sym (whole k t h.2.1.0)) (inr further))
 
-    -- the clocks on a way are not known still, where the one above them is
+    -- the other clocks on a way stay unknown once the clock `id` above them is known
     way_stays : (id : ClockId) (p : PlaneId) (clock : Option ClockId) (way : List ClockId) →
         IsWay clocks known clock way (Some id) →
         IsWay clocks (set known id.0 (Some p)) clock way (Some id)
@@ -131,7 +132,7 @@ module _ (clocks : List Clock) (whole : AreWhole clocks) where
 
 -- ## Down a way
 
--- the clocks above those of a way are known, with the plane of the next one above it
+-- the clocks above those of a way are known, and `plane` is that of the next clock above the way
 pub record IsDescending (before code : Code) (places : List Place) (clocks : List Clock)
     (clock : Option ClockId) (old known : List (Option PlaneId)) (way : List ClockId)
     (plane : PlaneId) : Type 0 where
@@ -187,7 +188,7 @@ module _ (before code : Code) (places : List Place) (clocks : List Clock)
         way_fewer clocks known id h.above clock less
         (subst (λ w. IsWay clocks known clock w h.above) is h.leads)
 
-    -- the highest one is in the table, and is not known
+    -- the highest clock of a way is in the table, and is not known
     pub highest_within : id.0 < length clocks
     highest_within = slice_get_within clocks id.0 parted.1.row parted.1.there
 
@@ -197,7 +198,7 @@ module _ (before code : Code) (places : List Place) (clocks : List Clock)
         unknown_set known id.0 plane (omega (arith, highest_within, many, h.as_many))
         parted.1.unknown
 
-    -- it becomes known
+    -- the highest clock of a way becomes known
     pub descending_next :
         AreWhole clocks → AreClocks (length places) clocks → length old ≡ length clocks →
         (t : Clock) (p : Place) (code' : Code) (plane' : PlaneId) →

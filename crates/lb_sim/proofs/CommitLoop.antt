@@ -8,9 +8,9 @@ use Rattle.lb_syntax.specs.Lists.{Every}
 use Rattle.lb_check.specs.Verdicts.{is_bad}
 use Rattle.lb_flat.specs.Fitting.{KindFits}
 use Rattle.lb_flat.specs.Flat.{FlatEquation}
-use Rattle.lb_flat.specs.FurtherKinds.{kind_among}
+use Rattle.lb_flat.specs.TemporaryKinds.{kind_among}
 use Rattle.lb_flat.specs.Judging.{FlatProgram, some_in, named_elements}
-use Rattle.lb_flat.proofs.Lists.{Every-append, Every-drop}
+use Rattle.lb_flat.proofs.lists.Lists.{Every-append, Every-drop}
 use Rattle.lb_machine.specs.Correct.{IsGrown}
 use Rattle.lb_machine.specs.Listed.{listed}
 use Rattle.lb_machine.specs.Meaning.{Lane, HasRun}
@@ -30,7 +30,7 @@ use Rattle.lb_sim.proofs.Growth.{grown_none, grown_then}
 use Rattle.lb_sim.proofs.TakenPlaces.{taken_all, taken_row, carried_before, carried_here}
 use Rattle.lb_sim.proofs.TakenPlaces.{IsHandedOver, memory_moves, next_grown}
 
--- places that the code has of its own
+-- the planes, and the words, that the code writes
 abbrev pub IsOwnPlane : Code → PlaneId → Type 0
 IsOwnPlane code p = (code.first_plane ≤ p.0) × (p.0 < code.planes)
 
@@ -128,7 +128,7 @@ module _ (code : Code) (home next : Holding) (mp mw : ℕ) (P P' : List PlaneId)
         first_words = over.first_words;
       }
 
-      -- and so is it
+      -- the memory itself is carried over
       pub handed : IsHandedOver s s' home next
       handed = record {
         value =

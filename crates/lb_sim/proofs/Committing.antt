@@ -1,4 +1,4 @@
--- How the memories of a lane move on by an instant.
+-- The move of the memories of a lane by an instant.
 use Rattle.std.proofs.Common.{◌≡◌, ◌<◌, ℕ, Bool, true, false, ◌||◌, Some, List, []}
 use Rattle.std.proofs.Common.{◌∷◌}
 use Rattle.std.proofs.Common.{map, length, cond, refl, sym, ap, ap₂, ◌∙◌, subst, inl, inr}
@@ -48,7 +48,7 @@ module _ (s s' : Lane) (places : List Place) where
       newest_held m (scalar_at s (holding_of places a)) (present_at s places a)
       ∙ ap (newest m) (sym (cell_is s places a lt))
 
-  -- the operation with the new memory is the one that the row brings on
+  -- the operation with the new memory is the one that the row leads to
   pub memory_moved :
       (h : Holding) (o : Operation) → IsKeptIn places o → IsMoved s s' places h o →
       with_memory s' h o ≡ remembered (row_at s places) (with_memory s h o)
@@ -68,7 +68,7 @@ module _ (s s' : Lane) (places : List Place) where
   memory_moved h (Latest v a) k e = ap (λ m. Latest m a) (e ∙ newest_is a k (scalar_at s h))
   memory_moved h (Sample a) k e = refl
 
-  -- the same of each equation
+  -- each equation with its new memory is the one that the row leads to
   pub all_moved :
       (kept : List Holding) (Q : List FlatEquation) →
       Every (λ q. IsKeptIn places q.operation) Q →
@@ -82,7 +82,7 @@ module _ (s s' : Lane) (places : List Place) where
 
 -- ## What is carried over
 
--- a holding shows in one lane what another shows in another
+-- `h` shows in lane `s'` what `g` shows in lane `s`
 pub carried_holding :
     (s s' : Lane) (h g : Holding) → value_at s' h.value ≡ value_at s g.value →
     s'.bits h.nil.0 ≡ s.bits g.nil.0 → s'.bits h.bad.0 ≡ s.bits g.bad.0 →
@@ -95,7 +95,7 @@ not_bad_cases : (b n : Bool) (v : Scalar) → is_bad (Some (Some (shown b n v)))
 not_bad_cases true n v e = absurd (true≢false e)
 not_bad_cases false n v e = refl
 
--- what is no fault has no bit in the plane of faults
+-- a scalar that is no fault has no bit in the plane of faults
 pub not_bad : (s : Lane) (g : Holding) → is_bad (Some (Some (scalar_at s g))) ≡ false →
     s.bits g.bad.0 ≡ false
 not_bad s g e = not_bad_cases (s.bits g.bad.0) (s.bits g.nil.0) (value_at s g.value) e
@@ -107,14 +107,14 @@ sound_value s false (Truth p) = refl
 sound_value s false (Negated p) = refl
 sound_value s false (Number w) = refl
 
--- a holding with no bit there is no fault
+-- a holding with no bit in the plane of faults is no fault
 pub sound_holding : (s : Lane) (h : Holding) → s.bits h.bad.0 ≡ false →
     is_bad (Some (Some (scalar_at s h))) ≡ false
 sound_holding s h e =
     ap (λ b. is_bad (Some (Some (shown b (s.bits h.nil.0) (value_at s h.value))))) e
     ∙ sound_value s (s.bits h.nil.0) h.value
 
--- an element of which no fault shows: where it is present, it is none
+-- the cell of an element is no fault, if no element of a list shows one
 none_bad : (row : Row) (is : List ℕ) → some_in is_bad row is ≡ false → (a : ℕ) → In a is →
     is_bad (Some (cell row a)) ≡ false
 none_bad row [] e a i = absurd i
@@ -129,7 +129,7 @@ kept_sound : (b : Bool) (v m : Scalar) → is_bad (Some (held v b)) ≡ false �
 kept_sound true v m e f = e
 kept_sound false v m e f = f
 
--- so the memory of a named element, with no plane of faults, takes over all that its operand shows
+-- the memory of a named element, without a plane of faults, takes over all that its operand shows
 pub named_moved :
     (s s' : Lane) (places : List Place) (named : List ℕ) (a : ℕ) (h g : Holding) →
     a < length places → some_in is_bad (row_at s places) named ≡ false → In a named →

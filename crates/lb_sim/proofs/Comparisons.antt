@@ -1,4 +1,4 @@
--- Which operators compare integers.
+-- The operators that compare integers.
 use Rattle.std.proofs.Common.{◌≡◌, ◌≢◌, Some, refl}
 use Rattle.lb_syntax.specs.declared.tree.BinaryOperator.{BinaryOperator}
 use Rattle.lb_syntax.specs.declared.tree.BinaryOperator.TheVariants.{Or, Xor, And, Implies, Equal}
@@ -8,7 +8,7 @@ use Rattle.lb_syntax.specs.declared.tree.BinaryOperator.TheVariants.{Divide, Mod
 use Rattle.lb_syntax.specs.declared.tree.Kind.TheVariants.{Bool as Bool_kind}
 use Rattle.lb_flat.specs.Fitting.{integers_kind}
 
--- no operator but these gives a truth value of two integers
+-- no other operator gives a truth value of two integers
 pub not_compared :
     (op : BinaryOperator) → op ≢ Equal → op ≢ Unequal → op ≢ Less → op ≢ AtMost → op ≢ Greater →
     op ≢ AtLeast → integers_kind op ≡ Some Bool_kind → ⊥

@@ -1,5 +1,5 @@
--- The loop over equations in order: each gets its place, and what was shown of those before it is
--- shown still.
+-- The loop over equations in order: each gets its place, and the equations before it still show
+-- their elements.
 use Rattle.std.proofs.Common.{◌≡◌, ◌≢◌, ℕ, ◌+◌, ◌<◌, ◌≤◌, List, [], ◌∷◌, ◌++◌, length, get_or, set}
 use Rattle.std.proofs.Common.{take}
 use Rattle.std.proofs.Common.{drop, refl, sym, ap, ◌∙◌, subst, inl, inr, add-one, length-set}
@@ -10,7 +10,7 @@ use Rattle.lb_syntax.specs.Lists.{Every, In}
 use Rattle.lb_check.specs.Scalars.{Scalar}
 use Rattle.lb_flat.specs.Flat.{FlatEquation}
 use Rattle.lb_flat.specs.Run.{IsNext, Ready, is_now, reads, clock_reads, equation_reads}
-use Rattle.lb_flat.proofs.Lists.{Every-append, Every-first, Every-second}
+use Rattle.lb_flat.proofs.lists.Lists.{Every-append, Every-first, Every-second}
 use Rattle.lb_machine.specs.Correct.{IsGrown}
 use Rattle.lb_machine.specs.Listed.{listed}
 use Rattle.lb_machine.specs.Meaning.{Lane, HasRun}
@@ -23,8 +23,8 @@ use Rattle.lb_sim.specs.declared.place.Place.{Place}
 use Rattle.lb_sim.specs.declared.place.Value.{Value}
 use Rattle.lb_sim.proofs.Emitting.{stays_shown, set_shown, apart_from}
 
--- an equation that has its place: what it reads and gives is done, and it shows its element, where
--- it is one that is wanted
+-- an equation that has its place: the elements that it reads and gives are done, and it shows its
+-- element, if it is wanted
 pub record IsEmitted (wanted : FlatEquation → Type 0) (given : List Scalar) (s : Lane)
     (places : List Place) (kept : List Holding) (done : List ℕ) (q : FlatEquation) : Type 0 where
   pub gives : In q.element done
@@ -37,7 +37,7 @@ module _ (wanted : FlatEquation → Type 0) (given : List Scalar) (s : Lane) (pl
   more_done [] h = tt
   more_done (i ∷ is) h = (inr h.0, more_done is h.1)
 
-  -- another element gets its place
+  -- an emitted equation stays emitted when another element gets its place
   pub stays_emitted : (q : FlatEquation) → IsEmitted wanted given s places kept done q →
       IsEmitted wanted given s (set places e p) kept (e ∷ done) q
   stays_emitted q h =
@@ -59,7 +59,7 @@ module _ (wanted : FlatEquation → Type 0) (given : List Scalar) (s : Lane) (pl
   all_stay [] h = tt
   all_stay (q ∷ Q) h = (stays_emitted q h.0, all_stay Q h.1)
 
-  -- the element of an equation gets its place
+  -- an equation is emitted when its element gets its place
   pub newly_emitted :
       (size : ℕ) (q : FlatEquation) → q.element ≡ e → e < length places → IsNext size done q →
       (wanted q →
@@ -80,7 +80,7 @@ module _ (wanted : FlatEquation → Type 0) (given : List Scalar) (s : Lane) (pl
 
 -- ## The loop
 
--- the first i equations have their places
+-- the first `i` equations have their places
 pub record IsCompiling (wanted : Lane → FlatEquation → Type 0) (size : ℕ) (Q : List FlatEquation)
     (code : Code) (inputs : List Value) (places : List Place) (kept : List Holding)
     (done : List ℕ) (i : ℕ) : Type 0 where
@@ -149,7 +149,7 @@ module _ (wanted : Lane → FlatEquation → Type 0) (size : ℕ) (Q : List Flat
   all_shown law given s [] x w = tt
   all_shown law given s (p ∷ P) x w = (x.0.shown w.0, all_shown law given s P x.1 w.1)
 
-  -- at the end each equation that is wanted shows its element
+  -- at the end each wanted equation shows its element
   pub ends :
       length Q ≤ i → (s : Lane) → HasRun (listed code.instructions) s → Every (wanted s) Q →
       Every (IsShownBy (given_at s inputs) s places kept) Q
@@ -158,7 +158,7 @@ module _ (wanted : Lane → FlatEquation → Type 0) (size : ℕ) (Q : List Flat
       (subst (Every (IsEmitted (wanted s) (given_at s inputs) s places kept done))
       (take_all i Q le) (h.emitted s r)) w
 
-  -- and all elements are done
+  -- at the end all elements are done
   pub all_done : length Q ≤ i → (e : ℕ) → e < size → In e done
   all_done le e lt =
       subst (Ready size done) (drop_of_length-le Q le) h.ready e lt

@@ -11,7 +11,7 @@ use Rattle.lb_sim.specs.Watching.{AreWatched, verdict_by, lane_judged}
 use Rattle.lb_sim.specs.declared.place.Place.{Place}
 use Rattle.lb_sim.specs.declared.place.Watched.{Watched}
 
--- the verdict
+-- the verdict by the watched planes is the verdict by the row
 pub decides :
     (code : Code) (f : FlatProgram) (places : List Place) (w : Watched) (t : ℕ) (s : Lane) →
     AreWatched code f places w → HasRun (listed code.instructions) s →

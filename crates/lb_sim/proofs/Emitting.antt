@@ -1,5 +1,4 @@
--- What was shown of equations is shown still when an element that none of them reads or gives gets
--- its place.
+-- An equation still shows its element when another element, which it does not read, gets its place.
 use Rattle.std.proofs.Common.{◌≡◌, ◌≢◌, ℕ, ◌<◌, ◌&&◌, None, List, [], ◌∷◌, set, length, get_or}
 use Rattle.std.proofs.Common.{cond, refl, sym, ap, ap₂, ◌∙◌, subst}
 use Rattle.std.proofs.lemmas.List.{get_or-set_same, get_or-set_other, map-set}
@@ -22,7 +21,7 @@ module _ (given : List Scalar) (s : Lane) (places : List Place) (e : ℕ) (p : P
   abbrev after : List Place
   after = set places e p
 
-  -- another element holds what it held, where it did
+  -- any other element has the place that it had
   place_stays : (a : ℕ) → a ≢ e → get_or after a no_place ≡ get_or places a no_place
   place_stays a ne = get_or-set_other places e a p no_place ne
 
@@ -38,7 +37,7 @@ module _ (given : List Scalar) (s : Lane) (places : List Place) (e : ℕ) (p : P
       ap (λ row. cell row a) (map-set (cell_at s) places e p)
       ∙ get_or-set_other (row_at s places) e a (cell_at s p) None ne
 
-  -- and a clock that does not read it has its instants
+  -- a clock that does not read the element ticks as before
   pub now_stays : (k : FlatClock) → Every (λ a. a ≢ e) (clock_reads k) →
       is_now (row_at s after) k ≡ is_now (row_at s places) k
   now_stays Always h = refl
@@ -72,7 +71,7 @@ module _ (given : List Scalar) (s : Lane) (places : List Place) (e : ℕ) (p : P
       ∙ sym (ap₂ (λ b x. cond b x (scalar_at s kept)) (present_stays a h.0) (scalar_stays a h.0))
   shown_stays kept (Sample a) v w same h d = same ∙ d ∙ sym (scalar_stays a h.0)
 
-  -- an equation that neither gives nor reads the element
+  -- an equation that neither gives nor reads the element shows its own element still
   pub stays_shown :
       (kept : List Holding) (q : FlatEquation) → q.element ≢ e →
       Every (λ a. a ≢ e) (reads q.operation) → Every (λ a. a ≢ e) (clock_reads q.clock) →
@@ -86,7 +85,7 @@ module _ (given : List Scalar) (s : Lane) (places : List Place) (e : ℕ) (p : P
         (scalar_stays q.element ne) r h.scalar;
   }
 
-  -- the element itself
+  -- the equation of the element shows it
   pub set_shown :
       (kept : List Holding) (q : FlatEquation) → q.element ≡ e → e < length places →
       Every (λ a. a ≢ e) (reads q.operation) → Every (λ a. a ≢ e) (clock_reads q.clock) →
@@ -105,7 +104,7 @@ module _ (given : List Scalar) (s : Lane) (places : List Place) (e : ℕ) (p : P
             (ap (λ (x : Place). scalar_at s x.holding) here) r scalar;
       }
 
--- what is done is apart from what is not
+-- an element that is not done differs from each element that is done
 pub apart_from : (e : ℕ) (done is : List ℕ) → (In e done → ⊥) → Every (λ i. In i done) is →
     Every (λ i. i ≢ e) is
 apart_from e done [] new h = tt

@@ -1,4 +1,4 @@
--- An equation of a program at its place, what is in range there, and its memory.
+-- An equation of a program at its place, the ranges of its elements, and its memory.
 use Rattle.std.proofs.Common.{◌≡◌, ℕ, zero, suc, ◌<◌, ◌≤◌, List, [], ◌∷◌, get_or, length, All}
 use Rattle.std.proofs.Common.{sym, ap, ◌∙◌, subst, arith}
 use Rattle.std.proofs.lemmas.List.{get_or_default}
@@ -11,7 +11,7 @@ use Rattle.lb_flat.specs.declared.equation.Operation as code
 use Rattle.lb_flat.specs.declared.equation.Operation.TheVariants as variants
 use Rattle.lb_flat.specs.declared.program.FlatProgram as code_programs
 use Rattle.lb_flat.specs.Flat.{FlatEquation}
-use Rattle.lb_flat.specs.FurtherKinds.{kind_among}
+use Rattle.lb_flat.specs.TemporaryKinds.{kind_among}
 use Rattle.lb_flat.specs.Judging.{FlatProgram}
 use Rattle.lb_flat.specs.Programs.{flat_equations, IsInRange}
 use Rattle.lb_flat.specs.Run.{reads, keeps}
@@ -57,7 +57,7 @@ module _ (p : code_programs.FlatProgram) (range : IsInRange p) (i : ℕ) (x : Eq
     pub element_there : x.element.0 < p.size
     element_there = (within_there lt e).element
 
-    -- operands of memories are elements
+    -- the operands of memories are elements
     pub operands_there : (places : List Place) → length places ≡ p.size →
         IsKeptIn places (operation_of x.operation)
     operands_there places long =
@@ -84,7 +84,7 @@ module _ (p : code_programs.FlatProgram) (range : IsInRange p) (i : ℕ) (x : Eq
       ∙ get_or_default p.kinds.items x.element.0 kind Int_kind
       (omega (arith, element_there lt e, range.kinds))
 
--- ## Its memory
+-- ## The memory of an equation
 
 pub home_there :
     (kept : List Holding) (e : ℕ) (home : Holding) (size : ℕ) → length kept ≡ size → e < size →

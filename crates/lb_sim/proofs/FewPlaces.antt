@@ -1,4 +1,4 @@
--- Few planes and words are there before the code: those of inputs and memories are counted.
+-- A bound on the planes and words before the code: those of inputs and of memories are counted.
 use Rattle.std.proofs.Common.{◌≡◌, ℕ, zero, suc, ◌+◌, ◌*◌, ◌<◌, ◌≤◌, Bool, true, false, List, []}
 use Rattle.std.proofs.Common.{◌∷◌, length, take, set, replicate, refl, ap, ◌∙◌, arith, length-set}
 use Rattle.std.proofs.Common.{inl, inr}
@@ -14,7 +14,7 @@ use Rattle.lb_flat.specs.Programs.{flat_equations, program_of}
 use Rattle.lb_flat.specs.Run.{Ready}
 use Rattle.lb_flat.specs.Values.{equation_of}
 use Rattle.lb_flat.specs.declared.program.FlatProgram as code
-use Rattle.lb_flat.proofs.InOrder.{AreMarks, marks_more, ready_of, unmarked}
+use Rattle.lb_flat.proofs.ordering.InOrder.{AreMarks, marks_more, ready_of, unmarked}
 use Rattle.lb_sim.specs.Homes.{IsRow, plane_row, word_row}
 use Rattle.lb_sim.specs.InputRows.{truth_columns, number_columns}
 use Rattle.lb_sim.specs.Layouts.{AreAllotted}
@@ -43,7 +43,7 @@ word_row_long :
 word_row_long kept [] = refl
 word_row_long kept (q ∷ Q) = omega (arith, word_row_long kept Q)
 
--- the memories of the first equations take three planes each, or fewer, and a word
+-- the memories of the first `i` equations take at most three planes each
 pub planes_few :
     (kept : List Holding) (Q : List FlatEquation) (i first end : ℕ) →
     IsRow first (plane_row kept (take i Q)) end → end ≤ first + 3 * i
@@ -62,7 +62,7 @@ words_few kept Q i first end row =
     let few = take_short i Q in
     omega (arith, short, long, few)
 
--- and so do those of all
+-- the memories of all equations take at most three planes each
 pub all_planes_few : (kept : List Holding) (Q : List FlatEquation) (first end : ℕ) →
     IsRow first (plane_row kept Q) end → end ≤ first + 3 * length Q
 all_planes_few kept Q first end row =
@@ -105,7 +105,7 @@ first_numbers_few kinds i =
 
 -- ## Equations
 
--- a mark more leaves one fewer
+-- one more mark leaves one element fewer without a mark
 left_set :
     (done : List Bool) (e : ℕ) → e < length done → is_done done e ≡ false →
     suc (left (set done e true)) ≡ left done
@@ -150,7 +150,7 @@ equations_few size Q ready =
     let all = left_all size in
     omega (arith, few, all)
 
--- a program has no more equations than its elements may be
+-- a program has at most as many equations as elements are allowed
 pub program_few :
     (p : code.FlatProgram) → IsBounded p →
     Ready p.size [] (flat_equations p.clocks.items p.equations.items) →

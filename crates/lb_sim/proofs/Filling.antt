@@ -1,5 +1,5 @@
--- A table that gets a holding for each element, equation by equation: what is said of those before
--- is so still.
+-- A table that gets a holding for each element, equation by equation: the laws of earlier holdings
+-- still hold.
 use Rattle.std.proofs.Common.{◌≡◌, ◌≢◌, ℕ, ◌+◌, ◌<◌, ◌≤◌, List, [], ◌∷◌, ◌++◌, length, get_or, set}
 use Rattle.std.proofs.Common.{take, drop, refl, sym, ap, ◌∙◌, subst, inl, inr, add-one, length-set}
 use Rattle.std.proofs.Common.{take_all, take-suc}
@@ -8,14 +8,14 @@ use Rattle.std.proofs.lemmas.List.{get_or-set_same}
 use Rattle.lb_syntax.specs.Lists.{Every, In}
 use Rattle.lb_flat.specs.Flat.{FlatEquation}
 use Rattle.lb_flat.specs.Run.{IsNext, Ready}
-use Rattle.lb_flat.proofs.Lists.{Every-append}
+use Rattle.lb_flat.proofs.lists.Lists.{Every-append}
 use Rattle.lb_sim.specs.Homes.{IsRow, plane_in, word_in, plane_row, word_row}
 use Rattle.lb_sim.specs.States.{kept_at, no_holding}
 use Rattle.lb_sim.specs.declared.place.Holding.{Holding}
 use Rattle.lb_sim.proofs.HomeRows.{row_append, planes_push, words_push, planes_stay, words_stay}
 use Rattle.lb_sim.proofs.HomeRows.{kept_stays}
 
--- the elements of the first i equations have their holdings
+-- the elements of the first `i` equations have their holdings
 pub record IsFilling (size : ℕ) (Q : List FlatEquation) (table : List Holding) (i : ℕ) :
     Type 0 where
   pub done : List ℕ
@@ -61,7 +61,7 @@ module _ (size : ℕ) (Q : List FlatEquation) (table : List Holding) (i : ℕ)
     pub apart : Every (λ (r : FlatEquation). r.element ≢ q.element) (take i Q)
     apart = all_apart h.done q.element parts.0.is_new (take i Q) h.gives
 
-    -- the element is one of the table
+    -- the element has a place in the table
     pub element_there : q.element < length table
     element_there = subst (λ n. q.element < n) (sym h.as_long) parts.0.is_element
 
@@ -83,7 +83,7 @@ module _ (size : ℕ) (Q : List FlatEquation) (table : List Holding) (i : ℕ)
             (q ∷ []) (all_given h.done q.element (take i Q) h.gives) (inl refl, tt));
       }
 
-      -- a law of each holding
+      -- a law of each earlier holding still holds
       module _ (law law' : Holding → FlatEquation → Type 0)
           (stays : (x : Holding) (r : FlatEquation) → law x r → law' x r) where
         all_stay : (P : List FlatEquation) → Every (λ (r : FlatEquation). r.element ≢ q.element) P →
@@ -105,7 +105,7 @@ module _ (size : ℕ) (Q : List FlatEquation) (table : List Holding) (i : ℕ)
             (q ∷ []) (all_stay (take i Q) apart w)
             (subst (λ x. law' x q) (sym here) new, tt))
 
-      -- and the rows of their places
+      -- the row of planes with one more memory
       pub planes_more :
           (p m n : ℕ) → IsRow p (plane_row table (take i Q)) m →
           IsRow m (plane_in g.value ∷ g.nil.0 ∷ g.bad.0 ∷ []) n →
@@ -128,7 +128,7 @@ module _ (size : ℕ) (Q : List FlatEquation) (table : List Holding) (i : ℕ)
           (subst (λ ks. IsRow p ks m) (sym (words_stay table q.element g (take i Q) apart)) w)
           (subst (λ (x : Holding). IsRow m (word_in x.value ∷ []) n) (sym here) new))
 
--- at the end this is all of them
+-- at the end the law holds of all equations
 pub all_filled : (law : Holding → FlatEquation → Type 0) (Q : List FlatEquation)
     (table : List Holding) (i : ℕ) → length Q ≤ i →
     Every (λ (r : FlatEquation). law (kept_at table r.element) r) (take i Q) →

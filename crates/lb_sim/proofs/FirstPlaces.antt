@@ -1,4 +1,4 @@
--- What is there before the code: one more plane or word, and what a memory holds at first.
+-- The places before the code: one more plane or word, and what a memory holds at first.
 use Rattle.std.proofs.Common.{◌≡◌, ◌≢◌, ℕ, suc, ◌+◌, ◌<◌, ◌⊎◌, Bool, true, false, not, List, []}
 use Rattle.std.proofs.Common.{◌∷◌, ◌++◌, ℤ, pos, cond, length, refl, sym, ap, ap₂, ◌∙◌, subst, inl}
 use Rattle.std.proofs.Common.{inr, arith}
@@ -49,7 +49,7 @@ zero_kept true items old x is lt e =
     ∙ get_or_append_left old (x ∷ []) (pos 0) 0 lt ∙ e
 zero_kept false items old x is lt e = ap (λ l. slice_index_or l 0 (pos 0)) is ∙ e
 
--- ## More of them
+-- ## More planes and words
 
 pub more_none : (a : Preset) → IsMore a a
 more_none a = record {
@@ -68,7 +68,7 @@ more_then a b c h g = record {
 }
 
 module _ (old new : Preset) where
-  -- what stands at places that were there holds what it held
+  -- a value at places of `old` holds in `new` what it held in `old`
   pub value_more : IsMore old new → (i : ℕ) (x : Value) → plane_in x < length old.planes.items →
       word_in x < length old.words.items →
       value_at (first_lane new i) x ≡ value_at (first_lane old i) x
@@ -174,6 +174,6 @@ module _ (old new : Preset) (kind : Kind) (watched : ℕ → Type 0) where
             ap (λ n. on n i) new.nowhere ∙ on-zero i in
             ap (λ m. FirstThen m a b)
             (ap
-            (λ x. flag_of (shown x x (Boolean (on (slice_index new.planes.items p.0) i)))) nowhere
-            ∙ is i lt);
+            (λ x. flag_of (shown x x (Boolean (on (slice_index new.planes.items p.0) i))))
+            nowhere ∙ is i lt);
       }

@@ -1,4 +1,4 @@
--- Code that grows more than once, and what was there before.
+-- Code that grows more than once, and its earlier places.
 use Rattle.std.proofs.Common.{refl, ◌∙◌, arith}
 use Rattle.lb_machine.specs.Correct.{IsGrown}
 use Rattle.lb_machine.specs.declared.code.Code.{Code}
@@ -26,7 +26,7 @@ grown_then a b c g h = record {
   runs = λ s r. g.runs s (h.runs s r);
 }
 
--- a place of the code is one still
+-- a value in the code is in the code still when it has grown
 pub value_grown : (a b : Code) (v : Value) → IsGrown a b → IsValueIn a v → IsValueIn b v
 value_grown a b (Truth p) g h = omega (arith, h, g.planes)
 value_grown a b (Negated p) g h = omega (arith, h, g.planes)

@@ -1,4 +1,4 @@
--- Places that stand side by side: rows of them, one after the other, and the memories of a program.
+-- Rows of places that stand side by side, and the memories of a program.
 use Rattle.std.proofs.Common.{◌≡◌, ◌≢◌, ℕ, suc, ◌<◌, ◌≤◌, List, [], ◌∷◌, ◌++◌, refl, sym}
 use Rattle.std.proofs.Common.{ap, ap₂, subst, inl, inr, set, arith}
 use Rattle.std.proofs.lemmas.List.{get_or-set_other}
@@ -21,7 +21,7 @@ row_grows p m [] h = omega (arith, h)
 row_grows p m (x ∷ xs) (inl h) = row_grows p m xs h.1
 row_grows p m (x ∷ xs) (inr h) = omega (arith, row_grows (suc p) m xs h.1)
 
--- each place of a row is none, or one of those that it takes
+-- each place of a row is 0, or one of the places that the row takes
 pub row_homes : (p m : ℕ) (xs : List ℕ) → IsRow p xs m → Every (IsHomeAt p m) xs
 row_homes p m [] h = tt
 row_homes p m (x ∷ xs) (inl h) = (inl h.0, row_homes p m xs h.1)
@@ -38,7 +38,7 @@ row_homes p m (x ∷ xs) (inr h) =
     wider [] g = tt
     wider (y ∷ ys) g = (wide y g.0, wider ys g.1)
 
--- a place that is none leaves the row as it was, and another is its first
+-- a row without its first place: 0 takes no place, and any other is the first that the row takes
 pub row_passes : (p n k : ℕ) (ks : List ℕ) → 0 < p → k ≡ 0 → IsRow p (k ∷ ks) n → IsRow p ks n
 row_passes p n k ks lt e (inl h) = h.1
 row_passes p n k ks lt e (inr h) = absurd (omega (arith, lt, e, h.0))
@@ -48,7 +48,7 @@ pub row_takes : (p n k : ℕ) (ks : List ℕ) → k ≢ 0 → IsRow p (k ∷ ks)
 row_takes p n k ks ne (inl h) = absurd (ne h.0)
 row_takes p n k ks ne (inr h) = h
 
--- a place among memories is one among more of them
+-- a place among memories is one among a larger range of memories
 pub home_wider : (m p q k : ℕ) → p ≤ q → IsHomeAt m p k → IsHomeAt m q k
 home_wider m p q k le (inl e) = inl e
 home_wider m p q k le (inr h) = let lt : k < q = omega (arith, h.1, le) in inr (h.0, lt)
@@ -112,7 +112,7 @@ module _ (kept : List Holding) where
   words_push (r ∷ Q) q =
       ap (λ (ks : List ℕ). word_in (kept_at kept r.element).value ∷ ks) (words_push Q q)
 
--- another element gets its memory: the rows of those before it stay
+-- when another element gets its memory, the rows of earlier memories stay
 module _ (kept : List Holding) (e : ℕ) (h : Holding) where
   pub kept_stays : (a : ℕ) → a ≢ e → kept_at (set kept e h) a ≡ kept_at kept a
   kept_stays a ne = get_or-set_other kept e a h no_holding ne

@@ -1,4 +1,4 @@
--- The columns of a signature, one after the other, and the row that a lane shows of them.
+-- The columns of a signature, one after the other, and the row of them that a lane shows.
 use Rattle.std.proofs.Common.{◌≡◌, ℕ, suc, ◌+◌, ◌<◌, Bool, false, List, [], ◌∷◌, ◌++◌}
 use Rattle.std.proofs.Common.{ℤ, pos, get_or, length, map, drop, cond, refl, sym, ap, ap₂, ◌∙◌}
 use Rattle.std.proofs.Common.{arith}
@@ -42,14 +42,14 @@ places_push j p w (Int_kind ∷ kinds) k =
     (places_push (suc j) p (suc w) kinds k
     ∙ ap (λ a. places_of p (suc w) kinds ++ places_of (p + n) a (k ∷ [])) e)
 
--- as many columns hold Booleans, wherever they begin
+-- the number of Boolean columns does not depend on the first column
 same_truths :
     (j k : ℕ) (kinds : List Kind) → length (truth_columns j kinds) ≡ length (truth_columns k kinds)
 same_truths j k [] = refl
 same_truths j k (Bool_kind ∷ kinds) = ap suc (same_truths (suc j) (suc k) kinds)
 same_truths j k (Int_kind ∷ kinds) = same_truths (suc j) (suc k) kinds
 
--- they are those that are counted, and the others hold integers
+-- the number of Boolean columns is the count of Boolean kinds, and the others hold integers
 pub truths_counted :
     (kinds : List Kind) → length (truth_columns 0 kinds) ≡ count_by is_truth kinds
 truths_counted = is_count_by (λ ks. length (truth_columns 0 ks)) is_truth refl more
@@ -72,7 +72,7 @@ columns_counted j (Int_kind ∷ kinds) =
 -- ## The row of a lane
 
 module _ (s : Lane) (whole : List ℤ) where
-  -- it shows the cells of a row
+  -- the lane shows the cells of a row
   pub row_shown :
       (kinds : List Kind) (j p w : ℕ) → length whole ≡ j + length kinds →
       ((b : ℕ) → b < length (truth_columns j kinds) →
@@ -106,7 +106,7 @@ module _ (s : Lane) (whole : List ℤ) where
       (sym (drop_more whole j (pos 0) (omega (arith, long))))
 
 module _ (s : Lane) where
-  -- it shows 0 and false
+  -- the lane shows 0 and false
   pub row_zero :
       (kinds : List Kind) (j p w : ℕ) →
       ((b : ℕ) → b < length (truth_columns j kinds) → s.bits (p + b) ≡ false) →
@@ -131,7 +131,7 @@ module _ (s : Lane) where
       ap₂ (λ (x : ℤ) (l : List Scalar). Integer x ∷ l) (ap s.ints here ∙ ints 0 (omega arith)) rest
 
 module _ (s s' : Lane) where
-  -- it shows what another lane shows elsewhere
+  -- the lane shows what another lane shows at other places
   pub row_moved :
       (kinds : List Kind) (j p w p' w' : ℕ) →
       ((b : ℕ) → b < length (truth_columns j kinds) → s'.bits (p' + b) ≡ s.bits (p + b)) →

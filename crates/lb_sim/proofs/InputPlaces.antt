@@ -1,4 +1,4 @@
--- Where inputs stand: one after the other, each in the next plane or the next word.
+-- The places of inputs: one after the other, each in the next plane or the next word.
 use Rattle.std.proofs.Common.{◌≡◌, ℕ, ◌+◌, ◌<◌, List, [], ◌∷◌, ◌++◌}
 use Rattle.std.proofs.Common.{get_or, length, take, sym, ap, ap₂, ◌∙◌, subst, arith}
 use Rattle.std.proofs.lemmas.List.{take_more, length-append}
@@ -10,7 +10,7 @@ use Rattle.lb_sim.specs.declared.place.Value.{Value}
 use Rattle.lb_sim.specs.declared.place.Value.TheVariants.{Truth, Number}
 use Rattle.lb_sim.proofs.InputColumns.{places_push}
 
--- so many planes and words are there behind inputs of these kinds, which stand at these places
+-- inputs of `kinds` are at `values`, and take the places below `planes` and `words`
 pub record AreInputs (kinds : List Kind) (values : List Value) (planes words : ℕ) : Type 0 where
   pub values_are : values ≡ places_of 2 1 kinds
   pub planes_are : planes ≡ 2 + length (truth_columns 0 kinds)

@@ -7,7 +7,7 @@ use Rattle.lb_check.specs.Scalars.{Scalar}
 use Rattle.lb_check.specs.Solutions.{Inputs}
 use Rattle.lb_check.specs.Verdicts.{is_bad, or_later}
 use Rattle.lb_check.specs.declared.verdict.Verdict.TheVariants.{Passed}
-use Rattle.lb_flat.specs.FurtherKinds.{kind_among}
+use Rattle.lb_flat.specs.TemporaryKinds.{kind_among}
 use Rattle.lb_flat.specs.Fitting.{IsFitting}
 use Rattle.lb_flat.specs.Flat.{FlatClock, FlatEquation, Operation, Input, Constant, Copy}
 use Rattle.lb_flat.specs.Flat.{ApplyUnary}
@@ -32,7 +32,7 @@ use Rattle.lb_sim.proofs.Deciding.{decides}
 use Rattle.lb_sim.proofs.RowsAt.{row_shown}
 use Rattle.lb_sim.proofs.Standing.{ready_after, state_moved, verdict_moved}
 
--- where an instant passes, no fault counts
+-- no fault counts at an instant that passes
 quiet : (t : ℕ) (a b c d : Bool) → verdict_by t a b c d ≡ Passed → a ≡ false
 quiet t true b c d e = absurd (cc)
 quiet t false b c d e = refl
@@ -97,7 +97,7 @@ module _ (f : FlatProgram) (code : Code) (inputs : List Value) (places : List Pl
   abbrev row : Row
   row = row_at s places
 
-  -- the row that the lane shows is the next one of its trace's run
+  -- the row that the lane shows is the next row of the run of its trace
   pub row_is : row ≡ row_of f.size (map (equation_in s kept) f.equations) given
   row_is =
       row_shown given s places kept (length f.inputs) K f.size f.equations compiled.as_long ready
@@ -105,7 +105,7 @@ module _ (f : FlatProgram) (code : Code) (inputs : List Value) (places : List Pl
       (ready_after f.size (run f.size f.equations X) f.equations ready)) fits.clocks
       (compiled.shown K fits s has_run constants suits)
 
-  -- what the lane decides is what its own row decides
+  -- the verdict of the lane at the instant is the verdict by its row
   pub decided : (t : ℕ) → lane_judged watched t s ≡ row_judged f t row
   decided t = decides code f places watched t s compiled.watches has_run
 

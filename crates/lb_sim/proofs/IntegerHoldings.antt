@@ -1,4 +1,4 @@
--- What holdings of integers are for.
+-- The scalars that holdings of integers hold.
 use Rattle.std.proofs.Common.{◌≡◌, Bool, true, false, ℤ, refl, sym, ap, ap₂, ◌∙◌, ◌||◌}
 use Rattle.lb_syntax.specs.declared.tree.BinaryOperator.{BinaryOperator}
 use Rattle.lb_syntax.specs.declared.tree.Kind.{Kind}
@@ -18,7 +18,7 @@ use Rattle.lb_sim.specs.declared.place.Holding.{Holding}
 use Rattle.lb_sim.specs.declared.place.Value.TheVariants.{Number}
 use Rattle.lb_sim.proofs.Shown.{operator_is, negate_shown}
 
--- an operator of the lanes is one of the language
+-- an operator of the lanes gives the result of the operator of the language
 pub arithmetic_for :
     (code : Code) (op : IntOperator) (a b : WordId) (nil left right : PlaneId) (h : Holding) →
     IsFor code Int_kind (λ s.
@@ -35,7 +35,7 @@ arithmetic_for code op a b nil left right h is = record {
       (operator_is op (s.ints a.0) (s.ints b.0));
 }
 
--- 0 less an integer is its negation
+-- 0 minus an integer is its negation
 pub negated_for :
     (code : Code) (a : WordId) (nil bad : PlaneId) (h : Holding) →
     IsFor code Int_kind (λ s.
@@ -55,7 +55,7 @@ negated_for code a nil bad h is = record {
       ∙ negate_shown (s.ints a.0) (s.bits bad.0) (s.bits nil.0);
 }
 
--- nil and faults of an operator on two integers are those of its operands
+-- an operator on two integers is nil, or a fault, where an operand is
 both_shown :
     (op : BinaryOperator) (x y : ℤ) (bl br nl nr : Bool) →
     shown (bl || br) (nl || nr) (two_integers op x y)

@@ -1,4 +1,4 @@
--- The integers of members go into the lanes of words.
+-- Loads of the integers of members into lanes of words.
 use Rattle.std.proofs.Common.{◌≡◌, ℕ, ◌+◌, ◌<◌, ◌≤◌, ◌==◌, ◌⊎◌, inl, inr, Bool, true, false, List}
 use Rattle.std.proofs.Common.{[], ℤ, cond, get_or, length, refl, sym, ap, ◌∙◌, arith}
 use Rattle.std.proofs.lemmas.Bool.{cases_lt, eqb-true, eqb-false}
@@ -11,7 +11,7 @@ use Rattle.lb_sim.specs.Loads.{AreLoaded, one_of_four}
 -- ## Lanes that lie side by side, word by word
 
 module _ (first count : ℕ) (value : ℕ → ℕ → ℤ) (places : List ℕ) (old : List (List ℤ)) where
-  -- in the words at the first n places the lanes hold their values
+  -- in the words at the first `n` places the lanes hold their values
   pub record LanesPut (new : List (List ℤ)) (n : ℕ) : Type 0 where
     pub as_long : length new ≡ length old
     pub put :
@@ -23,7 +23,7 @@ module _ (first count : ℕ) (value : ℕ → ℕ → ℤ) (places : List ℕ) (
 
 -- ## Four lanes of a word
 
--- four integers that are those of their lanes
+-- four integers are the values of `f` at their lanes
 pub four_are :
     (first i : ℕ) (a b c d : ℤ) (f : ℕ → ℤ) → a ≡ f first → b ≡ f (first + 1) →
     c ≡ f (first + 2) → d ≡ f (first + 3) → first ≤ i → i < first + 4 →
@@ -56,7 +56,7 @@ module _ (r : Recording) (members begins : List ℕ) (t live : ℕ) (columns pla
     others = λ i w h o. refl;
   }
 
-  -- members, and then those behind them
+  -- members from `a` to `b` are loaded, and then those from `b` to `c`: those from `a` to `c` are
   pub loaded_then :
       (a b c : ℕ) (x y z : List (List ℤ)) → a ≤ b → b ≤ c → c ≤ 64 → Loaded a b x y →
       Loaded b c y z → Loaded a c x z

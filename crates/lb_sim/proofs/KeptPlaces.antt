@@ -1,5 +1,5 @@
 -- The memories of a program's operators, in a lane that holds the state of the flat program: each
--- is what the history that the run stands for says.
+-- is the memory by the history that the run stands for.
 use Rattle.std.proofs.Common.{◌≡◌, ℕ, Bool, false, List, [], ◌∷◌, map}
 use Rattle.std.proofs.Common.{length}
 use Rattle.std.proofs.Common.{refl, sym, ap, ap₂, ◌∙◌, subst, inl, inr, is_some, arith}
@@ -54,7 +54,7 @@ module _ (f : FlatProgram) (kept : List Holding) (s : Lane) (X : Inputs)
   abbrev own : List Stream
   own = streams_of f.size rows
 
-  -- the memory of a lane is what its rows make of it
+  -- the memory in a lane is the memory after the rows of the run
   memory_is : (q : FlatEquation) → In q f.equations →
       remembers rows q.operation ≡ with_memory s (kept_at kept q.element) q.operation
   memory_is q i =
@@ -87,7 +87,7 @@ module _ (f : FlatProgram) (kept : List Holding) (s : Lane) (X : Inputs)
         (memory_is (record { element = e; clock = k; operation = FirstThen false a b }) i))
         ∙ ap (list_any is_some) (sym (run_cells f.size X f.equations a))
 
-    -- operand by operand
+    -- the memories of an operand hold the newest cells, element by element
     pub all_held :
         (o : ℕ → Operation) →
         ((e a : ℕ) → In (record { element = e; clock = k; operation = o a }) f.equations →
@@ -115,7 +115,7 @@ module _ (f : FlatProgram) (kept : List Holding) (s : Lane) (X : Inputs)
         ap₂ (λ x xs. x ∷ xs) (flag_held p a b there.0)
         (flags_held es ops bs (omega arith) (omega arith) there.1)
 
-  -- of a program: what it keeps of an operand is what the run's history says
+  -- the memories of the operands of a program are those of the history of the run
   module _ (P : Program) (Y : Layout) (kinds : ℕ → Kind)
       (solution : IsFlatSolution (input_kinds P) kinds f X own) (here : Instance) where
     abbrev memory : ℕ → Scalar

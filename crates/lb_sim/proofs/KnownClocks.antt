@@ -1,4 +1,4 @@
--- Planes of clocks that are known: one more of them, and how many are not known.
+-- Known planes of clocks: one more known plane, and the number of clocks without one.
 use Rattle.std.proofs.Common.{◌≡◌, ℕ, zero, suc, ◌<◌, Option, Some, None, List, [], ◌∷◌, ◌⊎◌}
 use Rattle.std.proofs.Common.{length, get_or, set, replicate, refl, sym, ap, ◌∙◌, subst, arith}
 use Rattle.std.proofs.Common.{⊎_elim, inl, inr}
@@ -31,11 +31,11 @@ none_known (suc n) (suc k) = none_known n k
 never : (p : PlaneId) → no_plane ≡ Some p → ⊥
 never p e = cc
 
--- at first none is known
+-- at first no plane of a clock is known
 pub none_at_first : (n k : ℕ) (p : PlaneId) → get_or (replicate n no_plane) k None ≡ Some p → ⊥
 none_at_first n k p e = never p (sym (none_known n k) ∙ e)
 
--- one more is
+-- one more plane of a clock is known
 module _ (before after : Code) (places : List Place) (clocks : List Clock)
     (known : List (Option PlaneId)) (id : ClockId) (p : PlaneId) where
   abbrev holds : ClockId → PlaneId → Type 0
@@ -68,9 +68,9 @@ module _ (before after : Code) (places : List Place) (clocks : List Clock)
         (cases_eq k.0 id.0),
   )
 
--- ## How many are not known
+-- ## The number of clocks that are not known
 
--- one fewer
+-- a clock that becomes known leaves one clock fewer that is not
 pub unknown_set : (known : List (Option PlaneId)) (i : ℕ) (p : PlaneId) → i < length known →
     get_or known i None ≡ None → suc (unknown_count (set known i (Some p))) ≡ unknown_count known
 unknown_set [] i p lt none = absurd (omega (arith, lt))
@@ -81,7 +81,7 @@ unknown_set (None ∷ known) (suc i) p lt none =
 unknown_set (Some q ∷ known) (suc i) p lt none =
     unknown_set known i p (omega (arith, lt)) none
 
--- all of them at first
+-- at first all clocks are not known
 pub unknown_all : (n : ℕ) → unknown_count (replicate n no_plane) ≡ n
 unknown_all zero = refl
 unknown_all (suc n) = ap suc (unknown_all n)

@@ -59,7 +59,7 @@ lane_more plane k i hk hi =
 
 -- ## Booleans as the bits of words
 
--- a lane of a word is the Boolean of its place
+-- bit `c` of word `g` is Boolean `64 * g + c`
 pub bit_there :
     (words : List ℕ) (word g c : ℕ) (b : Bool) → c < 64 → word ≡ get_or words g 0 →
     bit_in words (64 * g + c) ≡ b → on word c ≡ b
@@ -74,7 +74,7 @@ bit_there words word g c b lt same is =
     ∙ sym (ap₂ (λ x y. bit_at (get_or words x 0) y == 1) q m)
     ∙ is
 
--- ## What is copied to places side by side
+-- ## Copies to places side by side
 
 module _ {A : Type 0} (z : A) (first : ℕ) (words old : List A) where
   pub record Put (new : List A) (n : ℕ) : Type 0 where
@@ -120,7 +120,7 @@ alone : (a : Bool) → ((a && true) || false) ≡ a
 alone true = refl
 alone false = refl
 
--- the lanes of the first rows
+-- `plane` has the bits of the first `n` rows in column `c`
 pub record ColumnSoFar (rows : List ℕ) (from c plane n : ℕ) : Type 0 where
   pub done : (j : ℕ) → j < n → on plane j ≡ on (get_or rows (from + j) 0) c
   pub rest : (j : ℕ) → n ≤ j → j < 64 → on plane j ≡ false
@@ -148,7 +148,7 @@ column_more rows from c plane plane' n bit h lt e is = record {
     other j m ne =
         is j m ∙ ap (λ x. (bit && x) || on plane j) (no_number j n ne) ∙ neither bit (on plane j)
 
--- ## The first lane of a plane from one on
+-- ## The first lane of a plane from `from` on
 
 on_from : (plane from i : ℕ) → from ≤ i → on plane i ≡ on (plane / 2 ^ from) (i - from)
 on_from plane from i le =
@@ -157,12 +157,12 @@ on_from plane from i le =
     arith_from : (from i : ℕ) → from ≤ i → i ≡ from + (i - from)
     arith_from from i le = omega (arith, le)
 
--- no lane is left where the plane ends
+-- a plane that is 0 from lane `from` on has none of these lanes
 pub none_from : (plane from i : ℕ) → plane / 2 ^ from ≡ 0 → from ≤ i → on plane i ≡ false
 none_from plane from i none le =
     on_from plane from i le ∙ ap (λ n. on n (i - from)) none ∙ on-zero (i - from)
 
--- or the lowest bit that is set tells it
+-- `next` is the first lane of a plane from `from` on
 pub record IsNext (plane from next : ℕ) : Type 0 where
   pub within : next < 64
   pub none : (i : ℕ) → from ≤ i → i < next → on plane i ≡ false

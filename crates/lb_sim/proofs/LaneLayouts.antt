@@ -1,5 +1,4 @@
--- What a lane holds before the code runs, from one instant to the next, and what becomes of its
--- verdict.
+-- A lane before the code runs, from one instant to the next, and its verdict.
 use Rattle.std.proofs.Common.{◌≡◌, ◌<◌, ◌≤◌, ◌+◌, ℕ, suc, Bool, true, false, not, ◌&&◌, List}
 use Rattle.std.proofs.Common.{[], ◌∷◌, map, length, All, refl, sym, ap, ap₂, ◌∙◌, inl, inr}
 use Rattle.std.proofs.Common.{arith}
@@ -22,7 +21,7 @@ use Rattle.lb_sim.specs.States.{equation_in}
 use Rattle.lb_sim.specs.declared.place.Holding.{Holding}
 use Rattle.lb_sim.proofs.LaneSteps.{state_same}
 
--- the inputs that stand at first places are the same where these places hold the same
+-- inputs at first places are the same in two lanes that agree at these places
 pub inputs_same :
     (s s' : Lane) (P W p w j : ℕ) (kinds : List Kind) →
     ((k : ℕ) → k < P → s'.bits k ≡ s.bits k) → ((k : ℕ) → k < W → s'.ints k ≡ s.ints k) →
@@ -38,7 +37,7 @@ inputs_same s s' P W p w j (Int_kind ∷ kinds) bits ints planes words =
     (ap Integer (ints w (omega (arith, words))))
     (inputs_same s s' P W p (suc w) (suc j) kinds bits ints planes (omega (arith, words)))
 
--- inputs are handed over and the code is run: the memories hold what they held
+-- the memories do not change when inputs are copied in and the code is run
 pub hold_same :
     (code : Code) (mp mw np nw : ℕ) (s0 s1 s2 : Lane) → 2 + np ≤ mp → 1 + nw ≤ mw →
     ((k : ℕ) → k < 2 → s1.bits k ≡ s0.bits k) →
@@ -92,11 +91,11 @@ passed_after (Undefined t) j = refl
 passed_after (Assertion t) j = refl
 passed_after (False t) j = refl
 
--- what a step makes of a lane: whether it takes part, what it decides, and what is put
+-- a step of a lane: whether it takes part, the verdict of the instant, and its new verdict
 module _ (v j v' : Verdict) (active live passed : Bool)
     (is_p : passed ≡ ((active && live) && is_passed j))
     (is_v : v' ≡ (if (active && live) && not passed then j else v)) where
-  -- of a live lane
+  -- whether a live lane has passed after the step
   pub live_passed : live ≡ true → active ≡ is_passed v → passed ≡ (is_passed v && is_passed j)
   live_passed on was =
       is_p
@@ -116,7 +115,7 @@ module _ (v j v' : Verdict) (active live passed : Bool)
   live_active on was =
       live_passed on was ∙ passed_after v j ∙ sym (ap is_passed (live_verdict on was))
 
-  -- of one that is not live
+  -- a lane that is not live is not active after the step
   pub resting_passed : live ≡ false → passed ≡ false
   resting_passed off =
       is_p

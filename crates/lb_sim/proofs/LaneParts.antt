@@ -1,4 +1,4 @@
--- The parts of an instant of a batch, as to what each of them makes of one lane.
+-- The parts of an instant of a batch, in one lane.
 use Rattle.std.proofs.Common.{◌≡◌, ◌≢◌, ◌<◌, ◌≤◌, ◌+◌, ℕ, true, false, List, [], map, length}
 use Rattle.std.proofs.Common.{get_or, set, ℤ, sym, ap, ◌∙◌, arith}
 use Rattle.std.proofs.Common.{below_more, length-set, Bool}
@@ -30,8 +30,8 @@ use Rattle.lb_sim.proofs.LanePrograms.{inputs_words, constants_words}
 pub lanes_none : IsPlaneOf (λ i. nat_lt i 0) 0
 lanes_none i h = on-zero i ∙ sym (le-ltb i 0 (omega arith))
 
--- of lists whose elements have lanes: those of a plane are put in the first elements, and each
--- other lane is what it was
+-- the lanes of a plane are put into the first `n` elements of a list, and any other lane does not
+-- change
 module _ {A B : Type 0} (z : A) (lane : A → ℕ → B) (lanes : ℕ) (given : ℕ → ℕ → B) where
   pub record LanesTakenOver (old new : List A) (n : ℕ) : Type 0 where
     pub as_long : length new ≡ length old
@@ -43,8 +43,8 @@ module _ {A B : Type 0} (z : A) (lane : A → ℕ → B) (lanes : ℕ) (given : 
 
 -- ## The run of the code
 
--- planes 0, 1 and 2 are those before inputs are handed over, after it, and after the run; the words
--- alike
+-- `planes0`, `planes1` and `planes2` are the planes before inputs are copied in, after that, and
+-- after the run; `words0` to `words2` are the words
 module _ (p : LaneProgram) (c : LaneCode) (law : IsCodeIn p c) (np nw : ℕ)
     (is_np : np ≡ length (truth_columns 0 (program_of p.program.now).inputs))
     (is_nw : nw ≡ length (number_columns 0 (program_of p.program.now).inputs))
@@ -81,7 +81,7 @@ module _ (p : LaneProgram) (c : LaneCode) (law : IsCodeIn p c) (np nw : ℕ)
   ints_other : (k : ℕ) → 1 + nw ≤ k → s1.ints k ≡ s0.ints k
   ints_other k h = ap (λ x. lane_of x i) (ow k h)
 
-  -- memories hold what they held
+  -- the memories do not change
   memories_same : HoldSame c.code p.memory_plane p.memory_word s0 s2
   memories_same =
       hold_same c.code p.memory_plane p.memory_word np nw s0 s1 s2
@@ -89,7 +89,7 @@ module _ (p : LaneProgram) (c : LaneCode) (law : IsCodeIn p c) (np nw : ℕ)
       (omega (arith, is_nw, inputs_words p, constants_words p)) bits_first
       (λ k h. ap (λ x. on x i) (op k h)) ints_first ints_other bits_ran ints_ran
 
-  -- what is the same everywhere stays so
+  -- the constants that are the same everywhere stay as they are
   constants_same : HasConstants s0 → HasConstants s2
   constants_same h = record {
     nowhere =
@@ -99,7 +99,7 @@ module _ (p : LaneProgram) (c : LaneCode) (law : IsCodeIn p c) (np nw : ℕ)
     zero = ints_ran 0 (omega (arith, c.code.zero)) ∙ ints_first 0 (omega arith) ∙ h.zero;
   }
 
-  -- and so do constants
+  -- the constants of the program stay as they are
   constant_words_same :
       HasConstantWords p.constant_word p.memory_word p.start_words.items s0 →
       HasConstantWords p.constant_word p.memory_word p.start_words.items s2
@@ -108,7 +108,7 @@ module _ (p : LaneProgram) (c : LaneCode) (law : IsCodeIn p c) (np nw : ℕ)
       ∙ ints_other w (omega (arith, is_nw, inputs_words p, from))
       ∙ h w from to
 
-  -- the inputs are those that were handed over
+  -- the inputs are those that were copied in
   given_same :
       (kinds : List Kind) (row : List Scalar) → kinds ≡ (program_of p.program.now).inputs →
       map (value_at s1) (places_of 2 1 kinds) ≡ row → given_at s2 p.inputs.items ≡ row
@@ -123,7 +123,7 @@ module _ (p : LaneProgram) (c : LaneCode) (law : IsCodeIn p c) (np nw : ℕ)
       ∙ ap (λ ks. map (value_at s1) (places_of 2 1 ks)) (sym same)
       ∙ is
 
-  -- so the lane has run the code on its row
+  -- the lane has run the code on its row
   pub computed :
       (kinds : List Kind) (row : List Scalar) (going : Bool) →
       kinds ≡ (program_of p.program.now).inputs →
@@ -139,17 +139,17 @@ module _ (p : LaneProgram) (c : LaneCode) (law : IsCodeIn p c) (np nw : ℕ)
     same = memories_same;
   }
 
--- ## What lanes have one by one
+-- ## Lists with an item for each lane
 
 module _ {A : Type 0} (z : A) (lanes : ℕ) (given : ℕ → A) where
-  -- what the first so many lanes have is put, where a plane says so
+  -- the first `n` items are put in the lanes of a plane, and stay as they are in the others
   pub record Settled (old new : List A) (n : ℕ) : Type 0 where
     pub as_long : length new ≡ length old
     pub put :
         (i : ℕ) → i < n → get_or new i z ≡ (if on lanes i then given i else get_or old i z)
     pub rest : (i : ℕ) → n ≤ i → get_or new i z ≡ get_or old i z
 
-  -- one lane more that the plane has
+  -- one more lane, which the plane has
   pub settled_on :
       (old new : List A) (n : ℕ) (v : A) → Settled old new n → n < length old →
       on lanes n ≡ true → v ≡ given n → Settled old (set new n v) (n + 1)
@@ -172,7 +172,7 @@ module _ {A : Type 0} (z : A) (lanes : ℕ) (given : ℕ → A) where
             get_or-set_other new n i v z ne ∙ h.rest i (omega (arith, l));
       }
 
-  -- one that is not
+  -- one more lane, which the plane does not have
   pub settled_off :
       (old new : List A) (n : ℕ) → Settled old new n → on lanes n ≡ false →
       Settled old new (n + 1)

@@ -1,4 +1,4 @@
--- What the laws of a lane program and of its codes say of their places, one by one.
+-- The laws of a lane program and of its codes, place by place.
 use Rattle.std.proofs.Common.{◌≡◌, ◌<◌, ◌≤◌, ◌+◌, ℕ, List, length, All, inl, inr}
 use Rattle.std.proofs.Common.{arith, Bool, true, false, [], get_or, sym, subst, ◌∙◌}
 use Rattle.std.proofs.Math.Logic.{∥∥₁_elim}
@@ -10,7 +10,7 @@ use Rattle.lb_flat.specs.Judging.{FlatProgram}
 use Rattle.lb_flat.specs.PreparedPrograms.{prepared_props}
 use Rattle.lb_flat.specs.Programs.{program_of}
 use Rattle.lb_flat.specs.Run.{Ready}
-use Rattle.lb_flat.proofs.InOrder.{ready_of}
+use Rattle.lb_flat.proofs.ordering.InOrder.{ready_of}
 use Rattle.lb_machine.specs.Meaning.{Lane}
 use Rattle.lb_machine.specs.declared.instruction.PlaneId.{PlaneId}
 use Rattle.lb_sim.specs.InputRows.{truth_columns, number_columns}
@@ -23,11 +23,11 @@ use Rattle.lb_sim.specs.declared.program.LaneProgram.{LaneProgram}
 
 -- ## There is one proof at most
 
--- that two lists of scalars are the same
+-- two lists of scalars are equal in one way at most
 pub scalars_prop : (a b : List Scalar) → IsProp (a ≡ b)
 scalars_prop a b = Prim.hlevel prepared_props
 
--- that a lane stands for a trace
+-- a lane stands for a trace in one way at most
 pub stands_prop :
     (f : FlatProgram) (kept : List Holding) (s : Lane) (v : Verdict) (active : Bool) (steps : ℕ)
     (X : Inputs) → IsProp (StandsAt f kept s v active steps X)
@@ -39,11 +39,11 @@ module _ (p : LaneProgram) where
   abbrev f : FlatProgram
   f = program_of p.program.now
 
-  -- its equations stand in order
+  -- the equations of the program stand in order
   pub program_ready : Ready f.size [] f.equations
   program_ready = ready_of f.size f.equations p.in_order
 
-  -- inputs stand first, then constants, and behind them memories
+  -- inputs stand first, then constants, then memories
   pub inputs_planes : 2 + length (truth_columns 0 f.inputs) ≤ p.memory_plane
   inputs_planes = ∥∥₁_elim p.general_law (Prim.hlevel props) (λ h. h.laid_out.inputs_planes)
 
@@ -65,7 +65,7 @@ module _ (p : LaneProgram) where
     pub memory_words : p.memory_word + length c.word_sources.items ≡ c.code.first_word
     memory_words = ∥∥₁_elim law (Prim.hlevel props) (λ h. h.compiled.words_room)
 
-    -- a program starts with what stands before the code
+    -- the start planes of a program are the planes before the code
     pub start_planes_room : length p.start_planes.items ≡ c.code.first_plane
     start_planes_room = ∥∥₁_elim law (Prim.hlevel props) (λ h. h.laid_out.start_planes_room)
 
@@ -78,7 +78,7 @@ module _ (p : LaneProgram) where
     home_within k (inl e) = omega (arith, e, c.code.constants, c.code.more_planes, planes_room)
     home_within k (inr h) = omega (arith, h.1, c.code.more_planes, planes_room)
 
-    -- what a code takes for granted are planes of the program
+    -- the planes that a code takes to be false or true are planes of the program
     pub clear_within : All (λ (q : PlaneId). q.0 < p.planes) c.clear.items
     clear_within = λ i d lt.
         ∥∥₁_elim law (Prim.hlevel props)
@@ -89,7 +89,7 @@ module _ (p : LaneProgram) where
         ∥∥₁_elim law (Prim.hlevel props)
         (λ h. home_within (get_or c.set.items i d).0 (h.set_homes i d lt))
 
-    -- a lane that suits it does so as long as its memories hold the same
+    -- a lane that suits a code does so as long as its memories do not change
     pub suits_still :
         (s s' : Lane) → HoldSame c.code p.memory_plane p.memory_word s s' → Suits c s → Suits c s'
     suits_still s s' same suits = record {

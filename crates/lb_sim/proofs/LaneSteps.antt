@@ -1,5 +1,5 @@
--- One instant of one lane that stands for a trace: where it is live it stands for the trace and its
--- row of inputs, and where it is not for the trace as before.
+-- One instant of a lane that stands for a trace: a live lane stands for the trace and its row of
+-- inputs, any other lane for the trace as before.
 use Rattle.std.proofs.Common.{◌≡◌, ◌+◌, ℕ, zero, suc, Bool, true, false, not, ◌&&◌, List, []}
 use Rattle.std.proofs.Common.{◌∷◌, ◌++◌, map, length, All, refl, sym, ap, ap₂, ◌∙◌}
 use Rattle.std.proofs.Common.{subst, inl, arith, ℤ}
@@ -12,7 +12,7 @@ use Rattle.lb_check.specs.declared.verdict.Verdict.TheVariants.{Passed, Fault, U
 use Rattle.lb_check.specs.declared.verdict.Verdict.TheVariants.{False}
 use Rattle.lb_flat.specs.Fitting.{IsFitting}
 use Rattle.lb_flat.specs.Flat.{FlatClock, FlatEquation}
-use Rattle.lb_flat.specs.FurtherKinds.{kind_among}
+use Rattle.lb_flat.specs.TemporaryKinds.{kind_among}
 use Rattle.lb_flat.specs.Judging.{FlatProgram, flat_verdict, rows_judged, row_judged}
 use Rattle.lb_flat.specs.MemoryPlaces.{after_rows}
 use Rattle.lb_flat.specs.Run.{Ready, row_of, run}
@@ -46,7 +46,7 @@ module _ (code : Code) (mp mw : ℕ) (s s' : Lane) (same : HoldSame code mp mw s
   value_same (Negated p) h = ap (λ b. Boolean (not b)) (same.planes p.0 h)
   value_same (Number w) h = ap Integer (same.words w.0 h)
 
-  -- a memory shows the same
+  -- a memory shows the same scalar in both lanes
   pub scalar_same : (h : Holding) → IsHome code mp mw h → scalar_at s' h ≡ scalar_at s h
   scalar_same h home =
       ap₂ (λ b n. shown b n (value_at s' h.value)) (same.planes h.bad.0 home.bad)
@@ -69,7 +69,7 @@ module _ (code : Code) (mp mw : ℕ) (s s' : Lane) (same : HoldSame code mp mw s
   no_home : IsHome code mp mw no_holding
   no_home = record { value = inl refl; nil = inl refl; bad = inl refl }
 
-  -- where nothing is kept stands nothing
+  -- each element has a holding among memories, which is that of nothing where the table has none
   home_at : (kept : List Holding) → All (IsHome code mp mw) kept → (e : ℕ) →
       IsHome code mp mw (kept_at kept e)
   home_at [] homes e = no_home
@@ -86,7 +86,7 @@ module _ (code : Code) (mp mw : ℕ) (s s' : Lane) (same : HoldSame code mp mw s
       (scalar_same (kept_at kept q.element) (home_at kept homes q.element)))
       (equations_same kept homes Q)
 
-  -- so the state is the same
+  -- the state after a trace is the same in both lanes
   pub state_same : (f : FlatProgram) (kept : List Holding) → All (IsHome code mp mw) kept →
       (X : Inputs) → IsStateAfter f kept s X → IsStateAfter f kept s' X
   state_same f kept homes X state = state ∙ sym (equations_same kept homes f.equations)
@@ -107,7 +107,7 @@ or_later_found (Undefined t) v e = refl
 or_later_found (Assertion t) v e = refl
 or_later_found (False t) v e = refl
 
--- a verdict that was found stays
+-- a verdict other than `Passed` stays
 pub found_stays : (f : FlatProgram) (X : Inputs) (given : List Scalar) →
     is_passed (flat_verdict f X) ≡ false → flat_verdict f (X ++ given ∷ []) ≡ flat_verdict f X
 found_stays f X given found =
@@ -117,7 +117,7 @@ found_stays f X given found =
     ∙ judged_one f 0 (length rows) rows row (omega arith)
     ∙ or_later_found (rows_judged f 0 rows) (row_judged f (length rows) row) found
 
--- what an instant decides is the verdict of a lane that had none
+-- a lane without a verdict gets the verdict of the instant
 settled_now : (j v : Verdict) → v ≡ Passed → settled true j v ≡ j
 settled_now Passed v e = e
 settled_now (Fault t) v e = refl
@@ -127,7 +127,7 @@ settled_now (False t) v e = refl
 
 -- ## An instant of a lane
 
--- a lane that is not live stands for what it did
+-- a lane that is not live stands for the trace it stood for
 pub stays :
     (f : FlatProgram) (kept : List Holding) (s s' : Lane) (v v' : Verdict) (active active' : Bool)
     (steps steps' : ℕ) (X : Inputs) → StandsAt f kept s v active steps X → v' ≡ v →
@@ -179,7 +179,7 @@ module _ (f : FlatProgram) (code : Code) (inputs : List Value) (places : List Pl
   one_longer r (x ∷ X) (suc n) e =
       omega (arith, one_longer r X n (omega (arith, e)))
 
-  -- a lane that has none gets what the instant decides
+  -- a lane that has passed so far gets the verdict of the instant
   goes : StandsAt f kept before v true steps X → is_passed v ≡ true → (active' : Bool) →
       active' ≡ is_passed judged → Next active'
   goes h e active' is =

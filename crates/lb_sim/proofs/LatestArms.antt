@@ -1,5 +1,5 @@
--- What the code of `current` makes its element show: that of its operand where it is present, and
--- the memory where it is absent.
+-- The element of `current` shows its operand where that is present, and the memory where it is
+-- absent.
 use Rattle.std.proofs.Common.{◌≡◌, List, get_or, sym, ap, ◌∙◌, subst}
 use Rattle.std.specs.Prelude.{if◌then◌else◌}
 use Rattle.lb_syntax.specs.declared.tree.Kind.{Kind}
@@ -38,7 +38,7 @@ module _ (code : Code) (places : List Place) (inputs : List Value) (constant kep
             if s.bits p.present.0 then scalar_at s p.holding else scalar_at s kept) is;
       }
 
-  -- of an operation that is known to be `current`
+  -- an operation that equals `current` is emitted
   pub latest_emitted :
       (o : Operation) → o ≡ Latest v a →
       IsEmitted code places inputs constant kept (operation_of o) kind h

@@ -1,4 +1,4 @@
--- The Booleans of an instant go into planes.
+-- Loads of the Booleans of an instant into planes.
 use Rattle.std.proofs.Common.{◌≡◌, ℕ, ◌+◌, ◌*◌, ◌/◌, ◌%◌, ◌<◌, ◌≤◌, true}
 use Rattle.std.proofs.Common.{List, pos, get_or, set, length, refl, ap, ◌≢◌}
 use Rattle.std.proofs.Common.{◌∙◌, subst, arith, below_more, length-set, ◌⊎◌, inl, inr}
@@ -14,7 +14,7 @@ use Rattle.lb_sim.specs.Loads.{AreFourPut, AreTruthsAhead, AreTruthsLoaded}
 
 -- ## Words of a lane
 
--- the first words stand in a lane of as many words of all lanes
+-- the first `n` words of `bits` are in lane `i` of as many words of all lanes
 module _ (bits : List ℕ) (i : ℕ) (old : List ℕ) where
   pub record WordsPut (new : List ℕ) (n : ℕ) : Type 0 where
     pub as_long : length new ≡ length old
@@ -61,7 +61,7 @@ four_put_none a b c d first old = record {
   others = λ m k l o. refl;
 }
 
--- a word more in one lane
+-- one more word in one lane
 module _ (new : List ℕ) (n i v : ℕ) where
   abbrev one_set : List ℕ
   one_set = set new (72 * n + i) v
@@ -69,7 +69,7 @@ module _ (new : List ℕ) (n i v : ℕ) where
   long_set : length one_set ≡ length new
   long_set = length-set new (72 * n + i) v
 
-  -- another word of the four, and an earlier one
+  -- a word of another lane, or an earlier word, does not change
   other_set : (m k : ℕ) → k < 64 → i < 64 → k ≢ i →
       get_or one_set (72 * m + k) 0 ≡ get_or new (72 * m + k) 0
   other_set m k lk li ne =
@@ -84,7 +84,7 @@ module _ (new : List ℕ) (n i v : ℕ) where
   same_set : 72 * n + i < length new → get_or one_set (72 * n + i) 0 ≡ v
   same_set inside = get_or-set_same new (72 * n + i) v 0 inside
 
--- one lane of four
+-- one lane of four has one more word
 lane_kept :
     (x : List ℕ) (rows new : List ℕ) (n i : ℕ) →
     ((m : ℕ) → m < n → get_or new (72 * m + i) 0 ≡ get_or rows (72 * m + i) 0) →
@@ -109,7 +109,7 @@ module _ (a b c d : List ℕ) (first : ℕ) (old rows : List ℕ) (n : ℕ) wher
   set_four = set set_three (72 * n + (first + 3)) (get_or d n 0)
 
   module _ (few : first + 4 ≤ 64) where
-    -- what holds of a word in none of these lanes, or of an earlier one
+    -- a word of another lane, or an earlier word, after the first of the four is set
     after_one : (m k : ℕ) → k < 64 → k ≢ first →
         get_or set_one (72 * m + k) 0 ≡ get_or rows (72 * m + k) 0
     after_one m k lk ne = other_set rows n first (get_or a n 0) m k lk (omega (arith, few)) ne
@@ -210,7 +210,7 @@ module _ (a b c d : List ℕ) (first : ℕ) (old rows : List ℕ) (n : ℕ) wher
         outside_first k (inl before) e = absurd (omega (arith, before, e))
         outside_first k (inr behind) e = absurd (omega (arith, behind, e))
 
--- what holds in each of four lanes
+-- a property that holds in four lanes holds in each lane of them
 pub each_of_four :
     (P : ℕ → Type 0) (first i : ℕ) → P first → P (first + 1) → P (first + 2) → P (first + 3) →
     first ≤ i → i < first + 4 → P i
@@ -238,7 +238,7 @@ module _ (r : Recording) (members begins : List ℕ) (first live : ℕ) (columns
     others = λ m k l o. refl;
   }
 
-  -- members, and then those behind them
+  -- members from `a` to `b` are loaded, and then those from `b` to `c`: those from `a` to `c` are
   pub truths_then :
       (a b c : ℕ) (x y z : List ℕ) → a ≤ b → b ≤ c → c ≤ 64 → Loaded a b x y → Loaded b c y z →
       Loaded a c x z
@@ -267,7 +267,7 @@ module _ (r : Recording) (members begins : List ℕ) (first live : ℕ) (columns
       others m i li (inr behind) =
           k.others m i li (inr behind) ∙ h.others m i li (inr (omega (arith, behind, le')))
 
-  -- each lane that is live is that of a member
+  -- all live lanes are loaded, if each has a member
   pub all_gathered :
       (old rows : List ℕ) (n : ℕ) → Loaded 0 n old rows →
       72 * (count * words_of_row (length columns)) ≤ length old →
@@ -309,7 +309,7 @@ module _ (r : Recording) (members begins : List ℕ) (t live d : ℕ) (columns :
       same
       (turned g c i lc l within ∙ gathered i g c l e lc inside)
 
-  -- of an instant that is loaded
+  -- the planes of an instant that is loaded already
   pub truths_there :
       (first until lanes : ℕ) (rows old planes : List ℕ) → length planes ≡ length old →
       length old ≡ length columns → AreTruthsAhead r members begins first until lanes columns rows →
@@ -331,7 +331,7 @@ module _ (r : Recording) (members begins : List ℕ) (t live d : ℕ) (columns :
       turned g c i lc li (omega (arith, lb, kept))
       ∙ ap (λ n. on (get_or rows (72 * (d * words_of_row n + g) + i) 0) c) long)
 
--- ## The words of all lanes, turned
+-- ## The words of all lanes, transposed
 
 module _ (rows : List ℕ) (first : ℕ) (old : List ℕ) where
   pub record Turned (planes : List ℕ) (n : ℕ) : Type 0 where
@@ -346,7 +346,7 @@ module _ (rows : List ℕ) (first : ℕ) (old : List ℕ) where
     done = λ g c i h. absurd (omega (arith, h));
   }
 
-  -- one group more
+  -- one more group of columns is transposed
   pub turned_more :
       (planes planes' : List ℕ) (n size : ℕ) → Turned planes n → length planes' ≡ length planes →
       ((c : ℕ) → c < 64 → 64 * n + c < length planes → c < size) →

@@ -12,7 +12,7 @@ use Rattle.lb_syntax.proofs.TruthValues.{both_ways, contrary}
 use Rattle.lb_flat.specs.Judging.{FlatProgram, named_elements}
 use Rattle.lb_flat.specs.Programs.{numbers_of}
 use Rattle.lb_flat.specs.declared.equation.ElementId.{ElementId}
-use Rattle.lb_flat.proofs.InOrder.{unmarked}
+use Rattle.lb_flat.proofs.ordering.InOrder.{unmarked}
 
 -- ## Elements of lists
 
@@ -86,14 +86,14 @@ marked_more elements marks size e lt h = record {
         (in_parts elements (e ∷ []) a i)))
         (cases_eq a e)
 
--- the numbers of one element more
+-- the numbers of the first `i` elements and element `i` are those of the first `i + 1`
 pub numbers_more : (xs : List ElementId) (i : ℕ) (d : ElementId) → i < length xs →
     numbers_of (take i xs) ++ (get_or xs i d).0 ∷ [] ≡ numbers_of (take (i + 1) xs)
 numbers_more xs i d lt =
     sym (ap numbers_of (take_more xs i d lt)
     ∙ map-append (λ (a : ElementId). a.0) (take i xs) (get_or xs i d ∷ []))
 
--- ## Those that are marked, in order
+-- ## The marked elements, in order
 
 abbrev pub marked_from : ℕ → List Bool → List ℕ
 marked_from i [] = []
@@ -104,7 +104,7 @@ pub marked_end : (marks : List Bool) (i : ℕ) → length marks ≤ i →
     marked_from i (drop i marks) ≡ []
 marked_end marks i le = ap (marked_from i) (drop_of_length-le marks le)
 
--- an element is marked where it is one of them
+-- an element that is marked is in the list of marked elements
 marked_in : (i : ℕ) (marks : List Bool) (k : ℕ) → get_or marks k false ≡ true →
     In (i + k) (marked_from i marks)
 marked_in i [] k is = absurd (contrary false is refl)
@@ -117,7 +117,7 @@ marked_in i (false ∷ marks) (suc k) is =
     let same : suc i + k ≡ i + suc k = omega arith in
     subst (λ a. In a (marked_from (suc i) marks)) same (marked_in (suc i) marks k is)
 
--- where an element of a table stands that is marked
+-- the place of a marked element in a table of marks
 record IsMark (i : ℕ) (marks : List Bool) (a : ℕ) : Type 0 where
   pub place : ℕ
   pub is : i + place ≡ a
@@ -153,7 +153,7 @@ any_at test (x ∷ xs) a (inr i) is = further (test x) (any_at test xs a i is)
     further true e = refl
     further false e = e
 
--- an element that passes a test
+-- an element of a list that passes a test
 record Passes (test : ℕ → Bool) (xs : List ℕ) : Type 0 where
   pub element : ℕ
   pub among : In element xs
@@ -171,7 +171,7 @@ any_of test (x ∷ xs) is = by (test x) refl is (any_of test xs)
         let rest = later h in
         record { element = rest.element; among = inr rest.among; passes = rest.passes }
 
--- one that is marked passes it where one of the list does
+-- some marked element passes the test exactly where some element of the list does
 pub some_marked :
     (test : ℕ → Bool) (elements : List ℕ) (marks : List Bool) →
     ((a : ℕ) → (get_or marks a false ≡ true) ↔ In a elements) →

@@ -1,5 +1,5 @@
--- What the code of one equation makes its element show: an input, and a holding of the kind of its
--- element.
+-- The element of one equation shows the result of its operation: an input, and a holding of the
+-- kind of the element.
 use Rattle.std.proofs.Common.{◌≡◌, false, Some, List, slice_get, option_map, sym, ap, ap₂, ◌∙◌}
 use Rattle.std.proofs.Common.{subst}
 use Rattle.std.proofs.lemmas.Option.{slice_get-map}
@@ -17,7 +17,7 @@ use Rattle.lb_sim.specs.declared.place.Value.{Value}
 use Rattle.lb_sim.specs.declared.place.Holding.{Holding}
 use Rattle.lb_sim.specs.declared.place.Place.{Place}
 
--- what stands at a place of an input
+-- a holding with the value of an input shows the input
 pub input_shows :
     (s : Lane) (v : Value) (h : Holding) → s.bits 0 ≡ false →
     h ≡ record { value = v; nil = record { 0 = 0 }; bad = record { 0 = 0 } } →
@@ -29,12 +29,12 @@ module _ (code : Code) (places : List Place) (inputs : List Value) (constant kep
   abbrev Emitted : Operation → Kind → Holding → Type 0
   Emitted o kind h = IsEmitted code places inputs constant kept (operation_of o) kind h
 
-  -- an operation that is known to be this one
+  -- an operation that equals `p` is emitted where `p` is
   by_form : (o p : Operation) (kind : Kind) (h : Holding) → o ≡ p → Emitted p kind h →
       Emitted o kind h
   by_form o p kind h e x = subst (λ z. Emitted z kind h) (sym e) x
 
-  -- a holding that is the same
+  -- an equal holding is emitted
   pub same_holding :
       (o : Operation) (kind : Kind) (g h : Holding) → Emitted o kind g →
       (kind_of g ≡ kind → h ≡ g) → Emitted o kind h

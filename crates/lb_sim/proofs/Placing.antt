@@ -1,5 +1,5 @@
--- The loop over the equations of a program: code for each of them, a place for its element, and the
--- planes of the clocks so far.
+-- The loop over the equations of a program: the code of each, the place of its element, and the
+-- planes of clocks.
 use Rattle.std.proofs.Common.{◌≡◌, ◌≢◌, ◌<◌, ◌≤◌, ◌+◌, ℕ, Option, Some, None, List, [], ◌∷◌, set}
 use Rattle.std.proofs.Common.{length, get_or, replicate, All, sym, ap, ◌∙◌, subst, inl, inr, ⊎_elim}
 use Rattle.std.proofs.Common.{arith, false, true, refl}
@@ -11,7 +11,7 @@ use Rattle.lb_syntax.specs.declared.tree.Kind.{Kind}
 use Rattle.lb_syntax.specs.declared.tree.Kind.TheVariants.{Int}
 use Rattle.lb_flat.specs.Fitting.{OperandKinds, KindFits}
 use Rattle.lb_flat.specs.Flat.{FlatEquation}
-use Rattle.lb_flat.specs.FurtherKinds.{kind_among}
+use Rattle.lb_flat.specs.TemporaryKinds.{kind_among}
 use Rattle.lb_flat.specs.InOrder.{is_in_order}
 use Rattle.lb_flat.specs.Programs.{flat_equations, program_of, IsInRange}
 use Rattle.lb_flat.specs.Run.{IsNext, reads, clock_reads}
@@ -20,9 +20,9 @@ use Rattle.lb_flat.specs.Within.{IsWithin}
 use Rattle.lb_flat.specs.declared.equation.ClockId.{ClockId}
 use Rattle.lb_flat.specs.declared.equation.Equation.{Equation}
 use Rattle.lb_flat.specs.declared.program.FlatProgram.{FlatProgram}
-use Rattle.lb_flat.proofs.InOrder.{ready_of}
-use Rattle.lb_flat.proofs.Lists.{Every-first, Every-in, Every-second}
-use Rattle.lb_flat.proofs.Memories.{every_at}
+use Rattle.lb_flat.proofs.ordering.InOrder.{ready_of}
+use Rattle.lb_flat.proofs.lists.Lists.{Every-first, Every-in, Every-second}
+use Rattle.lb_flat.proofs.runs.Memories.{every_at}
 use Rattle.lb_machine.specs.Correct.{IsGrown}
 use Rattle.lb_machine.specs.Listed.{listed}
 use Rattle.lb_machine.specs.Meaning.{Lane, HasRun}
@@ -68,7 +68,7 @@ IsWanted P constants s q =
     KindFits P.inputs.items (kind_among P.kinds.items) q
     × HasConstant s q.operation (kept_at constants q.element)
 
--- the first i equations have their places
+-- the first `i` equations have their places
 pub record IsPlacing (P : FlatProgram) (before code : Code) (inputs : List Value)
     (constants kept : List Holding) (places : List Place) (planes : List (Option PlaneId))
     (i : ℕ) : Type 0 where
@@ -86,7 +86,7 @@ pub record IsPlacing (P : FlatProgram) (before code : Code) (inputs : List Value
       IsCompiling (IsWanted P constants) P.size (program_of P).equations code inputs places kept
       done i
 
--- a place where nothing stands is one of the code
+-- the place of nothing is a place of the code
 pub no_place_in : (code : Code) → IsPlaceIn code no_place
 no_place_in code = record {
   holding = record {
@@ -97,7 +97,7 @@ no_place_in code = record {
   present = omega (arith, code.constants, code.more_planes);
 }
 
--- none of them has
+-- at first no equation has its place
 pub placing_first :
     (P : FlatProgram) (code : Code) (inputs : List Value) (constants kept : List Holding)
     (nowhere : Place) (n : ℕ) (places : List Place) (known : List (Option PlaneId)) →
@@ -131,7 +131,7 @@ module _ (P : FlatProgram) (before code : Code) (inputs : List Value)
     (constants kept : List Holding) (places : List Place) (known : List (Option PlaneId)) (i : ℕ)
     (h : IsPlacing P before code inputs constants kept places known i)
     (range : IsInRange P) where
-  -- all of them have
+  -- at the end all equations have their places
   pub places_long : length places ≡ P.size
   places_long = h.so_far.as_long
 
@@ -159,7 +159,7 @@ module _ (P : FlatProgram) (before code : Code) (inputs : List Value)
         (λ q. HasConstant s q.operation (kept_at constants q.element)) (IsWanted P constants s)
         (program_of P).equations (λ q a b. (a, b)) fits c)
 
-  -- what stands at a place of a table with a holding for each element
+  -- the holding of an element in a table with a holding for each element
   held_in : (e : ℕ) → e < P.size → (table : List Holding) → length table ≡ P.size →
       (d : Holding) → get_or table e d ≡ kept_at table e
   held_in e lt table long d =
@@ -248,7 +248,7 @@ module _ (P : FlatProgram) (before code : Code) (inputs : List Value)
           let apart : a ≢ e = λ s. new (subst (λ k. In k h.done) s r) in
           ap (λ (x : Place). kind_of x.holding) (other a apart) ∙ h.kinds a r
 
-      -- what the clocks that are known read is done
+      -- the elements that known clocks read are done
       clock_done :
           (k : ClockId) (y : PlaneId) → get_or known' k.0 None ≡ Some y →
           Every (λ a. In a h.done) (clock_reads (clock_of P.clocks.items (Some k)))
@@ -273,7 +273,7 @@ module _ (P : FlatProgram) (before code : Code) (inputs : List Value)
                 (clock_done k y is)));
           }
 
-      -- what the operation reads has its kinds
+      -- the elements that the operation reads have their kinds
       read_kinds :
           Every (λ a. kind_of (holding_of places a) ≡ kind_among P.kinds.items a)
           (reads q.operation)
@@ -313,7 +313,7 @@ module _ (P : FlatProgram) (before code : Code) (inputs : List Value)
           q.operation) (sym allotted.input_kinds) fit)
           read_kinds has_kinds
 
-      -- one more has
+      -- one more equation has its place
       pub placing_next :
           IsPlacing P before code₂ inputs constants kept after known' (i + 1)
       placing_next = record {

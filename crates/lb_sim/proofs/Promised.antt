@@ -20,14 +20,14 @@ use Rattle.lb_flat.specs.Flat.{Previous, Latest}
 use Rattle.lb_flat.specs.FlatPrograms.{IsFlatOf}
 use Rattle.lb_flat.specs.FlatSolutions.{IsFlatSolution}
 use Rattle.lb_flat.specs.Flattening.{history_of, IsTrace}
-use Rattle.lb_flat.specs.FurtherKinds.{kind_among}
+use Rattle.lb_flat.specs.TemporaryKinds.{kind_among}
 use Rattle.lb_flat.specs.Judging.{FlatProgram, flat_verdict}
 use Rattle.lb_flat.specs.Layouts.{flat_clock}
 use Rattle.lb_flat.specs.MemoryPlaces.{HasMemories}
 use Rattle.lb_flat.specs.NumberedLayouts.{layout}
 use Rattle.lb_flat.specs.Run.{Ready, run, streams_of}
-use Rattle.lb_flat.proofs.RunSolutions.{run_solves}
-use Rattle.lb_flat.proofs.StandingRuns.{standing_verdict, standing_determined}
+use Rattle.lb_flat.proofs.solutions.RunSolutions.{run_solves}
+use Rattle.lb_flat.proofs.solutions.StandingRuns.{standing_verdict, standing_determined}
 use Rattle.lb_machine.specs.Meaning.{Lane}
 use Rattle.lb_sim.specs.Promise.{HoldsMemories, HoldsEach, HoldsAll, HoldsHistory, StandsFor}
 use Rattle.lb_sim.specs.Showing.{scalar_at}
@@ -65,7 +65,7 @@ module _ (P : Program) (f : FlatProgram) (flat : IsFlatOf P f) (ready : Ready f.
       (h : HasMemories P (layout P) (kind_among f.kinds) f here k n e) →
       HoldsMemories P (layout P) (kind_among f.kinds) f memory flag H here k n e h
 
-  -- those of an operator
+  -- the memories of an operator are those of the history
   pub memories_held : (here : Instance) (k : Clock) (n : ℕ) (e : Expr) → Here here k n e
   memories_held here k n (Pre a) h =
       operand_held f kept s X state P (layout P) (kind_among f.kinds) solution here k (at k n a)
@@ -122,7 +122,7 @@ module _ (P : Program) (f : FlatProgram) (flat : IsFlatOf P f) (ready : Ready f.
   all_held (here ∷ is) h =
       (each_held here (node_occurrences P here.node) h.0, all_held is h.1)
 
-  -- the history of the run says what the memories hold
+  -- the memories are those of the history of the run
   pub history_held :
       HoldsHistory P (layout P) (kind_among f.kinds) f flat.memories memory flag X
   history_held = record {
@@ -133,7 +133,7 @@ module _ (P : Program) (f : FlatProgram) (flat : IsFlatOf P f) (ready : Ready f.
     memories = all_held (instances P) flat.memories;
   }
 
--- so it stands for the trace
+-- the lane stands for the trace
 pub stands_for :
     (P : Program) (f : FlatProgram) (flat : IsFlatOf P f) → Ready f.size [] f.equations →
     (kept : List Holding) (s : Lane) (X : Inputs) → IsTrace P X → (verdict : Verdict) →

@@ -1,4 +1,4 @@
--- Lanes whose verdicts are kept, and lanes that take members which wait, one after the other.
+-- Lanes whose verdicts are kept, and lanes that take waiting members, one after the other.
 use Rattle.std.proofs.Common.{◌≡◌, ◌≢◌, ℕ, ◌+◌, ◌<◌, ◌≤◌, ◌==◌, ◌||◌, Bool, true, false}
 use Rattle.std.proofs.Common.{List, length, get_or, set, length-set, refl, sym, ap, ◌∙◌}
 use Rattle.std.proofs.Common.{subst, arith, ◌⊎◌, inl, inr}
@@ -18,7 +18,7 @@ use Rattle.lb_sim.specs.InputRows.{begin_of}
 use Rattle.lb_sim.specs.Queues.{IsInLane, IsTakenBy, HasTaken, AreTaken}
 use Rattle.lb_sim.specs.declared.batch_run.BatchRun.{BatchRun}
 
--- a lane takes a place
+-- `IsTakenBy` holds when the place and the trace of a lane are set
 pub taken_by :
     (members places traces : List ℕ) (lane place : ℕ) → lane < length places →
     lane < length traces →
@@ -35,7 +35,7 @@ taken_by members places traces lane place p t = record {
 
 module _ (members : List ℕ) (n settled : ℕ) (most : n ≤ 64) (places traces : List ℕ)
     (rest : ℕ) where
-  -- the lanes below one have had their turns
+  -- the lanes below `lane` have had their turns
   pub record TakenSoFar (places' traces' : List ℕ) (taken rest' lane : ℕ) : Type 0 where
     pub places_room : length places' ≡ length places
     pub traces_room : length traces' ≡ length traces
@@ -68,7 +68,7 @@ module _ (members : List ℕ) (n settled : ℕ) (most : n ≤ 64) (places traces
   }
 
   module _ (p t : List ℕ) (taken left lane : ℕ) (h : TakenSoFar p t taken left lane) where
-    -- lanes that are not settled are passed over
+    -- lanes that are not settled take no member
     pub taken_on :
         (next : ℕ) → lane ≤ next →
         ((i : ℕ) → lane ≤ i → i < next → on settled i ≡ false) → TakenSoFar p t taken left next
@@ -102,7 +102,7 @@ module _ (members : List ℕ) (n settled : ℕ) (most : n ≤ 64) (places traces
       other : (i : ℕ) → i < 64 → i ≢ lane → on taken' i ≡ on taken i
       other i l ne = taken_is i l ∙ ap (λ b. b || on taken i) (no_number i lane ne)
 
-      -- a lane that has not taken is another one
+      -- a lane that has not taken a member is not `lane`
       off_other : (i : ℕ) → on taken' i ≡ false → i ≢ lane
       off_other i e same =
           true≢false (sym (ap (on taken') same ∙ here) ∙ e)
@@ -182,7 +182,7 @@ module _ (members : List ℕ) (n settled : ℕ) (most : n ≤ 64) (places traces
         each = λ k l m. each_now k l m (cases_eq k left');
       }
 
-  -- the same of other names for the lists
+  -- `TakenSoFar` for lists and numbers that are equal to these
   pub taken_as :
       (p t p0 t0 : List ℕ) (taken left k0 l0 lane : ℕ) → p0 ≡ p → t0 ≡ t → k0 ≡ taken →
       l0 ≡ left → TakenSoFar p t taken left lane → TakenSoFar p0 t0 k0 l0 lane
@@ -192,7 +192,7 @@ module _ (members : List ℕ) (n settled : ℕ) (most : n ≤ 64) (places traces
       let h3 = subst (λ x. TakenSoFar p0 t0 x left lane) (sym d) h2 in
       subst (λ x. TakenSoFar p0 t0 k0 x lane) (sym e) h3
 
-  -- all lanes, or as many as there were members
+  -- the members are taken when all lanes have had their turns, or no member waits
   pub all_taken :
       (p t : List ℕ) (taken left lane : ℕ) → (n ≤ lane) ⊎ (left ≤ n) →
       TakenSoFar p t taken left lane →
@@ -214,7 +214,7 @@ module _ (members : List ℕ) (n settled : ℕ) (most : n ≤ 64) (places traces
       by i l s e (inl all) = h.left i (omega (arith, l, all)) (omega (arith, l, most)) s e
       by i l s e (inr none) = let least = h.not_below in omega (arith, none, least)
 
--- where none waits, none is taken
+-- where no member waits, none is taken
 pub nothing_taken :
     (members : List ℕ) (n settled : ℕ) (places traces : List ℕ) (rest : ℕ) → rest ≡ n →
     AreTaken members n settled places places traces traces rest 0 rest
@@ -230,7 +230,7 @@ nothing_taken members n settled places traces rest none = record {
   each = λ k l m. absurd (omega (arith, l, m));
 }
 
--- and no lane begins again
+-- where no member is taken, no lane begins again
 pub no_restart : (run : BatchRun) (lanes : Plane) → lanes.0 ≡ 0 → IsRestart run run lanes
 no_restart run lanes none = record {
   empty = λ i l e. absurd (true≢false (sym e ∙ off i));
@@ -251,7 +251,7 @@ no_restart run lanes none = record {
 
 -- ## Verdicts that are kept
 
--- one verdict more is kept, which is right
+-- one more right verdict is kept
 pub kept_more :
     (f : FlatProgram) (r : Recording) (members : List ℕ) (has has' : ℕ → Verdict → Type 0)
     (place : ℕ) (v : Verdict) → IsVerdictOf f r (get_or members place 0) v → has' place v →

@@ -60,7 +60,7 @@ pub marked_still :
     Every (λ e. get_or old e false ≡ true) es → Every (λ e. get_or new e false ≡ true) es
 marked_still old new done es h m = Every-map (IsMarked old) (IsMarked new) h.still es m
 
--- what holds of each one below, and of the one that is there, holds of one more
+-- a property of the items before place `n` and of item `n` holds of all items before `n + 1`
 below_next :
     {A : Type 0} (xs : List A) (n : ℕ) (x : A) (P : A → Type 0) → get_or xs n x ≡ x → P x →
     ((i : ℕ) (y : A) → i < n → slice_get xs i ≡ Some y → P y) →
@@ -77,7 +77,7 @@ below_next {A} xs n x P at here before i y lt e =
         subst P (sym at ∙ found) here
 
 module _ (p : FlatProgram) where
-  -- the clocks, or the equations, before one of them have their marks
+  -- the first `n` clocks, or the first `n` equations, have their marks
   pub record MarksClocks (marks : List Bool) (n : ℕ) : Type 0 where
     pub as_long : length marks ≡ p.size
     pub clocks :
@@ -142,7 +142,7 @@ module _ (p : FlatProgram) where
             at m.marked (λ i r lt e. marked_still old new _ _ m (h.operands i r lt e));
       }
 
-  -- and where those at which a truth is wanted have theirs, all that it reads has
+  -- all elements that a program reads are marked, where those at which a truth is wanted are
   pub reads_marked :
       (a b d e : List Bool) (xs ys : List ℕ) (n : ℕ) → MarksOperands a n →
       length p.equations.items ≤ n → AreMarkedToo a b xs → AreMarkedToo b d ys →
@@ -218,7 +218,7 @@ loaded_still read inputs old new t t' (Latest v a) s h = h
 loaded_still read inputs old new t t' (Sample a) s h = h
 
 module _ (p : FlatProgram) (inputs : List Value) (marks : List Bool) where
-  -- the inputs of the equations before one of them are loaded, where they are read
+  -- the inputs of the first `n` equations are loaded, where they are read
   pub record LoadsBelow (numbers : List ℕ) (truths : Bool) (n : ℕ) : Type 0 where
     pub within : All (λ w. w < length (number_columns 0 p.inputs.items)) numbers
     pub loads :

@@ -1,5 +1,5 @@
--- The row that a lane shows is that of the flat program's run, from the memories that the lane
--- holds: each of its equations holds of it.
+-- The row that a lane shows is the row of the flat program's run, from the memories in the lane:
+-- each equation holds of it.
 use Rattle.std.proofs.Common.{◌≡◌, ℕ, ◌<◌, Bool, true, false, ◌&&◌, None, List, []}
 use Rattle.std.proofs.Common.{◌∷◌, ◌++◌}
 use Rattle.std.proofs.Common.{inl, inr, map, length, cond, refl, sym, ap, ap₂, ◌∙◌, subst}
@@ -14,8 +14,8 @@ use Rattle.lb_flat.specs.Flat.{FlatEquation}
 use Rattle.lb_flat.specs.Fitting.{OperandsFit, ClockFits}
 use Rattle.lb_flat.specs.Run.{Row, cell, is_now, chosen_cell, now, Ready, row_of, reads}
 use Rattle.lb_flat.specs.Run.{clock_reads}
-use Rattle.lb_flat.proofs.Rows.{row_is}
-use Rattle.lb_flat.proofs.Stepping.{HoldsNow}
+use Rattle.lb_flat.proofs.runs.Rows.{row_is}
+use Rattle.lb_flat.proofs.runs.Stepping.{HoldsNow}
 use Rattle.lb_machine.specs.Meaning.{Lane}
 use Rattle.lb_sim.specs.Showing.{scalar_at, cell_at, row_at}
 use Rattle.lb_sim.specs.States.{no_place, holding_of, present_at, kept_at, with_memory, equation_in}
@@ -66,7 +66,7 @@ module _ (s : Lane) (places : List Place) where
   abbrev row : Row
   row = row_at s places
 
-  -- an element shows what it holds, where it is present
+  -- an element shows its scalar where it is present
   pub cell_is : (e : ℕ) → e < length places →
       cell row e ≡ held (scalar_at s (holding_of places e)) (present_at s places e)
   cell_is e lt = get_or-map (cell_at s) places e no_place None lt
@@ -77,20 +77,20 @@ module _ (s : Lane) (places : List Place) where
       pub is_element : e < length places
       pub on_clock : present_at s places e ≡ is_now row (K e)
 
-    -- what an element shows
+    -- an element shows its scalar where its clock ticks
     shows_now : (e : ℕ) → IsPresent e →
         cell row e ≡ held (scalar_at s (holding_of places e)) (is_now row (K e))
     shows_now e h =
         cell_is e h.is_element
         ∙ ap (held (scalar_at s (holding_of places e))) h.on_clock
 
-    -- an operand on the clock of the equation
+    -- an operand shows its scalar where the clock of the equation ticks
     shows_on : (a : ℕ) (k : FlatClock) → IsPresent a → K a ≡ k →
         cell row a ≡ held (scalar_at s (holding_of places a)) (is_now row k)
     shows_on a k h e =
         shows_now a h ∙ ap (λ c. held (scalar_at s (holding_of places a)) (is_now row c)) e
 
-    -- what the operation gives of the row is what the element shows
+    -- the element shows the result of the operation on the row
     gives :
         (kept : Holding) (k : FlatClock) (o : Operation) (v : Scalar) →
         OperandsFit inputs K k o → Every IsPresent (reads o) →
@@ -196,7 +196,7 @@ module _ (given : List Scalar) (s : Lane) (places : List Place) (kept : List Hol
         all_hold (q.element ∷ done) Q (one_more q.element done x h) ready.1 fits.1 shown.1,
       )
 
-  -- the row is that of the run
+  -- the row of the lane is the row of the run
   pub row_shown :
       (size : ℕ) (Q : List FlatEquation) → length places ≡ size → Ready size [] Q →
       Ready size [] (map (equation_in s kept) Q) → Every (ClockFits inputs K) Q →

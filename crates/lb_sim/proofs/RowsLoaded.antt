@@ -49,7 +49,7 @@ amid_from_start r members n t i h amid = record {
 
 -- ## A row that is loaded
 
--- as many kinds as elements
+-- a signature has as many kinds as elements
 as_many : (elements : Elements) (kinds : List Kind) → kinds_of elements ≡ kinds →
     length kinds ≡ length elements
 as_many elements kinds same =
@@ -121,7 +121,7 @@ place_in j p w (Bool_kind ∷ kinds) (suc k) plane e =
 place_in j p w (Int_kind ∷ kinds) zero plane e = absurd (cc)
 place_in j p w (Int_kind ∷ kinds) (suc k) plane e = place_in (suc j) p (suc w) kinds k plane e
 
--- and no input stands there as a negation
+-- no input stands at a negation
 no_negation :
     (p w : ℕ) (kinds : List Kind) (k : ℕ) (plane : PlaneId) →
     slice_get (places_of p w kinds) k ≡ Some (Negated plane) → ⊥
@@ -153,8 +153,8 @@ module _ (r : Recording) (trace t i : ℕ) (kinds : List Kind) (planes : List �
   abbrev whole : List ℤ
   whole = get_or (trace_at r.traces trace).1 t []
 
-  -- a lane that holds, behind two planes and a word, what is loaded, and one that holds the row
-  -- of the trace
+  -- two lanes: one with the loaded inputs behind two planes and a word, one with the row of the
+  -- trace
   abbrev held : Lane
   held = record {
     bits = λ p. on (get_or planes (p - 2) 0) i;
@@ -239,7 +239,7 @@ module _ (r : Recording) (trace t i : ℕ) (kinds : List Kind) (planes : List �
       other)
       wanted_is rows_alike)
 
--- the row of a lane that was handed over: behind two planes and a word
+-- the row of a lane that was copied behind two planes and a word
 module _ (i : ℕ) (kinds : List Kind) (planes planes' from : List ℕ)
     (words words' words_from : List (List ℤ))
     (planes_room : length planes ≡ length (truth_columns 0 kinds))

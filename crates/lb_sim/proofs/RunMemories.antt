@@ -1,5 +1,5 @@
--- What the memories of a flat program hold after rows, and so after a run, from the cells of the
--- elements that they keep.
+-- The memories of a flat program after rows, and after a run, from the cells of the elements that
+-- they keep.
 use Rattle.std.proofs.Common.{◌≡◌, ℕ, zero, suc, Bool, true, false, Some, None, List, [], ◌∷◌, ◌++◌}
 use Rattle.std.proofs.Common.{map, length, get_or, replicate, refl, sym, ap, ap₂, ◌∙◌, arith}
 use Rattle.std.specs.Prelude.{◌||◌, is_some}
@@ -14,12 +14,12 @@ use Rattle.lb_flat.specs.Flat.{Operation, Input, Constant, Copy, ApplyUnary, App
 use Rattle.lb_flat.specs.Flat.{Choose, FirstThen, Previous, Latest, Sample, FlatEquation, column}
 use Rattle.lb_flat.specs.MemoryPlaces.{after_rows, cells_in, remembers}
 use Rattle.lb_flat.specs.Run.{Row, cell, started_by, remembered, advanced, row_of, run, streams_of}
-use Rattle.lb_flat.proofs.Lists.{map-maps}
-use Rattle.lb_flat.proofs.Rows.{length-row_of}
+use Rattle.lb_flat.proofs.lists.Lists.{map-maps}
+use Rattle.lb_flat.proofs.runs.Rows.{length-row_of}
 
 -- ## After some rows
 
--- an equation with what its memory holds after these rows
+-- an equation with its memory after these rows
 abbrev pub equation_after : List Row → FlatEquation → FlatEquation
 equation_after rows q = record q { operation = remembers rows q.operation }
 
@@ -103,7 +103,7 @@ module _ (size : ℕ) where
   first_and_later (x ∷ row) (ys ∷ F) xs zero e = refl
   first_and_later (x ∷ row) (ys ∷ F) xs (suc j) e = first_and_later row F xs j (omega arith)
 
-  -- the stream of an element is what it held in the rows
+  -- the stream of an element is the list of its cells in the rows
   pub run_cells : (X : Inputs) (Q : List FlatEquation) (j : ℕ) →
       column X (streams_of size (run size Q X)) j ≡ cells_in (run size Q X) j
   run_cells [] Q j = none_there size j
@@ -114,7 +114,7 @@ module _ (size : ℕ) where
       (length-row_of given size Q ∙ sym (length-streams X later))
       ∙ ap (λ xs. cell row j ∷ xs) (run_cells X later j)
 
-  -- a run goes on from what the memories hold
+  -- a run of `X` and then `Z` is the run of `X`, and the run of `Z` from the memories after `X`
   pub run_appended : (X Z : Inputs) (Q : List FlatEquation) →
       run size Q (X ++ Z) ≡ run size Q X ++ run size (after_rows Q (run size Q X)) Z
   run_appended [] Z Q = refl

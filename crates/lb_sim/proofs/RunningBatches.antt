@@ -1,4 +1,4 @@
--- Lanes that are run as long as the same ones go on, instant by instant: how far each has come.
+-- Lanes that run as long as the same lanes go on, instant by instant: the progress of each.
 use Rattle.std.proofs.Common.{◌≡◌, ◌≢◌, ℕ, ◌+◌, ◌-◌, ◌<◌, ◌≤◌, ◌&&◌, Bool, true, false, List, []}
 use Rattle.std.proofs.Common.{◌∷◌, ◌++◌, ◌^◌}
 use Rattle.std.proofs.Common.{length, get_or, take, refl, sym, ap, ◌∙◌, subst, arith, ◌⊎◌, inl, inr}
@@ -44,7 +44,7 @@ one_row_more p [] (y ∷ Y) given other h row = absurd h
 one_row_more p (x ∷ X) [] given other h row = absurd h
 one_row_more p (x ∷ X) (y ∷ Y) given other h row = (h.0, one_row_more p X Y given other h.1 row)
 
--- so they have one verdict
+-- two traces that are alike where they are read have one verdict
 same_verdict : (p : LaneProgram) (X Y : Inputs) → AreTracesAlike p X Y →
     flat_verdict (program_of p.program.now) X ≡ flat_verdict (program_of p.program.now) Y
 same_verdict p X Y h =
@@ -58,7 +58,7 @@ same_verdict p X Y h =
 passed_is : (v : Verdict) → v ≡ Passed → is_passed v ≡ true
 passed_is v e = ap is_passed e
 
--- one instant more
+-- a lane is run to one instant more
 pub lane_goes_on :
     (p : LaneProgram) (old new : BatchRun) (X : Inputs) (i t : ℕ) (lane running : Bool)
     (given : List Scalar) → IsRunTo p old X i t → lane ≡ (on old.active.0 i && running) →
@@ -102,7 +102,7 @@ lane_goes_on p old new X i t lane running given h is runs row moves stays settle
           (active_is ∙ ap (λ b. b && is_passed (verdict_at new i)) e) settled;
     }
 
--- before its first instant
+-- a lane before its first instant is run to instant 0
 pub lane_begins : (p : LaneProgram) (run : BatchRun) (X : Inputs) (i t : ℕ) → t ≡ 0 →
     Stands run i [] → on run.active.0 i ≡ true → IsRunTo p run X i t
 lane_begins p run X i t none stands active = record {
@@ -117,7 +117,7 @@ lane_begins p run X i t none stands active = record {
   };
 }
 
--- its verdict is that of the trace so far
+-- the verdict of a lane is that of its trace so far
 pub verdict_so_far :
     (p : LaneProgram) (run : BatchRun) (X : Inputs) (i t : ℕ) → run.program.now ≡ p →
     (h : IsRunTo p run X i t) →
@@ -135,7 +135,7 @@ pub as_long : (r : Recording) (members : List ℕ) (i : ℕ) →
 as_long r members i =
     length-map (trace_at r.traces (get_or members i 0)).1 (scalars_in r.signature)
 
--- a trace goes on at an instant of the batch where it does at its own instant
+-- a trace goes on at an instant of the batch exactly where it goes on at its own instant
 own_instant : (t begin long : ℕ) → begin ≤ t → nat_lt t (begin + long) ≡ nat_lt (t - begin) long
 own_instant t begin long le = by (cases_lt (t - begin) long)
   where
@@ -149,7 +149,7 @@ own_instant t begin long le = by (cases_lt (t - begin) long)
 module _ (r : Recording) (members begins : List ℕ) (t lanes until : ℕ)
     (few : length members ≤ 64) (begun : (i : ℕ) → i < 64 → begin_of begins i ≤ t)
     (runs : AreRunning r members begins t lanes until) where
-  -- a lane is one of these where its trace goes on
+  -- `lanes` has a lane exactly where its trace goes on
   pub running_is :
       (i : ℕ) → i < length members →
       on lanes i ≡ nat_lt (instant_in begins t i) (length_in r members i)
@@ -180,7 +180,7 @@ module _ (r : Recording) (members begins : List ℕ) (t lanes until : ℕ)
       inside : i < length members
       inside = by (cases_lt i (length members))
 
--- the same lanes at a later instant
+-- the same lanes are running at a later instant
 pub running_later :
     (r : Recording) (members begins : List ℕ) (t lanes until s : ℕ) →
     AreRunning r members begins t lanes until → t ≤ s → s < until →
@@ -193,7 +193,7 @@ running_later r members begins t lanes until s runs ge lt = record {
   };
 }
 
--- and so with the instants that follow, while the lanes are the same
+-- live lanes have each instant that follows, while the same lanes go on
 pub have_instants :
     (r : Recording) (members begins : List ℕ) (t lanes until : ℕ) → length members ≤ 64 →
     ((i : ℕ) → i < 64 → begin_of begins i ≤ t) → AreRunning r members begins t lanes until →
@@ -206,7 +206,8 @@ have_instants r members begins t lanes until few begun runs active live is s ge 
 
 -- ## All lanes, while the same ones go on
 
--- from one run to another, each lane has come as many instants further as it has had
+-- from run `old` to `run`, which is at instant `t`: each lane that was run to its steps in `old` is
+-- run to its steps in `run`
 pub record AreComeTo (p : LaneProgram) (old run : BatchRun) (r : Recording) (members : List ℕ)
     (t : ℕ) : Type 0 where
   pub program_is : run.program.now ≡ p
@@ -248,7 +249,7 @@ module _ (p : LaneProgram) (old run new : BatchRun) (r : Recording) (members : L
   begins_same : run.begins.items ≡ old.begins.items
   begins_same = h.begins_are
 
-  -- the instant of a lane's own
+  -- the own instant of a lane is its number of steps
   own : (i : ℕ) → steps_in run i ≡ instant_in old.begins.items t i
   own i = ap (λ n. n - begin_of run.begins.items i) h.steps_are
       ∙ ap (λ bs. t - begin_of bs i) begins_same
@@ -277,7 +278,7 @@ module _ (p : LaneProgram) (old run new : BatchRun) (r : Recording) (members : L
       (λ Y. step.moves K fits_run i Y lt) (λ Y. step.stays i Y lt) (step.settled i lt)
       (step.active i lt))
 
-  -- one instant more
+  -- all lanes come one instant further
   pub all_come : AreComeTo p old new r members (t + 1)
   all_come = record {
     program_is = step.program ∙ h.program_is;
@@ -286,7 +287,8 @@ module _ (p : LaneProgram) (old run new : BatchRun) (r : Recording) (members : L
     come = λ K fits i l so_far. lane_comes K fits i l (h.come K fits i l so_far);
   }
 
--- where a lane takes part, its trace has not ended before the next instant
+-- a bound on the ends of the traces of all active lanes is at least `t + 1`, where some lane takes
+-- part
 pub one_within :
     (r : Recording) (members begins : List ℕ) (t lanes until : ℕ) →
     AreRunning r members begins t lanes until → (active live : ℕ) →
@@ -311,14 +313,14 @@ one_within r members begins t lanes until runs active live is some fits bound en
             let le = ends i m l on_active in
             omega (arith, goes, le)
 
--- where no lane takes part
+-- where no lane takes part, no active lane goes on
 pub none_there : (active lanes live : ℕ) → IsPlaneOf (λ i. on active i && on lanes i) live →
     live ≡ 0 → (i : ℕ) → i < 64 → (on active i && on lanes i) ≡ false
 none_there active lanes live is off i l = sym (is i l) ∙ ap (λ n. on n i) off ∙ on-zero i
 
--- ## What is loaded ahead
+-- ## Instants that are loaded ahead
 
--- fewer lanes, at the same instant or the next one
+-- `IsAhead` holds for fewer lanes and a later instant
 pub still_ahead :
     (r : Recording) (members begins places : List ℕ) (x : Inputs_room) (t t' live live' : ℕ)
     (loaded : Loaded) → t ≤ t' → AreAmong live' live →

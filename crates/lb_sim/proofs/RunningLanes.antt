@@ -18,7 +18,7 @@ alone true = refl
 alone false = refl
 
 module _ (r : Recording) (members begins : List ℕ) (t : ℕ) where
-  -- the lanes of the first members
+  -- `lanes` is right for the first `n` members
   pub record RunningSoFar (lanes until n : ℕ) : Type 0 where
     pub later : t < until
     pub done :
@@ -32,7 +32,7 @@ module _ (r : Recording) (members begins : List ℕ) (t : ℕ) where
     rest = λ i l m. on-zero i;
   }
 
-  -- one member more
+  -- `lanes'` is right for one more member
   pub running_more :
       (lanes lanes' until until' n end : ℕ) → RunningSoFar lanes until n → n < 64 →
       end ≡ end_in r members begins n → (t < until → t < until') → until' ≤ until →

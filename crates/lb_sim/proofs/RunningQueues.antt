@@ -1,4 +1,4 @@
--- Lanes that run the members of a queue: which member each lane has, and how far it has come.
+-- Lanes that run the members of a queue: the member of each lane, and its progress.
 use Rattle.std.proofs.Common.{◌≡◌, ℕ, zero, suc, ◌+◌, ◌-◌, ◌<◌, ◌≤◌, ◌&&◌, ◌||◌, Bool, true}
 use Rattle.std.proofs.Common.{false, not, List, length, get_or, refl, sym, ap, ap₂, ◌∙◌}
 use Rattle.std.proofs.Common.{subst, arith, ◌⊎◌, inl, inr, ◌^◌}
@@ -14,7 +14,7 @@ use Rattle.lb_flat.specs.Inputs.{inputs_of}
 use Rattle.lb_flat.specs.Judging.{flat_verdict}
 use Rattle.lb_flat.specs.Programs.{program_of}
 use Rattle.lb_traces.specs.Traces.{Recording, IsRecording}
-use Rattle.lb_flat.proofs.InOrder.{ready_of}
+use Rattle.lb_flat.proofs.ordering.InOrder.{ready_of}
 use Rattle.lb_lanes.specs.Planes.{IsPlaneOf, on}
 use Rattle.lb_lanes.specs.declared.planes.Plane.{Plane}
 use Rattle.lb_lanes.proofs.OnPlanes.{on-zero, SetBit}
@@ -83,7 +83,7 @@ settled_both true true e = absurd (true≢false (sym e))
 settled_both true false e = (refl, refl)
 settled_both false goes e = absurd (true≢false (sym e))
 
--- a lane that is pending still was so before, or has taken a member
+-- a lane that is pending still was pending before, or has taken a member
 still_pending : (before settled taken : Bool) → ((before && not settled) || taken) ≡ true →
     taken ≡ false → (before ≡ true) × (settled ≡ false)
 still_pending true true true e f = absurd (true≢false f)
@@ -110,7 +110,8 @@ module _ (p : LaneProgram) (r : Recording) (members : List ℕ) (n : ℕ) (few :
 
   pub all_begin :
       (run : BatchRun) (traces places : List ℕ) (has : ℕ → Verdict → Type 0) →
-      run.active.0 < 2 ^ 64 → 0 < n → run.program.now ≡ p → IsFresh run n → length places ≡ 64 → length traces ≡ 64 →
+      run.active.0 < 2 ^ 64 → 0 < n → run.program.now ≡ p → IsFresh run n → length places ≡ 64 →
+      length traces ≡ 64 →
       ((i : ℕ) → i < 64 → get_or places i 0 ≡ i) → All (λ k. k < length r.traces) traces →
       ((i : ℕ) → i < n → get_or traces i 0 ≡ get_or members i 0) →
       AreRunTo p r members n run traces places run.active.0 (length members) has
@@ -168,7 +169,7 @@ module _ (p : LaneProgram) (r : Recording) (members : List ℕ) (n : ℕ) (few :
       }
       first_lane k l (inr m) = absurd (omega (arith, l, m))
 
-  -- ## What a lane has when its trace does not go on
+  -- ## A lane whose trace does not go on
 
   pub right_at_rest :
       (run : BatchRun) (traces places : List ℕ) (i : ℕ) → run.program.now ≡ p →
@@ -183,7 +184,7 @@ module _ (p : LaneProgram) (r : Recording) (members : List ℕ) (n : ℕ) (few :
       (ap (λ m. on run.active.0 i && nat_lt (steps_in run i) m) (as_long r traces i) ∙ off)
       ∙ ap (λ k. flat_verdict (program_of p.program.now) (inputs_of r k)) trace_is
 
-  -- which is the right one
+  -- the verdict of a lane whose trace does not go on is the right one
   pub settled_right :
       (run : BatchRun) (traces places : List ℕ) (pending rest : ℕ)
       (has : ℕ → Verdict → Type 0) → AreRunTo p r members n run traces places pending rest has →
@@ -197,7 +198,7 @@ module _ (p : LaneProgram) (r : Recording) (members : List ℕ) (n : ℕ) (few :
       (λ K fits.
       right_at_rest run traces places i h.program_is (h.traces_are i l) (h.each K fits i l) off)
 
-  -- the lanes that are settled, as they are found
+  -- the settled lanes are the pending lanes that do not go on
   pub lanes_settled :
       (run : BatchRun) (traces places : List ℕ) (pending rest : ℕ)
       (has : ℕ → Verdict → Type 0) → AreRunTo p r members n run traces places pending rest has →
@@ -211,7 +212,7 @@ module _ (p : LaneProgram) (r : Recording) (members : List ℕ) (n : ℕ) (few :
       (running_is r traces run.begins.items run.steps plane until (omega (arith, h.traces_room))
       run.begun runs i (omega (arith, l, h.traces_room)))
 
-  -- where none is, each lane that is pending goes on
+  -- where no lane is settled, each pending lane goes on
   pub none_settled :
       (run : BatchRun) (traces : List ℕ) (pending settled before rest : ℕ) →
       ((i : ℕ) → i < 64 → on settled i ≡ (on pending i && not (goes_on run r traces i))) →
@@ -271,7 +272,7 @@ module _ (p : LaneProgram) (r : Recording) (members : List ℕ) (n : ℕ) (few :
     fewer : to rest' ≤ to rest
     fewer = more_instants r members rest' rest taken.not_above h.rest_most
 
-    -- a lane goes on where it did
+    -- a lane that takes no member goes on if it did before
     pub goes_kept : (i : ℕ) → i < n → on lanes.0 i ≡ false →
         goes_on new r traces' i ≡ goes_on old r traces i
     goes_kept i l e =
@@ -370,7 +371,7 @@ module _ (p : LaneProgram) (r : Recording) (members : List ℕ) (n : ℕ) (few :
         by false e = e
         by true e = absurd (true≢false (sym (taken.takes i l e).idle ∙ off))
 
-    -- the verdict of a lane was kept, or it is pending still
+    -- the verdict of a lane is kept, or the lane is still pending
     in_lane :
         (k : ℕ) (there : IsInLane places pending n k) (b : Bool) → on settled there.lane ≡ b →
         HasVerdict (program_of p.program.now) r members has' k ⊎ IsInLane places' pending' n k
@@ -432,7 +433,7 @@ module _ (p : LaneProgram) (r : Recording) (members : List ℕ) (n : ℕ) (few :
         (still_pending (on pending i) (on settled i) (on lanes.0 i) (sym (pending_is i l) ∙ e)
         is).0
 
-    -- where no lane is pending any more, one has taken none
+    -- where no lane is pending any more, no member waits
     ended_after : pending' ≡ 0 → rest' ≡ n
     ended_after none =
         let i = some_settled.place in
@@ -535,8 +536,8 @@ module _ (p : LaneProgram) (r : Recording) (members : List ℕ) (n : ℕ) (few :
         omega (arith, end)) in
         omega (arith, le, steps)
 
-    pub all_stretched : AreRunTo p r members n new traces places pending rest has
-    all_stretched = record {
+    pub all_ranged : AreRunTo p r members n new traces places pending rest has
+    all_ranged = record {
       program_is = program_is ∙ h.program_is;
       places_room = h.places_room;
       traces_room = h.traces_room;

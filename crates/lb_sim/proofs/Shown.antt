@@ -1,4 +1,4 @@
--- Each operation of the language on what three planes and a value show.
+-- Each operation of the language on scalars that are shown by planes and a value.
 use Rattle.std.proofs.Common.{◌≡◌, Bool, true, false, ℤ, pos, Option, Some, None, cond, refl, ap}
 use Rattle.std.proofs.Common.{ap₂, ◌∙◌}
 use Rattle.lb_syntax.specs.declared.tree.BinaryOperator.TheVariants.{Plus, Minus, Times, Divide}
@@ -64,7 +64,7 @@ negate_shown x b n = negate_cases (difference_of (pos 0) x) x b n (negated_is x)
 
 -- ## Choices
 
--- what is chosen is a fault where the condition is, whatever the two are there
+-- the operands of a choice count only where the condition is no fault
 pub chosen_within :
     (bc nc : Bool) (c x y v w : Scalar) → (bc ≡ false → v ≡ x) → (bc ≡ false → w ≡ y) →
     chosen (shown bc nc c) v w ≡ chosen (shown bc nc c) x y

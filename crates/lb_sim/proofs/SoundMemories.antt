@@ -1,4 +1,4 @@
--- In a lane whose trace has passed no memory is a fault: its operand is a named place.
+-- No memory is a fault in a lane whose trace has passed, since its operand is a named place.
 use Rattle.std.proofs.Common.{◌≡◌, ◌≢◌, ℕ, suc, ◌+◌, ◌<◌, Bool, false, Option, Some}
 use Rattle.std.proofs.Common.{None, List, [], ◌∷◌, ◌++◌, map, length, flat_map, refl, sym, ◌∙◌}
 use Rattle.std.proofs.Common.{subst, arith}
@@ -26,13 +26,13 @@ use Rattle.lb_flat.specs.Flat.{Operation, column}
 use Rattle.lb_flat.specs.FlatPrograms.{IsFlatOf}
 use Rattle.lb_flat.specs.FlatSolutions.{IsFlatSolution}
 use Rattle.lb_flat.specs.Flattening.{history_of, IsTrace}
-use Rattle.lb_flat.specs.FurtherKinds.{kind_among}
+use Rattle.lb_flat.specs.TemporaryKinds.{kind_among}
 use Rattle.lb_flat.specs.Judging.{FlatProgram, flat_verdict}
 use Rattle.lb_flat.specs.MemoryPlaces.{HasMemories, KeepsOperand, newest_of}
 use Rattle.lb_flat.specs.NumberedLayouts.{layout}
 use Rattle.lb_flat.specs.Run.{Ready, run, streams_of}
-use Rattle.lb_flat.proofs.Columns.{column_long}
-use Rattle.lb_flat.proofs.Judging.{flat_ends}
+use Rattle.lb_flat.proofs.lists.Columns.{column_long}
+use Rattle.lb_flat.proofs.runs.Judging.{flat_ends}
 use Rattle.lb_machine.specs.Meaning.{Lane}
 use Rattle.lb_sim.specs.Showing.{scalar_at}
 use Rattle.lb_sim.specs.SoundMemories.{NoneIsFault, KeepsNoFault, EachKeepsNoFault, AllKeepNoFault}
@@ -57,7 +57,7 @@ stream_sound v (x ∷ xs) good none =
     stream_sound (newest v x) xs (newest_sound v x good (none 0 (omega arith)))
     (λ t lt. none (suc t) (omega (arith, lt)))
 
--- memories that hold the newest scalars of streams of which none is a fault
+-- memories are no faults, if they hold the newest scalars of streams without a fault
 places_sound :
     (memory : ℕ → Scalar) (n : ℕ) (places : List ℕ) (xss : List Stream) →
     map memory places ≡ map (newest_of Nil) xss → Every (λ xs. length xs ≡ n) xss →
@@ -84,7 +84,7 @@ columns_long X F long (i ∷ is) = (long i, columns_long X F long is)
 
 -- ## Streams side by side
 
--- where nothing of the streams of some things passes a test
+-- no stream of the first part of a list passes a test, if none of the list does
 none_first :
     (test : Stream → Bool) (xs ys : List Stream) → list_any test (xs ++ ys) ≡ false →
     list_any test xs ≡ false

@@ -1,4 +1,4 @@
--- One instant more: the state and the verdict of the flat program, from the row that a lane shows.
+-- The state and the verdict of the flat program one instant later, from the row that a lane shows.
 use Rattle.std.proofs.Common.{◌≡◌, ℕ, suc, ◌+◌, List, [], ◌∷◌, ◌++◌}
 use Rattle.std.proofs.Common.{map}
 use Rattle.std.proofs.Common.{length, refl, sym, ap, ◌∙◌, arith}
@@ -12,23 +12,23 @@ use Rattle.lb_flat.specs.Flat.{FlatEquation}
 use Rattle.lb_flat.specs.Judging.{FlatProgram, row_judged, rows_judged, flat_verdict}
 use Rattle.lb_flat.specs.MemoryPlaces.{after_rows}
 use Rattle.lb_flat.specs.Run.{Row, advanced, Ready, row_of, run}
-use Rattle.lb_flat.proofs.Judging.{length-run}
+use Rattle.lb_flat.proofs.runs.Judging.{length-run}
 use Rattle.lb_sim.proofs.RunMemories.{run_appended}
-use Rattle.lb_flat.proofs.Running.{ready_advanced}
+use Rattle.lb_flat.proofs.runs.Running.{ready_advanced}
 use Rattle.lb_machine.specs.Meaning.{Lane}
 use Rattle.lb_sim.specs.States.{equation_in, IsStateAfter}
 use Rattle.lb_sim.specs.declared.place.Holding.{Holding}
 
 -- ## Rows after rows
 
--- equations in order stay so
+-- equations in order are in order after rows
 pub ready_after : (size : ℕ) (rows : List Row) (Q : List FlatEquation) → Ready size [] Q →
     Ready size [] (after_rows Q rows)
 ready_after size [] Q ready = ready
 ready_after size (row ∷ rows) Q ready =
     ready_after size rows (map (advanced row) Q) (ready_advanced size row [] Q ready)
 
--- one row more moves the memories on once more
+-- the memories after one more row are those before it, moved on by the row
 pub after_one : (rows : List Row) (row : Row) (Q : List FlatEquation) →
     after_rows Q (rows ++ row ∷ []) ≡ map (advanced row) (after_rows Q rows)
 after_one [] row Q = refl
@@ -48,7 +48,7 @@ or_later_passed (Undefined t) = refl
 or_later_passed (Assertion t) = refl
 or_later_passed (False t) = refl
 
--- and decides where nothing before it has decided
+-- the verdict of one more row counts where the rows before it have passed
 pub judged_one : (f : FlatProgram) (t n : ℕ) (rows : List Row) (row : Row) → t + length rows ≡ n →
     rows_judged f t (rows ++ row ∷ []) ≡ or_later (rows_judged f t rows) (row_judged f n row)
 judged_one f t n [] row e =
@@ -66,14 +66,14 @@ module _ (f : FlatProgram) (kept : List Holding) (s : Lane) (X : Inputs) (given 
   abbrev rows : List Row
   rows = run f.size f.equations X
 
-  -- the run has this row more
+  -- the run of one more instant has one more row
   pub one_row : run f.size f.equations (X ++ given ∷ []) ≡ rows ++ row ∷ []
   one_row =
       run_appended f.size X (given ∷ []) f.equations
       ∙ ap (λ Q. rows ++ row_of f.size Q given ∷ []) state
       ∙ ap (λ r. rows ++ r ∷ []) (sym is_row)
 
-  -- a lane that moved its memories on by the row holds the state after it
+  -- a lane whose memories the row moves on holds the state after the row
   pub state_moved :
       (s' : Lane) →
       map (equation_in s' kept) f.equations
@@ -85,7 +85,7 @@ module _ (f : FlatProgram) (kept : List Holding) (s : Lane) (X : Inputs) (given 
       ∙ ap (map (advanced row)) state
       ∙ sym moved
 
-  -- the verdict is what it was, or what the row decides
+  -- the verdict is the one before, or else the verdict of the row
   pub verdict_moved :
       flat_verdict f (X ++ given ∷ [])
       ≡ or_later (flat_verdict f X) (row_judged f (length X) row)

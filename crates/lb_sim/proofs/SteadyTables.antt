@@ -1,5 +1,5 @@
--- Tables of what stands in for memories: the loop that fills one, and that of the memories
--- themselves.
+-- Tables of holdings that stand in for memories: the loop that fills one, and the table of the
+-- memories themselves.
 use Rattle.std.proofs.Common.{◌≡◌, ℕ, ◌+◌, ◌<◌, ◌≤◌, List, []}
 use Rattle.std.proofs.Common.{◌∷◌, length}
 use Rattle.std.proofs.Common.{get_or, set as put, take, All, refl, sym, ap, ◌∙◌, subst, arith}
@@ -57,7 +57,7 @@ module _ (home held : Holding) (clear clear' set : List PlaneId)
 
 -- ## The loop
 
--- the memories of the first i equations have what stands in for them
+-- the memories of the first `i` equations have holdings that stand in for them
 pub record IsSteadying (f : FlatProgram) (mp np nw : ℕ) (kept table : List Holding)
     (clear set : List PlaneId) (i : ℕ) : Type 0 where
   pub filling : IsFilling f.size f.equations table i
@@ -180,7 +180,7 @@ module _ (f : FlatProgram) (mp mw : ℕ) (preset : Preset) (kept : List Holding)
 
   module _ (table : List Holding) (clear set : List PlaneId) (i : ℕ)
       (h : IsSteadying f mp np nw kept table clear set i) where
-    -- the next memory has what stands in for it
+    -- the next memory has a holding that stands in for it
     pub steadying_more :
         (q : FlatEquation) → i < length f.equations → get_or f.equations i q ≡ q →
         (home held : Holding) → home ≡ kept_at kept q.element → IsMemoryOf f q home →
@@ -209,7 +209,7 @@ module _ (f : FlatProgram) (mp mw : ℕ) (preset : Preset) (kept : List Holding)
           set_homes = new.set_homes mp np there.plane h.set_homes;
         }
 
-    -- at the end all have
+    -- at the end all memories have holdings that stand in for them
     pub all_steady : length f.equations ≤ i → IsTableOf f mp np nw kept table clear set
     all_steady le = record {
       as_long = h.filling.as_long;

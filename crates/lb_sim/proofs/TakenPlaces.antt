@@ -1,4 +1,4 @@
--- What a memory holds in the lane that follows: what its sources hold in this one.
+-- A memory in the following lane holds what its sources hold in this one.
 use Rattle.std.proofs.Common.{◌≡◌, ◌≢◌, ℕ, suc, ◌+◌, ◌<◌, ◌⊎◌, ◌||◌, Bool, false, List}
 use Rattle.std.proofs.Common.{[]}
 use Rattle.std.proofs.Common.{◌∷◌, get_or, length, cond, All, refl, sym, ap, ap₂, ◌∙◌, subst}
@@ -79,7 +79,7 @@ next_grown a b places home (ApplyBinary op x y) g more h = tt
 next_grown a b places home (Choose c x y) g more h = tt
 next_grown a b places home (Sample x) g more h = tt
 
--- those of a memory, one after the other
+-- the sources of a memory, one after the other
 pub all_taken :
     (a b c d : Code) (home next : Holding) (hp np : PlaneId) (hw nw : WordId)
     (P after_value after_nil P' : List PlaneId) (W W' : List WordId) →
@@ -114,7 +114,7 @@ all_taken a b c d home next hp np hw nw P x y P' W W' ehp enp ehw enw tv tn tb t
 
 module _ {A : Type 0} (P : A → Type 0) (first home : ℕ) (old new : List A)
     (taken : IsTaken P home old new) where
-  -- the sources have a law, each of them
+  -- a law holds of each source, one more included
   pub taken_all : (R : A → Type 0) → ((x : A) → P x → R x) → All R old → All R new
   taken_all R f all = by taken
     where
@@ -139,7 +139,7 @@ module _ {A : Type 0} (P : A → Type 0) (first home : ℕ) (old new : List A)
           subst (λ n. IsRow n rest end) next
           ((row_takes (first + length old) end home rest h.0 row).1)
 
-  -- in a lane that follows, the place holds what its source holds
+  -- in the following lane, the place holds what its source holds in this one
   module _ {T : Type 0} (number : A → ℕ) (look look' : ℕ → T) where
     pub carried_before :
         ((j : ℕ) (d : A) → j < length new → look' (first + j) ≡ look (number (get_or new j d))) →
@@ -180,7 +180,7 @@ module _ {A : Type 0} (P : A → Type 0) (first home : ℕ) (old new : List A)
 
 -- ## One memory
 
--- the places of a memory hold next what those of another holding hold now; 0 is false
+-- the places of memory `h` hold in `s'` what those of `g` hold in `s`; 0 stands for no place
 pub record IsHandedOver (s s' : Lane) (h g : Holding) : Type 0 where
   pub value : plane_in h.value ≢ 0 → s'.bits (plane_in h.value) ≡ s.bits (plane_in g.value)
   pub nil : h.nil.0 ≢ 0 → s'.bits h.nil.0 ≡ s.bits g.nil.0
@@ -212,13 +212,13 @@ set_plane (Truth p) k n = n
 set_plane (Negated p) k n = absurd n
 set_plane (Number w) k n = absurd (cc)
 
--- what takes a place as it is is no negation
+-- a value that is set is no negation
 set_plain : (x : Value) → IsSet x → IsPlain x
 set_plain (Truth p) n = tt
 set_plain (Negated p) n = n
 set_plain (Number w) n = tt
 
--- a flag is its plane
+-- the flag of a holding is the bit of its plane
 flag_is : (s : Lane) (h : Holding) → IsFlagHolding h → s.bits 0 ≡ false →
     flag_at s h ≡ s.bits (plane_in h.value)
 flag_is s h f e =
@@ -269,7 +269,7 @@ module _ (code : Code) (s s' : Lane) (run : HasRun (listed code.instructions) s)
           named_moved s s' places named a h g lt quiet none.1 (ap s.bits none.0 ∙ over.now)
           (ap s'.bits none.0 ∙ over.after) value (over.nil home.nil) means
 
-  -- an operation's memory moves on, where `held` shows what it holds
+  -- the memory of an operation moves on, where `held` shows the memory now
   pub memory_moves :
       (inputs : List Kind) (kind : Kind) (o : Operation) (h held g : Holding) →
       OperandKinds inputs N kind o → IsMemory kind (λ a. In a named) o h → IsHeldFor o h held →

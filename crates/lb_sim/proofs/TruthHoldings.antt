@@ -1,4 +1,4 @@
--- What holdings of truths are for.
+-- The scalars that holdings of truths hold.
 use Rattle.std.proofs.Common.{◌≡◌, ◌≢◌, ◌||◌, Bool, true, false, Some, cond, refl, sym, ap, ap₂}
 use Rattle.std.proofs.Common.{◌∙◌}
 use Rattle.lb_syntax.specs.declared.tree.BinaryOperator.{BinaryOperator}
@@ -19,11 +19,11 @@ use Rattle.lb_sim.specs.Holdings.{IsFor, IsTruth, IsTruthFor, IsValueFor}
 use Rattle.lb_sim.specs.Showing.{shown, kind_of, scalar_at, truth_at, value_at, value_kind}
 use Rattle.lb_sim.specs.declared.place.Holding.{Holding}
 use Rattle.lb_sim.specs.declared.place.Value.{Value}
-use Rattle.lb_sim.specs.declared.signed.Signed.{Signed}
+use Rattle.lb_sim.specs.declared.literal.Literal.{Literal}
 
--- a truth that is nil, and a fault, where planes are true
+-- the scalar of a truth that is nil where one plane is true, and a fault where another is
 shows_truth :
-    (s : Lane) (h : Holding) (x : Signed) (nil bad : PlaneId) (v : Scalar) (b : Bool) →
+    (s : Lane) (h : Holding) (x : Literal) (nil bad : PlaneId) (v : Scalar) (b : Bool) →
     IsTruth h.value x → h.nil ≡ nil → h.bad ≡ bad → s.bits bad.0 ≡ b →
     Boolean (truth_at s x) ≡ v → scalar_at s h ≡ shown b (s.bits nil.0) v
 shows_truth s h x nil bad v b is is_nil is_bad faults means =
@@ -54,7 +54,7 @@ compared_kind Implies kind a b c d e f = absurd (cc)
 
 pub compared_for :
     (code : Code) (op : BinaryOperator) (kind : Kind) (a b : WordId) (nil left right bad : PlaneId)
-    (x : Signed) (h : Holding) → op ≢ Plus → op ≢ Minus → op ≢ Times → op ≢ Divide →
+    (x : Literal) (h : Holding) → op ≢ Plus → op ≢ Minus → op ≢ Times → op ≢ Divide →
     op ≢ Modulo → integers_kind op ≡ Some kind → IsTruth h.value x → h.nil ≡ nil → h.bad ≡ bad →
     ((s : Lane) → HasRun (listed code.instructions) s →
     s.bits bad.0 ≡ (s.bits left.0 || s.bits right.0)) →
@@ -105,7 +105,7 @@ both_shown op x y false false false true = refl
 both_shown op x y false false false false = refl
 
 pub truths_for :
-    (code : Code) (op : BinaryOperator) (kind : Kind) (a b : Holding) (x y z : Signed)
+    (code : Code) (op : BinaryOperator) (kind : Kind) (a b : Holding) (x y z : Literal)
     (nil bad : PlaneId) (h : Holding) → IsTruth a.value x → IsTruth b.value y →
     IsTruth h.value z → h.nil ≡ nil → h.bad ≡ bad →
     ((s : Lane) → HasRun (listed code.instructions) s →
@@ -143,7 +143,7 @@ one_of true x y = refl
 one_of false x y = refl
 
 pub picked_for :
-    (code : Code) (mask : PlaneId) (a b v : Value) (x y z : Signed) → IsTruth a x → IsTruth b y →
+    (code : Code) (mask : PlaneId) (a b v : Value) (x y z : Literal) → IsTruth a x → IsTruth b y →
     IsTruthFor code (λ s. cond (s.bits mask.0) (truth_at s x) (truth_at s y)) z → IsTruth v z →
     IsValueFor code (value_kind a) (λ s. cond (s.bits mask.0) (value_at s a) (value_at s b)) v
 picked_for code mask a b v x y z is_x is_y picked is_z = record {

@@ -1,4 +1,4 @@
--- A memory whose operand is absent at an instant is what it was.
+-- A memory whose operand is absent at an instant does not change.
 use Rattle.std.proofs.Common.{◌≡◌, Bool, true, false, None, List, [], ◌∷◌, ◌++◌, map, refl, sym}
 use Rattle.std.proofs.Common.{ap, ◌∙◌, subst}
 use Rattle.lb_syntax.specs.Lists.{Every}
@@ -20,7 +20,7 @@ use Rattle.lb_sim.specs.declared.program.LaneProgram.{LaneProgram}
 use Rattle.lb_sim.proofs.RunMemories.{run_appended}
 use Rattle.lb_sim.proofs.Standing.{after_one}
 
--- what an operation holds
+-- the memory of an operation
 memory_in : Operation → Scalar
 memory_in (Previous v a) = v
 memory_in (Latest v a) = v
@@ -52,7 +52,7 @@ waits row s s' h (ApplyBinary op a b) e = tt
 waits row s s' h (Choose c a b) e = tt
 waits row s s' h (Sample a) e = tt
 
--- the first of two lists, and the rest
+-- the first item of a list, and the rest
 module _ {A : Type 0} where
   first_of_list : A → List A → A
   first_of_list d [] = d
@@ -77,7 +77,8 @@ all_wait row s s' kept (q ∷ Q) e = (
   all_wait row s s' kept Q (ap rest_of e),
 )
 
--- from the state after a trace to that after one row more
+-- from the state after a trace to the state one row later, memories whose operand is absent do not
+-- change
 pub keeps_memories :
     (f : FlatProgram) (kept : List Holding) (s s' : Lane) (X : Inputs) (given : List Scalar) →
     IsStateAfter f kept s X → IsStateAfter f kept s' (X ++ given ∷ []) →
@@ -96,7 +97,7 @@ keeps_memories f kept s s' X given was is =
     ∙ after_one rows row f.equations
     ∙ ap (map (advanced row)) was)
 
--- the same of two lanes of runs of a program
+-- `keeps_memories` for two lanes of runs of a program
 pub program_keeps :
     (p p' : LaneProgram) → p' ≡ p → (s s' : Lane) (X : Inputs) (given : List Scalar) →
     IsStateAfter (program_of p.program.now) p.kept.items s X →

@@ -1,4 +1,4 @@
--- What a cell that a lane shows passes, plane by plane; and a test of some elements, one after the
+-- The tests of a cell that a lane shows, plane by plane; and a test of some elements, one after the
 -- other.
 use Rattle.std.proofs.Common.{arith, suc, ◌+◌, ◌-◌, ◌<◌, ◌≤◌, [], ◌∷◌, length, ◌≡◌}
 use Rattle.std.proofs.Common.{ℕ, Bool, true, false, ◌||◌, Option, Some, None, List, get_or, refl}
@@ -27,7 +27,7 @@ or_further : (a b c : Bool) → ((a || b) || c) ≡ (a || (b || c))
 or_further true b c = refl
 or_further false b c = refl
 
--- a plane holds the test of some elements, and the rest is still to come
+-- `plane` holds the test of some elements, and `rest` is still to be tested
 pub record IsWatching (test : Option Cell → Bool) (before code : Code) (places : List Place)
     (elements rest : List ℕ) (above plane : PlaneId) : Type 0 where
   pub grown : IsGrown before code
@@ -83,7 +83,7 @@ module _ (test : Option Cell → Bool) (before code : Code) (places : List Place
 
 -- ## Marked planes
 
--- planes that are within a plane are so still, where the code has grown
+-- marked planes within a plane are still within it when the code has grown
 pub within_grown : (a b : Code) (marked : List Bool) (p : PlaneId) → IsGrown a b →
     AreWithin a marked p → AreWithin b marked p
 within_grown a b marked p g h = record { within = λ k e s r. h.within k e s (g.runs s r) }
@@ -119,7 +119,7 @@ within_more a b old new plane here both g h made more = record {
     by k s r on (inl e) = or_right _ _ (ap s.bits (sym e) ∙ on)
     by k s r on (inr e) = or_left _ _ (h.within k e s (g.runs s r) on)
 
--- ## What is still to come
+-- ## The elements that are still to come
 
 pub range_cut : (i count : ℕ) → i < count →
     range_with_len i (count - i) ≡ i ∷ range_with_len (i + 1) (count - (i + 1))
@@ -157,7 +157,8 @@ some_here test row (suc n) from i le lt e =
     by (inl same) later = or_left _ _ (ap (λ k. test (Some (cell row k))) same ∙ e)
     by (inr more) later = or_right _ _ (later more)
 
--- what one of some elements shows, each of which is one of the first, one of the first shows
+-- if one of some elements passes a test, and each of them is among the first `n`, one of the first
+-- `n` passes it
 pub some_among :
     (test : Option Cell → Bool) (row : Row) (n : ℕ) (ids : List ElementId) →
     All (λ a. a.0 < n) ids → some_in test row (numbers_of ids) ≡ true →

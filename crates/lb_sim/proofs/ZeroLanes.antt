@@ -1,4 +1,4 @@
--- Words that are 0 in each lane, and the row that a lane shows of them.
+-- Words that are 0 in each lane, and the row of them that a lane shows.
 use Rattle.std.proofs.Common.{◌≡◌, ℕ, ◌+◌, ◌<◌, List, [], ℤ, get_or, length, map, replicate}
 use Rattle.std.proofs.Common.{ap, ◌∙◌, arith}
 use Rattle.std.proofs.lemmas.List.{get_or-replicate}
@@ -10,7 +10,7 @@ use Rattle.lb_machine.specs.Meaning.{lane_at}
 use Rattle.lb_sim.specs.InputRows.{AreZero, lane_row, truth_columns, number_columns, zero_of}
 use Rattle.lb_sim.proofs.InputColumns.{row_zero}
 
--- a lane shows 0 and false
+-- the row of a lane is 0 and false
 pub row_of_zero :
     (kinds : List Kind) (planes : List ℕ) (words : List (List ℤ)) (i : ℕ) → i < 64 →
     planes ≡ replicate (length (truth_columns 0 kinds)) 0 → AreZero words →

@@ -1,4 +1,4 @@
--- What stands before the code of the equations: where inputs, constants and memories are found.
+-- The places before the code of the equations: inputs, constants and memories.
 -- Source: this project's rule.
 use Rattle.std.specs.Prelude.{◌≡◌, List, length, map, All}
 use Rattle.lb_syntax.specs.declared.tree.Kind.{Kind}
@@ -6,7 +6,7 @@ use Rattle.lb_syntax.specs.declared.tree.Kind.TheVariants.{Bool as Bool_kind}
 use Rattle.lb_syntax.specs.Lists.{Every}
 use Rattle.lb_flat.specs.Fitting.{IsOf}
 use Rattle.lb_flat.specs.Flat.{Operation, Constant, FirstThen, Previous, Latest, FlatEquation}
-use Rattle.lb_flat.specs.FurtherKinds.{kind_among}
+use Rattle.lb_flat.specs.TemporaryKinds.{kind_among}
 use Rattle.lb_flat.specs.Judging.{FlatProgram}
 use Rattle.lb_machine.specs.Meaning.{Lane}
 use Rattle.lb_machine.specs.declared.code.Code.{Code}
@@ -16,15 +16,15 @@ use Rattle.lb_sim.specs.States.{kept_at}
 use Rattle.lb_sim.specs.declared.place.Holding.{Holding}
 use Rattle.lb_sim.specs.declared.place.Value.{Value}
 
--- the truth value of a memory of `->`, which is never nil and no fault
+-- the holding of a memory of `->`: a truth value that is never nil and no fault
 pub record IsFlagHolding (h : Holding) : Type 0 where
   pub kind_is : kind_of h ≡ Bool_kind
   pub plain : IsPlain h.value
   pub no_nil : h.nil.0 ≡ 0
   pub no_bad : h.bad.0 ≡ 0
 
--- a constant, where it is one of the kind of its element, is held as one, and so is a memory; that
--- of `->` is a flag
+-- the kinds of a constant and of a memory: each holding has the kind of its element, if the scalar
+-- has it too; the memory of `->` is a flag
 abbrev pub HasKinds : Kind → Operation → (constant kept : Holding) → Type 0
 HasKinds kind (Constant v) constant kept = IsOf kind v → kind_of constant ≡ kind
 HasKinds kind (FirstThen started a b) constant kept = IsFlagHolding kept
@@ -32,13 +32,13 @@ HasKinds kind (Previous v a) constant kept = IsOf kind v → kind_of kept ≡ ki
 HasKinds kind (Latest v a) constant kept = IsOf kind v → kind_of kept ≡ kind
 HasKinds kind o constant kept = Unit {0}
 
--- the same of the element of an equation, in tables with a holding for each element
+-- `HasKinds` for the element of an equation, in tables with a holding for each element
 abbrev pub HasKindsIn : List Kind → (constants kept : List Holding) → FlatEquation → Type 0
 HasKindsIn kinds constants kept q =
     HasKinds (kind_among kinds q.element) q.operation (kept_at constants q.element)
     (kept_at kept q.element)
 
--- places of the code before its equations
+-- the places of inputs, constants and memories are in the code, and have the kinds of the program
 pub record IsAllotted (f : FlatProgram) (code : Code) (inputs : List Value)
     (constants kept : List Holding) : Type 0 where
   pub inputs_in : All (IsValueIn code) inputs
@@ -54,7 +54,7 @@ abbrev pub HasConstant : Lane → Operation → (constant : Holding) → Type 0
 HasConstant s (Constant v) constant = scalar_at s constant ≡ v
 HasConstant s o constant = Unit {0}
 
--- and those of all equations
+-- a lane holds the scalars of the constants of all equations
 abbrev pub HasAllConstants : Lane → List Holding → List FlatEquation → Type 0
 HasAllConstants s constants Q =
     Every (λ q. HasConstant s q.operation (kept_at constants q.element)) Q

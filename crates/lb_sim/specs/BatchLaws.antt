@@ -16,15 +16,15 @@ abbrev pub next_cell : FlatProgram → Inputs → List Scalar → ℕ → Cell
 next_cell f X given a =
     cell (row_of f.size (after_rows f.equations (run f.size f.equations X)) given) a
 
--- where the operand of a memory is absent, the memory is what it was
+-- where the operand of a memory is absent, the memory does not change
 abbrev pub IsKept : (ℕ → Cell) → (memory flag : Type 0) → Operation → Type 0
 IsKept cells memory flag (FirstThen started a b) = cells a ≡ None → flag
 IsKept cells memory flag (Previous v a) = cells a ≡ None → memory
 IsKept cells memory flag (Latest v a) = cells a ≡ None → memory
 IsKept cells memory flag o = Unit {0}
 
--- from a run to the run one instant later, in a lane that is active: each memory whose operand is
--- absent at that instant, as its clock does not tick, is what it was
+-- from run `r` to run `s`, one instant later, in an active lane: a memory whose operand is absent
+-- at that instant does not change, as its clock does not tick
 abbrev pub KeepsMemories : (r s : BatchRun) → ℕ → Inputs → List Scalar → Type 0
 KeepsMemories r s i X given =
     Every

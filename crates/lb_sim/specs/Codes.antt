@@ -1,4 +1,4 @@
--- When code of a lane program may stand for its flat program: which lanes suit it, and what it does
+-- Code of a lane program that stands for its flat program: the lanes that suit it, and what it does
 -- in them.
 -- Source: this project's rule. No lane occurs beside it.
 use Rattle.std.specs.Prelude.{◌≡◌, ◌≤◌, ℕ, true, false, List, ℤ, All}
@@ -11,14 +11,13 @@ use Rattle.lb_sim.specs.declared.place.Holding.{Holding}
 use Rattle.lb_sim.specs.declared.place.Value.{Value}
 use Rattle.lb_sim.specs.declared.program.LaneCode.{LaneCode}
 
--- a lane suits some code: the planes that it takes to be false are so, and those that it takes to
--- be true are so
+-- a lane suits some code: the planes of `clear` are false in it, and those of `set` are true
 pub record Suits (c : LaneCode) (s : Lane) : Type 0 where
   pub clear : All (λ (p : PlaneId). s.bits p.0 ≡ false) c.clear.items
   pub set : All (λ (p : PlaneId). s.bits p.0 ≡ true) c.set.items
 
--- code of a flat program, within so many planes and words: in each lane that suits it, it shows the
--- program's elements and moves its memories on; what it takes for granted are planes of memories
+-- code of a flat program, within `planes` planes and `words` words: in each lane that suits it, it
+-- shows the program's elements and moves its memories; `clear` and `set` are planes of memories
 pub record IsCodeOf (f : FlatProgram) (inputs : List Value) (kept : List Holding)
     (start_planes : List ℕ) (start_words : List ℤ)
     (constant_word memory_plane memory_word planes words : ℕ) (c : LaneCode) : Type 0 where

@@ -1,4 +1,4 @@
--- When a lane program stands for a flat one: what its code makes each lane show, whatever the other
+-- A lane program stands for a flat one: what its code makes each lane show, whatever the other
 -- lanes hold.
 -- Source: this project's rule.
 use Rattle.std.specs.Prelude.{◌≡◌, ◌≤◌, ◌⊎◌, ℕ, ◌+◌, ◌<◌, false, List, ℤ, pos, slice_index_or}
@@ -6,7 +6,7 @@ use Rattle.std.specs.Prelude.{length, map, All}
 use Rattle.lb_syntax.specs.Lists.{Every}
 use Rattle.lb_check.specs.Scalars.{Scalar}
 use Rattle.lb_check.specs.Verdicts.{is_bad}
-use Rattle.lb_flat.specs.FurtherKinds.{kind_among}
+use Rattle.lb_flat.specs.TemporaryKinds.{kind_among}
 use Rattle.lb_flat.specs.Fitting.{IsFitting}
 use Rattle.lb_flat.specs.Flat.{FlatClock}
 use Rattle.lb_flat.specs.Judging.{FlatProgram, some_in, named_elements}
@@ -24,15 +24,15 @@ use Rattle.lb_sim.specs.declared.place.Value.{Value}
 use Rattle.lb_sim.specs.declared.place.Value.TheVariants.{Truth, Negated, Number}
 use Rattle.lb_sim.specs.declared.place.Watched.{Watched}
 
--- the scalars that a lane is given
+-- the input scalars of a lane
 abbrev pub given_at : Lane → List Value → List Scalar
 given_at s inputs = map (value_at s) inputs
 
--- a place is one of the memories, from a first one on, or that of nothing
+-- place `k` is a place of the memories, from `m` to before `first`, or 0, which stands for no place
 abbrev pub IsHomeAt : (memories code_places place : ℕ) → Type 0
 IsHomeAt m first k = (k ≡ 0) ⊎ ((m ≤ k) × (k < first))
 
--- a value, and a holding, stand among the memories
+-- the places of a value, and of a holding, are places of the memories
 abbrev pub IsHomeValue : Code → ℕ → ℕ → Value → Type 0
 IsHomeValue code mp mw (Truth p) = IsHomeAt mp code.first_plane p.0
 IsHomeValue code mp mw (Negated p) = IsHomeAt mp code.first_plane p.0
@@ -43,13 +43,13 @@ pub record IsHome (code : Code) (mp mw : ℕ) (h : Holding) : Type 0 where
   pub nil : IsHomeAt mp code.first_plane h.nil.0
   pub bad : IsHomeAt mp code.first_plane h.bad.0
 
--- a lane holds the constants, in the words from a first one up to the memories
+-- a lane holds the constants in the words from `m` to before `n`
 abbrev pub HasConstantWords : (first memories : ℕ) → List ℤ → Lane → Type 0
 HasConstantWords m n start s =
     (w : ℕ) → m ≤ w → w < n → s.ints w ≡ slice_index_or start w (pos 0)
 
--- the flat program's elements, what it watches, and its memories, from an instant to the next, in
--- each lane that suits the code
+-- code shows the elements of the flat program and the planes that are watched, and moves the
+-- memories from an instant to the next, in each lane that suits the code
 pub record IsCompiled (f : FlatProgram) (code : Code) (inputs : List Value) (places : List Place)
     (kept : List Holding) (watched : Watched) (start_words : List ℤ)
     (constant_word memory_plane memory_word : ℕ)

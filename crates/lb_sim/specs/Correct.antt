@@ -1,4 +1,4 @@
--- What masked lanes promise: each lane stands for a trace, whatever the others hold, and a batch
+-- The promise of masked lanes: each lane stands for a trace, whatever the others hold, and a batch
 -- gives each of its members its own verdict.
 -- This file says what data of the program mean; no definition of the language stands on it.
 use Rattle.std.specs.Prelude.{◌≡◌, ◌≢◌, ◌<◌, ◌+◌, ◌++◌, ◌∷◌, ◌&&◌, ℕ, true, false, List, [], length}
@@ -12,7 +12,7 @@ use Rattle.lb_flat.specs.Correct.{IsVerdictOf}
 use Rattle.lb_flat.specs.Fitting.{IsFitting}
 use Rattle.lb_flat.specs.Flat.{FlatClock}
 use Rattle.lb_flat.specs.FlatPrograms.{IsFlatOf}
-use Rattle.lb_flat.specs.FurtherKinds.{kind_among}
+use Rattle.lb_flat.specs.TemporaryKinds.{kind_among}
 use Rattle.lb_flat.specs.Judging.{FlatProgram}
 use Rattle.lb_flat.specs.NumberedLayouts.{layout}
 use Rattle.lb_traces.specs.Traces.{Recording}
@@ -27,14 +27,14 @@ use Rattle.lb_sim.specs.declared.batch_run.BatchRun.{BatchRun}
 -- ## A lane
 
 -- a lane stands for a trace of a flat program: its verdict is that of the trace, and while it is
--- active it has had all instants of it and holds the memories after it
+-- active it has had all instants of the trace and holds the memories after it
 abbrev pub Stands : BatchRun → ℕ → Inputs → Type 0
 Stands run i X =
     StandsAt (flat_of run) run.program.now.kept.items (lane_in run i) (verdict_at run i)
     (on run.active.0 i) (steps_in run i) X
 
--- and in the terms of a program that the flat one is of: its verdict is the one of the trace, and
--- while it is active its memories are those of the one history that solves the program
+-- a lane stands for a trace of a program `P` that has this flat program: its verdict is the one of
+-- the trace, and while it is active its memories are those of the one history that solves `P`
 abbrev pub StandsForTrace :
     (P : Program) (run : BatchRun) → IsFlatOf P (flat_of run) → ℕ → Inputs → Type 0
 StandsForTrace P run flat i X =
@@ -49,10 +49,10 @@ pub record IsFresh (run : BatchRun) (n : ℕ) : Type 0 where
   pub all : IsPlaneOf (λ i. nat_lt i n) run.active.0
   pub none : run.steps ≡ 0
 
--- an instant of the lanes that are live, of which each is given a row of inputs: a lane that is
--- live stands for its trace with its row added, where the equations have kinds and clocks, and a
--- lane that is not for what it stood for; a verdict that was found stays, and active are the live
--- lanes that have passed so far
+-- an instant, with a row of inputs for each live lane. A live lane stands for its trace with its
+-- row added, where the equations have kinds and clocks; any other lane stands for the trace it
+-- stood for. A verdict other than `Passed` stays, and the active lanes are the live lanes that have
+-- passed so far
 pub record IsStep (old new : BatchRun) (rows : ℕ → List Scalar) (live : Plane) : Type 0 where
   pub moves :
       (K : ℕ → FlatClock) →
@@ -69,8 +69,8 @@ pub record IsStep (old new : BatchRun) (rows : ℕ → List Scalar) (live : Plan
   pub begins : new.begins.items ≡ old.begins.items
   pub program : new.program.now ≡ old.program.now
 
--- lanes begin with other traces: each of them stands for the empty trace and is active, and each
--- other lane stands for what it stood for
+-- lanes begin with other traces: each of `lanes` stands for the empty trace and is active, and any
+-- other lane stands for the trace it stood for
 pub record IsRestart (old new : BatchRun) (lanes : Plane) : Type 0 where
   pub empty : (i : ℕ) → i < 64 → on lanes.0 i ≡ true → Stands new i []
   pub others :
@@ -87,7 +87,7 @@ pub record IsRestart (old new : BatchRun) (lanes : Plane) : Type 0 where
 
 -- ## A batch
 
--- each member of a batch has its own verdict, in their order
+-- each member of a batch has its own verdict, in the order of the members
 abbrev pub HaveVerdicts : FlatProgram → Recording → List ℕ → List Verdict → Type 0
 HaveVerdicts f r members verdicts =
     (i : ℕ) → i < length members →
@@ -102,7 +102,7 @@ TakesVerdicts f r members takes =
     (k : ℕ) (v : Verdict) → k < length members → IsVerdictOf f r (get_or members k 0) v →
     takes k v
 
--- a receiver has a verdict of the member at a place, which is the right one
+-- a receiver has a verdict of the member at place `k`, and it is the right one
 pub record HasVerdict (f : FlatProgram) (r : Recording) (members : List ℕ)
     (has : ℕ → Verdict → Type 0) (k : ℕ) : Type 0 where
   pub verdict : Verdict

@@ -1,4 +1,5 @@
--- What the code of an equation makes its element hold, and which planes of clocks are known.
+-- The holding that the code of an equation makes for its element, and the clocks whose planes are
+-- known.
 -- Source: this project's rule.
 use Rattle.std.specs.Prelude.{◌≡◌, ◌⊎◌, ℕ, Option, Some, None, List, map, get_or}
 use Rattle.lb_syntax.specs.declared.tree.Kind.{Kind}
@@ -24,8 +25,8 @@ use Rattle.lb_sim.specs.declared.place.Value.{Value}
 
 -- ## One equation
 
--- a holding is of a kind, and shows what the operation gives of its operands in each lane that has
--- run
+-- a holding is of a kind, and shows the result of the operation on its operands in each lane that
+-- has run the code
 pub record IsHeld (code : Code) (places : List Place) (inputs : List Value)
     (constant kept : Holding) (o : Operation) (kind : Kind) (h : Holding) : Type 0 where
   pub kind_is : kind_of h ≡ kind
@@ -33,7 +34,7 @@ pub record IsHeld (code : Code) (places : List Place) (inputs : List Value)
       (s : Lane) → HasRun (listed code.instructions) s → HasConstant s o constant →
       IsShown (given_at s inputs) s places kept o (scalar_at s h)
 
--- this is so where the kinds of the operands fit the operation
+-- `IsHeld` where the kinds of the operands fit the operation
 abbrev pub IsEmitted : Code → List Place → List Value → (constant kept : Holding) → Operation →
     Kind → Holding → Type 0
 IsEmitted code places inputs constant kept o kind h =
@@ -43,19 +44,20 @@ IsEmitted code places inputs constant kept o kind h =
 
 -- ## Clocks
 
--- the planes of some clocks of a table are known
+-- each plane that `known` has for a clock of a table is the plane of that clock
 abbrev pub AreKnown : Code → List Place → List Clock → List (Option PlaneId) → Type 0
 AreKnown code places clocks known =
     (k : ClockId) (p : PlaneId) → get_or known k.0 None ≡ Some p →
     IsPlaneFor code (λ s. is_now (row_at s places) (clock_of clocks (Some k))) p
 
--- a clock reads each element that another one, above it, reads
+-- `clock` reads each element that `above` reads
 abbrev pub IsReadBy : List Clock → (clock above : Option ClockId) → Type 0
 IsReadBy clocks clock above =
     (e : ℕ) → In e (clock_reads (clock_of clocks above)) →
     In e (clock_reads (clock_of clocks clock))
 
--- a clock more, maybe, with its plane, and some of those above it
+-- `p` is the plane of a clock; `new` may add to `old` planes of clocks, each of which reads only
+-- elements that `clock` reads
 pub record IsKnownAfter (code : Code) (places : List Place) (clocks : List Clock)
     (clock : Option ClockId) (old new : List (Option PlaneId)) (p : PlaneId) : Type 0 where
   pub plane : IsPlaneFor code (λ s. is_now (row_at s places) (clock_of clocks clock)) p

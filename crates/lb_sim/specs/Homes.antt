@@ -1,4 +1,4 @@
--- Where the memories of a flat program stand: side by side, in the order of its equations.
+-- The places of the memories of a flat program: side by side, in the order of its equations.
 -- Source: this project's rule.
 use Rattle.std.specs.Prelude.{◌≡◌, ◌≢◌, ℕ, suc, ◌⊎◌, Bool, true, false, List, [], ◌∷◌}
 use Rattle.lb_syntax.specs.declared.tree.Kind.{Kind}
@@ -15,7 +15,7 @@ use Rattle.lb_sim.specs.declared.place.Value.TheVariants.{Truth, Negated, Number
 
 -- ## Places side by side
 
--- the plane that a value takes, and the word; 0 is none
+-- the plane that a value takes, and the word that it takes; 0 stands for none
 abbrev pub plane_in : Value → ℕ
 plane_in (Truth p) = p.0
 plane_in (Negated p) = p.0
@@ -26,13 +26,14 @@ word_in (Truth p) = 0
 word_in (Negated p) = 0
 word_in (Number w) = w.0
 
--- places that are there stand side by side, from one up to another; 0 is none
+-- the places of a list other than 0 stand side by side, from `first` to before `end`; 0 stands for
+-- no place. Example: the places 0, 5, 0, 6 are a row from 5 to 7
 abbrev pub IsRow : ℕ → List ℕ → ℕ → Type 0
 IsRow first [] end = first ≡ end
 IsRow first (k ∷ ks) end =
     ((k ≡ 0) × IsRow first ks end) ⊎ ((k ≡ first) × IsRow (suc first) ks end)
 
--- the planes that memories take, equation by equation, and the words
+-- the planes that memories take, equation by equation, and the words that they take
 abbrev pub plane_row : List Holding → List FlatEquation → List ℕ
 plane_row kept [] = []
 plane_row kept (q ∷ Q) =
@@ -45,14 +46,14 @@ abbrev pub word_row : List Holding → List FlatEquation → List ℕ
 word_row kept [] = []
 word_row kept (q ∷ Q) = word_in (kept_at kept q.element).value ∷ word_row kept Q
 
--- a holding stands among memories, or takes no place
+-- each place of a holding is among the memories, or is 0
 pub record IsHomeIn (first_plane planes first_word words : ℕ) (h : Holding) : Type 0 where
   pub plane : IsHomeAt first_plane planes (plane_in h.value)
   pub word : IsHomeAt first_word words (word_in h.value)
   pub nil : IsHomeAt first_plane planes h.nil.0
   pub bad : IsHomeAt first_plane planes h.bad.0
 
--- ## What a memory is
+-- ## Memories
 
 abbrev pub is_nil_scalar : Scalar → Bool
 is_nil_scalar Nil = true
@@ -62,7 +63,7 @@ abbrev pub is_bad_scalar : Scalar → Bool
 is_bad_scalar Bad = true
 is_bad_scalar v = false
 
--- a value takes a place, as it is
+-- a value has a place and is no negation
 abbrev pub IsSet : Value → Type 0
 IsSet (Truth p) = p.0 ≢ 0
 IsSet (Negated p) = ⊥
@@ -75,8 +76,8 @@ pub record IsFlagHome (h : Holding) : Type 0 where
   pub nil : h.nil.0 ≡ 0
   pub bad : h.bad.0 ≡ 0
 
--- that of `pre` and of `current`: a value and where it is nil, and where it is a fault, unless
--- faults of the operand are watched
+-- the memory of `pre` and of `current`: a value, a plane where it is nil, and a plane where it is a
+-- fault, unless faults of the operand are watched
 pub record IsCellHome (kind : Kind) (watched : Type 0) (v : Scalar) (h : Holding) : Type 0 where
   pub kind_is : IsOf kind v → kind_of h ≡ kind
   pub is_set : IsSet h.value

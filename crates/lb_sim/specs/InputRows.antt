@@ -1,5 +1,5 @@
 -- The inputs of an instant in each lane: a plane for each Boolean of a signature and a word for
--- each integer, in its order.
+-- each integer, in the order of the signature.
 -- Source: this project's rule. No lane occurs beside another.
 use Rattle.std.specs.Prelude.{◌≡◌, ℕ, suc, ◌<◌, ◌≤◌, ◌-◌, Bool, true, false, List, [], ◌∷◌, ℤ, pos}
 use Rattle.std.specs.Prelude.{length, map, get_or, slice_index_or}
@@ -20,46 +20,46 @@ abbrev pub is_truth : Kind → Bool
 is_truth Bool_kind = true
 is_truth Int_kind = false
 
--- where inputs of these kinds stand, from a plane and a word on
+-- the values of inputs of these kinds, from plane `p` and word `w` on
 abbrev pub places_of : ℕ → ℕ → List Kind → List Value
 places_of p w [] = []
 places_of p w (Bool_kind ∷ kinds) = Truth (record { 0 = p }) ∷ places_of (suc p) w kinds
 places_of p w (Int_kind ∷ kinds) = Number (record { 0 = w }) ∷ places_of p (suc w) kinds
 
--- the row of a lane
+-- the row of inputs in lane `i`
 abbrev pub lane_row : List Kind → List ℕ → List (List ℤ) → ℕ → List Scalar
 lane_row kinds planes words i = map (value_at (lane_at planes words i)) (places_of 0 0 kinds)
 
--- false, or 0
+-- the zero of a kind: false, or 0
 abbrev pub zero_of : Kind → Scalar
 zero_of Int_kind = Integer (pos 0)
 zero_of Bool_kind = Boolean false
 
--- the words are 0 in each lane
+-- each word is 0 in each lane
 abbrev pub AreZero : List (List ℤ) → Type 0
 AreZero words =
     (w i : ℕ) → w < length words → i < 64 → lane_of (slice_index_or words w []) i ≡ pos 0
 
--- the instant at which the trace of a lane begins, where a list has them; and the instant of that
--- trace at an instant of the batch
+-- the instant of the batch at which the trace of lane `i` begins, and the instant of that trace at
+-- instant `t` of the batch
 abbrev pub begin_of : List ℕ → ℕ → ℕ
 begin_of begins i = get_or begins i 0
 
 abbrev pub instant_in : List ℕ → ℕ → ℕ → ℕ
 instant_in begins t i = t - begin_of begins i
 
--- the cell of a member of a batch at an instant of the batch
+-- the cell of a member of a batch at instant `t` of the batch
 abbrev pub member_cell : Recording → (members begins : List ℕ) → ℕ → ℕ → ℕ → ℤ
 member_cell r members begins t i column =
     cell_at r.traces (get_or members i 0) (instant_in begins t i) column
 
--- the trace of a lane has begun by an instant, and has an instant then
+-- the trace of lane `i` has begun by instant `t`, and has that instant
 pub record IsAmid (r : Recording) (members begins : List ℕ) (t i : ℕ) : Type 0 where
   pub member : i < length members
   pub begun : begin_of begins i ≤ t
   pub there : instant_in begins t i < length (trace_at r.traces (get_or members i 0)).1
 
--- in each of these lanes a member of a batch has this instant
+-- in each lane of `live` a member of the batch has instant `t`
 abbrev pub HaveInstant : Recording → (members begins : List ℕ) → ℕ → ℕ → Type 0
 HaveInstant r members begins t live =
     (i : ℕ) → i < 64 → on live i ≡ true → IsAmid r members begins t i

@@ -11,8 +11,8 @@ use Rattle.lb_sim.specs.declared.inputs.Inputs.{Inputs}
 abbrev pub inputs_row : Inputs → ℕ → List Scalar
 inputs_row x i = lane_row x.columns.kinds.items x.planes.items x.words.items i
 
--- of the integers at some places and of the Booleans those instants are loaded that it is said of,
--- where such an instant comes next in all lanes of a plane
+-- the integers at `places` and the Booleans are loaded for the instants of `loaded`; where `t` is
+-- such an instant, they are loaded in all lanes of `live`
 pub record IsAhead (r : Recording) (members begins places : List ℕ) (x : Inputs) (t live : ℕ)
     (loaded : Loaded) : Type 0 where
   pub numbers_begun : loaded.numbers.first ≤ t

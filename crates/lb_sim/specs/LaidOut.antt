@@ -1,5 +1,6 @@
--- How a lane program lies over planes and words: what is the same everywhere, the inputs, the
--- memories, and behind them what the code writes; and what the first of them hold at the start.
+-- The order of a lane program in planes and words: the places that are the same everywhere, the
+-- inputs, the constants, the memories, and behind them what the code writes; and what the first of
+-- them hold at the start.
 -- Source: this project's rule.
 use Rattle.std.specs.Prelude.{◌≡◌, ◌≤◌, ◌<◌, ◌+◌, ℕ, List, length, map, All, ℤ, pos}
 use Rattle.std.specs.Prelude.{slice_index, slice_index_or}

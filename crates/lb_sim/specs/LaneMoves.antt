@@ -1,5 +1,5 @@
--- What an instant of a batch makes of one lane: where the lane is live it stands for its trace and
--- one row more, and where it is not for its trace as before.
+-- An instant of a batch in one lane: a live lane stands for its trace and one row more, and any
+-- other lane for its trace as before.
 -- Source: this project's rule. No lane occurs beside it.
 use Rattle.std.specs.Prelude.{◌≡◌, ℕ, ◌+◌, ◌++◌, ◌∷◌, [], Bool, true, false, List}
 use Rattle.lb_check.specs.Scalars.{Scalar}
@@ -7,7 +7,7 @@ use Rattle.lb_check.specs.Solutions.{Inputs}
 use Rattle.lb_check.specs.declared.verdict.Verdict.{Verdict}
 use Rattle.lb_flat.specs.Fitting.{IsFitting}
 use Rattle.lb_flat.specs.Flat.{FlatClock}
-use Rattle.lb_flat.specs.FurtherKinds.{kind_among}
+use Rattle.lb_flat.specs.TemporaryKinds.{kind_among}
 use Rattle.lb_flat.specs.Programs.{program_of}
 use Rattle.lb_machine.specs.Meaning.{Lane, HasConstants}
 use Rattle.lb_sim.specs.Compiled.{HasConstantWords}
@@ -19,8 +19,7 @@ abbrev pub StandsIn : LaneProgram → Lane → Verdict → Bool → ℕ → Inpu
 StandsIn p s v active steps X =
     StandsAt (program_of p.program.now) p.kept.items s v active steps X
 
--- from a lane, its verdict and whether it is active, and whether it is live, to those after an
--- instant
+-- one instant takes lane `s`, verdict `v` and `active` to `s'`, `v'` and `active'`
 pub record IsMovedOn (p : LaneProgram) (row : List Scalar) (s s' : Lane) (v v' : Verdict)
     (active live active' : Bool) (steps : ℕ) : Type 0 where
   pub moves :

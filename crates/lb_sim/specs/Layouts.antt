@@ -1,4 +1,4 @@
--- What is known of a flat program before its code.
+-- The places of a flat program before its code.
 -- This file says what data of the program mean.
 use Rattle.std.specs.Prelude.{◌≡◌, ◌≤◌, ◌+◌, ◌*◌, length}
 use Rattle.lb_flat.specs.Judging.{FlatProgram}
@@ -6,7 +6,7 @@ use Rattle.lb_sim.specs.InputRows.{places_of, truth_columns, number_columns}
 use Rattle.lb_sim.specs.Presets.{AreConstants, AreMemories}
 use Rattle.lb_sim.specs.declared.allotted.Allotted.{Allotted}
 
--- inputs stand first, then constants, and behind them memories; they are few
+-- the order of places: inputs, then constants, then memories; their number has a bound
 pub record AreAllotted (f : FlatProgram) (a : Allotted) : Type 0 where
   pub inputs_at : a.inputs.items ≡ places_of 2 1 f.inputs
   pub inputs_planes : 2 + length (truth_columns 0 f.inputs) ≤ a.memory_plane

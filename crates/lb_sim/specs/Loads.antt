@@ -9,21 +9,21 @@ use Rattle.lb_lanes.specs.Kernels.{lane_of}
 use Rattle.lb_lanes.specs.Planes.{on}
 use Rattle.lb_sim.specs.InputRows.{member_cell}
 
--- the one of four integers that stands at a lane, where they stand side by side from a first one on
+-- the integer in lane `i`, where four integers stand side by side from lane `first` on
 abbrev pub one_of_four : ℕ → ℤ → ℤ → ℤ → ℤ → ℕ → ℤ
 one_of_four first a b c d i =
     if i == first + 3 then d
     else if i == first + 2 then c else if i == first + 1 then b else a
 
--- that of four rows, each at a place
+-- the integer in lane `i`, where the integers at place `w` of four rows stand side by side from
+-- lane `first` on
 abbrev pub four_at : ℕ → List ℤ → List ℤ → List ℤ → List ℤ → ℕ → ℕ → ℤ
 four_at first a b c d w i =
     one_of_four first (get_or a w (pos 0)) (get_or b w (pos 0)) (get_or c w (pos 0))
     (get_or d w (pos 0)) i
 
--- the lanes of the members from a first one up to an end have their integers, where they are live:
--- those at some places, a word for each, of the columns that hold integers; no other lane has
--- changed
+-- each live lane from `first` to before `end` has the integers of its member: a word for each of
+-- `places`, which are places in `columns`; no other lane has changed
 pub record AreLoaded (r : Recording) (members begins : List ℕ) (t live : ℕ)
     (columns places : List ℕ) (first end : ℕ) (old new : List (List ℤ)) : Type 0 where
   pub words : length new ≡ length old
@@ -35,8 +35,8 @@ pub record AreLoaded (r : Recording) (members begins : List ℕ) (t live : ℕ)
       (i w : ℕ) → i < 64 → (i < first) ⊎ (end ≤ i) →
       lane_of (slice_index_or new w []) i ≡ lane_of (slice_index_or old w []) i
 
--- so many instants of theirs, from one on: for each place there is a word of each of 64 instants,
--- and one that stands for nothing
+-- `AreLoaded` for `count` instants from `t` on: each of `places` has a word for each of 64
+-- instants, and one word that is not used
 pub record AreLoadedAhead (r : Recording) (members begins : List ℕ) (t count live : ℕ)
     (columns places : List ℕ) (first end : ℕ) (old new : List (List ℤ)) : Type 0 where
   pub room : length new ≡ length old
@@ -49,8 +49,8 @@ pub record AreLoadedAhead (r : Recording) (members begins : List ℕ) (t count l
       lane_of (slice_index_or new (65 * k + e) []) i
       ≡ lane_of (slice_index_or old (65 * k + e) []) i
 
--- instants of some lanes are loaded, from a first one up to another: for each place there is a word
--- of each of 64 instants, and one that stands for nothing
+-- the instants from `first` to before `until` are loaded in `lanes`: each of `places` has a word
+-- for each of 64 instants, and one word that is not used
 pub record AreAhead (r : Recording) (members begins : List ℕ) (first until lanes : ℕ)
     (columns places : List ℕ) (room : List (List ℤ)) : Type 0 where
   pub cells :
@@ -58,7 +58,7 @@ pub record AreAhead (r : Recording) (members begins : List ℕ) (first until lan
       lane_of (slice_index_or room (65 * k + d) []) i
       ≡ member_cell r members begins (first + d) i (get_or columns (slice_index places k) 0)
 
--- words stand in four lanes of as many words of all lanes, from a first lane on; no other lane has
+-- the words of `a`, `b`, `c` and `d` stand in the four lanes from `first` on; no other lane has
 -- changed
 pub record AreFourPut (a b c d : List ℕ) (first : ℕ) (old new : List ℕ) (n : ℕ) : Type 0 where
   pub as_long : length new ≡ length old
@@ -70,8 +70,8 @@ pub record AreFourPut (a b c d : List ℕ) (first : ℕ) (old new : List ℕ) (n
       (m k : ℕ) → k < 64 → (k < first) ⊎ (first + 4 ≤ k) →
       slice_index new (72 * m + k) ≡ slice_index old (72 * m + k)
 
--- the lanes of the members from a first one up to an end have their Booleans of so many instants,
--- where they are live; no other lane has changed
+-- each live lane from `first` to before `end` has the Booleans of its member at `count` instants
+-- from `t` on; no other lane has changed
 pub record AreTruthsLoaded (r : Recording) (members begins : List ℕ) (t count live : ℕ)
     (columns : List ℕ) (first end : ℕ) (old new : List ℕ) : Type 0 where
   pub as_long : length new ≡ length old
@@ -84,7 +84,8 @@ pub record AreTruthsLoaded (r : Recording) (members begins : List ℕ) (t count 
       (m k : ℕ) → k < 64 → (k < first) ⊎ (end ≤ k) →
       slice_index new (72 * m + k) ≡ slice_index old (72 * m + k)
 
--- and so the Booleans: for each instant and each 64 of them there is a word of each lane
+-- the Booleans of the instants from `first` to before `until` are loaded in `lanes`: for each
+-- instant and each 64 columns there is a word of each lane
 pub record AreTruthsAhead (r : Recording) (members begins : List ℕ) (first until lanes : ℕ)
     (columns rows : List ℕ) : Type 0 where
   pub room :
@@ -96,6 +97,6 @@ pub record AreTruthsAhead (r : Recording) (members begins : List ℕ) (first unt
       on (slice_index rows (72 * (d * words_of_row (length columns) + g) + i)) c
       ≡ int_le (pos 1) (member_cell r members begins (first + d) i (get_or columns (64 * g + c) 0))
 
--- each lane of a plane is one of another plane
+-- each lane of `plane` is a lane of `other`
 abbrev pub AreAmong : ℕ → ℕ → Type 0
 AreAmong plane other = (i : ℕ) → i < 64 → on plane i ≡ true → on other i ≡ true

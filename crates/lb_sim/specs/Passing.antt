@@ -1,5 +1,5 @@
--- What memories take over from one instant to the next: a place of the code for each place that a
--- memory has, in its order.
+-- The sources of memories: for each place of a memory, in their order, the place of the code that
+-- it takes over at the next instant.
 -- Source: this project's rule.
 use Rattle.std.specs.Prelude.{◌≡◌, ◌≢◌, ℕ, ◌<◌, ◌≤◌, ◌+◌, ◌||◌, ◌⊎◌, List, [], ◌∷◌, ◌++◌, length}
 use Rattle.std.specs.Prelude.{All}
@@ -9,7 +9,7 @@ use Rattle.lb_syntax.specs.declared.tree.Kind.TheVariants.{Bool as Bool_kind}
 use Rattle.lb_check.specs.Verdicts.{is_bad}
 use Rattle.lb_flat.specs.Fitting.{KindFits}
 use Rattle.lb_flat.specs.Flat.{Operation, FirstThen, Previous, Latest, FlatEquation}
-use Rattle.lb_flat.specs.FurtherKinds.{kind_among}
+use Rattle.lb_flat.specs.TemporaryKinds.{kind_among}
 use Rattle.lb_flat.specs.Judging.{FlatProgram, some_in, named_elements}
 use Rattle.lb_machine.specs.Listed.{listed}
 use Rattle.lb_machine.specs.Meaning.{Lane, HasRun}
@@ -25,7 +25,7 @@ use Rattle.lb_sim.specs.declared.place.Holding.{Holding}
 use Rattle.lb_sim.specs.declared.place.Place.{Place}
 use Rattle.lb_sim.specs.declared.sources.Copies.{Copies}
 
--- a plane, and a word, that the code writes and that hold what another one does
+-- a plane, and a word, that the code writes and that equals plane or word `next`
 pub record IsPlaneSource (code : Code) (next : ℕ) (p : PlaneId) : Type 0 where
   pub own : code.first_plane ≤ p.0
   pub within : p.0 < code.planes
@@ -36,23 +36,23 @@ pub record IsWordSource (code : Code) (next : ℕ) (w : WordId) : Type 0 where
   pub within : w.0 < code.words
   pub means : (s : Lane) → HasRun (listed code.instructions) s → s.ints w.0 ≡ s.ints next
 
--- two planes that the code writes: one that is false everywhere, and one that is true
+-- two planes that the code writes: one is false everywhere, the other true
 pub record AreCopies (code : Code) (c : Copies) : Type 0 where
   pub nowhere : IsPlaneSource code 0 c.nowhere
   pub everywhere : IsPlaneSource code 1 c.everywhere
 
--- one source more
+-- `new` is `old` with one source added
 pub record IsAdded {A : Type 0} (IsSource : A → Type 0) (old new : List A) : Type 0 where
   pub source : A
   pub items : new ≡ old ++ source ∷ []
   pub law : IsSource source
 
--- one more for a place that there is, and none where there is none
+-- one source is added for a memory place `home` other than 0, and none for 0
 abbrev pub IsTaken : {A : Type 0} → (A → Type 0) → ℕ → List A → List A → Type 0
 IsTaken IsSource home old new =
     ((home ≡ 0) × (new ≡ old)) ⊎ ((home ≢ 0) × IsAdded IsSource old new)
 
--- those of a memory, which takes over another holding
+-- the sources of the memory at `home`, which takes over the holding `next`
 pub record AreTaken (code : Code) (home next : Holding) (planes planes' : List PlaneId)
     (words words' : List WordId) : Type 0 where
   pub after_value : List PlaneId
@@ -64,14 +64,15 @@ pub record AreTaken (code : Code) (home next : Holding) (planes planes' : List P
   pub word :
       IsTaken (IsWordSource code (word_in next.value)) (word_in home.value) words words'
 
--- whether a first tick is over next
+-- `g` is the flag of `->` at the next instant: a first tick is over, or the operand is present
 pub record IsNextFlag (code : Code) (held : Holding) (present : ℕ) (g : Holding) : Type 0 where
   pub kind_is : kind_of g ≡ Bool_kind
   pub means :
       (s : Lane) → HasRun (listed code.instructions) s →
       s.bits (plane_in g.value) ≡ (s.bits (plane_in held.value) || s.bits present)
 
--- which cell is to be held next, as it is
+-- `g` is the cell of a memory at the next instant: the operand where it is present, and the memory
+-- elsewhere
 pub record IsNextCell (code : Code) (places : List Place) (a : ℕ) (held g : Holding) : Type 0 where
   pub plain : IsPlain g.value
   pub is_for :
@@ -80,7 +81,7 @@ pub record IsNextCell (code : Code) (places : List Place) (a : ℕ) (held g : Ho
       (λ s. if present_at s places a then scalar_at s (holding_of places a) else scalar_at s held)
       g
 
--- what the memory of an operation is to hold next, where a holding shows what it holds now
+-- `g` is the memory of an operation at the next instant, where `held` shows the memory now
 abbrev pub IsNextOf : Code → List Place → Holding → Operation → Holding → Type 0
 IsNextOf code places held (FirstThen started a b) g =
     IsNextFlag code held (get_or places a no_place).present.0 g
@@ -88,8 +89,8 @@ IsNextOf code places held (Previous v a) g = IsNextCell code places a held g
 IsNextOf code places held (Latest v a) g = IsNextCell code places a held g
 IsNextOf code places held o g = Unit {0}
 
--- all memories of a program, whose places stand from a plane and a word on, where holdings show
--- what they hold now
+-- the sources of all memories of a program, whose places begin at `plane` and `word`, where the
+-- holdings of `held` show the memories now
 pub record AreSources (f : FlatProgram) (code : Code) (places : List Place)
     (kept held : List Holding) (plane word : ℕ) (planes : List PlaneId) (words : List WordId) :
     Type 0 where

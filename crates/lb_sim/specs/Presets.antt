@@ -1,5 +1,4 @@
--- What the planes and words hold that are there before the code runs, and how more of them are
--- given.
+-- The planes and words before the code runs, and how more of them are added.
 -- This file says what data of the program mean.
 use Rattle.std.specs.Prelude.{◌≡◌, ℕ, ◌≤◌, ◌<◌, false, List, [], ◌∷◌, ℤ, pos, length}
 use Rattle.std.specs.Prelude.{map, All}
@@ -9,7 +8,7 @@ use Rattle.lb_syntax.specs.declared.tree.Kind.{Kind}
 use Rattle.lb_check.specs.Scalars.{Scalar}
 use Rattle.lb_flat.specs.Fitting.{IsOf}
 use Rattle.lb_flat.specs.Flat.{Operation, Constant, FlatEquation}
-use Rattle.lb_flat.specs.FurtherKinds.{kind_among}
+use Rattle.lb_flat.specs.TemporaryKinds.{kind_among}
 use Rattle.lb_flat.specs.Judging.{FlatProgram, named_elements}
 use Rattle.lb_machine.specs.Meaning.{Lane, HasConstants}
 use Rattle.lb_sim.specs.Homes.{plane_in, word_in, is_nil_scalar, is_bad_scalar, IsSet, IsRow}
@@ -22,7 +21,7 @@ use Rattle.lb_sim.specs.declared.place.Holding.{Holding}
 use Rattle.lb_sim.specs.declared.place.Value.{Value}
 use Rattle.lb_sim.specs.declared.preset.Preset.{Preset}
 
--- what there was is there still
+-- `new` begins with the planes and words of `old`
 pub record IsMore (old new : Preset) : Type 0 where
   pub planes : length old.planes.items ≤ length new.planes.items
   pub words : length old.words.items ≤ length new.words.items
@@ -37,7 +36,7 @@ pub record IsMore (old new : Preset) : Type 0 where
 abbrev pub first_lane : Preset → ℕ → Lane
 first_lane preset i = start_lane preset.planes.items preset.words.items i
 
--- a value takes the next place, and holds a scalar that is neither nil nor a fault
+-- value `x` takes the next place, and holds `v`, if `v` is neither nil nor a fault
 pub record IsFirstValue (old new : Preset) (kind : Kind) (v : Scalar) (x : Value) : Type 0 where
   pub kind_is : IsOf kind v → value_kind x ≡ kind
   pub is_set : IsSet x
@@ -47,7 +46,7 @@ pub record IsFirstValue (old new : Preset) (kind : Kind) (v : Scalar) (x : Value
       (i : ℕ) → i < 64 → is_nil_scalar v ≡ false → is_bad_scalar v ≡ false →
       value_at (first_lane new i) x ≡ v
 
--- a holding takes the next places, and holds a scalar
+-- holding `h` takes the next places, and holds the scalar `v`
 pub record IsFirstHolding (old new : Preset) (kind : Kind) (watched : Type 0)
     (v : Scalar) (h : Holding) : Type 0 where
   pub cell : IsCellHome kind watched v h
@@ -57,7 +56,7 @@ pub record IsFirstHolding (old new : Preset) (kind : Kind) (watched : Type 0)
   pub words : IsRow (length old.words.items) (word_in h.value ∷ []) (length new.words.items)
   pub start : (i : ℕ) → i < 64 → scalar_at (first_lane new i) h ≡ v
 
--- the memory of an operation takes the next places, and holds what the operation has in it
+-- the memory of operation `o` takes the next places, and holds the memory that `o` begins with
 pub record IsFirstMemory (old new : Preset) (kind : Kind) (watched : ℕ → Type 0)
     (o : Operation) (h : Holding) : Type 0 where
   pub memory : IsMemory kind watched o h
@@ -69,14 +68,15 @@ pub record IsFirstMemory (old new : Preset) (kind : Kind) (watched : ℕ → Typ
 
 -- ## All equations of a program
 
--- a holding whose planes are the same everywhere, and whose word is one of these
+-- a holding with constant planes and with a word below `words`
 pub record IsFixed (words : ℕ) (h : Holding) : Type 0 where
   pub plane : plane_in h.value < 2
   pub word : word_in h.value < words
   pub nil : h.nil.0 < 2
   pub bad : h.bad.0 < 2
 
--- it holds a constant, in each lane that has the constants from a first word to a last one
+-- a holding holds the constant `v` in each lane that has the constants from word `first` to before
+-- `last`
 pub record IsConstantAt (first last : ℕ) (start : List ℤ) (kind : Kind) (v : Scalar)
     (h : Holding) : Type 0 where
   pub kind_is : IsOf kind v → kind_of h ≡ kind
@@ -88,7 +88,7 @@ abbrev pub IsConstant : (first last : ℕ) → List ℤ → Kind → Operation �
 IsConstant first last start kind (Constant v) h = IsConstantAt first last start kind v h
 IsConstant first last start kind o h = Unit {0}
 
--- a table of what constants hold, element by element
+-- a table with the holdings of constants, element by element
 pub record AreConstants (f : FlatProgram) (first last : ℕ) (start : List ℤ)
     (table : List Holding) : Type 0 where
   pub as_long : length table ≡ f.size
@@ -100,13 +100,13 @@ pub record AreConstants (f : FlatProgram) (first last : ℕ) (start : List ℤ)
       (kept_at table q.element))
       f.equations
 
--- the memory of an equation among those of its program
+-- `h` is the memory of equation `q` of program `f`
 abbrev pub IsMemoryOf : FlatProgram → FlatEquation → Holding → Type 0
 IsMemoryOf f q h =
     IsMemory (kind_among f.kinds q.element) (λ a. In a (named_elements f)) q.operation h
 
--- a table of where memories stand, from a plane and a word on up to the end of what is preset, and
--- what they hold
+-- a table with the holdings of memories: their places go from `plane` and `word` to the end of the
+-- preset, and hold what the memories begin with
 pub record AreMemories (f : FlatProgram) (plane word : ℕ) (new : Preset) (table : List Holding) :
     Type 0 where
   pub as_long : length table ≡ f.size

@@ -1,7 +1,6 @@
--- What it is for a lane to stand for a trace of a program: its verdict so far is that of the trace,
--- and while the lane is active each memory of the program, at the place that the lane program names
--- for it, is that of the history that solves the program on the trace. Nothing of another lane
--- occurs here.
+-- A lane stands for a trace of a program: its verdict so far is that of the trace, and while the
+-- lane is active each memory of the program, at the place that the lane program names for it, is
+-- that of the history that solves the program on the trace. Nothing of another lane occurs here.
 -- Source: this project's rule; what a memory holds is that of the Lustre V6 reference manual.
 use Rattle.std.specs.Prelude.{◌≡◌, ℕ, ◌+◌, Bool, true, is_some, List, [], ◌∷◌, length, map}
 use Rattle.std.specs.List.{list_any}
@@ -24,7 +23,7 @@ use Rattle.lb_flat.specs.MemoryPlaces.{newest_of}
 
 module _ (P : Program) (Y : Layout) (kinds : ℕ → Kind) (f : FlatProgram)
     (memory : ℕ → Scalar) (flag : ℕ → Bool) (H : History) where
-  -- the memories of an operand, element by element: its newest value, and nil before there is one
+  -- the memories of an operand, element by element: its newest value, and nil before the first
   abbrev pub HoldsOperand :
       (here : Instance) (k : Clock) (a : Occurrence) (o : ℕ → Operation) →
       KeepsOperand P Y kinds f here k a o → Type 0
@@ -35,7 +34,7 @@ module _ (P : Program) (Y : Layout) (kinds : ℕ → Kind) (f : FlatProgram)
       (here : Instance) (k : Clock) (a : Occurrence) → KeepsFlag P Y kinds f here k a → Type 0
   HoldsFlag here k a h = map flag h.places ≡ map (list_any is_some) (streams_at P H here a)
 
-  -- those of an operator
+  -- the memories of an operator
   abbrev pub HoldsMemories :
       (here : Instance) (k : Clock) (n : ℕ) (e : Expr) → HasMemories P Y kinds f here k n e → Type 0
   HoldsMemories here k n (Pre a) h = HoldsOperand here k (at k n a) (Previous Nil) h
@@ -47,7 +46,7 @@ module _ (P : Program) (Y : Layout) (kinds : ℕ → Kind) (f : FlatProgram)
       × HoldsFlag here k (at k n a) h.1
   HoldsMemories here k n e h = Unit {0}
 
-  -- those of the operators of an instance, and of all instances
+  -- the memories of the operators of an instance, and of all instances
   abbrev pub HoldsEach :
       (here : Instance) (os : List Occurrence) →
       Every (λ o. HasMemories P Y kinds f here o.clock o.calls_before o.expr) os → Type 0
@@ -64,7 +63,7 @@ module _ (P : Program) (Y : Layout) (kinds : ℕ → Kind) (f : FlatProgram)
   HoldsAll [] h = Unit {0}
   HoldsAll (here ∷ is) h = HoldsEach here (node_occurrences P here.node) h.0 × HoldsAll is h.1
 
--- the one history that solves a program on a trace says what the memories hold
+-- the memories are those of the one history that solves a program on a trace
 pub record HoldsHistory (P : Program) (Y : Layout) (kinds : ℕ → Kind) (f : FlatProgram)
     (named : HasAllMemories P Y kinds f) (memory : ℕ → Scalar) (flag : ℕ → Bool) (X : Inputs) :
     Type 0 where
@@ -72,8 +71,8 @@ pub record HoldsHistory (P : Program) (Y : Layout) (kinds : ℕ → Kind) (f : F
   pub solves : Solves P X history
   pub memories : HoldsAll P Y kinds f memory flag history (instances P) named
 
--- a verdict, whether the lane is active, how many instants it has had, and its memories: they stand
--- for a trace
+-- a lane stands for a trace: its verdict, whether it is active, its number of instants, and its
+-- memories
 pub record StandsFor (P : Program) (Y : Layout) (kinds : ℕ → Kind) (f : FlatProgram)
     (named : HasAllMemories P Y kinds f) (verdict : Verdict) (active : Bool) (steps : ℕ)
     (memory : ℕ → Scalar) (flag : ℕ → Bool) (X : Inputs) : Type 0 where

@@ -14,7 +14,7 @@ use Rattle.lb_sim.specs.BatchRuns.{steps_in}
 use Rattle.lb_sim.specs.Correct.{HasVerdict}
 use Rattle.lb_sim.specs.declared.batch_run.BatchRun.{BatchRun}
 
--- how many instants a trace has, and the members below a place together
+-- the number of instants of a trace, and of all members before place `k` together
 abbrev pub length_of : Recording → ℕ → ℕ
 length_of r k = length (trace_at r.traces k).1
 
@@ -25,14 +25,14 @@ instants_to r members k = sum_by (length_of r) (take k members)
 abbrev pub goes_on : BatchRun → Recording → List ℕ → ℕ → Bool
 goes_on run r traces i = on run.active.0 i && nat_lt (steps_in run i) (length_in r traces i)
 
--- one of the first n lanes is pending and has the member at a place
+-- one of the first `n` lanes is pending and has the member at place `k`
 pub record IsInLane (places : List ℕ) (pending n k : ℕ) : Type 0 where
   pub lane : ℕ
   pub below : lane < n
   pub pends : on pending lane ≡ true
   pub place : get_or places lane 0 ≡ k
 
--- a lane takes the member at a place
+-- `lane` takes the member at `place`
 pub record IsTakenBy (members places places' traces traces' : List ℕ) (lane place : ℕ) :
     Type 0 where
   pub places_room : length places' ≡ length places
@@ -42,7 +42,7 @@ pub record IsTakenBy (members places places' traces traces' : List ℕ) (lane pl
   pub other_places : (i : ℕ) → i ≢ lane → get_or places' i 0 ≡ get_or places i 0
   pub other_traces : (i : ℕ) → i ≢ lane → get_or traces' i 0 ≡ get_or traces i 0
 
--- a lane that is settled has taken a member
+-- a settled lane has taken a member
 pub record HasTaken (members : List ℕ) (n settled : ℕ) (places' traces' : List ℕ)
     (rest rest' i : ℕ) : Type 0 where
   pub inside : i < n
@@ -51,8 +51,8 @@ pub record HasTaken (members : List ℕ) (n settled : ℕ) (places' traces' : Li
   pub before : get_or places' i 0 < rest
   pub trace_is : get_or traces' i 0 ≡ get_or members (get_or places' i 0) 0
 
--- of the lanes that are settled, those of a plane take members, from the last that waits down to a
--- place; the others take none because none waits any more
+-- the lanes of `taken`, which are settled, take members, from place `rest` down to `rest'`; another
+-- settled lane takes none only where no member waits
 pub record AreTaken (members : List ℕ) (n settled : ℕ) (places places' traces traces' : List ℕ)
     (rest taken rest' : ℕ) : Type 0 where
   pub places_room : length places' ≡ length places
@@ -73,7 +73,7 @@ pub record AreTaken (members : List ℕ) (n settled : ℕ) (places places' trace
 abbrev pub HasBegun : (n rest k : ℕ) → Type 0
 HasBegun n rest k = (k < n) ⊎ (rest ≤ k)
 
--- of each member that has begun the right verdict is kept, or it is that of a lane that is pending
+-- for each member that has begun, the right verdict is kept or its lane is pending
 abbrev pub AreKept :
     FlatProgram → Recording → List ℕ → (has : ℕ → Verdict → Type 0) → List ℕ →
     (pending n rest : ℕ) → Type 0

@@ -1,4 +1,4 @@
--- Which inputs a flat program reads, and rows of inputs that are alike where they are read.
+-- The inputs that a flat program reads, and rows of inputs that are alike where they are read.
 -- Source: this project's rule.
 use Rattle.std.specs.Prelude.{◌≡◌, ◌<◌, ◌+◌, ◌++◌, ◌∷◌, ℕ, Bool, true, false, Some, None, List}
 use Rattle.std.specs.Prelude.{[], Option, length, get_or, slice_get}
@@ -19,33 +19,33 @@ use Rattle.lb_sim.specs.declared.place.Value.TheVariants.{Truth, Negated, Number
 
 -- ## Elements that are read
 
--- a test of elements finds those that an operation reads, now or for its memory
+-- `read` finds the elements that an operation reads, now or for its memory
 abbrev pub FindsOperands : (ℕ → Bool) → Operation → Type 0
 FindsOperands read o = Every (λ e. read e ≡ true) (reads o ++ keeps o)
 
--- and those that a clock reads
+-- `read` finds the elements that the clock of an equation reads
 abbrev pub FindsClock : (ℕ → Bool) → FlatEquation → Type 0
 FindsClock read q = Every (λ e. read e ≡ true) (clock_reads q.clock)
 
--- it finds all elements that a program reads, and those at which a truth is wanted
+-- `read` finds all elements that a program reads, and those at which a truth is wanted
 pub record FindsReads (f : FlatProgram) (read : ℕ → Bool) : Type 0 where
   pub operands : Every (λ q. FindsOperands read q.operation) f.equations
   pub clocks : Every (FindsClock read) f.equations
   pub truths : Every (λ e. read e ≡ true) (truth_elements f)
 
--- marks on some elements, beside those that were there
+-- `new` has the marks of `old`, and marks on `elements`
 pub record AreMarkedToo (old new : List Bool) (elements : List ℕ) : Type 0 where
   pub as_long : length new ≡ length old
   pub still : (e : ℕ) → get_or old e false ≡ true → get_or new e false ≡ true
   pub marked : Every (λ e. get_or new e false ≡ true) elements
 
--- the element that a clock of a table waits for is marked
+-- the element that clock `k` of a table waits for is marked
 abbrev pub IsClockMarked : List Clock → List Bool → Option ClockId → Type 0
 IsClockMarked clocks marks k =
     (i : ClockId) (t : Clock) → k ≡ Some i → slice_get clocks i.0 ≡ Some t →
     get_or marks t.element.0 false ≡ true
 
--- marks are on all elements that a program of the code reads, and at which a truth is wanted
+-- all elements that a program reads are marked, and those at which a truth is wanted
 pub record MarksReads (p : declared.FlatProgram) (marks : List Bool) : Type 0 where
   pub as_long : length marks ≡ p.size
   pub clocks :
@@ -62,20 +62,20 @@ pub record MarksReads (p : declared.FlatProgram) (marks : List Bool) : Type 0 wh
 
 -- ## Inputs that are loaded
 
--- an input that stands at a place is loaded: of integers some, by their places among all of them,
--- and Booleans all or none
+-- the input at a value is loaded: an integer if `numbers` has its place among the integers, a
+-- Boolean if `truths` is true
 abbrev pub IsLoadedAt : List ℕ → Bool → Value → Type 0
 IsLoadedAt numbers truths (Truth p) = truths ≡ true
 IsLoadedAt numbers truths (Negated p) = truths ≡ true
 IsLoadedAt numbers truths (Number w) =
     (k : ℕ) × (k < length numbers) × (get_or numbers k 0 + 1 ≡ w.0)
 
--- what was loaded is loaded still
+-- each input that the old lists load is loaded by the new ones
 abbrev pub LoadsStill : (old new : List ℕ) → (old_truths new_truths : Bool) → Type 0
 LoadsStill old new old_truths new_truths =
     (v : Value) → IsLoadedAt old old_truths v → IsLoadedAt new new_truths v
 
--- an input stands at a plane, or at a word that is not the first
+-- the value of an input is a plane, or a word that is not the first
 abbrev pub IsInputPlace : Value → Type 0
 IsInputPlace (Truth p) = Unit {0}
 IsInputPlace (Negated p) = Unit {0}
@@ -110,7 +110,7 @@ pub record AreAlike (places : List Value) (numbers : List ℕ) (truths : Bool)
   pub bad : (j : ℕ) → is_bad (Some (slice_get given j)) ≡ is_bad (Some (slice_get other j))
   pub there : (j : ℕ) → slice_get places j ≡ None → slice_get given j ≡ slice_get other j
 
--- traces, instant by instant
+-- two traces are alike, instant by instant
 abbrev pub AreAllAlike :
     List Value → (numbers : List ℕ) → (truths : Bool) → (X Y : List (List Scalar)) → Type 0
 AreAllAlike places numbers truths [] [] = Unit {0}

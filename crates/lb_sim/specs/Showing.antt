@@ -1,4 +1,4 @@
--- What a lane shows at a place, and the row of cells that it shows at all of them.
+-- The cell that a lane shows at a place, and the row of cells that it shows at all places.
 -- Source: this project's rule. No lane occurs beside it.
 use Rattle.std.specs.Prelude.{Bool, true, false, not, List, map}
 use Rattle.lb_syntax.specs.declared.tree.Kind.{Kind}
@@ -15,25 +15,25 @@ use Rattle.lb_sim.specs.declared.place.Value.{Value}
 use Rattle.lb_sim.specs.declared.place.Value.TheVariants.{Truth, Negated, Number}
 use Rattle.lb_sim.specs.declared.place.Holding.{Holding}
 use Rattle.lb_sim.specs.declared.place.Place.{Place}
-use Rattle.lb_sim.specs.declared.signed.Signed.{Signed}
+use Rattle.lb_sim.specs.declared.literal.Literal.{Literal}
 
--- the value of a fault, or nil, or this
+-- a fault where `bad`, else nil where `nil`, else `v`
 abbrev pub shown : (bad nil : Bool) → Scalar → Scalar
 shown true nil v = Bad
 shown false true v = Nil
 shown false false v = v
 
--- the value in a lane
+-- the scalar of a value in a lane
 abbrev pub value_at : Lane → Value → Scalar
 value_at s (Truth p) = Boolean (s.bits p.0)
 value_at s (Negated p) = Boolean (not (s.bits p.0))
 value_at s (Number w) = Integer (s.ints w.0)
 
--- the truth in a lane
-abbrev pub truth_at : Lane → Signed → Bool
+-- the Boolean of a truth in a lane
+abbrev pub truth_at : Lane → Literal → Bool
 truth_at s x = same x.sign (s.bits x.plane.0)
 
--- the scalar that is held in a lane
+-- the scalar of a holding in a lane
 abbrev pub scalar_at : Lane → Holding → Scalar
 scalar_at s h = shown (s.bits h.bad.0) (s.bits h.nil.0) (value_at s h.value)
 
@@ -41,7 +41,7 @@ scalar_at s h = shown (s.bits h.bad.0) (s.bits h.nil.0) (value_at s h.value)
 abbrev pub cell_at : Lane → Place → Cell
 cell_at s p = held (scalar_at s p.holding) (s.bits p.present.0)
 
--- the row of cells that it shows
+-- the row of cells that a lane shows
 abbrev pub row_at : Lane → List Place → List Cell
 row_at s places = map (cell_at s) places
 

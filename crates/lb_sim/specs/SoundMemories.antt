@@ -9,7 +9,7 @@ use Rattle.lb_check.specs.Clocks.{Clock}
 use Rattle.lb_check.specs.Occurrences.{Occurrence, node_occurrences}
 use Rattle.lb_check.specs.Scalars.{Scalar, Bad}
 use Rattle.lb_flat.specs.FlatPrograms.{IsFlatOf}
-use Rattle.lb_flat.specs.FurtherKinds.{kind_among}
+use Rattle.lb_flat.specs.TemporaryKinds.{kind_among}
 use Rattle.lb_flat.specs.Judging.{FlatProgram}
 use Rattle.lb_flat.specs.Layouts.{Layout}
 use Rattle.lb_flat.specs.MemoryPlaces.{HasMemories}
@@ -22,7 +22,7 @@ module _ (P : Program) (Y : Layout) (kinds : ℕ → Kind) (f : FlatProgram) (me
   abbrev pub NoneIsFault : List ℕ → Type 0
   NoneIsFault places = Every (λ e. memory e ≢ Bad) places
 
-  -- none of an operator is
+  -- no memory of an operator is a fault
   abbrev pub KeepsNoFault :
       (here : Instance) (k : Clock) (n : ℕ) (e : Expr) → HasMemories P Y kinds f here k n e → Type 0
   KeepsNoFault here k n (Pre a) h = NoneIsFault h.places
@@ -30,7 +30,7 @@ module _ (P : Program) (Y : Layout) (kinds : ℕ → Kind) (f : FlatProgram) (me
   KeepsNoFault here k n (Fby a b) h = NoneIsFault h.0.places
   KeepsNoFault here k n e h = Unit {0}
 
-  -- none of the operators of an instance is, and none of those of all instances
+  -- no memory of the operators of an instance is a fault, and none of all instances
   abbrev pub EachKeepsNoFault :
       (here : Instance) (os : List Occurrence) →
       Every (λ o. HasMemories P Y kinds f here o.clock o.calls_before o.expr) os → Type 0

@@ -1,5 +1,5 @@
--- The memories that a lane holds, as a state of the flat program; and what the code of a lane
--- program makes each element show.
+-- The memories that a lane holds, as a state of the flat program; and the scalar that the code
+-- makes each element show.
 -- Source: this project's rule. No lane occurs beside it.
 use Rattle.std.specs.Prelude.{◌≡◌, ℕ, Bool, false, Some, List, length, map}
 use Rattle.std.specs.Prelude.{get_or}
@@ -21,7 +21,7 @@ use Rattle.lb_sim.specs.declared.place.Place.{Place}
 
 -- ## Places of elements
 
--- where nothing stands
+-- the holding, and the place, of nothing
 abbrev pub no_holding : Holding
 no_holding = record {
   value = Truth (record { 0 = 0 });
@@ -32,7 +32,7 @@ no_holding = record {
 abbrev pub no_place : Place
 no_place = record { holding = no_holding; present = record { 0 = 0 } }
 
--- what an element holds, the lanes in which it is present, and where its memory stands
+-- the holding of an element, its presence in a lane, and the holding of its memory
 abbrev pub holding_of : List Place → ℕ → Holding
 holding_of places e = (get_or places e no_place).holding
 
@@ -44,7 +44,7 @@ kept_at kept e = get_or kept e no_holding
 
 -- ## Memories
 
--- a flag that is kept: of it the truth value alone counts
+-- the flag of a memory: only its truth value counts
 abbrev pub flag_of : Scalar → Bool
 flag_of (Boolean b) = b
 flag_of v = false
@@ -76,7 +76,7 @@ IsStateAfter f kept s X =
 
 -- ## Elements
 
--- an element shows what its operation gives of what the operands show; `kept` is its memory
+-- an element shows the result of its operation on what the operands show; `kept` is its memory
 abbrev pub IsShown : List Scalar → Lane → List Place → Holding → Operation → Scalar → Type 0
 IsShown given s places kept (Input j) v = slice_get given j ≡ Some v
 IsShown given s places kept (Constant w) v = v ≡ w
@@ -109,7 +109,7 @@ pub record IsShownBy (given : List Scalar) (s : Lane) (places : List Place) (kep
 
 -- ## The next instant
 
--- what a memory holds in the lane that follows, from what its operand shows in this one
+-- the memory in the following lane `s'`, from what its operand shows in `s`
 abbrev pub IsMoved : Lane → Lane → List Place → Holding → Operation → Type 0
 IsMoved s s' places h (FirstThen started a b) =
     flag_at s' h ≡ (flag_at s h || present_at s places a)
@@ -121,8 +121,8 @@ IsMoved s s' places h (Latest v a) =
     ≡ (if present_at s places a then scalar_at s (holding_of places a) else scalar_at s h)
 IsMoved s s' places h o = Unit {0}
 
--- in the lane that follows, places that lie side by side hold what their sources hold in this one,
--- and the places before them hold what they held
+-- in the following lane `s'`, the places from `first_plane` and `first_word` on hold what their
+-- sources hold in `s`; the places before them do not change
 pub record IsCarriedOver (first_plane first_word : ℕ) (planes : List PlaneId)
     (words : List WordId) (s s' : Lane) : Type 0 where
   pub planes_carried :

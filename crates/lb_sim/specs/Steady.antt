@@ -1,5 +1,5 @@
--- Holdings that stand in for memories: what they show is what the memories hold, in each lane in
--- which some planes of memories are false and some are true.
+-- Holdings that stand in for memories: they show what the memories hold, in each lane in which some
+-- planes of memories are false and some are true.
 -- This file says what data of the program mean.
 use Rattle.std.specs.Prelude.{◌≡◌, ℕ, ◌≤◌, ◌<◌, true, false, List, length, All}
 use Rattle.lb_syntax.specs.Lists.{Every}
@@ -14,14 +14,14 @@ use Rattle.lb_sim.specs.Showing.{scalar_at, kind_of}
 use Rattle.lb_sim.specs.States.{kept_at, flag_at}
 use Rattle.lb_sim.specs.declared.place.Holding.{Holding}
 
--- planes are false in a lane, or true
+-- all planes of a list are false in a lane, or all are true
 abbrev pub AreClear : List PlaneId → Lane → Type 0
 AreClear ps s = All (λ (p : PlaneId). s.bits p.0 ≡ false) ps
 
 abbrev pub AreSet : List PlaneId → Lane → Type 0
 AreSet ps s = All (λ (p : PlaneId). s.bits p.0 ≡ true) ps
 
--- the places of a holding are below these
+-- the places of a holding are below `planes` and `words`
 pub record IsBelow (planes words : ℕ) (h : Holding) : Type 0 where
   pub plane : plane_in h.value < planes
   pub word : word_in h.value < words
@@ -42,15 +42,15 @@ IsHeldFor (Previous v a) home held = kind_of held ≡ kind_of home
 IsHeldFor (Latest v a) home held = kind_of held ≡ kind_of home
 IsHeldFor o home held = Unit {0}
 
--- it shows what the memory holds
+-- `held` shows what the memory at `home` holds
 abbrev pub ShowsMemory : Lane → Operation → (home held : Holding) → Type 0
 ShowsMemory s (FirstThen started a b) home held = flag_at s held ≡ flag_at s home
 ShowsMemory s (Previous v a) home held = scalar_at s held ≡ scalar_at s home
 ShowsMemory s (Latest v a) home held = scalar_at s held ≡ scalar_at s home
 ShowsMemory s o home held = Unit {0}
 
--- in place of the memory of `pre` or of `current`: it shows what the memory holds where the planes
--- of a list are false; the list grew by a plane of the memory
+-- `held` stands in for the memory of `pre` or `current`: it shows what the memory holds where the
+-- planes of `clear'` are false; `clear'` is `clear`, or that and a plane of the memory
 pub record IsNotNil (home held : Holding) (clear clear' : List PlaneId) : Type 0 where
   pub kind_is : kind_of held ≡ kind_of home
   pub below :
@@ -63,8 +63,8 @@ pub record IsNotNil (home held : Holding) (clear clear' : List PlaneId) : Type 0
       All (λ (p : PlaneId). IsHomeAt first end p.0) clear →
       All (λ (p : PlaneId). IsHomeAt first end p.0) clear'
 
--- in place of any memory: it does so where the planes of two lists are false and true; these lists
--- grew by planes of the memory
+-- `held` stands in for any memory: it shows what the memory holds where the planes of `clear'` are
+-- false and those of `set'` are true; a list that grows, grows by planes of the memory
 pub record IsSteadyFor (o : Operation) (home held : Holding)
     (clear clear' set set' : List PlaneId) : Type 0 where
   pub held_for : IsHeldFor o home held

@@ -1,4 +1,4 @@
--- The planes of what an instant decides in each lane, and the verdict that they give.
+-- The planes that an instant is judged by in each lane, and the verdict that they give.
 -- Source: this project's rule.
 use Rattle.std.specs.Prelude.{◌≡◌, ℕ, Bool, true, false, Option, List, [], ◌∷◌, slice_index_or}
 use Rattle.std.specs.Prelude.{if◌then◌else◌}
@@ -19,19 +19,19 @@ use Rattle.lb_sim.specs.declared.place.Watched.{Watched}
 use Rattle.lb_sim.specs.declared.watch.Sought.{Sought}
 use Rattle.lb_sim.specs.declared.watch.Sought.TheVariants.{Faults, Nils, Falses}
 
--- whether an element shows what is looked for
+-- whether an element shows the sought kind of cell: a fault, nil or false
 abbrev pub is_sought : Sought → Option Cell → Bool
 is_sought Faults x = is_bad x
 is_sought Nils x = is_nil x
 is_sought Falses x = is_false x
 
--- planes that are marked by their numbers are within one plane, wherever the code has been run
+-- each marked plane is within `plane`, in each lane that has run the code
 pub record AreWithin (code : Code) (marked : List Bool) (plane : PlaneId) : Type 0 where
   pub within :
       (p : ℕ) → slice_index_or marked p false ≡ true → (s : Lane) →
       HasRun (listed code.instructions) s → s.bits p ≡ true → s.bits plane.0 ≡ true
 
--- planes of the code hold in each lane what its row shows at the elements that are watched
+-- the planes of `w` hold in each lane what its row shows at the elements that are watched
 pub record AreWatched (code : Code) (f : FlatProgram) (places : List Place) (w : Watched) :
     Type 0 where
   pub faults :
@@ -42,8 +42,8 @@ pub record AreWatched (code : Code) (f : FlatProgram) (places : List Place) (w :
   pub violated :
       IsPlaneFor code (λ s. some_in is_false (row_at s places) (f.property ∷ [])) w.violated
 
--- what an instant decides, where a fault counts, a truth is missing, an assertion and the property
--- are false
+-- the verdict of instant `t`, from whether a fault counts, a truth is missing, an assertion is
+-- false, and the property is false
 abbrev pub verdict_by : ℕ → Bool → Bool → Bool → Bool → Verdict
 verdict_by t fault undefined failed violated =
     if fault then Fault t else
@@ -51,7 +51,7 @@ verdict_by t fault undefined failed violated =
     if failed then Assertion t else
     if violated then False t else Passed
 
--- what a lane decides at an instant
+-- the verdict of lane `s` at instant `t`
 abbrev pub lane_judged : Watched → ℕ → Lane → Verdict
 lane_judged w t s =
     verdict_by t (s.bits w.faults.0) (s.bits w.undefined.0) (s.bits w.failed.0)

@@ -1,18 +1,18 @@
-//! The integers of some instants that follow one another, loaded together.
+//! The integers of consecutive instants, loaded together.
 //!
-//! The rows of a trace lie side by side in memory, and those of another trace elsewhere. So of each
-//! lane the rows of up to 64 instants are read in one go, those of four lanes at a time. Of its
-//! integers those are loaded that stand at some places, if there is room for so many.
+//! The rows of one trace lie side by side in memory, far from the rows of another trace. So for
+//! each lane the rows of up to 64 instants are read in one go, four lanes at a time. Of a row the
+//! integers at `places` are loaded, if the room is large enough for them.
 //!
-//! The instants are those of the batch: a lane whose trace began later has the rows of as many
-//! instants earlier.
+//! The instants are those of the batch. Where the trace of a lane began `b` instants later than the
+//! batch, the lane has the row of instant `t - b` at instant `t`.
 //!
 //! ```text
-//! room    place 0: instant 0, instant 1, ... instant 63, and a word that stands for nothing; then
+//! room    place 0: instant 0, instant 1, ... instant 63, and an unused word; then
 //!         place 1; each a word of 64 lanes
 //! ```
 //!
-//! Without those that stand for nothing the words of an instant would share few lines of a cache.
+//! Without the unused words, the words of one instant would share few lines of a cache.
 
 ghost use Rattle.std.specs.Prelude.{◌≡◌, ◌≢◌, ℕ, ◌<◌, ◌≤◌, ◌+◌, ◌*◌, ◌⊎◌, true, length, get_or};
 ghost use Rattle.std.specs.Prelude.{ℤ, pos, slice_index, slice_index_or, [], All};
@@ -28,10 +28,10 @@ use crate::integer_loads::{are_live, load_numbers};
 use crate::loads::Instant;
 use lb_lanes::{LaneWord, Plane};
 
-/// An instant of the members of a batch, and up to which one the lanes that are live have all that
-/// follow.
+/// An instant of the members of a batch, and the instant before which all live lanes have each
+/// instant that follows.
 #[derive(Clone, Copy)]
-pub(crate) struct Stretch<'a, 'b> {
+pub(crate) struct InstantRange<'a, 'b> {
     pub(crate) at: Instant<'a, 'b>,
     pub(crate) until: u32,
     pub(crate) ghost later: { at.t < until },
@@ -39,19 +39,19 @@ pub(crate) struct Stretch<'a, 'b> {
         → HaveInstant at.set.now at.members.now at.begins.now s at.live.0 },
 }
 
-/// Which instants of which lanes are loaded.
+/// The instants that are loaded, from `first` to before `until`, in some lanes.
 #[derive(Clone, Copy)]
-pub(crate) struct Ahead {
+pub(crate) struct PrefetchWindow {
     pub(crate) first: u32,
     pub(crate) until: u32,
     pub(crate) lanes: Plane,
 }
 
-/// What is loaded of the integers, and what of the Booleans.
+/// The instants whose integers are loaded, and those whose Booleans are.
 #[derive(Clone, Copy)]
 pub(crate) struct Loaded {
-    pub(crate) numbers: Ahead,
-    pub(crate) truths: Ahead,
+    pub(crate) numbers: PrefetchWindow,
+    pub(crate) truths: PrefetchWindow,
     pub(crate) ghost few: { numbers.until ≤ numbers.first + 64 },
 }
 
@@ -60,7 +60,7 @@ pub(crate) fn nothing() -> Loaded
     ensures numbers { result.numbers.first + result.numbers.until ≡ 0 }
     ensures truths { result.truths.first + result.truths.until ≡ 0 }
 {
-    let none = Ahead {
+    let none = PrefetchWindow {
         first: 0,
         until: 0,
         lanes: Plane(0),
@@ -71,7 +71,7 @@ pub(crate) fn nothing() -> Loaded
     }
 }
 
-// Puts integers of a row, those at some places, into a lane of the words of an instant.
+// Puts the integers of a row at `places` into one lane of the words of instant `d`.
 fn put_row(row: &[i32], lane: u32, d: usize, places: &[usize], room: &mut [LaneWord])
     requires lane { lane < 64 }
     requires instant { d < 64 }
@@ -90,8 +90,8 @@ fn put_row(row: &[i32], lane: u32, d: usize, places: &[usize], room: &mut [LaneW
     }
 }
 
-// The integers of a member whose lane is live, so many instants later.
-fn row_of<'a>(at: &Stretch<'a, '_>, i: usize, d: usize) -> &'a [i32]
+// The integers of member `i`, whose lane is live, `d` instants later.
+fn row_of<'a>(at: &InstantRange<'a, '_>, i: usize, d: usize) -> &'a [i32]
     requires member { i < length at.now.at.members.now }
     requires instant { at.now.at.t + d < at.now.until }
     requires live { on at.now.at.live.0 i ≡ true }
@@ -107,8 +107,14 @@ fn row_of<'a>(at: &Stretch<'a, '_>, i: usize, d: usize) -> &'a [i32]
     at.at.set.numbers(at.at.members[i], t)
 }
 
-// Puts the integers of so many instants of a member into its lane if that is live.
-fn put_member(at: &Stretch<'_, '_>, i: usize, count: usize, places: &[usize], room: &mut [LaneWord])
+// Puts the integers of `count` instants of member `i` into its lane, if the lane is live.
+fn put_member(
+    at: &InstantRange<'_, '_>,
+    i: usize,
+    count: usize,
+    places: &[usize],
+    room: &mut [LaneWord],
+)
     requires member { i < length at.now.at.members.now }
     requires count { at.now.at.t + count ≤ at.now.until }
     requires few { count ≤ 64 }
@@ -128,10 +134,10 @@ fn put_member(at: &Stretch<'_, '_>, i: usize, count: usize, places: &[usize], ro
     }
 }
 
-// Puts the integers of so many instants of the members from one on into the lanes that are live,
-// one by one.
+// Puts the integers of `count` instants into the live lanes, for the members from `first` on, one
+// by one.
 fn put_each(
-    at: &Stretch<'_, '_>,
+    at: &InstantRange<'_, '_>,
     first: usize,
     end: usize,
     count: usize,
@@ -155,9 +161,9 @@ fn put_each(
     }
 }
 
-// Puts the integers of so many instants of four members into their lanes.
+// Puts the integers of `count` instants of four members into their lanes.
 fn put_four_members(
-    at: &Stretch<'_, '_>,
+    at: &InstantRange<'_, '_>,
     first: usize,
     count: usize,
     places: &[usize],
@@ -192,8 +198,8 @@ fn put_four_members(
     }
 }
 
-// Puts the integers of so many instants into the lanes that are live.
-fn fill(at: &Stretch<'_, '_>, count: usize, places: &[usize], room: &mut [LaneWord])
+// Puts the integers of `count` instants into the live lanes.
+fn fill(at: &InstantRange<'_, '_>, count: usize, places: &[usize], room: &mut [LaneWord])
     requires count { at.now.at.t + count ≤ at.now.until }
     requires few { count ≤ 64 }
     requires room { 65 * length places.now ≤ length room.old }
@@ -212,8 +218,14 @@ fn fill(at: &Stretch<'_, '_>, count: usize, places: &[usize], room: &mut [LaneWo
     put_each(at, 4 * fours, members, count, places, room);
 }
 
-// What is loaded, with the instant: as before, or from the instant on.
-fn renewed(at: &Stretch<'_, '_>, places: &[usize], room: &mut [LaneWord], last: Ahead) -> Ahead
+// The instants that are loaded once this one is: `last` if it has this instant, else instants from
+// this one on.
+fn renewed(
+    at: &InstantRange<'_, '_>,
+    places: &[usize],
+    room: &mut [LaneWord],
+    last: PrefetchWindow,
+) -> PrefetchWindow
     requires room { 65 * length places.now ≤ length room.old }
     requires within { All (λ w. w < length (number_columns 0
         (kinds_of at.now.at.set.now.signature))) places.now }
@@ -238,14 +250,14 @@ fn renewed(at: &Stretch<'_, '_>, places: &[usize], room: &mut [LaneWord], last: 
     }
     let count = (at.until - first).min(64);
     fill(at, count as usize, places, room);
-    Ahead {
+    PrefetchWindow {
         first,
         until: first + count,
         lanes: at.at.live,
     }
 }
 
-// Copies the integers of an instant that is loaded to their places.
+// Copies the integers of a loaded instant to their places.
 fn take(room: &[LaneWord], d: usize, places: &[usize], words: &mut [LaneWord])
     requires instant { d < 64 }
     requires room { 65 * length places.now ≤ length room.now }
@@ -262,15 +274,15 @@ fn take(room: &[LaneWord], d: usize, places: &[usize], words: &mut [LaneWord])
     }
 }
 
-/// Puts the integers of the signature that stand at these places into words, where it may be that
-/// the instant is loaded already, and tells what is loaded then.
+/// Puts the integers of the signature at `places` into words. The instant may be loaded already, as
+/// `last` says. The result says what is loaded afterwards.
 pub(crate) fn load_ahead(
-    at: &Stretch<'_, '_>,
+    at: &InstantRange<'_, '_>,
     places: &[usize],
     room: &mut [LaneWord],
-    last: Ahead,
+    last: PrefetchWindow,
     words: &mut [LaneWord],
-) -> Ahead
+) -> PrefetchWindow
     requires words { length words.old
         ≡ length (number_columns 0 (kinds_of at.now.at.set.now.signature)) }
     requires within { All (λ w. w < length words.old) places.now }

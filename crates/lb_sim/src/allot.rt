@@ -18,18 +18,18 @@ ghost use Rattle.lb_sim.specs.Presets.{IsConstantAt, IsFixed, IsMore};
 use crate::place::{Holding, Value};
 use crate::preset::Preset;
 use lb_flat::{Operation, Scalar};
-use lb_machine::{EVERYWHERE, NOWHERE, PlaneId, WordId, ZERO};
+use lb_machine::{FALSE_PLANE, PlaneId, TRUE_PLANE, WordId, ZERO};
 use lb_syntax::Kind;
 use std::alloc::{AllocError, Global};
 
-/// Where nothing stands.
+/// The holding of nothing.
 pub(crate) const NOTHING: Holding = Holding {
-    value: Value::Truth(NOWHERE),
-    nil: NOWHERE,
-    bad: NOWHERE,
+    value: Value::Truth(FALSE_PLANE),
+    nil: FALSE_PLANE,
+    bad: FALSE_PLANE,
 };
 
-/// Where each input stands, behind what is the same everywhere.
+/// The value of each input, behind the places that are the same everywhere.
 pub(crate) fn input_values(
     alloc: Global,
     preset: &mut Preset,
@@ -78,7 +78,7 @@ fn is_bad(v: Scalar) -> bool
     }
 }
 
-// A value of a kind, where a scalar is nil or a fault.
+// A value of a kind, for a scalar that is nil or a fault.
 fn empty_value(preset: &mut Preset, kind: Kind) -> Result<Value, AllocError>
     requires planes { length preset.old.planes.items < 4294967295 }
     requires words { length preset.old.words.items < 4294967295 }
@@ -99,7 +99,7 @@ fn empty_value(preset: &mut Preset, kind: Kind) -> Result<Value, AllocError>
     }
 }
 
-// A value that holds a scalar; where that is nil or a fault, anything of this kind.
+// A value that holds a scalar; for nil or a fault, any value of the kind.
 fn first_value(preset: &mut Preset, v: Scalar, kind: Kind) -> Result<Value, AllocError>
     requires planes { length preset.old.planes.items < 4294967295 }
     requires words { length preset.old.words.items < 4294967295 }
@@ -143,7 +143,7 @@ fn bad_place(preset: &mut Preset, v: Scalar, watched: bool) -> Result<PlaneId, A
         return Ok(plane);
     }
     if watched {
-        return Ok(NOWHERE);
+        return Ok(FALSE_PLANE);
     }
     let plane = preset.plane(false)?;
     Ok(plane)
@@ -164,8 +164,8 @@ fn memory(preset: &mut Preset, v: Scalar, kind: Kind, watched: bool) -> Result<H
     Ok(Holding { value, nil, bad })
 }
 
-/// Where the memory of an operation stands, or nothing; `watched` marks the elements at which a
-/// fault counts.
+/// The holding of the memory of an operation, or the holding of nothing; `watched` marks the
+/// elements at which a fault counts.
 pub(crate) fn first_memory(
     preset: &mut Preset,
     operation: &Operation,
@@ -185,8 +185,8 @@ pub(crate) fn first_memory(
             let plane = preset.plane(*started)?;
             Ok(Holding {
                 value: Value::Truth(plane),
-                nil: NOWHERE,
-                bad: NOWHERE,
+                nil: FALSE_PLANE,
+                bad: FALSE_PLANE,
             })
         }
         Operation::Previous(v, a) => {
@@ -208,12 +208,12 @@ fn no_value(kind: Kind) -> Value
     ensures word { word_in result ≡ 0 }
 {
     match kind {
-        Kind::Bool => Value::Truth(NOWHERE),
+        Kind::Bool => Value::Truth(FALSE_PLANE),
         Kind::Int => Value::Number(ZERO),
     }
 }
 
-// The word of a number among those from a first one on, or one more.
+// The word of a number among those from `first` on, or a new word.
 fn number_word(preset: &mut Preset, first: u32, value: i32) -> Result<WordId, AllocError>
     requires first { first ≤ length preset.old.words.items }
     requires room { length preset.old.words.items < 4294967295 }
@@ -232,7 +232,7 @@ fn number_word(preset: &mut Preset, first: u32, value: i32) -> Result<WordId, Al
     Ok(word)
 }
 
-// What a scalar is held as: an integer by a word that is the same for equal integers.
+// The holding of a constant scalar. Equal integers share one word.
 fn held_constant(
     preset: &mut Preset,
     first: u32,
@@ -254,29 +254,30 @@ fn held_constant(
             let word = number_word(preset, first, z)?;
             Ok(Holding {
                 value: Value::Number(word),
-                nil: NOWHERE,
-                bad: NOWHERE,
+                nil: FALSE_PLANE,
+                bad: FALSE_PLANE,
             })
         }
         Scalar::Boolean(b) => Ok(Holding {
-            value: Value::Truth(if b { EVERYWHERE } else { NOWHERE }),
-            nil: NOWHERE,
-            bad: NOWHERE,
+            value: Value::Truth(if b { TRUE_PLANE } else { FALSE_PLANE }),
+            nil: FALSE_PLANE,
+            bad: FALSE_PLANE,
         }),
         Scalar::Nil => Ok(Holding {
             value: no_value(kind),
-            nil: EVERYWHERE,
-            bad: NOWHERE,
+            nil: TRUE_PLANE,
+            bad: FALSE_PLANE,
         }),
         Scalar::Bad => Ok(Holding {
             value: no_value(kind),
-            nil: NOWHERE,
-            bad: EVERYWHERE,
+            nil: FALSE_PLANE,
+            bad: TRUE_PLANE,
         }),
     }
 }
 
-/// What an operation holds that is a constant, in the words from a first one on, or nothing.
+/// The holding of a constant, in the words from `first` on, or the holding of nothing for any other
+/// operation.
 pub(crate) fn constant(
     preset: &mut Preset,
     first: u32,

@@ -1,4 +1,4 @@
-//! All that is known before the code: inputs, constants and memories.
+//! The places before the code: inputs, constants and memories.
 
 ghost use Rattle.std.specs.Prelude.{[], IfOk};
 ghost use Rattle.lb_flat.specs.Bounds.{IsBounded};
@@ -13,15 +13,15 @@ use crate::preset::Preset;
 use lb_flat::FlatProgram;
 use std::alloc::{AllocError, Global};
 
-/// Where inputs, constants and memories stand, in this order, and what the planes and words before
-/// the code hold at the start.
+/// The places of inputs, constants and memories, in this order, and what the planes and words
+/// before the code hold at the start.
 #[derive(Drop)]
 pub(crate) struct Allotted {
     pub(crate) preset: Preset,
     pub(crate) inputs: Vec<Value>,
-    /// What an element holds that is a constant.
+    /// The holding of each element that is a constant.
     pub(crate) constants: Vec<Holding>,
-    /// Where the memory of an element stands, if it has one.
+    /// The holding of the memory of each element that has one.
     pub(crate) kept: Vec<Holding>,
     /// The first word of the constants, and the first plane and word of the memories.
     pub(crate) constant_word: u32,

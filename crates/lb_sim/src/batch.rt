@@ -15,12 +15,12 @@ ghost use Rattle.lb_sim.specs.BatchRuns.{steps_in};
 ghost use Rattle.lb_sim.specs.Correct.{HasVerdict, HaveVerdicts, IsFresh, TakesVerdicts};
 ghost use Rattle.lb_sim.specs.Progress.{AreRunTo, Fits, GoOn, IsRunTo};
 
-use crate::ahead::{Stretch, nothing};
+use crate::ahead::{InstantRange, nothing};
 use crate::batch_run::BatchRun;
 use crate::inputs::Inputs;
 use crate::loads::Instant;
 use crate::program::LaneProgram;
-use crate::queue::{Queue, first_places, first_traces, hand_on, instants_of, settled_lanes};
+use crate::queue::{Queue, first_places, first_traces, instants_of, refill, settled_lanes};
 use crate::room::{BatchRoom, is_kind};
 use crate::running::{Running, running_at};
 use crate::verdicts::{InOrder, Verdicts};
@@ -46,7 +46,7 @@ impl Done {
         self.members.as_slice()
     }
 
-    /// The verdict of each member, in their order.
+    /// The verdict of each member, in the order of the members.
     pub fn verdicts(&self) -> &[Verdict]
         ensures { result.now ≡ self.now.verdicts.items }
     {
@@ -70,9 +70,9 @@ pub fn has_kinds(signature: &Signature, kinds: &[Kind]) -> bool
     true
 }
 
-// Runs the lanes whose traces go on, up to an instant before which they are the same; it stops
-// where none of them is active. It takes no memory.
-fn run_stretch(
+// Runs the lanes of `next` up to instant `next.until`, before which their traces go on. It stops
+// early where no lane is active. It takes no memory.
+fn run_range(
     run: &mut BatchRun<'_>,
     inputs: &mut Inputs,
     set: &TraceSet,
@@ -111,7 +111,7 @@ fn run_stretch(
         if live.0 == 0 {
             return;
         }
-        let at = Stretch {
+        let at = InstantRange {
             at: Instant {
                 set,
                 members,
@@ -126,15 +126,15 @@ fn run_stretch(
     }
 }
 
-// The lanes whose verdicts are not kept yet, and the place before which members may wait still.
+// The lanes whose verdicts are not kept yet, and the place before which members may still wait.
 #[derive(Clone, Copy)]
 struct Left {
     pending: Plane,
     rest: u32,
 }
 
-// Keeps what is settled, lets these lanes go on with members that wait, and tells which lanes have
-// an instant.
+// Keeps the verdicts of settled lanes, and gives these lanes members that wait. The result has the
+// lanes whose traces have the next instant.
 fn settle<V: Verdicts>(
     run: &mut BatchRun<'_>,
     queue: &Queue<'_>,
@@ -167,15 +167,15 @@ fn settle<V: Verdicts>(
     if settled.0 == 0 {
         return next;
     }
-    let taken = hand_on(run, queue, places, traces, settled, left.rest, verdicts);
+    let taken = refill(run, queue, places, traces, settled, left.rest, verdicts);
     left.rest = taken.rest;
     left.pending = left.pending.and(settled.not()).or(taken.lanes);
     running_at(queue.set, traces, run.begins.as_slice(), run.steps)
 }
 
-// Runs the traces of a queue to their ends or their verdicts, from lanes that stand for no instant
-// yet, and keeps the verdict of each. It takes no memory, and stops when no trace waits and no lane
-// is left that goes on.
+// Runs the traces of a queue to their ends or their verdicts, from lanes before their first
+// instant, and keeps the verdict of each. It takes no memory. It stops when no trace waits and no
+// lane goes on.
 fn run_lanes<V: Verdicts>(
     run: &mut BatchRun<'_>,
     inputs: &mut Inputs,
@@ -208,11 +208,11 @@ fn run_lanes<V: Verdicts>(
         if left.pending.0 == 0 {
             return;
         }
-        run_stretch(run, inputs, queue.set, &traces, next);
+        run_range(run, inputs, queue.set, &traces, next);
     }
 }
 
-// Keeps one verdict for all members.
+// Keeps the verdict `Passed` for all members.
 fn keep_passed<V: Verdicts>(queue: &Queue<'_>, verdicts: &mut V)
     requires { (k : ℕ) → k < length queue.now.members.now → V.takes verdicts.old k Passed }
     ensures kept { (k : ℕ) → k < length queue.now.members.now → V.has verdicts.new k Passed }
@@ -223,8 +223,8 @@ fn keep_passed<V: Verdicts>(queue: &Queue<'_>, verdicts: &mut V)
     }
 }
 
-// Runs the traces of a queue where their signature has the kinds of the program. No program has
-// both this signature and that flat program where it does not: then any verdict will do.
+// Runs the traces of a queue if their signature has the kinds of the program. If it has not, no
+// program has both this signature and this flat program, so any verdict will do.
 fn run_queue<V: Verdicts>(
     run: &mut BatchRun<'_>,
     inputs: &mut Inputs,
@@ -250,10 +250,11 @@ fn run_queue<V: Verdicts>(
     run_lanes(run, inputs, queue, verdicts);
 }
 
-/// Runs up to 4096 traces in 1 to 64 lanes, in the room of a worker: so many side by side, each
-/// until its verdict or its end, and then in its lane the next of those that wait, the last member
-/// first. Each verdict is kept once, at the place of its member, as soon as its lane is looked at:
-/// when the traces of some lanes have ended, at the latest after 4096 instants. It takes no memory.
+/// Runs up to 4096 traces in 1 to 64 lanes, in the room of a worker. As many traces as lanes run
+/// side by side, each until its verdict or its end; then its lane takes the next trace that waits,
+/// the last member first. Each verdict is kept once, at the place of its member, as soon as its
+/// lane is looked at: when the traces of some lanes have ended, at the latest after 4096 instants.
+/// It takes no memory.
 ///
 /// ```text
 /// let room = run_queue_to(room, &program, &set, &[0, 1, 2], 2, &mut posts);

@@ -16,7 +16,7 @@ use lb_check::Verdict;
 use lb_lanes::{LaneWord, Plane};
 use std::alloc::{AllocError, Global};
 
-/// The lanes of a batch: what their planes and words hold, and their verdicts so far.
+/// The lanes of a batch: their planes and words, and their verdicts so far.
 ///
 /// ```text
 /// let mut run = BatchRun::new(alloc, &program, 64)?;
@@ -28,11 +28,11 @@ pub struct BatchRun<'a> {
     pub planes: Vec<u64>,
     pub words: Vec<LaneWord>,
     pub verdicts: Vec<Verdict>,
-    /// The lanes that were live in the last step, and those of them that have passed so far.
+    /// The lanes that were live in the last step, and the lanes of these that have passed so far.
     pub live: Plane,
     pub active: Plane,
     pub steps: u32,
-    /// How many steps had been taken when the trace of each lane began.
+    /// The number of steps taken when the trace of each lane began.
     pub begins: Vec<u32>,
     pub ghost planes_room: { length planes.items ≡ program.now.planes },
     pub ghost words_room: { length words.items ≡ program.now.words },
@@ -71,7 +71,7 @@ impl<'a> BatchRun<'a> {
         Ok(BatchRun::begun(program, planes, words, verdicts, begins, lanes))
     }
 
-    // A run of so many lanes, before the first instant, in planes and words that may hold anything.
+    // A run of `lanes` lanes, before the first instant, in planes and words that may hold anything.
     pub(crate) fn begun(
         program: &'a LaneProgram<'a>,
         mut planes: Vec<u64>,
@@ -105,7 +105,7 @@ impl<'a> BatchRun<'a> {
         }
     }
 
-    // Lets these lanes stand for the empty trace. It takes no memory.
+    // Makes these lanes stand for the empty trace. It takes no memory.
     pub(crate) fn restart(&mut self, lanes: Plane)
         ensures { IsRestart self.old self.new lanes }
     {
@@ -125,7 +125,7 @@ impl<'a> BatchRun<'a> {
         self.active = self.active.or(lanes);
     }
 
-    /// One instant of the lanes that are live. It takes no memory.
+    /// Runs one instant of the live lanes. It takes no memory.
     pub fn step(&mut self, inputs: &Inputs, live: Plane)
         requires shrinks { (i : ℕ) → i < 64 → on live.0 i ≡ true
             → on self.old.live.0 i ≡ true }
@@ -149,8 +149,8 @@ impl<'a> BatchRun<'a> {
         self.steps += 1;
     }
 
-    /// The lanes that were live in the last step and have passed so far; before any step, all of
-    /// them.
+    /// The lanes that were live in the last step and have passed so far; before any step, all
+    /// lanes.
     pub fn active(&self) -> Plane
         ensures { result ≡ self.now.active }
     {

@@ -1,4 +1,4 @@
-//! Which code of a program an instant runs.
+//! The choice of the code that an instant runs.
 
 ghost use Rattle.std.specs.Prelude.{◌≡◌, ℕ, ◌<◌, List, ℤ, true, length, slice_index, All};
 ghost use Rattle.lb_lanes.specs.Planes.{on};
@@ -11,7 +11,7 @@ use crate::program::{LaneCode, LaneProgram};
 use lb_lanes::Plane;
 use lb_machine::PlaneId;
 
-// Whether each of some planes is in these lanes as another is.
+// Whether each of some planes equals the plane `one` in these lanes.
 fn are_as(planes: &[u64], each: &[PlaneId], one: Plane, lanes: Plane) -> bool
     requires { All (λ (p : PlaneId). p.0 < length planes.now) each.now }
     ensures { result ≡ true → (i : ℕ) → i < 64 → on lanes.0 i ≡ true
@@ -39,7 +39,7 @@ fn is_usable(planes: &[u64], code: &LaneCode, lanes: Plane) -> bool
     are_as(planes, code.set.as_slice(), Plane(0).not(), lanes)
 }
 
-/// The code for an instant of these lanes: the steady one where each of them suits it.
+/// The code for an instant of these lanes: the steady code where each of them suits it.
 pub(crate) fn code_for<'a>(
     program: &'a LaneProgram<'_>,
     planes: &[u64],

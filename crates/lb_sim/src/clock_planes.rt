@@ -12,10 +12,10 @@ ghost use Rattle.lb_sim.specs.Holdings.{IsPlaceIn};
 use crate::picks::sign_plane;
 use crate::place::Place;
 use lb_flat::{ClockId, FlatProgram};
-use lb_machine::{Code, EVERYWHERE, PlaneId};
+use lb_machine::{Code, PlaneId, TRUE_PLANE};
 use std::alloc::{AllocError, Global};
 
-/// The way up from a clock to the next one whose plane is known: the clocks below that one, the
+/// The way up from a clock to the next clock whose plane is known: the clocks below that clock, the
 /// lowest first, and its plane.
 #[derive(Drop)]
 pub(crate) struct Climb {
@@ -23,7 +23,7 @@ pub(crate) struct Climb {
     pub(crate) plane: PlaneId,
 }
 
-// The way up from a clock; none is the base clock, whose plane is always known.
+// The way up from a clock; `None` is the base clock, whose plane is always known.
 fn climb_from(
     alloc: Global,
     program: &FlatProgram,
@@ -48,12 +48,13 @@ fn climb_from(
     }
     Ok(Climb {
         waiting,
-        plane: EVERYWHERE,
+        plane: TRUE_PLANE,
     })
 }
 
-/// The plane of the lanes in which a clock of a program has an instant now, where those of some
-/// clocks are known already: each clock of the table is computed once, from the one above it.
+/// The plane of the lanes in which a clock of a program ticks now, where the planes of some clocks
+/// are known already. The plane of each clock of the table is computed once, from the plane of the
+/// clock above it.
 pub(crate) fn known_plane(
     alloc: Global,
     code: &mut Code,

@@ -1,4 +1,4 @@
-//! How many columns of a signature hold Booleans, and how many hold integers.
+//! The columns of a signature: which hold Booleans, and which hold integers.
 
 ghost use Rattle.std.specs.Prelude.{◌≡◌, length, count_by, IfOk};
 ghost use Rattle.std.specs.List.{range_with_len};
@@ -7,12 +7,13 @@ ghost use Rattle.lb_sim.specs.InputRows.{is_truth, truth_columns, number_columns
 use lb_syntax::Kind;
 use std::alloc::{AllocError, Global};
 
-/// The columns of a signature: a plane for each Boolean and a word for each integer, in its order.
+/// The columns of a signature: a plane for each Boolean and a word for each integer, in the order
+/// of the signature.
 #[derive(Drop)]
 pub struct Columns {
-    /// What each column holds.
+    /// The kind of each column.
     pub kinds: Vec<Kind>,
-    /// How many hold Booleans, and how many hold integers.
+    /// The number of Booleans, and the number of integers.
     pub truths: usize,
     pub numbers: usize,
     /// The places of all integers among the integers.
@@ -32,14 +33,14 @@ fn is_truth(kind: &Kind) -> bool
     }
 }
 
-// How many columns hold Booleans.
+// The number of columns that hold Booleans.
 fn count_truths(kinds: &[Kind]) -> usize
     ensures { result ≡ count_by is_truth kinds.now }
 {
     kinds.iter().filter(|kind| is_truth(kind)).count()
 }
 
-// The numbers below a count, in order.
+// The numbers below `count`, in order.
 fn numbers_below(alloc: Global, count: usize) -> Result<Vec<usize>, AllocError>
     ensures { IfOk result (λ v. v.items ≡ range_with_len 0 count) }
 {

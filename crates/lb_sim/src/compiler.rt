@@ -20,8 +20,8 @@ use lb_flat::{FlatProgram, Ordered};
 use lb_machine::{Code, PlaneId};
 use std::alloc::{AllocError, Global};
 
-// Code of a program, where `held` shows what memories hold in the lanes in which some of their
-// planes are false and some are true.
+// Code of a program, where `held` shows the memories in the lanes in which some of their planes are
+// false and some are true.
 fn lane_code(
     alloc: Global,
     program: &FlatProgram,

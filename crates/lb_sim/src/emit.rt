@@ -18,11 +18,11 @@ use crate::operators::{one_holding, two_holdings};
 use crate::picks::{choose, pick};
 use crate::place::{Holding, Place, Value};
 use lb_flat::{ElementId, InputId, Operation};
-use lb_machine::{Code, NOWHERE, PlaneId, ZERO};
+use lb_machine::{Code, FALSE_PLANE, PlaneId, ZERO};
 use lb_syntax::Kind;
 use std::alloc::AllocError;
 
-// What an element holds.
+// The holding of an element.
 fn holding(places: &[Place], a: ElementId) -> Holding
     requires { a.0 < length places.now }
     ensures { result ≡ holding_of places.now a.0 }
@@ -30,23 +30,23 @@ fn holding(places: &[Place], a: ElementId) -> Holding
     places[a.0 as usize].holding
 }
 
-// A truth that is nowhere, or the integer 0.
+// A truth that is false everywhere, or the integer 0.
 fn nothing(kind: Kind) -> Holding
     ensures kind { kind_of result ≡ kind }
     ensures within { (code : Code) → IsIn code result }
 {
     let value = match kind {
-        Kind::Bool => Value::Truth(NOWHERE),
+        Kind::Bool => Value::Truth(FALSE_PLANE),
         Kind::Int => Value::Number(ZERO),
     };
     Holding {
         value,
-        nil: NOWHERE,
-        bad: NOWHERE,
+        nil: FALSE_PLANE,
+        bad: FALSE_PLANE,
     }
 }
 
-// A holding of a kind: this one, or nothing of use where it is of another.
+// A holding of a kind: `h`, or a holding of nothing where `h` is of another kind.
 fn of_kind(h: Holding, kind: Kind) -> Holding
     ensures kind { kind_of result ≡ kind }
     ensures same { kind_of h ≡ kind → result ≡ h }
@@ -60,7 +60,7 @@ fn of_kind(h: Holding, kind: Kind) -> Holding
     }
 }
 
-// An input that the signature has.
+// The holding of input `j`, or `kept` where the signature does not have it.
 fn input(inputs: &[Value], j: InputId, kept: Holding) -> Holding
     ensures holding { (v : Value) → slice_get inputs.now j.0 ≡ Some v →
         result ≡ record { value = v; nil = record { 0 = 0 }; bad = record { 0 = 0 } } }
@@ -71,8 +71,8 @@ fn input(inputs: &[Value], j: InputId, kept: Holding) -> Holding
     if j < inputs.len() {
         return Holding {
             value: inputs[j],
-            nil: NOWHERE,
-            bad: NOWHERE,
+            nil: FALSE_PLANE,
+            bad: FALSE_PLANE,
         };
     }
     kept
@@ -98,7 +98,7 @@ fn first_then(code: &mut Code, kept: Holding, a: Holding, b: Holding) -> Result<
     Ok(picked)
 }
 
-// What an operation gives, where its operands have their places; of a constant this is known
+// The result of an operation whose operands have their places. The result of a constant is known
 // before.
 #[tactic(auto, using(crate::proofs::Growth::grown_then, crate::proofs::Growth::grown_none))]
 fn emit_any(
@@ -152,7 +152,8 @@ fn emit_any(
     }
 }
 
-/// What an equation holds, where its operands have their places: always of the kind of its element.
+/// The result of an equation whose operands have their places. It always has the kind of its
+/// element.
 pub(crate) fn emit(
     code: &mut Code,
     places: &[Place],

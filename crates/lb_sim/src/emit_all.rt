@@ -5,7 +5,7 @@ ghost use Rattle.std.specs.Prelude.{All, IfOk, OnOk};
 ghost use Rattle.lb_syntax.specs.Lists.{Every};
 ghost use Rattle.lb_flat.specs.Bounds.{AreWhole};
 ghost use Rattle.lb_flat.specs.Fitting.{KindFits};
-ghost use Rattle.lb_flat.specs.FurtherKinds.{kind_among};
+ghost use Rattle.lb_flat.specs.TemporaryKinds.{kind_among};
 ghost use Rattle.lb_flat.specs.InOrder.{is_in_order};
 ghost use Rattle.lb_flat.specs.Programs.{flat_equations, program_of, IsInRange};
 ghost use Rattle.lb_machine.specs.Correct.{AddsAtMost, HasRoom, IsGrown};
@@ -21,11 +21,11 @@ use crate::clock_planes::known_plane;
 use crate::emit::emit;
 use crate::place::{Holding, Place, Value};
 use lb_flat::FlatProgram;
-use lb_machine::{Code, NOWHERE, PlaneId};
+use lb_machine::{Code, FALSE_PLANE, PlaneId};
 use std::alloc::{AllocError, Global};
 
-// The code of each equation, in their order, where no element has its place yet and no plane of a
-// clock is known.
+// The code of each equation, in the order of the equations, where no element has its place yet and
+// no plane of a clock is known.
 fn emit_each(
     alloc: Global,
     code: &mut Code,
@@ -74,7 +74,7 @@ fn emit_each(
     Ok(())
 }
 
-/// The code of all equations, in their order, and the places of their elements.
+/// The code of all equations, in their order, and the place of each element.
 pub(crate) fn emit_all(
     alloc: Global,
     code: &mut Code,
@@ -108,11 +108,11 @@ pub(crate) fn emit_all(
 {
     let nowhere = Place {
         holding: Holding {
-            value: Value::Truth(NOWHERE),
-            nil: NOWHERE,
-            bad: NOWHERE,
+            value: Value::Truth(FALSE_PLANE),
+            nil: FALSE_PLANE,
+            bad: FALSE_PLANE,
         },
-        present: NOWHERE,
+        present: FALSE_PLANE,
     };
     let mut places = vec![in alloc; nowhere; program.size as usize]?;
     let count = program.clocks.len();

@@ -14,7 +14,7 @@ ghost use Rattle.lb_sim.specs.Loads.{four_at, one_of_four};
 
 use lb_lanes::LaneWord;
 
-// Puts four integers into lanes of a word that lie side by side.
+// Puts four integers into four lanes of a word that lie side by side.
 fn set_four(word: &mut LaneWord, first: u32, a: i32, b: i32, c: i32, d: i32)
     requires { first + 4 ≤ 64 }
     ensures put { (i : ℕ) → first ≤ i → i < first + 4
@@ -28,8 +28,8 @@ fn set_four(word: &mut LaneWord, first: u32, a: i32, b: i32, c: i32, d: i32)
     word.set(first + 3, d);
 }
 
-/// Puts some integers of four rows, those at these places, into four lanes of the words at the same
-/// places, a lane for each row.
+/// Puts the integers of four rows at `places` into four lanes of the words at these places, a lane
+/// for each row.
 pub(crate) fn put_four(
     words: &mut [LaneWord],
     first: u32,
@@ -58,8 +58,8 @@ pub(crate) fn put_four(
     }
 }
 
-/// Puts some integers of four rows, those at these places, into four lanes of the words of an
-/// instant, a lane for each row. For each place there are the words of 64 instants, and one more.
+/// Puts the integers of four rows at `places` into four lanes of the words of an instant, a lane
+/// for each row. Each place has words for 64 instants, and one more word.
 pub(crate) fn put_four_ahead(
     room: &mut [LaneWord],
     instant: usize,

@@ -12,7 +12,7 @@ ghost use Rattle.lb_sim.specs.InputRows.{zero_of};
 ghost use Rattle.lb_sim.specs.ReadInputs.{AreAlike};
 ghost use Rattle.lb_sim.specs.Showing.{value_at};
 
-use crate::ahead::{Loaded, Stretch, load_ahead};
+use crate::ahead::{InstantRange, Loaded, load_ahead};
 use crate::columns::Columns;
 use crate::integer_loads::load_numbers;
 use crate::lane_bits::{copy_planes, copy_words, groups_of, zeros};
@@ -24,11 +24,11 @@ use lb_syntax::Kind;
 use lb_traces::TraceSet;
 use std::alloc::{AllocError, Global};
 
-// How many integers of a row are loaded for some instants together.
+// The most integers of a row that are loaded for some instants together.
 const MOST_AHEAD: usize = 16;
 
 /// A row of inputs for each lane: a plane for each Boolean of the signature, and a word for each
-/// integer, in its order.
+/// integer, in the order of the signature.
 #[derive(Drop)]
 pub struct Inputs {
     pub columns: Columns,
@@ -36,9 +36,9 @@ pub struct Inputs {
     pub words: Vec<LaneWord>,
     /// The Booleans of each lane at some instants, a word for 64 of them; see `loads`.
     pub rows: Vec<u64>,
-    // Of how many instants the Booleans have room there.
+    // The number of instants whose Booleans have room there.
     pub(crate) reach: u32,
-    // Integers of instants that follow one another; see `ahead`.
+    // The integers of consecutive instants; see `ahead`.
     pub(crate) room: Vec<LaneWord>,
     pub ghost planes_room: { length planes.items ≡ columns.truths },
     pub ghost words_room: { length words.items ≡ columns.numbers },
@@ -46,8 +46,8 @@ pub struct Inputs {
     pub ghost rows_room: { 72 * (reach * words_of_row columns.truths) ≤ length rows.items },
 }
 
-// Of how many instants the Booleans are read in one go, where those of one instant take so many
-// words: of many while there are few, since then the next ones are in the cache already.
+// The number of instants whose Booleans are read in one go, where one instant takes `width` words.
+// The fewer words, the more instants, since the next words are in the cache already.
 fn reach_of(width: usize) -> u32
     ensures some { 0 < result }
     ensures room { result * width ≤ 8 * width + 248 }
@@ -62,7 +62,7 @@ fn reach_of(width: usize) -> u32
 impl Inputs {
     ghost use Rattle.lb_sim.specs.Inputs.{inputs_row, IsAhead};
 
-    /// Rows of 0 and false, of the inputs of the program that was compiled.
+    /// Rows of 0 and false for the inputs of a program.
     pub fn new(alloc: Global, program: &LaneProgram<'_>) -> Result<Inputs, AllocError>
         ensures kinds { IfOk result (λ x.
             x.columns.kinds.items ≡ program.now.program.now.inputs.items) }
@@ -72,7 +72,7 @@ impl Inputs {
         Inputs::of_kinds(alloc, program.program.inputs.as_slice())
     }
 
-    // Rows of 0 and false, of these kinds.
+    // Rows of 0 and false for inputs of these kinds.
     pub(crate) fn of_kinds(alloc: Global, kinds: &[Kind]) -> Result<Inputs, AllocError>
         ensures kinds { IfOk result (λ x. x.columns.kinds.items ≡ kinds.now) }
         ensures zero { IfOk result (λ x.
@@ -95,7 +95,7 @@ impl Inputs {
         })
     }
 
-    /// The cells of instant `t`: those of trace `members[i]` in each lane i that is live.
+    /// Loads the cells of instant `t`: for each live lane `i` the cells of trace `members[i]`.
     pub fn load(&mut self, set: &TraceSet, members: &[u32], t: u32, live: Plane)
         requires kinds { kinds_of set.now.signature ≡ self.old.columns.kinds.items }
         requires members { All (λ k. k < length set.now.traces) members.now }
@@ -120,12 +120,12 @@ impl Inputs {
         load_numbers(&at, places, self.words.as_mut_slice());
     }
 
-    // Of the cells of an instant those that a program reads; other inputs of the rows may be
-    // anything. The instant may be loaded already; tells what is then.
+    // Loads the cells of an instant that a program reads; other inputs of the rows may be anything.
+    // The instant may be loaded already. The result says what is loaded afterwards.
     pub(crate) fn load_read(
         &mut self,
         read: &ReadInputs,
-        at: &Stretch<'_, '_>,
+        at: &InstantRange<'_, '_>,
         last: Loaded,
     ) -> Loaded
         requires kinds { kinds_of at.now.at.set.now.signature ≡ self.old.columns.kinds.items }
@@ -152,8 +152,9 @@ impl Inputs {
         Loaded { numbers, truths }
     }
 
-    // Copies the rows to where a lane program has its inputs: behind what is the same everywhere.
-    pub(crate) fn hand_over(&self, planes: &mut [u64], words: &mut [LaneWord])
+    // Copies the rows to the inputs of a lane program, behind the places that are the same
+    // everywhere.
+    pub(crate) fn put_instant(&self, planes: &mut [u64], words: &mut [LaneWord])
         requires planes_room { 2 + length self.now.planes.items ≤ length planes.old }
         requires words_room { 1 + length self.now.words.items ≤ length words.old }
         ensures planes { length planes.new ≡ length planes.old }

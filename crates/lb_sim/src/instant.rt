@@ -1,4 +1,4 @@
-//! The parts of an instant of a batch: its start, the run of its code, what it decides, and the
+//! The parts of an instant of a batch: its start, the run of its code, its verdicts, and the
 //! memories of the next instant.
 
 ghost use Rattle.std.specs.Prelude.{◌≡◌, ℕ, ◌<◌, ◌≤◌, true, false, not, ◌&&◌, [], length, get_or};
@@ -25,7 +25,7 @@ use lb_check::Verdict;
 use lb_lanes::{LaneWord, Plane, Width};
 use lb_machine::{PlaneId, carry_planes, carry_words};
 
-// The first so many lanes.
+// The first `lanes` lanes.
 pub(crate) fn first_lanes(lanes: u32) -> Plane
     requires few { lanes ≤ 64 }
     ensures { IsPlaneOf (λ i. nat_lt i lanes) result.0 }
@@ -37,7 +37,7 @@ pub(crate) fn first_lanes(lanes: u32) -> Plane
     Plane(plane)
 }
 
-// Puts numbers into the first words, each in these lanes.
+// Puts each number of `start` into the word at its place, in these lanes.
 fn put_start_in(words: &mut [LaneWord], start: &[i32], lanes: Plane)
     requires room { length start.now ≤ length words.old }
     ensures words { length words.new ≡ length words.old }
@@ -54,7 +54,7 @@ fn put_start_in(words: &mut [LaneWord], start: &[i32], lanes: Plane)
     }
 }
 
-// The first planes take over these lanes from other planes.
+// Copies these lanes of the planes of `from` to the first planes.
 fn copy_lanes(planes: &mut [u64], from: &[u64], lanes: Plane)
     requires room { length from.now ≤ length planes.old }
     ensures planes { length planes.new ≡ length planes.old }
@@ -68,7 +68,7 @@ fn copy_lanes(planes: &mut [u64], from: &[u64], lanes: Plane)
     }
 }
 
-// Puts what a program starts with into the first places of these lanes.
+// Puts what a program starts with into the first planes and words, in these lanes.
 pub(crate) fn start_lanes(
     program: &LaneProgram,
     planes: &mut [u64],
@@ -94,7 +94,7 @@ pub(crate) fn start_lanes(
     put_start_in(words, program.start_words.as_slice(), lanes);
 }
 
-// No verdict of these lanes is left, and their traces begin at instant `t`.
+// Resets the verdicts of these lanes; their traces begin at instant `t`.
 pub(crate) fn begin_again(verdicts: &mut [Verdict], begins: &mut [u32], lanes: Plane, t: u32)
     requires verdicts { length verdicts.old ≡ 64 }
     requires begins { length begins.old ≡ 64 }
@@ -113,7 +113,7 @@ pub(crate) fn begin_again(verdicts: &mut [Verdict], begins: &mut [u32], lanes: P
     }
 }
 
-// Hands the inputs of an instant over, and runs a code of the program in some lanes.
+// Copies the inputs of an instant to their places, and runs code of the program in some lanes.
 fn compute(
     program: &LaneProgram,
     code: &LaneCode,
@@ -135,7 +135,7 @@ fn compute(
     ensures computed { (i : ℕ) → i < 64 → IsComputed program.now code.now (inputs_row inputs.now i)
         (on lanes.0 i) (lane_at planes.old words.old i) (lane_at planes.new words.new i) }
 {
-    inputs.hand_over(planes, words);
+    inputs.put_instant(planes, words);
     code.code.run(planes, words, Width::of(lanes));
 }
 
@@ -148,7 +148,7 @@ fn has(planes: &[u64], p: PlaneId, lane: u32) -> bool
     Plane(planes[p.0 as usize]).get(lane)
 }
 
-// What a lane decides at an instant.
+// The verdict of a lane at instant `t`.
 fn decided(planes: &[u64], watched: Watched, lane: u32, t: u32) -> Verdict
     requires faults { watched.faults.0 < length planes.now }
     requires undefined { watched.undefined.0 < length planes.now }
@@ -170,7 +170,7 @@ fn decided(planes: &[u64], watched: Watched, lane: u32, t: u32) -> Verdict
     }
 }
 
-// The lanes that pass the instant, of those that take part in it.
+// The lanes of `going` that pass the instant.
 fn passing(planes: &[u64], watched: Watched, going: Plane) -> Plane
     requires faults { watched.faults.0 < length planes.now }
     requires undefined { watched.undefined.0 < length planes.now }
@@ -216,8 +216,8 @@ fn give_verdicts(
     }
 }
 
-// The lanes that pass the instant, of those that take part in it; the others of these get their
-// verdicts.
+// Puts the verdicts of the lanes of `going` that do not pass the instant, and returns those that
+// do.
 fn judge(
     code: &LaneCode,
     planes: &[u64],
@@ -250,7 +250,7 @@ fn judge(
     passed
 }
 
-// The memories take over what the instant gives them.
+// Copies the sources of the memories to the memories.
 fn commit(program: &LaneProgram, code: &LaneCode, planes: &mut [u64], words: &mut [LaneWord])
     requires law { IsCodeIn program.now code.now }
     requires planes { length planes.old ≡ program.now.planes }
@@ -265,7 +265,7 @@ fn commit(program: &LaneProgram, code: &LaneCode, planes: &mut [u64], words: &mu
     carry_words(words, program.memory_word, code.word_sources.as_slice());
 }
 
-// An instant of the lanes that are live. Gives those of them that were active and pass it.
+// Runs an instant of the live lanes, and returns those of them that were active and pass it.
 pub(crate) fn advance(
     program: &LaneProgram,
     inputs: &Inputs,

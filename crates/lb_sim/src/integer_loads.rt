@@ -1,8 +1,7 @@
 //! The integers of an instant, from recorded traces into words.
 //!
-//! Each row goes into a lane of the words of its integers: those of four members at a time, where
-//! all four have the instant, and else one by one. Of its integers those are loaded that stand at
-//! some places.
+//! Each row goes into one lane of the words of its integers: four members at a time, where all four
+//! have the instant, and else one by one. Only the integers at `places` are loaded.
 
 ghost use Rattle.std.specs.Prelude.{◌≡◌, ℕ, ◌<◌, ◌≤◌, ◌+◌, true, length, get_or};
 ghost use Rattle.std.specs.Prelude.{pos, slice_index, slice_index_or, [], All};
@@ -18,7 +17,7 @@ use crate::lane_bits::put_numbers;
 use crate::loads::Instant;
 use lb_lanes::LaneWord;
 
-// The integers of a member whose lane is live.
+// The integers of member `i`, whose lane is live.
 fn numbers_of<'a>(at: &Instant<'a, '_>, i: usize) -> &'a [i32]
     requires member { i < length at.now.members.now }
     requires live { on at.now.live.0 i ≡ true }
@@ -32,7 +31,7 @@ fn numbers_of<'a>(at: &Instant<'a, '_>, i: usize) -> &'a [i32]
     at.set.numbers(at.members[i], at.t - at.begins[i])
 }
 
-// Puts the integers of a member into its lane if that is live.
+// Puts the integers of member `i` into its lane, if the lane is live.
 fn put_member(at: &Instant<'_, '_>, places: &[usize], i: usize, words: &mut [LaneWord])
     requires member { i < length at.now.members.now }
     requires room { length words.old
@@ -48,7 +47,7 @@ fn put_member(at: &Instant<'_, '_>, places: &[usize], i: usize, words: &mut [Lan
     put_numbers(words, i as u32, numbers_of(at, i), places);
 }
 
-// Puts the integers of the members from one on into the lanes that are live, one by one.
+// Puts the integers of the members from `first` to before `end` into the live lanes, one by one.
 fn put_each(
     at: &Instant<'_, '_>,
     places: &[usize],
@@ -70,7 +69,7 @@ fn put_each(
     }
 }
 
-/// Whether four lanes are live, from one on.
+/// Whether the four lanes from `first` on are live.
 pub(crate) fn are_live(at: &Instant<'_, '_>, first: u32) -> bool
     requires { first + 4 ≤ 64 }
     ensures { result ≡ true → (i : ℕ) → first ≤ i → i < first + 4
@@ -104,7 +103,7 @@ fn put_four_members(at: &Instant<'_, '_>, places: &[usize], first: usize, words:
     );
 }
 
-/// Puts the integers of the signature that stand at these places into words.
+/// Puts the integers of the signature at `places` into words.
 pub(crate) fn load_numbers(at: &Instant<'_, '_>, places: &[usize], words: &mut [LaneWord])
     requires room { length words.old
         ≡ length (number_columns 0 (kinds_of at.now.set.now.signature)) }

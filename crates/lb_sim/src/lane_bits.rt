@@ -19,7 +19,7 @@ pub(crate) fn with_lane(plane: u64, lane: u32) -> u64
     plane | (1u64 << lane)
 }
 
-/// The first lane of a plane from one on, or 64 where there is none.
+/// The first lane of a plane from `from` on, or 64 where there is none.
 pub(crate) fn next_lane(plane: u64, from: u32) -> u32
     requires { from ≤ 64 }
     ensures within { (from ≤ result) × (result ≤ 64) }
@@ -37,7 +37,7 @@ pub(crate) fn next_lane(plane: u64, from: u32) -> u32
     }
 }
 
-/// How many words the bits of so many columns take.
+/// The number of words that the bits of `columns` columns take.
 pub(crate) fn groups_of(columns: usize) -> usize
     ensures all { columns ≤ 64 * result }
     ensures some { (g : ℕ) → g < result → 64 * g < columns }
@@ -47,7 +47,7 @@ pub(crate) fn groups_of(columns: usize) -> usize
     if 64 * full < columns { full + 1 } else { full }
 }
 
-/// How many of so many columns have their bits in word `g`.
+/// The number of columns, out of `columns`, that have their bits in word `g`.
 pub(crate) fn size_of_group(columns: usize, g: usize) -> usize
     requires { 64 * g ≤ columns }
     ensures few { result ≤ 64 }
@@ -58,7 +58,7 @@ pub(crate) fn size_of_group(columns: usize, g: usize) -> usize
     if rest < 64 { rest } else { 64 }
 }
 
-// 64 words that lie side by side.
+// The 64 words from `first` on.
 fn words_from(rows: &[u64], first: usize) -> [u64; 64]
     requires { first + 64 ≤ length rows.now }
     ensures { (i : ℕ) → i < 64 → slice_index result i ≡ slice_index rows.now (first + i) }
@@ -68,7 +68,7 @@ fn words_from(rows: &[u64], first: usize) -> [u64; 64]
     words
 }
 
-/// The plane with one more lane, where the bit is set.
+/// The plane, with `lane` added if `bit` is set.
 pub(crate) fn with_bit(plane: u64, lane: u32, bit: bool) -> u64
     requires { lane < 64 }
     ensures { (i : ℕ) → i < 64 → on result i ≡ ((bit && (i == lane)) || on plane i) }
@@ -76,7 +76,7 @@ pub(crate) fn with_bit(plane: u64, lane: u32, bit: bool) -> u64
     if bit { with_lane(plane, lane) } else { plane }
 }
 
-// A column of 64 words that lie side by side.
+// Column `c` of the 64 words from `from` on.
 fn column(rows: &[u64], from: usize, c: u32) -> u64
     requires rows { from + 64 ≤ length rows.now }
     requires column { c < 64 }
@@ -91,7 +91,7 @@ fn column(rows: &[u64], from: usize, c: u32) -> u64
     plane
 }
 
-// Puts the first columns of 64 words into the planes from one on, one after the other.
+// Puts the first `count` columns of the 64 words from `from` on into the planes from `first` on.
 fn put_columns(rows: &[u64], from: usize, planes: &mut [u64], first: usize, count: usize)
     requires few { count ≤ 64 }
     requires rows { from + 64 ≤ length rows.now }
@@ -107,7 +107,7 @@ fn put_columns(rows: &[u64], from: usize, planes: &mut [u64], first: usize, coun
     }
 }
 
-/// Turns the 64 words from one on, a lane each, into the planes from one on.
+/// Transposes the 64 words from `from` on, a lane each, into the planes from `first` on.
 pub(crate) fn turn_group(rows: &[u64], from: usize, planes: &mut [u64], first: usize, count: usize)
     requires few { count ≤ 64 }
     requires rows { from + 64 ≤ length rows.now }
@@ -126,7 +126,7 @@ pub(crate) fn turn_group(rows: &[u64], from: usize, planes: &mut [u64], first: u
     put_planes(planes, first, &words, count);
 }
 
-// Copies the first words to planes that lie side by side.
+// Copies the first `count` words to the planes from `first` on.
 fn put_planes(planes: &mut [u64], first: usize, words: &[u64; 64], count: usize)
     requires few { count ≤ 64 }
     requires room { first + count ≤ length planes.old }
@@ -142,7 +142,7 @@ fn put_planes(planes: &mut [u64], first: usize, words: &[u64; 64], count: usize)
     }
 }
 
-/// Puts some integers of a row, those at these places, into a lane of the words at the same places.
+/// Puts the integers of a row at `places` into one lane of the words at these places.
 pub(crate) fn put_numbers(words: &mut [LaneWord], lane: u32, row: &[i32], places: &[usize])
     requires lane { lane < 64 }
     requires room { length words.old ≡ length row.now }

@@ -1,4 +1,4 @@
-//! What the lanes of a run say of a program.
+//! Laws of the lanes of a run.
 
 ghost use Rattle.std.specs.Prelude.{◌≡◌, ℕ, ◌<◌, ◌++◌, ◌∷◌, [], true, List};
 ghost use Rattle.lb_static.specs.Instances.{Program};
@@ -13,9 +13,10 @@ ghost use Rattle.lb_sim.specs.Correct.{Stands, StandsForTrace};
 ghost use Rattle.lb_sim.specs.SoundMemories.{HoldsNoFault};
 ghost use Rattle.lb_sim.specs.declared.batch_run.BatchRun.{BatchRun};
 
-/// A lane that stands for a trace of a flat program stands for it in the terms of each program that
-/// the flat one is of: its verdict is the one of the trace, and while it is active its memories are
-/// those of the one history that solves the program. This is a law, and computes nothing.
+/// A lane that stands for a trace of a flat program also stands for it by the definitions of each
+/// program with this flat program: its verdict is the one of the trace, and while it is active its
+/// memories are those of the one history that solves the program. This is a law, and computes
+/// nothing.
 pub fn lanes_stand_for_traces()
     ensures { (P : Program) → (r : BatchRun) → (flat : IsFlatOf P (flat_of r)) → (i : ℕ)
         → (X : InputRows) → IsTrace P X → Stands r i X → StandsForTrace P r flat i X }

@@ -1,17 +1,17 @@
 //! The Booleans of an instant, from recorded traces into planes.
 //!
-//! Of 64 Boolean columns a trace set keeps the cells of a row as the bits of one word. The words of
+//! A trace set keeps the cells of 64 Boolean columns in a row as the bits of one word. The words of
 //! all lanes stand side by side, and a transposition turns them into planes.
 //!
 //! Each lane is at an instant of its own: where the batch is at instant 7 and the trace of a lane
 //! began at instant 5, its cells are those of instant 2.
 //!
-//! The rows of a trace lie side by side in memory, and those of another trace elsewhere. So of each
-//! lane the words of some instants are read in one go, those of four lanes at a time.
+//! The rows of one trace lie side by side in memory, far from the rows of another trace. So for
+//! each lane the words of some instants are read in one go, four lanes at a time.
 //!
 //! ```text
-//! rows    lane 0, lane 1, ... lane 63 of an instant, of the first 64 columns, and 8 words that
-//!         stand for nothing; then those of the next 64 columns; then those of the next instant
+//! rows    lane 0, lane 1, ... lane 63 of an instant, of the first 64 columns, and 8 unused words;
+//!         then the words of the next 64 columns; then the words of the next instant
 //! ```
 //!
 //! Without those 8 words the words of a lane would share few of the lines of a cache.
@@ -25,7 +25,7 @@ ghost use Rattle.lb_lanes.specs.Planes.{on};
 ghost use Rattle.lb_sim.specs.InputRows.{HaveInstant, member_cell};
 ghost use Rattle.lb_sim.specs.Loads.{AreAmong, AreFourPut, AreTruthsAhead, AreTruthsLoaded};
 
-use crate::ahead::{Ahead, Stretch};
+use crate::ahead::{InstantRange, PrefetchWindow};
 use crate::integer_loads::are_live;
 use crate::lane_bits::{groups_of, size_of_group, turn_group};
 use lb_lanes::Plane;
@@ -46,7 +46,7 @@ pub(crate) struct Instant<'a, 'b> {
     pub(crate) ghost there: { HaveInstant set.now members.now begins.now t live.0 },
 }
 
-// Words into a lane of as many words of all lanes.
+// Puts `bits` into lane `i` of as many words of all lanes.
 fn put_words(bits: &[u64], i: usize, rows: &mut [u64])
     requires lane { i < 64 }
     requires room { 72 * length bits.now ≤ length rows.old }
@@ -61,7 +61,7 @@ fn put_words(bits: &[u64], i: usize, rows: &mut [u64])
     }
 }
 
-// Words into four lanes of as many words of all lanes.
+// Puts `a`, `b`, `c` and `d` into the four lanes from `first` on, of as many words of all lanes.
 fn put_four_words(a: &[u64], b: &[u64], c: &[u64], d: &[u64], first: usize, rows: &mut [u64])
     requires lanes { first + 4 ≤ 64 }
     requires words_b { length b.now ≡ length a.now }
@@ -78,7 +78,7 @@ fn put_four_words(a: &[u64], b: &[u64], c: &[u64], d: &[u64], first: usize, rows
     }
 }
 
-// The Booleans of so many instants of a member whose lane is live.
+// The Booleans of `count` instants of member `i`, whose lane is live.
 fn bits_of<'a>(at: &Instant<'a, '_>, i: usize, count: u32) -> &'a [u64]
     requires member { i < length at.now.members.now }
     requires live { on at.now.live.0 i ≡ true }
@@ -98,7 +98,8 @@ fn bits_of<'a>(at: &Instant<'a, '_>, i: usize, count: u32) -> &'a [u64]
     at.set.bits(at.members[i], at.t - at.begins[i], count)
 }
 
-// The Booleans of so many instants of a member, into the words of its lane if that is live.
+// Puts the Booleans of `count` instants of member `i` into the words of its lane, if the lane is
+// live.
 fn put_bits(at: &Instant<'_, '_>, i: usize, count: u32, rows: &mut [u64])
     requires member { i < length at.now.members.now }
     requires there { (d : ℕ) → d < count
@@ -117,7 +118,8 @@ fn put_bits(at: &Instant<'_, '_>, i: usize, count: u32, rows: &mut [u64])
     put_words(bits_of(at, i, count), i, rows);
 }
 
-// Those of the members from one on, one by one.
+// Puts the Booleans of the members from `first` to before `end` into the words of their lanes, one
+// by one.
 fn put_each(at: &Instant<'_, '_>, first: usize, end: usize, count: u32, rows: &mut [u64])
     requires order { first ≤ end }
     requires members { end ≤ length at.now.members.now }
@@ -136,7 +138,7 @@ fn put_each(at: &Instant<'_, '_>, first: usize, end: usize, count: u32, rows: &m
     }
 }
 
-// Those of four members.
+// Puts the Booleans of the four members from `first` on into the words of their lanes.
 fn put_four_members(at: &Instant<'_, '_>, first: usize, count: u32, rows: &mut [u64])
     requires members { first + 4 ≤ length at.now.members.now }
     requires there { (d : ℕ) → d < count
@@ -163,7 +165,7 @@ fn put_four_members(at: &Instant<'_, '_>, first: usize, count: u32, rows: &mut [
     );
 }
 
-// The Booleans of so many instants of all members, into the words of the lanes that are live.
+// Puts the Booleans of `count` instants of all members into the words of the live lanes.
 fn gather(at: &Instant<'_, '_>, count: u32, rows: &mut [u64])
     requires there { (d : ℕ) → d < count
         → HaveInstant at.now.set.now at.now.members.now at.now.begins.now (at.now.t + d)
@@ -184,7 +186,7 @@ fn gather(at: &Instant<'_, '_>, count: u32, rows: &mut [u64])
     put_each(at, 4 * fours, members, count, rows);
 }
 
-// Turns the words of all lanes for an instant into planes.
+// Transposes the words of all lanes for an instant into planes.
 fn turn(rows: &[u64], d: usize, planes: &mut [u64])
     requires { 72 * (d * words_of_row (length planes.old) + words_of_row (length planes.old))
         ≤ length rows.now }
@@ -218,8 +220,14 @@ pub(crate) fn load_truths(at: &Instant<'_, '_>, rows: &mut [u64], planes: &mut [
     turn(rows, 0, planes);
 }
 
-// What is loaded, with the instant: as before, or up to so many instants from it on.
-fn renewed(at: &Stretch<'_, '_>, reach: u32, rows: &mut [u64], last: Ahead) -> Ahead
+// The instants that are loaded once this one is: `last` if it has this instant, else up to `reach`
+// instants from this one on.
+fn renewed(
+    at: &InstantRange<'_, '_>,
+    reach: u32,
+    rows: &mut [u64],
+    last: PrefetchWindow,
+) -> PrefetchWindow
     requires some { 0 < reach }
     requires room { 72 * (reach
         * words_of_row (length (truth_columns 0 (kinds_of at.now.at.set.now.signature))))
@@ -243,23 +251,24 @@ fn renewed(at: &Stretch<'_, '_>, reach: u32, rows: &mut [u64], last: Ahead) -> A
     }
     let count = (at.until - first).min(reach);
     gather(&at.at, count, rows);
-    Ahead {
+    PrefetchWindow {
         first,
         until: first + count,
         lanes: at.at.live,
     }
 }
 
-/// Puts the Booleans of the signature into planes, if they are wanted, where it may be that the
-/// instant is loaded already, and tells what is loaded then. There is room for so many instants.
+/// Puts the Booleans of the signature into planes, if they are wanted. The instant may be loaded
+/// already, as `last` says. The result says what is loaded afterwards. `rows` has room for `reach`
+/// instants.
 pub(crate) fn load_truths_ahead(
-    at: &Stretch<'_, '_>,
+    at: &InstantRange<'_, '_>,
     wanted: bool,
     reach: u32,
     rows: &mut [u64],
-    last: Ahead,
+    last: PrefetchWindow,
     planes: &mut [u64],
-) -> Ahead
+) -> PrefetchWindow
     requires some { 0 < reach }
     requires rows_room { 72 * (reach * words_of_row (length planes.old)) ≤ length rows.old }
     requires room { length planes.old

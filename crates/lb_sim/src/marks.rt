@@ -7,7 +7,7 @@ ghost use Rattle.lb_flat.specs.Programs.{numbers_of};
 use lb_flat::ElementId;
 use std::alloc::{AllocError, Global};
 
-/// A mark for each of so many elements: whether it is one of these.
+/// A table of `size` marks: whether each element is one of these.
 pub(crate) fn marked_elements(
     alloc: Global,
     elements: &[ElementId],

@@ -1,4 +1,4 @@
-//! The tables of what constants hold and of where memories stand, for all equations of a program.
+//! The tables with the holdings of constants and of memories, for all equations of a program.
 
 ghost use Rattle.std.specs.Prelude.{◌≡◌, ◌≤◌, ◌+◌, ◌*◌, ℕ, true, false, [], length, get_or};
 ghost use Rattle.std.specs.Prelude.{replicate, IfOk, OnOk};
@@ -16,7 +16,7 @@ use crate::preset::Preset;
 use lb_flat::FlatProgram;
 use std::alloc::{AllocError, Global};
 
-// Fills a table with what elements hold that are constants.
+// Fills a table with the holdings of constants.
 fn fill_constants(
     table: &mut [Holding],
     preset: &mut Preset,
@@ -46,7 +46,7 @@ fn fill_constants(
     Ok(())
 }
 
-/// What elements hold that are constants.
+/// The holdings of elements that are constants.
 pub(crate) fn constants(
     alloc: Global,
     preset: &mut Preset,
@@ -70,7 +70,7 @@ pub(crate) fn constants(
     Ok(table)
 }
 
-// Fills a table with where the memories of elements stand.
+// Fills a table with the holdings of memories.
 fn fill_memories(
     table: &mut [Holding],
     preset: &mut Preset,
@@ -101,7 +101,7 @@ fn fill_memories(
     Ok(())
 }
 
-/// Where the memories of elements stand, side by side in the order of the equations.
+/// The holdings of the memories of elements, side by side in the order of the equations.
 pub(crate) fn memories(
     alloc: Global,
     preset: &mut Preset,

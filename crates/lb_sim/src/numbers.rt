@@ -11,11 +11,11 @@ ghost use Rattle.lb_sim.specs.Showing.{operator_of, shown};
 
 use crate::place::{Holding, Value};
 use lb_lanes::IntOperator;
-use lb_machine::{Code, NOWHERE, PlaneId, WordId, ZERO};
+use lb_machine::{Code, FALSE_PLANE, PlaneId, WordId, ZERO};
 use std::alloc::AllocError;
 
-/// An operator on two integers, whose faults are counted in the lanes alone where no operand is nil
-/// or the value of a fault: `left` and `right` have the faults of each.
+/// An operator on two integers. Its own faults count only where no operand is nil or a fault:
+/// `left` and `right` have the faults of the operands.
 #[tactic(auto, using(crate::proofs::Growth::grown_then, crate::proofs::Growth::grown_none))]
 pub(crate) fn two_numbers(
     code: &mut Code,
@@ -92,6 +92,6 @@ pub(crate) fn negated(
     ensures holding { IfOk result (IsFor code.new Int_kind (λ s.
         one_scalar Negate (shown (s.bits bad.0) (s.bits nil.0) (Integer (s.ints a.0))))) }
 {
-    let number = two_numbers(code, IntOperator::Sub, ZERO, a, nil, NOWHERE, bad)?;
+    let number = two_numbers(code, IntOperator::Sub, ZERO, a, nil, FALSE_PLANE, bad)?;
     Ok(number)
 }

@@ -1,4 +1,4 @@
-//! Operators of the language on what places hold.
+//! Operators of the language on holdings.
 
 ghost use Rattle.std.specs.Prelude.{◌≡◌, ◌<◌, ◌||◌, Some, IfOk, OnOk};
 ghost use Rattle.lb_syntax.specs.declared.tree.Kind.{Kind};
@@ -8,9 +8,9 @@ ghost use Rattle.lb_machine.specs.Correct.{AddsAtMost, HasRoom, IsGrown};
 ghost use Rattle.lb_sim.specs.Holdings.{IsFor, IsIn, IsTruth};
 ghost use Rattle.lb_sim.specs.Showing.{kind_of, scalar_at, shown};
 
+use crate::literal::{Literal, truth_of};
 use crate::numbers::{arithmetic, negated};
 use crate::place::{Holding, Value};
-use crate::signed::{Signed, truth_of};
 use crate::truths::{compared, two_truths};
 use lb_lanes::IntOperator;
 use lb_machine::{Code, PlaneId, PlaneOperator, WordId};
@@ -18,7 +18,7 @@ use lb_syntax::{BinaryOperator, UnaryOperator};
 use std::alloc::AllocError;
 
 // A truth value that is nil and a fault where its operands are.
-fn truth(x: Signed, nil: PlaneId, bad: PlaneId) -> Holding
+fn truth(x: Literal, nil: PlaneId, bad: PlaneId) -> Holding
     ensures value { IsTruth result.value x }
     ensures nil { result.nil ≡ nil }
     ensures bad { result.bad ≡ bad }
@@ -30,7 +30,7 @@ fn truth(x: Signed, nil: PlaneId, bad: PlaneId) -> Holding
     }
 }
 
-// An operator on two integers, of which `left` and `right` have the faults.
+// An operator on two integers, where `left` and `right` have the faults of the operands.
 #[tactic(auto, using(crate::proofs::Growth::grown_then, crate::proofs::Growth::grown_none))]
 fn integers(
     code: &mut Code,
@@ -73,7 +73,7 @@ fn integers(
     }
 }
 
-/// An operator with two operands, of kinds that it takes.
+/// An operator on two operands of kinds that it takes.
 #[tactic(auto, using(crate::proofs::Growth::grown_then, crate::proofs::Growth::grown_none))]
 pub(crate) fn two_holdings(
     code: &mut Code,
@@ -103,7 +103,7 @@ pub(crate) fn two_holdings(
     Ok(truth(value, nil, bad))
 }
 
-/// An operator with one operand, of a kind that it takes.
+/// An operator on one operand of a kind that it takes.
 #[tactic(auto, using(crate::proofs::Growth::grown_then, crate::proofs::Growth::grown_none))]
 pub(crate) fn one_holding(
     code: &mut Code,

@@ -1,8 +1,8 @@
-//! Elements whose faults are within no other element's, as far as the code tells.
+//! Elements whose faults are not within those of another element, as far as the code shows.
 //!
 //! ```text
-//! element 0 := a + b      faults 9, of which 7 and 8 are those of a and b
-//! element 1 := a          faults 7: within those of element 0
+//! element 0 := a + b      faults in plane 9; the faults of a and b, planes 7 and 8, are within it
+//! element 1 := a          faults in plane 7: within those of element 0
 //! ```
 
 ghost use Rattle.std.specs.Prelude.{◌≡◌, ◌<◌, ◌≤◌, ◌*◌, true, length, All, IfOk, OnOk};
@@ -19,23 +19,23 @@ ghost use Rattle.lb_sim.specs.Watching.{AreWithin};
 use crate::place::Place;
 use crate::watch::{Sought, is_marked, mark, some_sought};
 use lb_flat::ElementId;
-use lb_machine::{Code, EVERYWHERE, NOWHERE, PlaneId};
+use lb_machine::{Code, FALSE_PLANE, PlaneId, TRUE_PLANE};
 use std::alloc::{AllocError, Global};
 
-// Marks the planes of faults of the first elements that are always present.
+// Marks the fault planes of those of the first `count` elements that are always present.
 fn mark_faults(marked: &mut [bool], places: &[Place], count: u32)
     requires { count ≤ length places.now }
     ensures { length marked.new ≡ length marked.old }
 {
     for i in 0..count {
         let place = places[i as usize];
-        if place.present.0 == EVERYWHERE.0 {
+        if place.present.0 == TRUE_PLANE.0 {
             mark(marked, place.holding.bad);
         }
     }
 }
 
-// A mark for each plane that is within the faults of one of the first elements.
+// A mark for each plane that is within the faults of one of the first `count` elements.
 fn inner_planes(
     alloc: Global,
     code: &Code,
@@ -51,7 +51,8 @@ fn inner_planes(
     Ok(inner)
 }
 
-// Those of the first elements that are always present, and whose faults are within no other's.
+// The elements, of the first `count`, that are always present, and whose faults are not within
+// those of another element.
 fn outermost(
     alloc: Global,
     code: &Code,
@@ -66,15 +67,15 @@ fn outermost(
     let mut found = Vec::new(alloc);
     for i in 0..count {
         let place = places[i as usize];
-        if place.present.0 == EVERYWHERE.0 && !is_marked(inner.as_slice(), place.holding.bad) {
+        if place.present.0 == TRUE_PLANE.0 && !is_marked(inner.as_slice(), place.holding.bad) {
             found.push(ElementId(i))?;
         }
     }
     Ok(found)
 }
 
-/// A plane that is true only where one of the first elements shows the value of a fault, and within
-/// which are all planes that are marked afterwards.
+/// A plane that is true only where one of the first `count` elements shows a fault. All planes that
+/// are marked afterwards are within it.
 pub(crate) fn outer_faults(
     alloc: Global,
     code: &mut Code,
@@ -96,7 +97,15 @@ pub(crate) fn outer_faults(
 {
     let found = outermost(alloc, code, places, count)?;
     let outer = found.as_slice();
-    let plane = some_sought(alloc, code, places, outer, Sought::Faults, NOWHERE, marked)?;
+    let plane = some_sought(
+        alloc,
+        code,
+        places,
+        outer,
+        Sought::Faults,
+        FALSE_PLANE,
+        marked,
+    )?;
     code.mark_within(&[], marked);
     Ok(plane)
 }

@@ -1,4 +1,4 @@
-//! Choices between what places hold, and the planes of clocks.
+//! Choices between holdings, and the planes of clocks.
 
 ghost use Rattle.std.specs.Prelude.{◌≡◌, ◌<◌, ◌&&◌, false, IfOk, OnOk, if◌then◌else◌};
 ghost use Rattle.lb_check.specs.Scalars.{chosen, same};
@@ -10,18 +10,18 @@ ghost use Rattle.lb_machine.specs.declared.code.Code.{Code};
 ghost use Rattle.lb_sim.specs.Holdings.{IsFor, IsIn, IsPlaceIn, IsTruthFor, IsValueFor, IsValueIn};
 ghost use Rattle.lb_sim.specs.Showing.{cell_at, kind_of, scalar_at, truth_at, value_at, value_kind};
 
+use crate::literal::{Literal, truth_of};
 use crate::place::{Holding, Place, Value};
-use crate::signed::{Signed, truth_of};
 use crate::truths::not_plane;
-use lb_machine::{Code, EVERYWHERE, NOWHERE, PlaneId, PlaneOperator};
+use lb_machine::{Code, FALSE_PLANE, PlaneId, PlaneOperator, TRUE_PLANE};
 use std::alloc::AllocError;
 
 // Whether a plane is the same in each lane.
 fn is_constant(p: PlaneId) -> bool {
-    p.0 == NOWHERE.0 || p.0 == EVERYWHERE.0
+    p.0 == FALSE_PLANE.0 || p.0 == TRUE_PLANE.0
 }
 
-// The one of two truths of one sign that a mask chooses.
+// The choice of a mask between two truths of one sign.
 #[tactic(auto, using(crate::proofs::Growth::grown_then, crate::proofs::Growth::grown_none))]
 fn pick_same(
     code: &mut Code,
@@ -29,7 +29,7 @@ fn pick_same(
     x: PlaneId,
     y: PlaneId,
     sign: bool,
-) -> Result<Signed, AllocError>
+) -> Result<Literal, AllocError>
     requires mask { mask.0 < code.old.planes }
     requires left { x.0 < code.old.planes }
     requires right { y.0 < code.old.planes }
@@ -40,13 +40,13 @@ fn pick_same(
         (λ s. if s.bits mask.0 then same sign (s.bits x.0) else same sign (s.bits y.0))) }
 {
     let plane = code.select(mask, x, y)?;
-    Ok(Signed { plane, sign })
+    Ok(Literal { plane, sign })
 }
 
-// The one of two truths that a mask chooses. Of two signs one is turned: that of a constant, which
-// takes no instruction, and else that of the negation.
+// The choice of a mask between two truths. Where the signs differ, one plane is inverted: that of a
+// constant, which takes no instruction, or else that of the truth with the sign `false`.
 #[tactic(auto, using(crate::proofs::Growth::grown_then, crate::proofs::Growth::grown_none))]
-fn pick_truth(code: &mut Code, mask: PlaneId, x: Signed, y: Signed) -> Result<Signed, AllocError>
+fn pick_truth(code: &mut Code, mask: PlaneId, x: Literal, y: Literal) -> Result<Literal, AllocError>
     requires mask { mask.0 < code.old.planes }
     requires left { x.plane.0 < code.old.planes }
     requires right { y.plane.0 < code.old.planes }
@@ -56,7 +56,7 @@ fn pick_truth(code: &mut Code, mask: PlaneId, x: Signed, y: Signed) -> Result<Si
     ensures truth { IfOk result (IsTruthFor code.new
         (λ s. if s.bits mask.0 then truth_at s x else truth_at s y)) }
 {
-    if mask.0 == EVERYWHERE.0 {
+    if mask.0 == TRUE_PLANE.0 {
         return Ok(x);
     }
     if x.sign == y.sign {
@@ -70,7 +70,7 @@ fn pick_truth(code: &mut Code, mask: PlaneId, x: Signed, y: Signed) -> Result<Si
     pick_same(code, mask, x.plane, other, x.sign)
 }
 
-// The one of two values of a kind that a mask chooses.
+// The choice of a mask between two values of a kind.
 #[tactic(auto, using(crate::proofs::Growth::grown_then, crate::proofs::Growth::grown_none))]
 fn pick_value(code: &mut Code, mask: PlaneId, a: Value, b: Value) -> Result<Value, AllocError>
     requires mask { mask.0 < code.old.planes }
@@ -94,7 +94,7 @@ fn pick_value(code: &mut Code, mask: PlaneId, a: Value, b: Value) -> Result<Valu
     Ok(picked.value())
 }
 
-/// The one of two of a kind that a mask chooses.
+/// The choice of a mask between two holdings of a kind.
 #[tactic(auto, using(crate::proofs::Growth::grown_then, crate::proofs::Growth::grown_none))]
 pub(crate) fn pick(
     code: &mut Code,
@@ -119,8 +119,8 @@ pub(crate) fn pick(
     Ok(Holding { value, nil, bad })
 }
 
-// The one of two of a kind that a truth chooses.
-fn pick_by(code: &mut Code, mask: Signed, a: Holding, b: Holding) -> Result<Holding, AllocError>
+// The choice of a truth between two holdings of a kind.
+fn pick_by(code: &mut Code, mask: Literal, a: Holding, b: Holding) -> Result<Holding, AllocError>
     requires mask { mask.plane.0 < code.old.planes }
     requires left { IsIn code.old a }
     requires right { IsIn code.old b }
@@ -139,7 +139,7 @@ fn pick_by(code: &mut Code, mask: Signed, a: Holding, b: Holding) -> Result<Hold
     }
 }
 
-// A holding without the faults of another plane, where they are within those.
+// A holding without its faults, where they are within the plane `bad`.
 fn without_faults(code: &Code, h: Holding, bad: PlaneId) -> Holding
     ensures kind { kind_of result ≡ kind_of h }
     ensures within { (code : Code) → IsIn code h → IsIn code result }
@@ -152,11 +152,11 @@ fn without_faults(code: &Code, h: Holding, bad: PlaneId) -> Holding
     Holding {
         value: h.value,
         nil: h.nil,
-        bad: NOWHERE,
+        bad: FALSE_PLANE,
     }
 }
 
-// The chosen one of two of a kind, whatever planes hold their faults.
+// The choice of a condition between two holdings of a kind, whatever planes hold their faults.
 #[tactic(auto, using(crate::proofs::Growth::grown_then, crate::proofs::Growth::grown_none))]
 fn choose_any(
     code: &mut Code,
@@ -195,8 +195,9 @@ fn choose_any(
     })
 }
 
-/// `if`: the chosen one of two of a kind, where the other may be faulty or nil; nil where the
-/// condition is. Faults of the condition count in any case, and are not looked for in the two.
+/// `if`: the choice of a condition between two holdings of a kind. The other one may be faulty or
+/// nil. The result is nil where the condition is. Faults of the condition count in any case, and
+/// are not looked for in the two.
 pub(crate) fn choose(
     code: &mut Code,
     condition: Holding,
@@ -220,7 +221,7 @@ pub(crate) fn choose(
     Ok(chosen)
 }
 
-/// The plane of the lanes in which a place shows a sign, within those of another plane.
+/// The plane of the lanes of `above` in which a place shows a sign.
 #[tactic(auto, using(crate::proofs::Growth::grown_then, crate::proofs::Growth::grown_none))]
 pub(crate) fn sign_plane(
     code: &mut Code,
@@ -237,7 +238,7 @@ pub(crate) fn sign_plane(
         (λ s. s.bits above.0 && shows sign (cell_at s place))) }
 {
     let Some(value) = truth_of(place.holding.value) else {
-        return Ok(NOWHERE);
+        return Ok(FALSE_PLANE);
     };
     let there = code.combine(PlaneOperator::And, above, place.present)?;
     let known = code.combine(PlaneOperator::AndNot, there, place.holding.nil)?;

@@ -1,4 +1,4 @@
-//! The planes and words that are there before the code runs.
+//! The planes and words before the code runs.
 
 ghost use Rattle.std.specs.Prelude.{◌≡◌, ℕ, ◌+◌, ◌<◌, ◌≤◌, pos, length, IfOk, IfSome, OnOk};
 ghost use Rattle.std.specs.Prelude.{slice_index, slice_index_or};
@@ -7,7 +7,7 @@ ghost use Rattle.lb_lanes.specs.Planes.{on};
 use lb_machine::{PlaneId, WordId};
 use std::alloc::{AllocError, Global};
 
-/// What they hold before the first instant, in all lanes alike: the first plane is false, the
+/// The planes and words before the first instant, alike in all lanes: the first plane is false, the
 /// second is true, and the first word is 0.
 #[derive(Drop)]
 pub(crate) struct Preset {
@@ -38,7 +38,7 @@ impl Preset {
         Ok(Preset { planes, words })
     }
 
-    /// One more plane.
+    /// Adds a plane that is `value` in each lane.
     pub(crate) fn plane(&mut self, value: bool) -> Result<PlaneId, AllocError>
         requires { length self.old.planes.items < 4294967295 }
         ensures more { OnOk result (IsMore self.old self.new) }
@@ -54,7 +54,7 @@ impl Preset {
         Ok(PlaneId(id as u32))
     }
 
-    /// A word from a first one on that holds a number, if it is one of the first 64 of these.
+    /// A word that holds `value` among the first 64 words from `first` on, if there is one.
     pub(crate) fn word_among(&self, first: u32, value: i32) -> Option<WordId>
         ensures { IfSome result (λ w. (first ≤ w.0) × (w.0 < length self.now.words.items)
             × (slice_index_or self.now.words.items w.0 (pos 0) ≡ value)) }
@@ -69,7 +69,7 @@ impl Preset {
         None
     }
 
-    /// One more word.
+    /// Adds a word that is `value` in each lane.
     pub(crate) fn word(&mut self, value: i32) -> Result<WordId, AllocError>
         requires { length self.old.words.items < 4294967295 }
         ensures more { OnOk result (IsMore self.old self.new) }

@@ -12,28 +12,28 @@ use crate::read_inputs::ReadInputs;
 use lb_flat::FlatProgram;
 use lb_machine::{Code, PlaneId, WordId};
 
-/// What an instant does: code, where it finds each element, what it decides, and what memories take
-/// over after it.
+/// The code of an instant, the place of each element, the planes that the instant is judged by, and
+/// what memories take over after it.
 ///
 /// It stands for the program in each lane in which some planes of memories are false and some true.
 #[derive(Drop)]
 pub struct LaneCode {
     pub code: Code,
-    /// Where each element is found.
+    /// The place of each element.
     pub places: Vec<Place>,
     pub watched: Watched,
-    /// What each of the memories takes over after an instant.
+    /// The planes and words that the memories take over after an instant.
     pub plane_sources: Vec<PlaneId>,
     pub word_sources: Vec<WordId>,
-    /// The planes of memories that it takes to be false, and those that it takes to be true.
+    /// The planes of memories that the code takes to be false, and those that it takes to be true.
     pub clear: Vec<PlaneId>,
     pub set: Vec<PlaneId>,
 }
 
 /// A flat program as code over planes and words, for up to 64 traces at once.
 ///
-/// Planes and words stand in this order: what is the same everywhere, the inputs, constants, the
-/// memories, and then what the code writes.
+/// Planes and words stand in this order: the places that are the same everywhere, the inputs, the
+/// constants, the memories, and then what the code writes.
 #[derive(Drop)]
 pub struct LaneProgram<'a> {
     pub program: &'a FlatProgram,
@@ -41,21 +41,21 @@ pub struct LaneProgram<'a> {
     pub general: LaneCode,
     /// Code for instants at which each first tick is over and no memory is nil.
     pub steady: LaneCode,
-    /// How many planes and words a run needs.
+    /// The number of planes and of words that a run needs.
     pub planes: u32,
     pub words: u32,
-    /// Where each input of the signature stands.
+    /// The value of each input of the signature.
     pub inputs: Vec<Value>,
-    /// Where the memory of each element stands, if it has one.
+    /// The holding of the memory of each element that has one.
     pub kept: Vec<Holding>,
-    /// What the planes and the words before the code hold before the first instant, in each lane.
+    /// The planes and words before the code, as they are before the first instant, in each lane.
     pub start_planes: Vec<u64>,
     pub start_words: Vec<i32>,
     /// The first word of the constants, and the first plane and the first word of the memories.
     pub constant_word: u32,
     pub memory_plane: u32,
     pub memory_word: u32,
-    /// The inputs that it reads.
+    /// The inputs that the program reads.
     pub(crate) read: ReadInputs,
     pub(crate) ghost read_within: { All (λ w. w < length (number_columns 0
         program.now.inputs.items)) read.numbers.items },

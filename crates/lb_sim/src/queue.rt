@@ -1,8 +1,8 @@
 //! Traces that wait for lanes.
 //!
 //! The first members begin together, one in each lane. Where the trace of a lane has ended, or has
-//! its verdict, the lane goes on with the last member that waits: by length the longest, so that
-//! those that are left at the end are short.
+//! its verdict, the lane takes the last member that waits. If the members are sorted by length,
+//! that is the longest, so the last ones to run are short.
 //!
 //! ```text
 //! three lanes, members 0 to 6 by length
@@ -28,7 +28,7 @@ use crate::verdicts::Verdicts;
 use lb_lanes::Plane;
 use lb_traces::TraceSet;
 
-/// Traces for some lanes, at least one for each.
+/// A queue of traces for some lanes, with at least one trace for each lane.
 #[derive(Clone, Copy)]
 pub(crate) struct Queue<'a> {
     pub(crate) set: &'a TraceSet,
@@ -41,14 +41,14 @@ pub(crate) struct Queue<'a> {
     pub(crate) ghost most: { length members.now ≤ 4096 },
 }
 
-/// The lanes that begin with another trace, and the place before which members may wait still.
+/// The lanes that begin with another trace, and the place before which members may still wait.
 #[derive(Clone, Copy)]
 pub(crate) struct Taken {
     pub(crate) lanes: Plane,
     pub(crate) rest: u32,
 }
 
-/// How many instants all traces have.
+/// The number of instants of all traces together.
 pub(crate) fn instants_of(queue: &Queue<'_>) -> u32
     ensures sum { result ≡ sum_by (length_of queue.now.set.now) queue.now.members.now }
     ensures limit { result ≤ 1000000 * length queue.now.members.now }
@@ -60,7 +60,7 @@ pub(crate) fn instants_of(queue: &Queue<'_>) -> u32
     sum
 }
 
-/// The place among the members of the first trace of each lane.
+/// The place, among the members, of the first trace of each lane.
 pub(crate) fn first_places() -> [u32; 64]
     ensures room { length result ≡ 64 }
     ensures places { (i : ℕ) → i < 64 → get_or result i 0 ≡ i }
@@ -72,7 +72,7 @@ pub(crate) fn first_places() -> [u32; 64]
     places
 }
 
-/// The first trace of each of 64 lanes; lanes that are left over have the last member.
+/// The first trace of each of 64 lanes; lanes without a member of their own get the last member.
 pub(crate) fn first_traces(queue: &Queue<'_>) -> [u32; 64]
     ensures room { length result ≡ 64 }
     ensures within { All (λ k. k < length queue.now.set.now.traces) result }
@@ -88,7 +88,7 @@ pub(crate) fn first_traces(queue: &Queue<'_>) -> [u32; 64]
 }
 
 /// The pending lanes whose verdicts are settled: they are no longer active, or their traces have
-/// ended, where these lanes have an instant more.
+/// ended. `running` has the lanes whose traces have another instant.
 pub(crate) fn settled_lanes(run: &BatchRun<'_>, pending: Plane, running: u64) -> Plane
     ensures { IsPlaneOf (λ i. on pending.0 i && not (on run.now.active.0 i && on running i))
         result.0 }
@@ -128,7 +128,7 @@ fn keep_settled<V: Verdicts>(
     }
 }
 
-// A lane takes the member at a place.
+// Makes a lane take the member at a place.
 fn take_place(
     queue: &Queue<'_>,
     places: &mut [u32; 64],
@@ -145,8 +145,8 @@ fn take_place(
     traces[lane as usize] = queue.members[place as usize];
 }
 
-// The settled lanes take members that wait, the last first, while there are any.
-fn take_places(
+// Makes the settled lanes take members that wait, the last first, while there are any.
+fn refill_lanes(
     queue: &Queue<'_>,
     places: &mut [u32; 64],
     traces: &mut [u32; 64],
@@ -172,9 +172,9 @@ fn take_places(
     }
 }
 
-/// Keeps the verdicts of settled lanes, and lets these lanes begin with members that wait, while
-/// there are any. It takes no memory.
-pub(crate) fn hand_on<V: Verdicts>(
+/// Keeps the verdicts of settled lanes, and starts members that wait in these lanes, while there
+/// are any. It takes no memory.
+pub(crate) fn refill<V: Verdicts>(
     run: &mut BatchRun<'_>,
     queue: &Queue<'_>,
     places: &mut [u32; 64],
@@ -210,7 +210,7 @@ pub(crate) fn hand_on<V: Verdicts>(
             rest,
         };
     }
-    let taken = take_places(queue, places, traces, settled, rest);
+    let taken = refill_lanes(queue, places, traces, settled, rest);
     run.restart(taken.lanes);
     taken
 }

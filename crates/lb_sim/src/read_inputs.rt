@@ -1,7 +1,7 @@
-//! Which inputs a program reads: no other has to be loaded.
+//! The inputs that a program reads: no other has to be loaded.
 //!
-//! An input is read where another equation reads its element, as an operand, by its clock or for a
-//! memory, or where a truth is wanted of it.
+//! An input is read if another equation reads its element, as an operand, by its clock or for a
+//! memory, or if a truth is wanted of it.
 
 ghost use Rattle.std.specs.Prelude.{◌≡◌, ◌<◌, ◌+◌, ◌++◌, ℕ, [], length, All, IfOk, OnOk};
 ghost use Rattle.lb_flat.specs.Programs.{numbers_of, program_of, IsInRange};
@@ -17,12 +17,12 @@ use crate::place::Value;
 use lb_flat::{ClockId, ElementId, FlatProgram, Operation};
 use std::alloc::{AllocError, Global};
 
-/// The inputs of a program that are loaded: all that it reads.
+/// The inputs that are loaded for a program: all that it reads.
 #[derive(Drop)]
 pub(crate) struct ReadInputs {
-    /// Integers, by their places among the integers of the signature.
+    /// The loaded integers, by their places among the integers of the signature.
     pub(crate) numbers: Vec<usize>,
-    /// Whether Booleans are; they come 64 at a time.
+    /// Whether Booleans are loaded; they come 64 at a time.
     pub(crate) truths: bool,
 }
 
@@ -58,7 +58,8 @@ fn mark_operands(marks: &mut [bool], operation: Operation)
     }
 }
 
-// Marks the element that a clock waits for; that of the clock above it is marked with the table.
+// Marks the element that a clock waits for. The element of the clock above is marked with the
+// table.
 fn mark_clock(marks: &mut [bool], program: &FlatProgram, clock: Option<ClockId>)
     requires in_range { IsInRange program.now }
     requires elements { length marks.old ≡ program.now.size }
@@ -72,8 +73,8 @@ fn mark_clock(marks: &mut [bool], program: &FlatProgram, clock: Option<ClockId>)
     }
 }
 
-// Marks all elements that a program reads: of a table of clocks those that some equation is on, or
-// that others stand under.
+// Marks all elements that a program reads. In the table of clocks these are the elements of clocks
+// that have an equation or another clock on them.
 fn mark_reads(marks: &mut [bool], program: &FlatProgram)
     requires in_range { IsInRange program.now }
     requires elements { length marks.old ≡ program.now.size }
@@ -103,7 +104,7 @@ fn read_elements(alloc: Global, program: &FlatProgram) -> Result<Vec<bool>, Allo
     Ok(marks)
 }
 
-// Loads one input more: the one that stands at a place.
+// Adds the input at a place to the loaded inputs.
 fn load_too(found: &mut ReadInputs, place: Value) -> Result<(), AllocError>
     requires { IsInputPlace place }
     ensures loaded { OnOk result (IsLoadedAt found.new.numbers.items found.new.truths place) }
@@ -120,7 +121,8 @@ fn load_too(found: &mut ReadInputs, place: Value) -> Result<(), AllocError>
     Ok(())
 }
 
-// Loads the input of an operation, if it is one and its element is read.
+// Adds the input of an operation to the loaded inputs, if the operation is an input and its element
+// is read.
 fn load_read(
     found: &mut ReadInputs,
     inputs: &[Value],
@@ -147,7 +149,7 @@ fn load_read(
     Ok(())
 }
 
-/// The inputs that a program reads, which stand at these places.
+/// The inputs that a program reads, at these places.
 pub(crate) fn read_inputs(
     alloc: Global,
     program: &FlatProgram,

@@ -1,4 +1,4 @@
-//! The room of a worker: planes, words, verdicts and inputs, which it takes once for all batches.
+//! The room of a worker: planes, words, verdicts and inputs, allocated once for all batches.
 
 ghost use Rattle.std.specs.Prelude.{◌≡◌, ◌≢◌, ◌<◌, ◌≤◌, true, false, length, IfOk};
 
@@ -11,7 +11,7 @@ use lb_lanes::LaneWord;
 use lb_syntax::Kind;
 use std::alloc::{AllocError, Global};
 
-/// Planes, words, verdicts and inputs for a program. What they hold from one batch tells nothing of
+/// Planes, words, verdicts and inputs for a program. Their contents after one batch do not affect
 /// the next.
 ///
 /// ```text
@@ -97,7 +97,7 @@ impl BatchRoom {
             )
     }
 
-    // So many lanes before the first instant, and their inputs, in this room.
+    // A run of `lanes` lanes before the first instant, and their inputs, in this room.
     pub(crate) fn begin<'a>(
         self,
         program: &'a LaneProgram<'a>,
@@ -120,7 +120,7 @@ impl BatchRoom {
         (run, inputs)
     }
 
-    // The room of lanes that were run, and of their inputs.
+    // The room that a run and its inputs leave.
     pub(crate) fn of_run(run: BatchRun<'_>, inputs: Inputs) -> BatchRoom
         requires { inputs.columns.kinds.items ≡ run.program.now.program.now.inputs.items }
         ensures { IsRoomFor run.entry.program.now result }

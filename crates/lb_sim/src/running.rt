@@ -9,17 +9,18 @@ ghost use Rattle.lb_sim.specs.InputRows.{begin_of};
 use crate::lane_bits::with_lane;
 use lb_traces::TraceSet;
 
-/// Some lanes, and up to which instant they are the ones whose traces go on.
+/// Some lanes, and the instant before which exactly their traces go on.
 #[derive(Clone, Copy)]
 pub(crate) struct Running {
     pub(crate) lanes: u64,
     pub(crate) until: u32,
 }
 
-// The lanes are looked at again after so many instants, since some may have their verdicts by then.
+// The most instants until the lanes are looked at again, since some may have their verdicts by
+// then.
 const MOST_AT_ONCE: u32 = 4096;
 
-// Lanes, and one more where its trace has instant `t`.
+// The lanes, with `lane` added if its trace has instant `t`.
 fn with_running(lanes: u64, lane: u32, end: u32, t: u32) -> u64
     requires { lane < 64 }
     ensures { (i : ℕ) → i < 64 → on result i ≡ ((nat_lt t end && (i == lane)) || on lanes i) }
@@ -31,8 +32,8 @@ fn with_running(lanes: u64, lane: u32, end: u32, t: u32) -> u64
     }
 }
 
-// The end of a trace that goes on after instant `t`, or an instant that comes sooner.
-fn sooner(until: u32, end: u32, t: u32) -> u32
+// The end of a trace, if it has instant `t` and ends before `until`; else `until`.
+fn earlier_end(until: u32, end: u32, t: u32) -> u32
     ensures later { t < until → t < result }
     ensures until { result ≤ until }
     ensures end { t < end → result ≤ end }
@@ -40,7 +41,8 @@ fn sooner(until: u32, end: u32, t: u32) -> u32
     if t < end && end < until { end } else { until }
 }
 
-/// The lanes whose traces have instant `t`, where each began at an instant of the batch.
+/// The lanes whose traces have instant `t`, where the trace of each lane began at its instant of
+/// the batch.
 pub(crate) fn running_at(set: &TraceSet, members: &[u32], begins: &[u32], t: u32) -> Running
     requires few { length members.now ≤ 64 }
     requires members { All (λ k. k < length set.now.traces) members.now }
@@ -54,7 +56,7 @@ pub(crate) fn running_at(set: &TraceSet, members: &[u32], begins: &[u32], t: u32
     for i in 0..members.len() {
         let end = begins[i] + set.length(members[i]);
         lanes = with_running(lanes, i as u32, end, t);
-        until = sooner(until, end, t);
+        until = earlier_end(until, end, t);
     }
     Running { lanes, until }
 }

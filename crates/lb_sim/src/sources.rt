@@ -1,9 +1,9 @@
-//! What memories take over after an instant.
+//! The sources of memories: what they take over after an instant.
 
 ghost use Rattle.std.specs.Prelude.{◌≡◌, ℕ, ◌≤◌, ◌<◌, ◌+◌, ◌*◌, length, All, IfOk, OnOk};
 ghost use Rattle.std.specs.Prelude.{if◌then◌else◌};
 ghost use Rattle.lb_flat.specs.Programs.{program_of, IsInRange};
-ghost use Rattle.lb_flat.specs.FurtherKinds.{kind_among};
+ghost use Rattle.lb_flat.specs.TemporaryKinds.{kind_among};
 ghost use Rattle.lb_flat.specs.Run.{keeps, reads};
 ghost use Rattle.lb_flat.specs.Values.{operation_of};
 ghost use Rattle.lb_machine.specs.Correct.{AddsAtMost, HasRoom, IsGrown};
@@ -22,10 +22,10 @@ use crate::picks::pick;
 use crate::place::{Holding, Place, Value, plane_of};
 use crate::truths::not_plane;
 use lb_flat::{FlatProgram, Operation};
-use lb_machine::{Code, EVERYWHERE, NOWHERE, PlaneId, PlaneOperator, WordId, ZERO};
+use lb_machine::{Code, FALSE_PLANE, PlaneId, PlaneOperator, TRUE_PLANE, WordId, ZERO};
 use std::alloc::{AllocError, Global};
 
-// The word that a value takes, or none.
+// The word that a value takes, or 0.
 fn word_of(v: Value) -> WordId
     ensures { result.0 ≡ word_in v }
 {
@@ -35,8 +35,8 @@ fn word_of(v: Value) -> WordId
     }
 }
 
-/// A plane that is false everywhere and one that is true everywhere, which the code writes: all
-/// sources that are so share them.
+/// A plane that is false everywhere and one that is true everywhere, which the code writes. All
+/// constant sources share them.
 #[derive(Clone, Copy)]
 pub(crate) struct Copies {
     pub(crate) nowhere: PlaneId,
@@ -51,15 +51,15 @@ fn make_copies(code: &mut Code) -> Result<Copies, AllocError>
     ensures few { OnOk result (AddsAtMost code.old code.new 2) }
     ensures copies { IfOk result (AreCopies code.new) }
 {
-    let nowhere = code.copy_plane(NOWHERE)?;
-    let everywhere = code.copy_plane(EVERYWHERE)?;
+    let nowhere = code.copy_plane(FALSE_PLANE)?;
+    let everywhere = code.copy_plane(TRUE_PLANE)?;
     Ok(Copies {
         nowhere,
         everywhere,
     })
 }
 
-// A plane that the code writes, with what this one holds.
+// A plane that the code writes and that equals plane `p`.
 #[tactic(auto, using(crate::proofs::Growth::grown_then, crate::proofs::Growth::grown_none))]
 fn own_plane(code: &mut Code, p: PlaneId, copies: Copies) -> Result<PlaneId, AllocError>
     requires plane { p.0 < code.old.planes }
@@ -69,10 +69,10 @@ fn own_plane(code: &mut Code, p: PlaneId, copies: Copies) -> Result<PlaneId, All
     ensures few { OnOk result (AddsAtMost code.old code.new 1) }
     ensures source { IfOk result (IsPlaneSource code.new p.0) }
 {
-    if p.0 == NOWHERE.0 {
+    if p.0 == FALSE_PLANE.0 {
         return Ok(copies.nowhere);
     }
-    if p.0 == EVERYWHERE.0 {
+    if p.0 == TRUE_PLANE.0 {
         return Ok(copies.everywhere);
     }
     if p.0 < code.first_plane {
@@ -82,7 +82,7 @@ fn own_plane(code: &mut Code, p: PlaneId, copies: Copies) -> Result<PlaneId, All
     Ok(p)
 }
 
-// A word that the code writes, with what this one holds.
+// A word that the code writes and that equals word `w`.
 #[tactic(auto, using(crate::proofs::Growth::grown_then, crate::proofs::Growth::grown_none))]
 fn own_word(code: &mut Code, w: WordId) -> Result<WordId, AllocError>
     requires word { w.0 < code.old.words }
@@ -98,7 +98,7 @@ fn own_word(code: &mut Code, w: WordId) -> Result<WordId, AllocError>
     Ok(w)
 }
 
-// The source of a plane of a memory, if it has one there.
+// Adds the source of a plane of a memory, if the memory has that plane.
 #[tactic(auto, using(crate::proofs::Growth::grown_then, crate::proofs::Growth::grown_none))]
 fn take_plane(
     code: &mut Code,
@@ -115,7 +115,7 @@ fn take_plane(
     ensures taken { OnOk result (IsTaken (IsPlaneSource code.new next.0) home.0
         sources.old.items sources.new.items) }
 {
-    if home.0 == NOWHERE.0 {
+    if home.0 == FALSE_PLANE.0 {
         return Ok(());
     }
     let source = own_plane(code, next, copies)?;
@@ -123,7 +123,7 @@ fn take_plane(
     Ok(())
 }
 
-// The source of a word of a memory, if it has one there.
+// Adds the source of a word of a memory, if the memory has that word.
 #[tactic(auto, using(crate::proofs::Growth::grown_then, crate::proofs::Growth::grown_none))]
 fn take_word(
     code: &mut Code,
@@ -146,7 +146,7 @@ fn take_word(
     Ok(())
 }
 
-// The sources of a memory, in the order in which its places were given.
+// Adds the sources of a memory, in the order in which its places were given.
 #[tactic(auto, using(crate::proofs::Growth::grown_then, crate::proofs::Growth::grown_none))]
 fn push_sources(
     code: &mut Code,
@@ -175,7 +175,7 @@ fn push_sources(
     Ok(())
 }
 
-// Whether a first tick is over after this instant.
+// The flag of `->` after the instant: whether a first tick is over.
 #[tactic(auto, using(crate::proofs::Growth::grown_then, crate::proofs::Growth::grown_none))]
 fn next_flag(code: &mut Code, held: Holding, present: PlaneId) -> Result<Holding, AllocError>
     requires held { IsIn code.old held }
@@ -190,12 +190,12 @@ fn next_flag(code: &mut Code, held: Holding, present: PlaneId) -> Result<Holding
     let value = code.combine(PlaneOperator::Or, started, present)?;
     Ok(Holding {
         value: Value::Truth(value),
-        nil: NOWHERE,
-        bad: NOWHERE,
+        nil: FALSE_PLANE,
+        bad: FALSE_PLANE,
     })
 }
 
-// A holding, by a plane that holds its truth where it is a negation.
+// A holding that shows the same scalars, and whose value is no negation.
 #[tactic(auto, using(crate::proofs::Growth::grown_then, crate::proofs::Growth::grown_none))]
 fn plain(code: &mut Code, h: Holding) -> Result<Holding, AllocError>
     requires holding { IsIn code.old h }
@@ -217,7 +217,8 @@ fn plain(code: &mut Code, h: Holding) -> Result<Holding, AllocError>
     })
 }
 
-// What a place shows where it is present, and elsewhere what is held.
+// The cell of a memory after the instant: the scalar of a place where it is present, and `held`
+// elsewhere.
 #[tactic(auto, using(crate::proofs::Growth::grown_then, crate::proofs::Growth::grown_none))]
 fn next_cell(code: &mut Code, place: Place, held: Holding) -> Result<Holding, AllocError>
     requires place { IsPlaceIn code.old place }
@@ -235,7 +236,7 @@ fn next_cell(code: &mut Code, place: Place, held: Holding) -> Result<Holding, Al
     plain(code, picked)
 }
 
-// What a memory holds after the instant, where this shows what it holds now.
+// The holding of a memory after the instant, where `held` shows the memory now.
 #[tactic(auto, using(crate::proofs::Growth::grown_then, crate::proofs::Growth::grown_none))]
 fn next_holding(
     code: &mut Code,
@@ -274,7 +275,7 @@ pub(crate) struct Sources {
     pub(crate) words: Vec<WordId>,
 }
 
-/// What memories take over, in the order of the equations, where `held` shows what they hold.
+/// The sources of all memories, in the order of the equations, where `held` shows the memories now.
 pub(crate) fn all_sources(
     alloc: Global,
     code: &mut Code,

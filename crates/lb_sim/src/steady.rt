@@ -1,5 +1,5 @@
-//! What memories are taken to hold at instants at which each first tick is over and none of them is
-//! nil.
+//! Holdings that stand in for memories at instants at which each first tick is over and no memory
+//! is nil.
 
 ghost use Rattle.std.specs.Prelude.{◌≡◌, [], length, replicate, IfOk, OnOk};
 ghost use Rattle.lb_flat.specs.Programs.{flat_equations, program_of, IsInRange};
@@ -13,11 +13,11 @@ use crate::allot::NOTHING;
 use crate::allotted::Allotted;
 use crate::place::{Holding, Value, plane_of};
 use lb_flat::{FlatProgram, Operation};
-use lb_machine::{EVERYWHERE, NOWHERE, PlaneId};
+use lb_machine::{FALSE_PLANE, PlaneId, TRUE_PLANE};
 use std::alloc::{AllocError, Global};
 
-/// What stands in for the memory of each element, and the planes of memories that are taken to be
-/// false and to be true.
+/// The holding that stands in for the memory of each element, and the planes of memories that are
+/// taken to be false and to be true.
 #[derive(Drop)]
 pub(crate) struct SteadyTable {
     pub(crate) held: Vec<Holding>,
@@ -25,19 +25,19 @@ pub(crate) struct SteadyTable {
     pub(crate) set: Vec<PlaneId>,
 }
 
-// What stands in for the memory of `pre` or of `current`: its value, which is not nil.
+// The holding that stands in for the memory of `pre` or `current`: its value, which is not nil.
 fn never_nil(home: Holding, clear: &mut Vec<PlaneId>) -> Result<Holding, AllocError>
     ensures { IfOk result (λ held. IsNotNil home held clear.old.items clear.new.items) }
 {
     clear.push(home.nil)?;
     Ok(Holding {
         value: home.value,
-        nil: NOWHERE,
+        nil: FALSE_PLANE,
         bad: home.bad,
     })
 }
 
-// What stands in for a memory: a first tick is over, and a value is not nil.
+// The holding that stands in for a memory: a first tick is over, and a value is not nil.
 fn steady_memory(
     operation: &Operation,
     home: Holding,
@@ -51,9 +51,9 @@ fn steady_memory(
         Operation::FirstThen(_, _, _) => {
             set.push(plane_of(home.value))?;
             Ok(Holding {
-                value: Value::Truth(EVERYWHERE),
-                nil: NOWHERE,
-                bad: NOWHERE,
+                value: Value::Truth(TRUE_PLANE),
+                nil: FALSE_PLANE,
+                bad: FALSE_PLANE,
             })
         }
         Operation::Previous(_, _) => {
@@ -68,7 +68,7 @@ fn steady_memory(
     }
 }
 
-// Fills a table with what stands in for the memories of elements.
+// Fills a table with the holdings that stand in for memories.
 fn fill_steady(
     table: &mut [Holding],
     program: &FlatProgram,
@@ -96,7 +96,7 @@ fn fill_steady(
     Ok(())
 }
 
-/// What stands in for all memories.
+/// The holdings that stand in for all memories.
 pub(crate) fn steady_table(
     alloc: Global,
     program: &FlatProgram,

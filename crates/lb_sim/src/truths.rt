@@ -9,12 +9,12 @@ ghost use Rattle.lb_machine.specs.Listed.{listed};
 ghost use Rattle.lb_machine.specs.Meaning.{Lane, HasRun};
 ghost use Rattle.lb_sim.specs.Showing.{truth_at};
 
-use crate::signed::{Signed, both, differing};
-use lb_machine::{Code, Comparison, EVERYWHERE, NOWHERE, PlaneId, WordId};
+use crate::literal::{Literal, both, differing};
+use lb_machine::{Code, Comparison, FALSE_PLANE, PlaneId, TRUE_PLANE, WordId};
 use lb_syntax::BinaryOperator;
 use std::alloc::AllocError;
 
-/// A plane that is true where another is not.
+/// A plane that is true where another is false.
 pub(crate) fn not_plane(code: &mut Code, a: PlaneId) -> Result<PlaneId, AllocError>
     requires plane { a.0 < code.old.planes }
     requires room { HasRoom code.old 1 }
@@ -22,7 +22,7 @@ pub(crate) fn not_plane(code: &mut Code, a: PlaneId) -> Result<PlaneId, AllocErr
     ensures few { OnOk result (AddsAtMost code.old code.new 1) }
     ensures plane { IfOk result (IsPlaneFor code.new (λ s. not (s.bits a.0))) }
 {
-    let negation = code.select(a, NOWHERE, EVERYWHERE)?;
+    let negation = code.select(a, FALSE_PLANE, TRUE_PLANE)?;
     Ok(negation)
 }
 
@@ -31,9 +31,9 @@ pub(crate) fn not_plane(code: &mut Code, a: PlaneId) -> Result<PlaneId, AllocErr
 pub(crate) fn two_truths(
     code: &mut Code,
     op: BinaryOperator,
-    a: Signed,
-    b: Signed,
-) -> Result<Signed, AllocError>
+    a: Literal,
+    b: Literal,
+) -> Result<Literal, AllocError>
     requires left { a.plane.0 < code.old.planes }
     requires right { b.plane.0 < code.old.planes }
     requires room { HasRoom code.old 2 }
@@ -70,7 +70,7 @@ pub(crate) fn compared(
     op: BinaryOperator,
     a: WordId,
     b: WordId,
-) -> Result<Signed, AllocError>
+) -> Result<Literal, AllocError>
     requires left { a.0 < code.old.words }
     requires right { b.0 < code.old.words }
     requires room { HasRoom code.old 1 }
@@ -85,7 +85,7 @@ pub(crate) fn compared(
         BinaryOperator::Equal => code.compare(Comparison::Equal, a, b)?,
         BinaryOperator::Unequal => {
             let equal = code.compare(Comparison::Equal, a, b)?;
-            return Ok(Signed {
+            return Ok(Literal {
                 plane: equal,
                 sign: false,
             });
@@ -94,7 +94,7 @@ pub(crate) fn compared(
         BinaryOperator::AtMost => code.compare(Comparison::AtMost, a, b)?,
         BinaryOperator::Greater => code.compare(Comparison::Below, b, a)?,
         BinaryOperator::AtLeast => code.compare(Comparison::AtMost, b, a)?,
-        _ => NOWHERE,
+        _ => FALSE_PLANE,
     };
-    Ok(Signed { plane, sign: true })
+    Ok(Literal { plane, sign: true })
 }

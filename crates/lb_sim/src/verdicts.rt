@@ -1,4 +1,4 @@
-//! Where the verdicts of a queue go.
+//! Receivers of the verdicts of a queue.
 
 ghost use Rattle.std.specs.Prelude.{◌≡◌, ◌≢◌, ℕ, ◌<◌, length, get_or};
 ghost use Rattle.lb_check.specs.declared.verdict.Verdict.{Verdict};
@@ -6,8 +6,8 @@ ghost use Rattle.lb_check.specs.declared.verdict.Verdict.TheVariants.{Passed};
 
 use lb_check::Verdict;
 
-/// Takes the verdict of each member of a queue, as soon as its trace has one or has ended: as a
-/// list of them does, or what tells them to others while the rest of the queue still runs.
+/// A receiver of the verdict of each member of a queue, as soon as its trace has one or has ended.
+/// Examples: a list of verdicts; a board that shows them while the rest of the queue still runs.
 pub trait Verdicts {
     /// Whether it takes this verdict of the member at a place.
     ghost takes: { Self → ℕ → Verdict → Type 0 };
@@ -15,7 +15,7 @@ pub trait Verdicts {
     /// Whether it has this verdict of the member at a place.
     ghost has: { Self → ℕ → Verdict → Type 0 };
 
-    /// What it may become as verdicts are kept.
+    /// Whether the first state may become the second as verdicts are kept.
     ghost becomes: { Self → Self → Type 0 };
 
     /// Keeps the verdict of the member at a place of the queue.
@@ -34,7 +34,7 @@ pub trait Verdicts {
         → takes s k v → takes t k v };
 }
 
-/// A slice with a verdict for each member, in their order.
+/// A slice with a verdict for each member, in the order of the members.
 #[derive(Drop)]
 pub(crate) struct InOrder<'a> {
     pub(crate) verdicts: &'a mut [Verdict],

@@ -1,4 +1,4 @@
-//! Planes of the lanes in which some watched element shows something.
+//! Planes of the lanes in which some watched element shows a fault, nil or false.
 
 ghost use Rattle.std.specs.Prelude.{◌≡◌, ◌<◌, ◌≤◌, ◌*◌, ◌||◌, ◌⊎◌, ℕ, true, false, Some, length};
 ghost use Rattle.std.specs.Prelude.{All, IfOk, OnOk, slice_index_or};
@@ -15,10 +15,10 @@ use crate::marks::marked_elements;
 use crate::picks::sign_plane;
 use crate::place::Place;
 use lb_flat::ElementId;
-use lb_machine::{Code, EVERYWHERE, PlaneId, PlaneOperator};
+use lb_machine::{Code, PlaneId, PlaneOperator, TRUE_PLANE};
 use std::alloc::{AllocError, Global};
 
-/// What is looked for at elements.
+/// The cells that are looked for at elements.
 #[derive(Clone, Copy)]
 pub(crate) enum Sought {
     Faults,
@@ -26,7 +26,7 @@ pub(crate) enum Sought {
     Falses,
 }
 
-/// Where a place shows the value of a fault.
+/// The plane where a place shows a fault.
 pub(crate) fn bad_plane(code: &mut Code, place: Place) -> Result<PlaneId, AllocError>
     requires place { IsPlaceIn code.old place }
     requires room { HasRoom code.old 2 }
@@ -38,7 +38,7 @@ pub(crate) fn bad_plane(code: &mut Code, place: Place) -> Result<PlaneId, AllocE
     Ok(plane)
 }
 
-/// Where a place shows nil.
+/// The plane where a place shows nil.
 #[tactic(auto, using(crate::proofs::Growth::grown_then, crate::proofs::Growth::grown_none))]
 pub(crate) fn nil_plane(code: &mut Code, place: Place) -> Result<PlaneId, AllocError>
     requires place { IsPlaceIn code.old place }
@@ -52,7 +52,7 @@ pub(crate) fn nil_plane(code: &mut Code, place: Place) -> Result<PlaneId, AllocE
     Ok(plane)
 }
 
-/// Where a place shows false.
+/// The plane where a place shows false.
 #[tactic(auto, using(crate::proofs::Growth::grown_then, crate::proofs::Growth::grown_none))]
 pub(crate) fn false_plane(code: &mut Code, place: Place) -> Result<PlaneId, AllocError>
     requires place { IsPlaceIn code.old place }
@@ -61,7 +61,7 @@ pub(crate) fn false_plane(code: &mut Code, place: Place) -> Result<PlaneId, Allo
     ensures few { OnOk result (AddsAtMost code.old code.new 10) }
     ensures plane { IfOk result (IsPlaneFor code.new (λ s. is_false (Some (cell_at s place)))) }
 {
-    let plane = sign_plane(code, EVERYWHERE, false, place)?;
+    let plane = sign_plane(code, TRUE_PLANE, false, place)?;
     Ok(plane)
 }
 
@@ -84,7 +84,8 @@ pub(crate) fn mark(marked: &mut [bool], p: PlaneId)
     }
 }
 
-// Where one of two planes is true. Nothing is added for the second one where it is marked.
+// The plane where one of two planes is true. Where `here` is marked, it is `plane` and nothing is
+// added.
 fn joined(
     code: &mut Code,
     plane: PlaneId,
@@ -108,8 +109,8 @@ fn joined(
     Ok(both)
 }
 
-/// Where one of the first elements shows the value of a fault, or a plane is true. Marked planes
-/// are within that plane, before and afterwards.
+/// The plane where `above` is true or one of the first `count` elements shows a fault. Marked
+/// planes are within `above` before, and within the result afterwards.
 pub(crate) fn first_bad(
     code: &mut Code,
     places: &[Place],
@@ -137,7 +138,7 @@ pub(crate) fn first_bad(
     Ok(plane)
 }
 
-// Where a place shows what is looked for.
+// The plane where a place shows the sought cell.
 fn sought_plane(code: &mut Code, sought: Sought, place: Place) -> Result<PlaneId, AllocError>
     requires place { IsPlaceIn code.old place }
     requires room { HasRoom code.old 10 }
@@ -153,8 +154,8 @@ fn sought_plane(code: &mut Code, sought: Sought, place: Place) -> Result<PlaneId
     }
 }
 
-/// Where one of these elements shows what is looked for, or a plane is true. Marked planes are
-/// within that plane, before and afterwards.
+/// The plane where `above` is true or one of these elements shows the sought cell. Marked planes
+/// are within `above` before, and within the result afterwards.
 pub(crate) fn some_sought(
     alloc: Global,
     code: &mut Code,

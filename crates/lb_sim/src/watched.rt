@@ -1,4 +1,4 @@
-//! The planes of what an instant decides in each lane.
+//! The planes that an instant is judged by in each lane.
 
 ghost use Rattle.std.specs.Prelude.{◌≡◌, ◌<◌, ◌+◌, ◌*◌, ◌||◌, length, All, IfOk, OnOk};
 ghost use Rattle.lb_check.specs.Verdicts.{is_bad, is_nil};
@@ -13,11 +13,11 @@ use crate::outermost::outer_faults;
 use crate::place::{Place, Watched};
 use crate::watch::{Sought, false_plane, first_bad, nil_plane, some_sought};
 use lb_flat::FlatProgram;
-use lb_machine::{Code, NOWHERE, PlaneId, PlaneOperator};
+use lb_machine::{Code, FALSE_PLANE, PlaneId, PlaneOperator};
 use std::alloc::{AllocError, Global};
 
-// Where an element at which a fault counts holds one, or a plane is true, within which are those
-// that are marked.
+// The plane where `above` is true or an element at which a fault counts holds one. Marked planes
+// are within `above`.
 #[tactic(auto, using(crate::proofs::Growth::grown_then, crate::proofs::Growth::grown_none))]
 fn faults_by(
     alloc: Global,
@@ -53,7 +53,7 @@ fn faults_by(
     )
 }
 
-// Where an element at which a fault counts holds one.
+// The plane where an element at which a fault counts holds one.
 #[tactic(auto, using(crate::proofs::Growth::grown_then, crate::proofs::Growth::grown_none))]
 fn faults(
     alloc: Global,
@@ -77,7 +77,7 @@ fn faults(
     Ok(plane)
 }
 
-// Where an element at which a truth is wanted is nil.
+// The plane where an element at which a truth is wanted is nil.
 #[tactic(auto, using(crate::proofs::Growth::grown_then, crate::proofs::Growth::grown_none))]
 fn undefined(
     alloc: Global,
@@ -95,7 +95,15 @@ fn undefined(
         some_in is_nil (row_at s places.now) (truth_elements (program_of program.now)))) }
 {
     let clocks = program.clock_elements.as_slice();
-    let of_clocks = some_sought(alloc, code, places, clocks, Sought::Nils, NOWHERE, &mut [])?;
+    let of_clocks = some_sought(
+        alloc,
+        code,
+        places,
+        clocks,
+        Sought::Nils,
+        FALSE_PLANE,
+        &mut [],
+    )?;
     let asserted = program.asserted.as_slice();
     let further = some_sought(
         alloc,
@@ -111,7 +119,7 @@ fn undefined(
     Ok(plane)
 }
 
-/// The planes of what an instant decides in each lane.
+/// The planes that an instant is judged by in each lane.
 #[tactic(auto, using(crate::proofs::Growth::grown_then, crate::proofs::Growth::grown_none))]
 pub(crate) fn watched(
     alloc: Global,
@@ -136,7 +144,7 @@ pub(crate) fn watched(
         places,
         asserted,
         Sought::Falses,
-        NOWHERE,
+        FALSE_PLANE,
         &mut [],
     )?;
     let violated = false_plane(code, places[program.property.0 as usize])?;

@@ -60,7 +60,7 @@ one_of f x (y ∷ ys) h (inl e) = subst (λ z. f z ≡ true) e (and_parts (f y) 
 one_of f x (y ∷ ys) h (inr i) = one_of f x ys (and_parts (f y) (list_all f ys) h).1 i
 
 module _ (rank : Element → ℕ) where
-  -- a definition's element stands above all that it needs
+  -- the element of the definition `d` has a higher rank than all that it needs
   abbrev stands_above : Definition → Bool
   stands_above d = list_all (λ y. nat_lt (rank y) (rank d.element)) d.needed
 
@@ -80,11 +80,11 @@ module _ (P : Program) (rank : Element → ℕ) (h : is_ranked rank (definitions
   far_below y _ (through x z n r) =
       let near = below x z n in let far = far_below y z r in omega (arith, near, far)
 
-  -- where every element stands above all that it needs, none reaches itself
+  -- if every element has a higher rank than all that it needs, none reaches itself
   pub ranked_causal : IsCausal P
   ranked_causal x r = let lt = far_below x x r in absurd (omega (arith, lt))
 
--- how many of a list stand after an element, the newest first
+-- the rank of an element in a list, the newest first: the oldest has 1, one that is missing 0
 abbrev place : List Element → Element → ℕ
 place [] x = 0
 place (y ∷ ys) x = if is_element x y then suc (length ys) else place ys x
@@ -92,24 +92,24 @@ place (y ∷ ys) x = if is_element x y then suc (length ys) else place ys x
 abbrev is_done : List Element → Element → Bool
 is_done done x = list_any (is_element x) done
 
--- all that an element needs is done
+-- all that the element `x` needs is in `done`
 abbrev is_ready : List Definition → List Element → Element → Bool
 is_ready ds done x =
     list_all (λ d. not (is_element x d.element) || list_all (is_done done) d.needed) ds
 
--- what is done, and before it those of a list that are ready after it
+-- `done`, with each element of a list put in front of it that is ready at its turn
 abbrev taken : List Definition → List Element → List Element → List Element
 taken ds [] done = done
 taken ds (x ∷ xs) done =
     let new = not (is_done done x) && is_ready ds done x in
     taken ds xs (if new then x ∷ done else done)
 
--- the elements in an order that their needs allow, as far as n rounds find it, the last one first
+-- the elements that n rounds put in order, the last one first: each comes after all that it needs
 abbrev sorted : ℕ → List Definition → List Element
 sorted zero ds = []
 sorted (suc n) ds = taken ds (map (λ d. d.element) ds) (sorted n ds)
 
--- whether an order is found in eight rounds
+-- a test of causality: passed if eight rounds find an order
 abbrev causal : (P : Program) → Test (IsCausal P)
 causal P =
     let rank = place (sorted 8 (definitions P)) in
@@ -121,7 +121,7 @@ abbrev member : (x : Element) (ys : List Element) → Test (In x ys)
 member x [] = fails
 member x (y ∷ ys) = one_or_other inl inr (equal_elements y x) (member x ys)
 
--- one of these definitions is of x, and needs y
+-- one of the definitions `ds` is that of `x`, and needs `y`
 abbrev Defines : Element → Element → List Definition → Type 0
 Defines x y ds = (d : Definition) × In d ds × (d.element ≡ x) × In y d.needed
 
@@ -146,7 +146,7 @@ module _ (P : Program) where
       so (λ f. record { by = f.0; stands = f.1; is_of = f.2; names = f.3 })
       (defines x y (definitions P))
 
-  -- an element needs the first of these, each the next, and the last of them y
+  -- a test that `x` reaches `y` by a list: `x` needs its first, each its next, and its last `y`
   abbrev reaching : (y x : Element) → List Element → Test (Reaches P y x)
   reaching y x [] = so (at_once x) (needing x y)
   reaching y x (z ∷ zs) =
@@ -158,12 +158,12 @@ module _ (P : Program) where
 
   -- ## Acceptance
 
-  -- whether a program keeps every rule, and no element of it needs itself
+  -- a test that `P` keeps every rule, and that no element of it needs itself
   abbrev pub accepted : Test (IsAccepted P)
   accepted =
       so (λ e. record { rules = e.0; causal = e.1 }) (both (is_none (refusal P)) (causal P))
 
-  -- whether it keeps every rule but that of causality, by this cycle
+  -- a test that `P` keeps every rule but causality, which the cycle `xs` breaks
   abbrev pub refused_by : List Element → Test (IsFirst P (Some E13))
   refused_by xs = both (is_none (refusal P)) (cyclic xs)
 

@@ -31,7 +31,7 @@ module _ (H : History) where
       both (equal_columns (H.columns p d.name) xs) (receives p ds xss)
   receives p ds xss = fails
 
-  -- an instance runs at these instants and receives these streams
+  -- a test that the instance at `p` runs at the instants `bs` and receives the streams `xss`
   abbrev called :
       (p : Path) (bs : List Bool) (ds : List Declaration) (xss : List (List Stream)) →
       Test ((H.ticks p ≡ bs) × Receives H p ds xss)
@@ -110,7 +110,7 @@ module _ (P : Program) (X : Inputs) (H : History) where
       (columns_at H Root (root.node.inputs ++ root.node.outputs)))
       (instance_at P Observer)
 
-  -- whether a history solves a program on a trace
+  -- a test that the history `H` solves the program `P` on the trace `X`
   abbrev pub solves : Test (Solves P X H)
   solves =
       so (λ s. record {
@@ -130,8 +130,7 @@ module _ (P : Program) (X : Inputs) (H : History) where
       (instance_at P Root))
       (each (SolvesAt P H) (solves_at P H) (instances P)))))))
 
--- a history that solves a program on a trace, and the verdict that is found in it, show the
--- verdict of the trace
+-- if `H` solves `P` on `X`, and `v` is the verdict found in `H`, then `v` is the verdict of `X`
 pub by_history :
     (P : Program) (X : Inputs) (v : Verdict) (H : History) →
     (solves P X H).passed ≡ true → verdict_from P H 0 (length X) ≡ v → HasVerdict P X v

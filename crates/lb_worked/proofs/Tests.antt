@@ -1,4 +1,4 @@
--- Facts with tests: where the test is passed, the fact holds.
+-- Tests of facts: if a test is passed, its fact holds.
 use Rattle.std.proofs.Common.{◌≡◌, ℕ, Bool, true, false, ◌&&◌, ◌||◌, nat_eq, Option, Some, None}
 use Rattle.std.proofs.Common.{IfSome, List, [], ◌∷◌, refl, ap}
 use Rattle.std.specs.Ordering.{int_eq}
@@ -11,12 +11,12 @@ use Rattle.lb_syntax.specs.Lists.{Every}
 use Rattle.lb_syntax.specs.Tree.{Name}
 use Rattle.lb_check.specs.Scalars.{Scalar, Integer, Boolean, Nil, Bad, Cell, Stream}
 
--- a test whose passing shows a fact
+-- a test of the fact `A`: if it is passed, `A` holds
 pub record Test (A : Type 0) : Type 0 where
   pub passed : Bool
   pub shows : passed ≡ true → A
 
--- ## Tests of tests
+-- ## Tests made of tests
 
 pub or_shows :
     {C : Type 0} (a b : Bool) → (a ≡ true → C) → (b ≡ true → C) → (a || b) ≡ true → C
@@ -35,7 +35,7 @@ fails = record { passed = false; shows = absurd_false }
 abbrev pub is_so : (b : Bool) → Test (b ≡ true)
 is_so b = record { passed = b; shows = λ e. e }
 
--- a test of one fact is one of another that follows from it
+-- a test of `A`, used as a test of `B`, which follows from `A`
 abbrev pub so : {A B : Type 0} → (A → B) → Test A → Test B
 so f t = record { passed = t.passed; shows = λ e. f (t.shows e) }
 
@@ -47,7 +47,7 @@ both s t = record {
       (s.shows p.0, t.shows p.1);
 }
 
--- a fact that follows from either of two
+-- a test of `C`, which follows from `A` and also from `B`: passed if either test is
 abbrev pub one_or_other : {A B C : Type 0} → (A → C) → (B → C) → Test A → Test B → Test C
 one_or_other f g s t = record {
   passed = s.passed || t.passed;

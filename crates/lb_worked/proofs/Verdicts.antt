@@ -8,7 +8,7 @@ use Rattle.lb_check.specs.Verdicts.{is_fault, is_undefined, is_failed, is_violat
 use Rattle.lb_check.specs.Verdicts.{judged, or_later, verdict_from}
 
 module _ (P : Program) (H : History) (count : ℕ) where
-  -- nothing happens before instant t
+  -- no instant before `t` decides the verdict
   abbrev Quiet : ℕ → Type 0
   Quiet t = (s : ℕ) → s < t → decides P H s ≡ false
 
@@ -18,7 +18,7 @@ module _ (P : Program) (H : History) (count : ℕ) where
     | inr r ↦ elim r [ inl less ↦ q s less | inr more ↦ absurd (omega arith) ]
   ]
 
-  -- from an instant before which nothing happened
+  -- if no instant before `t` decides, the verdict is that at `t`, or else the one found after `t`
   step :
       (t n : ℕ) (f u a v : Bool) → t < count → Quiet t →
       is_fault P H t ≡ f → is_undefined P H t ≡ u → is_failed P H t ≡ a →
@@ -44,6 +44,6 @@ module _ (P : Program) (H : History) (count : ℕ) where
       let later = λ (r : Quiet (suc t)). ends_from (suc t) n (omega (arith, e)) r in
       step t n _ _ _ _ (omega (arith, e)) q refl refl refl refl later
 
-  -- the verdict that is found so is that of the history
+  -- the verdict that `verdict_from` finds from instant 0 on is that of the history
   pub ends : Ends P H count (verdict_from P H 0 count)
   ends = ends_from 0 count (omega arith) (λ s lt. absurd (omega (arith, lt)))

@@ -29,7 +29,7 @@ only e ts h = (
 none : (ts : List Token) → expression_at ts ≡ None → SpellsNone ts
 none ts h other s = let h' = expression_reads other ts [] s ends_here in absurd cc
 
--- tokens are left
+-- tokens spell no expression if the reading of one leaves some of them
 partly : (e : Expr) (t : Token) (rest ts : List Token) → expression_at ts ≡ Some (e, t ∷ rest) →
     SpellsNone ts
 partly e t rest ts h other s =

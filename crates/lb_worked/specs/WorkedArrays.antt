@@ -22,7 +22,7 @@ abbrev pub cnt : Node
 cnt = node "cnt" (int_var "x" ∷ []) (int_var "n" ∷ []) []
     (equation "n" (Arrow (v "x") (Binary Plus (Pre (v "n")) (v "x"))) ∷ [])
 
--- a digit more
+-- puts the digit `d` behind the number `a`: 12 and 3 make 123
 -- node dg(a, d: int) returns (r: int); let r = 10 * a + d; tel
 abbrev pub dg : Node
 dg = node "dg" (int_var "a" ∷ int_var "d" ∷ []) (int_var "r" ∷ []) []
@@ -105,7 +105,7 @@ two_maps = program [] (
     (Index (v "C") (Whole 0)))) (Binary Times (Literal 1000) (Index (v "C") (Whole 1))))
     (v "e")) ∷ []) ∷ [])
 
--- the first step of the second instant is out of range, and the sum of all is not
+-- at the second instant the first difference is out of range, but the last one is not
 abbrev pub far_steps : Inputs
 far_steps = trace "2147483647 -2147483647 3 7; -2147483648 2147483647 3 7"
 
@@ -247,7 +247,7 @@ loop_through_pre = alone (main [] (int_var "x" ∷ int_var "y" ∷ [])
     ∷ equation "y" (Binary Plus (v "x") (Literal 1))
     ∷ equation "ok" (Binary Less (v "y") (Literal 4)) ∷ []))
 
--- the counter of the first run with its equations exchanged
+-- `counter` of `WorkedScalars` with its two equations exchanged
 -- node main(x: int) returns (ok: bool);
 -- var n: int;
 -- let ok = n < 10; n = 0 -> pre n + x; tel

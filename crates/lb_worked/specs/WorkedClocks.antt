@@ -30,7 +30,7 @@ slower_counter = program [] (
     (Current (Group (call "cnt" (when_true (v "x") "c" ∷ [])))))
     ∷ equation "ok" (Binary Equal (v "m") (v "e")) ∷ []) ∷ [])
 
--- the same without its guard; with the node `cnt` above:
+-- `slower_counter` without its guard `0 ->`; with the node `cnt` above:
 -- node main(c: bool; x, e: int) returns (ok: bool);
 -- var m: int;
 -- let m = current (cnt(x when c)); ok = m = e; tel
@@ -41,7 +41,7 @@ unguarded_counter = program [] (
     (equation "m" (Current (Group (call "cnt" (when_true (v "x") "c" ∷ []))))
     ∷ equation "ok" (Binary Equal (v "m") (v "e")) ∷ []) ∷ [])
 
--- the same where a Boolean remembers a first tick; with the node `cnt` above:
+-- a counter whose Boolean `known` remembers the first tick; with the node `cnt` above:
 -- node main(c: bool; x: int) returns (ok: bool);
 -- var known: bool; m: int;
 -- let

@@ -29,11 +29,11 @@ c = codes "c"
 abbrev map : Name
 map = codes "map"
 
--- these tokens spell this tree and no other
+-- the tokens `ts` spell the tree `e` and no other
 abbrev pub SpellsOnly : Expr → List Token → Type 0
 SpellsOnly e ts = Spells e ts × ((other : Expr) → Spells other ts → e ≡ other)
 
--- these tokens spell no expression
+-- the tokens `ts` spell no expression
 abbrev pub SpellsNone : List Token → Type 0
 SpellsNone ts = (e : Expr) → Spells e ts → ⊥
 
@@ -133,14 +133,14 @@ map_of_an_operator_tokens =
     name map ∷ mark m.OpenStatic ∷ mark m.Plus ∷ mark m.Comma ∷ number 2 ∷ mark m.CloseStatic ∷
     mark m.Open ∷ name a ∷ mark m.Comma ∷ name b ∷ mark m.Close ∷ []
 
--- `a < b < 3`, of which `a < b` is read
+-- `a < b < 3` is no expression: reading it ends after the tree of `a < b`
 abbrev pub comparison_tree : Expr
 comparison_tree = Binary Less (Variable a) (Variable b)
 
 abbrev pub comparison_chain_tokens : List Token
 comparison_chain_tokens = name a ∷ mark m.Less ∷ name b ∷ mark m.Less ∷ number 3 ∷ []
 
--- `map<<2>>(a)`: an iterator applies something, and no call begins so
+-- `map<<2>>(a)` is no expression: an iterator applies a node or an operator, and `2` is neither
 abbrev pub map_of_a_number_tokens : List Token
 map_of_a_number_tokens =
     name map ∷ mark m.OpenStatic ∷ number 2 ∷ mark m.CloseStatic ∷ mark m.Open ∷ name a ∷ mark
@@ -153,13 +153,13 @@ static_minus_tree = Combined Times (Negated (Whole 2)) (Whole 3)
 abbrev pub static_minus_tokens : List Token
 static_minus_tokens = mark m.Minus ∷ number 2 ∷ mark m.Star ∷ number 3 ∷ []
 
--- ---- texts
+-- ## Texts
 
--- the tokens of a text, or none
+-- the tokens of a text; the empty list if a byte begins no token
 abbrev pub tokens_of : String → List Token
 tokens_of text = elim (tokens (codes text)) as (λ o. List Token) [ None ↦ [] | Some ts ↦ ts ]
 
--- this text spells this tree and no other
+-- the text spells the tree `e` and no other
 abbrev pub IsText : Expr → String → Type 0
 IsText e text = SpellsOnly e (tokens_of text)
 

@@ -18,7 +18,7 @@ whole_text =
     codes "function g() returns (o: bool) let o = 1; tel. " ++
     codes "node h(x: int) returns (o: int;) let tel"
 
--- the constants and the nodes stand apart, each in text order; each variable stands for itself
+-- constants and nodes are two lists, each in text order; each variable has its own declaration
 abbrev pub whole_tree : Source
 whole_tree = record {
   constants = constant "n" (Whole 3) ∷ constant "k" (static "n") ∷ constant "m" (Whole 7) ∷ [];

@@ -1,4 +1,4 @@
--- Programs that are refused, and near ones that are not.
+-- Programs that are refused, and similar ones that are not.
 -- Source: this project's rule.
 use Rattle.std.specs.Prelude.{true, List, [], ◌∷◌}
 use Rattle.lb_syntax.specs.declared.tree.BinaryOperator.TheVariants.{Equal, Less, Plus, Times}
@@ -13,7 +13,7 @@ use Rattle.lb_static.specs.WorkedTrees.{iterate_symbol, int_var, bool_var, int_a
 use Rattle.lb_static.specs.WorkedTrees.{equations, node, function, with_parameters, main, constant}
 use Rattle.lb_static.specs.WorkedTrees.{program, alone, bench}
 
--- node main(x, y: int; c: bool) returns (ok: bool); with these locals and statements
+-- node main(x, y: int; c: bool) returns (ok: bool); with locals `vars` and statements `body`
 abbrev changed : List Declaration → List Statement → Node
 changed vars body = main (int_var "x" ∷ int_var "y" ∷ bool_var "c" ∷ []) vars body
 

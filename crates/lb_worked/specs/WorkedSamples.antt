@@ -16,7 +16,7 @@ use Rattle.lb_check.specs.Needs.{Element}
 
 -- ## Cells as they are written
 
--- the parts of a text, parted by semicolons
+-- the parts of a text between its semicolons
 abbrev parts : String → List (List ℕ)
 parts text = pieces 59 (codes text)
 
@@ -33,18 +33,18 @@ cell w =
 
 -- ## Traces
 
--- the instants of a trace, each the scalars of the inputs, as `1 t; -5 f`
+-- a trace: for each instant the cells of the scalar inputs, such as `1 t; -5 f` for two instants
 abbrev pub trace : String → Inputs
 trace text = map (λ row. some_of (map cell (words row))) (parts text)
 
 -- ## Histories
 
--- a variable's name and then its cells, instant by instant, as `n 0 5 11`
+-- a variable's name and its cells, one for each instant: `n 0 5 11` is `n` with 0, 5 and 11
 abbrev column : List ℕ → Name × Stream
 column line = let ws = words line in (heads ws, map cell (tail_of ws))
 
--- an instance: the instants at which it runs, and the streams of its variables, those of the
--- elements of an array in order, each under the variable's name
+-- an instance: the instants at which it runs, and a column for each scalar of its variables. An
+-- array has one column for each element, in order, all under its name
 pub record Part : Type 0 where
   pub path : Path
   pub ticks : List Bool
@@ -53,11 +53,11 @@ pub record Part : Type 0 where
 abbrev truths : String → List Bool
 truths text = map (λ w. bytes_eq w (codes "t")) (words (codes text))
 
--- an instance that runs where the first text has `t`
+-- the instance at `p` with the columns that `text` spells; it runs where `ticks` has `t`
 abbrev pub running : String → Path → String → Part
 running ticks p text = record { path = p; ticks = truths ticks; columns = map column (parts text) }
 
--- an instance that runs at every instant
+-- the instance at `p` with the columns that `text` spells; it runs at every instant
 abbrev pub at : Path → String → Part
 at p text =
     let columns = map column (parts text) in
@@ -67,12 +67,12 @@ at p text =
 abbrev part_at : List Part → Path → Option Part
 part_at told p = find (λ part. is_path part.path p) told
 
--- the streams of the columns of this name
+-- the streams of the columns with the name `x`
 abbrev columns_named : Name → Part → List Stream
 columns_named x part = map (λ c. c.1) (filter (λ c. bytes_eq c.0 x) part.columns)
 
--- what is told of some instances, the node under test first; where nothing is told of the
--- observer, it runs as the node under test does
+-- the history of the parts `told`, the node under test first. An instance without a part, such as
+-- an observer, runs at the instants of the node under test
 abbrev pub history : List Part → History
 history told = record {
   ticks = λ p. listed (λ part. part.ticks) (or_else (part_at told p) (slice_get told 0));
@@ -81,7 +81,7 @@ history told = record {
 
 -- ## Elements
 
--- one scalar element of a variable of an instance, and a variable that is a scalar
+-- element `i` of the variable `x` of the instance at `p`; `element` is for a scalar
 abbrev pub element_of : Path → String → ℕ → Element
 element_of p x i = record { path = p; variable = codes x; index = i }
 

@@ -23,7 +23,7 @@ counter = alone (main (int_var "x" ∷ []) (int_var "n" ∷ [])
     (equation "n" (Arrow (Literal 0) (Binary Plus (Pre (v "n")) (v "x")))
     ∷ equation "ok" (Binary Less (v "n") (Literal 10)) ∷ []))
 
--- the same under an assumption
+-- `counter` with the assertion `x < 6`
 -- node main(x: int) returns (ok: bool);
 -- var n: int;
 -- let assert x < 6; n = 0 -> pre n + x; ok = n < 10; tel

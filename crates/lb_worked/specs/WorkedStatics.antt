@@ -1,4 +1,4 @@
--- Static expressions, and programs for their signatures, instances and names.
+-- Static expressions, and programs that show signatures, instances and reached names.
 -- Source: this project's rule.
 use Rattle.std.specs.Prelude.{true, List, [], ◌∷◌, None, ℕ, ℤ, pos, Option, length, codes, map}
 use Prim.Native.String.{String}
@@ -146,7 +146,7 @@ with_an_observer = bench "plant" "obs" (
     ∷ node "obs" (int_var "x" ∷ int_var "y" ∷ []) (bool_var "ok" ∷ []) []
     (equation "ok" (Binary Equal (call "g" (v "x" ∷ [])) (v "y")) ∷ []) ∷ [])
 
--- where the instances of a program stand, and of what nodes they are, in the order of the walk
+-- the paths of the instances of a program, and the names of their nodes, in the order of the walk
 abbrev pub paths : Program → List Path
 paths P = map (λ i. i.path) (instances P)
 
@@ -160,7 +160,7 @@ values P = map (λ i. i.values) (instances P)
 abbrev pub given : String → ℕ → Name × ℤ
 given x n = (codes x, pos n)
 
--- ## What is reached
+-- ## Reached nodes and constants
 
 -- const a = b; b = 1; c = 2; d = a; e = 5;
 -- node far(x: int) returns (y: int); let y = x + d; tel

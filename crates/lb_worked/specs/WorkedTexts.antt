@@ -13,7 +13,7 @@ use Rattle.lb_syntax.specs.Limits.{statements, is_counted}
 
 -- ## Words of the examples
 
--- the tokens of a text, where each begins, and the first byte that begins none
+-- the tokens of a text, the offset of each, and the offset of the first byte that begins none
 abbrev pub tokens_of : String → Option (List Token)
 tokens_of text = tokens (codes text)
 
@@ -32,7 +32,7 @@ number n = token.Literal n
 abbrev pub mark : Mark → Token
 mark k = token.Mark k
 
--- how many tokens of each statement are counted
+-- the number of counted tokens in each statement
 abbrev pub counts : String → List ℕ
 counts text = option_map_or (λ ts. map (count_by is_counted) (statements ts)) (tokens_of text) []
 
@@ -46,11 +46,11 @@ line_comment = codes "-- x" ++ 13 ∷ 255 ∷ 10 ∷ 9 ∷ 12 ∷ codes " y"
 abbrev pub bytes_in_comments : Text
 bytes_in_comments = codes "(*" ++ 0 ∷ 255 ∷ (codes "*)/*" ++ 0 ∷ (codes "*/" ++ 0 ∷ []))
 
--- bytes that are white space or part of a token nowhere
+-- bytes that are neither white space nor part of any token
 abbrev pub no_token : List ℕ
 no_token = codes "%@$&~!?'`{}" ++ 34 ∷ 92 ∷ 0 ∷ 11 ∷ 127 ∷ 128 ∷ 195 ∷ 255 ∷ []
 
--- a byte on the second line, before another that begins no token
+-- `b` on the second line, and behind it `%`, which begins no token
 abbrev pub on_the_second_line : ℕ → Text
 on_the_second_line b = codes "const n" ++ 10 ∷ 9 ∷ (codes "= " ++ b ∷ codes " %")
 
@@ -73,7 +73,7 @@ reserved_words =
     codes "and assert bool const current div else false fby function if int let " ++
     codes "mod node nor not or pre returns tel then true var when xor"
 
--- the marks of the reserved words, in this order
+-- the marks of `reserved_words`, in the same order
 abbrev pub reserved : List Mark
 reserved =
     m.And ∷ m.Assert ∷ m.Bool ∷ m.Const ∷ m.Current ∷ m.Div ∷ m.Else ∷ m.False ∷ m.Fby ∷

@@ -18,7 +18,7 @@ ghost use Rattle.lb_worked.specs.WorkedArrays.{element_not_taken, value_not_samp
 ghost use Rattle.lb_worked.specs.WorkedArrays.{call_not_chosen, symbol_not_chosen, two_results};
 ghost use Rattle.lb_worked.specs.WorkedArrays.{loop_through_pre, exchanged, observed};
 
-/// `map` runs an instance an element, `red` and `fill` go from the first element on.
+/// `map` has an instance for each element; `red` and `fill` run from the first element on.
 pub fn iterators()
     ensures accepted { Every IsAccepted (counters ∷ digits ∷ differences ∷ pairs ∷ unrolled
         ∷ two_maps ∷ []) }
@@ -48,13 +48,13 @@ pub fn forms_of_arrays()
     ensures static_parameter_of_each_call { HasVerdict static_parameter (trace "1 304") Passed }
 {}
 
-/// Before its first tick a memory of an array is nil in every element.
+/// At the first instant `pre` of an array is nil in every element.
 pub fn nil_in_every_element()
     ensures accepted { IsAccepted nil_in_arrays }
     ensures sums_of_nil { HasVerdict nil_in_arrays (trace "1 2 0; 3 4 10") Passed }
 {}
 
-/// A fault counts in a variable, an input of a call and an assertion; not in what is left out.
+/// A fault counts in a variable, an input of a call and an assertion; not in a value left out.
 pub fn where_a_fault_counts()
     ensures accepted { Every IsAccepted (unused_input ∷ assertion_with_a_fault ∷ element_not_taken
         ∷ value_not_sampled ∷ []) }
@@ -65,14 +65,14 @@ pub fn where_a_fault_counts()
         (Fault 2) }
 {}
 
-/// A call runs in a branch that is not chosen, and its faults count; those of a symbol do not.
+/// A call runs in a branch that is not chosen, and its faults count; those of an operator do not.
 pub fn what_runs_in_a_branch_that_is_not_chosen()
     ensures accepted { Every IsAccepted (call_not_chosen ∷ symbol_not_chosen ∷ []) }
     ensures fault_of_a_call { HasVerdict call_not_chosen (trace "t 0") (Fault 0) }
     ensures fault_of_a_symbol { HasVerdict symbol_not_chosen (trace "t 2147483647 1") Passed }
 {}
 
-/// A result may be an argument of its own call where elements do not need themselves.
+/// A result may be an argument of its own call if no element needs itself.
 pub fn several_results()
     ensures accepted { Every IsAccepted (two_results ∷ loop_through_pre ∷ exchanged ∷ []) }
     ensures second_from_first { HasVerdict two_results (trace "3 8") Passed }

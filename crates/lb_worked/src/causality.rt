@@ -1,4 +1,4 @@
-//! Cycles of elements that need themselves, and programs that look like one.
+//! Programs with an element that needs itself, and similar ones without.
 
 ghost use Rattle.std.specs.Prelude.{Some, ◌≡◌};
 ghost use Rattle.lb_check.specs.Acceptance.{IsFirst};
@@ -30,7 +30,7 @@ pub fn an_element_that_needs_itself()
     ensures with_an_observer { IsFirst through_the_observer (Some E13) }
 {}
 
-/// Needs go by scalar elements, and not through `pre` or the second side of `fby`.
+/// Needs are between scalar elements; none passes through `pre` or the second side of `fby`.
 pub fn elements_that_do_not_need_themselves()
     ensures result_as_an_argument { IsAccepted one_after_the_other }
     ensures through_pre { IsAccepted through_pre }

@@ -29,7 +29,7 @@ ghost use Rattle.lb_worked.specs.WorkedClocks.{clocks_in_a_circle, circle_of_lit
 ghost use Rattle.lb_worked.specs.WorkedClocks.{input_clocked_by_a_local, iterated_clocked_node};
 ghost use Rattle.lb_worked.specs.WorkedClocks.{clocked_root, slow_assertion, asserted_call};
 
-/// The counter runs where `c` is true, keeps its memory elsewhere, and `current` brings it back.
+/// The counter runs where `c` is true; elsewhere it waits, and `current` holds its last value.
 pub fn a_counter_on_a_slower_clock()
     ensures accepted { IsAccepted slower_counter }
     ensures latest_value { HasVerdict slower_counter (trace "f 1 0; t 1 1; f 1 1; t 1 2") Passed }
@@ -37,8 +37,8 @@ pub fn a_counter_on_a_slower_clock()
     ensures no_tick_no_change { HasVerdict slower_counter (trace "f 1 0; t 1 1; f 1 2") (False 2) }
 {}
 
-/// Before the first tick `current` is nil. An arrow guards it where the first instant is a tick or
-/// has a value of its own, and a Boolean that remembers the first tick guards it everywhere.
+/// Before the first tick `current` is nil. An arrow guards the first instant alone; a Boolean that
+/// remembers the first tick guards every instant.
 pub fn current_before_the_first_tick()
     ensures accepted { Every IsAccepted (unguarded_counter ∷ known_counter ∷ []) }
     ensures nil_is_undefined { HasVerdict unguarded_counter (trace "f 1 0; t 1 1") (Undefined 0) }
@@ -47,7 +47,7 @@ pub fn current_before_the_first_tick()
     ensures remembered { HasVerdict known_counter (trace "f 1; f 1; t 1; f 1") Passed }
 {}
 
-/// A clock variable that is nil ticks for neither sign, and is undefined.
+/// A clock variable that is nil ticks for neither sign, and makes the verdict undefined.
 pub fn nil_in_a_clock()
     ensures accepted { Every IsAccepted (nil_clock ∷ guarded_clock ∷ []) }
     ensures nil_is_undefined { HasVerdict nil_clock (trace "t 1; t 2") (Undefined 0) }
@@ -89,7 +89,7 @@ pub fn what_stands_for_a_clock_parameter()
         (trace "5 5; -1 5") Passed }
 {}
 
-/// Such a call runs on the clock of the place where it stands.
+/// A call whose arguments determine no clock runs on the clock of the place where it stands.
 pub fn calls_whose_arguments_determine_no_clock()
     ensures accepted { IsAccepted slower_call_without_arguments }
     ensures no_arguments { HasVerdict slower_call_without_arguments (trace "t 1; f 1; t 2") Passed }

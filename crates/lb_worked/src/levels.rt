@@ -1,8 +1,8 @@
-//! The levels of expressions: what binds how.
+//! The levels of expressions: which operator binds more tightly.
 
 ghost use Rattle.lb_worked.specs.WorkedLevels.{AreLevels};
 
-/// Each example spells one tree and no other, or none at all.
+/// Each example spells exactly one tree, or none.
 pub fn levels()
     ensures { AreLevels }
 {}

@@ -14,7 +14,7 @@ ghost use Rattle.lb_static.specs.Instantiation.{instantiation_refusal};
 ghost use Rattle.lb_syntax.specs.Refusals.{E12};
 ghost use Rattle.lb_worked.specs.WorkedLimits.{chain, mapped, long_array};
 
-/// There are at most 64 levels: the walk over a chain of 64 nodes finds nothing, over 65 it does.
+/// There are at most 64 levels: a chain of 64 nodes passes the walk, one of 65 is refused.
 pub fn levels()
     ensures chain_of_64_nodes { instantiation_refusal (chain 62) 0 (instances (chain 62)) ≡ None }
     ensures chain_of_65_nodes { instantiation_refusal (chain 63) 0 (instances (chain 63))

@@ -17,7 +17,7 @@ ghost use Rattle.lb_worked.specs.WorkedArrays.{counters, static_parameter, obser
 ghost use Rattle.lb_worked.specs.WorkedClocks.{slower_counter};
 ghost use Rattle.lb_worked.specs.WorkedSamples.{element_of};
 
-/// The elements of a program are counted from 0 on, instance by instance, the observer last.
+/// The elements of a program are numbered from 0 on, instance by instance, the observer last.
 pub fn numbers_of_elements()
     ensures of_an_array { numbers_of counters Root (codes "S") ≡ 5 ∷ 6 ∷ 7 ∷ [] }
     ensures of_an_iterated_node { numbers_of counters (Child Root 0 2) (codes "n") ≡ 13 ∷ [] }
@@ -34,8 +34,8 @@ pub fn numbers_of_elements()
     ensures at_a_number { slice_get (program_elements counters) 6 ≡ Some (element_of Root "S" 1) }
 {}
 
-/// In every accepted program the number of an element is its place among all, and the numbers of
-/// all variables, in the order of instantiation, are those from 0 on.
+/// In every program without a static refusal, the number of an element is its place among all. In
+/// the order of instantiation the variables have the numbers from 0 on, without gaps.
 pub fn numbers_and_places()
     ensures number { (P : Program) → static_refusal P ≡ None →
         (i : ℕ) (x : Element) → slice_get (program_elements P) i ≡ Some x →
@@ -55,8 +55,8 @@ pub fn numbers_and_places()
         (variables here.node) }
 {}
 
-/// In every accepted program the kind at the number of an element is that of its variable, and the
-/// scalar inputs come first.
+/// In every program without a static refusal, the kind at the number of an element is that of its
+/// variable, and the scalar inputs come first.
 pub fn kinds_and_inputs()
     ensures as_many { (P : Program) → length (element_kinds P) ≡ length (program_elements P) }
     ensures kind { (P : Program) → static_refusal P ≡ None →

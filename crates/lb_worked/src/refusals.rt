@@ -1,4 +1,4 @@
-//! One refusal each, with near programs that are accepted, and the order of refusals.
+//! Programs that are refused for one reason, similar accepted ones, and the order of refusals.
 
 ghost use Rattle.std.specs.Prelude.{Some, ◌≡◌};
 ghost use Rattle.lb_syntax.specs.Refusals.{E4, E5, E6, E7, E8, E9, E10, E11};
@@ -42,7 +42,7 @@ ghost use Rattle.lb_worked.specs.WorkedRefusals.{instantiation_before_the_interf
 ghost use Rattle.lb_worked.specs.WorkedRefusals.{interface_before_types, types_before_clocks};
 ghost use Rattle.lb_worked.specs.WorkedRefusals.{clocks_before_definitions};
 
-/// E4: every name has one meaning; only what is reached is looked at, but for doubled names.
+/// E4: every name has one meaning. In text that is not reached, only doubled names count.
 pub fn names()
     ensures nothing_wrong { IsAccepted nothing_wrong }
     ensures unknown_name { refusal unknown_name ≡ Some E4 }
@@ -120,7 +120,7 @@ pub fn definitions()
     ensures unreached_function_with_a_memory { IsAccepted unreached_function_with_a_memory }
 {}
 
-/// Names, recursion, the walk by instances, the shape, types, clocks, definitions.
+/// Names, recursion, parameters, the walk by instances, interface, types, clocks, definitions.
 pub fn the_order_of_refusals()
     ensures call_before_its_arguments { refusal call_before_its_arguments ≡ Some E6 }
     ensures arguments_after_their_call { refusal arguments_after_their_call ≡ Some E5 }

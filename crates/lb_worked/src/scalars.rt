@@ -35,7 +35,7 @@ pub fn how_traces_are_written()
     ensures two_instants_without_inputs { trace ";" ≡ ([] ∷ [] ∷ []) }
 {}
 
-/// A sum of inputs stays below ten.
+/// The property: the sum of the inputs after the first stays below ten.
 pub fn the_counter_of_the_first_run()
     ensures accepted { Every IsAccepted (counter ∷ assuming_counter ∷ []) }
     ensures false_where_the_sum_is_eleven { HasVerdict counter (trace "1; 5; 6") (False 2) }
@@ -43,7 +43,7 @@ pub fn the_counter_of_the_first_run()
     ensures assertion_first { HasVerdict assuming_counter (trace "1; 5; 6") (Assertion_fails 2) }
 {}
 
-/// A result out of the range of `int` is a fault; one at the bound is none.
+/// A result out of the range of `int` is a fault; one at the bound is not.
 pub fn overflow_at_the_bound()
     ensures accepted { IsAccepted increment }
     ensures fault_past_the_greatest { HasVerdict increment (trace "0; 2147483647") (Fault 1) }
@@ -79,8 +79,8 @@ pub fn a_fault_in_what_is_not_needed()
     ensures under_at_most_one { HasVerdict strict_count (trace "5 0") (Fault 0) }
 {}
 
-/// At one instant a fault comes before what is undefined, that before an assertion, and that before
-/// the property.
+/// At one instant a fault counts first, then an undefined value, then a failed assertion, then the
+/// property.
 pub fn the_order_at_one_instant()
     ensures accepted { Every IsAccepted (all_three ∷ without_a_fault ∷ property_alone
         ∷ nil_beside_a_fault ∷ nil_beside_an_assertion ∷ []) }
@@ -91,14 +91,14 @@ pub fn the_order_at_one_instant()
     ensures property_last { HasVerdict property_alone (trace "0") (False 0) }
 {}
 
-/// An assertion that fails later does not excuse the property, nor the other way round.
+/// The first instant at which the assertion or the property fails decides.
 pub fn the_first_instant_decides()
     ensures accepted { IsAccepted assumed }
     ensures assertion_first { HasVerdict assumed (trace "t t; f t; t t; t f") (Assertion_fails 1) }
     ensures property_first { HasVerdict assumed (trace "t t; t f; t t; f t") (False 1) }
 {}
 
-/// The tables of the operators of truths, of the comparisons, and of `#` and `nor`.
+/// The tables of the Boolean operators, of the comparisons, and of `#` and `nor`.
 pub fn operators_of_data()
     ensures accepted { Every IsAccepted
         (logic ∷ equality_of_truths ∷ comparisons ∷ counting ∷ []) }
@@ -110,7 +110,7 @@ pub fn operators_of_data()
     ensures three_are_too_many { HasVerdict counting (trace "f f t; t t t") (False 1) }
 {}
 
-/// `->` and `fby` give their first operand at the first instant, at which `pre` is nil.
+/// At the first instant `->` and `fby` give their first operand, and `pre` is nil.
 pub fn first_instants()
     ensures accepted { Every IsAccepted (first_then ∷ followed ∷ before_the_first
         ∷ truth_before_the_first ∷ guarded_truth ∷ two_instants_before ∷ []) }
@@ -122,7 +122,7 @@ pub fn first_instants()
     ensures one_arrow_for_two_pre { HasVerdict two_instants_before (trace "t; t") (Undefined 1) }
 {}
 
-/// A data operator with a nil operand gives nil, which is no fault; but a faulty operand makes one.
+/// A data operator with a nil operand gives nil, and no fault; a faulty operand makes a fault.
 pub fn nil_in_operators_of_data()
     ensures accepted { Every IsAccepted (nil_by_zero ∷ one_by_nil ∷ fault_beside_nil ∷ nil_under_or
         ∷ nil_counted ∷ nil_under_nor ∷ []) }
@@ -143,7 +143,7 @@ pub fn nil_in_if()
     ensures nil_in_the_chosen_branch { HasVerdict nil_branch (trace "f") (Undefined 0) }
 {}
 
-/// An assertion that is nil is undefined, whatever the property.
+/// An assertion that is nil makes the verdict undefined, whatever the property is.
 pub fn nil_in_an_assertion()
     ensures accepted { IsAccepted nil_assertion }
     ensures before_a_false_property { HasVerdict nil_assertion (trace "f") (Undefined 0) }

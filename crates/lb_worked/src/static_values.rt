@@ -1,4 +1,4 @@
-//! Static values, signatures, instances and what is reached.
+//! Static values, signatures, instances and reached names.
 
 ghost use Rattle.std.specs.Prelude.{List, None, Some, [], codes, length, negsuc, pos, slice_get};
 ghost use Rattle.std.specs.Prelude.{◌∷◌, ◌≡◌};
@@ -40,7 +40,7 @@ pub fn constants_of_a_program()
     ensures past_the_greatest { value_of constants "e" ≡ None }
 {}
 
-/// The scalar inputs of the node under test, the first index slowest.
+/// The scalar inputs of the node under test; in an array the first index changes slowest.
 pub fn signatures()
     ensures elements_of_a_matrix { input_names matrix_and_scalar ≡
         names "m[0][0] m[0][1] m[0][2] m[1][0] m[1][1] m[1][2] e" }
@@ -51,7 +51,7 @@ pub fn signatures()
     ensures kinds { input_kinds size_by_a_constant ≡ (Int ∷ Int ∷ Bool ∷ []) }
 {}
 
-/// Each instance before those below it; a call before those in its arguments; the observer last.
+/// Each instance comes before those below it, a call before its arguments, the observer last.
 pub fn instances_in_order()
     ensures nodes { callees nested_calls ≡ names "main f g g f g f g" }
     ensures places { paths nested_calls ≡
@@ -68,7 +68,8 @@ pub fn instances_in_order()
         (Root ∷ Child Root 0 0 ∷ Observer ∷ Child Observer 0 0 ∷ []) }
 {}
 
-/// The node under test, and what reached nodes and constants name; a variable hides a constant.
+/// The node under test is reached, and so is what reached nodes and constants name. A variable
+/// hides a constant.
 pub fn what_is_reached_by_name()
     ensures nodes { reached_names partly_reached ≡ names "near far2 main" }
     ensures constants { reached_constant_names partly_reached ≡ names "a b e" }

@@ -1,4 +1,4 @@
-//! The tokens of a text, where they begin, and what is counted of them.
+//! The tokens of a text, their offsets, and the number of those that are counted.
 
 ghost use Rattle.std.specs.Prelude.{Some, None, [], map, ◌∷◌, ◌≡◌};
 ghost use Rattle.lb_syntax.specs.declared.token.Mark.TheVariants as m;
@@ -9,7 +9,7 @@ ghost use Rattle.lb_worked.specs.WorkedTexts.{line_comment, bytes_in_comments, n
 ghost use Rattle.lb_worked.specs.WorkedTexts.{on_the_second_line, longest_symbols, literals, names};
 ghost use Rattle.lb_worked.specs.WorkedTexts.{reserved_words, reserved, symbols};
 
-/// Comments do not nest, and their ends are looked for after their openings.
+/// Comments do not nest. The end of a comment stands after its opening: `(*)` is not closed.
 pub fn comments_and_white_space()
     ensures empty { tokens_of "" ≡ Some [] }
     ensures comments_do_not_nest { tokens_of "(* a (* b *) node" ≡ Some (mark m.Node ∷ []) }
@@ -24,7 +24,7 @@ pub fn comments_and_white_space()
     ensures a_byte_after_comments { wrong_at bytes_in_comments ≡ Some 11 }
 {}
 
-/// Some bytes stand in comments alone; the first of a text is the one that is named.
+/// Some bytes are allowed in comments alone; the first one outside of them is reported.
 pub fn bytes_of_no_token()
     ensures offsets { map (λ b. wrong_at (on_the_second_line b)) no_token
         ≡ map (λ b. Some 11) no_token }
@@ -51,7 +51,7 @@ pub fn words_and_symbols()
         ∷ 17 ∷ 18 ∷ 19 ∷ 20 ∷ 21 ∷ 22 ∷ []) }
 {}
 
-/// How many tokens of each statement are counted.
+/// The number of counted tokens in each statement.
 pub fn counted_tokens()
     ensures of_equations { counts "let x = (y); z = w; tel" ≡ (0 ∷ 2 ∷ 1 ∷ 0 ∷ 0 ∷ []) }
     ensures semicolon_in_brackets { counts "map<<f<<1>>;3>>(x);y" ≡ (3 ∷ 0 ∷ []) }

@@ -1,4 +1,4 @@
--- A lane that is live has each of the instants.
+-- A live lane has each of the instants.
 use Rattle.std.proofs.Common.{◌<◌, ◌≡◌, ◌+◌, ◌-◌, ◌∙◌, ap, get_or, arith}
 use Rattle.lb_static.specs.Signature.{kinds_of}
 use Rattle.lb_traces.specs.Traces.{cell_at}

@@ -1,4 +1,4 @@
--- One kind more.
+-- One more kind is equal.
 use Rattle.std.proofs.Common.{◌≡◌, ◌<◌, ◌∙◌, ℕ, List, length, get_or, take, arith, rules, true, ◌+◌}
 use Rattle.std.specs.Prelude.{slice_get, Some}
 use Rattle.std.proofs.lemmas.List.{length-map, take_more_same}

@@ -1,4 +1,4 @@
--- The verdicts are those that the lanes have put.
+-- The verdicts of the batch are those that the lanes have put.
 use Rattle.std.proofs.Common.{length, sym, ap, ◌∙◌, subst, arith, rules}
 use Rattle.std.proofs.lemmas.List.{with_items_is, places}
 use Rattle.lb_flat.specs.Programs.{program_of}

@@ -1,4 +1,4 @@
--- Lanes take members that wait, and then run while the same ones go on, until none is pending.
+-- Lanes take members that wait, and then run while the same lanes go on, until no lane is pending.
 use Rattle.std.proofs.Common.{◌≡◌, ◌<◌, ◌∙◌, refl, sym, subst, arith, rules}
 use Rattle.std.proofs.Common.{inl, inr, ◌^◌}
 use Rattle.std.proofs.lemmas.Bool.{cases_eq}
@@ -9,7 +9,7 @@ use Rattle.lb_lanes.specs.declared.planes.Plane.{Plane}
 use Rattle.lb_lanes.proofs.OnPlanes.{SetBit, some_on}
 use Rattle.lb_sim.specs.Progress.{AreRunTo}
 use Rattle.lb_sim.specs.declared.program.LaneProgram.{LaneProgram}
-use Rattle.lb_sim.proofs.RunningQueues.{all_begin, all_judged, all_stretched, never_past}
+use Rattle.lb_sim.proofs.RunningQueues.{all_begin, all_judged, all_ranged, never_past}
 use Rattle.lb_sim.proofs.RunningQueues.{none_goes, steps_or_takes}
 use Rattle.lb_sim.proofs.batch.run_lanes.Goals as goal
 
@@ -63,8 +63,8 @@ settle-next-requires-clause-takes g c k v l right =
     IsVerdictOf (program_of p.program.now) queue.set.now (get_or queue.members.now k 0) v)
     now.invariant.done.program_is right))
 
-pub run_stretch-requires-clause-members : goal.run_stretch-requires-clause-members
-run_stretch-requires-clause-members g c = c.settle-next.ensures.so_far.traces_within
+pub run_range-requires-clause-members : goal.run_range-requires-clause-members
+run_range-requires-clause-members g c = c.settle-next.ensures.so_far.traces_within
 
 pub returns-then-left-eq0-clause-judged : goal.returns-then-left-eq0-clause-judged
 returns-then-left-eq0-clause-judged g c =
@@ -90,7 +90,7 @@ loop-run-smaller g c =
     let mid = c.settle-next.new in
     let next = c.settle-next.result in
     let has = g.V.Verdicts.has mid.verdicts in
-    let e = c.run_stretch.ensures in
+    let e = c.run_range.ensures in
     let so_far =
     subst
     (λ (q : LaneProgram).
@@ -99,19 +99,19 @@ loop-run-smaller g c =
     now.invariant.done.program_is c.settle-next.ensures.so_far in
     let some : SetBit mid.left.pending.0 64 =
     some_on mid.left.pending.0 64 so_far.fits so_far.fits (omega (arith, c.if-left-eq0.false)) in
-    let less : c.run_stretch.new.run.steps ≡ mid.run.steps → mid.left.rest < now.left.rest =
+    let less : c.run_range.new.run.steps ≡ mid.run.steps → mid.left.rest < now.left.rest =
     steps_or_takes p queue.set.now queue.members.now queue.lanes queue.few queue.enough
-    queue.within mid.run c.run_stretch.new.run mid.traces mid.places mid.left.pending.0
+    queue.within mid.run c.run_range.new.run mid.traces mid.places mid.left.pending.0
     now.left.rest mid.left.rest has so_far c.settle-next.ensures.go_on some
     (λ same.
     none_goes p queue.set.now queue.members.now queue.lanes queue.few queue.enough queue.within
-    mid.run c.run_stretch.new.run mid.traces mid.places mid.left.pending.0 mid.left.rest has
+    mid.run c.run_range.new.run mid.traces mid.places mid.left.pending.0 mid.left.rest has
     next.lanes next.until so_far c.settle-next.ensures.running e.program e.begins e.within
     e.fewer e.come same (e.rest same) (e.still same)) in
     let steps = c.settle-next.ensures.steps in
     let fewer = c.settle-next.ensures.fewer in
     let begun = e.begun in
-    elim (cases_eq c.run_stretch.new.run.steps mid.run.steps) [
+    elim (cases_eq c.run_range.new.run.steps mid.run.steps) [
       | inl same ↦
           (let below = less same in
           omega (arith, steps, same, below, c.loop-run-test.true))
@@ -126,11 +126,11 @@ loop-run-preserved g c =
     let mid = c.settle-next.new in
     let next = c.settle-next.result in
     let has = g.V.Verdicts.has mid.verdicts in
-    let e = c.run_stretch.ensures in
+    let e = c.run_range.ensures in
     record {
       done =
-          all_stretched p queue.set.now queue.members.now queue.lanes queue.few queue.enough
-          queue.within mid.run c.run_stretch.new.run mid.traces mid.places mid.left.pending.0
+          all_ranged p queue.set.now queue.members.now queue.lanes queue.few queue.enough
+          queue.within mid.run c.run_range.new.run mid.traces mid.places mid.left.pending.0
           mid.left.rest has next.lanes next.until
           (subst
           (λ (q : LaneProgram).

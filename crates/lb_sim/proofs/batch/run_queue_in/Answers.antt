@@ -1,4 +1,4 @@
--- The verdict that the slice has of a member is the right one.
+-- The verdict of each member in the slice is the right one.
 use Rattle.std.proofs.Common.{get_or, rules, subst}
 use Rattle.lb_flat.specs.Correct.{IsVerdictOf}
 use Rattle.lb_flat.specs.Programs.{program_of}

@@ -1,4 +1,4 @@
--- Where lanes are settled, their verdicts are kept, and members that wait take these lanes.
+-- The verdicts of settled lanes are kept, and members that wait take these lanes.
 use Rattle.std.proofs.Common.{◌≡◌, ◌<◌, ◌&&◌, ◌||◌, ℕ, not, sym, ap, ◌∙◌, subst, arith, rules}
 use Rattle.lb_lanes.specs.Planes.{on}
 use Rattle.lb_lanes.proofs.OnPlanes.{SetBit, some_on}
@@ -45,15 +45,15 @@ returns-then-settled-eq0-clause-running g c =
     next.until)
     c.as_slice.ensures.value c.running_at-next.ensures
 
-pub hand_on-taken-requires-clause-rest : goal.hand_on-taken-requires-clause-rest
-hand_on-taken-requires-clause-rest g c =
+pub refill-taken-requires-clause-rest : goal.refill-taken-requires-clause-rest
+refill-taken-requires-clause-rest g c =
     (c.requires.so_far.rest_least, c.requires.so_far.rest_most)
 
-pub hand_on-taken-requires-clause-there : goal.hand_on-taken-requires-clause-there
-hand_on-taken-requires-clause-there g c = c.requires.so_far.places_within
+pub refill-taken-requires-clause-there : goal.refill-taken-requires-clause-there
+refill-taken-requires-clause-there g c = c.requires.so_far.places_within
 
-pub hand_on-taken-requires-clause-right : goal.hand_on-taken-requires-clause-right
-hand_on-taken-requires-clause-right g c i l e =
+pub refill-taken-requires-clause-right : goal.refill-taken-requires-clause-right
+refill-taken-requires-clause-right g c i l e =
     let queue = c.args.queue.now in
     let r = queue.set.now in
     let run = c.args.run.now in
@@ -85,7 +85,7 @@ running_at-requires-clause-members g c =
     let pending = c.args.left.now.pending.0 in
     let next = c.running_at-next.result in
     let settled = c.settled_lanes-settled.result.0 in
-    let taken = c.hand_on-taken in
+    let taken = c.refill-taken in
     let runs : AreRunning r traces run.begins.items run.steps next.lanes next.until =
     subst (λ bs. AreRunning r traces bs run.steps next.lanes next.until)
     c.as_slice.ensures.value c.running_at-next.ensures in
@@ -119,7 +119,7 @@ returns-clause-so_far g c =
     let pending = c.args.left.now.pending.0 in
     let next = c.running_at-next.result in
     let settled = c.settled_lanes-settled.result.0 in
-    let taken = c.hand_on-taken in
+    let taken = c.refill-taken in
     let runs : AreRunning r traces run.begins.items run.steps next.lanes next.until =
     subst (λ bs. AreRunning r traces bs run.steps next.lanes next.until)
     c.as_slice.ensures.value c.running_at-next.ensures in
@@ -151,7 +151,7 @@ returns-clause-go_on g c =
     let pending = c.args.left.now.pending.0 in
     let next = c.running_at-next.result in
     let settled = c.settled_lanes-settled.result.0 in
-    let taken = c.hand_on-taken in
+    let taken = c.refill-taken in
     let runs : AreRunning r traces run.begins.items run.steps next.lanes next.until =
     subst (λ bs. AreRunning r traces bs run.steps next.lanes next.until)
     c.as_slice.ensures.value c.running_at-next.ensures in
@@ -176,7 +176,7 @@ returns-clause-go_on g c =
 
 pub returns-clause-running : goal.returns-clause-running
 returns-clause-running g c =
-    let taken = c.hand_on-taken in
+    let taken = c.refill-taken in
     let next = c.running_at.result in
     subst
     (λ bs.

@@ -1,4 +1,4 @@
--- One plane more that is as the one.
+-- One more plane equals `one`.
 use Rattle.std.proofs.Common.{◌≡◌, ◌==◌, true, arith}
 use Rattle.lb_machine.specs.declared.instruction.PlaneId.{PlaneId}
 use Rattle.lb_sim.proofs.Choosing.{none_as, as_more, all_as}

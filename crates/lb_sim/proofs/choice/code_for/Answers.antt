@@ -1,4 +1,4 @@
--- The steady code where the lanes suit it, and else the one that any lane suits.
+-- The steady code where the lanes suit it, and else the code that any lane suits.
 use Rattle.std.proofs.Common.{◌<◌, All, sym, subst}
 use Rattle.lb_machine.specs.declared.instruction.PlaneId.{PlaneId}
 use Rattle.lb_sim.proofs.LanePrograms.{clear_within, set_within, suits_any}

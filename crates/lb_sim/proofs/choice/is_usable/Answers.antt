@@ -1,5 +1,5 @@
--- The planes that the code takes to be false are as one that is false everywhere, and the others as
--- one that is true everywhere.
+-- The planes that the code takes to be false equal the plane that is false everywhere, and those
+-- that it takes to be true equal the plane that is true everywhere.
 use Rattle.std.proofs.Common.{◌≡◌, All, ap, ◌∙◌, subst, rules}
 use Rattle.std.specs.Prelude.{not, slice_index, true, false}
 use Rattle.lb_lanes.specs.Planes.{on}

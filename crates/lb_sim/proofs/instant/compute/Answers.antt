@@ -8,7 +8,7 @@ pub returns-clause-computed : goal.returns-clause-computed
 returns-clause-computed c i h =
     let p = c.args.program.now in
     let x = c.args.inputs.now in
-    let e = c.hand_over.ensures in
+    let e = c.put_instant.ensures in
     let r = c.run.ensures in
     computed p c.args.code.now c.requires.law (length x.planes.items) (length x.words.items)
     (x.planes_room
@@ -17,8 +17,8 @@ returns-clause-computed c i h =
     (x.words_room
     ∙ x.columns.all_numbers
     ∙ ap (λ ks. length (number_columns 0 ks)) c.requires.signature)
-    c.args.planes.now c.hand_over.new.planes c.run.new.planes c.args.words.now
-    c.hand_over.new.words c.run.new.words e.first_planes e.other_planes e.first_words
+    c.args.planes.now c.put_instant.new.planes c.run.new.planes c.args.words.now
+    c.put_instant.new.words c.run.new.words e.first_planes e.other_planes e.first_words
     e.other_words r.first_planes r.first_words i x.columns.kinds.items _
     (on c.args.lanes.0 i) c.requires.signature (e.rows i h) (c.requires.constants i h)
     (c.requires.constant_words i h) (λ there. r.done i (c.of.ensures i h there))

@@ -1,4 +1,4 @@
--- The lowest bit that is set, of those from a lane on.
+-- The next lane is the lowest set bit from `from` on.
 use Rattle.std.proofs.Common.{◌+◌, ◌/◌, ◌^◌, arith, rules, w64}
 use Rattle.std.specs.Int.{trailing_zeros}
 use Rattle.lb_sim.proofs.LaneBits.{lowest_from, none_from, IsNext}

@@ -9,7 +9,7 @@ use Rattle.lb_sim.specs.InputRows.{begin_of, truth_columns}
 use Rattle.lb_sim.proofs.LaneBits.{bit_there}
 use Rattle.lb_sim.proofs.loads.bits_of.Goals as goal
 
--- a lane that is live has each of the instants
+-- a live lane has each of the instants
 pub bits-requires-clause-instants : goal.bits-requires-clause-instants
 bits-requires-clause-instants c =
     let at = c.args.at.now in

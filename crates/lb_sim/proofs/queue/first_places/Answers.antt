@@ -1,4 +1,4 @@
--- One lane more has its place.
+-- One more lane has its place.
 use Rattle.std.proofs.Common.{◌≡◌, get_or, set, ◌∙◌, arith, below_more, length-set}
 use Rattle.std.proofs.lemmas.List.{get_or-set_same, get_or-set_other}
 use Rattle.lb_sim.proofs.queue.first_places.Goals as goal

@@ -1,4 +1,4 @@
--- One lane more has its trace.
+-- One more lane has its trace.
 use Rattle.std.proofs.Common.{◌≡◌, ◌<◌, length, get_or, set, subst, sym, ap, ◌∙◌}
 use Rattle.std.proofs.Common.{arith, below_more, length-set}
 use Rattle.std.proofs.lemmas.List.{get_or_default, get_or-set_same, get_or-set_other}

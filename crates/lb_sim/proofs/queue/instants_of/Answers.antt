@@ -1,4 +1,4 @@
--- One trace more is counted.
+-- One more trace is counted.
 use Rattle.std.proofs.Common.{◌+◌, sym, ap, ap₂, ◌∙◌, arith}
 use Rattle.std.specs.List.{sum_by}
 use Rattle.std.proofs.lemmas.List.{take_all}

@@ -1,4 +1,4 @@
--- One verdict more is kept, which is the right one.
+-- One more right verdict is kept.
 use Rattle.std.proofs.Common.{ℕ, ◌<◌, get_or, sym, subst, ◌∙◌, arith, inl, inr}
 use Rattle.std.proofs.lemmas.Bool.{cases_eq, cases_lt, true≢false}
 use Rattle.lb_flat.specs.Correct.{IsVerdictOf}

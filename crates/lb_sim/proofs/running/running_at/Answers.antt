@@ -9,9 +9,9 @@ loop-i-init c =
 
 pub loop-i-preserved : goal.loop-i-preserved
 loop-i-preserved c =
-    let e = c.sooner-until.ensures in
+    let e = c.earlier_end-until.ensures in
     running_more c.args.set.now c.args.members.now c.args.begins.now c.args.t c.loop-i.lanes
-    c.with_running-lanes.result c.loop-i.until c.sooner-until.result c.loop-i.i
+    c.with_running-lanes.result c.loop-i.until c.earlier_end-until.result c.loop-i.i
     _ c.loop-i.invariant (omega (arith, c.requires.few, c.loop-i-test.true))
     (ap (λ n. get_or c.args.begins.now c.loop-i.i 0 + n) c.length.ensures.instants) e.later
     e.until e.end c.with_running-lanes.ensures

@@ -18,7 +18,7 @@ use Rattle.lb_syntax.proofs.Parses.{only_program}
 use Rattle.lb_worked.specs.WorkedPrograms.{whole_text, whole_tree}
 use Rattle.lb_worked.proofs.programs.whole_program.Goals as goal
 
--- its tokens
+-- the tokens of `whole_text`
 whole_tokens : List Token
 unfolding word value_of piece pieces_after
 whole_tokens = elim (tokens whole_text) as (λ o. List Token) [ None ↦ [] | Some ts ↦ ts ]

@@ -50,7 +50,7 @@ load_numbers-requires-clause-room c =
     same ∙ x.words_room ∙ x.columns.all_numbers
     ∙ ap (λ kinds. length (number_columns 0 kinds)) (sym c.requires.kinds)
 
--- each lane began with the batch
+-- the trace of each lane began with the batch
 pub invariant_of-at-clause-there : goal.invariant_of-at-clause-there
 invariant_of-at-clause-there c i h e =
     amid_from_start c.args.set.now c.args.members.now 64 c.args.t i h (c.requires.live i h e)

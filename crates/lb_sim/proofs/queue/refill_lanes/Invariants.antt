@@ -1,7 +1,7 @@
 use Rattle.std.proofs.Common.{◌≡◌, ◌<◌, ◌≤◌, ◌-◌, true}
 use Rattle.lb_lanes.specs.Planes.{on}
 use Rattle.lb_sim.proofs.Queueing.{TakenSoFar}
-use Rattle.lb_sim.proofs.queue.take_places.Given as goal
+use Rattle.lb_sim.proofs.queue.refill_lanes.Given as goal
 
 abbrev pub invariant-loop-left : goal.invariant-loop-left
 invariant-loop-left l = record {

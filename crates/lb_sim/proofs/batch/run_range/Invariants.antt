@@ -3,7 +3,7 @@ use Rattle.lb_lanes.specs.Planes.{on}
 use Rattle.lb_sim.specs.BatchLanes.{end_in}
 use Rattle.lb_sim.specs.Inputs.{IsAhead}
 use Rattle.lb_sim.proofs.RunningBatches.{AreComeTo}
-use Rattle.lb_sim.proofs.batch.run_stretch.Given as goal
+use Rattle.lb_sim.proofs.batch.run_range.Given as goal
 
 abbrev pub invariant-loop-t : goal.invariant-loop-t
 invariant-loop-t l = record {

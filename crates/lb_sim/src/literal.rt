@@ -12,27 +12,27 @@ use crate::place::Value;
 use lb_machine::{Code, PlaneId, PlaneOperator};
 use std::alloc::AllocError;
 
-/// A truth in each lane: that a plane is as the sign.
+/// A truth in each lane: it is true where the plane equals the sign.
 #[derive(Clone, Copy)]
-pub(crate) struct Signed {
+pub(crate) struct Literal {
     pub(crate) plane: PlaneId,
     pub(crate) sign: bool,
 }
 
 /// The truth that a value is, if it is one.
-pub(crate) fn truth_of(v: Value) -> Option<Signed>
+pub(crate) fn truth_of(v: Value) -> Option<Literal>
     ensures truth { IfSome result (IsTruth v) }
     ensures number { result ≡ None → value_kind v ≡ Int_kind }
 {
     match v {
-        Value::Truth(plane) => Some(Signed { plane, sign: true }),
-        Value::Negated(plane) => Some(Signed { plane, sign: false }),
+        Value::Truth(plane) => Some(Literal { plane, sign: true }),
+        Value::Negated(plane) => Some(Literal { plane, sign: false }),
         Value::Number(_) => None,
     }
 }
 
-impl Signed {
-    /// As a value.
+impl Literal {
+    /// The value of this truth.
     pub(crate) fn value(self) -> Value
         ensures { IsTruth result self }
     {
@@ -43,21 +43,21 @@ impl Signed {
         }
     }
 
-    /// True where this one is not.
-    pub(crate) fn negation(self) -> Signed
+    /// The negation: true where this truth is false.
+    pub(crate) fn negation(self) -> Literal
         ensures plane { result.plane ≡ self.plane }
         ensures truth { (s : Lane) → truth_at s result ≡ not (truth_at s self) }
     {
-        Signed {
+        Literal {
             plane: self.plane,
             sign: !self.sign,
         }
     }
 }
 
-/// Where both are true.
+/// The conjunction: true where both are true.
 #[tactic(auto, using(crate::proofs::Growth::grown_then, crate::proofs::Growth::grown_none))]
-pub(crate) fn both(code: &mut Code, a: Signed, b: Signed) -> Result<Signed, AllocError>
+pub(crate) fn both(code: &mut Code, a: Literal, b: Literal) -> Result<Literal, AllocError>
     requires left { a.plane.0 < code.old.planes }
     requires right { b.plane.0 < code.old.planes }
     requires room { HasRoom code.old 2 }
@@ -68,26 +68,26 @@ pub(crate) fn both(code: &mut Code, a: Signed, b: Signed) -> Result<Signed, Allo
     match (a.sign, b.sign) {
         (true, true) => {
             let plane = code.combine(PlaneOperator::And, a.plane, b.plane)?;
-            Ok(Signed { plane, sign: true })
+            Ok(Literal { plane, sign: true })
         }
         (true, false) => {
             let plane = code.combine(PlaneOperator::AndNot, a.plane, b.plane)?;
-            Ok(Signed { plane, sign: true })
+            Ok(Literal { plane, sign: true })
         }
         (false, true) => {
             let plane = code.combine(PlaneOperator::AndNot, b.plane, a.plane)?;
-            Ok(Signed { plane, sign: true })
+            Ok(Literal { plane, sign: true })
         }
         (false, false) => {
             let plane = code.combine(PlaneOperator::Or, a.plane, b.plane)?;
-            Ok(Signed { plane, sign: false })
+            Ok(Literal { plane, sign: false })
         }
     }
 }
 
-/// Where one is true and the other is not.
+/// The exclusive or: true where one is true and the other is not.
 #[tactic(auto, using(crate::proofs::Growth::grown_then, crate::proofs::Growth::grown_none))]
-pub(crate) fn differing(code: &mut Code, a: Signed, b: Signed) -> Result<Signed, AllocError>
+pub(crate) fn differing(code: &mut Code, a: Literal, b: Literal) -> Result<Literal, AllocError>
     requires left { a.plane.0 < code.old.planes }
     requires right { b.plane.0 < code.old.planes }
     requires room { HasRoom code.old 2 }
@@ -97,7 +97,7 @@ pub(crate) fn differing(code: &mut Code, a: Signed, b: Signed) -> Result<Signed,
         (IsTruthFor code.new (λ s. not (same (truth_at s a) (truth_at s b)))) }
 {
     let plane = code.combine(PlaneOperator::Xor, a.plane, b.plane)?;
-    Ok(Signed {
+    Ok(Literal {
         plane,
         sign: a.sign == b.sign,
     })

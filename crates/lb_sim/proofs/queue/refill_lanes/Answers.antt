@@ -1,7 +1,7 @@
--- The settled lanes have their turns one by one.
+-- The settled lanes take members one by one.
 use Rattle.std.proofs.Common.{◌+◌, ◌-◌, ◌<◌, arith}
 use Rattle.lb_sim.proofs.Queueing.{none_taken, taken_more, taken_on}
-use Rattle.lb_sim.proofs.queue.take_places.Goals as goal
+use Rattle.lb_sim.proofs.queue.refill_lanes.Goals as goal
 
 pub loop-left-init : goal.loop-left-init
 loop-left-init c =

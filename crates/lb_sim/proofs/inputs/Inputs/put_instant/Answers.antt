@@ -1,6 +1,6 @@
 use Rattle.std.proofs.Common.{◌∙◌}
 use Rattle.lb_sim.proofs.RowsLoaded.{row_handed}
-use Rattle.lb_sim.proofs.inputs.Inputs.hand_over.Goals as goal
+use Rattle.lb_sim.proofs.inputs.Inputs.put_instant.Goals as goal
 
 pub returns-clause-rows : goal.returns-clause-rows
 returns-clause-rows c i h =

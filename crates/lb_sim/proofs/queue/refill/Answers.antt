@@ -1,7 +1,7 @@
 -- The lanes that take members begin again.
 use Rattle.std.proofs.Common.{refl}
 use Rattle.lb_sim.proofs.Queueing.{nothing_taken, no_restart}
-use Rattle.lb_sim.proofs.queue.hand_on.Goals as goal
+use Rattle.lb_sim.proofs.queue.refill.Goals as goal
 
 pub returns-then-rest-queue-clause-taken : goal.returns-then-rest-queue-clause-taken
 returns-then-rest-queue-clause-taken g c =

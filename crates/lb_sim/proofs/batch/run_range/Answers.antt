@@ -1,4 +1,4 @@
--- Each lane comes an instant further in its trace, until no lane takes part or another one does.
+-- Each lane runs one more instant of its trace, until no lane takes part or another lane does.
 use Rattle.std.proofs.Common.{◌≡◌, ◌<◌, ◌≤◌, ◌&&◌, ℕ, List, [], get_or, sym, ap, ◌∙◌, subst, arith}
 use Rattle.std.proofs.Common.{refl, ◌+◌, true, rules}
 use Rattle.lb_syntax.specs.declared.tree.Kind.{Kind}
@@ -17,7 +17,7 @@ use Rattle.lb_sim.proofs.Batches.{moves_on}
 use Rattle.lb_sim.proofs.RunningBatches.{none_come, all_come, all_begun, have_instant}
 use Rattle.lb_sim.proofs.RunningBatches.{have_instants, running_later, none_there, none_ahead}
 use Rattle.lb_sim.proofs.RunningBatches.{one_within, still_ahead}
-use Rattle.lb_sim.proofs.batch.run_stretch.Goals as goal
+use Rattle.lb_sim.proofs.batch.run_range.Goals as goal
 
 pub loop-t-init : goal.loop-t-init
 loop-t-init c = record {
