@@ -1,4 +1,4 @@
--- What an iteration of the loops over equations keeps.
+-- Invariants of the loops over equations.
 use Rattle.std.proofs.Common.{◌≡◌, ◌<◌, ◌≤◌, ℕ, zero, suc, ◌+◌, List, [], ◌∷◌, length, map, drop}
 use Rattle.std.proofs.Common.{set, get_or, refl, sym, ap, ◌∙◌, subst, arith, All, add-one}
 use Rattle.std.proofs.Common.{length-set}
@@ -14,13 +14,13 @@ use Rattle.lb_flat.specs.Within.{IsWithin}
 use Rattle.lb_flat.specs.declared.equation.Clock.{Clock}
 use Rattle.lb_flat.specs.declared.equation.Equation.{Equation}
 use Rattle.lb_flat.specs.declared.equation.Operation.{Operation}
-use Rattle.lb_flat.proofs.Running.{reads_same, keeps_same}
+use Rattle.lb_flat.proofs.runs.Running.{reads_same, keeps_same}
 use Rattle.lb_history.specs.Cells.{cell_of}
 use Rattle.lb_history.specs.declared.cell.Cell.{Cell}
 
 -- ## The row
 
--- the rows so far give in the rest of some equations what the first row gives in all
+-- the equations from `i` on fill `row` as all equations fill `first`
 pub record IsFilling (clocks : List Clock) (given : List scalars.Scalar) (row first : List Cell)
     (all : List Equation) (i : ℕ) : Type 0 where
   pub as_long : length row ≡ length first
@@ -66,7 +66,7 @@ module _ (clocks : List Clock) (given : List scalars.Scalar) (row first : List C
 -- ## Memories
 
 module _ (row : Row) where
-  -- the equations from a place on move on
+  -- the equations with the memories from a place on moved to the next instant
   abbrev pub moved_from : ℕ → List FlatEquation → List FlatEquation
   moved_from zero Q = map (advanced row) Q
   moved_from (suc i) [] = []
@@ -87,7 +87,7 @@ module _ (row : Row) where
   moved_past (suc i) [] le = refl
   moved_past (suc i) (q ∷ Q) le = ap (λ qs. q ∷ qs) (moved_past i Q (omega arith))
 
--- those at the rest of the places bring the equations where all bring the first ones
+-- moving the memories from `i` on gives what moving those of all the `first` equations gives
 pub record IsCommitting (clocks : List Clock) (row : List Cell) (equations first : List Equation)
     (i : ℕ) : Type 0 where
   pub rest :
@@ -98,7 +98,7 @@ module _ (clocks : List Clock) (row : List Cell) (equations first : List Equatio
   module _ (d : Equation) (o : Operation) (lt : i < length equations)
       (is_o : operation_of o
       ≡ remembered (map cell_of row) (operation_of (get_or equations i d).operation)) where
-    -- the equation with its memory moved on
+    -- equation `i` with its memory moved to the next instant
     abbrev moved_on : Equation
     moved_on = record (get_or equations i d) { operation = o }
 

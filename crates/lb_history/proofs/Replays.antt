@@ -1,7 +1,7 @@
--- What an instant of a replay keeps.
-use Rattle.std.proofs.Common.{◌≡◌, ◌<◌, ◌≤◌, ℕ, zero, suc, ◌+◌, List, [], Some, None, length, map, All}
-use Rattle.std.proofs.Common.{get_or, slice_get, replicate, true, false, refl, sym, ap, ◌∙◌, arith}
-use Rattle.std.proofs.Common.{add-one, subst}
+-- Laws of `IsReplayed`: it holds before the first instant, and is kept by each one.
+use Rattle.std.proofs.Common.{◌≡◌, ◌<◌, ◌≤◌, ℕ, zero, suc, ◌+◌, List, [], Some, None, length, map}
+use Rattle.std.proofs.Common.{All, get_or, slice_get, replicate, true, false, refl, sym, ap, ◌∙◌}
+use Rattle.std.proofs.Common.{arith, add-one, subst}
 use Rattle.std.proofs.lemmas.List.{length-map, get_or-map, get_or_past}
 use Rattle.lb_check.specs.Solutions.{Inputs}
 use Rattle.lb_flat.specs.declared.equation.Clock.{Clock}
@@ -12,8 +12,8 @@ use Rattle.lb_flat.specs.InOrder.{is_in_order}
 use Rattle.lb_flat.specs.Programs.{flat_equations, program_of}
 use Rattle.lb_flat.specs.Run.{cell, advanced, filled, Ready}
 use Rattle.lb_flat.specs.Within.{IsWithin}
-use Rattle.lb_flat.proofs.InOrder.{ready_of}
-use Rattle.lb_flat.proofs.Rows.{filled_is}
+use Rattle.lb_flat.proofs.ordering.InOrder.{ready_of}
+use Rattle.lb_flat.proofs.runs.Rows.{filled_is}
 use Rattle.lb_history.specs.Cells.{cell_of}
 use Rattle.lb_history.specs.Replaying.{equations_before, row_at}
 use Rattle.lb_history.specs.Replays.{IsReplayed}
@@ -29,7 +29,7 @@ module _ (p : FlatProgram) (X : Inputs)
   pub program_ready : Ready p.size [] all
   program_ready = ready_of p.size all in_order
 
-  -- before the first instant
+  -- `IsReplayed` holds before the first instant
   pub replay_begun :
       (row : List Cell) → length row ≡ p.size → All (IsWithin p.size p.clocks.items)
       p.equations.items → IsReplayed p X 0 p.equations.items row
@@ -51,7 +51,7 @@ module _ (p : FlatProgram) (X : Inputs)
         (ready_before p.size all X t program_ready)
         (length-map before cell_of ∙ h.has_all_elements)
 
-    -- one instant on
+    -- `IsReplayed` holds after one more instant
     pub replay_on :
         length row ≡ p.size → All (IsWithin p.size p.clocks.items) after →
         flat_equations p.clocks.items after
@@ -69,7 +69,7 @@ module _ (p : FlatProgram) (X : Inputs)
           let same : t ≡ s = omega (arith, e) in is_row ∙ ap (row_at (program_of p) X) same;
     }
 
-  -- the same of slices of what is held
+  -- `replay_on` where the code holds the equations, rows and clocks under other names
   pub replay_next :
       (t : ℕ) (equations lent written after : List Equation) (before began row read : List Cell)
       (clocks : List Clock) → IsReplayed p X t equations before → clocks ≡ p.clocks.items →
@@ -97,14 +97,14 @@ module _ (p : FlatProgram) (X : Inputs)
 
   module _ (t n : ℕ) (equations : List Equation) (row : List Cell)
       (h : IsReplayed p X n equations row) (is : n ≡ suc t) where
-    -- what an element holds
+    -- the cell of an element in the row
     pub cell_there :
         (i : ℕ) (d : Cell) → i < length row →
         cell_of (get_or row i d) ≡ cell (row_at (program_of p) X t) i
     cell_there i d lt =
         sym (get_or-map cell_of row i d None lt) ∙ ap (λ r. cell r i) (h.row_is t is)
 
-    -- and where there is no such element
+    -- there is no cell where there is no such element
     pub cell_absent :
         (i : ℕ) → length row ≤ i → None ≡ cell (row_at (program_of p) X t) i
     cell_absent i le =

@@ -1,6 +1,6 @@
--- What a row holds is what the history has there.
-use Rattle.std.proofs.Common.{◌≡◌, ◌<◌, ℕ, zero, suc, List, [], ◌∷◌, Some, None, length, map, get_or}
-use Rattle.std.proofs.Common.{slice_get, refl, sym, ap, ap₂, ◌∙◌, arith}
+-- The cells of a row are those of the history.
+use Rattle.std.proofs.Common.{◌≡◌, ◌<◌, ℕ, zero, suc, List, [], ◌∷◌, Some, None, length, map}
+use Rattle.std.proofs.Common.{get_or, slice_get, refl, sym, ap, ap₂, ◌∙◌, arith}
 use Rattle.std.proofs.lemmas.List.{get_or-map}
 use Rattle.std.proofs.lemmas.Option.{get_or_from_slice_get, slice_get_within}
 use Rattle.lb_syntax.specs.Lists.{Every}
@@ -18,12 +18,12 @@ use Rattle.lb_flat.specs.Flat.{FlatEquation, column, FlatSolves}
 use Rattle.lb_flat.specs.FlatPrograms.{IsFlatOf}
 use Rattle.lb_flat.specs.FlatSolutions.{IsFlatSolution}
 use Rattle.lb_flat.specs.Flattening.{history_of}
-use Rattle.lb_flat.specs.FurtherKinds.{kind_among}
+use Rattle.lb_flat.specs.TemporaryKinds.{kind_among}
 use Rattle.lb_flat.specs.Judging.{FlatProgram}
 use Rattle.lb_flat.specs.NumberedLayouts.{layout}
 use Rattle.lb_flat.specs.Run.{Row, cell, advanced, Ready, row_of, run}
-use Rattle.lb_flat.proofs.Running.{step_of, ready_advanced}
-use Rattle.lb_flat.proofs.Stepping.{after_first, column_step}
+use Rattle.lb_flat.proofs.runs.Running.{step_of, ready_advanced}
+use Rattle.lb_flat.proofs.runs.Stepping.{after_first, column_step}
 use Rattle.lb_history.specs.Histories.{history_cell}
 use Rattle.lb_history.specs.Replaying.{equations_before, row_at}
 
@@ -39,7 +39,7 @@ module _ (size : ℕ) where
       ap (λ (E : List FlatEquation). map (advanced (row_of size E (get_or X t []))) E)
       (later Q given X t)
 
-  -- the rows of a run, one by one
+  -- row `t` of a run is the row of the equations before instant `t`
   run_row :
       (Q : List FlatEquation) (X : Inputs) (t : ℕ) → t < length X →
       get_or (run size Q X) t [] ≡ row_of size (equations_before size Q X t) (get_or X t [])
@@ -49,7 +49,7 @@ module _ (size : ℕ) where
       run_row (map (advanced (row_of size Q given)) Q) X t (omega arith)
       ∙ ap (λ E. row_of size E (get_or X t [])) (sym (later Q given X t))
 
-  -- the order stays
+  -- the equations before instant `t` are in order
   pub ready_before :
       (Q : List FlatEquation) (X : Inputs) (t : ℕ) → Ready size [] Q →
       Ready size [] (equations_before size Q X t)
@@ -59,7 +59,7 @@ module _ (size : ℕ) where
       ready_advanced size (row_of size before (get_or X t [])) [] before
       (ready_before Q X t ready)
 
-  -- what an element's stream holds at an instant is its cell in the row of the instant
+  -- the stream of element `i` holds at instant `t` the cell of row `t`
   cell_at :
       (X : Inputs) (Q : List FlatEquation) (F : List Stream) → Ready size [] Q →
       FlatSolves size Q X F → (t : ℕ) → t < length X → (i : ℕ) →
@@ -78,13 +78,14 @@ module _ (size : ℕ) where
 
 module _ (P : Program) (f : FlatProgram) (flat : IsFlatOf P f)
     (ready : Ready f.size [] f.equations) (X : Inputs) (H : History) (solves : Solves P X H) where
-  -- what an element of a variable holds in the row of an instant is what the history has there
+  -- the cell of an element of a variable in a row is the cell of the history
   pub row_shows :
       (t i : ℕ) (x : Element) → t < length X → slice_get (program_elements P) i ≡ Some x →
       cell (row_at f X t) i ≡ history_cell H x t
   row_shows t i x lt e =
       sym (ap (λ row. cell row i) (run_row f.size f.equations X t lt))
-      ∙ sym (get_or_from_slice_get (column X F i) t (cell (get_or (run f.size f.equations X) t []) i)
+      ∙ sym (get_or_from_slice_get (column X F i) t
+      (cell (get_or (run f.size f.equations X) t []) i)
       None (cell_at f.size X f.equations F ready r.1.equations t lt i))
       ∙ ap (λ xs. get_or xs t None) (sym stream)
       ∙ ap (λ xss. get_or (get_or xss x.index []) t None) columns

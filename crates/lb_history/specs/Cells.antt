@@ -1,11 +1,11 @@
--- What the cells of the code stand for.
+-- The meaning of the cells of the code.
 -- Source: this project's rule.
 use Rattle.std.specs.Prelude.{Some, None}
 use Rattle.lb_check.specs.Scalars as scalars
 use Rattle.lb_history.specs.declared.cell.Cell as code
 use Rattle.lb_history.specs.declared.cell.Cell.TheVariants as cells
 
--- a cell
+-- the cell that a cell of the code stands for
 abbrev pub cell_of : code.Cell → scalars.Cell
 cell_of cells.Absent = None
 cell_of cells.Nil = Some scalars.Nil

@@ -13,14 +13,13 @@ use Rattle.lb_flat.specs.Inputs.{inputs_of}
 use Rattle.lb_flat.specs.Judging.{FlatProgram}
 use Rattle.lb_traces.specs.Traces.{Recording}
 
--- what an element of a variable of an instance holds at instant t; it is absent where there is no
+-- the cell of an element of a variable of an instance at instant t; it is absent where there is no
 -- such element
 abbrev pub history_cell : History → Element → ℕ → Cell
 history_cell H e t = get_or (get_or (H.columns e.path e.variable) e.index []) t None
 
--- x is what element i holds at instant t of trace k: in each program that the flat one stands for,
--- where the traces have its signature, by each history that solves it on the trace, of which there
--- is one
+-- x is the cell of element i at instant t of trace k: in each program that the flat one stands for
+-- and whose signature the traces have, by each history that solves it on the trace (there is one)
 abbrev pub IsHistoryCell : FlatProgram → Recording → (k t i : ℕ) → Cell → Type 0
 IsHistoryCell f r k t i x =
     (P : Program) → IsFlatOf P f → signature P ≡ r.signature →

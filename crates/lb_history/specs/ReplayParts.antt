@@ -1,4 +1,4 @@
--- What contracts see of a trace that is replayed.
+-- The parts of a replay that contracts name.
 -- This file says what data of the program mean; no definition of the language stands on it.
 use Rattle.std.specs.Prelude.{ℕ, List}
 use Rattle.lb_flat.specs.Flat.{FlatEquation}
@@ -14,11 +14,11 @@ use Rattle.lb_history.specs.declared.replay.Replay.{Replay}
 abbrev pub program_in : Replay → FlatProgram
 program_in r = r.program.now
 
--- the traces of which it is one
+-- the traces that the replayed trace is one of
 abbrev pub recording_in : Replay → Recording
 recording_in r = r.set.now
 
--- its number among them
+-- the number of the trace among them
 abbrev pub trace_in : Replay → ℕ
 trace_in r = r.trace
 
@@ -30,7 +30,7 @@ next_in r = r.next
 abbrev pub row_in : Replay → ℕ → Row
 row_in r t = row_at (program_of (program_in r)) (inputs_of (recording_in r) (trace_in r)) t
 
--- the equations, with what their memories hold before the instant that comes next
+-- the equations, with their memories as they are before the instant that comes next
 abbrev pub equations_in : Replay → List FlatEquation
 equations_in r =
     let f = program_of (program_in r) in

@@ -1,5 +1,5 @@
--- A flat program on a trace, instant by instant: its equations with what their memories hold, and
--- the row of cells.
+-- A flat program on a trace, instant by instant: its equations with their memories, and the row of
+-- cells.
 -- Source: this project's rule.
 use Rattle.std.specs.Prelude.{ℕ, zero, suc, List, [], map, get_or}
 use Rattle.lb_check.specs.Solutions.{Inputs}
@@ -7,7 +7,7 @@ use Rattle.lb_flat.specs.Flat.{FlatEquation}
 use Rattle.lb_flat.specs.Judging.{FlatProgram}
 use Rattle.lb_flat.specs.Run.{Row, advanced, row_of}
 
--- the equations of so many elements, with what their memories hold before instant t
+-- the equations of `size` elements, with their memories as they are before instant t
 abbrev pub equations_before : ℕ → List FlatEquation → Inputs → ℕ → List FlatEquation
 equations_before size Q X zero = Q
 equations_before size Q X (suc t) =

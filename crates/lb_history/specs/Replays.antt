@@ -1,4 +1,4 @@
--- What contracts say of a trace that is replayed.
+-- The words of contracts on a trace that is replayed.
 -- This file says what data of the program mean; no definition of the language stands on it.
 use mathlib.Core.Sum.{⊎_set}
 use Rattle.std.specs.Prelude.{◌≡◌, ℕ, suc, List, length, map, All}
@@ -14,8 +14,8 @@ use Rattle.lb_history.specs.Cells.{cell_of}
 use Rattle.lb_history.specs.Replaying.{equations_before, row_at}
 use Rattle.lb_history.specs.declared.cell.Cell.{Cell}
 
--- before instant t the equations have the memories that the instants before it left, and the row
--- is that of the instant before, if there was one
+-- the state before instant t: the equations have the memories that the earlier instants left, and
+-- the row is that of the instant before, if there was one
 pub record IsReplayed (p : FlatProgram) (X : Inputs) (t : ℕ) (equations : List Equation)
     (row : List Cell) : Type 0 where
   pub equations_are :
@@ -25,5 +25,5 @@ pub record IsReplayed (p : FlatProgram) (X : Inputs) (t : ℕ) (equations : List
   pub has_all_elements : length row ≡ p.size
   pub row_is : (s : ℕ) → t ≡ suc s → map cell_of row ≡ row_at (program_of p) X s
 
--- what shows that there is one proof of it at most
+-- the rules by which `IsReplayed` has at most one proof
 pub ruleset replayed_props = (FlatClock-set, ⊎_set, props)

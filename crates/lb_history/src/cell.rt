@@ -1,7 +1,7 @@
 //! Cells and the tables of the data operators.
 //!
-//! Where an operand is absent, so is the result. An operator with a faulty operand gives the value
-//! of a fault, and else with a nil operand nil; `if` takes the chosen branch alone.
+//! The result is absent where an operand is. Else it is a fault where an operand is one, and else
+//! nil where an operand is nil; `if` takes the chosen branch alone.
 
 ghost use Rattle.std.specs.Prelude.{◌≡◌, Some};
 ghost use Rattle.lb_check.specs.Scalars.{two_integers, two_booleans, two_scalars, one_scalar};
@@ -15,7 +15,7 @@ use lb_flat::Scalar;
 use lb_static::{arithmetic, negated};
 use lb_syntax::{BinaryOperator, UnaryOperator};
 
-/// What an element holds at an instant: nothing, or a scalar.
+/// The cell of an element at an instant: nothing, or a scalar.
 #[derive(Clone, Copy, PartialEq, Eq)]
 pub enum Cell {
     /// Nothing: the element is absent.
@@ -44,7 +44,7 @@ fn present(v: Scalar) -> Cell
 
 // ## Operators
 
-/// The result, or the value of a fault where there is none.
+/// The cell of a result, or the value of a fault where there is none.
 fn or_fault(result_of: Option<i32>) -> Cell
     ensures { cell_of result ≡ Some (or_fault result_of) }
 {
@@ -81,7 +81,7 @@ fn two_booleans(op: BinaryOperator, a: bool, b: bool) -> Cell
     }
 }
 
-/// An operator with two operands.
+/// The result of an operator with two operands.
 pub(crate) fn two_cells(op: BinaryOperator, x: Cell, y: Cell) -> Cell
     ensures { cell_of result ≡ two_cells (two_scalars op) (cell_of x) (cell_of y) }
 {
@@ -95,7 +95,7 @@ pub(crate) fn two_cells(op: BinaryOperator, x: Cell, y: Cell) -> Cell
     }
 }
 
-/// An operator with one operand.
+/// The result of an operator with one operand.
 pub(crate) fn one_cell(op: UnaryOperator, x: Cell) -> Cell
     ensures { cell_of result ≡ one_cell (one_scalar op) (cell_of x) }
 {
@@ -108,7 +108,7 @@ pub(crate) fn one_cell(op: UnaryOperator, x: Cell) -> Cell
     }
 }
 
-/// The chosen branch of an `if`, where the other one may be faulty or nil; nil where the condition
+/// The chosen branch of an `if`; the other one may be a fault or nil. It is nil where the condition
 /// is.
 pub(crate) fn chosen_cell(condition: Cell, x: Cell, y: Cell) -> Cell
     ensures { cell_of result ≡ chosen_cell (cell_of condition) (cell_of x) (cell_of y) }
@@ -124,21 +124,21 @@ pub(crate) fn chosen_cell(condition: Cell, x: Cell, y: Cell) -> Cell
 
 // ## Clocks and memories
 
-/// A value at the instants of a clock.
+/// The value `v` where `is_now`, else absent.
 pub(crate) fn held(v: Scalar, is_now: bool) -> Cell
     ensures { cell_of result ≡ held (scalar_of v) is_now }
 {
     if is_now { present(v) } else { Cell::Absent }
 }
 
-/// A cell at the instants of a clock.
+/// The cell `x` where `is_now`, else absent.
 pub(crate) fn sample(is_now: bool, x: Cell) -> Cell
     ensures { cell_of result ≡ sample is_now (cell_of x) }
 {
     if is_now { x } else { Cell::Absent }
 }
 
-/// The newest value, once a cell was seen.
+/// The value of `x`, or `before` where `x` is absent.
 pub(crate) fn newest(before: Scalar, x: Cell) -> Scalar
     ensures { scalar_of result ≡ newest (scalar_of before) (cell_of x) }
 {

@@ -15,7 +15,7 @@ use lb_flat::{Clock, ClockId, ElementId, Equation, InputId, Operation};
 use lb_syntax::Kind;
 use lb_traces::TraceSet;
 
-/// An instant of a recorded trace, and what each column of the traces holds.
+/// An instant of a recorded trace, and the kind of each column of the traces.
 #[derive(Clone, Copy)]
 pub(crate) struct Instant<'a> {
     pub(crate) set: &'a TraceSet,
@@ -31,7 +31,7 @@ pub(crate) struct Instant<'a> {
 
 // ## Inputs and clocks
 
-/// The input at a place of the signature.
+/// The cell of an input at an instant.
 fn input_at(at: Instant, input: InputId) -> Cell
     ensures { cell_of result
         ≡ slice_get (get_or (inputs_of at.entry.set.now at.entry.k) at.entry.t []) input.0 }
@@ -57,7 +57,7 @@ fn cell(row: &[Cell], a: ElementId) -> Cell
     row[a.0 as usize]
 }
 
-/// Whether a clock has an instant now.
+/// Whether a clock ticks at the instant of a row.
 fn is_now(clocks: &[Clock], row: &[Cell], clock: Option<ClockId>) -> bool
     requires table { AreClocks (length row.now) clocks.now }
     requires clock { IsClock clocks.now clock }
@@ -79,7 +79,7 @@ fn is_now(clocks: &[Clock], row: &[Cell], clock: Option<ClockId>) -> bool
 
 // ## The row
 
-/// What an equation gives, where the cells that it reads are computed.
+/// The cell of an equation, from a row in which the cells that it reads are computed.
 fn now(clocks: &[Clock], row: &[Cell], q: &Equation, at: Instant) -> Cell
     requires table { AreClocks (length row.now) clocks.now }
     requires within { IsWithin (length row.now) clocks.now q.now }
@@ -118,7 +118,7 @@ pub(crate) fn compute(row: &mut [Cell], clocks: &[Clock], equations: &[Equation]
 
 // ## Memories
 
-/// Moves the memory of an operation on, after the instant of a row.
+/// Moves the memory of an operation to the next instant, after the row of this one.
 fn remember(row: &[Cell], operation: &mut Operation)
     requires operands { All (λ i. i < length row.now) (reads (operation_of operation.old)) }
     requires memory_operands { All (λ i. i < length row.now) (keeps (operation_of operation.old)) }
@@ -137,7 +137,7 @@ fn remember(row: &[Cell], operation: &mut Operation)
     }
 }
 
-/// Moves every memory on, after the row of an instant.
+/// Moves every memory to the next instant, after the row of this one.
 pub(crate) fn commit(equations: &mut [Equation], row: &[Cell], clocks: &[Clock])
     requires within { All (IsWithin (length row.now) clocks.now) equations.old }
     ensures within { All (IsWithin (length row.now) clocks.now) equations.new }

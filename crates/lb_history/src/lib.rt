@@ -1,5 +1,5 @@
-//! The values of one recorded trace, instant by instant: those of the one history that solves the
-//! program on it.
+//! The values of one recorded trace, instant by instant: the cells of the one history that solves
+//! the program on it.
 #![tactic(auto)]
 
 mod cell;

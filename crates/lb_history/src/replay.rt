@@ -16,7 +16,7 @@ use lb_syntax::Kind;
 use lb_traces::TraceSet;
 use std::alloc::{AllocError, Global};
 
-/// A trace of a program, up to an instant. It takes memory once, and none for an instant.
+/// A replay of one trace of a program. It takes memory when it is made, and none for an instant.
 ///
 /// ```text
 /// let mut replay = Replay::new(alloc, &ordered, &set, 0)?;
@@ -29,17 +29,17 @@ use std::alloc::{AllocError, Global};
 pub struct Replay<'a> {
     program: &'a FlatProgram,
     set: &'a TraceSet,
-    /// What each column of the traces holds.
+    /// The kind of each column of the traces.
     kinds: Vec<Kind>,
     /// The number of the trace.
     trace: u32,
-    /// How many instants it has.
+    /// The number of instants of the trace.
     instants: u32,
     /// The instant that comes next.
     next: u32,
-    /// The equations, with what their memories hold before it.
+    /// The equations, with their memories as they are before the instant `next`.
     equations: Vec<Equation>,
-    /// What each element held at the instant before it.
+    /// The row of the instant before `next`.
     row: Vec<Cell>,
     ghost in_range: { IsInRange program.now },
     ghost in_order: { is_in_order (replicate program.now.size false)
@@ -52,7 +52,7 @@ pub struct Replay<'a> {
         row.items } by { Prim.hlevel replayed_props },
 }
 
-/// What each column holds.
+/// The kind of each column of a signature.
 fn kinds_of(alloc: Global, signature: &Signature) -> Result<Vec<Kind>, AllocError>
     ensures { IfOk result (λ kinds. kinds.items ≡ kinds_of signature.now) }
 {
@@ -72,7 +72,7 @@ impl<'a> Replay<'a> {
     ghost use Rattle.lb_history.specs.ReplayParts.{program_in, recording_in, trace_in, next_in};
     ghost use Rattle.lb_history.specs.ReplayParts.{equations_in, row_in};
 
-    /// A trace of a program in order, before its first instant.
+    /// The replay of a trace of `set`, given by its number, before its first instant.
     pub fn new(
         alloc: Global,
         ordered: &'a Ordered,
@@ -103,7 +103,7 @@ impl<'a> Replay<'a> {
         })
     }
 
-    /// How many instants the trace has.
+    /// The number of instants of the trace.
     pub fn instants(&self) -> u32
         ensures { result ≡ length (trace_at (recording_in self.now).traces (trace_in self.now)).1 }
     {
@@ -117,7 +117,7 @@ impl<'a> Replay<'a> {
         self.next
     }
 
-    /// The equations, in order, with what their memories hold before the instant that comes next.
+    /// The equations, in order, with their memories as they are before the instant that comes next.
     pub fn equations(&self) -> &[Equation]
         ensures { flat_equations (program_in self.now).clocks.items result.now
             ≡ equations_in self.now }
@@ -151,9 +151,9 @@ impl<'a> Replay<'a> {
         self.next += 1;
     }
 
-    /// What an element held at the instant before the next one, in the row of that instant: an
-    /// element of a variable holds what the history has there. Where there is no such element, and
-    /// before the first instant, it is absent.
+    /// The cell of an element in the row of the instant before the next one. An element of a
+    /// variable holds what the history has there. The cell is absent before the first instant, and
+    /// where there is no such element.
     pub fn cell(&self, element: ElementId) -> Cell
         ensures row { (t : ℕ) → next_in self.now ≡ suc t →
             cell_of result ≡ cell (row_in self.now t) element.0 }

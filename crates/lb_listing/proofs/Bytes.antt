@@ -1,4 +1,4 @@
--- The bytes of a line, and where a text can be cut.
+-- The bytes of a line, and the cut of a text at a byte.
 use Rattle.std.proofs.Common.{◌≡◌, ◌≢◌, ℕ, ◌+◌, ◌^◌, ◌<◌, ◌≤◌, List, [], ◌∷◌, ◌++◌, length, get_or}
 use Rattle.std.proofs.Common.{Bool, true, false, IsTrue, refl, sym, ap, ◌∙◌, subst, arith, codes}
 use Rattle.std.proofs.Common.{Some, None, Option, decimal, nat_lt, nat_le}
@@ -23,7 +23,7 @@ use Rattle.lb_traces.specs.Traces.{IsTraceName, is_name_byte}
 use Rattle.lb_pool.specs.Reports.{instant, instant_of, place_of, words}
 use Rattle.lb_listing.specs.Listings.{HasInstant, HasNo, IsInstant, IsLine, Line, body, said}
 
--- a byte of a line, which is no control character; a byte of a name
+-- a byte of a line, which is no control character; and a byte of a name
 abbrev pub IsInside : ℕ → Type 0
 IsInside c = (32 ≤ c) × (c < 128)
 
@@ -92,7 +92,7 @@ no_end c h e = absurd (omega arith)
 no_space : (c : ℕ) → IsNamed c → c ≢ 32
 no_space c h e = absurd (omega arith)
 
--- no line ends within a line, and there is no space in a name
+-- there is no end of a line within a line, and no space in a name
 pub body_has_no_end : (l : Line) → IsLine l → HasNo 10 (body l)
 body_has_no_end l lawful =
     All-weaker IsInside (λ c. c ≢ 10) no_end (body l) (body_inside l lawful)

@@ -11,7 +11,7 @@ use Rattle.lb_pool.specs.Reports as report
 use Rattle.lb_listing.specs.Listings.{Line, line_of, lines_of, spelled, verdicts_of}
 use Rattle.lb_listing.specs.declared.entry.Entry.{Entry}
 
--- as many verdicts as traces
+-- lines have as many verdicts as there are traces
 pub line_count : (entries : List Entry) → length (verdicts_of (map line_of entries)) ≡ length
     entries
 line_count entries =
@@ -25,7 +25,7 @@ later_passes : (a b : Bool) → b ≡ true → (a || b) ≡ true
 later_passes true b e = refl
 later_passes false b e = e
 
--- one of the entries passes a test
+-- some entry passes a test where the entry at a place does
 pub any_at : (p : Line → Bool) (entries : List Entry) (k : ℕ) (d : Entry) → k < length entries
     → p (line_of (get_or entries k d)) ≡ true → list_any p (map line_of entries) ≡ true
 any_at p [] k d within e = absurd (omega arith)
@@ -42,7 +42,8 @@ take_line entries k d within =
     ap (λ (es : List Entry). map line_of es) (take_more entries k d within)
     ∙ map-append line_of (take k entries) (get_or entries k d ∷ [])
 
--- none of one more entry passes a test
+-- where none of the first k entries passes a test, and entry k does not, none of k + 1 entries
+-- passes
 pub none_more : (p : Line → Bool) (entries : List Entry) (k : ℕ) (d : Entry) → k < length entries
     → list_any p (map line_of (take k entries)) ≡ false → p (line_of (get_or entries k d)) ≡ false
     → list_any p (map line_of (take (k + 1) entries)) ≡ false
@@ -52,7 +53,7 @@ none_more p entries k d within none here =
     ∙ ap (λ b. b || (p (line_of (get_or entries k d)) || false)) none
     ∙ ap (λ b. b || false) here
 
--- the text of one more entry
+-- a text of k entries grows by the text of entry k to that of k + 1 entries
 pub text_more : (f : Line → List ℕ) (entries : List Entry) (k : ℕ) (d : Entry)
     (start old new : List ℕ) → k < length entries
     → old ≡ start ++ flat_map f (map line_of (take k entries))

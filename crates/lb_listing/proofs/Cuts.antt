@@ -1,4 +1,4 @@
--- Where a line is cut.
+-- The cut of a line at its first space, and of a text at its first line.
 use Rattle.std.proofs.Common.{◌≡◌, ◌≢◌, ℕ, ◌<◌, List, ◌∷◌, ◌++◌, Option, Some, None, length, get_or}
 use Rattle.std.proofs.Common.{sym, ◌∙◌, arith, subst, ap, false, true, refl, Bool}
 use Rattle.std.proofs.Common.{Result, Ok, Err}
@@ -22,7 +22,7 @@ pub none_of : {T : Type 0} (o : Option T) → is_some o ≡ false → o ≡ None
 none_of None e = refl
 none_of (Some x) e = cc
 
--- a line that is cut at its first space
+-- the parts of a line that is cut at its first space are its name and its verdict
 pub parts_are : (line : List ℕ) (r : Option (Bor (List ℕ) × Bor (List ℕ))) (l : Line)
     → IsSplitOnceResult 32 line r → IsLine l → line ≡ body l
     → MatchOption r ⊥ (λ x. (x.0.now ≡ l.0) × (x.1.now ≡ said l.1))
@@ -30,7 +30,7 @@ parts_are line r l cut lawful e =
     split_after 32 line l.0 (said l.1) r cut (omega arith) e
     (λ i h. name_has_no_space l.0 lawful.name i 0 h)
 
--- a text that begins with a line
+-- the bytes before the first end of a line in a text are the line that the text begins with
 pub line_is : (text line more rest : List ℕ) (l : Line) → IsLine l → text ≡ line ++ 10 ∷ more
     → HasNo 10 line → text ≡ spelled l ++ rest → line ≡ body l
 line_is text line more rest l lawful cut no_end e =
@@ -50,7 +50,7 @@ parts_some line r l parts cut lawful some e =
     let Q : Bor (List ℕ) × Bor (List ℕ) → Type 0 = λ x. (x.0.now ≡ l.0) × (x.1.now ≡ said l.1) in
     MatchOption-at_some {o = r} ⊥ Q parts some (parts_are line r l cut lawful e)
 
--- what the answer of a `push` tells of the name
+-- the answer of a `push` says whether the name was new
 pub fresh_none : {T : Type 0} (o : Option T) (b : Bool) → b ≡ not (is_some o) → b ≡ true → o ≡ None
 fresh_none None b e pushed = refl
 fresh_none (Some x) b e pushed = let no : false ≡ true = sym e ∙ pushed in cc

@@ -1,4 +1,4 @@
--- The text of a line tells its trace and its verdict.
+-- The text of a line determines its trace and its verdict.
 use Rattle.std.proofs.Common.{◌≡◌, ◌≢◌, ℕ, ◌+◌, ◌^◌, ◌<◌, ◌≤◌, List, [], ◌∷◌, ◌++◌, length, get_or}
 use Rattle.std.proofs.Common.{refl, sym, ap, ap₂, ◌∙◌, subst, arith, codes, append_assoc}
 use Rattle.std.proofs.Common.{append-nil}
@@ -25,7 +25,7 @@ spelled_is l =
     ap (λ text. text ++ 10 ∷ [])
     (append_assoc l.0 (32 ∷ get_or words (place_of l.1) []) (instant (instant_of l.1)))
 
--- with more behind it
+-- the text of a line with more text behind it
 pub spelled_more : (l : Line) (r : List ℕ) → spelled l ++ r ≡ body l ++ 10 ∷ r
 spelled_more l r = ap (λ text. text ++ r) (spelled_is l) ∙ append_assoc (body l) (10 ∷ []) r
 
@@ -37,7 +37,7 @@ same_instant word s t below_s below_t e =
     let digits : decimal s ≡ decimal t = cc in
     decimal_injective s t (omega arith) (omega arith) digits
 
--- two texts with other bytes at a place
+-- two texts that differ at a place are not equal
 unlike : (k : ℕ) (xs ys : List ℕ) → (get_or xs k 0 == get_or ys k 0) ≡ false → xs ≡ ys → ⊥
 unlike k xs ys other e =
     let same : get_or xs k 0 ≡ get_or ys k 0 = ap (λ (text : List ℕ). get_or text k 0) e in
@@ -46,7 +46,7 @@ unlike k xs ys other e =
 first : (xs ys : List ℕ) → xs ≡ ys → get_or xs 0 0 ≡ get_or ys 0 0
 first xs ys e = ap (λ (text : List ℕ). get_or text 0 0) e
 
--- what is said tells the verdict
+-- the text of a verdict determines the verdict
 pub said_only : (v w : Verdict) → HasInstant v → HasInstant w → said v ≡ said w → v ≡ w
 said_only Passed Passed hv hw e = refl
 said_only Passed (Fault t) hv hw e =
@@ -96,7 +96,7 @@ said_only (False s) (Assertion t) hv hw e =
     absurd (unlike 0 (said (False s)) (said (Assertion t)) refl e)
 said_only (False s) (False t) hv hw e = ap False (same_instant (codes "false") s t hv hw e)
 
--- the first line of a text tells its trace and its verdict
+-- the first line of a text determines its trace and its verdict
 pub line_only : (l m : Line) (r s : List ℕ) → IsLine l → IsLine m → spelled l ++ r ≡ spelled m ++ s
     → (l ≡ m) × (r ≡ s)
 line_only l m r s first_is second_is e =

@@ -1,4 +1,4 @@
--- A report tells what it lists.
+-- The text of a report determines what it lists.
 use Rattle.std.proofs.Common.{◌≡◌, ◌≢◌, ℕ, ◌+◌, ◌^◌, ◌<◌, ◌≤◌, List, [], ◌∷◌, ◌++◌, length, get_or}
 use Rattle.std.proofs.Common.{map}
 use Rattle.std.proofs.Common.{refl, sym, ap, ◌∙◌, subst, arith, append_assoc, append-nil, cond}
@@ -21,7 +21,7 @@ use Rattle.lb_listing.specs.Listings.{IsLine, IsListing, Line, Lists, lines_of, 
 use Rattle.lb_listing.specs.Listings.{total_of, verdict_in, verdicts_of, report}
 use Rattle.lb_listing.proofs.Lines.{line_not_total, line_only}
 
--- lines that a report begins with are the first that it lists
+-- the lines that a report begins with are the first that it lists
 pub first_lines : (before listed : List Line) (verdicts : List Verdict) (rest : List ℕ)
     → All IsLine before → All IsLine listed → length verdicts < 2 ^ 64
     → lines_of before ++ rest ≡ lines_of listed ++ total verdicts
@@ -44,7 +44,7 @@ first_lines (l ∷ before) (m ∷ listed) verdicts rest lawful all small e =
 pub length_verdicts : (listed : List Line) → length (verdicts_of listed) ≡ length listed
 length_verdicts listed = length-map listed (λ (l : Line). l.1)
 
--- what a text lists begins with the lines that it begins with
+-- the list of a text begins with the lines that the text begins with
 pub begins_with : (text rest : List ℕ) (before other : List Line) → All IsLine before
     → text ≡ lines_of before ++ rest → Lists text other
     → (more : List Line) × (other ≡ before ++ more) × (rest ≡ lines_of more ++ total_of other)
@@ -76,7 +76,7 @@ All-later P (x ∷ xs) ys [] e h = let no : x ∷ (xs ++ ys) ≡ [] = sym e in c
 All-later P (x ∷ xs) ys (z ∷ all) e h =
     let tails : all ≡ xs ++ ys = cc in All-later P xs ys all tails (All-tail P z all h)
 
--- where the last line of these lines follows, they are all
+-- a text that is the report on some lines lists those lines and no others
 pub all_lines : (text : List ℕ) (before other : List Line) → IsListing before
     → text ≡ report before → Lists text other → other ≡ before
 all_lines text before other lawful reads lists =
@@ -84,7 +84,7 @@ all_lines text before other lawful reads lists =
     no_more_lines before found.0 other lawful.count
     (All-later IsLine before found.0 other found.1 lists.lawful.each) found.1 found.2
 
--- one more line
+-- the text of lines and one more line
 pub lines-push : (listed : List Line) (l : Line) → lines_of (listed ++ l ∷ []) ≡ lines_of listed ++
     spelled l
 lines-push [] l = append-nil (spelled l)
@@ -122,7 +122,7 @@ found_here : (b : Bool) (v : Verdict) (o : Option Verdict) → IsSome o → IsSo
 found_here true v o h = refl
 found_here false v o h = h
 
--- a name at a place has a verdict
+-- the name at a place of a list has a verdict
 pub name_found : (name : List ℕ) (listed : List Line) (k : ℕ) (d : List ℕ)
     → k < length (names_of listed) → get_or (names_of listed) k d ≡ name
     → IsSome (verdict_in name listed)
@@ -134,7 +134,7 @@ name_found name (l ∷ listed) (suc k) d within e =
     found_here (bytes_eq name l.0) l.1 (verdict_in name listed)
     (name_found name listed k d (omega arith) e)
 
--- a further trace of a new name
+-- names stay distinct where a trace with a new name is added
 pub distinct-push : (listed : List Line) (l : Line) → AllPairs (λ a b. a ≢ b) (names_of listed)
     → verdict_in l.0 listed ≡ None → AllPairs (λ a b. a ≢ b) (names_of (listed ++ l ∷ []))
 distinct-push listed l distinct fresh =
@@ -145,7 +145,7 @@ distinct-push listed l distinct fresh =
     let found : IsSome (verdict_in l.0 listed) = name_found l.0 listed k d within e in
     let no : false ≡ true = sym (ap is_some fresh) ∙ found in cc))
 
--- no name of a report stands before itself
+-- no name stands twice in a report
 pub not_twice : (before more listed : List Line) (l : Line) → listed ≡ before ++ (l ∷ more)
     → AllPairs (λ a b. a ≢ b) (names_of listed) → IsSome (verdict_in l.0 before) → ⊥
 not_twice before more listed l is distinct found =
@@ -176,9 +176,9 @@ goes_on rest before (m ∷ more) other no_line no_end lawful is e =
     (All-head IsLine m more (All-later IsLine before (m ∷ more) other is lawful.each))
     (e ∙ append_assoc (spelled m) (lines_of more) (total_of other)))
 
--- ## What is no report
+-- ## Texts that are no reports
 
--- a text that goes on with neither a further trace nor its end is no report
+-- a text that continues with neither a new trace nor the end of the report is no report
 pub is_no_report : (text rest : List ℕ) (before other : List Line) → IsListing before
     → text ≡ lines_of before ++ rest
     → ((l : Line) (more : List ℕ) → IsLine l → rest ≡ spelled l ++ more
@@ -226,7 +226,7 @@ after name listed l false e fresh =
     ap (λ b. option_or (verdict_in name listed) (cond b (Some l.1) None)) back
     ∙ or_none (verdict_in name listed)
 
--- a look-up after a further trace of a new name
+-- a look-up after a trace with a new name was added
 pub verdict-push : (name : List ℕ) (listed : List Line) (l : Line) → verdict_in l.0 listed ≡ None
     → verdict_in name (listed ++ l ∷ [])
     ≡ cond (bytes_eq l.0 name) (Some l.1) (verdict_in name listed)

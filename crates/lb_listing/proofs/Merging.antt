@@ -14,7 +14,7 @@ use Rattle.lb_listing.specs.declared.entry.Entry.{Entry}
 use Rattle.lb_listing.specs.Merged.{AreJoined, HaveTwice, IsMerged, IsWhole, joined, texts_of}
 use Rattle.lb_listing.proofs.Listed.{All-later, begins_with, length_verdicts, no_more_lines}
 
--- no report
+-- `AreJoined` for no report
 pub joined_none : AreJoined [] [] []
 joined_none = record {
   lists = [];
@@ -37,7 +37,7 @@ zip_more R [] (b ∷ ys) x y h r = absurd h
 zip_more R (a ∷ xs) [] x y h r = absurd h
 zip_more R (a ∷ xs) (b ∷ ys) x y h r = (h.0, zip_more R xs ys x y h.1 r)
 
--- one more report
+-- `AreJoined` for one more report
 pub joined_more : (texts : List (List ℕ)) (listed : List Line) (text : List ℕ) (more : List ℕ)
     (further : List Line) → AreJoined texts listed text → Lists more further
     → AreJoined (texts ++ more ∷ []) (listed ++ further) (text ++ lines_of further)
@@ -51,7 +51,7 @@ joined_more texts listed text more further are lists = record {
   lines = ap (λ front. front ++ lines_of further) are.lines ∙ sym (lines-append listed further);
 }
 
--- the text of all lines and of the last one is a report of just these traces
+-- a text that is the report on these traces lists no others
 pub only_these : (text : List ℕ) (listed found : List Line) → All IsLine listed
     → length listed < 2 ^ 64 → text ≡ report listed → Lists text found → found ≡ listed
 only_these text listed found lawful few is lists =
@@ -73,7 +73,7 @@ merged texts found text is lists =
       all = subst (λ (ls : List Line). Lists text ls) same lists;
     }
 
--- where that is no report, two traces have one name
+-- where the text of all lines is no report, two traces have one name
 pub twice : (texts : List (List ℕ)) (text : List ℕ) (number : ℕ) → IsWhole texts text
     → IsFault text number → HaveTwice texts
 twice texts text number is fault =
@@ -94,7 +94,7 @@ twice texts text number is fault =
       });
     }
 
--- a vector of entries has fewer than 2 ^ 64
+-- a vector has fewer than 2 ^ 64 entries
 pub few_lines : (entries : Vec Entry Global) → length (map line_of entries.items) < 2 ^ 64
 few_lines entries =
     let long : length (map line_of entries.items) ≡ length entries.items =
@@ -104,7 +104,7 @@ few_lines entries =
     let small : entries.cap < 2 ^ 63 = entries.small in
     omega (arith, long, same, within, small)
 
--- what is joined after one more text
+-- `AreJoined` for the first k + 1 texts, from that for the first k
 pub joined_next : (texts : List (Vec ℕ Global)) (k : ℕ) (d : Vec ℕ Global)
     (old added new : List Entry) (text after : List ℕ) → k < length texts
     → AreJoined (texts_of (take k texts)) (map line_of old) text

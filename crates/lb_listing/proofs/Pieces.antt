@@ -14,7 +14,7 @@ pub counted_piece : (a b word : List ℕ) (m n : ℕ) → b ≡ a ++ counted wor
     → b ≡ a ++ counted word n
 counted_piece a b word m n grew same = grew ∙ ap (λ (k : ℕ). a ++ counted word k) same
 
--- the text of one more byte
+-- a text of k bytes grows by the piece of byte k to that of k + 1 bytes
 pub bytes_more : (f : ℕ → List ℕ) (bytes : List ℕ) (k d : ℕ) (start old new : List ℕ)
     → k < length bytes → old ≡ start ++ flat_map f (take k bytes)
     → new ≡ old ++ f (get_or bytes k d) → new ≡ start ++ flat_map f (take (k + 1) bytes)

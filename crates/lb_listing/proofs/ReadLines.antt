@@ -1,4 +1,4 @@
--- How far a report is read.
+-- The part of a report that is read so far.
 use Rattle.std.proofs.Common.{◌≡◌, ◌≢◌, ℕ, ◌+◌, ◌<◌, ◌^◌, List, [], ◌∷◌, ◌++◌, length, map, None}
 use Rattle.std.proofs.Common.{Some}
 use Rattle.std.proofs.Common.{sym, ◌∙◌, ap, subst, false, true, Option}
@@ -17,14 +17,14 @@ use Rattle.lb_listing.specs.declared.listing.Listing.{Listing}
 use Rattle.lb_listing.proofs.Lines.{line_not_total, line_only}
 use Rattle.lb_listing.proofs.Listed.{distinct-push, is_no_report, reads_more, small_total}
 
--- the text begins with the lines of a list, and this is the rest
+-- the text begins with the lines of a list, and `rest` follows them
 pub record HasRead (text rest : List ℕ) (l : Listing) : Type 0 where
   pub reads : text ≡ lines_of (listed l) ++ rest
   pub each : All IsLine (listed l)
   pub distinct : AllPairs (λ a b. a ≢ b) (names_of (listed l))
   pub indexed : IsIndexed l
 
--- after one more line
+-- `HasRead` after one more line
 pub read_more : (text old rest : List ℕ) (before after : Listing) (e : Entry)
     → HasRead text old before → IsLine (line_of e) → old ≡ spelled (line_of e) ++ rest
     → verdict_in e.name.now (listed before) ≡ None
@@ -50,7 +50,7 @@ pub listing_of : (text rest : List ℕ) (l : Listing) → HasRead text rest l
 listing_of text rest l read few =
     record { each = read.each; distinct = read.distinct; count = few }
 
--- the rest goes on with a trace that was there
+-- the rest continues with a trace that is already in the list
 pub fault_at : (text rest more : List ℕ) (l : Listing) (e : Line) (number : ℕ)
     → HasRead text rest l → length (listed l) < 2 ^ 64 → number ≡ length (listed l) + 1 → IsLine e
     → rest ≡ spelled e ++ more → IsSome (verdict_in e.0 (listed l)) → IsFault text number
@@ -77,7 +77,7 @@ fault_at text rest more l e number read few is lawful cut twice =
           no_end lists;
     }
 
--- the rest goes on with neither a trace nor the end
+-- the rest continues with neither a trace nor the end of the report
 pub last_fault : (text rest : List ℕ) (l : Listing) (number : ℕ)
     → HasRead text rest l → length (listed l) < 2 ^ 64 → number ≡ length (listed l) + 1
     → ((m : Line) (later : List ℕ) → IsLine m → rest ≢ spelled m ++ later)

@@ -1,4 +1,4 @@
--- How a report differs from an earlier one.
+-- The differences between a report and an earlier one.
 -- Source: this project's rule.
 use Rattle.std.specs.Prelude.{ℕ, Bool, true, false, ◌&&◌, ◌||◌, ◌++◌, List, [], ◌∷◌, codes}
 use Rattle.std.specs.Prelude.{Option, Some, None, is_some, not, count_by, flat_map, if◌then◌else◌}
@@ -9,7 +9,7 @@ use Rattle.lb_listing.specs.Listings.{Line, spaced, verdict_in}
 use Rattle.lb_listing.specs.Verdicts.{fails, fails_without_traces, is_empty, is_passed, is_same}
 use Rattle.lb_listing.specs.declared.status.Measure.{Measure}
 
--- ## A trace of the report, and what an earlier report says of it
+-- ## A trace of the report, and its verdict in an earlier report
 
 abbrev pub is_kept_by : Option Verdict → Verdict → Bool
 is_kept_by None now = false
@@ -30,7 +30,7 @@ is_kept before l = is_kept_by (verdict_in l.0 before) l.1
 abbrev pub is_changed : (before : List Line) → Line → Bool
 is_changed before l = is_changed_by (verdict_in l.0 before) l.1
 
--- also of a trace of the earlier report, which is gone
+-- a report has no trace of this name: the trace is new, or one of the earlier report that is gone
 abbrev pub is_missing : (from : List Line) → Line → Bool
 is_missing from l = not (is_some (verdict_in l.0 from))
 
@@ -49,7 +49,7 @@ changed_line l before =
 abbrev pub gone_line : Line → List ℕ
 gone_line l = codes "gone: " ++ l.0 ++ spaced l.1 ++ codes "\n"
 
--- the line of a trace that changed or is new; of another one none
+-- the line of a trace that changed or is new; nothing for any other trace
 abbrev pub change_by : Line → Option Verdict → List ℕ
 change_by l None = new_line l
 change_by l (Some before) = if is_same before l.1 then [] else changed_line l before
@@ -57,7 +57,7 @@ change_by l (Some before) = if is_same before l.1 then [] else changed_line l be
 abbrev pub change : (before : List Line) → Line → List ℕ
 change before l = change_by l (verdict_in l.0 before)
 
--- the line of a trace that is gone; of another one none
+-- the line of a trace that is gone; nothing for any other trace
 abbrev pub loss : (now : List Line) → Line → List ℕ
 loss now l = if is_missing now l then gone_line l else []
 
@@ -65,7 +65,7 @@ loss now l = if is_missing now l then gone_line l else []
 abbrev pub counted : (word : List ℕ) → ℕ → List ℕ
 counted word n = word ++ number n
 
--- how many traces are the same, changed, new and gone
+-- the counts of the traces that are the same, changed, new and gone
 abbrev pub counts : (before now : List Line) → List ℕ
 counts before now =
     counted (codes "baseline: same") (count_by (is_kept before) now)
@@ -79,14 +79,14 @@ changes before now = flat_map (change before) now
 abbrev pub losses : (before now : List Line) → List ℕ
 losses before now = flat_map (loss now) before
 
--- a line for each trace that changed or is new, in the order of the report; then one for each that
--- is gone, in the order of the earlier report; then the counts
+-- the text of a comparison: a line for each trace that changed or is new, in the order of the
+-- report; then one for each that is gone, in the order of the earlier report; then the counts
 abbrev pub text_of : (before now : List Line) → List ℕ
 text_of before now = changes before now ++ losses before now ++ counts before now
 
 -- ## The status
 
--- 1 where some trace that passed before, or is new, fails now, and where the run fails because it
+-- 1 where some trace that passed before, or is new, fails now, or where the run fails because it
 -- has no trace; else 0
 abbrev pub status_of : Measure → (before now : List Line) → ℕ
 status_of measure before now =

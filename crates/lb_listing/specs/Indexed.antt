@@ -11,7 +11,7 @@ use Rattle.lb_listing.specs.declared.listing.Listing.{Listing}
 abbrev pub listed : Listing → List Line
 listed l = map line_of l.entries.items
 
--- each name has the verdict of its trace
+-- the map has for each name the verdict of its trace
 abbrev pub IsIndexed : Listing → Type 0
 IsIndexed l = (name : List ℕ)
     → get_by (λ k. slice_cmp nat_cmp name k.now) l.by_name ≡ verdict_in name (listed l)

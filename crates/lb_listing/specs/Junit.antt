@@ -22,7 +22,7 @@ quoted text = codes "'" ++ text ++ codes "'"
 abbrev pub counted : (name : List ℕ) → ℕ → List ℕ
 counted name n = name ++ quoted (decimal n)
 
--- what stands in the case of a trace that has failed, or was not judged to its end
+-- the end of the case of a trace that failed, and of one that was not judged to its end
 abbrev pub failure : Verdict → List ℕ
 failure v = codes "><failure type=" ++ quoted (get_or words (place_of v) [])
     ++ codes " message=" ++ quoted (said v) ++ codes "/></testcase>\n"
@@ -42,7 +42,7 @@ abbrev pub testcase : (suite : List ℕ) → Line → List ℕ
 testcase suite l =
     codes "<testcase classname=" ++ quoted suite ++ codes " name=" ++ quoted l.0 ++ outcome l.1
 
--- what stands before the counts of the suite
+-- the text before the counts of the suite
 abbrev pub head : (suite : List ℕ) → List ℕ
 head suite = codes "<?xml version='1.0' encoding='UTF-8'?>\n"
     ++ codes "<testsuites>\n<testsuite name=" ++ quoted suite
@@ -52,8 +52,8 @@ counts all failed skipped =
     counted (codes " tests=") all ++ counted (codes " failures=") failed
     ++ codes " errors='0'" ++ counted (codes " skipped=") skipped ++ codes ">\n"
 
--- a byte of a text between tags or quotes: an entity, or `?`, for one that cannot stand there as it
--- is
+-- a byte of a text between tags or quotes: an entity, or `?`, for a byte that cannot stand there as
+-- it is
 abbrev pub escaped : ℕ → List ℕ
 escaped b =
     if b == 38 then codes "&amp;"
@@ -62,12 +62,12 @@ escaped b =
     else (if b == 39 then codes "&apos;"
     else (if b == 9 || b == 10 || nat_le 32 b && nat_le b 126 then b ∷ [] else codes "?"))))
 
--- what is said beside a report, if something is
+-- the remarks beside a report, if there are any
 abbrev pub said_beside : (remarks : List ℕ) → List ℕ
 said_beside [] = []
 said_beside (b ∷ bs) = codes "<system-err>" ++ flat_map escaped (b ∷ bs) ++ codes "</system-err>\n"
 
--- the text of a report on these traces, with the name of the suite as it stands there
+-- the text of a report on these traces, where the name of the suite is escaped already
 abbrev pub junit_named : (suite : List ℕ) → List Line → (remarks : List ℕ) → List ℕ
 junit_named suite listed remarks =
     head suite ++ counts (length listed) (count_by (λ l. is_failure l.1) listed)
@@ -75,6 +75,6 @@ junit_named suite listed remarks =
     ++ flat_map (testcase suite) listed ++ said_beside remarks
     ++ codes "</testsuite>\n</testsuites>\n"
 
--- the text of a report on these traces; the suite has this name, and these remarks stand beside it
+-- the text of a report on these traces, with the name of the suite and the remarks beside it
 abbrev pub junit_of : (suite : List ℕ) → List Line → (remarks : List ℕ) → List ℕ
 junit_of suite listed remarks = junit_named (flat_map escaped suite) listed remarks

@@ -1,4 +1,4 @@
--- What a report lists, and which texts are reports.
+-- The list of a report, and the texts that are reports.
 -- Source: this project's rule.
 use Rattle.std.specs.Prelude.{◌≡◌, ◌≢◌, ℕ, ◌<◌, ◌+◌, ◌^◌, List, [], ◌∷◌, ◌++◌, map, length, get_or}
 use Rattle.std.specs.Prelude.{Option, Some, None, IsSome}
@@ -14,7 +14,7 @@ use Rattle.lb_listing.specs.declared.entry.Entry.{Entry}
 use Rattle.lb_listing.specs.declared.read.ListingError.{ListingError}
 use Rattle.lb_listing.specs.declared.read.ListingError.TheVariants.{Memory, Fault}
 
--- ## What is listed
+-- ## The list of a report
 
 -- a trace: its name, and its verdict
 abbrev pub Line : Type 0
@@ -41,12 +41,12 @@ IsInstant None = Unit {0}
 abbrev pub HasInstant : Verdict → Type 0
 HasInstant v = IsInstant (instant_of v)
 
--- a lawful name, and an instant that a trace may have
+-- a line has a lawful name, and an instant that a trace may have
 pub record IsLine (l : Line) : Type 0 where
   pub name : IsTraceName l.0
   pub instant : HasInstant l.1
 
--- lines that one report may have: no two have one name, and their number is one of 64 bits
+-- lines that one report may have: no two have one name, and their number fits in 64 bits
 pub record IsListing (listed : List Line) : Type 0 where
   pub each : All IsLine listed
   pub distinct : AllPairs (λ a b. a ≢ b) (names_of listed)
@@ -58,7 +58,7 @@ pub record IsListing (listed : List Line) : Type 0 where
 abbrev pub spelled : Line → List ℕ
 spelled l = line l.0 l.1
 
--- a space and what a verdict says; and this without the space
+-- the text of a verdict behind a space; and without the space, as `false 21`
 abbrev pub spaced : Verdict → List ℕ
 spaced v = word (place_of v) ++ instant (instant_of v)
 
@@ -69,7 +69,7 @@ said v = get_or words (place_of v) [] ++ instant (instant_of v)
 abbrev pub body : Line → List ℕ
 body l = l.0 ++ 32 ∷ said l.1
 
--- the lines of some traces, and the last line behind them
+-- the lines of some traces; and the last line of a report on them
 abbrev pub lines_of : List Line → List ℕ
 lines_of listed = lines (names_of listed) (verdicts_of listed)
 
@@ -89,10 +89,10 @@ pub record Lists (text : List ℕ) (listed : List Line) : Type 0 where
 abbrev pub HasNo : ℕ → List ℕ → Type 0
 HasNo b text = All (λ c. c ≢ b) text
 
--- ## What is no report
+-- ## Texts that are no reports
 
--- a text is no report, and this is the first line that shows it, counted from 1: before it stand
--- lines of traces; it is no line of a further trace, and it does not end the report
+-- a text is no report, and this is the first line that shows it, counted from 1. Lines of traces
+-- stand before it; it is neither the line of a new trace nor the end of the report
 pub record IsFault (text : List ℕ) (number : ℕ) : Type 0 where
   pub before : List Line
   pub rest : List ℕ

@@ -11,7 +11,7 @@ use Rattle.lb_listing.specs.declared.merge_text.MergeError.TheVariants.{Memory, 
 abbrev pub texts_of : List (Vec ℕ Global) → List (List ℕ)
 texts_of texts = map (λ text. text.items) texts
 
--- what some reports list, one report after the other
+-- the traces of some reports, one report after the other
 abbrev pub joined : List (List Line) → List Line
 joined lists = flat_map (λ listed. listed) lists
 
@@ -27,14 +27,14 @@ pub record HaveTwice (texts : List (List ℕ)) : Type 0 where
   pub each : AllZip Lists texts lists
   pub twice : AllPairs (λ a b. a ≢ b) (names_of (joined lists)) → ⊥
 
--- why some texts are not merged
+-- the reason why some texts are not merged
 abbrev pub IsUnmerged : (texts : List (List ℕ)) → MergeError → Type 0
 IsUnmerged texts (Memory e) = Unit {0}
 IsUnmerged texts (Fault file number) =
     (file < length texts) × IsFault (get_or texts file []) number
 IsUnmerged texts (Twice file number) = HaveTwice texts
 
--- the texts are reports, these are all their traces, and this is the text of their lines
+-- the texts are reports, `listed` has all their traces, and `text` is the text of their lines
 pub record AreJoined (texts : List (List ℕ)) (listed : List Line) (text : List ℕ) : Type 0 where
   pub lists : List (List Line)
   pub each : AllZip Lists texts lists
@@ -42,7 +42,7 @@ pub record AreJoined (texts : List (List ℕ)) (listed : List Line) (text : List
   pub lawful : All IsLine listed
   pub lines : text ≡ lines_of listed
 
--- the same, and the last line behind the others
+-- the text has the lines of all traces of these reports, and the last line behind them
 pub record IsWhole (texts : List (List ℕ)) (text : List ℕ) : Type 0 where
   pub listed : List Line
   pub lines : List ℕ

@@ -11,7 +11,7 @@ use Rattle.lb_listing.specs.Listings.{Line}
 use Rattle.lb_listing.specs.declared.status.Measure.{Measure}
 use Rattle.lb_listing.specs.declared.status.Measure.TheVariants.{Lenient, Strict}
 
--- two verdicts are the same, instant and all
+-- two verdicts are the same, and so are their instants
 abbrev pub is_same : Verdict → Verdict → Bool
 is_same Passed Passed = true
 is_same (Fault s) (Fault t) = s == t

@@ -1,4 +1,4 @@
-//! A report is compared with an earlier one.
+//! The comparison of a report with an earlier one.
 
 ghost use Rattle.std.specs.Prelude.{◌≡◌, ◌∷◌, ◌++◌, [], IfOk, OnOk, map, count_by};
 ghost use Rattle.std.specs.List.{list_any};
@@ -13,7 +13,7 @@ use crate::text::{push_number, push_verdict};
 use lb_check::Verdict;
 use std::alloc::{AllocError, Global};
 
-/// How a report differs from an earlier one.
+/// The differences between a report and an earlier one.
 #[derive(Drop)]
 pub struct Comparison {
     /// A line for each trace that changed, is new or is gone, and a last line that counts.
@@ -155,7 +155,7 @@ fn is_missing(from: &Listing<'_>, entry: &Entry<'_>) -> bool
     from.verdict_of(entry.name).is_none()
 }
 
-/// How many of some traces are the same in an earlier report.
+/// The number of traces that have the same verdict in an earlier report.
 fn count_kept(before: &Listing<'_>, entries: &[Entry<'_>]) -> usize
     requires { indexed.IsIndexed before.now }
     ensures { result
@@ -164,7 +164,7 @@ fn count_kept(before: &Listing<'_>, entries: &[Entry<'_>]) -> usize
     entries.iter().filter(|e| is_kept(before, e)).count()
 }
 
-/// How many of some traces have another verdict in an earlier report.
+/// The number of traces that have another verdict in an earlier report.
 fn count_changed(before: &Listing<'_>, entries: &[Entry<'_>]) -> usize
     requires { indexed.IsIndexed before.now }
     ensures { result
@@ -173,7 +173,7 @@ fn count_changed(before: &Listing<'_>, entries: &[Entry<'_>]) -> usize
     entries.iter().filter(|e| is_changed(before, e)).count()
 }
 
-/// How many of some traces another report does not have.
+/// The number of traces that another report does not have.
 fn count_missing(from: &Listing<'_>, entries: &[Entry<'_>]) -> usize
     requires { indexed.IsIndexed from.now }
     ensures { result
@@ -254,7 +254,7 @@ fn status_of(measure: Measure, before: &Listing<'_>, now: &Listing<'_>) -> u8
 }
 
 /// Compares a report with an earlier one: the traces that changed or are new, in the order of the
-/// report, then those that are gone, in the order of the earlier one.
+/// report, then those that are gone, in the order of the earlier report.
 ///
 /// ```text
 /// changed: rig7/00000 passed -> false 21

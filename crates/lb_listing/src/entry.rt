@@ -12,7 +12,7 @@ pub struct Entry<'a> {
     pub verdict: Verdict,
 }
 
-/// Whether two verdicts are the same, instant and all.
+/// Whether two verdicts are the same, and their instants too.
 pub(crate) fn is_same(a: Verdict, b: Verdict) -> bool
     ensures { result ≡ spec.is_same a b }
 {

@@ -1,4 +1,4 @@
-//! A report is written as JUnit XML.
+//! Reports as JUnit XML.
 
 ghost use Rattle.std.specs.Prelude.{◌≡◌, ◌++◌, IfOk, OnOk, map, count_by, flat_map};
 ghost use Rattle.lb_pool.specs.Reports.{is_failure};
@@ -37,7 +37,7 @@ fn push_counted(text: &mut Vec<u8>, name: &str, n: usize) -> Result<(), AllocErr
     push_quoted(text, Buffer::new().format(n).as_bytes())
 }
 
-/// Adds what a verdict says between quotes.
+/// Adds the text of a verdict between quotes.
 fn push_message(text: &mut Vec<u8>, verdict: Verdict) -> Result<(), AllocError>
     ensures { OnOk result (text.new.items
         ≡ text.old.items ++ spec.quoted (listing.said verdict)) }
@@ -48,7 +48,7 @@ fn push_message(text: &mut Vec<u8>, verdict: Verdict) -> Result<(), AllocError>
     Ok(())
 }
 
-/// Adds that a trace has failed.
+/// Adds the end of the case of a trace that failed.
 fn push_failure(text: &mut Vec<u8>, verdict: Verdict) -> Result<(), AllocError>
     ensures { OnOk result (text.new.items ≡ text.old.items ++ spec.failure verdict) }
 {
@@ -60,7 +60,7 @@ fn push_failure(text: &mut Vec<u8>, verdict: Verdict) -> Result<(), AllocError>
     Ok(())
 }
 
-/// Adds that a trace was not judged to its end.
+/// Adds the end of the case of a trace that was not judged to its end.
 fn push_skipped(text: &mut Vec<u8>, verdict: Verdict) -> Result<(), AllocError>
     ensures { OnOk result (text.new.items ≡ text.old.items ++ spec.skipped verdict) }
 {
@@ -70,7 +70,7 @@ fn push_skipped(text: &mut Vec<u8>, verdict: Verdict) -> Result<(), AllocError>
     Ok(())
 }
 
-/// Adds what became of a trace.
+/// Adds the end of the case of a trace, by its verdict.
 fn push_outcome(text: &mut Vec<u8>, verdict: Verdict) -> Result<(), AllocError>
     ensures { OnOk result (text.new.items ≡ text.old.items ++ spec.outcome verdict) }
 {
@@ -107,7 +107,7 @@ fn push_testcases(text: &mut Vec<u8>, suite: &[u8], entries: &[Entry<'_>]) -> Re
     Ok(())
 }
 
-/// How many traces have failed.
+/// The number of traces that have failed.
 fn count_failed(entries: &[Entry<'_>]) -> usize
     ensures { result ≡ count_by (λ l. is_failure l.1) (map listing.line_of entries.now) }
 {
@@ -117,14 +117,14 @@ fn count_failed(entries: &[Entry<'_>]) -> usize
         .count()
 }
 
-/// How many traces were not judged to their end.
+/// The number of traces that were not judged to their end.
 fn count_skipped(entries: &[Entry<'_>]) -> usize
     ensures { result ≡ count_by (λ l. spec.is_skipped l.1) (map listing.line_of entries.now) }
 {
     entries.iter().filter(|e| is_skipped(e.verdict)).count()
 }
 
-/// Adds what stands before the counts of the suite.
+/// Adds the text before the counts of the suite.
 fn push_head(text: &mut Vec<u8>, suite: &[u8]) -> Result<(), AllocError>
     ensures { OnOk result (text.new.items ≡ text.old.items ++ spec.head suite.now) }
 {
@@ -151,8 +151,8 @@ fn push_counts(
     Ok(())
 }
 
-/// Adds a byte of a text between tags or quotes. What XML takes for its own, or has no place for,
-/// stands as an entity or `?`.
+/// Adds a byte of a text between tags or quotes. A byte that has a meaning in XML, or no place
+/// there, is written as an entity or `?`.
 fn push_escaped(text: &mut Vec<u8>, b: u8) -> Result<(), AllocError>
     ensures { OnOk result (text.new.items ≡ text.old.items ++ spec.escaped b) }
 {
@@ -166,7 +166,7 @@ fn push_escaped(text: &mut Vec<u8>, b: u8) -> Result<(), AllocError>
     }
 }
 
-/// Adds what is said beside a report, if something is.
+/// Adds the remarks beside a report, if there are any.
 fn push_remarks(text: &mut Vec<u8>, remarks: &[u8]) -> Result<(), AllocError>
     ensures { OnOk result (text.new.items ≡ text.old.items ++ spec.said_beside remarks.now) }
 {
@@ -189,7 +189,7 @@ fn push_all_escaped(text: &mut Vec<u8>, bytes: &[u8]) -> Result<(), AllocError>
     Ok(())
 }
 
-/// A report as JUnit XML, with the name of its suite as it stands there.
+/// A report as JUnit XML, where the name of the suite is escaped already.
 fn junit_named(
     alloc: Global,
     suite: &[u8],
@@ -210,9 +210,9 @@ fn junit_named(
     Ok(text)
 }
 
-/// A report as JUnit XML: one suite of this name, and a case for each trace. A fault, what is
-/// undefined and a false property are failures; a broken assumption is a case that was skipped.
-/// What is said beside the report is the `system-err` of the suite.
+/// A report as JUnit XML: one suite of this name, and a case for each trace. A fault, an undefined
+/// value and a false property are failures; a broken assumption is a case that was skipped. The
+/// remarks beside the report are the `system-err` of the suite.
 ///
 /// ```text
 /// <testcase classname='main' name='stuck'><failure type='false' message='false 7'/></testcase>

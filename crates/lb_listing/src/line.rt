@@ -1,10 +1,10 @@
-//! A line of a report is taken apart.
+//! The parts of a line of a report.
 
 ghost use Rattle.std.specs.Prelude.{◌≡◌, ◌≢◌, ◌<◌, ◌++◌, ℕ, List, ◌∷◌, IfSome, IfNone, decimal};
 ghost use Rattle.std.specs.Prelude.{slice_index};
 ghost use Rattle.lb_check.specs.declared.verdict.Verdict.{Verdict as Said};
 ghost use Rattle.lb_listing.specs.Listings as spec;
-ghost use Rattle.lb_listing.specs.Plain.{is_plain};
+ghost use Rattle.lb_listing.specs.Plain.{is_canonical};
 
 use crate::entry::Entry;
 use lb_check::Verdict;
@@ -24,9 +24,9 @@ fn first_byte(text: &str) -> u8
     }
 }
 
-/// Whether a text has no plus, and no zero before other digits, in front.
-fn is_plain(text: &str) -> bool
-    ensures { result ≡ is_plain text.now }
+/// Whether a text has no plus in front, and no zero before other digits.
+fn is_canonical(text: &str) -> bool
+    ensures { result ≡ is_canonical text.now }
 {
     let first = first_byte(text);
     first != b'+' && !(first == b'0' && text.len() > 1)
@@ -37,7 +37,7 @@ fn read_instant(digits: &str) -> Option<u32>
     ensures some { IfSome result (λ t. (t < 1000000) × (digits.now ≡ decimal t)) }
     ensures none { IfNone result ((t : ℕ) → t < 1000000 → digits.now ≢ decimal t) }
 {
-    if !is_plain(digits) {
+    if !is_canonical(digits) {
         return None;
     }
     match digits.parse::<u32>() {
@@ -46,7 +46,7 @@ fn read_instant(digits: &str) -> Option<u32>
     }
 }
 
-/// The verdict that a text says: a word, and then the instant, if it has one.
+/// The verdict of a text: a word, and then the instant, if it has one.
 fn read_verdict(text: &str) -> Option<Verdict>
     ensures some { IfSome result (λ v. spec.HasInstant v × (text.now ≡ spec.said v)) }
     ensures none { IfNone result ((v : Said) → spec.HasInstant v → text.now ≢ spec.said v) }
@@ -65,7 +65,7 @@ fn read_verdict(text: &str) -> Option<Verdict>
     }
 }
 
-/// The trace and the verdict of a line, which is here without its end.
+/// The trace and the verdict of a line, given without its end.
 fn read_entry(line: &str) -> Option<Entry<'_>>
     ensures some { IfSome result (λ e. spec.IsLine (spec.line_of e)
         × (line.now ≡ spec.body (spec.line_of e))) }

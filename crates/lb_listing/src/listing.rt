@@ -1,4 +1,4 @@
-//! What a report lists, with its traces by their names.
+//! The list of a report, with its traces by their names.
 
 ghost use Rattle.std.specs.Prelude.{◌≡◌, ◌∷◌, ◌++◌, [], IfOk, OnErr, false, true, not, is_some};
 ghost use Rattle.std.specs.Prelude.{map};
@@ -10,7 +10,7 @@ use lb_check::Verdict;
 use std::alloc::{AllocError, Global};
 use std::collections::BTreeMap;
 
-/// What a report lists: a line for each trace, in order.
+/// The list of a report: a line for each trace, in order.
 #[derive(Drop)]
 pub struct Listing<'a> {
     pub entries: Vec<Entry<'a>>,
@@ -18,7 +18,7 @@ pub struct Listing<'a> {
 }
 
 impl<'a> Listing<'a> {
-    /// Of no trace.
+    /// A list without a trace.
     pub(crate) fn new(alloc: Global) -> Listing<'a>
         ensures empty { result.entries.items ≡ [] }
         ensures indexed { indexed.IsIndexed result }
@@ -37,7 +37,7 @@ impl<'a> Listing<'a> {
         self.by_name.get(name).copied()
     }
 
-    /// Adds a trace, unless there is one of its name, and answers whether it was added.
+    /// Adds a trace, unless there is one with its name, and returns whether it was added.
     pub(crate) fn push(&mut self, entry: Entry<'a>) -> Result<bool, AllocError>
         requires { indexed.IsIndexed self.old }
         ensures fresh { IfOk result (λ fresh. let name = entry.entry.name.now in

@@ -1,4 +1,4 @@
-//! Several reports are made one.
+//! The merge of several reports into one.
 
 ghost use Rattle.std.specs.Prelude.{◌≡◌, ◌++◌, List, IfErr, IfNone, IfOk, IfSome, OnOk, map};
 ghost use Rattle.lb_listing.specs.Listings as listing;
@@ -11,13 +11,13 @@ use std::alloc::{AllocError, Global};
 use std::fmt;
 use thiserror::Error;
 
-/// Why reports are not merged. Files are counted from 0, lines from 1.
+/// The reasons why reports are not merged. Files are counted from 0, lines from 1.
 #[derive(Drop, Error)]
 pub enum MergeError {
     /// E0: a growth was refused.
     #[error(transparent)]
     Memory(AllocError),
-    /// E20: a file is no report; the first of its lines that shows it.
+    /// E20: a file is no report; `line` is the first of its lines that shows it.
     #[error("line {line} of file {file} goes on no report")]
     Fault { file: usize, line: usize },
     /// E17: a trace of an earlier file comes back in this line of a file.
@@ -46,12 +46,12 @@ impl fmt::Debug for MergeError {
 struct Joined<'a> {
     entries: Vec<Entry<'a>>,
     text: Vec<u8>,
-    /// How many traces each report has.
+    /// The number of traces of each report.
     counts: Vec<usize>,
 }
 
 impl Joined<'_> {
-    /// The text alone.
+    /// The text of the lines, without the entries.
     fn into_text(self) -> Vec<u8>
         ensures { result ≡ self.entry.text }
     {
@@ -143,8 +143,8 @@ fn first_fault(alloc: Global, text: &[u8]) -> Result<Option<usize>, AllocError>
     }
 }
 
-/// One report on the traces of several, in their order. Each text has to be a report, and no trace
-/// may be in two of them.
+/// The one report on the traces of several reports, in their order. Each text has to be a report,
+/// and no trace may be in two of them.
 pub fn merge(alloc: Global, texts: &[Vec<u8>]) -> Result<Vec<u8>, MergeError>
     ensures ok { IfOk result (λ text. spec.IsMerged (spec.texts_of texts.now) text.items) }
     ensures err { IfErr result (spec.IsUnmerged (spec.texts_of texts.now)) }

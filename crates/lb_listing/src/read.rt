@@ -1,4 +1,4 @@
-//! A report is read back.
+//! The reading of a report.
 
 ghost use Rattle.std.specs.Prelude.{◌≡◌, ◌↔◌, List, IfOk, IfErr, IsTrue};
 ghost use Rattle.lb_listing.specs.Indexed as indexed;
@@ -11,13 +11,13 @@ use std::alloc::{AllocError, Global};
 use std::fmt;
 use thiserror::Error;
 
-/// Why a text is not read as a report.
+/// The reasons why a text is not read as a report.
 #[derive(Drop, Error)]
 pub enum ListingError {
     /// E0: a growth was refused.
     #[error(transparent)]
     Memory(AllocError),
-    /// The text is no report; the first line that shows it, counted from 1.
+    /// The text is no report; this is the first line that shows it, counted from 1.
     #[error("line {0} goes on no report")]
     Fault(usize),
 }
@@ -55,8 +55,8 @@ fn is_end(alloc: Global, listing: &Listing<'_>, text: &[u8]) -> Result<bool, All
     Ok(is_text(total.as_slice(), text))
 }
 
-/// What a report lists. A text that is no report is refused, also one that is cut short, counts
-/// otherwise than its lines, or has a trace twice.
+/// The list of a report. A text that is no report is refused, also one that is cut short, has other
+/// counts than its lines, or has a trace twice.
 pub fn read_listing(alloc: Global, text: &[u8]) -> Result<Listing<'_>, ListingError>
     ensures lists { IfOk result (λ found. spec.Lists text.now (indexed.listed found)) }
     ensures only { IfOk result (λ found. (other : List spec.Line) → spec.Lists text.now other

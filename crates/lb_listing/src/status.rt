@@ -8,12 +8,12 @@ ghost use Rattle.lb_listing.specs.Verdicts as spec;
 use crate::entry::Entry;
 use lb_check::Verdict;
 
-/// What makes a run fail.
+/// The measure by which a run fails.
 #[derive(Clone, Copy)]
 pub enum Measure {
-    /// A fault, what is undefined, and a property that is false.
+    /// A fault, an undefined value and a false property make a run fail.
     Lenient,
-    /// A broken assumption too, and a report on no trace.
+    /// A broken assumption makes it fail too, and so does a report on no trace.
     Strict,
 }
 

@@ -1,4 +1,4 @@
-//! A report is written.
+//! The text of a report.
 
 ghost use Rattle.std.specs.Prelude.{◌≡◌, ◌<◌, ◌++◌, [], flat_map, map, get_or, OnOk};
 ghost use Rattle.lb_pool.specs.Reports as report;
@@ -9,10 +9,10 @@ use itoa::{Buffer, Integer};
 use lb_check::Verdict;
 use std::alloc::AllocError;
 
-/// How many words there are for verdicts.
+/// The number of words for verdicts.
 const WORDS: usize = 5;
 
-/// The words for verdicts, in the order of the last line.
+/// The word at a place, in the order of the last line.
 fn word(place: usize) -> &'static str
     requires { place < WORDS }
     ensures { result.now ≡ get_or report.words place [] }
@@ -26,7 +26,7 @@ fn word(place: usize) -> &'static str
     }
 }
 
-/// Which of the words a verdict has.
+/// The place of a verdict's word among the words.
 pub(crate) fn place_of(verdict: Verdict) -> usize
     ensures value { result ≡ report.place_of verdict }
     ensures within { result < WORDS }
@@ -40,7 +40,7 @@ pub(crate) fn place_of(verdict: Verdict) -> usize
     }
 }
 
-/// The instant that decided, if one did.
+/// The instant that decided a verdict, if one did.
 fn instant_of(verdict: Verdict) -> Option<u32>
     ensures { result ≡ report.instant_of verdict }
 {
@@ -75,7 +75,7 @@ pub(crate) fn word_of(verdict: Verdict) -> &'static str
     word(place_of(verdict))
 }
 
-/// Adds what a verdict says.
+/// Adds the text of a verdict.
 pub(crate) fn push_said(text: &mut Vec<u8>, verdict: Verdict) -> Result<(), AllocError>
     ensures { OnOk result (text.new.items ≡ text.old.items ++ spec.said verdict) }
 {
@@ -86,7 +86,7 @@ pub(crate) fn push_said(text: &mut Vec<u8>, verdict: Verdict) -> Result<(), Allo
     }
 }
 
-/// Adds a space and what a verdict says.
+/// Adds a space and the text of a verdict.
 pub(crate) fn push_verdict(text: &mut Vec<u8>, verdict: Verdict) -> Result<(), AllocError>
     ensures { OnOk result (text.new.items ≡ text.old.items ++ spec.spaced verdict) }
 {
@@ -115,7 +115,7 @@ pub(crate) fn push_lines(text: &mut Vec<u8>, entries: &[Entry<'_>]) -> Result<()
     Ok(())
 }
 
-/// How many verdicts have a word.
+/// The number of verdicts whose word is at `place`.
 pub(crate) fn count_of(entries: &[Entry<'_>], place: usize) -> usize
     ensures { result ≡ report.count_of (spec.verdicts_of (map spec.line_of entries.now)) place }
 {

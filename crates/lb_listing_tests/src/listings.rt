@@ -5,7 +5,7 @@ use lb_listing::{
 };
 use std::alloc::{AllocError, Global};
 
-/// What is read of a report: its status by either measure, or the first line that is wrong.
+/// Adds the status of a report by either measure, or the first line that is wrong.
 fn push_read(alloc: Global, asked: &str, said: &mut String) -> Result<(), AllocError> {
     match read_listing(alloc, asked.as_bytes()) {
         Ok(found) => {
@@ -23,7 +23,7 @@ fn push_read(alloc: Global, asked: &str, said: &mut String) -> Result<(), AllocE
     }
 }
 
-/// How the second of two reports differs from the first, and the status by either measure.
+/// Adds the differences between two reports, and the status by either measure.
 fn push_comparison(alloc: Global, asked: &str, said: &mut String) -> Result<(), AllocError> {
     let (before, now) = asked.split_once("%\n").unwrap_or((asked, ""));
     let (Ok(before), Ok(now)) = (
@@ -38,7 +38,7 @@ fn push_comparison(alloc: Global, asked: &str, said: &mut String) -> Result<(), 
     write!(said, "{text}{}, strict {}\n", found.status, strict.status)
 }
 
-/// The one report of several.
+/// Adds the one report that several make.
 fn push_merged(alloc: Global, asked: &str, said: &mut String) -> Result<(), AllocError> {
     let mut texts = Vec::new(alloc);
     for text in asked.split("%\n") {
@@ -52,7 +52,7 @@ fn push_merged(alloc: Global, asked: &str, said: &mut String) -> Result<(), Allo
     }
 }
 
-/// A report, and what is said beside it, as JUnit XML.
+/// Adds a report, and the remarks beside it, as JUnit XML.
 fn push_suite(alloc: Global, asked: &str, said: &mut String) -> Result<(), AllocError> {
     let (report, remarks) = asked.split_once("%\n").unwrap_or((asked, ""));
     match read_listing(alloc, report.as_bytes()) {
@@ -64,7 +64,7 @@ fn push_suite(alloc: Global, asked: &str, said: &mut String) -> Result<(), Alloc
     }
 }
 
-/// Texts, and what is read of them.
+/// Texts, and the result of reading each.
 const READ: &str = "\
 total 0 passed 0 fault 0 undefined 0 assertion 0 false 0
 %answer
@@ -137,7 +137,7 @@ line 1
 line 1
 ";
 
-/// Two reports, how the second differs, and the statuses.
+/// Pairs of reports, their differences, and the statuses.
 const COMPARISONS: &str = "\
 a passed
 b false 3
@@ -305,7 +305,7 @@ file 0, line 2
 file 0, line 1
 ";
 
-/// What the rows of a table ask about.
+/// The question that the rows of a table ask.
 #[derive(Clone, Copy)]
 enum Asks {
     Read,
@@ -322,7 +322,7 @@ static TABLES: [(Asks, &str); 4] = [
     (Asks::Suites, SUITES),
 ];
 
-/// What is answered on what a row asks.
+/// Adds the answer to the question of a row.
 fn push_answer(
     alloc: Global,
     asks: Asks,

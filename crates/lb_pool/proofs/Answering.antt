@@ -1,4 +1,4 @@
--- What a seat of a board of settled traces knows after a post and a look.
+-- The view of a seat of a board of settled traces after a post, and after a look.
 use Rattle.std.proofs.Common.{◌≡◌, ◌≢◌, ℕ, ◌⊎◌, inl, inr, true, false, eqb, List, refl, ap}
 use Rattle.std.proofs.Common.{◌∙◌, subst, arith}
 use Rattle.std.proofs.lemmas.Bool.Decides.{eqb_tells}
@@ -54,7 +54,7 @@ module _ (v : FollowView) (slots : List (ℕ × ℕ)) (k found : ℕ) (me : Me �
       ∙ ap {B = Me ℕ FollowView} (λ (w : FollowView). (w, slots))
       (looked_settled v k found settled))
 
-  -- whatever was found
+  -- a look keeps the draws and the slots, whatever it finds
   pub after_any_look :
       me ≡ (looked v k found, slots) → (me.0.draws ≡ v.draws) × (me.1 ≡ slots)
   after_any_look e = by (eqb_tells found 0)
@@ -123,20 +123,20 @@ pub nothing_known :
     (v : FollowView) (k found : ℕ) → IsFound v k found → found ≡ 0 → KnowsNothing v.known k
 nothing_known v k found f zero x h = omega (arith, f.known x h, zero, word_some x)
 
--- what is known of a trace that is settled is what its word tells
+-- what is known of a trace that is settled is what its word stands for
 pub told_known :
     (v : FollowView) (k found : ℕ) → IsFound v k found → (x : Option Verdict) →
     Knows v.known k x → told_by found ≡ x
 told_known v k found f x h = ap told_by (f.known x h) ∙ told_word x
 
--- and what its word tells is right
+-- the verdict in the word of a settled trace is right
 pub told_right :
     (v : FollowView) (k found : ℕ) → IsFound v k found → found ≢ 0 → (right : List Verdict) →
     v.right ≡ right → IsRight right k (told_by found)
 told_right v k found f settled right same =
     subst (λ (r : List Verdict). IsRight r k (told_by found)) same (f.is_right settled)
 
--- a look that shows two answers shows one
+-- settlements that a look shows alike are the same
 pub same_shown : (x y : Option Verdict) → shown x ≡ shown y → x ≡ y
 same_shown None None e = refl
 same_shown None (Some v) e = absurd cc

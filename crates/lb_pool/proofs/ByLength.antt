@@ -22,7 +22,7 @@ le_trans x y z (inl a) (inr b) = inl (omega (arith, a, b.0))
 le_trans x y z (inr a) (inl b) = inl (omega (arith, a.0, b))
 le_trans x y z (inr a) (inr b) = inr (omega (arith, a.0, b.0), omega (arith, a.1, b.1))
 
--- what sorting says of neighbours
+-- y does not sort before x, so x comes no later than y
 not_after :
     (x y : ℕ × ℕ) →
     is_lt (ordering_then (nat_cmp y.0 x.0) (nat_cmp y.1 x.1)) ≡ false → Le x y

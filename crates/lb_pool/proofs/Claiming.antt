@@ -134,7 +134,7 @@ module _ (n id w : ℕ) (v : View) (views : List View) (has : 0 < v.shares)
             limit = l.limit;
           }
 
-  -- a number below the limit is drawn
+  -- the law holds after a number below the limit is drawn
   draws : w < n → AreLawfulViews n (w + 1) (set views id (claimed true v w))
   draws h =
       let u = claimed true v w in
@@ -165,7 +165,7 @@ module _ (n id w : ℕ) (v : View) (views : List View) (has : 0 < v.shares)
         });
       }
 
-  -- past the limit the view is told
+  -- the law holds after a view is told that no number is left
   tells : n ≤ w → AreLawfulViews n (w + 1) (set views id (claimed false v w))
   tells h =
       let u = claimed false v w in
@@ -452,7 +452,7 @@ none_of f g (x ∷ xs) e h =
     let b = none_of f g xs (omega (arith, e, c)) (λ p y q. h (suc p) y q) in
     omega (arith, a, b, sum_cons f x xs)
 
--- where it was told that none is left, it has drawn all numbers
+-- a seat that has all shares and was told that no number is left has drawn all numbers
 pub settled :
     (n id : ℕ) (v : View) (s : State ℕ View) → IsLawfulBoard n s →
     get_elem? s.views id ≡ some v → v.shares ≡ 64 → v.told ≡ true → AreAllBelow n v.drawn

@@ -10,12 +10,12 @@ twice limit first between last some more one two = omega arith
 none : (limit count : ℕ) → count + min 0 (limit - count) ≡ count
 none limit count = omega arith
 
--- what is counted in two steps is counted at once
+-- to count `some` bytes and then `more` is to count them together
 pub count_more-twice : (first between last some more : ℕ) → between ≡ count_more first some
     → last ≡ count_more between more → last ≡ count_more first (some + more)
 count_more-twice first between last some more one two =
     twice most_counted first between last some more one two
 
--- no more bytes
+-- a count stays where no byte is added
 pub count_more-none : (count : ℕ) → count_more count 0 ≡ count
 count_more-none count = none most_counted count

@@ -108,7 +108,7 @@ numbers_of_drawn batches (x ∷ xs) i k (suc j, below, there) inside =
 some_below : (k n : ℕ) → k < n → 0 < once_below k n
 some_below k n h = grind arith
 
--- where each batch of a plan was drawn, each of its numbers is there
+-- where each batch of a plan was drawn, each of its numbers was drawn
 pub covered_by :
     (n : ℕ) (batches : List (List ℕ)) (drawn : List ℕ) → IsLawful batches →
     length (numbers_in batches) ≡ n → ((i : ℕ) → i < length batches → Contains drawn i) →

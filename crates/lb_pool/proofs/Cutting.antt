@@ -13,9 +13,9 @@ use lib.Seq.{take-add}
 use Rattle.lb_pool.specs.Plans.{numbers_in, IsPlan, IsLawful}
 use Rattle.lb_pool.specs.Cuts.{count_of, batch_of, batches_of, IsCut}
 
--- ## How many batches there are
+-- ## The number of batches
 
--- a quotient of a number, and what is left
+-- c is the quotient of `n + (w - 1)` by w, rounded down, and `left` is the remainder
 pub record IsQuotient (w n c : ℕ) : Type 0 where
   pub left : ℕ
   pub below : left < w
@@ -24,21 +24,21 @@ pub record IsQuotient (w n c : ℕ) : Type 0 where
 counted : (w n : ℕ) → 0 < w → IsQuotient w n (count_of w n)
 counted w n some = record { left = (n + (w - 1)) % w; below = omega arith; is = omega arith }
 
--- they hold all numbers
+-- `count_of w n` batches have room for n numbers
 pub holds_all : (w n : ℕ) → 0 < w → n ≤ count_of w n * w
 holds_all w n some = let q = counted w n some in omega (arith, q.below, q.is)
 
--- each begins before the end
+-- each batch begins before the end of the numbers
 pub begins : (w n i : ℕ) → 0 < w → i < count_of w n → i * w < n
 begins w n i some below =
     let q = counted w n some in
     let more : (i + 1) * w ≤ count_of w n * w = mul-le-mul_right w (omega arith) in
     omega (arith, q.below, q.is, more)
 
--- ## What they hold
+-- ## The numbers of the batches
 
 module _ (w : ℕ) (xs : List ℕ) where
-  -- the first batches hold the first numbers
+  -- the first c batches hold the first `c * w` numbers
   first_batches : (c : ℕ) → numbers_in (map (batch_of w xs) (range_with_len 0 c)) ≡ take (c * w) xs
   first_batches zero = let none : 0 ≡ zero * w = omega arith in ap (λ n. take n xs) none
   first_batches (suc c) =
@@ -53,7 +53,7 @@ module _ (w : ℕ) (xs : List ℕ) where
       ∙ sym (take-add (c * w) w xs)
       ∙ ap (λ n. take n xs) product
 
-  -- all of them hold all
+  -- all batches hold all numbers
   pub joined : 0 < w → numbers_in (batches_of w xs) ≡ xs
   joined some =
       first_batches (count_of w (length xs)) ∙ take_all _ xs (holds_all w (length xs) some)
@@ -89,7 +89,7 @@ module _ (w : ℕ) (xs : List ℕ) where
         omega (arith, begin, e);
   }
 
-  -- the same of a list whose length has another name
+  -- the batches of n numbers are a plan
   pub plan_of :
       (n : ℕ) → n ≡ length xs → (0 < w) × (w ≤ 64) → n < 2 ^ 32 →
       IsPermutation (range_with_len 0 n) xs → IsPlan n w (batches_of w xs)
@@ -102,7 +102,7 @@ module _ (w : ℕ) (xs : List ℕ) where
         each_once = subst (λ m. IsPermutation (range_with_len 0 m) xs) e each_once;
       }))
 
-  -- the same of the numbers of its batches
+  -- the batches of a cut are a plan of their numbers
   pub joined_plan :
       IsCut w xs → IsPlan (length (numbers_in (batches_of w xs))) w (batches_of w xs)
   joined_plan cut =
@@ -112,13 +112,13 @@ module _ (w : ℕ) (xs : List ℕ) where
   is_lawful cut =
       record { width = w; at_most_64 = cut.at_most_64; plan = joined_plan cut }
 
--- where a batch lies among the numbers
+-- the place of batch i among the numbers: from `i * w` to `end`
 pub record Lies (w : ℕ) (xs : List ℕ) (i end : ℕ) (batch : List ℕ) : Type 0 where
   pub rises : i * w ≤ end
   pub within : end ≤ length xs
   pub value : take (end - i * w) (drop (i * w) xs) ≡ batch
 
--- it begins after the batches before it, and ends a width later or at the end of all
+-- batch i ends a width after its begin, or at the end of all numbers
 pub lies :
     (w : ℕ) (numbers : List ℕ) (batches : List (List ℕ)) (i : ℕ) (xs : List ℕ) (end : ℕ) →
     batches_of w numbers ≡ batches → IsCut w numbers → xs ≡ numbers → i < length batches →
@@ -143,7 +143,7 @@ lies w numbers batches i xs end view cut same below is =
           ∙ ap (λ l. get_or l i []) view;
     }
 
--- the numbers below one number more
+-- the numbers below n + 1 are those below n, and n
 pub range_more : (n : ℕ) → range_with_len 0 (n + 1) ≡ range_with_len 0 n ++ n ∷ []
 range_more n =
     sym (map-id (range_with_len 0 (n + 1)))

@@ -1,4 +1,4 @@
--- What a worker has drawn that claims a batch, and some after it.
+-- The draws of a worker that claims one batch, and then more.
 use Rattle.std.proofs.Common.{◌≡◌, ℕ, ◌∙◌, ◌++◌, ◌∷◌, [], List, get_or, sym, ap}
 use Rattle.std.proofs.lemmas.List.{append-nil}
 use Rattle.std.proofs.lemmas.List.Concat.{flat_map-append}
@@ -11,7 +11,7 @@ drawn_one batches drawn i =
     flat_map-append (λ j. get_or batches j []) drawn (i ∷ [])
     ∙ ap (λ l. numbers_drawn batches drawn ++ l) (append-nil (get_or batches i []))
 
--- where what was judged before is what was drawn before, and all that was drawn since was judged
+-- what is judged is what is drawn, if it was so before and all that was drawn since was judged
 pub judged_further :
     (batches : List (List ℕ)) (old first new : List ℕ) (i : ℕ) (members before after : List ℕ) →
     first ≡ old ++ i ∷ [] →

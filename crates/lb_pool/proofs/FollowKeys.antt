@@ -1,15 +1,15 @@
--- The verdicts that a key says are right.
+-- The right verdicts of a key.
 use Rattle.std.proofs.Common.{◌≡◌, ℕ, ◌+◌, List, length, replicate, sym, ap, ap₂, ◌∙◌}
 use Rattle.lb_check.specs.declared.verdict.Verdict.{Verdict}
 use Rattle.lb_flat.specs.Programs.{program_of}
 use Rattle.lb_flat.specs.RightVerdicts.{right_verdicts}
 use Rattle.lb_traces.specs.Traces.{Recording}
 use Rattle.lb_flat.specs.declared.flat.Ordered.{Ordered}
-use Rattle.lb_flat.proofs.RightVerdicts.{length-right_verdicts}
+use Rattle.lb_flat.proofs.runs.RightVerdicts.{length-right_verdicts}
 use Rattle.lb_pool.specs.declared.follow_views.FollowKey.{FollowKey}
 use Rattle.lb_pool.specs.FollowKeys.{right_by}
 
--- they are those of the traces that it has, under the program that it has
+-- the right verdicts of a key are those of its traces, under its program
 pub right_by_parts :
     (key : FollowKey) (o : Ordered) (r : Recording) → key.ordered.value ≡ o →
     key.set.value ≡ r → right_by key ≡ right_verdicts (program_of o.program) r
@@ -17,7 +17,7 @@ unfolding right_by
 right_by_parts key o r e f =
     ap₂ (λ (x : Ordered) (s : Recording). right_verdicts (program_of x.program) s) e f
 
--- one for each trace
+-- a key has one right verdict for each trace
 pub length-right_by :
     (key : FollowKey) (o : Ordered) (r : Recording) → key.ordered.value ≡ o →
     key.set.value ≡ r → length (right_by key) ≡ length r.traces

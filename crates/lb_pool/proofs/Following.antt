@@ -49,7 +49,7 @@ draws_there :
     get_elem? (draws_of views) i ≡ some v.draws
 draws_there views i v e = at_map (λ v. v.draws) views i v e
 
--- the draws are the same where those of the one view that changes are
+-- `draws_of` stays where the one view that changes keeps its draws
 pub draws_kept :
     (views : List FollowView) (i : ℕ) (v w : FollowView) → get_elem? views i ≡ some v →
     w.draws ≡ v.draws → draws_of (set views i w) ≡ draws_of views
@@ -67,7 +67,7 @@ pub record Stands (views : List FollowView) (e : Settlement) : Type 0 where
   pub there : get_elem? views seat ≡ some view
   pub post : Contains view.posts e
 
--- what stood in some view's posts still does, where that of the view that changes does
+-- a trace that was posted stays posted where the posts of the view that changes still stand
 still :
     (views : List FollowView) (i : ℕ) (v w : FollowView) → get_elem? views i ≡ some v →
     ((e : Settlement) → Contains v.posts e → Stands (set views i w) e) → (k word : ℕ) →
@@ -100,7 +100,7 @@ still views i v w here moved k word p = by (eqb_tells p.seat i)
       told = p.told;
     }
 
--- posts that only grow stand where they stood
+-- posts of a view that only grow still stand
 pub grow :
     (views : List FollowView) (i : ℕ) (v w : FollowView) → get_elem? views i ≡ some v →
     ((e : Settlement) → Contains v.posts e → Contains w.posts e) → (e : Settlement) →
@@ -147,7 +147,7 @@ pub record IsRest (right : List Verdict) (words : List ℕ) (views : List Follow
 
 module _ (right : List Verdict) (old new : List ℕ) (views : List FollowView) (stay : Stay old new)
     (rest : IsRest right old views) where
-  -- one view changes
+  -- `IsRest` holds after one view changes
   pub rest_set :
       (i : ℕ) (v w : FollowView) → get_elem? views i ≡ some v →
       ((e : Settlement) → Contains v.posts e → Stands (set views i w) e) →
@@ -190,7 +190,7 @@ module _ (right : List Verdict) (old new : List ℕ) (views : List FollowView) (
             known = All-weaker (IsHeld old) (IsHeld new) (held_still old new stay) x.known l.known;
           }
 
--- one view more
+-- `IsRest` holds with one more view
 rest_more :
     (right : List Verdict) (words : List ℕ) (views : List FollowView) (w : FollowView) →
     IsRest right words views → IsLawfulFollower right words w →
@@ -267,7 +267,7 @@ same_shares : (b : Bool) (v : View) (k : ℕ) → (claimed b v k).shares ≡ v.s
 same_shares true v k = refl
 same_shares false v k = refl
 
--- the other words stay where one changes
+-- the other words stay where word 0 changes
 others_stay :
     (ws : List ℕ) (x j : ℕ) → slice_index (slice_set ws 0 x) (j + 1) ≡ slice_index ws (j + 1)
 others_stay ws x j = get_or-set_other ws 0 (j + 1) x 0 (λ e. omega (arith, e))

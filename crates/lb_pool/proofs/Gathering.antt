@@ -1,4 +1,4 @@
--- What two workers have done together is what one would have done.
+-- The joint result of two workers is that of one worker with the shares of both.
 use Rattle.std.proofs.Common.{◌≡◌, ℕ, ◌+◌, ◌||◌, ◌++◌, List, min, sym, ap, ◌∙◌, subst}
 use Rattle.std.proofs.lemmas.List.{map-append}
 use Rattle.std.proofs.lemmas.List.Concat.{flat_map-append}
@@ -6,7 +6,7 @@ use Rattle.std.proofs.lemmas.List.Elements.{All-append}
 use Rattle.std.specs.Prelude.{[], get_or}
 use Rattle.lb_traces.specs.Traces.{Recording}
 use Rattle.lb_flat.specs.declared.program.FlatProgram.{FlatProgram}
-use Rattle.lb_pool.specs.Runs.{IsJudged, AreJudged, numbers_of, numbers_drawn}
+use Rattle.lb_pool.specs.Runs.{IsJudgedTrace, AreJudged, numbers_of, numbers_drawn}
 use Rattle.lb_pool.specs.Seats.{shares_of, told_of, drawn_of}
 use Rattle.lb_pool.specs.Workers.{HasDrained, IsBoth}
 use Rattle.lb_pool.specs.declared.batch.Judged.{Judged}
@@ -36,6 +36,6 @@ gathered board a b shares p r batches one other d first second sum both = record
       ∙ ap (numbers_drawn batches) (sym both.drawn);
   judged =
       subst (AreJudged p r) (sym both.judged)
-      (All-append (IsJudged p r) one.judged.items other.judged.items first.judged
+      (All-append (IsJudgedTrace p r) one.judged.items other.judged.items first.judged
       second.judged);
 }

@@ -12,9 +12,9 @@ use Rattle.lb_pool.specs.declared.follow_error.FollowError.{FollowError}
 use Rattle.lb_pool.specs.Taken.{Taken, Takes}
 use Rattle.lb_pool.proofs.SinkBytes.{takes_more, takes_no_byte}
 
--- ## How far a text came
+-- ## The part of a text that went out
 
--- a sink was not written to
+-- `Goes` for a sink that was not written to
 pub goes_nowhere : (a : Taken) (text : List ℕ) (n : ℕ) → Goes a a text text n n
 goes_nowhere a text n = record {
   gone = [];
@@ -23,7 +23,7 @@ goes_nowhere a text n = record {
   count = omega arith;
 }
 
--- the first n bytes of a text went out
+-- `Goes` where the first n bytes of a text went out
 pub goes_front : (before after : Taken) (text : List ℕ) (from n : ℕ) → n ≤ length text
     → Takes before after (take n text)
     → Goes before after text (drop n text) from (from + n)
@@ -34,7 +34,7 @@ goes_front before after text from n within took = record {
   count = ap (λ k. from + k) (sym (length-take-le n text within));
 }
 
--- what was left goes further
+-- `Goes` of a text, and then of the rest of it, is `Goes` of the text
 pub goes_on : (a b c : Taken) (text rest last : List ℕ) (from between to : ℕ)
     → Goes a b text rest from between → Goes b c rest last between to
     → Goes a c text last from to
@@ -49,7 +49,7 @@ goes_on a b c text rest last from between to first second = record {
       omega (arith, first.count, second.count, l);
 }
 
--- more text to come
+-- `Goes` stays where more text follows
 pub goes_more : (a b : Taken) (text rest more : List ℕ) (from to : ℕ)
     → Goes a b text rest from to → Goes a b (text ++ more) (rest ++ more) from to
 goes_more a b text rest more from to goes = record {
@@ -59,7 +59,7 @@ goes_more a b text rest more from to goes = record {
   count = goes.count;
 }
 
--- what went out of a text are its first bytes, and those of a text that begins with it
+-- the bytes of a text that went out are its first bytes
 pub has_begun : (a b : Taken) (text rest : List ℕ) (to : ℕ)
     → Goes a b text rest 0 to → HasBegun text to a b
 has_begun a b text rest to goes =
@@ -71,7 +71,7 @@ has_begun a b text rest to goes =
       gone = subst (λ xs. Takes a b xs) (sym front) goes.took;
     }
 
--- all of a text went out
+-- where no rest is left, all of a text went out
 pub has_gone : (a b : Taken) (text rest : List ℕ) (from to : ℕ)
     → Goes a b text rest from to → rest ≡ [] → Takes a b text
 has_gone a b text rest from to goes none =
@@ -85,7 +85,7 @@ lines_of_none : (names : List (List ℕ)) → lines names [] ≡ []
 lines_of_none [] = refl
 lines_of_none (name ∷ names) = refl
 
--- the lines of one more trace
+-- the lines of k + 1 traces are those of k traces, and then the line of trace k
 pub lines_more : (names : List (List ℕ)) (verdicts : List Verdict) (k : ℕ) (n : List ℕ)
     (v : Verdict) → k < length names → k < length verdicts
     → lines names (take (suc k) verdicts)
@@ -125,7 +125,7 @@ goes_of_report a b names verdicts k rest to goes =
     let Is : List ℕ → Type 0 = λ text. Goes a b text (rest ++ more) 0 to in
     (rest ++ more, subst Is (sym whole) (goes_more a b first rest more 0 to goes))
 
--- how much went out and how much is left
+-- the bytes that went out and the bytes that are left add up
 pub goes_length : (a b : Taken) (text rest : List ℕ) (from to : ℕ)
     → Goes a b text rest from to → to + length rest ≡ from + length text
 goes_length a b text rest from to goes =
@@ -134,7 +134,7 @@ goes_length a b text rest from to goes =
 
 -- ## One trace after another
 
--- the writing stops behind the lines of the first traces
+-- writing that stops behind the lines of the first traces has written a front of the report
 pub stops_behind : (a b c : Taken) (names : List (List ℕ)) (verdicts : List Verdict)
     (k : ℕ) (out rest : List ℕ) (from to : ℕ)
     → Goes a b (lines names (take k verdicts)) out 0 from → Goes b c out rest from to
@@ -143,7 +143,7 @@ stops_behind a b c names verdicts k out rest from to before goes =
     goes_of_report a c names verdicts k rest to
     (goes_on a b c (lines names (take k verdicts)) out rest 0 from to before goes)
 
--- the line of one more trace is added
+-- the text grows by the line of one more trace
 pub one_more : (a b : Taken) (names : List (List ℕ)) (verdicts : List Verdict)
     (k : ℕ) (name : List ℕ) (v d : Verdict) (out text : List ℕ) (count to : ℕ)
     → k < length names → k < length verdicts
@@ -173,15 +173,15 @@ pub passes_on : {T E : Type 0} (r : Result T E) (first : E) (P : E → Type 0)
 passes_on (Ok x) first P same p = tt
 passes_on (Err e) first P same p = subst P (sym same) p
 
--- ## How a report ends
+-- ## The end of a report
 
 caused_before : (e : FollowError) (before between after : ℕ) → between ≡ before
     → HasCause e between after → HasCause e before after
 caused_before e before between after same cause =
     subst (λ n. HasCause e n after) same cause
 
--- the front of a text went out, and then its rest: a report that is whole, or one that stopped
--- there
+-- the front of a text went out, and then its rest or a part of that: the text went to the sink, or
+-- stopped there
 pub is_followed : (a b c : Taken) (text out new : List ℕ) (count to : ℕ)
     (fa fb fc : ℕ) (r : Result (Unit {0}) FollowError)
     → Goes a b text out 0 count → fb ≡ fa

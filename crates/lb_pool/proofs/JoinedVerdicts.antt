@@ -1,4 +1,4 @@
--- The verdicts of some traces and then of more are those of all of them together.
+-- The verdicts of two sets of traces, one after the other, are those of both sets together.
 use Rattle.std.proofs.Common.{◌≡◌, ℕ, ◌+◌, ◌-◌, ◌<◌, ◌≤◌, List, [], ◌++◌, length, get_or, map}
 use Rattle.std.proofs.Common.{sym, ap}
 use Rattle.std.proofs.Common.{◌∙◌, subst, arith, length-append, ⊎_elim}
@@ -19,7 +19,7 @@ use Rattle.lb_pool.specs.Correct.{AreVerdicts, IsVerdict}
 abbrev recorded : Elements → Traces → Recording
 recorded elements traces = record { signature = elements; traces = traces }
 
--- a verdict hangs on its trace alone
+-- a verdict depends on its trace alone
 moved :
     (p : FlatProgram) (elements : Elements) (a b : Traces) (j k : ℕ) (v : Verdict) →
     trace_at a j ≡ trace_at b k → IsVerdict p (recorded elements a) j v →

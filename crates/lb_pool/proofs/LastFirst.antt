@@ -10,7 +10,7 @@ use Rattle.std.proofs.lemmas.List.{reverse-reverse, take-append-drop}
 use Rattle.std.proofs.lemmas.List.Sorted.{IsPermutation-trans, IsPermutation-reverse}
 use Rattle.std.proofs.lemmas.List.Sorted.{IsPermutation-append_comm, IsPermutation-append_left}
 
--- so many of the last elements, the last one first
+-- the last i elements, the last one first
 abbrev pub from_the_end : List ℕ → ℕ → List ℕ
 from_the_end xs i = reverse (drop (length xs - i) xs)
 
@@ -42,7 +42,7 @@ last_first_permuted xs w =
     (IsPermutation-append_left (take w xs) (drop w xs) (reverse (drop w xs))
     (IsPermutation-reverse (drop w xs))))
 
--- the list again
+-- the list in its first order, put together from `last_first`
 abbrev put_back : List ℕ → ℕ → List ℕ
 put_back ys count = drop count ys ++ reverse (take count ys)
 

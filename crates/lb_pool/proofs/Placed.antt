@@ -12,7 +12,7 @@ use Rattle.lb_traces.specs.Traces.{Recording}
 use Rattle.lb_flat.specs.declared.program.FlatProgram.{FlatProgram}
 use Rattle.lb_pool.specs.declared.batch.Judged.{Judged}
 use Rattle.lb_pool.specs.Correct.{IsVerdict, AreVerdicts}
-use Rattle.lb_pool.specs.Runs.{IsJudged, AreJudged, numbers_of, placed}
+use Rattle.lb_pool.specs.Runs.{IsJudgedTrace, AreJudged, numbers_of, placed}
 
 pub length_placed :
     (verdicts : List Verdict) (js : List Judged) → length (placed verdicts js) ≡ length verdicts
@@ -26,7 +26,7 @@ pub placed_append :
 placed_append verdicts [] ys = refl
 placed_append verdicts (x ∷ xs) ys = placed_append (set verdicts x.trace x.verdict) xs ys
 
--- one more is written
+-- `placed` of i + 1 verdicts is `placed` of i, with one more written
 pub placed_more :
     (verdicts : List Verdict) (js : List Judged) (i : ℕ) (d : Judged) → i < length js →
     set (placed verdicts (take i js)) (get_or js i d).trace (get_or js i d).verdict
@@ -36,9 +36,9 @@ placed_more verdicts js i d below =
     ∙ placed_append verdicts (take i js) (get_or js i d ∷ []))
 
 module _ (p : FlatProgram) (r : Recording) where
-  -- a right verdict stays right where one is written
+  -- a right verdict stays right where another is written
   stays :
-      (verdicts : List Verdict) (j : Judged) → j.trace < length verdicts → IsJudged p r j →
+      (verdicts : List Verdict) (j : Judged) → j.trace < length verdicts → IsJudgedTrace p r j →
       (k : ℕ) → IsVerdict p r k (get_or verdicts k Passed) →
       (k ≡ j.trace) ⊎ (k ≡ j.trace → ⊥) →
       IsVerdict p r k (get_or (set verdicts j.trace j.verdict) k Passed)
@@ -57,10 +57,10 @@ module _ (p : FlatProgram) (r : Recording) where
       IsVerdict p r k (get_or (placed verdicts js) k Passed)
   kept verdicts [] long all k right = right
   kept verdicts (j ∷ js) long all k right =
-      let first = All-head (IsJudged p r) j js all in
+      let first = All-head (IsJudgedTrace p r) j js all in
       let inside : j.trace < length verdicts = omega (arith, long, first.is_trace) in
       kept (set verdicts j.trace j.verdict) js
-      (length-set verdicts j.trace j.verdict ∙ long) (All-tail (IsJudged p r) j js all) k
+      (length-set verdicts j.trace j.verdict ∙ long) (All-tail (IsJudgedTrace p r) j js all) k
       (stays verdicts j inside first k right (cases_eq k j.trace))
 
   -- each trace that has been judged has its verdict
@@ -70,19 +70,19 @@ module _ (p : FlatProgram) (r : Recording) where
       IsVerdict p r k (get_or (placed verdicts js) k Passed)
   found verdicts [] long all k at = absurd (omega (arith, at.1))
   found verdicts (j ∷ js) long all k (zero, below, here) =
-      let first = All-head (IsJudged p r) j js all in
+      let first = All-head (IsJudgedTrace p r) j js all in
       let inside : j.trace < length verdicts = omega (arith, long, first.is_trace) in
       let now = get_or-set_same verdicts j.trace j.verdict Passed inside in
       kept (set verdicts j.trace j.verdict) js
-      (length-set verdicts j.trace j.verdict ∙ long) (All-tail (IsJudged p r) j js all) k
+      (length-set verdicts j.trace j.verdict ∙ long) (All-tail (IsJudgedTrace p r) j js all) k
       (subst (λ i. IsVerdict p r i (get_or (set verdicts j.trace j.verdict) i Passed)) here
       (subst (IsVerdict p r j.trace) (sym now) first.is_verdict))
   found verdicts (j ∷ js) long all k (suc i, below, there) =
       found (set verdicts j.trace j.verdict) js
-      (length-set verdicts j.trace j.verdict ∙ long) (All-tail (IsJudged p r) j js all) k
+      (length-set verdicts j.trace j.verdict ∙ long) (All-tail (IsJudgedTrace p r) j js all) k
       (i, omega (arith, below), there)
 
-  -- where each has been judged, all have their verdicts
+  -- where each trace has been judged, all have their verdicts
   pub all_placed :
       (verdicts : List Verdict) (js : List Judged) → length verdicts ≡ length r.traces →
       AreJudged p r js → ((k : ℕ) → k < length r.traces → Contains (numbers_of js) k) →

@@ -47,7 +47,7 @@ module _ (n : ℕ) (right : List Verdict) (s : State ℕ FollowView) (k : IsLawf
         known = λ x h. All-contains (IsHeld s.words) v.known (t, x) (k.each id v here).known h;
       }
 
--- the number of the trace is known by that of its word
+-- two traces are the same where the numbers of their words are
 one_less : (a b : ℕ) → a + 1 ≡ b + 1 → a ≡ b
 one_less a b e = omega (arith, e)
 
@@ -123,7 +123,7 @@ module _ (n : ℕ) (right : List Verdict) (s : State ℕ FollowView) (k : IsLawf
       held_told (slice_index s.words (t + 1)) said
       (found_word n right s k id v here has t below).told (word_told said x is)
 
-  -- the word of the trace that was open
+  -- the law of the word of a trace that was open, after the post
   fresh_here :
       slice_index s.words (t + 1) ≡ 0 →
       IsLawfulWord right (set s.views id after) t (slice_index new (t + 1))
@@ -250,7 +250,7 @@ module _ (n : ℕ) (right : List Verdict) (s : State ℕ FollowView) (k : IsLawf
   abbrev more : FollowView
   more = record v { known = and_one v.known t (told_by (slice_index s.words (t + 1))) }
 
-  -- a settled word was found
+  -- the law after a look that found a settled trace
   more_law :
       slice_index s.words (t + 1) ≢ 0 →
       IsLawfulFollow n right

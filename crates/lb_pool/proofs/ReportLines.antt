@@ -29,7 +29,7 @@ flat_map-range_more f n =
     ∙ flat_map-append f (range_with_len 0 n) (n ∷ [])
     ∙ ap (λ ys. flat_map f (range_with_len 0 n) ++ ys) (append-nil (f n))
 
--- a text that grew by the front of what was to come still makes the whole with the rest
+-- a text that grew by `piece` makes the same whole with what is then left
 pub whole_after : {A : Type 0} (old new piece rest after whole : List A)
     → new ≡ old ++ piece → rest ≡ piece ++ after → old ++ rest ≡ whole → new ++ after ≡ whole
 whole_after old new piece rest after whole grown parts before =

@@ -1,4 +1,4 @@
--- What workers of a live report may post to its board.
+-- The verdicts that workers of a live report may post to its board.
 use Rattle.std.proofs.Common.{◌≡◌, ℕ, ◌<◌, List, length, ap, ◌∙◌, arith}
 use Rattle.std.specs.Prelude.{All}
 use Rattle.lb_flat.specs.Programs.{program_of}
@@ -6,8 +6,8 @@ use Rattle.lb_flat.specs.RightVerdicts.{right_verdicts}
 use Rattle.lb_traces.specs.Traces.{IsRecording, Recording}
 use Rattle.lb_flat.specs.declared.flat.Ordered.{Ordered}
 use Rattle.lb_flat.specs.declared.program.FlatProgram.{FlatProgram}
-use Rattle.lb_flat.proofs.RightVerdicts.{length-right_verdicts, ordered_ready}
-use Rattle.lb_flat.proofs.RightVerdicts.{right_verdicts_are}
+use Rattle.lb_flat.proofs.runs.RightVerdicts.{length-right_verdicts, ordered_ready}
+use Rattle.lb_flat.proofs.runs.RightVerdicts.{right_verdicts_are}
 use Rattle.lb_pool.specs.Correct.{AreVerdicts}
 use Rattle.lb_pool.specs.FollowSeats.{right_of}
 use Rattle.lb_pool.specs.FollowWorkers.{IsBoardFor}
@@ -26,7 +26,7 @@ pub are_on_board : (p : FlatProgram) (r : Recording) (batches : List (List ℕ))
 are_on_board p r batches board members is below k d within =
     omega (arith, below k d within, length-right_of p r batches board is)
 
--- the verdict of each trace, of a program in order
+-- the right verdicts of a program in order are the verdicts of the traces
 pub right_verdicts_of : (o : Ordered) (r : Recording) → IsRecording r
     → AreVerdicts o.program r (right_verdicts (program_of o.program) r)
 right_verdicts_of o r lawful = record {

@@ -1,4 +1,4 @@
--- What may be posted for a trace, and what a right answer says.
+-- The verdict that may be posted for a trace.
 use Rattle.std.proofs.Common.{◌≡◌, ℕ, ◌<◌, List, length, get_or, sym, ◌∙◌, subst}
 use Rattle.std.specs.Prelude.{Some}
 use Rattle.lb_check.specs.declared.verdict.Verdict.{Verdict}
@@ -8,11 +8,11 @@ use Rattle.lb_flat.specs.RightVerdicts.{right_verdicts}
 use Rattle.lb_flat.specs.Standing.{HasKindsOf, StandsForProgram}
 use Rattle.lb_traces.specs.Traces.{Recording}
 use Rattle.lb_flat.specs.declared.program.FlatProgram.{FlatProgram}
-use Rattle.lb_flat.proofs.RightVerdicts.{right_verdict_at}
+use Rattle.lb_flat.proofs.runs.RightVerdicts.{right_verdict_at}
 use Rattle.lb_pool.specs.Correct.{IsVerdict}
 use Rattle.lb_pool.specs.Settlements.{IsRight}
 
--- the verdict of a trace is what a board has for it
+-- the verdict of a trace is the one that a board has for it
 pub right_to_post :
     (p : FlatProgram) (r : Recording) (right : List Verdict) (k : ℕ) (v : Verdict) →
     StandsForProgram (program_of p) → HasKindsOf (program_of p) r →

@@ -1,4 +1,4 @@
--- The word of a settled trace tells what the trace is settled with.
+-- The word of a settled trace stands for what the trace is settled with.
 use Rattle.std.proofs.Common.{◌≡◌, ℕ, ◌+◌, ◌*◌, ◌/◌, ◌%◌, ◌<◌, ◌==◌, if◌then◌else◌, refl, sym}
 use Rattle.std.proofs.Common.{ap, ap₂, ◌∙◌, arith, lit<}
 use Rattle.std.specs.Prelude.{Option, Some, None}
@@ -31,7 +31,7 @@ word_some (Some (Undefined t)) = omega arith
 word_some (Some (Assertion t)) = omega arith
 word_some (Some (False t)) = omega arith
 
--- a word that tells something, tells what it is read as
+-- a word of a settlement is the word of what `told_by` reads from it
 pub word_told : (w : ℕ) (x : Option Verdict) → w ≡ word_of x → w ≡ word_of (told_by w)
 word_told w x e = e ∙ ap word_of (sym (ap told_by e ∙ told_word x))
 

@@ -45,7 +45,7 @@ kept_by_nothing (Some s) (Some t) took = took ∙ append-nil s
 
 -- ## What is taken
 
--- two writes, one after the other
+-- `Takes` of two writes, one after the other
 pub takes_more : (before between after : Taken) (first second whole : List ℕ)
     → Takes before between first → Takes between after second → whole ≡ first ++ second
     → Takes before after whole
@@ -60,7 +60,7 @@ takes_more before between after first second whole p q joined = record {
   same = q.same ∙ p.same;
 }
 
--- no write
+-- `Takes` where nothing is written
 pub takes_no_byte : (a : Taken) → Takes a a []
 takes_no_byte a = record {
   bytes = appends_nothing a.bytes;
@@ -71,7 +71,7 @@ takes_no_byte a = record {
 pub takes_nothing : (a : Taken) → TakesNothing a a
 takes_nothing a = record { bytes = keeps_all a.bytes; count = refl; same = refl }
 
--- what was taken stays so where the rest takes nothing
+-- `Takes` stays where the sink then takes nothing
 pub taken_and_kept : (a b c : Taken) (text : List ℕ) → Takes a b text → TakesNothing b c
     → Takes a c text
 taken_and_kept a b c text took kept = record {
@@ -80,7 +80,7 @@ taken_and_kept a b c text took kept = record {
   same = kept.same ∙ took.same;
 }
 
--- a text without a byte
+-- `Takes` of an empty text is `TakesNothing`
 pub nothing_by_none : (a b : Taken) → Takes a b [] → TakesNothing a b
 nothing_by_none a b took = record {
   bytes = kept_by_nothing a.bytes b.bytes took.bytes;
@@ -88,7 +88,7 @@ nothing_by_none a b took = record {
   same = took.same;
 }
 
--- the front of a list that went out grows by what went out of the rest, `bytes[count..]`
+-- the front of `bytes` that went out grows by what went out of the rest, `bytes[count..]`
 pub takes_further : (before between after : Taken) (bytes : List ℕ) (count more : ℕ)
     → Takes before between (take count bytes)
     → Takes between after (take more (take (length bytes - count) (drop count bytes)))
@@ -99,7 +99,7 @@ takes_further before between after bytes count more gone wrote =
     takes_more before between after (take count bytes) (take more (drop count bytes))
     (take (count + more) bytes) gone next (take-add count more bytes)
 
--- what was written of the rest is within the list
+-- the bytes that were written of the rest lie within the list
 pub further : (bytes : List ℕ) (count more : ℕ)
     → more ≤ length (take (length bytes - count) (drop count bytes)) → count < length bytes
     → count + more ≤ length bytes

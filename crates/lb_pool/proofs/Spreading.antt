@@ -9,7 +9,7 @@ use Rattle.std.proofs.lemmas.List.FromFn.{length-range_with_len, get_or-range_wi
 use Rattle.lb_traces.specs.Traces.{Recording}
 use Rattle.lb_flat.specs.declared.program.FlatProgram.{FlatProgram}
 use Rattle.lb_pool.specs.Plans.{numbers_in, IsLawful}
-use Rattle.lb_pool.specs.Runs.{IsJudged, AreJudged, IsBatchOf, numbers_of, numbers_drawn}
+use Rattle.lb_pool.specs.Runs.{IsJudgedTrace, AreJudged, IsBatchOf, numbers_of, numbers_drawn}
 use Rattle.lb_pool.specs.declared.batch.Judged.{Judged}
 use Rattle.lb_pool.proofs.Covering.{covered_by}
 
@@ -23,11 +23,11 @@ module _ (p : FlatProgram) (r : Recording) (batches : List (List ℕ)) where
   pub all_judged :
       (drawn : List ℕ) (lists : List (Vec Judged Global)) → AreBatches drawn lists →
       AreJudged p r (together lists)
-  all_judged [] [] h = All-nil (IsJudged p r)
+  all_judged [] [] h = All-nil (IsJudgedTrace p r)
   all_judged [] (b ∷ bs) h = absurd h
   all_judged (i ∷ is) [] h = absurd h
   all_judged (i ∷ is) (b ∷ bs) h =
-      All-append (IsJudged p r) b.items (together bs) h.0.judged (all_judged is bs h.1)
+      All-append (IsJudgedTrace p r) b.items (together bs) h.0.judged (all_judged is bs h.1)
 
   numbers_are :
       (drawn : List ℕ) (lists : List (Vec Judged Global)) → AreBatches drawn lists →
@@ -54,7 +54,7 @@ module _ (p : FlatProgram) (r : Recording) (batches : List (List ℕ)) where
       subst (λ l. Contains l k) (sym (numbers_are all lists h))
       (covered_by n batches all lawful over_all in_all k below)
 
--- what is known of each one that worked is known of what came of it
+-- what is known of each result that is `Ok` is known of its value
 oks :
     {A B : Type 0} (E : Type 0) (R : A → B → Type 0) (xs : List A) (ys : List B) →
     AllZip (λ x y. IfOk {T = B} {E = E} y (R x)) xs (map Ok ys) → AllZip R xs ys
@@ -71,7 +71,7 @@ of_collected {E = E} R xs rs all h ys worked same =
     subst (AllZip R xs) (sym same)
     (oks E R xs ys (subst (AllZip (λ x y. IfOk y (R x)) xs) worked h))
 
--- what is known of results does not need the states between them
+-- drops the states between results from what is known of them
 pub of_states :
     {A B : Type 0} (S : Type 0) (R : A → B → Type 0) (xs : List A) (ys : List B) →
     AllZip (λ x y. (before after : S) × R x y) xs ys → AllZip R xs ys

@@ -6,14 +6,14 @@ use Rattle.std.proofs.lemmas.List.Sorted.{All-permutation, Contains-permutation}
 use Rattle.std.proofs.lemmas.List.Sorted.{length_permutation}
 use Rattle.lb_pool.specs.Plans.{IsPlan, numbers_in}
 
--- a plan has as many numbers as there are traces
+-- a plan over n numbers has n numbers
 pub numbers_count : (n width : ℕ) (batches : List (List ℕ)) → IsPlan n width batches
     → length (numbers_in batches) ≡ n
 numbers_count n width batches plan =
     length_permutation (range_with_len 0 n) (numbers_in batches) plan.each_once
     ∙ length-range_with_len 0 n
 
--- all of them are those of traces
+-- each number of a plan is below n
 pub numbers_below : (n width : ℕ) (batches : List (List ℕ)) → IsPlan n width batches
     → All (λ k. k < n) (numbers_in batches)
 numbers_below n width batches plan =
@@ -23,7 +23,7 @@ numbers_below n width batches plan =
     let at = get_or-range_with_len 0 n k d (omega (arith, long, inside)) in
     omega (arith, long, inside, at))
 
--- and each trace is there
+-- each number below n stands in a plan
 pub numbers_each : (n width : ℕ) (batches : List (List ℕ)) → IsPlan n width batches
     → (k : ℕ) → k < n → Contains (numbers_in batches) k
 numbers_each n width batches plan k below =

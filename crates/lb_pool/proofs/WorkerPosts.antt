@@ -1,4 +1,4 @@
--- What a worker of a live report may post, and what it has posted.
+-- The verdicts that a worker of a live report may post, and those that it has posted.
 use Rattle.std.proofs.Common.{◌≡◌, ℕ, ◌+◌, ◌<◌, List, [], ◌∷◌, length, get_or, take, subst, sym}
 use Rattle.std.specs.Prelude.{Option, Some}
 use Rattle.std.specs.List.{All, Contains}
@@ -18,7 +18,7 @@ use Rattle.lb_pool.specs.declared.follow_board.FollowSeat.{FollowSeat}
 use Rattle.lb_pool.proofs.RightPosts.{are_on_board}
 use Rattle.lb_pool.proofs.RightTraces.{right_to_post}
 
--- ## One post more
+-- ## One more post
 
 pub posted_last : (s s' : FollowSeat) (k : ℕ) (x : Option Verdict)
     → posts_of s' ≡ and_one (posts_of s) k x → Contains (posts_of s') (k, x)
@@ -31,7 +31,7 @@ posted_before s s' k x y e h =
     subst (λ (l : List Settlement). Contains l y) (sym e)
     (Contains-append_left (posts_of s) ((k, x) ∷ []) y h)
 
--- a member more was posted
+-- one more member was posted
 pub one_more_posted : (s s' : FollowSeat) (members : List ℕ) (i : ℕ) (x : Option Verdict)
     → i < length members → posts_of s' ≡ and_one (posts_of s) (get_or members i 0) x
     → All (IsPostedWith s) (take i members) → All (IsPostedWith s') (take (i + 1) members)
@@ -62,7 +62,7 @@ may_post_each p r batches board seat members is below of place v inside right = 
       (below place 0 inside) right;
 }
 
--- each member was posted with a seat, once that has a verdict of each
+-- each member was posted with a seat, once a verdict of each was posted with it
 pub each_posted : (p : FlatProgram) (r : Recording) (seat : FollowSeat) (members ms : List ℕ)
     → ms ≡ members → ((k : ℕ) → k < length members
     → HasVerdict (program_of p) r members (HasPosted seat ms) k) → All (IsPostedWith seat) members
@@ -76,7 +76,7 @@ each_posted p r seat members ms e have =
           (have i inside).held;
     })
 
--- and with the same seat, of the same members
+-- `each_posted` for an equal seat and equal members
 pub same_posted : (s s' : FollowSeat) (members ms : List ℕ) → All (IsPostedWith s) members
     → s ≡ s' → members ≡ ms → All (IsPostedWith s') ms
 same_posted s s' members ms posted same equal =

@@ -10,19 +10,20 @@ use Rattle.lb_pool.specs.Draws.{times, once_below}
 use Rattle.lb_pool.specs.declared.views.View.{View}
 use Rattle.lb_pool.specs.Views.{view}
 
--- the shares of a view that was told that no number is left
+-- the shares of a view that was told that no number is left; 0 for another view
 abbrev pub told_shares : View → ℕ
 told_shares v = cond v.told v.shares 0
 
--- one view, where the word is w: it is told only where no number is left; where it has no share it
--- was joined away, and has no draws; else it knows the limit
+-- the law of one view, where the word is w: it was told only where no number is left; a view
+-- without shares was joined away, and has no draws; any other view knows the limit
 pub record IsLawfulView (n w : ℕ) (v : View) : Type 0 where
   pub none_left : v.told ≡ true → n ≤ w
   pub spent : v.shares ≡ 0 → (v.drawn ≡ []) × (v.told ≡ false)
   pub limit : 0 < v.shares → v.limit ≡ n
 
--- all views, where the word is w: their shares add up to 64; their draws are the numbers below n
--- and below w, each once; the word has passed n by no more than the shares of views that were told
+-- the law of all views, where the word is w: their shares add up to 64; their draws are the numbers
+-- below n and below w, each once; the word has passed n by no more than the shares of views that
+-- were told
 pub record AreLawfulViews (n w : ℕ) (views : List View) : Type 0 where
   pub shares : sum_by (λ v. v.shares) views ≡ 64
   pub once : (x : ℕ) → sum_by (λ v. times x v.drawn) views ≡ once_below x (min w n)
@@ -36,7 +37,8 @@ pub record IsLawfulBoard (n : ℕ) (s : State ℕ View) : Type 0 where
   pub word : length s.words ≡ 1
   pub views : AreLawfulViews n (slice_index s.words 0) s.views
 
--- what a claim leaves that found k: k is drawn where it is below the limit, else the view is told
+-- the view after a claim that found k: k is drawn where it is below the limit, else the view is
+-- told
 abbrev pub claimed : Bool → View → ℕ → View
 claimed true v k = view v.limit v.shares v.told (v.drawn ++ k ∷ [])
 claimed false v k = view v.limit v.shares true v.drawn

@@ -6,6 +6,6 @@ use Rattle.std.specs.Prelude.{ℕ, ◌+◌, ◌-◌, min}
 abbrev pub most_counted : ℕ
 most_counted = 18446744073709551615
 
--- a count of bytes, and then some more bytes
+-- the count `before` and `bytes` more, up to the largest count
 abbrev pub count_more : (before bytes : ℕ) → ℕ
 count_more before bytes = before + min bytes (most_counted - before)

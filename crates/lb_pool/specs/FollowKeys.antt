@@ -1,4 +1,4 @@
--- What the key of a board of settled traces says.
+-- The verdicts and the law that belong to the key of a board of settled traces.
 -- Source: this project's rule.
 use Rattle.std.specs.Prelude.{ℕ, List}
 use Rattle.atomic_table.specs.Table.{State}
@@ -10,7 +10,7 @@ use Rattle.lb_pool.specs.declared.follow_views.FollowView.{FollowView}
 use Rattle.lb_pool.specs.FollowLaw.{IsLawfulFollow}
 use Rattle.lb_pool.specs.FollowViews.{first_view}
 
--- the verdicts of the traces
+-- the right verdicts of the traces of a key
 unfoldable pub right_by : FollowKey → List Verdict
 right_by key = right_verdicts (program_of key.ordered.value.program) key.set.value
 

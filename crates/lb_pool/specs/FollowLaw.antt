@@ -1,5 +1,5 @@
--- The law of the board of settled traces, which holds between any two atomic steps. Word 0 is that
--- of a claim board, and word k + 1 is that of trace k.
+-- The law of the board of settled traces, which holds between any two atomic steps. Word 0 is the
+-- word of a claim board, and word k + 1 belongs to trace k.
 -- Source: this project's rule.
 use Rattle.std.specs.Prelude.{◌≡◌, ◌≢◌, ℕ, ◌+◌, ◌<◌, ◌^◌, List, [], map, length, slice_index}
 use Rattle.std.specs.Prelude.{Option, All, if◌then◌else◌, ◌==◌, nat_lt, ◌≤◌}
@@ -18,19 +18,19 @@ use Rattle.lb_pool.specs.Settlements.{Settlement, word_of, told_by, IsRight, Kno
 abbrev pub draws_of : List FollowView → List View
 draws_of views = map (λ v. v.draws) views
 
--- what a trace is said to be settled with is what its word holds
+-- a settlement is what the word of its trace holds
 abbrev pub IsHeld : List ℕ → Settlement → Type 0
 IsHeld words e = slice_index words (e.0 + 1) ≡ word_of e.1
 
--- one view: where it has no share it was joined away, has no posts and knows nothing; else it has
--- the verdicts that are right; what it knows is what the words hold
+-- the law of one view: a view without shares was joined away, has no posts and knows nothing; any
+-- other view has the verdicts that are right; what it knows is what the words hold
 pub record IsLawfulFollower (right : List Verdict) (words : List ℕ) (v : FollowView) : Type 0
   where
     pub spent : v.draws.shares ≡ 0 → (v.posts ≡ []) × (v.known ≡ [])
     pub same : 0 < v.draws.shares → v.right ≡ right
     pub known : All (IsHeld words) v.known
 
--- trace k was posted with some seat, with what the word w tells
+-- trace k was posted with some seat, with the settlement that the word w stands for
 pub record IsPosted (views : List FollowView) (k w : ℕ) : Type 0 where
   pub seat : ℕ
   pub view : FollowView
@@ -39,15 +39,14 @@ pub record IsPosted (views : List FollowView) (k w : ℕ) : Type 0 where
   pub post : Contains view.posts (k, with)
   pub told : w ≡ word_of with
 
--- the word w of trace k: what it holds was posted, and a verdict in it is the right one
+-- the law of the word w of trace k: what it holds was posted, and a verdict in it is the right one
 pub record IsLawfulWord (right : List Verdict) (views : List FollowView) (k w : ℕ) : Type 0
   where
     pub small : w < 2 ^ 35
     pub posted : w ≢ 0 → IsPosted views k w
     pub is_right : (x : Option Verdict) → w ≡ word_of x → IsRight right k x
 
--- the law of a board: `batches` tells how many batches it has, and `right` the verdicts of its
--- traces
+-- the law of a board of `batches` batches, whose traces have the verdicts `right`
 pub record IsLawfulFollow (batches : ℕ) (right : List Verdict) (s : State ℕ FollowView) : Type 0
   where
     pub limit : batches < 2 ^ 32
@@ -66,20 +65,20 @@ ClaimsBatch step before found after =
     let drawn = claimed (nat_lt found draws.limit) draws found in
     (after ≡ (with_draws before.0 drawn, before.1)) × (length drawn.drawn ≤ draws.limit)
 
--- what a word that was found says to one who has this view: a verdict in it is the right one, and
--- what was known of the trace it tells
+-- the word `found` of trace k, read with a seat that has the view v: a verdict in it is the right
+-- one, and it agrees with what v knows of the trace
 pub record IsFound (v : FollowView) (k found : ℕ) : Type 0 where
   pub small : found < 2 ^ 35
   pub told : found ≢ 0 → found ≡ word_of (told_by found)
   pub is_right : found ≢ 0 → IsRight v.right k (told_by found)
   pub known : (x : Option Verdict) → Knows v.known k x → found ≡ word_of x
 
--- what a word holds after a post, where it was found so
+-- the word after a post of `said`, where the post found `found`
 abbrev pub held : ℕ → ℕ → ℕ
 held found said = if found == 0 then said else found
 
--- a post adds the trace and what `said` tells to the posts, and what the word then holds to what is
--- known
+-- a post adds to the posts the trace with what `said` stands for, and to what is known the trace
+-- with what its word then holds
 abbrev pub Posts : Step ℕ → Me ℕ FollowView → ℕ → Me ℕ FollowView → Type 0
 Posts step before found after =
     (k : ℕ)

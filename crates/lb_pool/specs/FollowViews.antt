@@ -1,5 +1,5 @@
--- What a seat of a board of settled traces knows at first and after each step: what a seat of a
--- claim board knows; the verdicts that are right; what was posted with it; what it knows.
+-- The view of a seat of a board of settled traces, at first and after each step: the view of a
+-- claim board; the right verdicts; what was posted with the seat; what it knows.
 -- Source: this project's rule.
 use Rattle.std.specs.Prelude.{ℕ, List, [], ◌++◌, if◌then◌else◌, ◌==◌}
 use Rattle.lb_check.specs.declared.verdict.Verdict.{Verdict}
@@ -33,7 +33,7 @@ abbrev pub both : FollowView → FollowView → FollowView
 both v w =
     follow_view (claims.both v.draws w.draws) v.right (v.posts ++ w.posts) (v.known ++ w.known)
 
--- and leaves this of the seat that was joined away
+-- the view of a seat that was joined away
 abbrev pub spent : FollowView
 spent = follow_view claims.spent [] [] []
 
@@ -41,13 +41,13 @@ spent = follow_view claims.spent [] [] []
 abbrev pub with_draws : FollowView → View → FollowView
 with_draws v draws = follow_view draws v.right v.posts v.known
 
--- after trace k was posted with what one word tells, where its own word holds another
+-- the view after a post of `said` for trace k, whose word then holds `held`
 abbrev pub posted : FollowView → ℕ → ℕ → ℕ → FollowView
 posted v k said held =
     follow_view v.draws v.right (and_one v.posts k (told_by said))
     (and_one v.known k (told_by held))
 
--- after the word of trace k was found
+-- the view after a look that found this word of trace k
 abbrev pub looked : FollowView → ℕ → ℕ → FollowView
 looked v k found =
     if found == 0

@@ -1,4 +1,4 @@
--- What a board is for, to the workers of a live report.
+-- The board that the workers of a live report use.
 -- Source: this project's rule.
 use Rattle.std.specs.Prelude.{◌≡◌, ℕ, List, length}
 use Rattle.lb_flat.specs.Programs.{program_of}
@@ -9,8 +9,8 @@ use Rattle.lb_flat.specs.declared.program.FlatProgram.{FlatProgram}
 use Rattle.lb_pool.specs.FollowSeats.{batches_of, right_of}
 use Rattle.lb_pool.specs.declared.follow_board.FollowBoard.{FollowBoard}
 
--- a board is one of the batches of a plan, and of the traces that a flat program judges, which
--- stands for a program and reads such traces
+-- a board has these batches, and the right verdicts of these traces by a flat program; the flat
+-- program stands for a program, and reads traces of these kinds
 pub record IsBoardFor (p : FlatProgram) (r : Recording) (batches : List (List ℕ))
     (board : FollowBoard) : Type 0 where
   pub batches_are : batches_of board ≡ length batches

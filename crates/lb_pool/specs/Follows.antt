@@ -1,4 +1,4 @@
--- What a live report does to its sink: the bytes of the report go out, the first ones first.
+-- The effect of a live report on its sink: the bytes of the report go out, the first ones first.
 -- Source: this project's rule.
 use Rattle.std.specs.Prelude.{◌≡◌, ℕ, ◌+◌, ◌≤◌, List, ◌++◌, Result, Ok, Err, length, take}
 use Rattle.lb_flat.specs.Programs.{program_of}
@@ -14,23 +14,23 @@ use Rattle.lb_pool.specs.declared.follow_error.FollowError.TheVariants.{Memory, 
 abbrev pub right_report : FlatProgram → Recording → List ℕ
 right_report p r = report_of (trace_names r.traces) (right_verdicts (program_of p) r)
 
--- how many bytes went out before a live report stopped
+-- the number of bytes that went out before a live report stopped
 abbrev pub sent_of : FollowError → ℕ
 sent_of (Memory count) = count
 sent_of (Write count) = count
 
--- a live report stopped because its sink failed, once; or the sink has not failed
+-- the cause of an error: with `Write` the sink failed once; with `Memory` it did not fail
 abbrev pub HasCause : FollowError → (failures_before failures_after : ℕ) → Type 0
 HasCause (Memory count) before after = after ≡ before
 HasCause (Write count) before after = after ≡ before + 1
 
--- a sink took the first bytes of a text, and `count` tells how many
+-- a sink took the first `count` bytes of a text
 pub record HasBegun (text : List ℕ) (count : ℕ) (before after : Taken) : Type 0 where
   pub within : count ≤ length text
   pub gone : Takes before after (take count text)
 
--- a text went to a sink: all of it, and the sink did not fail; or it stopped, its first bytes went
--- out, and the error tells how many and why
+-- a text went to a sink: all of it, and the sink did not fail; or only its first bytes, and the
+-- error has their number and the cause
 abbrev pub IsFollowed : (text : List ℕ) → (before after : Taken)
     → (failures_before failures_after : ℕ) → Result (Unit {0}) FollowError → Type 0
 IsFollowed text before after failures_before failures_after (Ok x) =
@@ -38,8 +38,8 @@ IsFollowed text before after failures_before failures_after (Ok x) =
 IsFollowed text before after failures_before failures_after (Err e) =
     HasBegun text (sent_of e) before after × HasCause e failures_before failures_after
 
--- the front of a text went to a sink, and the rest of it did not; `from` bytes of the report had
--- gone to the sink before, and `to` bytes have then
+-- the front of a text went to a sink, and `rest` of it did not; the sink had `from` bytes of the
+-- report before, and has `to` bytes of it after
 pub record Goes (before after : Taken) (text rest : List ℕ) (from to : ℕ) : Type 0 where
   pub gone : List ℕ
   pub took : Takes before after gone

@@ -18,17 +18,17 @@ pub record IsPlan (n width : ℕ) (batches : List (List ℕ)) : Type 0 where
   pub not_wider : (i : ℕ) → i < length batches → length (get_or batches i []) ≤ width
   pub full : (i : ℕ) → i + 1 < length batches → length (get_or batches i []) ≡ width
 
--- what always holds of a plan: it has a width of at most 64, and is one over all its numbers
+-- the law of every plan: it has a width of at most 64, and is a plan over all its numbers
 pub record IsLawful (batches : List (List ℕ)) : Type 0 where
   pub width : ℕ
   pub at_most_64 : width ≤ 64
   pub plan : IsPlan (length (numbers_in batches)) width batches
 
--- how many instants a trace has
+-- the number of instants of a trace
 abbrev pub length_of : Traces → ℕ → ℕ
 length_of traces k = length (trace_at traces k).1
 
--- by these lengths, trace j is shorter than trace k, or as long and its number is no greater
+-- trace j is shorter than trace k, or it is as long and j is at most k
 abbrev pub Precedes : (ℕ → ℕ) → ℕ → ℕ → Type 0
 Precedes length_at j k =
     (length_at j < length_at k) ⊎ ((length_at j ≡ length_at k) × (j ≤ k))
@@ -37,8 +37,9 @@ Precedes length_at j k =
 abbrev pub IsByLength : Traces → List ℕ → Type 0
 IsByLength traces numbers = AllPairs (Precedes (length_of traces)) numbers
 
--- the numbers of traces as a queue with so many lanes takes them: the first ones, one for each
--- lane, begin with the longest trace; put behind the others in the reverse order, all are by length
+-- the numbers of traces in the order in which a queue with `lanes` lanes takes them: the first
+-- ones, one for each lane, begin with the longest trace; put behind the others in the reverse
+-- order, all are by length
 abbrev pub IsForLanes : Traces → ℕ → List ℕ → Type 0
 IsForLanes traces lanes numbers =
     IsByLength traces (drop lanes numbers ++ reverse (take lanes numbers))

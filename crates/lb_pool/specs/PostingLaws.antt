@@ -1,4 +1,4 @@
--- The laws of what takes verdicts, for a worker that posts them.
+-- Laws of `StaysPosting` and `MayPost`, for a worker that posts verdicts.
 use Rattle.std.proofs.Common.{◌∙◌, ℕ, List, refl, subst, sym}
 use Rattle.lb_check.specs.declared.verdict.Verdict.{Verdict}
 use Rattle.lb_pool.specs.FollowSeats.{IsFollowSeatOf}

@@ -1,4 +1,4 @@
--- What the workers of a live report post.
+-- The posts of the workers of a live report.
 -- Source: this project's rule.
 use Rattle.std.specs.Prelude.{◌≡◌, ℕ, ◌<◌, List, length, get_or, Option, Some}
 use Rattle.std.specs.List.{Contains}
@@ -13,7 +13,7 @@ pub record IsPostedWith (s : FollowSeat) (k : ℕ) : Type 0 where
   pub settled : Option Verdict
   pub posted : Contains (posts_of s) (k, settled)
 
--- a seat may post a verdict for the member at a place: it is the one that the board has
+-- a seat may post v for the member at `place`: v is the verdict that the board has for it
 pub record MayPost (b : FollowBoard) (s : FollowSeat) (members : List ℕ) (place : ℕ)
     (v : Verdict) : Type 0 where
   pub seat : IsFollowSeatOf b s
@@ -25,8 +25,8 @@ pub record MayPost (b : FollowBoard) (s : FollowSeat) (members : List ℕ) (plac
 abbrev pub HasPosted : FollowSeat → List ℕ → ℕ → Verdict → Type 0
 HasPosted s members place v = Contains (posts_of s) (get_or members place 0, Some v)
 
--- what stays while verdicts are posted: the board, the members, the draws of the seat, and that it
--- is a seat of the board
+-- what stays while verdicts are posted: the board, the members, the draws of the seat, and that the
+-- seat belongs to the board
 pub record StaysPosting (b b' : FollowBoard) (members members' : List ℕ)
     (s s' : FollowSeat) : Type 0 where
   pub board_is : b' ≡ b

@@ -14,7 +14,7 @@ abbrev pub words : List (List ℕ)
 words =
     codes "passed" ∷ codes "fault" ∷ codes "undefined" ∷ codes "assertion" ∷ codes "false" ∷ []
 
--- which of the words a verdict has
+-- the place of a verdict's word among the words
 abbrev pub place_of : Verdict → ℕ
 place_of Passed = 0
 place_of (Fault t) = 1
@@ -22,7 +22,7 @@ place_of (Undefined t) = 2
 place_of (Assertion t) = 3
 place_of (False t) = 4
 
--- the instant that decided, if one did
+-- the instant that decided a verdict, if one did
 abbrev pub instant_of : Verdict → Option ℕ
 instant_of Passed = None
 instant_of (Fault t) = Some t
@@ -63,11 +63,11 @@ lines [] verdicts = []
 lines (name ∷ names) [] = []
 lines (name ∷ names) (v ∷ verdicts) = line name v ++ lines names verdicts
 
--- how many verdicts have a word
+-- the number of verdicts whose word is at `place`
 abbrev pub count_of : List Verdict → ℕ → ℕ
 count_of verdicts place = count_by (λ v. place_of v == place) verdicts
 
--- one of the words, and how many verdicts have it
+-- one of the words, and the number of verdicts that have it
 abbrev pub counted : List Verdict → ℕ → List ℕ
 counted verdicts place = word place ++ number (count_of verdicts place)
 

@@ -1,12 +1,12 @@
--- What a sink has taken, and how that grows.
+-- What a sink has taken, and how it grows.
 -- Source: this project's rule.
 use Rattle.std.specs.Prelude.{◌≡◌, ℕ, List, Option, length}
 use Rattle.std.specs.Borrow.{GName}
 use Rattle.std.specs.Io.KnownBytes.{Appends, Keeps}
 use Rattle.lb_pool.specs.Counts.{count_more}
 
--- how many bytes a sink has taken, and which ones where it tells them; and the writer that it lends
--- them to, by its name
+-- what a sink has taken: the count of its bytes; the bytes themselves, where they are known; and
+-- the name of the writer that it lends them to
 pub record Taken : Type 0 where
   pub bytes : Option (List ℕ)
   pub count : ℕ

@@ -1,4 +1,4 @@
--- What a seat knows at first and after each step: the limit, its shares of 64, whether it was told
+-- The view of a seat at first and after each step: the limit, its shares of 64, whether it was told
 -- that no number is left, and the numbers that it has drawn.
 -- Source: this project's rule.
 use Rattle.std.specs.Prelude.{ℕ, ◌+◌, ◌-◌, ◌/◌, List, [], ◌++◌, Bool, false, ◌||◌, min}
@@ -27,6 +27,6 @@ smaller_half v = view v.limit (v.shares / 2) v.told []
 abbrev pub both : View → View → View
 both v w = view v.limit (min 64 (v.shares + w.shares)) (v.told || w.told) (v.drawn ++ w.drawn)
 
--- and leaves this of the seat that was joined away
+-- the view of a seat that was joined away
 abbrev pub spent : View
 spent = view 0 0 false []

@@ -1,4 +1,4 @@
--- What workers have done when they come back.
+-- The results of workers.
 -- Source: this project's rule.
 use Rattle.std.specs.Prelude.{◌≡◌, ℕ, ◌+◌, ◌||◌, ◌++◌, true, List, min}
 use Rattle.lb_traces.specs.Traces.{Recording}
@@ -8,8 +8,8 @@ use Rattle.lb_pool.specs.Seats.{IsSeatOf, shares_of, told_of, drawn_of}
 use Rattle.lb_pool.specs.declared.board.ClaimBoard.{ClaimBoard}
 use Rattle.lb_pool.specs.declared.claims.Drained.{Drained}
 
--- the seat has its shares, and was told that no batch is left; there is a verdict for each trace of
--- the batches that it has drawn, and for no other
+-- the result of a worker: the seat has its shares, and was told that no batch is left; there is a
+-- verdict for each trace of the batches that the seat has drawn, and for no other
 pub record HasDrained (board : ClaimBoard) (shares : ℕ) (p : FlatProgram) (r : Recording)
     (batches : List (List ℕ)) (d : Drained) : Type 0 where
   pub seat : IsSeatOf board d.seat
@@ -18,7 +18,7 @@ pub record HasDrained (board : ClaimBoard) (shares : ℕ) (p : FlatProgram) (r :
   pub numbers : numbers_of d.judged.items ≡ numbers_drawn batches (drawn_of d.seat)
   pub judged : AreJudged p r d.judged.items
 
--- what two have done, put together
+-- the results of two workers, put together
 pub record IsBoth (board : ClaimBoard) (one other d : Drained) : Type 0 where
   pub seat : IsSeatOf board d.seat
   pub shares : shares_of d.seat ≡ min 64 (shares_of one.seat + shares_of other.seat)

@@ -1,4 +1,4 @@
-//! A worker that runs all traces of one set, and then those of another.
+//! A worker that runs all traces of one set, and then all traces of the next.
 
 ghost use Rattle.std.specs.Prelude.{◌≡◌, ◌<◌, ◌≤◌, [], length, All, IfOk, OnOk};
 ghost use Rattle.lb_pool.specs.Correct.{AreVerdicts};
@@ -12,10 +12,10 @@ use lb_sim::{BatchRoom, LaneProgram};
 use lb_traces::TraceSet;
 use std::alloc::{AllocError, Global};
 
-// How many traces are run as one queue at most.
+// The most traces that are run as one queue.
 const MOST_AT_ONCE: usize = 4096;
 
-/// A program, and how many traces are run side by side.
+/// A program, and the number of traces that are run side by side.
 #[derive(Clone, Copy)]
 pub struct SetRunner<'a, 'p> {
     pub program: &'a LaneProgram<'p>,
@@ -24,8 +24,8 @@ pub struct SetRunner<'a, 'p> {
     pub ghost few: { lanes ≤ 64 },
 }
 
-// Runs traces in queues, one after the other, in the room of a worker, which it gives back. What is
-// judged has their numbers in this order.
+// Runs the traces `numbers` in queues, one after the other, in the room of a worker, and returns
+// the room. The verdicts come in the order of `numbers`.
 fn run_queues(
     alloc: Global,
     work: &Work<'_, '_>,
@@ -56,9 +56,9 @@ fn run_queues(
 }
 
 impl SetRunner<'_, '_> {
-    /// The verdicts of all traces of a set, in the traces' order, in the room of the worker, which
-    /// takes it with the first set. The longest traces are run first. It fails only where memory
-    /// was refused (E0).
+    /// The verdicts of all traces of a set, in the traces' order. The worker takes its room with
+    /// the first set, and uses it for all others. The longest traces are run first. It fails only
+    /// where memory was refused (E0).
     pub fn run(
         &self,
         alloc: Global,

@@ -1,4 +1,5 @@
-//! What runs of all kinds share: the verdicts of some traces, and their places in the list of all.
+//! The common part of all kinds of runs: the verdicts of some traces, and their places in the list
+//! of all.
 
 ghost use Rattle.std.specs.Prelude.{◌≡◌, ℕ, ◌<◌, ◌≤◌, ◌++◌, [], length, get_or, All, Contains};
 ghost use Rattle.std.specs.Prelude.{IfOk, OnOk};
@@ -22,7 +23,7 @@ pub(crate) struct Judged {
     pub(crate) verdict: Verdict,
 }
 
-/// What all workers of a run share: the program, the traces, and their plan.
+/// The data that all workers of a run share: the program, the traces, and their plan.
 #[derive(Clone, Copy)]
 pub(crate) struct Work<'a, 'p> {
     pub(crate) program: &'a LaneProgram<'p>,
@@ -32,7 +33,7 @@ pub(crate) struct Work<'a, 'p> {
 }
 
 impl Work<'_, '_> {
-    /// The numbers of a batch, which are those of traces.
+    /// The numbers of the traces of a batch.
     pub(crate) fn batch(&self, i: u32) -> &[u32]
         requires { i < length self.now.plan.now }
         ensures numbers { result.now ≡ get_or self.now.plan.now i [] }
@@ -43,7 +44,7 @@ impl Work<'_, '_> {
     }
 }
 
-// Puts the verdicts of some traces behind those that were found before.
+// Adds the verdicts of some traces behind those that were found before.
 fn push_judged(
     work: &Work<'_, '_>,
     members: &[u32],
@@ -85,8 +86,8 @@ pub(crate) fn room_for(
     BatchRoom::new(alloc, program)
 }
 
-/// Runs some traces in up to 64 lanes, in the room of a worker, which it gives back, and puts their
-/// verdicts behind those that were found before. `verdicts` is a buffer of the worker.
+/// Runs some traces in up to 64 lanes in the room of a worker, adds their verdicts behind those
+/// that were found before, and returns the room. `verdicts` is a buffer of the worker.
 pub(crate) fn run_members(
     work: &Work<'_, '_>,
     members: &[u32],

@@ -6,9 +6,10 @@
 //! second seat                        1         none
 //! ```
 //!
-//! Each claim adds 1 to the word in one atomic step. Who finds a number below the limit has drawn
-//! it; who does not is told that none is left, and takes no further step. A seat is the right to
-//! claim. Seats are split for more threads and joined after them; nothing here locks or waits.
+//! Each claim adds 1 to the word in one atomic step. A seat that finds a number below the limit has
+//! drawn it; any other seat is told that none is left, and takes no further step. A seat is the
+//! right to claim. Seats are split for more threads and joined after them; nothing here locks or
+//! waits.
 
 ghost use Rattle.std.specs.Prelude.{◌≡◌, ◌<◌, ◌≤◌, ◌+◌, ◌-◌, ◌/◌, ◌||◌, ◌++◌, ◌∷◌, [], true, false};
 ghost use Rattle.std.specs.Prelude.{None, MatchOption, IfOk, length, min};
@@ -57,8 +58,8 @@ impl ClaimBoard {
         Ok((ClaimBoard { table, n }, seat))
     }
 
-    /// Draws the next number, or tells the seat that none is left: from then on it answers `None`
-    /// without a step on the word.
+    /// Draws the next number, or returns `None` where none is left. The seat is then told so: from
+    /// then on a claim returns `None` without a step on the word.
     pub fn claim(&self, seat: &mut ClaimSeat) -> Option<u32>
         requires seat { IsSeatOf self.now seat.old }
         ensures seat { IsSeatOf self.now seat.new }
@@ -83,8 +84,8 @@ impl ClaimBoard {
         }
     }
 
-    /// Cuts the shares of a seat in two. The first seat has the larger half and all that was drawn;
-    /// where the seat was told that no number is left, both are.
+    /// Cuts the shares of a seat in two. The first seat has the larger half and all that was drawn.
+    /// Both count as told that no number is left where the seat was told so.
     pub fn split(&self, seat: ClaimSeat) -> (ClaimSeat, ClaimSeat)
         requires seat { IsSeatOf self.now seat }
         requires shares { 2 ≤ shares_of seat }
@@ -166,7 +167,7 @@ impl ClaimBoard {
 impl ClaimSeat {
     ghost use Rattle.lb_pool.specs.Seats.{shares_of};
 
-    /// How many of the board's 64 shares the seat has.
+    /// The number of the board's 64 shares that the seat has.
     pub fn shares(&self) -> u32
         ensures { result ≡ shares_of self.now }
     {

@@ -22,7 +22,7 @@ use lb_traces::TraceSet;
 use std::alloc::{AllocError, Global};
 use std::thread::{Threads, join};
 
-/// What workers have done: the seat that they claimed with, and the verdicts of its batches.
+/// The result of workers: the seat that they claimed with, and the verdicts of its batches.
 #[derive(Drop)]
 pub(crate) struct Drained {
     pub(crate) seat: ClaimSeat,
@@ -32,11 +32,11 @@ pub(crate) struct Drained {
 // A run takes up to 4096 traces, and a batch has up to 64.
 const MOST_AT_ONCE: u32 = 32;
 
-// How many batches a worker draws before it runs them all as one queue, where batch i is the first
-// of them. The fewer queues there are, the fewer lanes stand idle at the end of one: so one worker
-// cuts what is left into as few parts as will do. More workers cut it into two parts at least for
-// each of them: so the parts get smaller to the end, where by length the longest traces are, and no
-// worker has much to do where the others have nothing.
+// The number of batches that a worker draws before it runs them all as one queue, where batch i is
+// the first of them. Fewer queues leave fewer lanes idle at the end of one, so one worker cuts what
+// is left into as few parts as will do. Several workers cut it into at least two parts for each of
+// them. So the parts get smaller towards the end, where by length the longest traces are, and no
+// worker has much to do when the others have nothing.
 fn batches_at_once(batches: u32, workers: u32, i: u32) -> u32
     requires batch { i < batches }
     requires workers { (0 < workers) × (workers ≤ 64) }
@@ -80,8 +80,9 @@ fn draw_more<G: Gate>(
     Ok(())
 }
 
-// Draws what a worker runs together with batch i, for which it has passed the gate. Puts the
-// numbers of all these batches, in the order in which they were drawn, into a buffer of the worker.
+// Draws the batches that a worker runs together with batch i, for which it has passed the gate.
+// Puts the numbers of all these batches, in the order in which they were drawn, into a buffer of
+// the worker.
 fn draw<G: Gate>(
     board: &ClaimBoard,
     gate: &G,
@@ -114,8 +115,8 @@ fn draw<G: Gate>(
     Ok(())
 }
 
-// One of the workers of a run. It claims until it is told that no batch is left. It passes the gate
-// for each batch before it claims another, and takes its room with the first.
+// The work of one worker of a run. It claims until it is told that no batch is left. It passes the
+// gate for each batch before it claims another, and takes its room with the first.
 fn drain<G: Gate>(
     alloc: Global,
     board: &ClaimBoard,
@@ -147,7 +148,7 @@ fn drain<G: Gate>(
     Ok(Drained { seat, judged })
 }
 
-// What two workers have done together.
+// The joint result of two workers.
 fn both_drained(board: &ClaimBoard, one: Drained, other: Drained) -> Result<Drained, AllocError>
     requires one { IsSeatOf board.now one.seat }
     requires other { IsSeatOf board.now other.seat }
@@ -163,8 +164,8 @@ fn both_drained(board: &ClaimBoard, one: Drained, other: Drained) -> Result<Drai
     Ok(Drained { seat, judged })
 }
 
-// What each worker of a run does. Those who start workers are generic over it, so that their types
-// name no lifetime.
+// The work of each worker of a run. The functions that start workers are generic over it, so that
+// their types name no lifetime.
 trait Worker {
     ghost program: { Self → FlatProgram };
 
@@ -191,7 +192,7 @@ trait Worker {
 struct GatedWorker<'a, 'p, G> {
     work: Work<'a, 'p>,
     gate: &'a G,
-    /// How many workers there are.
+    /// The number of workers.
     workers: u32,
     ghost some: { (0 < workers) × (workers ≤ 64) },
 }
@@ -213,7 +214,7 @@ impl<G: Gate> Worker for GatedWorker<'_, '_, G> {
     }
 }
 
-// Some workers, each with a seat of its own: a seat is split until each has one.
+// Runs workers, each with a seat of its own: a seat is split until each worker has one.
 fn divide<R: Threads + Sync, W: Worker + Sync>(
     rt: &R,
     alloc: Global,
@@ -258,7 +259,7 @@ fn divide<R: Threads + Sync, W: Worker + Sync>(
     both_drained(board, one?, other?)
 }
 
-// The verdicts of all traces, by workers that share a lane program; no more of them than there are
+// The verdicts of all traces, by workers that share a lane program. There are no more workers than
 // batches.
 fn run_workers<'a, 'p, R: Threads + Sync, G: Gate + Sync>(
     rt: &R,

@@ -35,7 +35,7 @@ use std::sync::Wait;
 use std::thread::{Threads, scope, scope_env};
 use std::time::Clock;
 
-// Cuts a seat into `count` seats, and puts them behind others.
+// Cuts a seat into `count` seats, and adds them to a list of seats.
 fn cut_seat(
     board: &FollowBoard,
     seat: FollowSeat,
@@ -57,8 +57,8 @@ fn cut_seat(
     cut_seat(board, right, half, seats)
 }
 
-// Cuts the seats of workers off the first seat, which is left to the writer with a share at least:
-// as many as there are to be workers, but at most 63.
+// Cuts a seat for each worker off the first seat, but 63 at most. The first seat is left to the
+// writer, with at least one share.
 fn worker_seats(
     alloc: Global,
     board: &FollowBoard,
@@ -83,8 +83,8 @@ fn worker_seats(
 }
 
 // Runs a task on the calling thread while workers, one for each seat, drain the board in threads of
-// their own. Where no thread can be made for one, it drains the board on the calling thread, before
-// the task is run.
+// their own. A worker for which no thread can be made drains the board on the calling thread,
+// before the task is run.
 fn beside_workers<R, W, T, A>(rt: &R, worker: &W, seats: Vec<FollowSeat>, task: T) -> A
 where
     R: Threads + Wait + Sync,
@@ -119,7 +119,7 @@ fn take_back<T>(x: &mut T)
     ensures { x.new ≡ x.old }
 {}
 
-// Writes the report by workers that share a lane program and a board.
+// Writes the report, with workers that share a lane program and a board.
 fn follow_on<R, G, S>(
     rt: &R,
     alloc: Global,
@@ -165,13 +165,13 @@ where
 }
 
 /// Writes the report on all traces of a set, which have the program's signature, to a sink, with 1
-/// to 64 workers that draw the batches of a plan until none is left: each line goes out as soon as
+/// to 64 workers that draw the batches of a plan until none is left. Each line goes out as soon as
 /// it and all before it are known. No more workers start than there are batches. The calling thread
 /// writes; for 64 workers there are 63 threads beside it. Each worker passes the gate for a batch
 /// before it runs it, and has settled all that it drew before.
 ///
-/// An error tells how many bytes went out, which are the first of the report: E0 where memory was
-/// refused, E19 where the sink failed. It comes once all workers have ended.
+/// An error has the number of bytes that went out, which are the first of the report: E0 where
+/// memory was refused, E19 where the sink failed. It comes once all workers have ended.
 ///
 /// ```text
 /// let plan = Plan::in_order(alloc, set.len(), 64)?;

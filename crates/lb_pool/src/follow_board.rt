@@ -1,12 +1,12 @@
-//! The board of settled traces: workers draw batches from it and post what their traces come to;
-//! who reports looks whether the next trace is settled.
+//! The board of settled traces: workers draw batches from it and post the verdicts of their traces;
+//! the writer of the report looks whether the next trace is settled.
 //!
 //! ```text
 //! word   0        1         2         3 ..
 //!        claims   trace 0   trace 1   trace 2 ..    0 while open, then what it is settled with
 //! ```
 //!
-//! A post changes the word of its trace in one atomic step, if the trace is open: so a trace is
+//! A post changes the word of its trace in one atomic step, if the trace is open. So a trace is
 //! settled once, and what it is settled with stays. A look is one load. A seat is the right to
 //! claim, to post and to look; nothing here locks or waits.
 
@@ -50,7 +50,7 @@ pub struct FollowSeat {
     ghost empty: { seat.me.1 ≡ [] },
 }
 
-/// What a look at a trace answers.
+/// The answer of a look at a trace.
 #[derive(Clone, Copy)]
 pub enum Look {
     /// The trace is not settled yet.
@@ -76,7 +76,7 @@ fn word_of(settled: Option<Verdict>) -> u64
     }
 }
 
-// What a trace is settled with whose word is not 0.
+// The settlement that a word stands for, if it is not 0.
 fn told_by(word: u64) -> Option<Verdict>
     requires { word < 2 ^ 35 }
     ensures { result ≡ told_by word }
@@ -131,8 +131,8 @@ impl FollowBoard {
         Ok((FollowBoard { table, batches }, seat))
     }
 
-    /// Draws the next batch, or tells the seat that none is left: from then on it answers `None`
-    /// without a step on the word.
+    /// Draws the next batch, or returns `None` where none is left. The seat is then told so: from
+    /// then on a claim returns `None` without a step on the word.
     pub fn claim(&self, seat: &mut FollowSeat) -> Option<u32>
         requires seat { IsFollowSeatOf self.now seat.old }
         ensures seat { IsFollowSeatOf self.now seat.new }
@@ -163,7 +163,7 @@ impl FollowBoard {
     }
 
     /// Settles trace k with its verdict, or with `None` as failed, if nobody has settled it, and
-    /// answers what it is settled with.
+    /// returns what it is settled with.
     pub fn post(&self, seat: &mut FollowSeat, k: u32, verdict: Option<Verdict>) -> Option<Verdict>
         requires seat { IsFollowSeatOf self.now seat.old }
         requires trace { k < length (right_of self.now) }
@@ -182,7 +182,7 @@ impl FollowBoard {
         if found == 0 { verdict } else { told_by(found) }
     }
 
-    /// What trace k is settled with, if it is.
+    /// Looks at trace k: whether it is settled, and with what.
     pub fn look(&self, seat: &mut FollowSeat, k: u32) -> Look
         requires seat { IsFollowSeatOf self.now seat.old }
         requires trace { k < length (right_of self.now) }
@@ -205,8 +205,8 @@ impl FollowBoard {
     }
 
     /// Cuts the shares of a seat in two. The first seat has the larger half, all that was drawn and
-    /// all that was posted; both know what the seat knew. Where it was told that no batch is left,
-    /// both are.
+    /// all that was posted; both know what the seat knew. Both count as told that no batch is left
+    /// where the seat was told so.
     pub fn split(&self, seat: FollowSeat) -> (FollowSeat, FollowSeat)
         requires seat { IsFollowSeatOf self.now seat }
         requires shares { 2 ≤ shares_of seat }
@@ -274,7 +274,7 @@ impl FollowBoard {
 impl FollowSeat {
     ghost use Rattle.lb_pool.specs.FollowSeats.{shares_of};
 
-    /// How many of the board's 64 shares the seat has.
+    /// The number of the board's 64 shares that the seat has.
     pub fn shares(&self) -> u32
         ensures { result ≡ shares_of self.now }
     {

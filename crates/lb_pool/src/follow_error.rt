@@ -1,8 +1,8 @@
-//! Why a live report stops.
+//! The errors of a live report.
 
 use thiserror::Error;
 
-/// Why a live report did not go out whole. `count` bytes of it went out, the first ones.
+/// The reason why a live report did not go out whole. Its first `count` bytes went out.
 #[derive(Clone, Copy, Debug, Error)]
 pub enum FollowError {
     /// E0: memory was refused.

@@ -1,4 +1,4 @@
-//! What a seat of a board of settled traces knows, and the steps that change it. It exists in
+//! The view of a seat of a board of settled traces, and the steps that change it. It exists in
 //! proofs alone.
 
 use crate::views::View;
@@ -9,8 +9,8 @@ use lb_traces::TraceSet;
 use std::collections::LinkedList;
 use std::snapshot::Snapshot;
 
-/// The key of a board, which never changes: how many batches there are, and the program and the
-/// traces, which say what verdicts are right.
+/// The key of a board, which never changes: the number of batches, and the program and the traces,
+/// which determine the right verdicts.
 #[derive(Drop)]
 pub struct FollowKey {
     pub batches: u32,
@@ -18,11 +18,11 @@ pub struct FollowKey {
     pub set: Snapshot<TraceSet>,
 }
 
-/// What a seat knows. No value of it is made.
+/// The knowledge of a seat. No value of this type is made.
 pub struct FollowView {
-    /// What a seat of a claim board knows.
+    /// The knowledge of a seat of a claim board.
     pub draws: View,
-    /// The verdicts of the traces.
+    /// The right verdicts of the traces.
     pub right: LinkedList<Verdict>,
     /// The traces that were posted with the seat, each with its verdict, or with `None` as failed.
     pub posts: LinkedList<(u32, Option<Verdict>)>,
@@ -41,7 +41,7 @@ impl TableRule<u64, FollowView, FollowKey> for FollowRule {
     ghost first = { view_of };
 }
 
-/// A batch is claimed.
+/// The step that claims a batch.
 pub struct ClaimBatch;
 
 impl Play<u64, FollowView> for ClaimBatch {
@@ -50,7 +50,7 @@ impl Play<u64, FollowView> for ClaimBatch {
     ghost then = { ClaimsBatch };
 }
 
-/// A trace is posted.
+/// The step that posts a trace.
 pub struct PostTrace;
 
 impl Play<u64, FollowView> for PostTrace {
@@ -59,7 +59,7 @@ impl Play<u64, FollowView> for PostTrace {
     ghost then = { Posts };
 }
 
-/// A trace is looked at.
+/// The step that looks at a trace.
 pub struct LookAtTrace;
 
 impl Play<u64, FollowView> for LookAtTrace {
@@ -68,7 +68,7 @@ impl Play<u64, FollowView> for LookAtTrace {
     ghost then = { Looks };
 }
 
-/// A seat is cut in two.
+/// The step that cuts a seat in two.
 pub struct HalveSeat;
 
 impl Split<FollowView> for HalveSeat {
@@ -79,7 +79,7 @@ impl Split<FollowView> for HalveSeat {
     ghost right = { smaller_half };
 }
 
-/// Two seats are put together.
+/// The step that puts two seats together.
 pub struct GatherSeats;
 
 impl Join<FollowView> for GatherSeats {

@@ -58,8 +58,8 @@ impl Verdicts for Posting<'_> {
     ghost takes_still = { λ s t k v a. may_still_post _ _ _ _ _ _ k v a.1 };
 }
 
-// Runs a batch in the room of a worker, which it gives back, and settles its members: each as soon
-// as its verdict is known, while the others still run.
+// Runs a batch in the room of a worker, and returns the room. Each member is settled as soon as its
+// verdict is known, while the others still run.
 fn run_and_post(
     work: &Work<'_, '_>,
     board: &FollowBoard,
@@ -88,7 +88,7 @@ fn run_and_post(
 }
 
 // Settles the members of a batch: each with its verdict, or as failed where memory is refused for
-// the room of the worker. Gives the room back.
+// the room of the worker. Returns the room.
 fn settle_batch(
     alloc: Global,
     work: &Work<'_, '_>,
@@ -114,8 +114,8 @@ fn settle_batch(
     }
 }
 
-// One worker. It passes the gate for a batch before it runs it, and has settled the members of all
-// batches that it drew before.
+// The work of one worker. It passes the gate for a batch before it runs it, and has settled the
+// members of all batches that it drew before.
 fn drain_board<G: Gate>(
     alloc: Global,
     work: &Work<'_, '_>,
@@ -135,12 +135,12 @@ fn drain_board<G: Gate>(
     }
 }
 
-/// What each worker does with its seat. Those who start workers are generic over it, so that their
-/// types name no lifetime.
+/// The work of each worker with its seat. The functions that start workers are generic over it, so
+/// that their types name no lifetime.
 pub(crate) trait FollowWorker {
     ghost use Rattle.lb_pool.specs.declared.follow_board.FollowSeat.{FollowSeat};
 
-    /// The seats that it can take.
+    /// The seats that the worker can take.
     ghost takes: { Self → FollowSeat → Type 0 };
 
     /// Settles the members of all batches that are left.
@@ -148,7 +148,7 @@ pub(crate) trait FollowWorker {
         requires { takes self.now seat };
 }
 
-/// What all workers of a live report share.
+/// The data that all workers of a live report share.
 #[derive(Drop)]
 pub(crate) struct PostingWorker<'a, 'p, G> {
     pub(crate) alloc: Global,

@@ -1,9 +1,8 @@
 //! The writer of a live report: it writes each line as soon as that line and all before it are
 //! known.
 //!
-//! Where the next line is not known yet, all that is known goes out, the sink hands on what it
-//! keeps back, and the writer sleeps a little, time and again. It takes no processor from the
-//! workers.
+//! While the next line is not known, the writer sends all that is known, flushes the sink, and
+//! sleeps a little, again and again. It takes no processor from the workers.
 
 ghost use Rattle.std.specs.Prelude.{◌≡◌, ◌<◌, ◌≤◌, ◌+◌, ◌*◌, ◌^◌, ◌++◌, ◌∷◌, [], List, ℕ};
 ghost use Rattle.std.specs.Prelude.{IfErr, IfOk, IfSome, OnOk, get_or, length, vec_len};
@@ -15,7 +14,7 @@ ghost use Rattle.lb_pool.specs.Reports as spec;
 
 use crate::follow_board::{FollowBoard, FollowSeat, Look};
 use crate::follow_error::FollowError;
-use crate::outgoing::{Outgoing, hand_on, send_chunk};
+use crate::outgoing::{Outgoing, send_all, send_chunk};
 use crate::sink::Sink;
 use lb_check::Verdict;
 use lb_traces::TraceSet;
@@ -24,10 +23,10 @@ use std::sync::Wait;
 use std::thread::sleep;
 use std::time::{Clock, Duration};
 
-/// How long the writer sleeps between two looks, in microseconds.
+/// The time that the writer sleeps between two looks, in microseconds.
 const PAUSE: u64 = 200;
 
-// Waits until a trace is settled, and answers its verdict; none where it is settled as failed.
+// Waits until a trace is settled, and returns its verdict, or `None` where it is settled as failed.
 fn wait_for<R: Wait + Clock>(
     rt: &R,
     board: &FollowBoard,
@@ -64,7 +63,7 @@ fn next_verdict<R: Wait + Clock, S: Sink>(
     requires room { out.old.count + vec_len out.old.text < 2 ^ 64 }
     ensures seat { IsFollowSeatOf board.now seat.new }
 
-    // What `Ok` holds.
+    // Where the result is `Ok`:
     ensures right { IfOk result (λ v. v ≡ get_or (right_of board.now) k Passed) }
     ensures gone { OnOk result (Goes (S.taken sink.old) (S.taken sink.new)
         out.old.text.items out.new.text.items out.old.count out.new.count) }
@@ -78,14 +77,14 @@ fn next_verdict<R: Wait + Clock, S: Sink>(
     if let Look::Ready(verdict) = board.look(seat, k) {
         return Ok(verdict);
     }
-    hand_on(sink, out)?;
+    send_all(sink, out)?;
     match wait_for(rt, board, seat, k) {
         Some(verdict) => Ok(verdict),
         None => Err(out.refused()),
     }
 }
 
-// Puts a verdict behind those that were found before.
+// Adds a verdict behind those that were found before.
 fn keep_verdict(
     out: &Outgoing,
     verdicts: &mut Vec<Verdict>,
@@ -101,7 +100,7 @@ fn keep_verdict(
     }
 }
 
-// Writes the lines of all traces, but for what is kept back.
+// Writes the lines of all traces, except the text that is still kept back.
 fn write_lines<R: Wait + Clock, S: Sink>(
     rt: &R,
     board: &FollowBoard,
@@ -117,7 +116,7 @@ fn write_lines<R: Wait + Clock, S: Sink>(
     requires text { (out.old.text.items ≡ []) × (out.old.count ≡ 0) }
     requires verdicts { verdicts.old.items ≡ [] }
 
-    // What `Ok` holds.
+    // Where the result is `Ok`:
     ensures verdicts { OnOk result (verdicts.new.items ≡ right_of board.now) }
     ensures gone { OnOk result (Goes (S.taken sink.old) (S.taken sink.new)
         (spec.lines (trace_names set.now.traces) (right_of board.now)) out.new.text.items
@@ -160,11 +159,11 @@ fn write_report<R: Wait + Clock, S: Sink>(
     write_lines(rt, board, seat, set, sink, &mut out, &mut verdicts)?;
     let _ = set.len();
     out.add_total(verdicts.as_slice())?;
-    hand_on(sink, &mut out)
+    send_all(sink, &mut out)
 }
 
-/// What the calling thread does beside its workers. Who starts them is generic over it: nothing is
-/// known of a `&mut` in the closure of a scope, but what such a value gives is.
+/// The work of the calling thread beside its workers. The function that starts them is generic over
+/// it: proofs know nothing of a `&mut` in the closure of a scope, but they know what `run` gives.
 pub(crate) trait Task {
     type Output;
 

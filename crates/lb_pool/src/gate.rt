@@ -1,6 +1,6 @@
-//! Gates: what a worker passes before each batch.
+//! Gates that a worker passes before each batch.
 
-/// A worker calls it after it has drawn a batch and before it runs it. It has to return.
+/// A gate. A worker calls it after it has drawn a batch and before it runs it. It has to return.
 pub trait Gate {
     fn enter(&self, batch: u32);
 }

@@ -1,6 +1,6 @@
 //! The text of a live report on its way to a sink.
 //!
-//! Lines that are known at once go out together, and are kept back until then.
+//! Lines that are known at the same time are kept back, and then go out together.
 
 ghost use Rattle.std.specs.Prelude.{◌≡◌, ◌<◌, ◌≤◌, ◌+◌, ◌^◌, ◌++◌, [], List, ℕ, length, vec_len};
 ghost use Rattle.std.specs.Prelude.{IfErr, OnOk};
@@ -13,21 +13,21 @@ use crate::text::{push_line, push_total};
 use lb_check::Verdict;
 use std::alloc::Global;
 
-/// How many bytes are kept back at most, with one line more, while the next lines are known.
+/// The most bytes that are kept back, and one line more, while the next lines are known.
 const CHUNK: usize = 1 << 15;
 
-/// The text that is kept back, and how much went out before it.
+/// The text that is kept back, and the number of bytes that went out before it.
 #[derive(Drop)]
 pub(crate) struct Outgoing {
     pub(crate) text: Vec<u8>,
-    /// How many bytes went out.
+    /// The number of bytes that went out.
     pub(crate) count: usize,
     /// Whether some of them went out since the sink was last flushed.
     unflushed: bool,
 }
 
 impl Outgoing {
-    /// No text, of which nothing went out.
+    /// No text is kept back, and no byte went out.
     pub(crate) fn new(alloc: Global) -> Outgoing
         ensures text { result.text.items ≡ [] }
         ensures count { result.count ≡ 0 }
@@ -39,7 +39,7 @@ impl Outgoing {
         }
     }
 
-    /// That memory was refused.
+    /// The error where memory was refused.
     pub(crate) fn refused(&self) -> FollowError
         ensures count { sent_of result ≡ self.now.count }
         ensures cause { (n : ℕ) → HasCause result n n }
@@ -78,12 +78,12 @@ impl Outgoing {
     }
 }
 
-/// Writes all text.
+/// Writes all text that is kept back.
 fn send_text<S: Sink>(sink: &mut S, out: &mut Outgoing) -> Result<(), FollowError>
     requires failures { S.failures sink.old < u64.MAX }
     requires room { out.old.count + vec_len out.old.text < 2 ^ 64 }
 
-    // What `Ok` holds.
+    // Where the result is `Ok`:
     ensures gone { OnOk result (Goes (S.taken sink.old) (S.taken sink.new)
         out.old.text.items out.new.text.items out.old.count out.new.count) }
     ensures all { OnOk result (out.new.text.items ≡ []) }
@@ -110,12 +110,12 @@ fn send_text<S: Sink>(sink: &mut S, out: &mut Outgoing) -> Result<(), FollowErro
     }
 }
 
-/// Writes all text where it is a chunk.
+/// Writes all text that is kept back, once it has `CHUNK` bytes or more.
 pub(crate) fn send_chunk<S: Sink>(sink: &mut S, out: &mut Outgoing) -> Result<(), FollowError>
     requires failures { S.failures sink.old < u64.MAX }
     requires room { out.old.count + vec_len out.old.text < 2 ^ 64 }
 
-    // What `Ok` holds.
+    // Where the result is `Ok`:
     ensures gone { OnOk result (Goes (S.taken sink.old) (S.taken sink.new)
         out.old.text.items out.new.text.items out.old.count out.new.count) }
     ensures ok { OnOk result (S.failures sink.new ≡ S.failures sink.old) }
@@ -131,7 +131,7 @@ pub(crate) fn send_chunk<S: Sink>(sink: &mut S, out: &mut Outgoing) -> Result<()
     send_text(sink, out)
 }
 
-/// Lets the sink hand on what it keeps back.
+/// Flushes the sink, if bytes went out since the last flush.
 fn flush<S: Sink>(sink: &mut S, out: &mut Outgoing) -> Result<(), FollowError>
     requires failures { S.failures sink.old < u64.MAX }
     ensures gone { Goes (S.taken sink.old) (S.taken sink.new) [] [] out.old.count out.old.count }
@@ -152,12 +152,12 @@ fn flush<S: Sink>(sink: &mut S, out: &mut Outgoing) -> Result<(), FollowError>
     }
 }
 
-/// Writes all text, and lets the sink hand on what it keeps back.
-pub(crate) fn hand_on<S: Sink>(sink: &mut S, out: &mut Outgoing) -> Result<(), FollowError>
+/// Writes all text that is kept back, and flushes the sink.
+pub(crate) fn send_all<S: Sink>(sink: &mut S, out: &mut Outgoing) -> Result<(), FollowError>
     requires failures { S.failures sink.old < u64.MAX }
     requires room { out.old.count + vec_len out.old.text < 2 ^ 64 }
 
-    // What `Ok` holds.
+    // Where the result is `Ok`:
     ensures gone { OnOk result (Goes (S.taken sink.old) (S.taken sink.new)
         out.old.text.items out.new.text.items out.old.count out.new.count) }
     ensures all { OnOk result (out.new.text.items ≡ []) }

@@ -27,7 +27,7 @@ use std::marker::Model;
 pub struct Plan {
     /// The numbers of all batches, batch after batch.
     numbers: Vec<u32>,
-    /// How many numbers a batch has; the last may have fewer.
+    /// The size of a batch; the last may be smaller.
     width: u32,
 }
 
@@ -106,7 +106,7 @@ impl Plan {
         self.numbers.as_slice()
     }
 
-    /// How many numbers a batch has; the last may have fewer.
+    /// The size of a batch; the last may be smaller.
     pub(crate) fn width(&self) -> u32
         ensures bounds { (0 < result) × (result ≤ 64) }
         ensures plan { IsPlan (length (numbers_in self.now)) result self.now }
@@ -114,7 +114,7 @@ impl Plan {
         self.width
     }
 
-    /// How many batches there are.
+    /// The number of batches.
     pub fn batches(&self) -> u32
         ensures count { result ≡ length self.now }
         ensures lawful { IsLawful self.now }
@@ -136,7 +136,7 @@ impl Plan {
         &numbers[start..end]
     }
 
-    /// How many numbers all batches have together.
+    /// The count of the numbers in all batches.
     pub fn traces(&self) -> u32
         ensures count { result ≡ length (numbers_in self.now) }
         ensures lawful { IsLawful self.now }
@@ -159,7 +159,7 @@ fn measured(alloc: Global, set: &TraceSet) -> Result<Vec<(u32, u32)>, AllocError
     Ok(pairs)
 }
 
-// The numbers of pairs of a length and a number.
+// The second parts of pairs of a length and a number: the numbers.
 fn numbers_of(alloc: Global, pairs: &[(u32, u32)]) -> Result<Vec<u32>, AllocError>
     ensures { IfOk result (λ numbers. numbers.items ≡ map (λ pair. pair.1) pairs.now) }
 {
@@ -180,7 +180,7 @@ fn numbers_by_length(alloc: Global, set: &TraceSet) -> Result<Vec<u32>, AllocErr
     Ok(numbers)
 }
 
-// The last numbers, so many and the last one first, and behind them the others as they stood.
+// The last `count` numbers, the last one first, and behind them the others in their order.
 fn last_first(alloc: Global, numbers: &[u32], count: usize) -> Result<Vec<u32>, AllocError>
     ensures each_once { IfOk result (λ v. IsPermutation numbers.now v.items) }
     ensures order { IfOk result (λ v.

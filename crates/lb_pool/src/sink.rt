@@ -1,4 +1,4 @@
-//! Where outputs go, and writing a text to its end.
+//! Sinks, to which outputs go, and the writing of a text to its end.
 
 ghost use Rattle.std.specs.Prelude.{◌≡◌, ℕ, [], ◌+◌, ◌<◌, ◌≤◌, length, take};
 ghost use Rattle.std.specs.Prelude.{IfOk, IfErr, OnOk, OnErr};
@@ -12,21 +12,21 @@ use thiserror::Error;
 #[error("the output could not be written")]
 pub struct SinkFailed;
 
-/// Where an output goes.
+/// A sink, to which an output goes.
 pub trait Sink {
-    /// What it has taken: how many bytes, as far as a `u64` counts, and which ones where the sink
-    /// tells them; and the writer that it lends them to.
+    /// The bytes that it has taken: their count, as far as a `u64` counts; the bytes themselves,
+    /// where they are known; and the writer that it lends them to.
     ghost taken: { Self → Taken };
 
-    /// How often it has failed.
+    /// The number of times that it has failed.
     ghost failures: { Self → ℕ };
 
-    /// Writes the first of these bytes, and answers how many they are. 0 of a text that is not
-    /// empty is a failure too.
+    /// Writes the first of these bytes, and returns how many they are. The answer 0 is a failure
+    /// too, unless there are no bytes.
     fn write(&mut self, bytes: &[u8]) -> Result<usize, SinkFailed>
         requires { failures self.old < u64.MAX }
 
-        // What `Ok` holds.
+        // Where the result is `Ok`:
         ensures within { IfOk result (λ n. n ≤ length bytes.now) }
         ensures next { IfOk result (λ n.
             Takes (taken self.old) (taken self.new) (take n bytes.now)) }
@@ -39,7 +39,7 @@ pub trait Sink {
         ensures err { OnErr result (failures self.new ≡ failures self.old + 1) }
         ensures kept { OnErr result (TakesNothing (taken self.old) (taken self.new)) };
 
-    /// Hands on what it keeps back, if it keeps anything back.
+    /// Passes on the bytes that it keeps back, if there are any.
     fn flush(&mut self) -> Result<(), SinkFailed>
         requires { failures self.old < u64.MAX }
         ensures ok { OnOk result (failures self.new ≡ failures self.old) }
@@ -51,7 +51,7 @@ pub trait Sink {
         Ok(())
     }
 
-    /// How often it has failed.
+    /// The number of times that it has failed.
     fn failures(&self) -> u64
         ensures { result ≡ failures self.now };
 }
@@ -124,7 +124,7 @@ impl<W: Write> Sink for Writer<'_, W> {
 #[derive(Clone, Copy, Debug, Error)]
 #[error("the output failed after {count} bytes")]
 pub struct Sent {
-    /// How many bytes went out.
+    /// The number of bytes that went out.
     pub count: usize,
 }
 
@@ -133,7 +133,7 @@ pub fn send<S: Sink>(sink: &mut S, bytes: &[u8]) -> Result<(), Sent>
     requires { S.failures sink.old < u64.MAX }
     ensures same { (S.taken sink.new).writer ≡ (S.taken sink.old).writer }
 
-    // What `Ok` holds: all bytes went out.
+    // Where the result is `Ok`, all bytes went out.
     ensures all { OnOk result (Takes (S.taken sink.old) (S.taken sink.new) bytes.now) }
     ensures ok { OnOk result (S.failures sink.new ≡ S.failures sink.old) }
 

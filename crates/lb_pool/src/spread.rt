@@ -16,7 +16,7 @@ use rayon::prelude::*;
 use std::alloc::{AllocError, Global};
 use std::thread::Threads;
 
-// The verdicts of a batch, in the room that the worker had for the batch before.
+// The verdicts of a batch. It runs in the room that the worker had for the batch before.
 fn judged_batch(
     alloc: Global,
     work: &Work<'_, '_>,

@@ -15,10 +15,10 @@ use lb_check::Verdict;
 use lb_traces::TraceSet;
 use std::alloc::{AllocError, Global};
 
-/// How many words there are for verdicts.
+/// The number of words for verdicts.
 const WORDS: usize = 5;
 
-/// The words for verdicts, in the order of the last line.
+/// The word at a place, in the order of the last line.
 fn word(place: usize) -> &'static str
     requires { place < WORDS }
     ensures { result.now ≡ get_or spec.words place [] }
@@ -32,7 +32,7 @@ fn word(place: usize) -> &'static str
     }
 }
 
-/// Which of the words a verdict has.
+/// The place of a verdict's word among the words.
 fn place_of(verdict: Verdict) -> usize
     ensures value { result ≡ spec.place_of verdict }
     ensures within { result < WORDS }
@@ -46,7 +46,7 @@ fn place_of(verdict: Verdict) -> usize
     }
 }
 
-/// The instant that decided, if one did.
+/// The instant that decided a verdict, if one did.
 fn instant_of(verdict: Verdict) -> Option<u32>
     ensures { result ≡ spec.instant_of verdict }
 {
@@ -90,7 +90,7 @@ pub(crate) fn push_line(text: &mut Vec<u8>, name: &str, verdict: Verdict) -> Res
     text.extend_from_slice(b"\n")
 }
 
-/// How many verdicts have a word.
+/// The number of verdicts whose word is at `place`.
 fn count_of(verdicts: &[Verdict], place: usize) -> usize
     ensures { result ≡ spec.count_of verdicts.now place }
 {

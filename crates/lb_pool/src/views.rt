@@ -1,15 +1,15 @@
-//! What a seat knows, and the steps that change it. It exists in proofs alone.
+//! The view of a seat, and the steps that change it. It exists in proofs alone.
 
 ghost use Rattle.std.specs.Prelude.{ℕ};
 
 use atomic_table::{Join, Play, Split, TableRule};
 use std::collections::LinkedList;
 
-/// What a seat knows. No value of it is made.
+/// The knowledge of a seat. No value of this type is made.
 pub struct View {
-    /// How many numbers there are to draw.
+    /// The limit of the numbers to draw: they are those below it.
     pub limit: u32,
-    /// The shares of all 64 that the seat has.
+    /// The shares that the seat has, of 64.
     pub shares: u32,
     /// Whether the seat was told that no number is left.
     pub told: bool,
@@ -29,7 +29,7 @@ impl TableRule<u64, View, u32> for Draws {
     ghost first = { first_view };
 }
 
-/// A claim.
+/// The step that claims a number.
 pub struct Claim;
 
 impl Play<u64, View> for Claim {
@@ -38,7 +38,7 @@ impl Play<u64, View> for Claim {
     ghost then = { Claims };
 }
 
-/// A seat is cut in two.
+/// The step that cuts a seat in two.
 pub struct Halve;
 
 impl Split<View> for Halve {
@@ -49,7 +49,7 @@ impl Split<View> for Halve {
     ghost right = { smaller_half };
 }
 
-/// Two seats are put together.
+/// The step that puts two seats together.
 pub struct Gather;
 
 impl Join<View> for Gather {

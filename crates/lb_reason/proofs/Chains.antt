@@ -1,7 +1,7 @@
--- From an element on, each that decides the one before it.
+-- Chains of elements, in which each element decides the one before it.
 use Rattle.std.proofs.Common.{◌≡◌, ◌≢◌, ◌∙◌, ◌<◌, ◌≤◌, ℕ, zero, suc, ◌+◌, ◌-◌, List, [], ◌∷◌, ◌++◌}
-use Rattle.std.proofs.Common.{Option, Some, None, add-one, ap, append-nil, append_assoc, arith, drop, get_or}
-use Rattle.std.proofs.Common.{length, nat_eq, true, false, refl, sym}
+use Rattle.std.proofs.Common.{Option, Some, None, add-one, ap, append-nil, append_assoc, arith}
+use Rattle.std.proofs.Common.{drop, get_or, length, nat_eq, true, false, refl, sym}
 use Rattle.std.specs.Prelude.{if◌then◌else◌}
 use Rattle.std.proofs.Math.ListN.{drop_of_length-le}
 use Rattle.std.proofs.Math.Seq.{drop-cons}
@@ -26,7 +26,7 @@ module _ (clocks : List Clock) (qs : List Equation) (i e : ℕ) where
       let here : drop i qs ≡ get_or qs i d ∷ drop (i + 1) qs = rw (add-one, drop-cons qs i d) in
       ap (λ xs. given_by (flat_equations clocks xs) e) here
 
-  -- an equation that gives another element
+  -- `given_by` skips an equation that gives another element
   pub other_given :
       (d : Equation) → i < length qs → (get_or qs i d).element.0 ≢ e →
       given_by (flat_equations clocks (drop (i + 1) qs)) e
@@ -39,7 +39,7 @@ module _ (clocks : List Clock) (qs : List Equation) (i e : ℕ) where
       ∙ ap (λ b. if b then Some (equation_of clocks (get_or qs i d))
       else given_by (flat_equations clocks (drop (i + 1) qs)) e) apart)
 
-  -- the one that gives the element
+  -- `given_by` finds the equation that gives the element
   pub one_given :
       (d : Equation) → i < length qs → (get_or qs i d).element.0 ≡ e →
       Some (equation_of clocks (get_or qs i d))
@@ -55,7 +55,7 @@ module _ (clocks : List Clock) (qs : List Equation) (i e : ℕ) where
   none_given le =
       sym (ap (λ xs. given_by (flat_equations clocks xs) e) (drop_of_length-le qs le))
 
--- what decides an element, where the equation that gives it is known
+-- the element that decides element e, where the equation that gives e is known
 pub decided_is :
     (Q Q' : List FlatEquation) (row : Row) (e : ℕ) (o : Option FlatEquation) → Q' ≡ Q →
     o ≡ given_by Q' e → decided_by row e o ≡ next_element Q row e
@@ -63,12 +63,12 @@ decided_is Q Q' row e o same is =
     ap (decided_by row e) is ∙ ap (λ qs. decided_by row e (given_by qs e)) same
 
 module _ (Q : List FlatEquation) (row : Row) where
-  -- behind none there is none
+  -- a chain from no element on is empty
   pub none_on : (n : ℕ) → chain n Q row None ≡ []
   none_on zero = refl
   none_on (suc n) = refl
 
-  -- where none is left, there are all
+  -- where no element is left, `elements` is the whole chain
   pub all_on :
       (elements : List ElementId) (left : ℕ) (o : Option ℕ) (whole : List ℕ) →
       chain left Q row o ≡ [] → numbers_of elements ++ chain left Q row o ≡ whole →
@@ -78,7 +78,7 @@ module _ (Q : List FlatEquation) (row : Row) where
       ∙ ap (λ xs. numbers_of elements ++ xs) (sym none)
       ∙ holds
 
-  -- one element more
+  -- the whole chain stays where one more element moves into `elements`
   pub one_on :
       (elements after : List ElementId) (element : ElementId) (left : ℕ) (next : Option ℕ)
       (whole : List ℕ) → 0 < left → after ≡ elements ++ element ∷ [] →

@@ -7,12 +7,12 @@ use Rattle.lb_syntax.specs.Lists.{Every}
 use Rattle.lb_check.specs.Scalars.{Cell, Integer, Boolean, Nil, Bad}
 use Rattle.lb_flat.specs.Flat.{FlatEquation, Operation}
 use Rattle.lb_flat.specs.Run.{Ready, Row, cell}
-use Rattle.lb_reason.specs.Deciding.{chain, decided_by, deciding, first_of, given_by, is_bad, is_nil}
-use Rattle.lb_reason.specs.Deciding.{next_element, operands_taken}
+use Rattle.lb_reason.specs.Deciding.{chain, decided_by, deciding, first_of, given_by, is_bad}
+use Rattle.lb_reason.specs.Deciding.{is_nil, next_element, operands_taken}
 use Rattle.lb_reason.specs.Ends.{IsFollowed, all_steps}
 use Rattle.lb_reason.proofs.Ranks.{rank, rank_falls, rank_within}
 
--- the last of some that all have a property
+-- the last of some elements has a property that all of them have
 last_has :
     (P : ℕ → Type 0) (o : Option ℕ) (es : List ℕ) → ((e : ℕ) → o ≡ Some e → P e) → Every P es →
     (last : ℕ) → last_or o es ≡ Some last → P last
@@ -22,7 +22,7 @@ last_has P o (e ∷ es) has all last is =
     (λ a same. let alike : e ≡ a = cc in subst P alike all.0) all.1 last is
 
 module _ (Q : List FlatEquation) (row : Row) where
-  -- the last one is followed by none, where the count suffices
+  -- no element decides the last of a chain, where its count is large enough
   last_ends :
       (size n before : ℕ) (o : Option ℕ) → Ready size [] Q → o ≡ next_element Q row before →
       ((e : ℕ) → o ≡ Some e → rank Q e < n) → (last : ℕ) →
@@ -104,7 +104,8 @@ module _ (Q : List FlatEquation) (row : Row) where
     pub followed : (first : ℕ) → test (cell row first) ≡ true → IsFollowed test Q row first
     followed first passes_first =
         let starts : (e : ℕ) → Some first ≡ Some e → test (cell row e) ≡ true = λ e same.
-        let alike : first ≡ e = cc in subst (λ (i : ℕ). test (cell row i) ≡ true) alike passes_first in
+        let alike : first ≡ e = cc in
+        subst (λ (i : ℕ). test (cell row i) ≡ true) alike passes_first in
         let all : Every (λ e. test (cell row e) ≡ true) (all_steps Q row first) =
         all_pass (length Q + 1) (Some first) starts in
         record {
@@ -118,7 +119,7 @@ module _ (Q : List FlatEquation) (row : Row) where
               ∙ sym (ap (decided_by row last) given) ∙ steps_end size ready first last is);
         }
 
--- at a fault the first operand that has one decides
+-- where an operation gives a fault, the first operand that is a fault decides
 pub bad_follows :
     (row : Row) (x : Cell) (q : Operation) → is_bad x ≡ true →
     deciding row x q ≡ first_of is_bad row (operands_taken row q)
@@ -128,7 +129,7 @@ bad_follows row (Some (Boolean b)) q is = absurd (cc)
 bad_follows row (Some Nil) q is = absurd (cc)
 bad_follows row (Some Bad) q is = refl
 
--- and where an operation gives nil, the first operand that is nil
+-- where an operation gives nil, the first operand that is nil decides
 pub nil_follows :
     (row : Row) (x : Cell) (q : Operation) → is_nil x ≡ true →
     deciding row x q ≡ first_of is_nil row (operands_taken row q)

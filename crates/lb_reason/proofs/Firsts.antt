@@ -29,7 +29,7 @@ module _ (test : Cell → Bool) (row : Row) where
         rw (is, add-one, drop-cons elements i d) in
         ap (λ es. first_of test row (numbers_of es)) here
 
-    -- an element that does not pass
+    -- `first_of` skips an element that does not pass
     pub other_first :
         (d a : ElementId) → i < length elements → a ≡ get_or elements i d →
         test (cell row a.0) ≡ false →
@@ -41,7 +41,7 @@ module _ (test : Cell → Bool) (row : Row) where
         ∙ ap (λ b. if b then Some a.0
         else first_of test row (numbers_of (drop (i + 1) elements))) fails)
 
-    -- the one that does
+    -- `first_of` finds an element that passes
     pub one_first :
         (d a : ElementId) → i < length elements → a ≡ get_or elements i d →
         test (cell row a.0) ≡ true →
@@ -108,7 +108,7 @@ module _ (test : Cell → Bool) (row : Row) where
       (find-append (λ i. test (cell row i)) xs ys
       ∙ ap (λ p. option_or p (first_of test row ys)) (sym none))
 
-  -- the same of elements as the code has them
+  -- `in_front` for elements of the code
   pub found_in_front :
       (xs ys : List ℕ) (o : Option ElementId) → is_some o ≡ true →
       option_map number o ≡ first_of test row xs →

@@ -13,7 +13,7 @@ use Rattle.lb_flat.specs.Judging.{FlatProgram, flat_verdict, named_elements, row
 use Rattle.lb_flat.specs.Judging.{rows_judged, some_in, truth_elements}
 use Rattle.lb_flat.specs.Flat.{FlatEquation}
 use Rattle.lb_flat.specs.Run.{Row, advanced, row_of, run}
-use Rattle.lb_flat.proofs.Judging.{length-run}
+use Rattle.lb_flat.proofs.runs.Judging.{length-run}
 use Rattle.lb_history.specs.Replaying.{equations_before, row_at}
 use Rattle.lb_reason.specs.Deciding.{is_bad, is_false, is_nil}
 use Rattle.lb_reason.specs.Reasons.{first_place, instant_of}
@@ -31,7 +31,7 @@ module _ (size : ℕ) where
       ap (λ (E : List FlatEquation). map (advanced (row_of size E (get_or X t []))) E)
       (later Q given X t)
 
-  -- the rows of a run, one by one
+  -- row t of a run is the row of the equations before instant t
   run_row :
       (Q : List FlatEquation) (X : Inputs) (t : ℕ) → t < length X →
       get_or (run size Q X) t [] ≡ row_of size (equations_before size Q X t) (get_or X t [])
@@ -41,15 +41,16 @@ module _ (size : ℕ) where
       run_row (map (advanced (row_of size Q given)) Q) X t (omega arith)
       ∙ ap (λ E. row_of size E (get_or X t [])) (sym (later Q given X t))
 
--- ## What a row is asked
+-- ## The tests of a row
 
--- the verdict at instant s by what is found there
+-- the verdict of a row at instant s, by its tests: a for a fault, b for nil, c for a false
+-- assertion, d for a false property
 abbrev found : (a b c d : Bool) → (s : ℕ) → Verdict
 found a b c d s =
     if a then Fault s else if b then Undefined s else if c then Assertion s else
     if d then False s else Passed
 
--- it has this instant
+-- the verdict of a row at instant s has the instant s
 found_at :
     (a b c d : Bool) (s u : ℕ) → instant_of (found a b c d s) ≡ Some u → s ≡ u
 found_at true b c d s u is = cc
@@ -58,7 +59,7 @@ found_at false false true d s u is = cc
 found_at false false false true s u is = cc
 found_at false false false false s u is = absurd (cc)
 
--- what a verdict stands for
+-- the test that belongs to a verdict
 abbrev meant : Verdict → (a b c d : Bool) → Bool
 meant Passed a b c d = false
 meant (Fault t) a b c d = a
@@ -77,7 +78,7 @@ found_is false false false false s u is = absurd (cc)
 
 -- ## The instant of a verdict
 
--- an instant of some rows, of which the first is that of instant s, whose row gives a verdict
+-- instant t belongs to `rows`, which begin at instant s, and its row gives the verdict v
 record IsJudgedAt (f : FlatProgram) (s : ℕ) (rows : List Row) (v : Verdict) (t : ℕ) : Type 0 where
   place : ℕ
   is : t ≡ s + place
@@ -123,7 +124,7 @@ judged_in f s (row ∷ rows) v t is same =
     judged_more f s row rows v t is (row_judged f s row) refl same
     (judged_in f (suc s) rows v t is)
 
--- the instant is one of the trace, and its row gives the verdict
+-- the instant of a verdict belongs to the trace, and its row gives the verdict
 pub judged_at :
     (f : FlatProgram) (X : Inputs) (v : Verdict) (t : ℕ) → instant_of v ≡ Some t →
     v ≡ flat_verdict f X → (t < length X) × (row_judged f t (row_at f X t) ≡ v)
@@ -136,9 +137,9 @@ judged_at f X v t is same =
     ap (λ i. get_or rows i []) at ∙ run_row f.size f.equations X t lt in
     (lt, subst (λ (r : Row). row_judged f t r ≡ v) row h.gives)
 
--- ## The place of a verdict
+-- ## The first element of a verdict
 
--- a verdict that no place has is not meant
+-- the test of a verdict fails where no element decides it
 no_place :
     (f : FlatProgram) (row : Row) (v : Verdict) → first_place f row v ≡ None →
     meant v (some_in verdicts.is_bad row (named_elements f))
@@ -152,7 +153,7 @@ no_place f row (Undefined t) none =
 no_place f row (Assertion t) none = some_first is_false row f.asserted ∙ ap is_some none
 no_place f row (False t) none = some_first is_false row (f.property ∷ []) ∙ ap is_some none
 
--- a row that gives a verdict has a place of it
+-- where a row gives a verdict, an element decides it
 pub has_place :
     (f : FlatProgram) (t : ℕ) (row : Row) (v : Verdict) (u : ℕ) → instant_of v ≡ Some u →
     row_judged f t row ≡ v → first_place f row v ≡ None → ⊥

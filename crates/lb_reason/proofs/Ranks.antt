@@ -1,6 +1,7 @@
--- In order, what decides an element is given before it.
+-- Where equations are in order, an element is given after the one that decides it.
 use Rattle.std.proofs.Common.{◌≡◌, ◌<◌, ◌≤◌, ◌⊎◌, ℕ, suc, Bool, true, false, Option, Some, None}
-use Rattle.std.proofs.Common.{List, [], ◌∷◌, ◌++◌, arith, inl, inr, length, nat_eq, refl, subst, sym}
+use Rattle.std.proofs.Common.{List, [], ◌∷◌, ◌++◌, arith, inl, inr, length, nat_eq, refl, subst}
+use Rattle.std.proofs.Common.{sym}
 use Rattle.std.proofs.lemmas.Bool.Decides.{nat_tests}
 use Rattle.std.specs.Prelude.{if◌then◌else◌}
 use Rattle.lb_syntax.specs.Lists.{Every, In}
@@ -17,7 +18,7 @@ use Rattle.lb_reason.specs.Deciding.{truth_of_two, value_decided}
 
 -- ## The operand that decides is one of the operands
 
--- the first that passes a test is one of the list
+-- the first element that passes a test is in the list
 first_in :
     (test : Cell → Bool) (row : Row) (es : List ℕ) (e : ℕ) → first_of test row es ≡ Some e →
     In e es
@@ -120,7 +121,7 @@ module _ (row : Row) (e : ℕ) where
 
 -- ## Ranks
 
--- at which place an element is given
+-- the place of the equation that gives an element
 abbrev pub rank : List FlatEquation → ℕ → ℕ
 rank [] e = 0
 rank (q ∷ qs) e = if nat_eq q.element e then 0 else suc (rank qs e)
@@ -134,7 +135,7 @@ rank_within (q ∷ qs) e = by_test (nat_eq q.element e) (rank_within qs e)
     by_test true rest = omega arith
     by_test false rest = omega (arith, rest)
 
--- one of the first list is one of both
+-- each element of the first list has what all of both lists have
 every_at : (P : ℕ → Type 0) (es fs : List ℕ) (a : ℕ) → Every P (es ++ fs) → In a es → P a
 every_at P [] fs a all is = absurd is
 every_at P (e ∷ es) fs a all (inl same) = subst P same all.0
@@ -158,7 +159,7 @@ module _ (p : FlatEquation) (Q : List FlatEquation) (done : List ℕ) (a : ℕ) 
   rank_behind n (inl (inr there)) = inl there
   rank_behind n (inr lt) = inr (less_behind (nat_eq p.element a) (rank Q a) n lt)
 
--- what an equation reads is done before all, or has a smaller rank
+-- an element that the equation of e reads is in `done`, or has a smaller rank than e
 rank_falls_from :
     (size : ℕ) (done : List ℕ) (Q : List FlatEquation) (e a : ℕ) (q : FlatEquation) →
     Ready size done Q → given_by Q e ≡ Some q → In a (reads q.operation) →
@@ -182,7 +183,7 @@ rank_falls_from size done (p ∷ Q) e a q ready given is =
         subst (λ (b : Bool). In a done ⊎ (rank (p ∷ Q) a < (if b then 0 else suc (rank Q e))))
         (sym here) (rank_behind p Q done a (rank Q e) (rest same))
 
--- what decides an element has a smaller rank
+-- the element that decides e has a smaller rank than e
 pub rank_falls :
     (size : ℕ) (Q : List FlatEquation) (row : Row) (e a : ℕ) → Ready size [] Q →
     next_element Q row e ≡ Some a → rank Q a < rank Q e

@@ -1,6 +1,6 @@
 -- The steps of a reason, one after another, and at their instant.
-use Rattle.std.proofs.Common.{◌≡◌, ◌∙◌, ◌<◌, ◌≤◌, ◌+◌, ℕ, List, [], ◌∷◌, ◌++◌, Some, None}
-use Rattle.std.proofs.Common.{All, add-one, ap, ap₂, arith, get_or, inl, inr, length, map, subst, sym}
+use Rattle.std.proofs.Common.{◌≡◌, ◌∙◌, ◌<◌, ◌≤◌, ◌+◌, ℕ, List, [], ◌∷◌, ◌++◌, Some, None, All}
+use Rattle.std.proofs.Common.{add-one, ap, ap₂, arith, get_or, inl, inr, length, map, subst, sym}
 use Rattle.std.proofs.Common.{take}
 use Rattle.std.proofs.lemmas.List.{get_or-map, length-map, map-append, take_more}
 use Rattle.lb_check.specs.Scalars.{Cell as Held}
@@ -37,7 +37,7 @@ held s = cell_of s.cell
 
 -- ## One after another
 
--- one step more
+-- `elements_in` and `cells_in` of one more step
 pub one_step :
     (row : Row) (elements : List ElementId) (steps after : List Step) (i : ℕ) (d : ElementId)
     (s : Step) (x : Cell) → i < length elements → s.element ≡ get_or elements i d → s.cell ≡ x →
@@ -63,7 +63,7 @@ one_step row elements steps after i d s x lt is has holds grown es cs =
 
 -- ## At their instant
 
--- a step of a variable holds what the history has
+-- the cell of a step of a variable is that of the history
 shown :
     (f : FlatProgram) (r : Recording) (k t : ℕ) (steps : List Step) →
     Ready f.size [] f.equations → t < length (inputs_of r k) →
@@ -80,19 +80,19 @@ shown f r k t steps ready lt cells i d within = λ P flat same H solves e at.
     ∙ ap (cell row) (get_or-map element steps i d 0 within) in
     holds ∙ row_shows P f flat ready (inputs_of r k) H solves t (element s) e lt at
 
--- how many inputs a trace has
+-- a trace has as many inputs as instants
 inputs_length :
     (r : Recording) (k : ℕ) → length (inputs_of r k) ≡ length (trace_at r.traces k).1
 inputs_length r k = length-map (trace_at r.traces k).1 (scalars_in r.signature)
 
 module _ (f : FlatProgram) (r : Recording) (k : ℕ) (v : Verdict) (right : IsVerdictOf f r k v) where
-  -- the row of the instant gives the verdict
+  -- the row of the instant of a verdict gives the verdict
   judged :
       (t : ℕ) → instant_of v ≡ Some t → StandsForProgram f → HasKindsOf f r →
       (t < length (inputs_of r k)) × (row_judged f t (row_at f (inputs_of r k) t) ≡ v)
   judged t is stands kinds = judged_at f (inputs_of r k) v t is (right.is_right stands kinds)
 
-  -- the steps at an instant of a trace
+  -- steps at the instant of a verdict are the steps of the verdict
   pub steps_are :
       (t : ℕ) (m : Moment) (first : ℕ) (steps : List Step) → Ready f.size [] f.equations →
       t < length (trace_at r.traces k).1 → program_now m ≡ f → inputs_now m ≡ inputs_of r k →
@@ -131,7 +131,7 @@ module _ (f : FlatProgram) (r : Recording) (k : ℕ) (v : Verdict) (right : IsVe
             absurd (cc);
       }
 
-  -- without a step the trace passed
+  -- a reason without steps, where the trace passed
   none_are : (steps : List Step) → steps ≡ [] →
       (StandsForProgram f → HasKindsOf f r → v ≡ verdict.Passed) → AreReasons f r k v steps
   none_are steps none passed = record {
@@ -139,7 +139,7 @@ module _ (f : FlatProgram) (r : Recording) (k : ℕ) (v : Verdict) (right : IsVe
     has_some = λ stands kinds same. passed stands kinds;
   }
 
-  -- an instant behind the trace decides nothing
+  -- a reason without steps, where the instant lies behind the trace
   pub none_past :
       (steps : List Step) (t : ℕ) → steps ≡ [] → instant_of v ≡ Some t →
       length (trace_at r.traces k).1 ≤ t → AreReasons f r k v steps
@@ -147,7 +147,7 @@ module _ (f : FlatProgram) (r : Recording) (k : ℕ) (v : Verdict) (right : IsVe
       let lt = (judged t is stands kinds).0 in
       absurd (omega (arith, lt, le, inputs_length r k)))
 
-  -- and where no place decides the verdict, there is none
+  -- a reason without steps, where no element decides the verdict
   pub none_first :
       (steps : List Step) (t : ℕ) (m : Moment) → steps ≡ [] → program_now m ≡ f →
       inputs_now m ≡ inputs_of r k → m.instant ≡ t → instant_of v ≡ Some t →

@@ -1,4 +1,4 @@
--- Which operand decides what an operation gives at an instant.
+-- The operand that decides the result of an operation at an instant.
 -- Source: this project's rule.
 use Rattle.std.specs.Prelude.{ℕ, zero, suc, Bool, true, false, Option, Some, None, List, [], ◌∷◌}
 use Rattle.std.specs.Prelude.{nat_eq}
@@ -12,7 +12,7 @@ use Rattle.lb_flat.specs.Flat.{FlatEquation, Operation, Input, Constant, Copy, A
 use Rattle.lb_flat.specs.Flat.{ApplyBinary, Choose, FirstThen, Previous, Latest, Sample}
 use Rattle.lb_flat.specs.Run.{Row, cell}
 
--- ## What a cell is
+-- ## Tests of a cell
 
 abbrev pub is_bad : Cell → Bool
 is_bad x = verdicts.is_bad (Some x)
@@ -37,7 +37,7 @@ is_present (Some v) = true
 abbrev pub first_of : (Cell → Bool) → Row → List ℕ → Option ℕ
 first_of test row elements = find (λ e. test (cell row e)) elements
 
--- of two operands the first, if it passes a test, and else the second
+-- the first of two operands, if it passes a test, and else the second
 abbrev pub first_or_second : (Cell → Bool) → Row → (a b : ℕ) → Option ℕ
 first_or_second test row a b = if test (cell row a) then Some a else Some b
 
@@ -47,8 +47,8 @@ branch_taken (Some (Boolean true)) a b = a ∷ []
 branch_taken (Some (Boolean false)) a b = b ∷ []
 branch_taken x a b = []
 
--- the operands that an operation takes at an instant: of `if` the condition and the branch that it
--- chooses, of `->` one side; a memory takes none but that of `current`
+-- the operands that an operation takes at an instant: `if` takes the condition and the branch that
+-- it chooses, `->` takes one side; of the memories only `current` takes its operand
 abbrev pub operands_taken : Row → Operation → List ℕ
 operands_taken row (Input j) = []
 operands_taken row (Constant v) = []
@@ -62,9 +62,10 @@ operands_taken row (Previous v a) = []
 operands_taken row (Latest v a) = a ∷ []
 operands_taken row (Sample a) = a ∷ []
 
--- where two operands give this truth: of `and` the first that is false, and else the first; of `or`
--- the first that is true, and else the first; of `=>` the left one where it is false, and else the
--- right one; of `xor` the first. A comparison has none
+-- the operand that decides, where two operands give this truth. `and` with the result false: the
+-- first that is false. `or` with the result true: the first that is true. `and` and `or` with
+-- another result, and `xor`: the first. `=>`: the left one where it is false, and else the right
+-- one. A comparison has none
 abbrev pub truth_of_two : BinaryOperator → Bool → Row → (a b : ℕ) → Option ℕ
 truth_of_two And false row a b = first_or_second is_false row a b
 truth_of_two And true row a b = Some a
@@ -74,24 +75,24 @@ truth_of_two Implies v row a b = first_or_second is_false row a b
 truth_of_two Xor v row a b = Some a
 truth_of_two op v row a b = None
 
--- of two operands that give this cell
+-- the operand that decides, where an operator of two operands gives this cell
 abbrev pub of_two : BinaryOperator → Cell → Row → (a b : ℕ) → Option ℕ
 of_two op (Some (Boolean v)) row a b = truth_of_two op v row a b
 of_two op x row a b = None
 
--- of one operand that gives this cell: that of `not`
+-- the operand that decides, where an operator of one operand gives this cell: the operand of `not`
 abbrev pub of_one : Cell → ℕ → Option ℕ
 of_one (Some (Boolean v)) a = Some a
 of_one x a = None
 
--- of `if` the branch that is chosen
+-- the branch that the condition of an `if` chooses
 abbrev pub of_condition : Cell → (a b : ℕ) → Option ℕ
 of_condition (Some (Boolean true)) a b = Some a
 of_condition (Some (Boolean false)) a b = Some b
 of_condition x a b = None
 
--- the operand that decides, where the operation gives a cell that is no fault and not nil; a memory,
--- an input and a constant have none
+-- the operand that decides, where the operation gives a cell that is neither a fault nor nil; a
+-- memory, an input and a constant have none
 abbrev pub value_decided : Row → Cell → Operation → Option ℕ
 value_decided row x (Input j) = None
 value_decided row x (Constant v) = None
@@ -105,8 +106,9 @@ value_decided row x (Previous v a) = None
 value_decided row x (Latest v a) = first_of is_present row (a ∷ [])
 value_decided row x (Sample a) = Some a
 
--- the operand that decides, where the operation gives this cell. Of a fault it is the first operand
--- that has one too, of nil the first that is nil too; where there is none, the operation makes it
+-- the operand that decides, where the operation gives this cell. For a fault it is the first
+-- operand that is a fault, for nil the first that is nil; where there is none, the operation makes
+-- the fault or nil itself
 abbrev pub deciding : Row → Cell → Operation → Option ℕ
 deciding row (Some Bad) q = first_of is_bad row (operands_taken row q)
 deciding row (Some Nil) q = first_of is_nil row (operands_taken row q)
@@ -123,11 +125,11 @@ abbrev pub decided_by : Row → ℕ → Option FlatEquation → Option ℕ
 decided_by row e None = None
 decided_by row e (Some q) = deciding row (cell row e) q.operation
 
--- the element that decides what an element holds in a row, by equations with their memories
+-- the element that decides the cell of element e in a row, by equations with their memories
 abbrev pub next_element : List FlatEquation → Row → ℕ → Option ℕ
 next_element Q row e = decided_by row e (given_by Q e)
 
--- from an element on, each decides the one before it; so many at most
+-- element e, and behind each element the one that decides it; `most` elements at most
 abbrev pub chain : (most : ℕ) → List FlatEquation → Row → Option ℕ → List ℕ
 chain zero Q row e = []
 chain (suc n) Q row None = []

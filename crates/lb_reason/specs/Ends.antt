@@ -1,4 +1,4 @@
--- Where the steps of a reason end.
+-- The ends of the steps of a reason.
 -- Source: this project's rule.
 use Rattle.std.specs.Prelude.{◌≡◌, ◌+◌, ℕ, Bool, true, false, Some, None, List, [], length}
 use Rattle.std.specs.List.{last_or}
@@ -12,14 +12,14 @@ use Rattle.lb_reason.specs.Deciding.{chain, given_by, next_element, operands_tak
 abbrev pub all_steps : List FlatEquation → Row → ℕ → List ℕ
 all_steps Q row first = chain (length Q + 1) Q row (Some first)
 
--- of equations in order: no element decides the last step
+-- no element decides the last step, where the equations are in order
 abbrev pub HasEnd : List FlatEquation → Row → (first : ℕ) → Type 0
 HasEnd Q row first =
     (size last : ℕ) → Ready size [] Q → last_or None (all_steps Q row first) ≡ Some last →
     next_element Q row last ≡ None
 
--- each step passes a test; and of equations in order the operation of the last step takes no operand
--- that passes it
+-- each step passes a test; and where the equations are in order, the operation of the last step
+-- takes no operand that passes it
 pub record IsFollowed (test : Cell → Bool) (Q : List FlatEquation) (row : Row) (first : ℕ)
     : Type 0 where
   pub each : Every (λ e. test (cell row e) ≡ true) (all_steps Q row first)

@@ -1,4 +1,5 @@
--- Why a trace does not pass: an element that decides its verdict, and what decides that one.
+-- The reason why a trace does not pass: an element that decides its verdict, and what decides that
+-- element.
 -- Source: this project's rule.
 use Rattle.std.specs.Prelude.{◌≡◌, ◌⊎◌, ℕ, Bool, Option, Some, None, List, [], ◌∷◌, ◌+◌, map}
 use Rattle.std.specs.Prelude.{All, length}
@@ -19,10 +20,10 @@ use Rattle.lb_reason.specs.Moments.{equations_now, row_now}
 use Rattle.lb_reason.specs.declared.moment.Moment.{Moment}
 use Rattle.lb_reason.specs.declared.finding.Step.{Step}
 
--- ## Where a reason begins
+-- ## The first element of a reason
 
--- the elements at which a verdict is decided: at a fault all named ones, where it is undefined those
--- at which a truth is wanted, else the assertions or the property
+-- the elements at which a verdict is decided: for a fault all named ones, for an undefined trace
+-- those at which a truth is wanted, else the assertions or the property
 abbrev pub places_of : FlatProgram → Verdict → List ℕ
 places_of f verdict.Passed = []
 places_of f (verdict.Fault t) = named_elements f
@@ -30,7 +31,7 @@ places_of f (verdict.Undefined t) = truth_elements f
 places_of f (verdict.Assertion t) = f.asserted
 places_of f (verdict.False t) = f.property ∷ []
 
--- what such an element is there: the value of a fault, nil, or false
+-- the test that a deciding element passes: it is a fault, nil, or false
 abbrev pub test_of : Verdict → Cell → Bool
 test_of verdict.Passed = is_present
 test_of (verdict.Fault t) = is_bad
@@ -52,27 +53,28 @@ instant_of (verdict.False t) = Some t
 
 -- ## Steps
 
--- the elements of some steps, and what they held
+-- the elements of some steps, and their cells
 abbrev pub elements_in : List Step → List ℕ
 elements_in steps = map (λ s. s.element.0) steps
 
 abbrev pub cells_in : List Step → List Cell
 cells_in steps = map (λ s. cell_of s.cell) steps
 
--- from an element on each step decides the one before it, by equations with their memories and what
--- a row holds, until none does; and each cell is what the element holds there
+-- steps from the element `first` on: each element decides the one before it, by equations with
+-- their memories and the cells of a row, until none does; and the cell of each step is that of its
+-- element in the row
 pub record AreFrom (Q : List FlatEquation) (row : Row) (first : ℕ) (steps : List Step) : Type 0
   where
     pub elements : elements_in steps ≡ chain (length Q + 1) Q row (Some first)
     pub cells : cells_in steps ≡ map (cell row) (elements_in steps)
 
--- the same at an instant
+-- steps from the element `first` on at an instant
 abbrev pub AreStepsNow : Moment → (first : ℕ) → List Step → Type 0
 AreStepsNow m first steps = AreFrom (equations_now m) (row_now m) first steps
 
--- the steps of a verdict: from the first element that decides it at its instant, with the memories
--- that the instants before left. Nothing that comes before the verdict is there: the row of the
--- instant gives this verdict. And each step of a variable holds what the history has
+-- the steps of a verdict: they begin at the first element that decides it at its instant, with the
+-- memories that the earlier instants left. Nothing comes before the verdict there: the row of the
+-- instant gives this verdict. And each step of a variable has the cell of the history
 pub record AreSteps
     (f : FlatProgram) (r : Recording) (k : ℕ) (v : Verdict) (steps : List Step) : Type 0 where
   pub instant : ℕ
@@ -87,7 +89,8 @@ pub record AreSteps
       row_judged f instant (row_at f (inputs_of r k) instant) ≡ v
   pub histories : All (λ s. IsHistoryCell f r k instant s.element.0 (cell_of s.cell)) steps
 
--- where there are steps, they are those of the verdict; and there are some, unless the trace passed
+-- the steps of a reason: if there are any, they are those of the verdict; and there are some,
+-- unless the trace passed
 pub record AreReasons
     (f : FlatProgram) (r : Recording) (k : ℕ) (v : Verdict) (steps : List Step) : Type 0 where
   pub are : (steps ≡ []) ⊎ AreSteps f r k v steps

@@ -1,4 +1,4 @@
--- What the tests of cells stand for.
+-- The meaning of the tests of cells.
 -- This file says what data of the program mean; no definition of the language stands on it.
 use Rattle.std.specs.Prelude.{ℕ, Bool}
 use Rattle.lb_check.specs.Scalars.{Cell}

@@ -8,7 +8,7 @@ use std::alloc::{AllocError, Global};
 /// The most expressions that are looked at for a call.
 const MOST_SITES: usize = 1_000_000;
 
-/// Opens some parts of an expression.
+/// Adds some parts of an expression to those that are open: still to be looked at.
 fn open_all<'a>(
     open: &mut Vec<Site<'a>>,
     site: Site<'a>,
@@ -21,7 +21,7 @@ fn open_all<'a>(
     Ok(())
 }
 
-/// Opens the parts of a form that has lists or three parts.
+/// Opens the parts of a form that has a list of parts, or three parts.
 fn open_many<'a>(open: &mut Vec<Site<'a>>, site: Site<'a>) -> Result<(), AllocError> {
     match (site.term, site.expr) {
         (Term::If(t, u, v), Expr::If(e, f, g, _)) => {

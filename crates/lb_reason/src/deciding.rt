@@ -1,4 +1,4 @@
-//! Which operand decides what an operation gives at an instant.
+//! The operand that decides the result of an operation at an instant.
 
 ghost use Rattle.std.specs.Prelude.{◌≡◌, List, [], ◌∷◌, Some, option_map, IfOk};
 ghost use Rattle.lb_flat.specs.Programs.{flat_equations, numbers_of};
@@ -29,7 +29,7 @@ pub(crate) enum Test {
 }
 
 impl Test {
-    /// Whether a cell passes it.
+    /// Whether a cell passes the test.
     pub(crate) fn passes(self, cell: Cell) -> bool
         ensures { result ≡ passes self (cell_of cell) }
     {
@@ -44,7 +44,7 @@ impl Test {
     }
 }
 
-// ## Some operands
+// ## Operands that pass a test
 
 /// The one operand, if it passes a test.
 fn one_with(test: Test, moment: &Moment<'_>, a: ElementId) -> Option<ElementId>
@@ -70,7 +70,7 @@ fn first_with(test: Test, moment: &Moment<'_>, a: ElementId, b: ElementId) -> Op
     }
 }
 
-/// Of two operands the first, if it passes a test, and else the second.
+/// The first of two operands, if it passes a test, and else the second.
 fn first_or_second(test: Test, moment: &Moment<'_>, a: ElementId, b: ElementId) -> Option<ElementId>
     ensures { option_map number result
         ≡ spec.first_or_second (passes test) (row_now moment.now) a.0 b.0 }
@@ -100,7 +100,7 @@ fn branch_with(
     }
 }
 
-/// The first of a condition and the branch that it chooses that passes a test, if one does.
+/// The condition, if it passes a test, and else the branch that it chooses, if that one does.
 fn choice_with(
     test: Test,
     moment: &Moment<'_>,
@@ -119,7 +119,7 @@ fn choice_with(
     }
 }
 
-/// The first of the operands that an operation takes that passes a test, if one does.
+/// The first operand that an operation takes and that passes a test, if one does.
 fn taken_with(test: Test, moment: &Moment<'_>, operation: &Operation) -> Option<ElementId>
     ensures { option_map number result ≡ spec.first_of (passes test) (row_now moment.now)
         (spec.operands_taken (row_now moment.now) (operation_of operation.now)) }
@@ -136,9 +136,9 @@ fn taken_with(test: Test, moment: &Moment<'_>, operation: &Operation) -> Option<
     }
 }
 
-// ## What decides
+// ## The operand that decides
 
-/// Of two operands that give a truth, the one that decides it.
+/// The operand that decides, where an operator of two operands gives this truth.
 fn truth_of_two(
     op: BinaryOperator,
     truth: bool,
@@ -159,7 +159,7 @@ fn truth_of_two(
     }
 }
 
-/// Of two operands that give a cell, the one that decides it.
+/// The operand that decides, where an operator of two operands gives this cell.
 fn of_two(
     op: BinaryOperator,
     cell: Cell,
@@ -176,7 +176,7 @@ fn of_two(
     }
 }
 
-/// The one operand of what gives a cell, if it decides that.
+/// The operand that decides, where an operator of one operand gives this cell.
 fn of_one(cell: Cell, a: ElementId) -> Option<ElementId>
     ensures { option_map number result ≡ spec.of_one (cell_of cell) a.0 }
 {
@@ -186,7 +186,7 @@ fn of_one(cell: Cell, a: ElementId) -> Option<ElementId>
     }
 }
 
-/// The branch of an `if` with this condition.
+/// The branch that the condition of an `if` chooses.
 fn of_condition(condition: Cell, a: ElementId, b: ElementId) -> Option<ElementId>
     ensures { option_map number result ≡ spec.of_condition (cell_of condition) a.0 b.0 }
 {
@@ -197,8 +197,8 @@ fn of_condition(condition: Cell, a: ElementId, b: ElementId) -> Option<ElementId
     }
 }
 
-/// The operand that decides what an operation gives, which is this cell, and neither a fault nor
-/// nil; a memory, an input and a constant have none.
+/// The operand that decides, where the operation gives this cell, which is neither a fault nor nil;
+/// a memory, an input and a constant have none.
 fn value_decided(moment: &Moment<'_>, cell: Cell, operation: &Operation) -> Option<ElementId>
     ensures { option_map number result
         ≡ spec.value_decided (row_now moment.now) (cell_of cell) (operation_of operation.now) }
@@ -214,7 +214,7 @@ fn value_decided(moment: &Moment<'_>, cell: Cell, operation: &Operation) -> Opti
     }
 }
 
-/// The operand that decides what an operation gives, which is this cell.
+/// The operand that decides, where the operation gives this cell.
 fn deciding(moment: &Moment<'_>, cell: Cell, operation: &Operation) -> Option<ElementId>
     ensures { option_map number result
         ≡ spec.deciding (row_now moment.now) (cell_of cell) (operation_of operation.now) }
@@ -243,7 +243,7 @@ pub(crate) fn given_by(equations: &[Equation], element: ElementId) -> Option<&Eq
     None
 }
 
-/// The element that decides what an element holds.
+/// The element that decides the cell of an element.
 fn next_element(moment: &Moment<'_>, element: ElementId) -> Option<ElementId>
     ensures { option_map number result
         ≡ spec.next_element (equations_now moment.now) (row_now moment.now) element.0 }
@@ -254,7 +254,7 @@ fn next_element(moment: &Moment<'_>, element: ElementId) -> Option<ElementId>
     }
 }
 
-/// From an element on, each that decides the one before it; so many at most.
+/// The element `first`, and behind each element the one that decides it; `most` elements at most.
 pub(crate) fn chain(
     alloc: Global,
     moment: &Moment<'_>,

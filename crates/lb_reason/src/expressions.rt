@@ -3,10 +3,10 @@
 use lb_syntax::{BinaryOperator, Expr, Static, UnaryOperator};
 use std::alloc::{AllocError, Global};
 
-/// The most characters of an expression that are told; behind them stands `..`.
+/// The most characters of an expression that are written; `..` stands for the rest.
 const MOST: usize = 60;
 
-/// More forms within one another than a text has.
+/// A depth of forms within one another that no text reaches.
 const DEEPEST: usize = 1_000_000;
 
 /// The sign of an operator.
@@ -30,12 +30,12 @@ pub(crate) fn sign_of(op: BinaryOperator) -> &'static str {
     }
 }
 
-/// Where a form ends, but for the brackets that close behind it.
+/// The end of a form, without the brackets that close behind it.
 #[derive(Clone, Copy)]
 struct Ending {
     /// The end of its last name or number.
     at: usize,
-    /// How many brackets close behind that.
+    /// The number of brackets that close behind that.
     brackets: usize,
 }
 
@@ -44,7 +44,7 @@ fn byte_at(text: &[u8], at: usize) -> u8 {
     text.get(at).copied().unwrap_or(0)
 }
 
-/// Where the digits or letters that begin at a place end.
+/// The end of the digits or letters that begin at a place.
 fn word_end(text: &[u8], start: usize) -> usize {
     for at in start..text.len() {
         let b = byte_at(text, at);
@@ -55,7 +55,7 @@ fn word_end(text: &[u8], start: usize) -> usize {
     text.len()
 }
 
-/// Where a static expression ends.
+/// The end of a static expression.
 fn static_end(text: &[u8], written: &Static, brackets: usize) -> Ending {
     let mut brackets = brackets;
     let mut inner = written;
@@ -79,7 +79,7 @@ fn static_end(text: &[u8], written: &Static, brackets: usize) -> Ending {
     Ending { at: 0, brackets }
 }
 
-/// The last of some operands, or the end of the word that begins at a place.
+/// The last of some operands; where there is none, the end of the word that begins at `at`.
 fn last_of<'e>(
     text: &[u8],
     list: &'e [Expr],
@@ -95,7 +95,8 @@ fn last_of<'e>(
     }
 }
 
-/// Where a form ends, or the form that it ends with, behind which so many brackets close.
+/// The last form within a form, or the end of the form where it has none; and the number of
+/// brackets that close behind it, where `brackets` close behind the form.
 fn last_form<'e>(
     text: &[u8],
     expr: &'e Expr,
@@ -125,7 +126,7 @@ fn last_form<'e>(
     }
 }
 
-/// Where a comment ends that begins at a place, or that place.
+/// The end of the comment that begins at a place; the place itself where none does.
 fn comment_end(text: &[u8], at: usize) -> usize {
     if byte_at(text, at) != b'-' || byte_at(text, at.saturating_add(1)) != b'-' {
         return at;
@@ -138,7 +139,7 @@ fn comment_end(text: &[u8], at: usize) -> usize {
     text.len()
 }
 
-/// Where so many brackets have closed, from a place on.
+/// The place behind the brackets that close behind an ending.
 fn closed(text: &[u8], ending: Ending) -> usize {
     let mut at = ending.at;
     let mut left = ending.brackets;
@@ -159,7 +160,7 @@ fn closed(text: &[u8], ending: Ending) -> usize {
     at
 }
 
-/// Where an expression ends in the text of its source.
+/// The end of an expression in the text of its source.
 fn end_of(text: &[u8], expr: &Expr) -> usize {
     let mut brackets = 0;
     let mut inner = expr;
@@ -174,7 +175,8 @@ fn end_of(text: &[u8], expr: &Expr) -> usize {
     text.len()
 }
 
-/// Puts an expression as it stands in the text of its source, in one line and without comments.
+/// Adds an expression to a page as it stands in the text of its source, in one line and without
+/// comments.
 pub(crate) fn put_expression(
     alloc: Global,
     page: &mut Vec<u8>,
@@ -221,7 +223,7 @@ pub(crate) fn ungrouped(expr: &Expr) -> &Expr {
     inner
 }
 
-/// Whether an operator joins truths.
+/// Whether an operator joins two truths.
 pub(crate) fn joins(op: BinaryOperator) -> bool {
     matches!(
         op,
@@ -229,7 +231,7 @@ pub(crate) fn joins(op: BinaryOperator) -> bool {
     )
 }
 
-/// Whether an expression is a number, perhaps with a sign, or a truth.
+/// Whether an expression is a truth or a number, perhaps with a sign.
 pub(crate) fn is_literal(expr: &Expr) -> bool {
     match ungrouped(expr) {
         Expr::Unary(UnaryOperator::Negate, e, _) => matches!(&**e, Expr::Literal(_, _)),
@@ -238,7 +240,7 @@ pub(crate) fn is_literal(expr: &Expr) -> bool {
     }
 }
 
-/// Whether an expression is told by its text: a variable or a number, perhaps with one sign.
+/// Whether an expression is short: a variable or a number, perhaps with one sign.
 pub(crate) fn is_short(expr: &Expr) -> bool {
     match ungrouped(expr) {
         Expr::Unary(_, e, _) | Expr::Pre(e, _) | Expr::Index(e, _, _) => {

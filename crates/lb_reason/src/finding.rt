@@ -1,4 +1,5 @@
-//! Why a trace does not pass: an element that decides its verdict, and what decides that one.
+//! The reason why a trace does not pass: an element that decides its verdict, and what decides that
+//! element.
 
 ghost use Rattle.std.specs.Prelude.{◌≡◌, ◌<◌, [], IfOk, length, option_map};
 ghost use Rattle.std.specs.List.{range_with_len};
@@ -18,21 +19,21 @@ use lb_history::Cell;
 use lb_traces::TraceSet;
 use std::alloc::{AllocError, Global};
 
-/// An element, and what it held.
+/// An element, and its cell.
 #[derive(Clone, Copy)]
 pub struct Step {
     pub element: ElementId,
     pub cell: Cell,
 }
 
-/// Why a trace does not pass.
+/// The reason why a trace does not pass.
 #[derive(Drop)]
 pub struct Reason<'a> {
     pub verdict: Verdict,
-    /// The element that decides the verdict, and behind each the one that decides it; none where
-    /// the trace passed.
+    /// The element that decides the verdict, and behind each element the one that decides it; empty
+    /// where the trace passed.
     pub steps: Vec<Step>,
-    /// The instant of the steps, where there are some.
+    /// The instant of the steps, if there are any.
     pub(crate) moment: Option<Moment<'a>>,
 }
 
@@ -63,7 +64,7 @@ fn bad_variable(moment: &Moment<'_>, program: &FlatProgram) -> Option<ElementId>
     None
 }
 
-/// The first named place that has the value of a fault.
+/// The first named element that has the value of a fault.
 fn bad_place(moment: &Moment<'_>, program: &FlatProgram) -> Option<ElementId>
     ensures { option_map number result ≡ spec.first_of spec.is_bad (row_now moment.now)
         (named_elements (program_of program.now)) }
@@ -79,7 +80,7 @@ fn bad_place(moment: &Moment<'_>, program: &FlatProgram) -> Option<ElementId>
     first_among(moment, &program.asserted, Test::Bad)
 }
 
-/// The first place that is nil where a truth is wanted.
+/// The first element that is nil where a truth is wanted.
 fn nil_place(moment: &Moment<'_>, program: &FlatProgram) -> Option<ElementId>
     ensures { option_map number result ≡ spec.first_of spec.is_nil (row_now moment.now)
         (truth_elements (program_of program.now)) }
@@ -150,7 +151,7 @@ fn without_steps<'a>(alloc: Global, verdict: Verdict) -> Reason<'a>
     }
 }
 
-/// The steps of a verdict on a trace.
+/// The reason for a verdict on a trace.
 fn reason_of<'a>(
     alloc: Global,
     ordered: &'a Ordered,
@@ -182,14 +183,14 @@ fn reason_of<'a>(
     })
 }
 
-/// Why a trace does not pass: its verdict; and from the first element that decides it at its
-/// instant, each element that decides the one before it, with what it holds there.
+/// The reason why a trace does not pass: its verdict; the first element that decides it at its
+/// instant; and behind each element the one that decides it, with its cell there.
 ///
-/// At a fault the element is the first variable, operand of a memory or assertion that has the
-/// value of a fault; where the trace is undefined, the first clock, assertion or property that is
-/// nil; else the first assertion that is false, or the property. There is no step where the trace
-/// passed. The last step is a comparison, an input, a constant or a memory, or an operation that
-/// makes the fault.
+/// For a fault the first element is the first variable, operand of a memory or assertion that has
+/// the value of a fault; for an undefined trace it is the first clock, assertion or property that
+/// is nil; else it is the first assertion that is false, or the property. There is no step where
+/// the trace passed. The last step is a comparison, an input, a constant or a memory, or an
+/// operation that makes the fault.
 pub fn find_reason<'a>(
     alloc: Global,
     ordered: &'a Ordered,

@@ -1,4 +1,4 @@
-//! Where the steps of a reason end.
+//! The ends of the steps of a reason.
 
 ghost use Rattle.std.specs.Prelude.{◌≡◌, ℕ, List, true};
 ghost use Rattle.lb_flat.specs.Flat.{FlatEquation};
@@ -6,9 +6,9 @@ ghost use Rattle.lb_flat.specs.Run.{Row, cell};
 ghost use Rattle.lb_reason.specs.Deciding.{is_bad, is_nil};
 ghost use Rattle.lb_reason.specs.Ends.{HasEnd, IsFollowed};
 
-/// Steps go on until no element decides the last one. From an element that has the value of a fault
-/// each step has one too, down to an operation that takes no operand that has one; and the same of
-/// nil. This is a law, and computes nothing.
+/// Steps go on until no element decides the last one. Where the first element is a fault, each step
+/// is one too, and the operation of the last step takes no operand that is a fault. The law for nil
+/// is alike. This is a law, and computes nothing.
 pub fn reasons_lead_to_where_they_arise()
     ensures end { (Q : List FlatEquation) → (row : Row) → (first : ℕ) → HasEnd Q row first }
     ensures fault { (Q : List FlatEquation) → (row : Row) → (first : ℕ)

@@ -1,4 +1,4 @@
-//! Why a trace does not pass.
+//! The reasons why traces do not pass.
 #![tactic(auto)]
 
 mod arguments;

@@ -1,4 +1,4 @@
-//! An instant of a recorded trace, with what stands before it.
+//! An instant of a recorded trace, with the memories before it.
 
 ghost use Rattle.std.specs.Prelude.{◌≡◌, ◌+◌, ◌<◌, ◌≤◌, length, IfOk};
 ghost use Rattle.lb_flat.specs.Inputs.{inputs_of};
@@ -13,7 +13,7 @@ use lb_history::{Cell, Replay};
 use lb_traces::TraceSet;
 use std::alloc::{AllocError, Global};
 
-/// A trace of a program, before so many instants were computed.
+/// A replay of a trace that has computed `instants` instants.
 fn replay_to<'a>(
     alloc: Global,
     ordered: &'a Ordered,
@@ -38,9 +38,9 @@ fn replay_to<'a>(
 /// An instant of a recorded trace.
 #[derive(Drop)]
 pub(crate) struct Moment<'a> {
-    /// The trace behind the instant.
+    /// The replay after the instant.
     after: Replay<'a>,
-    /// The equations, with what their memories hold before the instant.
+    /// The equations, with their memories as they are before the instant.
     equations: Vec<Equation>,
     /// The number of the instant.
     pub(crate) instant: u32,
@@ -90,7 +90,7 @@ impl<'a> Moment<'a> {
         self.program
     }
 
-    /// The equations, with what their memories hold before the instant.
+    /// The equations, with their memories as they are before the instant.
     pub(crate) fn equations(&self) -> &[Equation]
         ensures { flat_equations self.now.program.now.clocks.items result.now
             ≡ equations_now self.now }
@@ -98,7 +98,7 @@ impl<'a> Moment<'a> {
         self.equations.as_slice()
     }
 
-    /// What an element holds.
+    /// The cell of an element at the instant.
     pub(crate) fn cell(&self, element: ElementId) -> Cell
         ensures { cell_of result ≡ cell (row_now self.now) element.0 }
     {

@@ -23,7 +23,7 @@ pub(crate) fn push_spot(page: &mut Vec<u8>, spot: Spot) -> Result<(), AllocError
     push_number(page, spot.column as u64)
 }
 
-/// Adds what an element holds.
+/// Adds the cell of an element.
 pub(crate) fn push_cell(page: &mut Vec<u8>, cell: Cell) -> Result<(), AllocError> {
     match cell {
         Cell::Absent => push(page, "absent"),

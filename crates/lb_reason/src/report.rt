@@ -1,4 +1,4 @@
-//! Why the traces of a report do not pass.
+//! The reasons why the traces of a report do not pass.
 
 ghost use Rattle.std.specs.Prelude.{◌≤◌, length};
 
@@ -10,7 +10,7 @@ use lb_show::{Lines, signals_of};
 use lb_traces::TraceSet;
 use std::alloc::{AllocError, Global};
 
-/// A program and recorded traces of it, with the text that the program is read of.
+/// A program and recorded traces of it, with the source text of the program.
 #[derive(Clone, Copy)]
 pub struct Explained<'a, 's> {
     /// The name of the file.
@@ -21,8 +21,9 @@ pub struct Explained<'a, 's> {
     pub set: &'a TraceSet,
 }
 
-/// Tells why some traces do not pass, by their numbers: for each a line with its name, its verdict
-/// and what decides that, and where the property or an assertion is false the steps behind it.
+/// The reasons why the traces with these numbers do not pass. Each has a line with its name, its
+/// verdict and what decides that; where the property or an assertion is false, the steps behind it
+/// follow.
 pub fn explain_traces(
     alloc: Global,
     explained: Explained<'_, '_>,

@@ -1,4 +1,4 @@
-//! Where in a source an element of a flat program stands.
+//! The place in a source at which an element of a flat program stands.
 
 use crate::arguments::argument_in;
 use lb_flat::{ElementId, FlatProgram, Operation};
@@ -7,10 +7,10 @@ use lb_static::{Elab, Origin, ResolvedNode, ResolvedStatement, Term, VariableId}
 use lb_syntax::{Declarations, Expr, Statement};
 use std::alloc::{AllocError, Global};
 
-/// More parentheses than a text has round an expression.
+/// A depth of parentheses that no text reaches.
 const DEEPEST: usize = 1_000_000;
 
-/// A program with the text that it is read of.
+/// A program with its source text.
 #[derive(Clone, Copy)]
 pub(crate) struct Subject<'a, 's> {
     /// The name of the file.
@@ -48,7 +48,7 @@ impl<'a> Site<'a> {
         }
     }
 
-    /// The same expression without the parentheses round it.
+    /// The expression without the parentheses round it.
     pub(crate) fn ungrouped(&self) -> Site<'a> {
         let mut site = *self;
         for _ in 0..DEEPEST {
@@ -60,7 +60,7 @@ impl<'a> Site<'a> {
         site
     }
 
-    /// Whether an operation is the one that the expression has.
+    /// Whether an operation is that of the expression.
     pub(crate) fn fits(&self, operation: Operation) -> bool {
         let site = self.ungrouped();
         match (site.term, operation) {
@@ -77,7 +77,7 @@ impl<'a> Site<'a> {
         }
     }
 
-    /// The operands of an expression with their elements, where they can be told.
+    /// The operands of an expression with their elements, where they are known.
     pub(crate) fn operands(&self, operation: Operation) -> [Option<(Site<'a>, ElementId)>; 3] {
         let site = self.ungrouped();
         match (site.term, site.expr, operation) {
@@ -118,7 +118,7 @@ impl<'a> Site<'a> {
         }
     }
 
-    /// The operand that has an element, where it can be told.
+    /// The operand with an element, where it is known.
     pub(crate) fn operand(&self, operation: Operation, element: ElementId) -> Option<Site<'a>> {
         for operand in self.operands(operation) {
             if let Some((site, own)) = operand {
@@ -131,10 +131,11 @@ impl<'a> Site<'a> {
     }
 }
 
-/// What a whole expression stands for.
+/// The variable or assertion that a whole expression belongs to.
 #[derive(Clone, Copy)]
 pub(crate) enum Owner {
-    /// The variable that it defines, or the input of an instance that it is given to.
+    /// The variable that the expression defines, or the input of an instance that is given its
+    /// value.
     Variable(ElementId),
     /// The assertion with this number, counted over all instances.
     Assertion(usize),
@@ -147,7 +148,7 @@ pub(crate) struct Whole {
     pub(crate) owner: Owner,
 }
 
-/// Whether a root comes behind an element, and before the nearest one so far.
+/// Whether `root` comes at or behind an element, and before the nearest root so far.
 fn is_nearer(root: ElementId, element: ElementId, nearest: Option<Whole>) -> bool {
     match nearest {
         Some(whole) => root.0 >= element.0 && root.0 < whole.root.0,
@@ -155,7 +156,8 @@ fn is_nearer(root: ElementId, element: ElementId, nearest: Option<Whole>) -> boo
     }
 }
 
-/// The offset of the name at a place among those of some groups, or how many names they have.
+/// The offset of the name at a place among the names of some groups; an error holds how many names
+/// they have.
 fn name_in(groups: &[Declarations], place: usize) -> Result<u32, usize> {
     let mut before: usize = 0;
     for group in groups {
@@ -179,17 +181,17 @@ impl<'a, 's> Subject<'a, 's> {
         self.elab.reached().nodes.get(specialization.node.0)
     }
 
-    /// The place of a byte of the source.
+    /// The line and column of a byte of the source.
     pub(crate) fn spot(&self, offset: u32) -> Spot {
         self.lines.spot(offset as usize)
     }
 
-    /// The variable that an element is one of, with its instance.
+    /// The variable of an element, with its instance.
     pub(crate) fn signal(&self, element: ElementId) -> Option<&'a Signal> {
         self.signals.signals.get(element.0 as usize)
     }
 
-    /// An instance.
+    /// The scope of an instance.
     pub(crate) fn scope(&self, row: usize) -> Option<&'a Scope> {
         self.signals.scopes.get(row)
     }
@@ -255,7 +257,7 @@ impl<'a, 's> Subject<'a, 's> {
         None
     }
 
-    /// Where a variable of an instance is declared.
+    /// The offset at which a variable of an instance is declared.
     pub(crate) fn declaration(&self, row: usize, variable: VariableId) -> u32 {
         let Some(node) = self.node(row) else {
             return 0;
@@ -274,8 +276,9 @@ impl<'a, 's> Subject<'a, 's> {
         name_in(tree.locals.as_slice(), rest).unwrap_or(tree.offset)
     }
 
-    /// The whole expression in which an element stands that is none of a variable: elements are
-    /// numbered as the text goes, so it is the one whose own element comes next.
+    /// The whole expression in which an element stands, where the element is not that of a
+    /// variable. Elements are numbered in the order of the text, so it is the one whose own element
+    /// comes next.
     pub(crate) fn enclosing(&self, element: ElementId) -> Option<Whole> {
         let mut nearest: Option<Whole> = None;
         for q in &self.program.equations {
@@ -296,7 +299,7 @@ impl<'a, 's> Subject<'a, 's> {
         nearest
     }
 
-    /// The argument that an input of an instance is given where that is called.
+    /// The argument for an input of an instance, in the call of the instance.
     pub(crate) fn argument(
         &self,
         alloc: Global,

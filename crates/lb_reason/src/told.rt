@@ -1,4 +1,4 @@
-//! What is told of an element that decides a verdict, and of those that decide it.
+//! The text about an element that decides a verdict, and about the elements that decide it.
 //!
 //! ```text
 //! rig7/00000 false 21: safe.ok is false (voter.lus:88:3)
@@ -23,13 +23,13 @@ use lb_syntax::{Expr, UnaryOperator};
 use lb_traces::TraceSet;
 use std::alloc::{AllocError, Global};
 
-/// The most steps that are told of a verdict.
+/// The most steps that are written for a verdict.
 const MOST_TOLD: usize = 8;
 
-/// The most expressions that are looked at for the one of an element.
+/// The most expressions that are looked at to find the one of an element.
 const MOST_SITES: usize = 1_000_000;
 
-/// The most calls that are told of an instance.
+/// The most calls that are written for an instance.
 const MOST_CALLS: usize = 4;
 
 /// A recorded trace of a program.
@@ -42,50 +42,51 @@ pub(crate) struct Recorded<'a> {
     pub(crate) ghost among: { k < length set.now.traces },
 }
 
-/// A page on which a reason is told.
+/// A page to which a reason is written.
 #[derive(Drop)]
 struct Telling<'p, 'a, 's> {
     alloc: Global,
     page: &'p mut Vec<u8>,
     subject: Subject<'a, 's>,
     moment: &'p Moment<'a>,
-    /// What the elements of the steps stand for.
+    /// The part of the source that the element of each step stands for.
     known: Vec<Known<'a>>,
 }
 
-/// What an element stands for in the source.
+/// The part of the source that an element stands for.
 #[derive(Clone, Copy)]
 enum Known<'a> {
     /// A variable.
     Variable,
     /// An expression.
     Expression(Site<'a>),
-    /// An element of a form that is told as a whole.
+    /// An element within a form that is written as a whole.
     Inner,
 }
 
-/// The name of the node of an instance, and where it is called, of `f@12:7[2]`.
+/// The two parts of a label: the name of the node, and the place of the call. Of `f@12:7[2]` they
+/// are `f` and `12:7[2]`.
 fn parts_of(label: &str) -> (&str, &str) {
     label.split_once('@').unwrap_or((label, ""))
 }
 
 impl<'p, 'a, 's> Telling<'p, 'a, 's> {
-    /// Tells a text.
+    /// Writes a text.
     fn say(&mut self, text: &str) -> Result<(), AllocError> {
         push(self.page, text)
     }
 
-    /// Tells a place of the source.
+    /// Writes a place of the source.
     fn say_spot(&mut self, offset: u32) -> Result<(), AllocError> {
         push_spot(self.page, self.subject.spot(offset))
     }
 
-    /// Tells an expression.
+    /// Writes an expression.
     fn say_expression(&mut self, expr: &Expr) -> Result<(), AllocError> {
         put_expression(self.alloc, self.page, self.subject.source, expr)
     }
 
-    /// Tells what an element holds.
+    /// Writes the cell of an element.
     fn say_cell(&mut self, element: ElementId) -> Result<(), AllocError> {
         push_cell(self.page, self.moment.cell(element))
     }
@@ -112,7 +113,7 @@ impl<'p, 'a, 's> Telling<'p, 'a, 's> {
         }
     }
 
-    /// Where an instance is called.
+    /// The place at which an instance is called.
     fn call_place(&self, row: usize) -> &'a str {
         match self.subject.scope(row) {
             Some(scope) => parts_of(scope.label.as_str()).1,
@@ -126,7 +127,7 @@ impl<'p, 'a, 's> Telling<'p, 'a, 's> {
         scope.parent
     }
 
-    /// Where a variable is defined, or else declared.
+    /// The offset at which a variable is defined, or else declared.
     fn offset_of(&self, element: ElementId) -> u32 {
         if let Some(placed) = self.definition(element) {
             return placed.offset;
@@ -137,7 +138,8 @@ impl<'p, 'a, 's> Telling<'p, 'a, 's> {
         }
     }
 
-    /// Tells the name of a variable, with that of its node where it is of another instance.
+    /// Writes the name of a variable, behind the name of its node where it belongs to another
+    /// instance.
     fn say_name(&mut self, element: ElementId, row: Option<usize>) -> Result<(), AllocError> {
         let Some(own) = self.row_of_variable(element) else {
             return Ok(());
@@ -151,7 +153,7 @@ impl<'p, 'a, 's> Telling<'p, 'a, 's> {
         self.say(label)
     }
 
-    /// Tells a place with the name of the file, and the calls by which its instance is reached.
+    /// Writes a place with the name of the file, and the calls that lead to its instance.
     fn say_place(&mut self, offset: u32, row: usize) -> Result<(), AllocError> {
         self.say(" (")?;
         let file = self.subject.file;
@@ -174,7 +176,7 @@ impl<'p, 'a, 's> Telling<'p, 'a, 's> {
         self.say(")")
     }
 
-    /// Tells what the operands of an expression hold, but for literals.
+    /// Writes the operands of an expression with their cells, except literals.
     fn say_operands(&mut self, site: Site<'a>, operation: Operation) -> Result<(), AllocError> {
         let mut is_first = true;
         let mut latest = None;
@@ -195,7 +197,7 @@ impl<'p, 'a, 's> Telling<'p, 'a, 's> {
         Ok(())
     }
 
-    /// Tells a form by its word, and which of its sides decides.
+    /// Writes the word of a form, and which of its sides decides.
     fn say_side(&mut self, word: &str, side: &str, next: ElementId) -> Result<(), AllocError> {
         self.say("`")?;
         self.say(word)?;
@@ -205,13 +207,13 @@ impl<'p, 'a, 's> Telling<'p, 'a, 's> {
         self.say_cell(next)
     }
 
-    /// Tells an expression with what its operands hold.
+    /// Writes an expression with the cells of its operands.
     fn say_whole(&mut self, site: Site<'a>, operation: Operation) -> Result<(), AllocError> {
         self.say_expression(ungrouped(site.expr))?;
         self.say_operands(site, operation)
     }
 
-    /// Tells an expression of two operands.
+    /// Writes an expression of two operands.
     fn say_two(
         &mut self,
         site: Site<'a>,
@@ -234,7 +236,7 @@ impl<'p, 'a, 's> Telling<'p, 'a, 's> {
         }
     }
 
-    /// Tells what an expression is, where it has this operation.
+    /// Writes what an expression with this operation is.
     fn say_term(
         &mut self,
         site: Site<'a>,
@@ -266,7 +268,7 @@ impl<'p, 'a, 's> Telling<'p, 'a, 's> {
         self.subject.definition(signal.scope, signal.id)
     }
 
-    /// How an element is had at the instant.
+    /// The operation that gives an element at the instant.
     fn operation(&self, element: ElementId) -> Option<Operation> {
         match given_by(self.moment.equations(), element) {
             Some(q) => Some(q.operation),
@@ -274,8 +276,8 @@ impl<'p, 'a, 's> Telling<'p, 'a, 's> {
         }
     }
 
-    /// The expression that defines a variable, or the argument that an input of a called node is
-    /// given.
+    /// The expression that defines a variable; for an input of a called node, the argument of the
+    /// call.
     fn given(&self, element: ElementId) -> Result<Option<Site<'a>>, AllocError> {
         if let Some(placed) = self.definition(element) {
             return Ok(Some(placed.site));
@@ -286,7 +288,7 @@ impl<'p, 'a, 's> Telling<'p, 'a, 's> {
         }
     }
 
-    /// What the element that decides another stands for, where that one is known.
+    /// The part of the source for `next`, which decides `element`, whose part is `known`.
     fn following(
         &self,
         known: Known<'a>,
@@ -307,7 +309,7 @@ impl<'p, 'a, 's> Telling<'p, 'a, 's> {
         }
     }
 
-    /// Finds what the elements of the steps stand for, where the first one is known.
+    /// Finds the part of the source for each step, where that of the first one is known.
     fn know(&mut self, steps: &[Step], first: Known<'a>) -> Result<(), AllocError> {
         let mut known = first;
         for (place, step) in steps.iter().enumerate() {
@@ -347,8 +349,8 @@ impl<'p, 'a, 's> Telling<'p, 'a, 's> {
         Ok(None)
     }
 
-    /// The whole expression in which an element stands that is none of a variable, and the element
-    /// of the whole.
+    /// The whole expression in which an element stands that is not that of a variable, and the
+    /// element of the whole.
     fn enclosing(&self, element: ElementId) -> Result<Option<(Site<'a>, ElementId)>, AllocError> {
         let Some(whole) = self.subject.enclosing(element) else {
             return Ok(None);
@@ -366,7 +368,8 @@ impl<'p, 'a, 's> Telling<'p, 'a, 's> {
         }
     }
 
-    /// What the first of the steps stands for, where it is an operand that a memory keeps.
+    /// The part of the source for the first step, where its element is an operand that a memory
+    /// keeps.
     fn kept_operand(&self, element: ElementId) -> Result<Known<'a>, AllocError> {
         let Some((whole, root)) = self.enclosing(element)? else {
             return Ok(Known::Inner);
@@ -377,7 +380,7 @@ impl<'p, 'a, 's> Telling<'p, 'a, 's> {
         }
     }
 
-    /// Tells the operator that gives an element, with what its operands hold.
+    /// Writes the operator that gives an element, with the cells of its operands.
     fn say_operator(&mut self, element: ElementId) -> Result<(), AllocError> {
         match self.operation(element) {
             Some(Operation::ApplyBinary(op, a, b)) => {
@@ -396,7 +399,8 @@ impl<'p, 'a, 's> Telling<'p, 'a, 's> {
         }
     }
 
-    /// Tells a fault of a variable that an element makes which is told as a part of a whole.
+    /// Writes a fault of a variable that is made by an element within a form that is written as a
+    /// whole.
     fn say_made(&mut self, variable: ElementId, element: ElementId) -> Result<(), AllocError> {
         let Some(row) = self.row_of_variable(variable) else {
             return Ok(());
@@ -408,7 +412,8 @@ impl<'p, 'a, 's> Telling<'p, 'a, 's> {
         self.say_place(offset, row)
     }
 
-    /// What the first of the steps stands for, where an assertion may have it.
+    /// The part of the source for the first step. `assertion` is the assertion with its element, if
+    /// one has it.
     fn first_known(
         &self,
         first: ElementId,
@@ -423,7 +428,7 @@ impl<'p, 'a, 's> Telling<'p, 'a, 's> {
         }
     }
 
-    /// Tells a fault in the operand of a memory by the whole expression in which it stands.
+    /// Writes a fault in the operand of a memory, with the whole expression in which it stands.
     fn say_kept(&mut self, steps: &[Step], element: ElementId) -> Result<(), AllocError> {
         self.say("what a memory keeps, ")?;
         self.say_operator(element)?;
@@ -438,12 +443,12 @@ impl<'p, 'a, 's> Telling<'p, 'a, 's> {
         self.say_place(ungrouped(whole.expr).offset(), whole.row)
     }
 
-    /// What the element of a step stands for.
+    /// The part of the source for the step at a place.
     fn known_at(&self, place: usize) -> Known<'a> {
         self.known.get(place).copied().unwrap_or(Known::Inner)
     }
 
-    /// Tells since when a memory keeps what it holds; nothing where the operand of `current` has a
+    /// Writes since when a memory keeps its value; nothing where the operand of `current` has a
     /// value at the instant.
     fn say_since(
         &mut self,
@@ -476,7 +481,7 @@ impl<'p, 'a, 's> Telling<'p, 'a, 's> {
         }
     }
 
-    /// Tells a memory: its expression, what it holds and since when.
+    /// Writes a memory: its expression, its value and since when it keeps that.
     fn say_memory(
         &mut self,
         recorded: Recorded<'a>,
@@ -490,7 +495,7 @@ impl<'p, 'a, 's> Telling<'p, 'a, 's> {
         self.say_since(recorded, operation)
     }
 
-    /// Tells an expression that is the element of a step.
+    /// Writes the expression of a step.
     fn say_step(
         &mut self,
         recorded: Recorded<'a>,
@@ -516,7 +521,7 @@ impl<'p, 'a, 's> Telling<'p, 'a, 's> {
         }
     }
 
-    /// Tells a variable that no statement defines.
+    /// Writes a variable that no statement defines.
     fn say_input(&mut self, element: ElementId, row: Option<usize>) -> Result<(), AllocError> {
         let Some(own) = self.row_of_variable(element) else {
             return Ok(());
@@ -535,8 +540,8 @@ impl<'p, 'a, 's> Telling<'p, 'a, 's> {
         self.say(place)
     }
 
-    /// Tells a variable, and with it the expression that defines it; answers whether that one is
-    /// the next step.
+    /// Writes a variable and the expression that defines it; returns whether that expression is the
+    /// next step.
     fn say_variable(
         &mut self,
         recorded: Recorded<'a>,
@@ -565,7 +570,7 @@ impl<'p, 'a, 's> Telling<'p, 'a, 's> {
         Ok(false)
     }
 
-    /// Tells the steps from a place on, a line each.
+    /// Writes the steps from a place on, a line each.
     fn say_steps(
         &mut self,
         recorded: Recorded<'a>,
@@ -613,7 +618,7 @@ impl<'p, 'a, 's> Telling<'p, 'a, 's> {
         self.row_of_variable(step.element)
     }
 
-    /// Tells that a variable holds what it holds, with its place.
+    /// Writes a variable with its cell and its place.
     fn say_held(&mut self, element: ElementId) -> Result<(), AllocError> {
         let Some(row) = self.row_of_variable(element) else {
             return Ok(());
@@ -636,7 +641,7 @@ impl<'p, 'a, 's> Telling<'p, 'a, 's> {
         last
     }
 
-    /// Tells what makes a fault: the last of the steps.
+    /// Writes what makes a fault: the last of the steps.
     fn say_fault(&mut self, steps: &[Step]) -> Result<(), AllocError> {
         let variable = self.last_variable(steps);
         let last = steps.len().saturating_sub(1);
@@ -659,7 +664,7 @@ impl<'p, 'a, 's> Telling<'p, 'a, 's> {
         self.say_place(ungrouped(site.expr).offset(), site.row)
     }
 
-    /// Tells what is nil: the first of the steps, and the last one, which makes it so.
+    /// Writes what is nil: the first of the steps, and the last one, which makes it so.
     fn say_undefined(&mut self, steps: &[Step]) -> Result<(), AllocError> {
         let Some(first) = steps.first() else {
             return Ok(());
@@ -686,7 +691,7 @@ impl<'p, 'a, 's> Telling<'p, 'a, 's> {
         self.say_place(ungrouped(site.expr).offset(), site.row)
     }
 
-    /// Tells an assertion that is false, and the steps behind it.
+    /// Writes an assertion that is false, and the steps behind it.
     fn say_assertion(
         &mut self,
         recorded: Recorded<'a>,
@@ -703,7 +708,7 @@ impl<'p, 'a, 's> Telling<'p, 'a, 's> {
         self.say_steps(recorded, steps, 0, Some(placed.site.row))
     }
 
-    /// Tells a property that is false, and the steps behind it.
+    /// Writes a property that is false, and the steps behind it.
     fn say_property(&mut self, recorded: Recorded<'a>, steps: &[Step]) -> Result<(), AllocError> {
         let Some(first) = steps.first() else {
             return Ok(());
@@ -713,7 +718,7 @@ impl<'p, 'a, 's> Telling<'p, 'a, 's> {
         self.say_steps(recorded, steps, 1, self.row_of(steps, 0))
     }
 
-    /// Tells a verdict, behind its instant.
+    /// Writes what decides a verdict, behind the verdict's instant.
     fn say_verdict(
         &mut self,
         recorded: Recorded<'a>,
@@ -737,8 +742,9 @@ impl<'p, 'a, 's> Telling<'p, 'a, 's> {
     }
 }
 
-/// Tells why a trace does not pass: a line with its name, its verdict and what decides that, and
-/// where the property or an assertion is false the steps behind it. Nothing where it passed.
+/// Writes why a trace does not pass: a line with its name, its verdict and what decides that; where
+/// the property or an assertion is false, the steps behind it follow. Writes nothing where the
+/// trace passed.
 pub(crate) fn put_reason(
     alloc: Global,
     page: &mut Vec<u8>,

@@ -1,6 +1,6 @@
--- What is left of comma-separated values, record by record.
-use Rattle.std.proofs.Common.{◌≡◌, ◌<◌, ◌≤◌, ℕ, suc, ◌+◌, ◌-◌, Bool, true, false, List, [], ◌++◌, map}
-use Rattle.std.proofs.Common.{refl, sym, ap, ◌∙◌, append_assoc, arith, add-one, subst}
+-- The records of comma-separated values that are left, one by one.
+use Rattle.std.proofs.Common.{◌≡◌, ◌<◌, ◌≤◌, ℕ, suc, ◌+◌, ◌-◌, Bool, true, false, List, [], ◌++◌}
+use Rattle.std.proofs.Common.{map, refl, sym, ap, ◌∙◌, append_assoc, arith, add-one, subst}
 use Rattle.lb_check.specs.Scalars.{Cell}
 use Rattle.lb_check.specs.Solutions.{Inputs}
 use Rattle.lb_flat.specs.Judging.{FlatProgram}
@@ -9,7 +9,7 @@ use Rattle.lb_show.specs.Csv.{header_left, headers_left}
 use Rattle.lb_show.specs.CsvTexts.{header, record_text, cells_in, records}
 
 module _ (f : FlatProgram) (X : Inputs) (is : List ℕ) where
-  -- the record of the next instant was added
+  -- adding the record of instant t to the text leaves the records from t + 1 on
   record_written :
       (t end : ℕ) → t < end → (text after : List ℕ) (cells : List Cell) →
       after ≡ text ++ record_text t cells → cells ≡ cells_in (row_at f X t) is →
@@ -24,14 +24,14 @@ module _ (f : FlatProgram) (X : Inputs) (is : List ℕ) where
       (ap (λ z. text ++ record_text t z) (sym c) ∙ sym e)
       ∙ ap (λ u. after ++ records f X is u n) (sym (add-one t))
 
-  -- no record is left
+  -- no record is left from the end on
   pub none_left : (t end : ℕ) → end ≤ t → records f X is t (end - t) ≡ []
   none_left t end le =
       let none : end - t ≡ 0 = omega arith in ap (records f X is t) none
 
 module _ (names : List (List ℕ)) (is : List ℕ) (begun begun' : Bool) (f f' : FlatProgram)
     (X X' : Inputs) (t t' end end' : ℕ) where
-  -- what was left before a record is left behind it
+  -- the text and what is left make the same whole before and after a record
   pub rest_written :
       begun ≡ true → begun' ≡ true → f' ≡ f → X' ≡ X → t' ≡ t + 1 → end' ≡ end → t < end →
       (text after : List ℕ) (cells : List Cell) → after ≡ text ++ record_text t cells →
@@ -48,7 +48,7 @@ module _ (names : List (List ℕ)) (is : List ℕ) (begun begun' : Bool) (f f' :
       ∙ ap (λ Y. after ++ records f' Y is t' (end' - t')) (sym q)
       ∙ ap (λ z. after ++ (header_left z names ++ records f' X' is t' (end' - t'))) (sym b')
 
-  -- what was left before the header is left behind it
+  -- the text and what is left make the same whole before and after the header
   pub header_written :
       begun ≡ false → begun' ≡ true → (text after : List ℕ) → after ≡ text ++ header names →
       text ++ (header_left begun names ++ records f X is t (end - t))
@@ -59,7 +59,7 @@ module _ (names : List (List ℕ)) (is : List ℕ) (begun begun' : Bool) (f f' :
       ∙ ap (λ s. s ++ records f X is t (end - t)) (sym e)
       ∙ ap (λ z. after ++ (header_left z names ++ records f X is t (end - t))) (sym b')
 
--- one part fewer is left behind a record
+-- fewer parts are left after a record
 pub parts_fewer :
     (begun begun' : Bool) (t t' end end' : ℕ) → begun ≡ true → begun' ≡ true → t' ≡ t + 1 →
     end' ≡ end → t < end → headers_left begun' + (end' - t') < headers_left begun + (end - t)
@@ -68,7 +68,7 @@ parts_fewer begun begun' t t' end end' b b' s r lt =
     let none' : headers_left begun' ≡ 0 = ap headers_left b' in
     omega (arith, none, none', s, r, lt)
 
--- a whole text, of the same program, inputs and instants
+-- a whole text, with an equal program, inputs and instants
 pub spelled_by :
     (names : List (List ℕ)) (is : List ℕ) (f f' : FlatProgram) (X X' : Inputs) (t t' end end' : ℕ)
     (text : List ℕ) → f' ≡ f → X' ≡ X → t' ≡ t → end' ≡ end →

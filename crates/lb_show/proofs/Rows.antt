@@ -11,7 +11,7 @@ use Rattle.lb_show.specs.Shown.{numbers_of}
 use Rattle.lb_show.specs.declared.columns.Column.{Column}
 
 module _ (row : Row) where
-  -- what an element that is shown holds
+  -- the cell of an element that is shown
   abbrev shown : Column → Held
   shown c = cell row c.element.0
 
@@ -19,7 +19,7 @@ module _ (row : Row) where
   by_columns [] = refl
   by_columns (c ∷ cs) = ap (λ xs. shown c ∷ xs) (by_columns cs)
 
-  -- one more cell was read
+  -- the cells of i + 1 elements are those of i, and one more that was read
   pub read_more :
       (columns : List Column) (cells after : List Cell) (i : ℕ) (d item : Column) (x : Cell) →
       i < length columns → item ≡ get_or columns i d → cell_of x ≡ cell row item.element.0 →

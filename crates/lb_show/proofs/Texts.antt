@@ -4,7 +4,7 @@ use Rattle.std.proofs.Common.{flat_map, refl, sym, ap, ◌∙◌, append_assoc, 
 use Rattle.std.proofs.Math.Seq.{drop-cons}
 use Rattle.std.proofs.Math.ListN.{drop_of_length-le}
 
--- what was left before a part is left behind it
+-- a text, a part and the rest make the same whole after the part was added
 pub part_added :
     (text after part rest whole : List ℕ) → after ≡ text ++ part →
     text ++ (part ++ rest) ≡ whole → after ++ rest ≡ whole
@@ -18,7 +18,7 @@ flat_map-map f g [] = refl
 flat_map-map f g (x ∷ xs) = ap (λ s. f (g x) ++ s) (flat_map-map f g xs)
 
 module _ {A : Type 0} (f : A → List ℕ) (xs : List A) (tail : List ℕ) (i : ℕ) where
-  -- the next part of what is left
+  -- the next part is the first of what is left
   pub next_part :
       (d : A) → i < length xs →
       flat_map f (drop i xs) ++ tail
@@ -28,11 +28,11 @@ module _ {A : Type 0} (f : A → List ℕ) (xs : List A) (tail : List ℕ) (i : 
       ap (λ ys. flat_map f ys ++ tail) here
       ∙ append_assoc (f (get_or xs i d)) (flat_map f (drop (i + 1) xs)) tail
 
-  -- no part is left
+  -- no part is left behind the end of the list
   pub no_part : length xs ≤ i → flat_map f (drop i xs) ++ tail ≡ tail
   no_part le = ap (λ ys. flat_map f ys ++ tail) (drop_of_length-le xs le)
 
-  -- a part was added
+  -- the whole stays where the next part was added
   pub loop_step :
       (d item : A) → item ≡ get_or xs i d → i < length xs → (text after whole : List ℕ) →
       after ≡ text ++ f item → text ++ (flat_map f (drop i xs) ++ tail) ≡ whole →
@@ -42,7 +42,7 @@ module _ {A : Type 0} (f : A → List ℕ) (xs : List A) (tail : List ℕ) (i : 
       part_added text after (f item) rest whole e
       (ap (λ s. text ++ s) (ap (λ x. f x ++ rest) is ∙ sym (next_part d lt)) ∙ h)
 
-  -- the last part was added
+  -- the text is the whole where the last part was added
   pub loop_end :
       length xs ≤ i → (text after whole : List ℕ) → after ≡ text ++ tail →
       text ++ (flat_map f (drop i xs) ++ tail) ≡ whole → after ≡ whole

@@ -1,4 +1,4 @@
--- What is left of comma-separated values.
+-- The part of comma-separated values that is not written yet.
 -- This file says what data of the program mean; no definition of the language stands on it.
 use Rattle.std.specs.Prelude.{ℕ, ◌+◌, ◌-◌, Bool, true, false, List, [], ◌++◌}
 use Rattle.lb_show.specs.CsvTexts.{header, records}
@@ -6,23 +6,23 @@ use Rattle.lb_show.specs.Players.{program_played, inputs_played, next_played}
 use Rattle.lb_show.specs.Shown.{names_of, numbers_of}
 use Rattle.lb_show.specs.declared.csv.CsvText.{CsvText}
 
--- the header, unless it was written
+-- the header; nothing once it was written
 abbrev pub header_left : Bool → List (List ℕ) → List ℕ
 header_left true names = []
 header_left false names = header names
 
--- the text that is left
+-- the text that is not written yet
 abbrev pub rest_in : CsvText → List ℕ
 rest_in c =
     header_left c.is_begun (names_of c.columns.items)
     ++ records (program_played c.player) (inputs_played c.player) (numbers_of c.columns.items)
     (next_played c.player) (c.player.end - next_played c.player)
 
--- the header counts as a part, unless it was written
+-- the header as a number of parts: 1, and 0 once it was written
 abbrev pub headers_left : Bool → ℕ
 headers_left true = 0
 headers_left false = 1
 
--- how many parts are left at most
+-- the most parts that are left
 abbrev pub parts_in : CsvText → ℕ
 parts_in c = headers_left c.is_begun + (c.player.end - next_played c.player)

@@ -13,7 +13,7 @@ abbrev pub truth_text : Bool → List ℕ
 truth_text true = codes "1"
 truth_text false = codes "0"
 
--- a cell: a number, 0 or 1; nothing where it is absent
+-- the text of a cell: a number, 0 or 1; empty where the cell is absent
 abbrev pub cell_text : Cell → List ℕ
 cell_text None = []
 cell_text (Some (Integer z)) = signed_decimal z
@@ -21,7 +21,7 @@ cell_text (Some (Boolean b)) = truth_text b
 cell_text (Some Nil) = codes "?"
 cell_text (Some Bad) = codes "!"
 
--- a name or a cell behind what stands before it
+-- a comma, and a name or a cell behind it
 abbrev pub field : List ℕ → List ℕ
 field text = codes "," ++ text
 
@@ -36,11 +36,11 @@ header names = codes "instant" ++ (flat_map field names ++ codes "\n")
 abbrev pub record_text : ℕ → List Cell → List ℕ
 record_text t cells = decimal t ++ (flat_map cell_field cells ++ codes "\n")
 
--- what some elements hold in a row
+-- the cells of some elements in a row
 abbrev pub cells_in : Row → List ℕ → List Cell
 cells_in row is = map (cell row) is
 
--- the records of so many instants from one on
+-- the records of `count` instants from instant t on
 abbrev pub records : FlatProgram → Inputs → List ℕ → (t count : ℕ) → List ℕ
 records f X is t zero = []
 records f X is t (suc n) =

@@ -1,4 +1,4 @@
--- What contracts see of the instants of a trace that are shown.
+-- The parts of a player that contracts name.
 -- This file says what data of the program mean; no definition of the language stands on it.
 use Rattle.std.specs.Prelude.{ℕ}
 use Rattle.lb_check.specs.Solutions.{Inputs}
@@ -8,7 +8,7 @@ use Rattle.lb_flat.specs.Programs.{program_of}
 use Rattle.lb_history.specs.ReplayParts.{program_in, recording_in, trace_in, next_in}
 use Rattle.lb_show.specs.declared.player.Player.{Player}
 
--- the program, and its inputs on the trace
+-- the program of a player, and its inputs on the trace
 abbrev pub program_played : Player → FlatProgram
 program_played p = program_of (program_in p.replay)
 

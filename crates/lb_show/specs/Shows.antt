@@ -1,4 +1,4 @@
--- What the values of a trace as CSV are.
+-- The values of a trace as CSV.
 -- Source: this project's rule.
 use Rattle.std.specs.Prelude.{◌≡◌, ℕ, ◌-◌, ◌<◌, Bool, true, false, List, [], ◌++◌, length}
 use Rattle.lb_check.specs.declared.verdict.Verdict.{Verdict}
@@ -26,11 +26,11 @@ abbrev pub rest_of_text : code.Text → List ℕ
 rest_of_text (Csv c) = rest_in c
 rest_of_text (Painted p) = []
 
--- whether it is CSV
+-- whether the text of a show is CSV
 abbrev pub is_csv : Show → Bool
 is_csv s = is_csv_text s.text
 
--- the CSV that is left
+-- the CSV that is not written yet
 abbrev pub csv_rest : Show → List ℕ
 csv_rest s = rest_of_text s.text
 
@@ -38,12 +38,13 @@ abbrev pub parts_of_text : code.Text → ℕ
 parts_of_text (Csv c) = parts_in c
 parts_of_text (Painted p) = painted.parts_left p
 
--- how many parts are left at most
+-- the most parts that are left
 abbrev pub parts_left : Show → ℕ
 parts_left s = parts_of_text s.text
 
--- a text is CSV of the trace with the name that is asked for: a header, and a record for each of the
--- instants up to the one that decides its verdict, or of so many of the last of these
+-- a text is CSV of the trace with the name that the options have: a header, and a record for each
+-- instant up to the one that decides its verdict. With `last`, only that many of the last of these
+-- instants have a record
 pub record IsCsvOf (f : FlatProgram) (r : Recording) (o : ShowOptions) (text : List ℕ) : Type 0
   where
     pub number : ℕ

@@ -5,7 +5,7 @@ use Rattle.lb_check.specs.declared.verdict.Verdict.{Verdict}
 use Rattle.lb_check.specs.declared.verdict.Verdict.TheVariants.{Passed, Fault, Undefined, Assertion}
 use Rattle.lb_check.specs.declared.verdict.Verdict.TheVariants.{False}
 
--- the instant that decides, if one does
+-- the instant that decides a verdict, if one does
 abbrev pub deciding : Verdict → Option ℕ
 deciding Passed = None
 deciding (Fault t) = Some t

@@ -12,18 +12,18 @@ use std::alloc::{AllocError, Global};
 /// An element that is shown.
 #[derive(Drop)]
 pub(crate) struct Column {
-    /// Its name with that of its instance: `main.A[0]`.
+    /// The name of the element with that of its instance: `main.A[0]`.
     pub(crate) name: String,
-    /// Its name in its instance: `A[0]`.
+    /// The name of the element in its instance: `A[0]`.
     pub(crate) label: String,
-    /// The place of its instance among the scopes.
+    /// The place of the instance among the scopes.
     pub(crate) scope: usize,
     pub(crate) kind: Kind,
     pub(crate) element: ElementId,
 }
 
 impl Signal {
-    /// Whether a name is that of the element, or of its variable.
+    /// Whether `name` is the name of the element, or of its variable.
     fn has_name(&self, name: &str) -> bool {
         let label = self.label.as_bytes();
         let variable = label.split_at(self.variable.min(label.len())).0;
@@ -62,8 +62,8 @@ impl Signals {
         Ok(())
     }
 
-    /// Whether a name stands for an element: it is its own, or that of its variable; with the name
-    /// of its instance, or of the node under test without.
+    /// Whether `name` stands for an element: it is the name of the element or of its variable,
+    /// behind the name of its instance. In the node under test that one may be left out.
     fn is_named(&self, signal: &Signal, name: &str) -> bool {
         let Some(scope) = self.scopes.get(signal.scope) else {
             return false;
@@ -80,7 +80,7 @@ impl Signals {
         }
     }
 
-    /// Adds the elements that a name stands for; answers how many there are.
+    /// Adds the elements that a name stands for, and returns how many there are.
     fn push_named(
         &self,
         alloc: Global,

@@ -6,7 +6,7 @@
 //! 1,,?,0
 //! ```
 //!
-//! An absent cell is empty, a nil one `?`, and that of a fault `!`.
+//! An absent cell is empty, a nil cell is `?`, and the value of a fault is `!`.
 
 ghost use Rattle.std.specs.Prelude.{◌≡◌, ◌++◌, map, OnOk};
 ghost use Rattle.lb_history.specs.Cells.{cell_of};
@@ -30,7 +30,7 @@ pub(crate) struct CsvText<'a> {
     is_begun: bool,
 }
 
-/// Adds a name behind what stands before it.
+/// Adds a comma and a name.
 fn push_name(text: &mut Vec<u8>, name: &str) -> Result<(), AllocError>
     ensures { OnOk result (text.new.items ≡ text.old.items ++ field name.now) }
 {
@@ -38,7 +38,7 @@ fn push_name(text: &mut Vec<u8>, name: &str) -> Result<(), AllocError>
     push(text, name)
 }
 
-/// Adds a cell behind what stands before it.
+/// Adds a comma and a cell.
 fn push_field(text: &mut Vec<u8>, cell: Cell) -> Result<(), AllocError>
     ensures { OnOk result (text.new.items ≡ text.old.items ++ cell_field (cell_of cell)) }
 {
@@ -78,7 +78,7 @@ impl<'a> CsvText<'a> {
     ghost use Rattle.lb_show.specs.Players.{program_played, inputs_played, next_played};
     ghost use Rattle.lb_show.specs.Shown.{numbers_of};
 
-    /// The values of some elements at the instants of a player, none of which was written.
+    /// The values of some elements at the instants of a player. Nothing is written yet.
     pub(crate) fn new(alloc: Global, player: Player<'a>, columns: Vec<Column>) -> CsvText<'a>
         ensures player { result.player ≡ player.entry }
         ensures columns { result.columns ≡ columns }
@@ -92,7 +92,7 @@ impl<'a> CsvText<'a> {
         }
     }
 
-    /// Adds the header, which was not written.
+    /// Adds the header, which was not written before.
     fn begin(&mut self, text: &mut Vec<u8>) -> Result<(), AllocError>
         requires { self.old.is_begun ≡ false }
         ensures text { OnOk result (text.old.items ++ rest_in self.old
@@ -122,7 +122,7 @@ impl<'a> CsvText<'a> {
         Ok(())
     }
 
-    /// Adds records up to the end of a part, one at least.
+    /// Adds records until a part is full, at least one.
     fn write_records(&mut self, text: &mut Vec<u8>) -> Result<(), AllocError>
         requires next { next_played self.old.player < self.old.player.end }
         requires begun { self.old.is_begun ≡ true }
@@ -137,8 +137,8 @@ impl<'a> CsvText<'a> {
         Ok(())
     }
 
-    /// Adds the next part of the text, and answers whether there was one: the header, and then
-    /// records.
+    /// Adds the next part of the text, and returns whether there was one: first the header, and
+    /// then records.
     pub(crate) fn write(&mut self, text: &mut Vec<u8>) -> Result<bool, AllocError>
         ensures text { OnOk result (text.old.items ++ rest_in self.old
             ≡ text.new.items ++ rest_in self.new) }

@@ -1,8 +1,8 @@
-//! Why the values of a trace are not shown.
+//! The reasons why the values of a trace are not shown.
 
 use std::alloc::{AllocError, AllocFailed};
 
-/// Why the values of a trace are not shown.
+/// The reason why the values of a trace are not shown.
 #[derive(Debug, Drop, thiserror::Error)]
 pub enum ShowError {
     /// Memory ran out (E0).

@@ -9,7 +9,7 @@ pub struct Spot {
     pub column: usize,
 }
 
-/// Where the lines of a text begin.
+/// The offsets at which the lines of a text begin.
 #[derive(Drop)]
 pub struct Lines {
     starts: Vec<usize>,

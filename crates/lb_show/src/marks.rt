@@ -1,4 +1,4 @@
-//! What is painted, and which of its cells decide the verdict.
+//! The data of what is painted, and the cells that decide the verdict.
 
 use crate::columns::Column;
 use crate::signals::Signals;
@@ -14,8 +14,8 @@ pub(crate) struct Marks<'a> {
 }
 
 impl Marks<'_> {
-    /// Whether the cell of an element of a variable at an instant is one that decides: the value of
-    /// a fault, nil in the property or in a variable that serves as a clock, or the false property.
+    /// Whether the cell of an element of a variable at an instant decides the verdict: the value of
+    /// a fault; nil in the property or in a variable that serves as a clock; or the false property.
     /// An assertion is no variable.
     pub(crate) fn decides(&self, element: ElementId, cell: Cell, t: u32) -> bool {
         let is_property = element == self.program.property;
@@ -29,14 +29,14 @@ impl Marks<'_> {
     }
 }
 
-/// What is painted.
+/// The data of what is painted: the trace, its verdict, the elements and the instants.
 #[derive(Clone, Copy)]
 pub(crate) struct Shown<'a> {
     pub(crate) trace: &'a str,
     pub(crate) marks: Marks<'a>,
     pub(crate) columns: &'a [Column],
     pub(crate) signals: &'a Signals,
-    /// The first instant that is shown, and the one behind the last.
+    /// The first instant that is shown, and the instant behind the last.
     pub(crate) first: u32,
     pub(crate) end: u32,
 }

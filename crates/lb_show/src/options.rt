@@ -1,6 +1,6 @@
-//! What is shown, and how.
+//! The choice of what is shown, and how.
 
-/// How values are written.
+/// The format in which values are written.
 #[derive(Clone, Copy, PartialEq, Eq)]
 pub enum Format {
     /// For a terminal: a row for each element, a column for each instant.
@@ -13,26 +13,26 @@ pub enum Format {
     Svg,
 }
 
-/// Which variables are shown.
+/// The choice of the variables that are shown.
 #[derive(Clone, Copy)]
 pub enum Selection<'a> {
-    /// Those of the node under test and of the observer.
+    /// The variables of the node under test and of the observer.
     Starts,
-    /// Those of each instance.
+    /// The variables of each instance.
     All,
-    /// Those with these names, in their order: `main.x` or `x` of the node under test, with all its
-    /// elements; or one element of it, `main.A[0]`.
+    /// The variables with these names, in their order: `main.x`, or `x` for one of the node under
+    /// test, with all its elements; or one element of it, `main.A[0]`.
     Named(&'a [&'a str]),
 }
 
-/// What is shown of which trace.
+/// The choice of a trace, and of what is shown of it.
 #[derive(Clone, Copy)]
 pub struct ShowOptions<'a> {
     /// The name of the trace.
     pub trace: &'a str,
     pub format: Format,
     pub selection: Selection<'a>,
-    /// How many of the last instants are shown; none for all. A picture shows the last 200 where
-    /// this is none.
+    /// The number of the last instants that are shown. `None` shows all instants, but in a picture
+    /// the last 200.
     pub last: Option<u32>,
 }

@@ -30,7 +30,7 @@ impl<'a> Player<'a> {
     ghost use Rattle.lb_show.specs.Players.{program_played, inputs_played, next_played};
     ghost use Rattle.lb_show.specs.Shown.{numbers_of};
 
-    /// A trace, from an instant up to another.
+    /// A player of a trace, from an instant up to another.
     pub(crate) fn new(
         alloc: Global,
         ordered: &'a Ordered,
@@ -79,7 +79,7 @@ impl<'a> Player<'a> {
         self.replay.advance();
     }
 
-    /// Reads what some elements held at the instant before the next one.
+    /// Reads the cells of some elements at the instant before the next one.
     pub(crate) fn read(&self, columns: &[Column], cells: &mut Vec<Cell>) -> Result<(), AllocError>
         ensures { (t : ℕ) → next_played self.now ≡ suc t → OnOk result (map cell_of cells.new.items
             ≡ cells_in (row_at (program_played self.now) (inputs_played self.now) t)

@@ -37,7 +37,7 @@ fn trace_named(set: &TraceSet, name: &str) -> Option<u32>
     None
 }
 
-/// The instant behind the last one that is shown, of so many.
+/// The instant behind the last one that is shown, of a trace of `count` instants.
 fn end_at(decides: Option<u32>, count: u32) -> u32
     ensures { result ≡ end_at decides count }
 {
@@ -47,7 +47,7 @@ fn end_at(decides: Option<u32>, count: u32) -> u32
     }
 }
 
-/// The first one, where so many of the last are shown.
+/// The first instant that is shown, where only the `last` instants before `end` are.
 fn first_at(last: Option<u32>, end: u32) -> u32
     ensures value { result ≡ first_at last end }
     ensures before { result ≤ end }
@@ -58,7 +58,7 @@ fn first_at(last: Option<u32>, end: u32) -> u32
     }
 }
 
-/// What takes the instants that are shown, one after another.
+/// A painter, which takes the instants that are shown, one after another.
 #[derive(Drop)]
 enum Painter {
     Table(Block),
@@ -67,7 +67,7 @@ enum Painter {
 }
 
 impl Painter {
-    /// Adds what stands before the first instant.
+    /// Adds the text before the first instant.
     fn begin(
         &mut self,
         alloc: Global,
@@ -81,7 +81,7 @@ impl Painter {
         }
     }
 
-    /// Takes an instant.
+    /// Adds the cells of an instant.
     fn push(
         &mut self,
         text: &mut Vec<u8>,
@@ -96,7 +96,7 @@ impl Painter {
         }
     }
 
-    /// Adds what is left at the end.
+    /// Adds the text that is left at the end.
     fn end(&mut self, text: &mut Vec<u8>, shown: &Shown) -> Result<(), AllocError> {
         match self {
             Painter::Table(block) => block.write(text, shown),
@@ -106,7 +106,7 @@ impl Painter {
     }
 }
 
-/// What a text that is painted is about.
+/// The subject of a text that is painted.
 #[derive(Drop)]
 struct Subject<'a> {
     trace: &'a str,
@@ -114,13 +114,13 @@ struct Subject<'a> {
     verdict: Verdict,
     columns: Vec<Column>,
     signals: Signals,
-    /// The first instant that is shown, and the one behind the last.
+    /// The first instant that is shown, and the instant behind the last.
     first: u32,
     end: u32,
 }
 
 impl<'a> Subject<'a> {
-    /// What is painted.
+    /// The data of what is painted.
     fn shown(&self) -> Shown<'_> {
         Shown {
             trace: self.trace,
@@ -166,7 +166,7 @@ impl<'a> Painting<'a> {
         self.painter.push(text, &shown, t, self.cells.as_slice())
     }
 
-    /// Paints instants up to the end of a part, one at least.
+    /// Paints instants until a part is full, at least one.
     fn paint_instants(&mut self, text: &mut Vec<u8>) -> Result<(), AllocError>
         requires { next_played self.old.player < self.old.player.end }
         ensures fewer { OnOk result (instants_left self.new < instants_left self.old) }
@@ -179,8 +179,8 @@ impl<'a> Painting<'a> {
         Ok(())
     }
 
-    /// Adds the next part of the text, and answers whether more is left: what stands before the
-    /// first instant, then instants, and then what is left at the end.
+    /// Adds the next part of the text, and returns whether more is left: first the text before the
+    /// first instant, then instants, and then the text at the end.
     fn write(&mut self, text: &mut Vec<u8>) -> Result<bool, AllocError>
         ensures { result ≡ Ok true → parts_left self.new < parts_left self.old }
     {
@@ -206,8 +206,8 @@ enum Text<'a> {
 }
 
 /// The values of one trace of a program, instant by instant up to the one that decides its verdict,
-/// or to the end where it passed: a text that is written part by part. It takes the memory of one
-/// instant, and of a picture that of all that it shows.
+/// or to the end where it passed: a text that is written part by part. It holds the cells of one
+/// instant in memory; for a picture it holds all that are shown.
 ///
 /// ```text
 /// let mut show = Show::new(alloc, source, &checked, &ordered, &set, &options)?;
@@ -223,8 +223,8 @@ pub struct Show<'a> {
     text: Text<'a>,
 }
 
-/// Which of the elements that are shown have the value of a fault: only the instant that decides
-/// may have some.
+/// For each element that is shown, whether it has the value of a fault somewhere. Only the instant
+/// that decides may have some.
 fn bad_columns(
     alloc: Global,
     ordered: &Ordered,
@@ -246,7 +246,7 @@ fn bad_columns(
     Ok(bad)
 }
 
-/// How many of the last instants are shown, if not all.
+/// The number of the last instants that are shown; `None` for all.
 fn last_of(options: &ShowOptions<'_>) -> Option<u32>
     ensures { options.now.format ≡ Format.Csv → result ≡ options.now.last }
 {
@@ -256,8 +256,8 @@ fn last_of(options: &ShowOptions<'_>) -> Option<u32>
     }
 }
 
-/// What paints a format, where these elements have the value of a fault somewhere; nothing paints
-/// comma-separated values.
+/// The painter of a format, where `bad` says which elements have the value of a fault somewhere.
+/// Comma-separated values have no painter.
 fn painter_of(alloc: Global, format: Format, bad: Vec<bool>) -> Option<Painter>
     ensures { IfSome result (λ painter. format ≢ Format.Csv) }
 {
@@ -277,7 +277,7 @@ impl<'a> Show<'a> {
     ghost use Rattle.lb_flat.specs.Programs.{program_of};
     ghost use Rattle.lb_show.specs.Shows.{IsCsvOf, csv_rest, is_csv, parts_left};
 
-    /// What the options ask for, of a program whose text is `source`, and of these traces.
+    /// The values that the options ask for, of a program whose text is `source`, on these traces.
     ///
     /// Elements come in the order of their variables among those of the node, an array's first
     /// index slowest. Fails where the name of the trace, or of a variable, is unknown.
@@ -358,8 +358,8 @@ impl<'a> Show<'a> {
         }
     }
 
-    /// Adds the next part of the text, which ends once the text has 64 KiB, and answers whether more
-    /// is left. Once nothing is left it is not called again.
+    /// Adds the next part of the text, which ends once the text has 64 KiB, and returns whether
+    /// more is left. Once nothing is left, it is not called again.
     pub fn write(&mut self, text: &mut Vec<u8>) -> Result<bool, AllocError>
         ensures kept { is_csv self.new ≡ is_csv self.old }
         ensures csv { is_csv self.old ≡ true → OnOk result

@@ -4,8 +4,8 @@
 //! main.x    safe.ok    main.A[0]    main.f@12:7.x    main.f@12:7[2].x
 //! ```
 //!
-//! In deeper instances the place of the call stands behind the name of its node, and of an iterated
-//! node the index behind that.
+//! The name of a deeper instance has the place of the call behind the name of its node. For an
+//! iterated node the index stands behind that.
 
 use crate::lines::{Lines, Spot};
 use lb_flat::ElementId;
@@ -19,26 +19,26 @@ use std::alloc::{AllocError, Global};
 /// An instance.
 #[derive(Drop)]
 pub struct Scope {
-    /// Its own name: `main`, `f@12:7`, `f@12:7[2]`.
+    /// The own name of the instance: `main`, `f@12:7`, `f@12:7[2]`.
     pub label: String,
-    /// Its name behind those of its callers.
+    /// The name of the instance behind those of its callers.
     pub name: String,
-    /// The scope of its caller.
+    /// The scope of the caller.
     pub parent: Option<usize>,
-    /// Whether it is the node under test or the observer.
+    /// Whether the instance is the node under test or the observer.
     pub is_start: bool,
 }
 
 /// A scalar element of a variable.
 #[derive(Drop)]
 pub struct Signal {
-    /// Its name in its instance: `x`, `A[0]`.
+    /// The name of the element in its instance: `x`, `A[0]`.
     pub label: String,
     /// The length of the name of the variable, with which the label begins.
     pub variable: usize,
-    /// The place of its instance among the scopes.
+    /// The place of the instance among the scopes.
     pub scope: usize,
-    /// Its variable, by the place among those of the node.
+    /// The variable, by its place among those of the node.
     pub id: VariableId,
     pub kind: Kind,
     pub element: ElementId,
@@ -71,8 +71,8 @@ fn variable_names<'s>(alloc: Global, node: &ResolvedNode<'s>) -> Result<Vec<&'s 
     Ok(names)
 }
 
-/// The name of an element of a variable: `x`, or `a[2][0]` where the variable has sizes, of which
-/// the last is the outermost.
+/// The name of an element of a variable: `x`, or `a[2][0]` where the variable has sizes. The last
+/// size is the outermost.
 fn element_label(
     alloc: Global,
     variable: &str,
@@ -91,7 +91,7 @@ fn element_label(
     Ok(label)
 }
 
-/// What the names of a program are read of.
+/// The data from which the names of a program are made.
 #[derive(Clone, Copy)]
 struct Names<'a, 's> {
     alloc: Global,
@@ -138,7 +138,7 @@ impl<'a, 's> Names<'a, 's> {
         Ok(label)
     }
 
-    /// The scope of an instance, behind those of the instances before it.
+    /// The scope of an instance, where the scopes of the instances before it are known.
     fn scope(
         &self,
         node: &ResolvedNode<'s>,
@@ -166,8 +166,8 @@ impl<'a, 's> Names<'a, 's> {
         })
     }
 
-    /// Adds the elements of the variables of an instance, of which the first has this number;
-    /// answers the number behind them.
+    /// Adds the elements of the variables of an instance, numbered from this number on, and returns
+    /// the number behind the last.
     fn push_signals(
         &self,
         found: (&Specialization, &ResolvedNode<'s>),

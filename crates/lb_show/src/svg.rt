@@ -1,7 +1,7 @@
 //! A picture: a row for each element, in which Booleans are steps and integers labelled stretches.
 //!
-//! Where an element is absent its row has a gap, nil is hatched and the value of a fault red. A band
-//! marks the instant that decides.
+//! The row of an element has a gap where it is absent; nil is hatched, and the value of a fault is
+//! red. A band marks the instant that decides.
 
 use crate::columns::Column;
 use crate::marks::Shown;
@@ -11,12 +11,12 @@ use lb_history::Cell;
 use lb_syntax::Kind;
 use std::alloc::{AllocError, Global};
 
-/// How many of the last instants a picture has, unless another number is asked for.
+/// The number of the last instants that a picture has, unless another number is asked for.
 pub(crate) const MOST_INSTANTS: u32 = 200;
 
 /// The space round the picture, in pixels, as all lengths here.
 const MARGIN: usize = 8;
-/// Where the first row begins.
+/// The place at which the first row begins.
 const TOP: usize = 48;
 /// The height of a row.
 const ROW: usize = 26;
@@ -35,18 +35,18 @@ pub(crate) struct Picture {
     cells: Vec<Cell>,
 }
 
-/// Where things stand.
+/// The layout of a picture.
 #[derive(Clone, Copy)]
 struct Frame {
-    /// How many instants there are, and how many elements.
+    /// The numbers of instants and of elements.
     instants: usize,
     rows: usize,
-    /// Where the first instant begins, and how wide each is.
+    /// The place at which the first instant begins, and the width of each.
     left: usize,
     step: usize,
 }
 
-/// A stretch of instants at which an element holds the same.
+/// A stretch of instants at which an element holds the same cell.
 #[derive(Clone, Copy)]
 struct Stretch {
     cell: Cell,
@@ -54,7 +54,7 @@ struct Stretch {
     to: usize,
 }
 
-/// How many pixels so many characters take.
+/// The width of `characters` characters, in pixels.
 fn text_width(characters: usize) -> usize {
     usize::saturating_add(usize::saturating_mul(characters, CHARACTER), 6)
 }
@@ -68,7 +68,7 @@ fn push_attribute(text: &mut Vec<u8>, name: &str, n: usize) -> Result<(), AllocE
     push(text, "\"")
 }
 
-/// Adds a text in which no character has a meaning of its own.
+/// Adds a text, with each character escaped that has a meaning of its own.
 fn push_escaped(text: &mut Vec<u8>, name: &str) -> Result<(), AllocError> {
     for b in name.as_bytes() {
         match *b {
@@ -98,31 +98,31 @@ fn push_box(
 }
 
 impl Frame {
-    /// Where an instant begins.
+    /// The place at which an instant begins.
     fn x(&self, place: usize) -> usize {
         usize::saturating_add(self.left, usize::saturating_mul(place, self.step))
     }
 
-    /// Where a row begins.
+    /// The place at which a row begins.
     fn y(&self, row: usize) -> usize {
         usize::saturating_add(TOP, usize::saturating_mul(row, ROW))
     }
 }
 
 impl Picture {
-    /// No instant yet.
+    /// A picture without an instant.
     pub(crate) fn new(alloc: Global) -> Picture {
         Picture {
             cells: Vec::new(alloc),
         }
     }
 
-    /// Takes an instant.
+    /// Adds the cells of an instant.
     pub(crate) fn push(&mut self, cells: &[Cell]) -> Result<(), AllocError> {
         self.cells.extend_from_slice(cells)
     }
 
-    /// What an element holds at an instant.
+    /// The cell of an element at an instant.
     fn cell(&self, frame: Frame, row: usize, place: usize) -> Cell {
         let at = usize::saturating_add(usize::saturating_mul(place, frame.rows), row);
         self.cells.get(at).copied().unwrap_or(Cell::Absent)
@@ -143,7 +143,7 @@ impl Picture {
         }
     }
 
-    /// How wide an instant has to be for the labels of an element.
+    /// The least width of an instant that has room for the labels of an element.
     fn least_step(&self, frame: Frame, row: usize) -> usize {
         let mut least = LEAST;
         let mut from = 0;
@@ -160,7 +160,7 @@ impl Picture {
         least
     }
 
-    /// Where things stand.
+    /// The layout of the picture.
     fn frame(&self, shown: &Shown) -> Frame {
         let rows = shown.columns.len();
         let instants = self.cells.len().checked_div(rows).unwrap_or(0);
@@ -180,7 +180,8 @@ impl Picture {
         frame
     }
 
-    /// Adds what an element holds along a stretch, where the one before it was a Boolean or not.
+    /// Adds the box of a stretch, with its number for an integer. A Boolean or absent stretch has
+    /// none.
     fn push_stretch(
         text: &mut Vec<u8>,
         frame: Frame,
@@ -273,7 +274,7 @@ impl Picture {
         }
     }
 
-    /// Adds the numbers of instants, as many as there is room for.
+    /// Adds the numbers of instants, as many as fit.
     fn push_instants(text: &mut Vec<u8>, frame: Frame, shown: &Shown) -> Result<(), AllocError> {
         let longest = text_width(digits(u64::from(shown.end)));
         let each = longest.div_ceil(frame.step.max(1)).max(1);

@@ -9,9 +9,9 @@
 //! main.n     1 2 3  4
 //! ```
 //!
-//! `.` is false and `1` is true; an absent cell is blank, a nil one `?`, and that of a fault `!`.
-//! Before the instant that decides, and its cells that do, stands `>`. Where the instants do not fit
-//! a line, more such tables follow.
+//! `.` is false and `1` is true; an absent cell is blank, a nil cell is `?`, and the value of a
+//! fault is `!`. A `>` stands before the instant that decides, and before its cells that decide.
+//! Where the instants do not fit a line, more such tables follow.
 
 use crate::marks::Shown;
 use crate::verdict_line::{deciding, push_verdict};
@@ -25,17 +25,17 @@ const LINE: usize = 100;
 /// The instants that are not written yet.
 #[derive(Drop)]
 pub(crate) struct Block {
-    /// The first of them.
+    /// The first of these instants.
     first: u32,
-    /// How wide the column of each is.
+    /// The width of the column of each instant.
     widths: Vec<usize>,
     /// The cells, one instant after another.
     cells: Vec<Cell>,
-    /// How long the lines are.
+    /// The length of the lines.
     length: usize,
 }
 
-/// How wide a cell is.
+/// The width of a cell.
 fn cell_width(cell: Cell) -> usize {
     match cell {
         Cell::Integer(z) => {
@@ -79,7 +79,7 @@ fn push_name(text: &mut Vec<u8>, name: &str, width: usize) -> Result<(), AllocEr
 }
 
 impl Block {
-    /// No instant yet.
+    /// A block without an instant.
     pub(crate) fn new(alloc: Global) -> Block {
         Block {
             first: 0,
@@ -100,7 +100,7 @@ impl Block {
         width
     }
 
-    /// Takes an instant; what does not fit a line with it is written first.
+    /// Adds an instant. Instants that do not fit a line with it are written first.
     pub(crate) fn push(
         &mut self,
         text: &mut Vec<u8>,
@@ -142,7 +142,7 @@ impl Block {
         push(text, "\n")
     }
 
-    /// Adds the line of an element, the one at a place among those that are shown.
+    /// Adds the line of the element at a place among those that are shown.
     fn push_row(
         &self,
         text: &mut Vec<u8>,
@@ -174,7 +174,7 @@ impl Block {
         push(text, "\n")
     }
 
-    /// Adds what was taken so far, if anything was.
+    /// Writes the instants that were added so far, if there are any.
     pub(crate) fn write(&mut self, text: &mut Vec<u8>, shown: &Shown) -> Result<(), AllocError> {
         if self.widths.is_empty() {
             return Ok(());

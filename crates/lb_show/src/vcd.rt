@@ -1,8 +1,9 @@
 //! A value change dump, as waveform viewers read it: a scope for each instance, a wire for each
 //! Boolean, 32 bits for each integer, and a time step for each instant.
 //!
-//! Nil and the value of a fault are `x`, and an absent cell is `z`. Beside an element that has the
-//! value of a fault somewhere stands a wire with `!` behind its name, which is true there.
+//! Nil and the value of a fault are `x`, and an absent cell is `z`. An element that has the value
+//! of a fault somewhere has a second wire beside its own, with `!` behind the name, which is true
+//! where the value is a fault.
 
 use crate::marks::Shown;
 use crate::signals::Scope;
@@ -12,15 +13,15 @@ use lb_history::Cell;
 use lb_syntax::Kind;
 use std::alloc::{AllocError, Global};
 
-/// The identifiers: characters from `!` to `~`.
+/// The number of characters for identifiers, from `!` to `~`.
 const CHARACTERS: usize = 94;
 
-/// What stands in the dump so far.
+/// The state of the dump so far.
 #[derive(Drop)]
 pub(crate) struct Dump {
     /// The cells of the latest instant.
     latest: Vec<Cell>,
-    /// Which of the elements have the value of a fault somewhere.
+    /// For each element, whether it has the value of a fault somewhere.
     bad: Vec<bool>,
 }
 
@@ -69,8 +70,8 @@ fn push_value(text: &mut Vec<u8>, kind: Kind, cell: Cell, number: usize) -> Resu
     push(text, "\n")
 }
 
-/// Adds the declaration of an element. With a range behind it no viewer takes the index of an
-/// array's element for a range.
+/// Adds the declaration of an element. The range behind the name keeps viewers from taking the
+/// index of an array's element for a range.
 fn push_wire(text: &mut Vec<u8>, label: &str, kind: Kind, number: usize) -> Result<(), AllocError> {
     let (form, range) = match kind {
         Kind::Bool => ("$var wire 1 ", ""),
@@ -96,7 +97,7 @@ fn is_marked(marks: &[bool], place: usize) -> bool {
     place < marks.len() && marks[place]
 }
 
-/// Marks the scopes that have marked ones in them: each stands before those.
+/// Marks the scopes that contain marked ones. A scope stands before those within it.
 fn mark_parents(marks: &mut [bool], scopes: &[Scope]) {
     for back in 0..scopes.len() {
         let place = scopes.len() - 1 - back;
@@ -108,7 +109,7 @@ fn mark_parents(marks: &mut [bool], scopes: &[Scope]) {
     }
 }
 
-/// Which scopes have elements that are shown, in them or in those within.
+/// For each scope, whether it or a scope within it has elements that are shown.
 fn needed_scopes(alloc: Global, shown: &Shown) -> Result<Vec<bool>, AllocError> {
     let scopes = shown.signals.scopes.as_slice();
     let mut needed = vec![in alloc; false; scopes.len()]?;
@@ -120,7 +121,7 @@ fn needed_scopes(alloc: Global, shown: &Shown) -> Result<Vec<bool>, AllocError> 
 }
 
 impl Dump {
-    /// Nothing yet, of elements of which these have the value of a fault somewhere.
+    /// An empty dump, where `bad` says which elements have the value of a fault somewhere.
     pub(crate) fn new(alloc: Global, bad: Vec<bool>) -> Dump {
         Dump {
             latest: Vec::new(alloc),
@@ -152,7 +153,7 @@ impl Dump {
         Ok(())
     }
 
-    /// Adds what stands before the first instant.
+    /// Adds the text before the first instant.
     pub(crate) fn push_header(
         &self,
         alloc: Global,
@@ -187,7 +188,7 @@ impl Dump {
         push(text, "$enddefinitions $end\n")
     }
 
-    /// Adds what changes at an instant.
+    /// Adds the changes of an instant.
     pub(crate) fn push_instant(
         &mut self,
         text: &mut Vec<u8>,

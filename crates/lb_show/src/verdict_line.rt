@@ -7,7 +7,7 @@ use crate::write::{push, push_number};
 use lb_check::Verdict;
 use std::alloc::AllocError;
 
-/// The instant that decides, if one does.
+/// The instant that decides a verdict, if one does.
 pub(crate) fn deciding(verdict: Verdict) -> Option<u32>
     ensures { result ≡ deciding verdict }
 {

@@ -9,7 +9,7 @@ use itoa::Buffer;
 use lb_history::Cell;
 use std::alloc::AllocError;
 
-/// After how many bytes a part of a text ends.
+/// The number of bytes after which a part of a text ends.
 pub(crate) const CHUNK: usize = 65536;
 
 /// Adds a text.
@@ -33,7 +33,7 @@ pub(crate) fn push_integer(text: &mut Vec<u8>, n: i32) -> Result<(), AllocError>
     text.extend_from_slice(Buffer::new().format(n).as_bytes())
 }
 
-/// Adds so many spaces.
+/// Adds `count` spaces.
 pub(crate) fn push_spaces(text: &mut Vec<u8>, count: usize) -> Result<(), AllocError> {
     for _ in 0..count {
         text.push(b' ')?;
@@ -41,7 +41,7 @@ pub(crate) fn push_spaces(text: &mut Vec<u8>, count: usize) -> Result<(), AllocE
     Ok(())
 }
 
-/// Adds a cell as a number, 0 or 1; nothing where it is absent, `?` where it is nil, and `!` where
+/// Adds a cell: a number, or 0 or 1; nothing where it is absent, `?` where it is nil, and `!` where
 /// it is the value of a fault.
 pub(crate) fn push_cell(text: &mut Vec<u8>, cell: Cell) -> Result<(), AllocError>
     ensures { OnOk result (text.new.items ≡ text.old.items ++ cell_text (cell_of cell)) }
@@ -56,7 +56,7 @@ pub(crate) fn push_cell(text: &mut Vec<u8>, cell: Cell) -> Result<(), AllocError
     }
 }
 
-/// How many characters the decimal digits of a number are.
+/// The number of decimal digits of a number.
 pub(crate) fn digits(n: u64) -> usize {
     let mut count = 1;
     let mut rest = n / 10;

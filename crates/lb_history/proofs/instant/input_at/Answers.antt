@@ -15,7 +15,7 @@ use Rattle.lb_check.specs.Scalars.{Boolean}
 use Rattle.lb_flat.specs.Inputs.{scalar_in, scalars_in, inputs_of}
 use Rattle.lb_traces.specs.Traces.{Recording, IsRecording, IsRow, IsCell, trace_at, cell_at}
 use Rattle.lb_traces.proofs.HeldRows.{length-kinds, lawful_cell}
-use Rattle.lb_flat.proofs.RecordedInputs.{scalar_there, no_scalar}
+use Rattle.lb_flat.proofs.runs.RecordedInputs.{scalar_there, no_scalar}
 use Rattle.lb_traces.proofs.RowsFound.{row_follows}
 use Rattle.lb_traces.proofs.Storing.{length-row}
 use Rattle.lb_history.proofs.instant.input_at.Goals as goal

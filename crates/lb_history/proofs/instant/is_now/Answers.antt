@@ -1,6 +1,6 @@
 use Rattle.std.proofs.Common.{ap, sym, ◌∙◌}
 use Rattle.lb_check.specs.Streams.{shows}
-use Rattle.lb_flat.proofs.Steps.{ends_base, ends_hidden, goes_on, parent_in_table, ends_past}
+use Rattle.lb_flat.proofs.runs.Steps.{ends_base, ends_hidden, goes_on, parent_in_table, ends_past}
 use Rattle.lb_history.proofs.instant.is_now.Goals as goal
 
 pub returns-in_default : goal.returns-in_default

@@ -5,7 +5,7 @@ use Rattle.lb_history.specs.Cells.{cell_of}
 use Rattle.lb_flat.specs.Within.{IsClock}
 use Rattle.lb_history.proofs.instant.is_now.Given as goal
 
--- the rest of the clock has an instant exactly where all of it has
+-- the rest of the clock ticks exactly where the whole clock does
 abbrev pub invariant-loop-depth : goal.invariant-loop-depth
 invariant-loop-depth l = record {
   same : (n : ℕ) → n + l.depth ≡ length l.clocks →

@@ -1,18 +1,18 @@
 use Rattle.std.proofs.Common.{◌≡◌, ◌≤◌, ◌<◌, ℕ, sym, ◌∙◌, ap, true, false, arith, decimal, Ok}
 use Rattle.std.proofs.Common.{Result}
-use Rattle.lb_listing.specs.Plain.{is_plain}
+use Rattle.lb_listing.specs.Plain.{is_canonical}
 use Rattle.lb_listing.proofs.Digits.{parsed, plain_decimal, read_back}
 use Rattle.lb_listing.proofs.line.read_instant.Goals as goal
 
-pub returns-then-not-is_plain-clause-none : goal.returns-then-not-is_plain-clause-none
-returns-then-not-is_plain-clause-none c = λ t small e.
-    let plain : is_plain c.args.digits.now ≡ true = ap is_plain e ∙ plain_decimal t small in
-    let no : c.is_plain.result ≡ true = c.is_plain.ensures ∙ plain in cc
+pub returns-then-not-is_canonical-clause-none : goal.returns-then-not-is_canonical-clause-none
+returns-then-not-is_canonical-clause-none c = λ t small e.
+    let plain : is_canonical c.args.digits.now ≡ true = ap is_canonical e ∙ plain_decimal t small in
+    let no : c.is_canonical.result ≡ true = c.is_canonical.ensures ∙ plain in cc
 
 pub returns-in-Ok-clause-some : goal.returns-in-Ok-clause-some
 returns-in-Ok-clause-some c = (
   c.if-t-lt-INSTANTS.true,
-  parsed c.args.digits.now c.parse.result c.in-Ok.t (sym c.if-not-is_plain.ensures)
+  parsed c.args.digits.now c.parse.result c.in-Ok.t (sym c.if-not-is_canonical.ensures)
       c.parse.ensures.value.0 c.in-Ok.is,
 )
 

@@ -1,11 +1,11 @@
--- One queue after the other, of as many traces as are run at once.
+-- One queue after the other, each of `MOST_AT_ONCE` traces at most.
 use Rattle.std.proofs.Common.{◌<◌, ◌+◌, ◌-◌, ◌++◌, length, take, drop, sym, ap, ◌∙◌}
 use Rattle.std.proofs.Common.{subst}
 use Rattle.std.proofs.Common.{arith}
 use Rattle.std.proofs.Math.Seq.{take-add}
 use Rattle.std.proofs.lemmas.List.{take_all}
 use Rattle.std.proofs.lemmas.List.Elements.{All-drop, All-nil, All-take}
-use Rattle.lb_pool.specs.Runs.{AreJudged, IsJudged, numbers_of}
+use Rattle.lb_pool.specs.Runs.{AreJudged, IsJudgedTrace, numbers_of}
 use Rattle.lb_pool.proofs.alone.run_queues.Goals as goal
 
 pub queues-init : goal.queues-init
@@ -15,7 +15,7 @@ queues-init c = record {
   numbers = ap numbers_of c.requires.nothing;
   judged = subst (AreJudged c.args.work.now.program.now.program.now c.args.work.now.set.now)
       (sym c.requires.nothing)
-      (All-nil (IsJudged c.args.work.now.program.now.program.now c.args.work.now.set.now));
+      (All-nil (IsJudgedTrace c.args.work.now.program.now.program.now c.args.work.now.set.now));
 }
 
 pub run_members-requires-clause-within : goal.run_members-requires-clause-within

@@ -3,7 +3,7 @@ use Rattle.lb_pool.specs.Runs.{AreJudged, numbers_of}
 use Rattle.lb_sim.specs.BatchRooms.{IsRoomFor}
 use Rattle.lb_pool.proofs.alone.run_queues.Given as goal
 
--- the first of them are judged
+-- the first `done` traces are judged
 abbrev pub invariant-queues : goal.invariant-queues
 invariant-queues l = record {
   within : l.done ≤ length l.numbers;

@@ -5,7 +5,7 @@ use Rattle.std.proofs.lemmas.List.{map-append, take_more, take_all}
 use Rattle.std.proofs.lemmas.List.Elements.{All-push}
 use Rattle.lb_check.specs.declared.verdict.Verdict.TheVariants.{Passed}
 use Rattle.lb_pool.specs.declared.batch.Judged.{Judged}
-use Rattle.lb_pool.specs.Runs.{IsJudged, AreJudged, numbers_of}
+use Rattle.lb_pool.specs.Runs.{IsJudgedTrace, AreJudged, numbers_of}
 use Rattle.lb_pool.proofs.batch.push_judged.Goals as goal
 
 pub loop-j-preserved : goal.loop-j-preserved
@@ -20,7 +20,7 @@ loop-j-preserved c =
     let trace : ℕ = get_or members j 0 in
     let judged : Judged = record { trace = trace; verdict = get_or c.args.verdicts.now j Passed } in
     let pushed : c.push.new.self.items ≡ before ++ judged ∷ [] = c.in_ok-push.ensures.items in
-    let is_judged : IsJudged p r judged = record {
+    let is_judged : IsJudgedTrace p r judged = record {
       is_trace = c.requires.within j 0 inside;
       is_verdict = c.requires.found j inside;
     } in (
@@ -31,7 +31,7 @@ loop-j-preserved c =
           ∙ ap (λ (l : List ℕ). numbers_of c.args.judged.now.items ++ l)
           (sym (take_more members j 0 inside)),
       subst (AreJudged p r) (sym pushed)
-          (All-push (IsJudged p r) before judged c.loop-j.invariant.1 is_judged),
+          (All-push (IsJudgedTrace p r) before judged c.loop-j.invariant.1 is_judged),
     )
 
 pub returns-clause-numbers : goal.returns-clause-numbers

@@ -1,4 +1,4 @@
--- What two halves have done, put together.
+-- The results of two halves, put together.
 use Rattle.std.proofs.Common.{◌≡◌, ◌+◌, min, arith}
 use Rattle.std.proofs.lemmas.Result.{IfOk-at_ok, IfOk-weaker}
 use Rattle.lb_pool.specs.Seats.{shares_of}

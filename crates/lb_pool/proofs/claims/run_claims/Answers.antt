@@ -1,4 +1,4 @@
--- What was compiled is the program that was given.
+-- The compiled program is the given one.
 use Rattle.std.proofs.Common.{subst}
 use Rattle.std.proofs.lemmas.Result.{IfOk-weaker}
 use Rattle.lb_flat.specs.declared.program.FlatProgram.{FlatProgram}

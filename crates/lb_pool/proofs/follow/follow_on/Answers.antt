@@ -1,4 +1,4 @@
--- What is ready for the writer.
+-- The writer may run.
 use Rattle.lb_pool.proofs.RightPosts.{length-right_of}
 use Rattle.lb_pool.proofs.follow.follow_on.Goals as goal
 

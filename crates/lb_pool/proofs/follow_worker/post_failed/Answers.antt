@@ -1,4 +1,4 @@
--- One member more was posted.
+-- One more member was posted.
 use Rattle.std.proofs.Common.{◌<◌, length, arith, rules, subst}
 use Rattle.std.specs.Prelude.{None}
 use Rattle.std.specs.List.{All}

@@ -1,4 +1,4 @@
--- The lines went out but for what was kept back; the last line goes out with that.
+-- The lines went out, except the text that was kept back; the last line goes out with that.
 use Rattle.std.proofs.Common.{◌≡◌, ℕ, List, ◌++◌, ap, sym, subst, ◌∙◌}
 use Rattle.lb_traces.specs.Traces.{trace_names}
 use Rattle.lb_pool.specs.FollowSeats.{right_of}
@@ -28,10 +28,10 @@ returns g c =
     let goes : Is full.text.items full.count =
     subst (λ to. Is full.text.items to) (sym c.in_ok-add_total.ensures.count)
     (subst (λ rest. Is rest out.count) (sym text) more) in
-    let last = c.hand_on.ensures in
+    let last = c.send_all.ensures in
     is_followed (taken c.args.sink.now) (taken c.write_lines.new.sink)
-    (taken c.hand_on.new.sink) (report_of names right) full.text.items
-    c.hand_on.new.out.text.items full.count c.hand_on.new.out.count
+    (taken c.send_all.new.sink) (report_of names right) full.text.items
+    c.send_all.new.out.text.items full.count c.send_all.new.out.count
     (failures c.args.sink.now) (failures c.write_lines.new.sink)
-    (failures c.hand_on.new.sink) c.hand_on.result goes wrote.ok last.gone last.all last.ok
+    (failures c.send_all.new.sink) c.send_all.result goes wrote.ok last.gone last.all last.ok
     last.first last.cause

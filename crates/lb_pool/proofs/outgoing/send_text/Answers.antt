@@ -1,4 +1,4 @@
--- What the sink took before it failed is the front of the text.
+-- The bytes that the sink took before it failed are the front of the text.
 use Rattle.std.proofs.Common.{◌≡◌, ℕ, List, length, take, drop, ap, subst, arith}
 use Rattle.lb_pool.specs.Taken.{Takes}
 use Rattle.lb_pool.proofs.GoingOut.{goes_front}

@@ -2,7 +2,7 @@ use Rattle.std.proofs.Common.{◌≡◌, ◌≤◌, ◌-◌, ℕ, List, length, 
 use Rattle.lb_pool.specs.Taken.{Taken, Takes}
 use Rattle.lb_pool.proofs.sink.send.Given as goal
 
--- the first bytes went out, and `count` tells how many
+-- the first `count` bytes went out
 pub record HasGone (first now : Taken) (bytes : List ℕ) (count : ℕ) : Type 0 where
   pub within : count ≤ length bytes
   pub gone : Takes first now (take count bytes)

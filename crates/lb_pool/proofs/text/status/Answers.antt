@@ -6,7 +6,7 @@ use Rattle.lb_pool.specs.Reports as spec
 use Rattle.lb_pool.proofs.text.status.Goals as goal
 use Rattle.lb_pool.proofs.text.status.Goals.{After-any}
 
--- the answer of the search is the word's
+-- the answer of the search is that of `list_any`
 found : (c : After-any) → c.any.result ≡ list_any spec.is_failure c.args.verdicts.now
 found c =
     any_from_yields_List spec.is_failure _ _ c.any.result c.any.ensures.ran

@@ -1,4 +1,4 @@
--- The instant that was computed is that of the run.
+-- The instant that was computed is the next one of the run.
 use Rattle.std.proofs.Common.{rules, arith, ◌+◌, ◌∙◌, List, sym, subst}
 use Rattle.std.proofs.lemmas.List.{with_items_is, places}
 use Rattle.std.specs.Vec.{with_items}

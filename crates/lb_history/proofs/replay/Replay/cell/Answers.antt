@@ -1,4 +1,4 @@
--- What the row holds is what the history has.
+-- The cell of the row is the cell of the history.
 use Rattle.std.proofs.Common.{◌<◌, ◌≤◌, length, ap, ◌∙◌, arith}
 use Rattle.std.proofs.lemmas.List.{length-map}
 use Rattle.lb_flat.specs.Inputs.{inputs_of, scalars_in}

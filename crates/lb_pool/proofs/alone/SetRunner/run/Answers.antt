@@ -1,4 +1,4 @@
--- The plan has all traces, so all are judged.
+-- The plan has all traces, so all traces are judged.
 use Rattle.std.proofs.Common.{ℕ, ◌<◌, List, length, sym, ap, ◌∙◌, subst}
 use Rattle.std.specs.List.{All, Contains}
 use Rattle.lb_pool.specs.Runs.{AreJudged, numbers_of}

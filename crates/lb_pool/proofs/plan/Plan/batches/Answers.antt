@@ -1,4 +1,4 @@
--- As many batches as the numbers fill.
+-- There are as many batches as the numbers fill.
 use Rattle.std.proofs.Common.{◌≡◌, ◌+◌, ◌-◌, ◌/◌, List, ℕ, length, sym, ap, ◌∙◌, subst, rules}
 use Rattle.lb_pool.proofs.Cutting.{count_is, is_lawful}
 use Rattle.lb_pool.specs.Plans.{IsLawful}
