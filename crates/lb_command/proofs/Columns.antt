@@ -11,7 +11,7 @@ use Rattle.clap.specs.Words.{Text}
 abbrev pub column : Text → Text
 column name = 44 ∷ name
 
--- with one name more
+-- the columns of `i + 1` names are those of `i` names, and then the column of the next one
 pub columns_more : (names : List Text) (i : ℕ) (name : Text) → slice_get names i ≡ Some name
     → flat_map column (take (i + 1) names) ≡ flat_map column (take i names) ++ column name
 columns_more names i name at =
@@ -21,7 +21,7 @@ columns_more names i name at =
     (append-nil (column (get_or names i name))
     ∙ ap column (get_or_from_slice_get names i name name at))
 
--- a comma and a name that are put behind a text
+-- a text with the columns of `i` names, then a comma and the next name, has `i + 1` columns
 pub columns_put : (front : Text) (names : List Text) (i : ℕ) (name before between after : Text)
     → slice_get names i ≡ Some name → before ≡ front ++ flat_map column (take i names)
     → between ≡ before ++ 44 ∷ [] → after ≡ between ++ name

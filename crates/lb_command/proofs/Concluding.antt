@@ -1,4 +1,4 @@
--- What goes out of a report, by the terms of its run.
+-- The output of a run for its report, by the terms of the run.
 use Rattle.std.proofs.Common.{◌≡◌, ◌∙◌, ℕ, List, [], Option, Some, None, sym, subst}
 use Rattle.std.proofs.Common.{true, false, ◌⊎◌, inl, inr}
 use Rattle.std.specs.Prelude.{IsSome, is_some}
@@ -31,7 +31,7 @@ compared terms traces status notes some is =
     at_some terms.baseline (IsMeasured terms.measure traces status notes)
     (IsComparedToFile terms.measure traces status notes) some is
 
--- memory ran out, or the earlier report is none
+-- the earlier report is refused where memory ran out, or where it is no report
 pub no_earlier : (terms : Terms) (refusal : Refusal)
     → (refusal.number ≡ 0) ⊎ IsNoBaseline terms refusal → IsBaselineRefused terms refusal
 no_earlier terms refusal (inl memory) = inl (inl memory)

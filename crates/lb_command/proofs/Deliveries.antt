@@ -1,4 +1,4 @@
--- Answers of which not all went out.
+-- Answers that did not go out whole.
 use Rattle.std.proofs.Common.{◌≡◌, ◌∙◌, ◌<◌, ◌≤◌, ℕ, List, Option, None, ap, length, subst, take}
 use Rattle.clap.specs.Words.{Text}
 use Rattle.lb_pool.specs.Taken.{Takes}
@@ -9,7 +9,8 @@ use Rattle.lb_command.specs.Streams.{Change}
 use Rattle.lb_command.specs.declared.refusal.Refusal.{Refusal}
 use Rattle.lb_command.specs.declared.answer.Answer.{Answer}
 
--- the output failed, and the refusal that is told is E19
+-- an answer is broken where the output took its first `count` bytes and failed, and the refusal is
+-- E19
 pub broken_by : (words : List Text) (answer : Answer) (warnings : List ℕ) (status : ℕ)
     (output errors : Change) (r : Refusal) (count : ℕ) → r.number ≡ 19 → r.position ≡ None
     → count ≤ length (text_of answer)

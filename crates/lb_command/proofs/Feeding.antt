@@ -1,4 +1,4 @@
--- What a report on the traces of a feed comes to, from what the bench finds.
+-- The outcome of a report on the traces of a feed, from the answer of the bench.
 use Rattle.std.proofs.Common.{◌≡◌, ◌∙◌, ℕ, List, [], ◌++◌, Option, None, Some, Result, Ok, Err}
 use Rattle.std.proofs.Common.{ap, append-nil, arith, inr, refl, subst, sym}
 use Rattle.std.specs.Io.KnownBytes.{Consumes, IsAtEnd}
@@ -11,7 +11,7 @@ use Rattle.lb_report.specs.Windows.{Left}
 use Rattle.lb_report.specs.declared.feed.LoadError.TheVariants as load
 use Rattle.lb_report.specs.declared.feeding.FeedFault.{FeedFault}
 use Rattle.lb_report.specs.declared.feeding.FeedFault.TheVariants as fault
-use Rattle.lb_report.specs.declared.options.Options.{Options}
+use Rattle.lb_refusal.specs.declared.options.Options.{Options}
 use Rattle.lb_command.specs.Outcomes.{HasRead, IsInput, IsOutcomeOn, IsReported}
 use Rattle.lb_command.specs.Outcomes.IsRefusedOn.{judged, unread}
 use Rattle.lb_command.specs.Streams.{Input, input}
@@ -21,7 +21,7 @@ use Rattle.lb_command.specs.declared.refusal.Refusal.{Refusal}
 use Rattle.lb_command.proofs.Inputs.{is_not_read}
 use Rattle.lb_command.proofs.Outcomes.{load_unread}
 
--- bytes that a feed gave up to its end are all that it had still to give
+-- the bytes that a feed gave up to its end are all that it had still to give
 pub all_given : (before after : Option Text) (traces : Text) → Consumes before after traces
     → IsAtEnd after → IsInput before traces
 all_given None after traces consumed end = tt
@@ -29,7 +29,7 @@ all_given (Some xs) None traces consumed end = absurd consumed
 all_given (Some xs) (Some ys) traces consumed end =
     sym (consumed ∙ ap (λ (rest : List ℕ). traces ++ rest) end ∙ append-nil traces)
 
--- a report or a refusal, of two texts that the bench was given
+-- the outcome of a report, from the answer of the bench on two texts
 pub range_outcome : (Are : Text → Text → Type 0) (source traces : Text) (options : Options)
     (found : Result Report FeedFault) (told : Result (Warned Report) Refusal)
     → Are source traces → IsRangeAnswer source traces options found → IsReported found told
@@ -49,7 +49,7 @@ range_outcome Are source traces options (Err (fault.Refused e)) (Ok told) are an
 range_outcome Are source traces options (Err (fault.Refused e)) (Err refusal) are answer is =
     judged source traces are e answer is
 
--- the report or refusal that a program prints, from what the bench answers on a feed
+-- the outcome of a report, from the answer of the bench on a feed
 pub feed_outcome : (source : Text) (options : Options) (old new : Left)
     (found : Result Report FeedFault) (told : Result (Warned Report) Refusal)
     → IsFeedAnswer source options old new found → IsReported found told
@@ -65,14 +65,14 @@ feed_outcome source options old new (Err (fault.Refused e)) told answer is =
     (Err (fault.Refused e)) told
     (all_given old.coming new.coming answer.traces answer.consumed answer.end) answer.answer is
 
--- the number of want of memory is not that of an input that could not be read
+-- E0, want of memory, is not E21, an input that could not be read
 not_memory : (number : ℕ) → number ≡ 0 → number ≡ 21 → ⊥
 not_memory number zero read = omega (arith, zero, read)
 
 abbrev pub input_of : (old new : Left) → Input
 input_of old new = input old.coming old.given new.given old.failures new.failures
 
--- and what it tells of the reading
+-- `HasRead` holds of the outcome of a report on a feed
 pub feed_read : (source : Text) (options : Options) (old new : Left)
     (found : Result Report FeedFault) (told : Result (Warned Report) Refusal)
     → IsFeedAnswer source options old new found → IsReported found told
@@ -81,7 +81,10 @@ feed_read source options old new (Ok report) (Ok told) answer is = answer.failur
 feed_read source options old new (Ok report) (Err refusal) answer is = absurd is
 feed_read source options old new (Err (fault.Load e)) (Ok told) answer is = absurd is
 feed_read source options old new (Err (fault.Load load.Memory)) (Err refusal) answer is =
-    record { read = λ number. absurd (not_memory refusal.number is number); other = λ number. answer }
+    record {
+      read = λ number. absurd (not_memory refusal.number is number);
+      other = λ number. answer;
+    }
 feed_read source options old new (Err (fault.Load load.Read)) (Err refusal) answer is =
     record { read = λ number. inr answer; other = λ number. absurd (number is) }
 feed_read source options old new (Err (fault.Refused e)) (Ok told) answer is = absurd is
@@ -90,7 +93,7 @@ feed_read source options old new (Err (fault.Refused e)) (Err refusal) answer is
   other = λ number. answer.failures;
 }
 
--- nothing is said beside a report
+-- no remarks at all are remarks beside a report
 pub nothing_said : (words : List Text) (options : Options) (remarks : List ℕ) → remarks ≡ []
     → AreRemarks words options remarks
 nothing_said words options remarks none = record {

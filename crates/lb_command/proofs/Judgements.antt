@@ -1,4 +1,4 @@
--- What is told of a source, from what its text comes to.
+-- The outcome of a run that judges a source, from the judgement of its text.
 use Rattle.std.proofs.Common.{Option, Result, Ok, Err, Vec, ℕ}
 use Rattle.std.specs.Prelude.{IfErr, IfOk}
 use Rattle.std.specs.Global.{Global as Heap}

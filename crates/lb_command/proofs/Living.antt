@@ -1,9 +1,9 @@
--- What a live report comes to, from what its parts answer.
+-- The outcome of a live report, from what its parts answer.
 use Rattle.std.proofs.Common.{◌≡◌, ◌∙◌, Result, Ok, Err, inl, subst, sym}
 use Rattle.clap.specs.Words.{Text}
 use Rattle.lb_report.specs.LiveReports.{IsTurnedAway}
-use Rattle.lb_report.specs.declared.error.BenchError.{BenchError}
-use Rattle.lb_report.specs.declared.options.Options.{Options}
+use Rattle.lb_refusal.specs.declared.error.BenchError.{BenchError}
+use Rattle.lb_refusal.specs.declared.options.Options.{Options}
 use Rattle.lb_pool.specs.declared.follow_error.FollowError.{FollowError}
 use Rattle.lb_command.specs.Live.{AreRefused, GoesOn, GoesTo, IsLive, IsLiveOn, IsRefusedWith}
 use Rattle.lb_command.specs.Outcomes.{IsRefusedOn, IsToldBy, IsUnread, TellsOfInput, source_in}
@@ -16,7 +16,8 @@ use Rattle.lb_command.specs.declared.refusal.Refusal.{Refusal}
 use Rattle.lb_command.specs.declared.refusal.Texts.{Texts}
 use Rattle.lb_command.proofs.Inputs.{is_not_read, tells_more}
 
--- the live report on two texts that are such
+-- `IsLive` of two texts for which `Are` holds gives `IsLiveOn Are`, where no read of the input
+-- failed
 pub live_of : {T : Type 0} (Are : Text → Text → Type 0) (HasFile : Type 0) (source traces : Text)
     (options : Options) (i : Input) (output : Change) (r : Result T LiveFault)
     → Are source traces → NeverFailed i → IsLive source traces options output r
@@ -31,7 +32,7 @@ live_of Are HasFile source traces options i output (Err (Refused refusal)) are n
   untouched = h.untouched;
 }
 
--- two texts are refused, and no byte went out
+-- two texts that the bench refuses are refused, and no byte went out
 pub are_refused : (source traces : Text) (options : Options) (output : Change)
     (cause : BenchError) (refusal : Refusal)
     → IsTurnedAway source traces options output.before output.after output.failures_before
@@ -49,7 +50,7 @@ are_refused source traces options output cause refusal away told = record {
   untouched = record { kept = away.kept; never_failed = away.never_failed };
 }
 
--- an input could not be read
+-- a live report is refused where an input could not be read
 pub unread_with : (Are : Text → Text → Type 0) (HasFile : Type 0) (options : Options)
     (i : Input) (output : Change) (refusal : Refusal) → IsUnread refusal
     → TellsOfInput HasFile i refusal → IsUntouched output
@@ -57,7 +58,7 @@ pub unread_with : (Are : Text → Text → Type 0) (HasFile : Type 0) (options :
 unread_with Are HasFile options i output refusal unseen tells untouched =
     record { refused = unread unseen; read = tells; untouched = untouched }
 
--- a file could not be read
+-- `TellsOfInput` holds where a file is read and no read of the input failed
 pub tells_of_file : (i : Input) (refusal : Refusal) → NeverFailed i
     → TellsOfInput (Unit {0}) i refusal
 tells_of_file i refusal never = record { read = λ number. inl tt; other = λ number. never }
@@ -80,7 +81,7 @@ goes_on Are Other options i output run f h = record {
   read = h.read;
 }
 
--- of texts of which more is known
+-- `IsLiveOn Are` gives `IsLiveOn Other`, where `Other` follows from `Are`
 pub live_on : {T : Type 0} (Are Other : Text → Text → Type 0) (HasFile HasOther : Type 0)
     (options : Options) (i : Input) (output : Change) (r : Result T LiveFault)
     → ((source traces : Text) → Are source traces → Other source traces) → (HasFile → HasOther)
@@ -95,7 +96,7 @@ live_on Are Other HasFile HasOther options i output (Err (Refused refusal)) f mo
   untouched = h.untouched;
 }
 
--- a run of two texts that files hold
+-- `IsLiveOn` holds of a live report on two texts from files that went out whole
 pub live_run : {T : Type 0} (source traces : Text) (options : Options) (i : Input) (output : Change)
     (x : T) → NeverFailed i → GoesTo source traces options output (Ok tt)
     → IsLiveOn (λ source traces. Unit {0}) (Unit {0}) options i output (Ok x)
@@ -107,7 +108,7 @@ live_run source traces options i output x never goes = record {
   read = never;
 }
 
--- the live report on two texts, as they stand in the texts of a task
+-- `IsLive` of two texts gives `IsLive` of a value of `Texts` that holds them
 pub live_in : {T : Type 0} (texts : Texts) (source traces : Text) (options : Options)
     (output : Change) (r : Result T LiveFault) → source ≡ source_in texts
     → traces ≡ traces_in texts → IsLive source traces options output r

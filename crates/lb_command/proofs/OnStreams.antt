@@ -36,13 +36,13 @@ on_writer Says b a m n before after first nothing never last same says =
           (subst (λ v. Says (change b (held v a.bytes a.count) m n)) same says))));
     }
 
--- what a sink is at first: nothing went through it yet
+-- a new sink: nothing went through it yet, and it never failed
 pub record IsNew (taken : Taken) (failures : ℕ) (bytes : Option Text) : Type 0 where
   pub bytes_are : taken.bytes ≡ bytes
   pub none_taken : taken.count ≡ 0
   pub never_failed : failures ≡ 0
 
--- a run on a feed and two sinks that were new
+-- a run on a feed and two sinks that were new is a run on the streams of std under them
 pub on_streams : (words : List Text) (status : ℕ) (coming ob oa eb ea : Option Text)
     (i : Input) (output errors : Change)
     → i.coming ≡ coming → i.given_before ≡ 0 → i.failures_before ≡ 0

@@ -1,11 +1,11 @@
--- What a run comes to, from what its parts answer.
+-- The outcome of a run, from what its parts answer.
 use Rattle.std.proofs.Common.{◌≡◌, ◌≢◌, Option, Result, Ok, Err, inl, inr, subst, sym}
 use Rattle.std.specs.Prelude.{IfErr}
 use Rattle.std.specs.Result.{IsErrAnd}
 use Rattle.clap.specs.Words.{Text}
 use Rattle.lb_report.specs.declared.feed.LoadError.{LoadError}
 use Rattle.lb_report.specs.declared.feed.LoadError.TheVariants as load
-use Rattle.lb_report.specs.declared.options.Options.{Options}
+use Rattle.lb_refusal.specs.declared.options.Options.{Options}
 use Rattle.lb_pool.specs.declared.text.Report.{Report}
 use Rattle.lb_command.specs.Outcomes.{AreIn, AreTexts, HasRead, IsOutcomeOn, IsUnread, load_number}
 use Rattle.lb_command.specs.Outcomes.{TellsOfInput, source_in, traces_in}
@@ -22,7 +22,7 @@ pub load_unread : (cause : LoadError) (refusal : Refusal) → refusal.number ≡
 load_unread load.Memory refusal e = inl e
 load_unread load.Read refusal e = inr e
 
--- of texts of which more is known
+-- `IsOutcomeOn Are` gives `IsOutcomeOn Other`, where `Other` follows from `Are`
 pub outcome_on : (Are Other : Text → Text → Type 0) (options : Options)
     (result : Result (Warned Report) Refusal)
     → ((source traces : Text) → Are source traces → Other source traces)
@@ -37,7 +37,7 @@ outcome_on Are Other options (Err refusal) f (unread h) = unread h
 outcome_on Are Other options (Err refusal) f (judged source traces are e answered told) =
     judged source traces (f source traces are) e answered told
 
--- the two texts that are in the texts of a task
+-- the source and the traces in the texts of a task are its two texts
 pub are_texts : (task : Task) (known : Option Text) (t : Texts) (source traces : Text)
     → AreTexts task known (source_in t) (traces_in t) → AreIn t source traces
     → AreTexts task known source traces
@@ -45,33 +45,33 @@ are_texts task known t source traces are here =
     subst (λ (s : Text). AreTexts task known s traces) (sym here.first)
     (subst (λ (s : Text). AreTexts task known (source_in t) s) (sym here.second) are)
 
--- what is said of texts that were read tells of no read that failed
+-- `HasRead` holds where no read of the input failed and no refusal is E21
 pub all_read : {T : Type 0} (HasFile : Type 0) (i : Input) (r : Result T Refusal) → NeverFailed i
     → IfErr r (λ refusal. refusal.number ≢ 21) → HasRead HasFile i r
 all_read HasFile i (Ok x) never not_read = never
 all_read HasFile i (Err refusal) never not_read =
     record { read = λ number. absurd (not_read number); other = λ number. never }
 
--- of a file
+-- `HasRead` holds where a file is read and no read of the input failed
 pub file_read : {T : Type 0} (HasFile : Type 0) (i : Input) (r : Result T Refusal) → HasFile
     → NeverFailed i → HasRead HasFile i r
 file_read HasFile i (Ok x) file never = never
 file_read HasFile i (Err refusal) file never =
     record { read = λ number. inl file; other = λ number. never }
 
--- what is said of an input, where more may have been read
+-- `HasRead HasFile` gives `HasRead Other`, where `Other` follows from `HasFile`
 pub read_more : {T : Type 0} (HasFile Other : Type 0) (i : Input) (r : Result T Refusal)
     → (HasFile → Other) → HasRead HasFile i r → HasRead Other i r
 read_more HasFile Other i (Ok x) f has = has
 read_more HasFile Other i (Err refusal) f has = tells_more HasFile Other i refusal f has
 
--- a refusal that a `?` passes on
+-- `P first` gives `IfErr r P`, where `r` is `Err first`, as behind a `?`
 pub passed_on : {T : Type 0} (r : Result T Refusal) (first : Refusal) (P : Refusal → Type 0)
     → IsErrAnd r (λ refusal. refusal ≡ first) → P first → IfErr r P
 passed_on (Ok x) first P same p = tt
 passed_on (Err e) first P same p = subst P (sym same) p
 
--- a refusal that a `?` passes on, with what it tells of the input
+-- `TellsOfInput` of `first` gives `HasRead` of `r`, where `r` is `Err first`, as behind a `?`
 pub passed_read : {T : Type 0} (HasFile : Type 0) (i : Input) (r : Result T Refusal)
     (first : Refusal) → IsErrAnd r (λ refusal. refusal ≡ first) → TellsOfInput HasFile i first
     → HasRead HasFile i r

@@ -13,7 +13,7 @@ pub part_some : (text : Option (List ℕ)) (t : List ℕ) (part : Part) → text
 part_some text t part is names =
     subst (λ (o : Option (List ℕ)). IsPartIn o (Some part)) (sym is) names
 
--- a text that names no part
+-- `IsPartIn` of a text that names no part holds of no part
 pub part_wrong : (text : Option (List ℕ)) (t : List ℕ) → text ≡ Some t
     → ((part : Part) → Names t part → ⊥) → (part : Option Part) → IsPartIn text part → ⊥
 part_wrong text t is none None in_text =
@@ -28,7 +28,7 @@ part_given None None is some = some
 part_given None (Some part) is some = absurd is
 part_given (Some t) part is some = refl
 
--- a path, and what it holds
+-- no path has no text, and a path has a text
 pub path_none : (path : Option (Bor (List ℕ))) (text : Option (List ℕ))
     → option_map (λ s. s.now) path ≡ text → path ≡ None → text ≡ None
 path_none path text is none =

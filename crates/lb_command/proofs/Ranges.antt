@@ -1,4 +1,4 @@
--- A value that is there.
+-- An option that holds a value is `Some` of it.
 use Rattle.std.proofs.Common.{◌≡◌, Option, Some, None, ap}
 use Rattle.std.specs.Option.{IsSomeAnd}
 

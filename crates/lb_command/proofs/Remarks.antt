@@ -1,12 +1,12 @@
--- What is said beside a report.
+-- The remarks beside a report.
 use Rattle.std.proofs.Common.{◌≡◌, ◌∙◌, ℕ, List, [], ◌++◌, Bool, true, false, append-nil, refl, sym}
 use Rattle.std.specs.Prelude.{if◌then◌else◌}
 use Rattle.clap.specs.Words.{Text}
-use Rattle.lb_report.specs.declared.options.Options.{Options}
+use Rattle.lb_refusal.specs.declared.options.Options.{Options}
 use Rattle.lb_command.specs.Warnings.{AreRemarks, AreWarnings}
 use Rattle.lb_command.specs.Words.{asks_to_explain}
 
--- reasons are put behind warnings, or not where memory ran out
+-- warnings are remarks, with the reasons behind them or, where memory ran out, without
 pub remarks_are :
     (words : List Text) (options : Options) (warnings reasons remarks : List ℕ) (put : Bool) →
     AreWarnings words options warnings → (asks_to_explain words ≡ false → reasons ≡ []) →

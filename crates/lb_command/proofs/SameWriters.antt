@@ -1,4 +1,4 @@
--- The sinks of a run lend their bytes to the same writers after it as before it.
+-- The sinks of a run lend their bytes to the same writers after the run as before it.
 use Rattle.std.proofs.Common.{ℕ, List, [], ◌∷◌, Result, Ok, Err, inl, inr}
 use Rattle.clap.specs.Words.{Text}
 use Rattle.lb_pool.specs.Follows.{IsFollowed}
@@ -45,7 +45,7 @@ same_by_values text c (Err e) sent = sent.begun.gone.same
 
 -- ## Both sinks
 
--- the sinks of a run
+-- both sinks of a run lend their bytes to the same writers as before
 pub record HaveSameWriters (output errors : Change) : Type 0 where
   pub of_output : HasSameWriter output
   pub of_errors : HasSameWriter errors

@@ -1,5 +1,6 @@
--- What a run that writes values comes to, from what its parts answer.
-use Rattle.std.proofs.Common.{◌≡◌, ◌≢◌, ◌∙◌, ℕ, Option, Result, Ok, Err, arith, inl, inr, subst, sym}
+-- The outcome of a run that writes values, from what its parts answer.
+use Rattle.std.proofs.Common.{◌≡◌, ◌≢◌, ◌∙◌, ℕ, Option, Result, Ok, Err, arith, inl, inr, subst}
+use Rattle.std.proofs.Common.{sym}
 use Rattle.clap.specs.Words.{Text}
 use Rattle.lb_report.specs.Bench.{OnlyProgram}
 use Rattle.lb_show.specs.declared.options.ShowOptions.{ShowOptions}
@@ -24,7 +25,7 @@ twenty n same is = omega (arith, same, is)
 zero_is : (n : ℕ) → n ≡ 0 → n ≢ 21
 zero_is n same is = omega (arith, same, is)
 
--- nothing was written
+-- where memory ran out before anything was written, the values are not shown
 pub out_of_memory :
     (T : Type 0) (source traces : Text) (task : Task) (output : Change) (refusal : Refusal) →
     refusal.number ≡ 0 → IsUntouched output →
@@ -80,7 +81,7 @@ module _ (source traces : Text) (task : Task) (asked : ShowOptions) (output : Ch
   unshown_of T values.UnknownTrace (Stopped cause) are told answer = absurd told
   unshown_of T (values.UnknownVariable place) (Stopped cause) are told answer = absurd told
 
--- what a run says of the values of two texts that a task has, it says of the task
+-- `IsShowing` of the two texts of a task gives `IsShowingOn` of the task
 pub showing_on :
     {T : Type 0} (task : Task) (i : Input) (output : Change) (source traces : Text)
     (r : Result T ShowingFault) → AreTexts task i.coming source traces → NeverFailed i →
@@ -92,8 +93,7 @@ showing_on task i output source traces (Err (Stopped e)) texts never shown =
 showing_on task i output source traces (Err (Refused refusal)) texts never shown =
     inr (record { source = source; traces = traces; texts = texts; shown = shown; read = never })
 
--- two texts are those that a value of `Texts` holds: what a run says of the values of the first, it
--- says of the values of the second
+-- `IsShowing` of two texts gives `IsShowing` of a value of `Texts` that holds them
 pub showing_in :
     {T : Type 0} (t : Texts) (source traces : Text) (task : Task) (output : Change)
     (r : Result T ShowingFault) → source ≡ source_in t → traces ≡ traces_in t →

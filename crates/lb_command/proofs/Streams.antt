@@ -15,7 +15,7 @@ pub on_any_ok : {T E : Type 0} (r : Result T E) (P : Type 0) → P → OnOk r P
 on_any_ok (Ok x) P p = p
 on_any_ok (Err e) P p = tt
 
--- both ways in which a text is written
+-- a text was written whole where the result is `Ok`, and else the sink failed
 pub took_or_failed : {T E : Type 0} (r : Result T E) (c : Change) (text : List ℕ)
     → OnOk r (Takes c.before c.after text) → OnOk r (c.failures_after ≡ c.failures_before)
     → OnErr r (c.failures_before < c.failures_after) → HasSameWriter c → TookOrFailed c text
@@ -29,13 +29,13 @@ pub failed_once : {T E : Type 0} (r : Result T E) (before after : ℕ) → OnErr
 failed_once (Ok x) before after once = tt
 failed_once (Err e) before after once = omega (arith, once)
 
--- a call that fails at most once
+-- a call adds at most one failure
 pub few_failures : {T E : Type 0} (r : Result T E) (before after : ℕ) → OnOk r (after ≡ before)
     → OnErr r (after ≡ before + 1) → after ≤ before + 1
 few_failures (Ok x) before after ok once = omega (arith, ok)
 few_failures (Err e) before after ok once = omega (arith, once)
 
--- warnings that were written
+-- `IsWarned` holds of warnings that were written, or on which the sink failed
 pub warned : (r : Result (Unit {0}) Sent) (c : Change) (text : List ℕ)
     → OnOk r (Takes c.before c.after text) → OnOk r (c.failures_after ≡ c.failures_before)
     → IfErr r (λ sent. sent.count < length text)

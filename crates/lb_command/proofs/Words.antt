@@ -1,4 +1,4 @@
--- What the parser of words answers at the command line that the program knows.
+-- The answers of the parser of words at the command line that the program knows.
 use Rattle.std.proofs.Common.{◌≡◌, ◌≢◌, ◌∙◌, ◌⊎◌, List, Result, Ok, Err, true, false}
 use Rattle.std.proofs.Common.{ap, subst, refl, sym}
 use Rattle.std.proofs.Common.{inl, inr}
@@ -26,7 +26,7 @@ is_free_line : is_simple_and_free command_line ≡ true
 unfolding command_line
 is_free_line = refl
 
--- the values that were found
+-- the values that the parser found are `values_of` the words
 pub values_are : (app : App) (words : List Text) (m : ArgMatches) → app ≡ command_line
     → HasMatchesOf app words m → rows_of (found_of m) ≡ values_of words
 unfolding values_of
@@ -44,7 +44,7 @@ lawful app words (Ok m) same fails =
     ∙ fails (ap is_simple_and_free same ∙ is_free_line)
 lawful app words (Err e) same fails = tt
 
--- the kinds of an error
+-- the kind of an error is among `faults_of` the words, unless memory ran out
 pub faults_are : {T : Type 0} (app : App) (words : List Text) (r : Result T Error)
     → app ≡ command_line
     → (is_simple_and_free app ≡ true → FailsBy (fault_of app words) r)
@@ -73,7 +73,7 @@ is_unlawful : (words : List Text) (e : Error)
 is_unlawful words e among not_help not_memory =
     fault (kind_of e) (among not_memory) not_help
 
--- the refusal of words that are no request for help
+-- an error that is no request for help is a refusal of the words
 pub refused_by : (words : List Text) (e : Error) (refusal : Refusal)
     → (kind_of e ≢ OutOfMemory → IsAmong (kind_of e) (faults_of words))
     → (refusal.number ≡ 0)
@@ -83,7 +83,7 @@ refused_by words e refusal among (inl memory) = inl memory
 refused_by words e refusal among (inr (usage, not_help, not_memory)) =
     inr (usage, is_unlawful words e among not_help not_memory)
 
--- what lawful words ask for, by their values
+-- the request that the values of lawful words make is that of the words
 pub asked_by : (words : List Text) (rows : List Row) (request : Request) → rows ≡ values_of words
     → faults_of words ≡ [] → IsRequestOf rows request → IsRequest words request
 asked_by words rows (Help text) same lawful is = absurd is
@@ -97,7 +97,7 @@ asked_by words rows (Run task) same lawful is = record {
   given = subst (λ (r : List Row). IsTask r task) same is.1;
 }
 
--- the refusal of words that are lawful but for a number
+-- words with a wrong value are refused
 pub misnumbered : (words : List Text) (rows : List Row) (refusal : Refusal)
     → rows ≡ values_of words → (refusal.number ≡ 0) ⊎ (IsUsage refusal × IsWrongValue rows)
     → IsRefusal words refusal

@@ -11,11 +11,11 @@ use Rattle.lb_command.specs.declared.request.Request.{Request}
 use Rattle.lb_command.specs.declared.request.Request.TheVariants.{Help, Version, Run}
 use Rattle.lb_command.specs.declared.request.Task.{Task}
 
--- the note
+-- the text of the note
 abbrev pub note : Text
 note = codes "lbench: the traces are read from standard input\n"
 
--- a run reads traces where it is to give a report, or the values of a trace
+-- whether a run with this aim reads traces: for a report, or for the values of one trace
 abbrev pub reads_traces : Aim → Bool
 reads_traces Report = true
 reads_traces LiveReport = true
@@ -24,7 +24,7 @@ reads_traces Check = false
 reads_traces Header = false
 reads_traces Merge = false
 
--- a task reads a source at a path and then the traces from standard input
+-- whether a task reads a source at a path and then the traces from standard input
 abbrev pub awaits_traces : Task → Bool
 awaits_traces task = reads_traces task.aim && (is_some task.source && not (is_some task.traces))
 
@@ -34,13 +34,14 @@ abbrev pub IsNotedBy : Bool → (errors : Change) → Type 0
 IsNotedBy true errors = TookOrFailed errors note
 IsNotedBy false errors = IsUntouched errors
 
--- the note went to the errors where a request awaits traces, and else nothing
+-- where a request awaits traces the note went to the errors, unless these failed; else the errors
+-- are as they were
 abbrev pub IsNoted : Request → (errors : Change) → Type 0
 IsNoted (Run task) errors = IsNotedBy (awaits_traces task) errors
 IsNoted (Help text) errors = IsNotedBy false errors
 IsNoted Version errors = IsNotedBy false errors
 
--- the same for the request of the words
+-- the words make a request, and `IsNoted` holds of it
 pub record IsAnnounced (words : List Text) (errors : Change) : Type 0 where
   pub request : Request
   pub asked : IsRequest words request

@@ -1,4 +1,4 @@
--- What goes out of a report, by the terms of its run.
+-- The output of a run for its report, by the terms of the run.
 -- Source: this project's rule.
 use Rattle.std.specs.Prelude.{◌≡◌, ◌⊎◌, ℕ, List, [], Option, Some, None, IsSome, true}
 use Rattle.std.specs.Borrow.{Bor}
@@ -19,25 +19,26 @@ use Rattle.lb_command.specs.declared.terms.Format.{Format}
 use Rattle.lb_command.specs.declared.terms.Format.TheVariants.{Lines, Junit}
 use Rattle.lb_command.specs.declared.terms.Terms.{Terms}
 
--- the traces of a report in a format; a suite has the name of the node under test, and what is
--- said beside the report
+-- the text of a report in a format, by its traces; a JUnit suite has the name `node` of the node
+-- under test, and the remarks
 abbrev pub written : Format → (node remarks : Text) → List listing.Line → Text
 written Lines node remarks traces = listing.report traces
 written Junit node remarks traces = junit_of node traces remarks
 
--- the status of a run, and what is said beside its report: by its verdicts alone
+-- the status of a run without an earlier report, by its verdicts alone; it has no notes
 pub record IsMeasured (measure : Measure) (traces : List listing.Line) (status : ℕ)
     (notes : Text) : Type 0 where
   pub status_is : status ≡ verdicts.status_of measure traces
   pub nothing_said : notes ≡ []
 
--- the same, by how its verdicts differ from those of an earlier report
+-- the status and the notes of a run with an earlier report, by how its traces differ from `before`
 pub record IsCompared (measure : Measure) (before traces : List listing.Line) (status : ℕ)
     (notes : Text) : Type 0 where
   pub status_is : status ≡ compared.status_of measure before traces
   pub differences : notes ≡ compared.text_of before traces
 
--- the same, where no contract says what the file of the earlier report holds: it is a report
+-- `IsCompared` with the traces that some report lists: no contract says what the file of the
+-- earlier report holds, but it is a report
 pub record IsComparedToFile (measure : Measure) (traces : List listing.Line) (status : ℕ)
     (notes : Text) : Type 0 where
   pub text : Text
@@ -51,14 +52,14 @@ HasStatus terms traces status notes =
     MatchOption terms.baseline (IsMeasured terms.measure traces status notes)
     (λ path. IsComparedToFile terms.measure traces status notes)
 
--- what goes out of a report that lists these traces, and what is said beside it
+-- the output `shown` and the notes for a report that lists `traces`
 pub record IsTold (terms : Terms) (node remarks : Text) (traces : List listing.Line)
     (shown : Report) (notes : Text) : Type 0 where
   pub text : shown.text.items ≡ written terms.format node remarks traces
   pub measured : HasStatus terms traces shown.status notes
 
--- what goes out of a report: the report itself, where the terms ask for nothing else; or what they
--- ask for, of the traces that it lists
+-- the output `shown` and the notes for a report: the report itself and no notes, where the terms
+-- are the usual ones; or what the terms ask for, of the traces that the report lists
 pub data IsConcluded (terms : Terms) (node : Text) (report : Report) (remarks : Text)
     (shown : Report) (notes : Text) : Type 0 where
   as_it_is : are_usual terms ≡ true → shown ≡ report → notes ≡ []
@@ -74,7 +75,7 @@ IsBaseline terms (Some before) =
     IsSome terms.baseline × IsIndexed before.now
     × ((text : Text) × listing.Lists text (listed before.now))
 
--- what the terms name is no report, and the first line that shows it is told
+-- the earlier report that the terms name is none: E20, at the first line that shows it
 pub record IsNoBaseline (terms : Terms) (refusal : Refusal) : Type 0 where
   pub usage : refusal.number ≡ 20
   pub named : IsSome terms.baseline

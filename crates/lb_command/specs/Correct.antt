@@ -1,4 +1,4 @@
--- How a run of the program ends.
+-- Runs of the program: their outputs and their exit statuses.
 -- Source: this project's rule.
 use Rattle.std.specs.Prelude.{◌≡◌, ◌⊎◌, ◌++◌, ℕ, List, [], Option, Result, Ok, Err, string_bytes}
 use Rattle.lb_pool.specs.declared.text.Report.{Report}
@@ -22,8 +22,8 @@ use Rattle.lb_command.specs.declared.request.Aim.{Aim}
 use Rattle.lb_command.specs.declared.request.Aim.TheVariants as aim
 use Rattle.lb_command.specs.declared.request.Task.{Task}
 
--- what goes out of the report on the texts of a task, and what is said beside it: first what its
--- terms ask for, then the remarks
+-- the output for the report on the texts of a task, and what is said beside it: first the notes
+-- that the terms ask for, then the remarks
 pub record IsToldOn (words : List Text) (task : Task) (known : Option Text) (told : Warned Report)
     : Type 0 where
   pub report : Report
@@ -35,17 +35,17 @@ pub record IsToldOn (words : List Text) (task : Task) (known : Option Text) (tol
       notes
   pub said : told.warnings.items ≡ notes ++ remarks
 
--- the same, or a refusal
+-- the output for the report of a task (`IsToldOn`), or a refusal
 abbrev pub IsToldOutcome : (words : List Text) → Task → (known : Option Text)
     → Result (Warned Report) Refusal → Type 0
 IsToldOutcome words task known (Ok told) = IsToldOn words task known told
 IsToldOutcome words task known (Err refusal) =
     IsRefusedOn (AreTexts task known) task.options refusal
 
--- a run of a task whose report is written at once: no read of the input failed, and what its terms
--- ask for of the report is delivered; or the input or the texts are refused, or what the terms name
--- is no report, and nothing of the input was read; then the output is as it was, and the refusal is
--- told
+-- a run of a task whose report is written at once. Answered: no read of the input failed, and the
+-- output for the report is delivered. Refused: the input or the texts are refused. No baseline: the
+-- earlier report is refused, before anything of the input is read. After a refusal the output is as
+-- it was, and the refusal is reported
 pub data IsWholeRun
     (words : List Text) (task : Task) (i : Input) (status : ℕ) (output errors : Change)
     : Type 0 where
@@ -62,7 +62,7 @@ pub data IsWholeRun
       → IsTold words errors (line refusal.number refusal.position)
       → IsWholeRun words task i status output errors
 
--- a run of a task, by what it is to give
+-- a run of a task, by its aim
 abbrev pub IsRunFor : Aim → (words : List Text) → Task → Input → (status : ℕ)
     → (output errors : Change) → Type 0
 IsRunFor aim.Report words task i status output errors =
@@ -80,7 +80,7 @@ abbrev pub IsTaskRun : (words : List Text) → Task → Input → (status : ℕ)
 IsTaskRun words task i status output errors =
     IsRunFor task.aim words task i status output errors
 
--- an answer that tells of the program itself, as the words ask: the help text, or the version
+-- an answer about the program itself, as the words ask: the help text, or the version
 abbrev pub TellsOfProgram : List Text → Answer → Type 0
 TellsOfProgram words (OfTraces report) = ⊥
 TellsOfProgram words (OfSource text) = ⊥
@@ -92,9 +92,9 @@ abbrev pub IsRefusal : List Text → Refusal → Type 0
 IsRefusal words refusal =
     (refusal.number ≡ 0) ⊎ (IsUsage refusal × IsUnlawful words)
 
--- a run with these words, this input and this exit status: a run of the task that they ask for; or
--- the help text or the version is delivered; or the words are refused, the output is as it was, and
--- the refusal is told. Of both of these nothing of the input was read
+-- a run with these words, this input and this exit status. Asked: a run of the task that the words
+-- ask for. Told: the help text or the version is delivered. Refused: the words are refused, the
+-- output is as it was, and the refusal is reported. The last two read nothing of the input
 pub data IsRun
     (words : List Text) (i : Input) (status : ℕ) (output errors : Change)
     : Type 0 where

@@ -6,7 +6,7 @@ use Rattle.std.specs.Prelude.{Vec}
 use Rattle.std.specs.Global.{Global as Heap}
 use Rattle.lb_static.specs.Signature.{Elements, names_of}
 use Rattle.lb_report.specs.Judging.{IsAcceptedSource, IsRefusedSource}
-use Rattle.lb_report.specs.declared.error.BenchError.{BenchError}
+use Rattle.lb_refusal.specs.declared.error.BenchError.{BenchError}
 use Rattle.clap.specs.Words.{Text}
 use Rattle.lb_command.specs.Lines.{line}
 use Rattle.lb_command.specs.Outcomes.{HasPath, IsDelivered, IsSource, IsTold, IsToldBy, IsUnread}
@@ -21,11 +21,12 @@ use Rattle.lb_command.specs.declared.request.Aim.{Aim}
 use Rattle.lb_command.specs.declared.request.Aim.TheVariants.{Header}
 use Rattle.lb_command.specs.declared.request.Task.{Task}
 
--- the header of traces with these columns: `trace`, and behind each comma a name
+-- the header of traces with these columns, as `trace,open,level`, and a newline
 abbrev pub header : (names : List Text) → Text
 header names = codes "trace" ++ flat_map (λ name. 44 ∷ name) names ++ codes "\n"
 
--- the output for an accepted source whose scalar inputs have these names: its header, or nothing
+-- the output for an accepted source whose scalar inputs have these names: with the aim `Header` its
+-- header, else nothing
 abbrev pub answer_of : Aim → (names : List Text) → Text
 answer_of Header names = header names
 answer_of _ names = []
@@ -62,9 +63,9 @@ abbrev pub IsOutcome : Task → (known : Option Text) → Result (Warned (Vec �
 IsOutcome task known (Ok found) = IsAnswered task known found.value.items
 IsOutcome task known (Err refusal) = IsTurnedAway task known refusal
 
--- a run of a task that asks about its source alone: no read of the input failed, the source is
--- accepted, and the output for it is delivered; or the source could not be read or is refused, the
--- output is as it was, and the refusal is told
+-- a run of a task that asks about its source alone. Answered: no read of the input failed, the
+-- source is accepted, and the output for it is delivered. Refused: the source could not be read or
+-- is refused, the output is as it was, and the refusal is reported
 pub data IsJudgingRun
     (words : List Text) (task : Task) (i : Input) (status : ℕ) (output errors : Change)
     : Type 0 where

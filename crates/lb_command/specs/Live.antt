@@ -3,8 +3,8 @@
 use Rattle.std.specs.Prelude.{◌≡◌, ◌≢◌, ℕ, List, None, Result, Ok, Err}
 use Rattle.lb_report.specs.Correct.{IsBenchAnswer}
 use Rattle.lb_report.specs.LiveReports.{IsUnderWay}
-use Rattle.lb_report.specs.declared.error.BenchError.{BenchError}
-use Rattle.lb_report.specs.declared.options.Options.{Options}
+use Rattle.lb_refusal.specs.declared.error.BenchError.{BenchError}
+use Rattle.lb_refusal.specs.declared.options.Options.{Options}
 use Rattle.lb_pool.specs.declared.follow_error.FollowError.{FollowError}
 use Rattle.lb_pool.specs.declared.follow_error.FollowError.TheVariants.{Memory, Write}
 use Rattle.clap.specs.Words.{Text}
@@ -18,12 +18,12 @@ use Rattle.lb_command.specs.declared.live.LiveFault.TheVariants.{Refused, Stoppe
 use Rattle.lb_command.specs.declared.refusal.Refusal.{Refusal}
 use Rattle.lb_command.specs.declared.request.Task.{Task}
 
--- what stopped a live report, as the number of a refusal
+-- the number of the refusal for what stopped a live report
 abbrev pub stop_number : FollowError → ℕ
 stop_number (Memory count) = 0
 stop_number (Write count) = 19
 
--- the report on two texts goes to an output
+-- the report on two texts goes to an output: all of it, or its first bytes, as `run` says
 abbrev pub GoesTo : (source traces : Text) → Options → Change → Result (Unit {0}) FollowError
     → Type 0
 GoesTo source traces options output run =
@@ -48,7 +48,7 @@ IsLive source traces options output (Err (Stopped e)) =
 IsLive source traces options output (Err (Refused refusal)) =
     AreRefused source traces options output refusal
 
--- the report on two texts, of which `Are` holds, goes to an output, and no read of the input failed
+-- the report on two texts for which `Are` holds goes to an output, and no read of the input failed
 pub record GoesOn (Are : Text → Text → Type 0) (options : Options) (i : Input) (output : Change)
     (run : Result (Unit {0}) FollowError) : Type 0 where
   pub source : Text
@@ -57,15 +57,15 @@ pub record GoesOn (Are : Text → Text → Type 0) (options : Options) (i : Inpu
   pub goes : GoesTo source traces options output run
   pub read : NeverFailed i
 
--- the input could not be read, or two texts, of which `Are` holds, are refused; and the output is
--- as it was
+-- the input could not be read, or two texts for which `Are` holds are refused; and the output is as
+-- it was
 pub record IsRefusedWith (Are : Text → Text → Type 0) (HasFile : Type 0) (options : Options)
     (i : Input) (output : Change) (refusal : Refusal) : Type 0 where
   pub refused : IsRefusedOn Are options refusal
   pub read : TellsOfInput HasFile i refusal
   pub untouched : IsUntouched output
 
--- a live report on two texts, of which `Are` holds
+-- a live report on two texts for which `Are` holds
 abbrev pub IsLiveOn : {T : Type 0} → (Are : Text → Text → Type 0) → (HasFile : Type 0) → Options
     → Input → Change → Result T LiveFault → Type 0
 IsLiveOn Are HasFile options i output (Ok x) = GoesOn Are options i output (Ok tt)
@@ -73,9 +73,9 @@ IsLiveOn Are HasFile options i output (Err (Stopped e)) = GoesOn Are options i o
 IsLiveOn Are HasFile options i output (Err (Refused refusal)) =
     IsRefusedWith Are HasFile options i output refusal
 
--- a live run of a task: the whole report went out, the status is 0, and the warnings went to the
--- errors; or it stopped, its first bytes went out, and the cause is told, E0 or E19; or the input
--- or the texts are refused, nothing went out, and the refusal is told
+-- a live run of a task. Whole: the whole report went out, the status is 0, and the warnings went to
+-- the errors. Stopped: the first bytes of the report went out, and the cause is reported, E0 or
+-- E19. Refused: the input or the texts are refused, nothing went out, and the refusal is reported
 pub data IsLiveRun
     (words : List Text) (task : Task) (i : Input) (status : ℕ) (output errors : Change)
     : Type 0 where

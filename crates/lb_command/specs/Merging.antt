@@ -1,4 +1,4 @@
--- A run that makes one report of several.
+-- A run that merges several reports into one.
 -- Source: this project's rule.
 use Rattle.std.specs.Prelude.{◌≡◌, ◌⊎◌, ◌<◌, ℕ, List, [], string_bytes, get_or, length}
 use Rattle.clap.specs.Words.{Text}
@@ -14,7 +14,7 @@ use Rattle.lb_command.specs.declared.answer.Answer.TheVariants.{OfTraces}
 use Rattle.lb_command.specs.declared.refusal.Refusal.{Refusal}
 use Rattle.lb_command.specs.declared.request.Task.{Task}
 
--- one of the texts is no report, and the first line that shows it is told
+-- one of the texts is no report: E20, at the first line that shows it
 pub record IsNoReport (texts : List Text) (refusal : Refusal) : Type 0 where
   pub usage : refusal.number ≡ 20
   pub file : ℕ
@@ -23,25 +23,25 @@ pub record IsNoReport (texts : List Text) (refusal : Refusal) : Type 0 where
   pub fault : IsFault (get_or texts file []) number
   pub place : refusal.position ≡ start_of number
 
--- two traces of the reports have one name, and a line is told
+-- two traces of the reports have one name: E17, at a line
 pub record HaveOneName (texts : List Text) (refusal : Refusal) : Type 0 where
   pub trace : refusal.number ≡ 17
   pub twice : HaveTwice texts
   pub number : ℕ
   pub place : refusal.position ≡ start_of number
 
--- why texts are not merged: memory ran out, one is no report, or two traces have one name
+-- texts are not merged: memory ran out, one is no report, or two traces have one name
 abbrev pub AreNotMerged : (texts : List Text) → Refusal → Type 0
 AreNotMerged texts refusal = (refusal.number ≡ 0)
     ⊎ (IsNoReport texts refusal ⊎ HaveOneName texts refusal)
 
--- the same, where no contract says what the files hold; or a file could not be read
+-- a file could not be read, or `AreNotMerged` of some texts: no contract says what the files hold
 pub data IsMergeRefused (refusal : Refusal) : Type 0 where
   unread : IsUnread refusal → IsMergeRefused refusal
   unmerged : (texts : List Text) → AreNotMerged texts refusal → IsMergeRefused refusal
 
--- what goes out of the reports in some files, and what is said beside it: what the terms ask for,
--- of the one report that they make
+-- the output `shown` and the notes for the reports in some files: what the terms ask for, of the
+-- one report that the files make
 pub record IsMergeTold (task : Task) (shown : Report) (notes : Text) : Type 0 where
   pub texts : List Text
   pub report : Text
@@ -50,8 +50,9 @@ pub record IsMergeTold (task : Task) (shown : Report) (notes : Text) : Type 0 wh
   pub lists : Lists report traces
   pub told : IsTold task.terms (string_bytes task.options.node) [] traces shown notes
 
--- a run of a task that merges reports: what its terms ask for of the one report is delivered; or a
--- file could not be read, or the files do not make one report, and the refusal is told
+-- a run of a task that merges reports. Answered: what its terms ask for of the one report is
+-- delivered. Refused: the files or the earlier report are refused, the output is as it was, and the
+-- refusal is reported
 pub data IsMergeRun (words : List Text) (task : Task) (status : ℕ) (output errors : Change)
     : Type 0 where
   answered : (shown : Report) → (notes : Text) → IsMergeTold task shown notes

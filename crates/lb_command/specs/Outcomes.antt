@@ -7,13 +7,13 @@ use Rattle.std.specs.Borrow.{Bor}
 use Rattle.lb_report.specs.Bench.{IsBenchReport}
 use Rattle.lb_report.specs.Cases.{parts_of}
 use Rattle.lb_report.specs.Correct.{IsBenchAnswer}
-use Rattle.lb_report.specs.Refusals.{number_of, position_of}
-use Rattle.lb_report.specs.declared.error.BenchError.{BenchError}
+use Rattle.lb_refusal.specs.Refusals.{number_of, position_of}
+use Rattle.lb_refusal.specs.declared.error.BenchError.{BenchError}
 use Rattle.lb_report.specs.declared.feed.LoadError.{LoadError}
 use Rattle.lb_report.specs.declared.feed.LoadError.TheVariants as load
 use Rattle.lb_report.specs.declared.feeding.FeedFault.{FeedFault}
 use Rattle.lb_report.specs.declared.feeding.FeedFault.TheVariants as fault
-use Rattle.lb_report.specs.declared.options.Options.{Options}
+use Rattle.lb_refusal.specs.declared.options.Options.{Options}
 use Rattle.lb_pool.specs.Taken.{Takes}
 use Rattle.lb_pool.specs.declared.text.Report.{Report}
 use Rattle.clap.specs.Words.{Text}
@@ -72,8 +72,8 @@ pub record AreIn (texts : Texts) (source traces : Text) : Type 0 where
 abbrev pub HasPath : Task → Type 0
 HasPath task = (path : Bor Text) × (task.source ≡ Some path)
 
--- what was loaded for a task: its two texts; or a source and an open file of traces. No contract
--- says what a file holds
+-- the texts of a task, as they are loaded: both; or the source, and an open file of traces. No
+-- contract says what a file holds
 abbrev pub IsLoaded : {F : Type 0} → Task → (known : Option Text) → Loaded F → Type 0
 IsLoaded task known (loaded.Texts texts) = AreTexts task known (source_in texts) (traces_in texts)
 IsLoaded task known (loaded.Open source path file) =
@@ -88,7 +88,7 @@ pub data IsSource (task : Task) (known : Option Text) (source : Text) : Type 0 w
 
 -- ## Reports and refusals
 
--- the number of the refusal of an input
+-- the number of the refusal of an input that could not be loaded
 abbrev pub load_number : LoadError → ℕ
 load_number load.Memory = 0
 load_number load.Read = 21
@@ -106,7 +106,7 @@ pub record IsToldBy (e : BenchError) (refusal : Refusal) : Type 0 where
   pub number : refusal.number ≡ number_of e
   pub position : refusal.position ≡ position_of e
 
--- a report: the bench promises it of two texts, of which `Are` holds
+-- a report that the bench promises for two texts for which `Are` holds
 pub record IsReportOn (Are : Text → Text → Type 0) (options : Options) (report : Report)
     : Type 0 where
   pub source : Text
@@ -114,7 +114,7 @@ pub record IsReportOn (Are : Text → Text → Type 0) (options : Options) (repo
   pub texts : Are source traces
   pub reported : IsBenchReport source traces options report
 
--- a refusal: an input could not be read; or the bench refuses two texts, of which `Are` holds
+-- a refusal: an input could not be read; or the bench refuses two texts for which `Are` holds
 pub data IsRefusedOn (Are : Text → Text → Type 0) (options : Options) (refusal : Refusal)
     : Type 0 where
   unread : IsUnread refusal → IsRefusedOn Are options refusal
@@ -127,8 +127,8 @@ abbrev pub IsOutcomeOn : (Text → Text → Type 0) → Options → Result (Warn
 IsOutcomeOn Are options (Ok found) = IsReportOn Are options found.value
 IsOutcomeOn Are options (Err refusal) = IsRefusedOn Are options refusal
 
--- a report of the bench on a feed is printed as it is; an error of it becomes a refusal with the
--- number of the error (E21: the feed failed) and its place in the texts
+-- a report of the bench on a feed is printed as it is; an error of the bench becomes a refusal with
+-- the number of the error (E21: the feed failed) and its place in the texts
 abbrev pub IsReported : (found : Result Report FeedFault) → Result (Warned Report) Refusal → Type 0
 IsReported (Ok report) (Ok told) = told.value ≡ report
 IsReported (Ok report) (Err refusal) = ⊥
@@ -137,7 +137,7 @@ IsReported (Err (fault.Load e)) (Err refusal) = refusal.number ≡ load_number e
 IsReported (Err (fault.Refused e)) (Ok told) = ⊥
 IsReported (Err (fault.Refused e)) (Err refusal) = IsToldBy e refusal
 
--- ## What a refusal tells of the input
+-- ## What a refusal says of the input
 
 -- E21 comes only where the input could not be read, or where some file is read too; and with any
 -- other number no read of the input has failed
@@ -152,7 +152,7 @@ HasRead HasFile i (Err refusal) = TellsOfInput HasFile i refusal
 
 -- ## Answers
 
--- what `--version` prints
+-- the output of `--version`
 abbrev pub version : Text
 version = codes "lbench 0.1.0\nrattle-kit-13f logic dac8208d650f15bf\n"
 
@@ -175,14 +175,14 @@ status_of Version = 0
 abbrev pub refusal_status : ℕ → ℕ
 refusal_status number = if number == 0 || number == 19 || number == 21 then 3 else 2
 
--- the line of a refusal went to the errors, unless these failed, and behind it further lines where
--- the words ask for them, and else nothing
+-- the line of a refusal went to the errors, unless these failed; further lines went behind it only
+-- where the words ask for explanations
 pub record IsTold (words : List Text) (errors : Change) (text : List ℕ) : Type 0 where
   pub further : List ℕ
   pub unasked : asks_to_explain words ≡ false → further ≡ []
   pub told : TookOrFailed errors (text ++ further)
 
--- what became of an answer. Whole: the output took all of it, the status is its own, and the
+-- the delivery of an answer. Whole: the output took all of it, the status is its own, and the
 -- warnings went to the errors. Broken: the output took the first `count` bytes and failed, and the
 -- refusal is E19
 pub data IsDelivered

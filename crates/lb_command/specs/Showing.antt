@@ -6,7 +6,7 @@ use Rattle.lb_check.specs.Acceptance.{IsAccepted}
 use Rattle.lb_pool.specs.declared.follow_error.FollowError.{FollowError}
 use Rattle.lb_report.specs.Bench.{OnlyProgram}
 use Rattle.lb_report.specs.Correct.{IsBenchAnswer}
-use Rattle.lb_report.specs.declared.error.BenchError.{BenchError}
+use Rattle.lb_refusal.specs.declared.error.BenchError.{BenchError}
 use Rattle.lb_show.specs.declared.options.ShowOptions.{ShowOptions}
 use Rattle.lb_values.specs.Values.{AreSent, IsNoTrace}
 use Rattle.lb_values.specs.declared.values.ValuesFault.{ValuesFault}
@@ -24,17 +24,18 @@ use Rattle.lb_command.specs.declared.showing.ShowingFault.{ShowingFault}
 use Rattle.lb_command.specs.declared.showing.ShowingFault.TheVariants.{Refused, Stopped}
 use Rattle.lb_command.specs.declared.values_request.Values.{Values}
 
--- how many of the last instants are shown: with 0 none is left out
+-- the number of last instants that are shown; `None`, for 0, leaves none out
 abbrev pub last_of : ℕ → Option ℕ
 last_of n = if n == 0 then None else Some n
 
--- what is asked for, by the words
+-- the options `asked` are those that the words give
 pub record AreAsked (values : Values) (asked : ShowOptions) : Type 0 where
   pub trace : asked.trace.now ≡ values.trace.now
   pub format : asked.format ≡ values.format
   pub last : asked.last ≡ last_of values.last
 
--- the values of two texts that are asked for went to an output, or their first bytes
+-- the values of two texts went to an output: all that are asked for, or their first bytes, as `run`
+-- says
 pub record AreShown
     (source traces : Text) (task : Task) (output : Change) (run : Result (Unit {0}) FollowError)
     : Type 0 where
@@ -44,8 +45,8 @@ pub record AreShown
       AreSent source traces task.options asked output.before output.after output.failures_before
       output.failures_after run
 
--- why the values of two texts are not shown: memory ran out, or the texts are refused, or a name
--- that is asked for is that of no trace, or of no variable, which is E20 without a place
+-- the values of two texts are not shown: memory ran out; or the texts are refused; or no trace, or
+-- no variable, has a name that is asked for, which is E20 without a place
 pub data IsUnshown (source traces : Text) (task : Task) (refusal : Refusal) : Type 0 where
   memory : refusal.number ≡ 0 → IsUnshown source traces task refusal
   judged : (e : BenchError) → IsBenchAnswer source traces task.options (Err e)
@@ -63,7 +64,7 @@ pub record AreUnshown (source traces : Text) (task : Task) (output : Change) (re
   pub not_read : refusal.number ≢ 21
   pub untouched : IsUntouched output
 
--- how the cause is told
+-- the fault of a run for a cause: `Stopped` stays as it is, and any other cause becomes a refusal
 abbrev pub IsFaultTold : ValuesFault → ShowingFault → Type 0
 IsFaultTold (values.Refused e) (Refused refusal) = IsToldBy e refusal
 IsFaultTold values.UnknownTrace (Refused refusal) = IsUsage refusal
@@ -97,7 +98,7 @@ pub record IsNotRead (task : Task) (i : Input) (output : Change) (refusal : Refu
   pub tells : TellsOfInput (HasPath task) i refusal
   pub untouched : IsUntouched output
 
--- the values of a task
+-- the values of a task: as `IsShowingOf` says, or an input could not be read
 abbrev pub IsShowingOn : {T : Type 0} → Task → Input → Change → Result T ShowingFault → Type 0
 IsShowingOn task i output (Ok x) = IsShowingOf {T = Unit {0}} task i output (Ok tt)
 IsShowingOn task i output (Err (Stopped e)) =
@@ -106,10 +107,10 @@ IsShowingOn task i output (Err (Refused refusal)) =
     IsNotRead task i output refusal
     ⊎ IsShowingOf {T = Unit {0}} task i output (Err (Refused refusal))
 
--- a run that writes the values of one trace: they went out, the status is 0, and the warnings went
--- to the errors; or it stopped, the first bytes went out, and the cause is told, E0 or E19; or the
--- input or the texts are refused or have nothing of a name, nothing went out, and the refusal is
--- told
+-- a run that writes the values of one trace. Whole: they went out, the status is 0, and the
+-- warnings went to the errors. Stopped: their first bytes went out, and the cause is reported, E0
+-- or E19. Refused: the input or the texts are refused, or no trace or variable has a name that is
+-- asked for; nothing went out, and the refusal is reported
 pub data IsShowingRun
     (words : List Text) (task : Task) (i : Input) (status : ℕ) (output errors : Change)
     : Type 0 where

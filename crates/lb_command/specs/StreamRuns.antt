@@ -1,4 +1,4 @@
--- What a run does to std's readers and writers, which it wraps in a feed and in sinks.
+-- A run on a reader and two writers of std, which it wraps in a feed and in sinks.
 -- Source: this project's rule.
 use Rattle.std.specs.Prelude.{ℕ, List, Option}
 use Rattle.std.specs.Borrow.{GName}
@@ -7,18 +7,20 @@ use Rattle.lb_pool.specs.Taken.{Taken}
 use Rattle.lb_command.specs.Correct.{IsRun}
 use Rattle.lb_command.specs.Streams.{Change, Input, change, input}
 
--- what is said of an input, said of a reader that has still these bytes to give, where it tells
--- them
+-- `Says` holds of an input over a reader that has still `coming` to give, where that is known;
+-- before the run the input has given nothing and has never failed
 pub record OnReader (Says : Input → Type 0) (coming : Option Text) : Type 0 where
   pub given : ℕ
   pub failures : ℕ
   pub said : Says (input coming 0 given 0 failures)
 
--- so many bytes went to a writer that holds these, where it tells them
+-- the record of a writer that holds `bytes`, where they are known; `count` bytes came through this
+-- sink
 abbrev pub held : GName → Option Text → ℕ → Taken
 held writer bytes count = record { bytes = bytes; count = count; writer = writer }
 
--- what is said of a sink, said of a writer by what it holds before and after
+-- `Says` holds of a sink over a writer that holds `before` before the run and `after` behind it;
+-- before the run the sink has taken nothing and has never failed
 pub record OnWriter (Says : Change → Type 0) (before after : Option Text) : Type 0 where
   pub writer : GName
   pub count : ℕ

@@ -1,10 +1,10 @@
--- What a run does to its input, to the sink of its output and to that of its errors.
+-- The changes of a run to its input, to the sink of its output and to the sink of its errors.
 -- Source: this project's rule.
 use Rattle.std.specs.Prelude.{◌≡◌, ℕ, ◌<◌, ◌⊎◌, List, Option}
 use Rattle.lb_pool.specs.Taken.{Taken, Takes, TakesNothing}
 use Rattle.lb_report.specs.Feeds.{IsTooLong}
 
--- what a sink has taken, and how often it has failed, before and after
+-- a sink before and after a run: what it has taken, and how often it has failed
 pub record Change : Type 0 where
   pub before : Taken
   pub after : Taken
@@ -42,8 +42,8 @@ pub record HasFailed (c : Change) : Type 0 where
 abbrev pub TookOrFailed : Change → List ℕ → Type 0
 TookOrFailed c text = Took c text ⊎ HasFailed c
 
--- the bytes that an input has still to give before a run, where it tells them; how many it has
--- given, and how often it has failed, before and after
+-- an input before and after a run: the bytes that it has still to give before, where they are
+-- known; how many it has given, and how often it has failed, before and after
 pub record Input : Type 0 where
   pub coming : Option (List ℕ)
   pub given_before : ℕ

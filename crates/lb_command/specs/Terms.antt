@@ -1,4 +1,4 @@
--- What a run is measured by, and how its report is written.
+-- The terms of a run: its measure, an earlier report, and the format of its report.
 -- Source: this project's rule.
 use Rattle.std.specs.Prelude.{◌≡◌, ℕ, Bool, true, false, ◌&&◌, not, is_some, if◌then◌else◌, codes}
 use Rattle.std.specs.Prelude.{List, [], Option, Some, None, unwrap_or, option_map, bytes_eq}
@@ -22,7 +22,8 @@ format_named name =
     if bytes_eq name (codes "lines") then Some Lines
     else (if bytes_eq name (codes "junit") then Some Junit else None)
 
--- the format of the report; it is read where a report is written, and else that of values is
+-- the format of the report; where the words name a trace, `--format` is that of its values, and the
+-- report has the format `Lines`
 abbrev pub format_in : List Row → Option Format
 format_in rows =
     if names_trace rows then Some Lines
@@ -33,7 +34,7 @@ pub record IsTerms (rows : List Row) (terms : Terms) : Type 0 where
   pub baseline : option_map (λ s. s.now) terms.baseline ≡ first_of (codes "baseline") rows
   pub format : format_in rows ≡ Some terms.format
 
--- ## What they ask for
+-- ## What the terms ask for
 
 abbrev pub is_lenient : Measure → Bool
 is_lenient Lenient = true
@@ -43,7 +44,7 @@ abbrev pub is_lines : Format → Bool
 is_lines Lines = true
 is_lines Junit = false
 
--- a run with these terms is asked for nothing but its report
+-- whether the terms are the usual ones: the run is asked for nothing but its report
 abbrev pub are_usual : Terms → Bool
 are_usual terms =
     is_lenient terms.measure && is_lines terms.format && not (is_some terms.baseline)

@@ -32,11 +32,12 @@ format_named name =
     else (if bytes_eq name (codes "vcd") then Some Vcd
     else (if bytes_eq name (codes "svg") then Some Svg else None)))
 
--- the words name a trace whose values are shown
+-- whether the words name a trace whose values are shown
 abbrev pub names_trace : List Row → Bool
 names_trace rows = is_some (first_of (codes "show") rows)
 
--- the format of the values; it is read where values are shown, and else the format of a report is
+-- the format of the values; where the words name no trace, `--format` is that of the report, and
+-- the values have the format `Table`
 abbrev pub format_in : List Row → Option Format
 format_in rows =
     if names_trace rows

@@ -1,8 +1,8 @@
--- What is said beside an answer of an accepted source.
+-- The warnings and the remarks beside an answer for an accepted source.
 -- Source: this project's rule.
 use Rattle.std.specs.Prelude.{◌≡◌, ℕ, List, [], ◌∷◌, ◌++◌, None, false}
 use Rattle.clap.specs.Words.{Text}
-use Rattle.lb_report.specs.declared.options.Options.{Options}
+use Rattle.lb_refusal.specs.declared.options.Options.{Options}
 use Rattle.lb_command.specs.Streams.{Change, IsUntouched, TookOrFailed}
 use Rattle.lb_command.specs.Words.{asks_to_explain}
 
@@ -17,8 +17,8 @@ abbrev pub IsWarned : (errors : Change) → (warnings : List ℕ) → Type 0
 IsWarned errors [] = IsUntouched errors
 IsWarned errors (x ∷ xs) = TookOrFailed errors (x ∷ xs)
 
--- beside a report stand the warnings, and then why traces do not pass, where the words ask for
--- explanations
+-- the remarks beside a report: the warnings, and then the reasons why traces do not pass, where the
+-- words ask for explanations
 pub record AreRemarks (words : List Text) (options : Options) (remarks : List ℕ) : Type 0 where
   pub warnings : List ℕ
   pub reasons : List ℕ

@@ -7,14 +7,14 @@ use Rattle.clap.specs.Lexer.{usize_max}
 use Rattle.clap.specs.Words.{Row, Rule, Text, first_of, new_rule}
 use Rattle.clap.specs.declared.builder.action.ArgAction.TheVariants.{SetTrue}
 
--- an option with a value, and an argument that is told by its place
+-- an option with a value, and an argument that is known by its place
 abbrev pub named : Text → Rule
 named name = record (new_rule name) { long = Some name; value_names = 1 }
 
 abbrev pub placed : Text → Rule
 placed name = record (new_rule name) { value_names = 1 }
 
--- with a value that stands for none
+-- the rule of an argument that has `value` where none is given
 abbrev pub by_default : Text → Rule → Rule
 by_default value rule = record rule { defaults = value ∷ [] }
 
@@ -27,23 +27,24 @@ several name =
 abbrev pub switch : Text → Rule
 switch name = record (new_rule name) { long = Some name; action = Some SetTrue }
 
--- ASCII digits alone that spell a number in a range
+-- a text of ASCII digits that spell `n`, from `least` to `most`
 pub record IsNumber (text : Text) (least most n : ℕ) : Type 0 where
   pub digits : IsNumeral 10 text
   pub value : digits_value 10 text ≡ n
   pub not_below : least ≤ n
   pub not_above : n ≤ most
 
--- of the values that the words give, the one of this argument is a number in a range
+-- the value that the words give for the argument `id`, or else `default`, is the number `n`, from
+-- `least` to `most`
 abbrev pub HasNumber : List Row → (id default : Text) → (least most n : ℕ) → Type 0
 HasNumber rows id default least most n =
     IsNumber (unwrap_or (first_of id rows) default) least most n
 
--- whether a value is that of an option without a value that is given
+-- whether an option without a value is given, by what the parser has for it
 abbrev pub is_given : Option Text → Bool
 is_given (Some text) = bytes_eq text (codes "true")
 is_given None = false
 
--- whether the values have an option without a value
+-- whether the words give the option `id`, which has no value
 abbrev pub has_switch : Text → List Row → Bool
 has_switch id rows = is_given (first_of id rows)

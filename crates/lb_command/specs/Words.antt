@@ -10,7 +10,7 @@ use Rattle.clap.specs.declared.error.kind.ErrorKind.{ErrorKind}
 use Rattle.clap.specs.declared.error.kind.ErrorKind.TheVariants.{DisplayHelp}
 use Rattle.lb_part.specs.Parts.{IsPartIn}
 use Rattle.lb_part.specs.declared.part.Part.{Part}
-use Rattle.lb_report.specs.declared.options.Options.{Options}
+use Rattle.lb_refusal.specs.declared.options.Options.{Options}
 use Rattle.lb_command.specs.Terms.{IsTerms, are_usual}
 use Rattle.lb_command.specs.Terms as terms
 use Rattle.lb_command.specs.ValuesWords.{AreValues, format_in, names_trace, with_values}
@@ -79,7 +79,7 @@ command_line =
     with_inputs (with_merging (with_parts (with_terms (with_modes (with_values (with_spread
     (with_nodes (new_app (codes "lbench")))))))))
 
--- what the parser makes of the words, and the kinds of error that it has for them
+-- the values that the parser finds in the words, and the kinds of error that it reports for them
 unfoldable pub values_of : List Text → List Row
 values_of words = matches_of command_line words
 
@@ -88,7 +88,7 @@ faults_of words = fault_of command_line words
 
 -- ## What the words ask for
 
--- one of the words asks for explanations
+-- whether one of the words asks for explanations
 abbrev pub asks_to_explain : List Text → Bool
 asks_to_explain words =
     list_any (λ word. bytes_eq word (codes "--explain") || bytes_eq word (codes "--explain-all"))
@@ -102,7 +102,7 @@ pub record IsOptions (rows : List Row) (options : Options) : Type 0 where
   pub batch : HasNumber rows (codes "batch") (codes "64") 1 64 options.batch
   pub by_length : options.by_length ≡ has_switch (codes "by-length") rows
 
--- what the run that the values ask for is to give
+-- the aim of the run that the values ask for
 abbrev pub aim_of : List Row → Aim
 aim_of rows =
     if is_some (first_of (codes "merge") rows) then Merge
@@ -119,12 +119,12 @@ reports_of rows = unwrap_or (all_of (codes "merge") rows) []
 abbrev pub IsPartOf : List Row → Option Part → Type 0
 IsPartOf rows part = IsPartIn (first_of (codes "part") rows) part
 
--- a part is one of a file of traces
+-- a part is asked for only with a file of traces
 abbrev pub HasFile : List Row → Option Part → Type 0
 HasFile rows part = IsSome part → IsSome (first_of (codes "traces") rows)
 
--- the run that the values ask for; a live report has a worker, and the usual terms; what merges
--- reports has no source; and a part has a file of traces
+-- the task that the values ask for. A live report has a worker and the usual terms, a merge has no
+-- source, and a part has a file of traces
 pub record IsTask (rows : List Row) (task : Task) : Type 0 where
   pub options : IsOptions rows task.options
   pub aim : task.aim ≡ aim_of rows
@@ -154,22 +154,21 @@ pub record IsAsked (words : List Text) (task : Task) : Type 0 where
   pub no_version : has_switch (codes "version") (values_of words) ≡ false
   pub given : IsTask (values_of words) task
 
--- what the words ask for
+-- the request that the words make
 abbrev pub IsRequest : List Text → Request → Type 0
 IsRequest words (Help text) = AsksForHelp words
 IsRequest words Version = AsksForVersion words
 IsRequest words (Run task) = IsAsked words task
 
--- what the values ask for, which is not help
+-- the request that the values make, which is not help
 abbrev pub IsRequestOf : List Row → Request → Type 0
 IsRequestOf rows (Help text) = ⊥
 IsRequestOf rows Version = has_switch (codes "version") rows ≡ true
 IsRequestOf rows (Run task) =
     (has_switch (codes "version") rows ≡ false) × IsTask rows task
 
--- a value is no number in its range or no format, or a live report is to have no worker, or other
--- terms than the usual ones, or what merges reports is to have a source, or a value names no part,
--- or a part of what is no file
+-- a wrong value: it is no number in its range, no format or no part; or a live report has no worker
+-- or not the usual terms; or a merge has a source; or a part has no file of traces
 pub data IsWrongValue (rows : List Row) : Type 0 where
   workers : ((n : ℕ) → HasNumber rows (codes "workers") (codes "1") 0 64 n → ⊥) → IsWrongValue rows
   batch : ((n : ℕ) → HasNumber rows (codes "batch") (codes "64") 1 64 n → ⊥) → IsWrongValue rows

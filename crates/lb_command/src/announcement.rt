@@ -11,7 +11,7 @@ use crate::request::{Aim, Request, Task, read_words};
 use lb_report::Sink;
 use std::alloc::Global;
 
-/// What is said where traces are awaited.
+/// The note where traces are awaited.
 const NOTE: &str = "lbench: the traces are read from standard input\n";
 
 /// Whether a task reads a source at a path and then the traces from standard input.
@@ -39,8 +39,8 @@ fn note<E: Sink>(task: &Task<'_>, errors: &mut E)
 }
 
 /// Says on standard error that the traces are read from standard input, where these words ask for
-/// that and name a source: a person may else wait for a report that waits for traces. The errors
-/// are E0 and E20. Where standard error fails nothing else changes.
+/// that and name a source: a person might else wait for a report while the program waits for
+/// traces. The errors are E0 and E20. Where standard error fails nothing else changes.
 pub fn announce<E: Sink>(alloc: Global, words: &[String], errors: &mut E) -> Result<(), Refusal>
     requires { E.failures errors.old < u64.MAX }
     ensures ok { OnOk result (spec.IsAnnounced (map string_bytes words.now)

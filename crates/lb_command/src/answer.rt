@@ -1,4 +1,4 @@
-//! What a run has for the output.
+//! The answer of a run: what goes to the output.
 
 ghost use Rattle.std.specs.Prelude.{◌≡◌};
 ghost use Rattle.lb_command.specs.Outcomes as spec;
@@ -6,12 +6,12 @@ ghost use Rattle.lb_command.specs.Outcomes as spec;
 use crate::version::VERSION;
 use lb_report::Report;
 
-/// What a run has for the output.
+/// The answer of a run: what goes to the output.
 #[derive(Drop)]
 pub enum Answer {
     /// The report on traces.
     OfTraces(Report),
-    /// What is told of an accepted source: nothing, or the header of its traces.
+    /// The output for an accepted source: nothing, or the header of its traces.
     OfSource(Vec<u8>),
     /// The help text.
     Help(String),
@@ -32,7 +32,7 @@ impl Answer {
         }
     }
 
-    /// The exit status where it goes out.
+    /// The exit status of a run whose answer goes out.
     pub fn status(&self) -> u8
         ensures { result ≡ spec.status_of self.now }
     {
@@ -43,7 +43,7 @@ impl Answer {
     }
 }
 
-/// A value, and the lines that warn of what the source may mean otherwise than it was meant.
+/// A value, and the lines that go to standard error beside it.
 #[derive(Drop)]
 pub struct Warned<T> {
     pub value: T,

@@ -1,4 +1,4 @@
-//! Why the words, an input or the output failed.
+//! Explanations of wrong words, and of an input or the output that failed.
 
 use crate::refusal::{Unknown, Unread};
 use lb_part::Part;
@@ -8,7 +8,7 @@ use std::alloc::{AllocError, Global};
 #[derive(Clone, Copy)]
 struct Known {
     name: &'static str,
-    /// What values it takes; nothing where it takes none.
+    /// The values that it takes, in words; empty where it takes none.
     values: &'static str,
 }
 
@@ -146,7 +146,7 @@ fn page_of(alloc: Global) -> Result<String, AllocError> {
     String::from_str(alloc, "lbench: error: ")
 }
 
-/// Puts the options that there are.
+/// Puts the names of all options.
 fn put_options(page: &mut String) -> Result<(), AllocError> {
     page.push_str("help: the options are ")?;
     for (place, known) in OPTIONS.iter().enumerate() {
@@ -158,7 +158,7 @@ fn put_options(page: &mut String) -> Result<(), AllocError> {
     page.push('\n')
 }
 
-/// What the words before one are.
+/// The paths and the options among the words before a word.
 #[derive(Drop)]
 struct Seen {
     paths: usize,
@@ -168,7 +168,7 @@ struct Seen {
     options: Vec<Known>,
 }
 
-/// Notes a word that is no option; what is wrong where it is a third path.
+/// Notes a word that is no option; returns the fault where it is a third path.
 fn note_path<'w>(seen: &mut Seen, word: &'w str) -> Option<Wrong<'w>> {
     if seen.is_list {
         return None;
@@ -234,7 +234,7 @@ fn parts_of(word: &str) -> (&str, Option<&str>) {
     }
 }
 
-/// What is wrong with an option and its value, if something is; `next` is the word after it.
+/// The fault of an option and its value, if there is one; `next` is the word after the option.
 fn wrong_option<'w>(word: &'w str, next: Option<&'w str>) -> Option<Wrong<'w>> {
     let (name, joined) = parts_of(word);
     let Some(known) = option_of(name) else {
@@ -285,7 +285,7 @@ fn is_among(options: &[Known], known: &Known) -> bool {
     false
 }
 
-/// Notes an option; what is wrong where it was given before.
+/// Notes an option; returns the fault where it was given before.
 fn note_option<'w>(seen: &mut Seen, word: &'w str) -> Result<Option<Wrong<'w>>, AllocError> {
     let (name, _value) = parts_of(word);
     let Some(known) = option_of(name) else {
@@ -334,7 +334,7 @@ fn first_wrong<'w>(alloc: Global, words: &'w [String]) -> Result<Option<Wrong<'w
     Ok(None)
 }
 
-/// What is known where each word is lawful, and not all of them together.
+/// The explanation where each word is lawful, but not all of them together.
 const TOGETHER: &str = "these words do not go together\n\
     help: `--follow` takes a worker, and no `--strict`, `--baseline` or `--format junit`\n\
     help: `--format` takes lines or junit, and with `--show` table, csv, vcd or svg\n\

@@ -94,8 +94,9 @@ fn in_colour(alloc: Global, bytes: &[u8]) -> Option<String> {
     paint(alloc, text).ok()
 }
 
-/// A writer that hands on what it is given in colour. What is not UTF-8 stays plain, and all does
-/// where memory ran out. It tells how many bytes it was given, without those of the colours.
+/// A writer that writes explanations to another writer in colour. Bytes that are not UTF-8 stay
+/// plain, and so do all bytes where memory runs out. `write` returns the number of bytes that it
+/// was given, without those of the colours.
 #[derive(Drop)]
 pub struct Painted<W> {
     writer: W,
@@ -103,7 +104,7 @@ pub struct Painted<W> {
 }
 
 impl<W: Write> Painted<W> {
-    /// A writer that hands on to this one.
+    /// A writer in colour, over `writer`.
     pub fn new(alloc: Global, writer: W) -> Painted<W>
         ensures { result.writer ≡ writer }
     {

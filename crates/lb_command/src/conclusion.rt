@@ -1,4 +1,4 @@
-//! From a report to what goes out, by the terms of the run.
+//! The output of a run for its report, by the terms of the run.
 
 ghost use Rattle.std.specs.Prelude.{◌≡◌, ◌≢◌, ◌⊎◌, List, [], IfErr, IfOk, IfSome, IsSome};
 ghost use Rattle.std.specs.Prelude.{MatchOption};
@@ -17,7 +17,7 @@ use lb_report::Report;
 use std::alloc::{AllocError, Global};
 use std::fs::Files;
 
-/// What goes out of a report: its text and the status of its run, and what is said beside it.
+/// The output for a report, with the status of its run, and the notes beside it.
 #[derive(Drop)]
 pub struct Conclusion {
     pub shown: Report,
@@ -25,7 +25,7 @@ pub struct Conclusion {
 }
 
 impl Conclusion {
-    /// The same as an answer.
+    /// The conclusion with its notes as warnings.
     pub fn into_warned(self) -> Warned<Report>
         ensures value { result.value ≡ self.shown }
         ensures warnings { result.warnings ≡ self.notes }
@@ -38,7 +38,7 @@ impl Conclusion {
     }
 }
 
-/// The status of a run, and what is said beside its report.
+/// The status of a run, and the notes beside its report.
 #[derive(Drop)]
 struct Measured {
     status: u8,
@@ -60,7 +60,7 @@ pub fn load_baseline<R: Files + AllocGlobal>(
     }
 }
 
-/// What an earlier report lists. The errors are E0, and E20 where it is no report.
+/// The listing of the earlier report `text`. The errors are E0, and E20 where it is no report.
 pub fn read_baseline<'t>(
     alloc: Global,
     terms: &Terms<'_>,
@@ -81,7 +81,7 @@ pub fn read_baseline<'t>(
     }
 }
 
-/// The status of a run with these traces, and what is said beside its report.
+/// The status of a run with the traces `now`, and the notes beside its report.
 fn measure(
     alloc: Global,
     terms: &Terms<'_>,
@@ -108,7 +108,7 @@ fn measure(
     }
 }
 
-/// The traces of a report in the format that is asked for; `remarks` is what is said beside it.
+/// The text of a report in the format that is asked for; a JUnit suite holds the remarks too.
 fn write(
     alloc: Global,
     format: Format,
@@ -127,7 +127,7 @@ fn write(
     }
 }
 
-/// What goes out of a report that lists these traces.
+/// The output for a report that lists the traces `now`.
 fn conclude_listing(
     alloc: Global,
     terms: &Terms<'_>,
@@ -151,7 +151,7 @@ fn conclude_listing(
     })
 }
 
-/// What goes out of the text of a report.
+/// The output for the text of a report.
 pub fn conclude_text(
     alloc: Global,
     terms: &Terms<'_>,
@@ -173,7 +173,7 @@ pub fn conclude_text(
     }
 }
 
-/// What goes out of a report: the report itself, where the terms ask for nothing else.
+/// The output for a report: the report itself, where the terms are the usual ones.
 pub fn conclude(
     alloc: Global,
     terms: &Terms<'_>,

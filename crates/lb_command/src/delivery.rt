@@ -1,4 +1,4 @@
-//! An answer goes out.
+//! The delivery of an answer.
 
 ghost use Rattle.std.specs.Prelude.{◌≡◌, ◌+◌, ◌<◌, ◌≤◌, IfErr, OnErr, OnOk, length};
 ghost use Rattle.std.specs.Prelude.{map, string_bytes, take};
@@ -12,7 +12,7 @@ use crate::explanation::tell;
 use crate::refusal::Refusal;
 use lb_report::{Sent, Sink, send};
 
-/// Writes a text to its end, and hands it on.
+/// Writes a text to its end, and flushes the sink.
 fn put<S: Sink>(sink: &mut S, text: &[u8]) -> Result<(), Sent>
     requires { S.failures sink.old < u64.MAX }
     ensures same { (S.taken sink.new).writer ≡ (S.taken sink.old).writer }
@@ -40,7 +40,7 @@ pub fn warn<E: Sink>(errors: &mut E, warnings: &[u8])
     let _ = send(errors, warnings);
 }
 
-/// Writes an answer and then the warnings, and answers the exit status.
+/// Writes an answer and then the warnings, and returns the exit status.
 pub fn deliver<R, W, E>(
     rt: &R,
     words: &[String],

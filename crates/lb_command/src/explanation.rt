@@ -1,4 +1,4 @@
-//! What is told of a refusal beside its line, where it is asked for.
+//! Explanations beside a report or the line of a refusal, where the words ask for them.
 
 ghost use Rattle.std.specs.Prelude.{◌≡◌, ◌<◌, [], false, map, string_bytes};
 ghost use Rattle.lb_command.specs.Outcomes.{IsTold, refusal_status};
@@ -23,7 +23,7 @@ const ASKED: &str = "--explain";
 
 const ASKED_ALL: &str = "--explain-all";
 
-/// How many traces that did not pass are explained, unless all are asked for.
+/// The most traces that are explained, of those that did not pass, unless all are asked for.
 const MOST_TRACES: usize = 20;
 
 /// Whether one of the words asks for explanations.
@@ -39,7 +39,7 @@ pub fn asks_to_explain(mut words: &[String]) -> bool
     false
 }
 
-/// A text that is known by the path that it came from, or else as standard input.
+/// A text with the path that it came from as its name, or `-` where it came from standard input.
 fn text_at<'a>(path: Option<&'a str>, bytes: &'a [u8], lines_before: u64) -> Text<'a> {
     Text {
         name: path.unwrap_or("-"),
@@ -48,7 +48,7 @@ fn text_at<'a>(path: Option<&'a str>, bytes: &'a [u8], lines_before: u64) -> Tex
     }
 }
 
-/// How many lines of a case text stand before its traces.
+/// The number of lines of a case text before its traces.
 fn lines_before(case: &[u8], traces: &[u8]) -> u64 {
     let mut lines: u64 = 0;
     let length = case.len().saturating_sub(traces.len());
@@ -58,7 +58,7 @@ fn lines_before(case: &[u8], traces: &[u8]) -> u64 {
     lines
 }
 
-/// Explains what the bench says of some texts.
+/// Explains why the bench refuses some texts.
 fn explain_texts(
     alloc: Global,
     task: &Task<'_>,
@@ -108,7 +108,7 @@ fn explanation(
     }
 }
 
-/// The same; none where memory ran out either.
+/// The lines that explain a refusal, where the words ask for them; none where memory ran out.
 fn lines_of(alloc: Global, words: &[String], task: Option<&Task<'_>>, refusal: &Refusal) -> Vec<u8>
     ensures { asks_to_explain (map string_bytes words.now) ≡ false → result.items ≡ [] }
 {
@@ -121,9 +121,8 @@ fn lines_of(alloc: Global, words: &[String], task: Option<&Task<'_>>, refusal: &
     }
 }
 
-/// What is to be warned of where a source is accepted: inputs of the observer that are wired to
-/// something of another name. It is nothing where the words ask for no explanations, and where
-/// memory ran out.
+/// The warnings for an accepted source: inputs of the observer that are wired to something of
+/// another name. There are none where the words ask for no explanations, and where memory ran out.
 pub fn warnings_of(alloc: Global, words: &[String], task: &Task<'_>, source: &[u8]) -> Vec<u8>
     ensures { AreWarnings (map string_bytes words.now) task.now.options result.items }
 {
@@ -148,8 +147,8 @@ fn asks_for_all(words: &[String]) -> bool {
     false
 }
 
-/// Why traces of a report on some texts do not pass. It is nothing where the words ask for no
-/// explanations, and where memory ran out.
+/// The reasons why traces of a report on some texts do not pass. There are none where the words ask
+/// for no explanations, and where memory ran out.
 fn reasons_of(
     alloc: Global,
     words: &[String],
@@ -176,7 +175,8 @@ fn reasons_of(
     }
 }
 
-/// What is said beside a report on some texts: warnings, and then why traces do not pass.
+/// The remarks beside a report on some texts: warnings, and then the reasons why traces do not
+/// pass.
 pub fn remarks_of(
     alloc: Global,
     words: &[String],
@@ -193,8 +193,8 @@ pub fn remarks_of(
 }
 
 /// Writes the line of a refusal to standard error, and behind it the lines that explain it where
-/// the words ask for them, and answers its exit status. Where standard error fails too, the status
-/// alone tells of the refusal.
+/// the words ask for them, and returns its exit status. Where standard error fails too, the status
+/// alone reports the refusal.
 pub fn tell<E: Sink>(
     alloc: Global,
     words: &[String],

@@ -31,7 +31,7 @@ fn header_of(alloc: Global, inputs: &Signature) -> Result<Vec<u8>, AllocError>
     Ok(text)
 }
 
-/// What is told of an accepted source with these scalar inputs.
+/// The output for an accepted source with these scalar inputs.
 fn answer_of(alloc: Global, aim: Aim, inputs: &Signature) -> Result<Vec<u8>, AllocError>
     ensures { IfOk result (λ text. text.items ≡ spec.answer_of aim (names_of inputs.now)) }
 {
@@ -41,7 +41,7 @@ fn answer_of(alloc: Global, aim: Aim, inputs: &Signature) -> Result<Vec<u8>, All
     }
 }
 
-/// What is told of the source in some texts.
+/// The output for the source in some texts.
 fn judge_texts(
     alloc: Global,
     words: &[String],
@@ -66,7 +66,7 @@ fn judge_texts(
     }
 }
 
-/// What is told of the source of a task.
+/// The output for the source of a task.
 fn judge_source<R, F>(
     rt: &R,
     words: &[String],
@@ -88,7 +88,7 @@ where
     judge_texts(rt.alloc(), words, task, texts)
 }
 
-/// Runs a task that asks about the source alone, and answers the exit status: 0 where the source is
+/// Runs a task that asks about the source alone, and returns the exit status: 0 where the source is
 /// accepted.
 pub fn run_judging<R, F, W, E>(
     rt: &R,

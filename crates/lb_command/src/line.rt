@@ -1,8 +1,8 @@
-//! The line that tells of a refusal.
+//! The line that reports a refusal.
 
 ghost use Rattle.std.specs.Prelude.{◌≡◌, ◌<◌, ◌++◌, OnOk, OnErr, decimal};
 ghost use Rattle.lb_pool.specs.Taken.{Takes};
-ghost use Rattle.lb_report.specs.Refusals.{word_of};
+ghost use Rattle.lb_refusal.specs.Refusals.{word_of};
 ghost use Rattle.lb_command.specs.Outcomes.{refusal_status};
 ghost use Rattle.lb_command.specs.Lines as spec;
 ghost use Rattle.lb_command.specs.Streams.{TookOrFailed, change};
@@ -98,8 +98,8 @@ pub fn send_lines<S: Sink>(sink: &mut S, refusal: &Refusal, further: &[u8]) -> R
     Ok(())
 }
 
-/// Writes the line of a refusal to standard error, and answers its exit status. Where standard
-/// error fails too, the status alone tells of the refusal.
+/// Writes the line of a refusal to standard error, and returns its exit status. Where standard
+/// error fails too, the status alone reports the refusal.
 pub fn refuse<E: Sink>(refusal: &Refusal, errors: &mut E) -> u8
     requires { E.failures errors.old < u64.MAX }
     ensures status { result ≡ refusal_status refusal.now.number }

@@ -19,7 +19,7 @@ use std::sync::Wait;
 use std::thread::Threads;
 use std::time::Clock;
 
-/// Why a live report did not go out whole.
+/// The fault of a live report that did not go out whole.
 #[derive(Drop)]
 pub enum LiveFault {
     /// An input could not be read, or the texts are refused. No byte went out.
@@ -28,7 +28,7 @@ pub enum LiveFault {
     Stopped(FollowError),
 }
 
-/// Writes the report on some texts, and answers what is to be warned of.
+/// Writes the report on some texts, and returns the warnings.
 fn follow_texts<R, W>(
     rt: &R,
     words: &[String],
@@ -121,7 +121,7 @@ where
     }
 }
 
-/// Writes the report of a task, and answers what is to be warned of.
+/// Writes the report of a task, and returns the warnings.
 fn follow_task<R, F, W>(
     rt: &R,
     words: &[String],
@@ -157,7 +157,7 @@ where
     }
 }
 
-/// Runs a task whose report is written line by line, and answers the exit status: 0 where the whole
+/// Runs a task whose report is written line by line, and returns the exit status: 0 where the whole
 /// report went out.
 pub fn run_live<R, F, W, E>(
     rt: &R,

@@ -13,7 +13,7 @@ use std::fs::{File, Files, OpenFile};
 use std::io::{self, Read};
 use std::os::unix::fs::FileExt;
 
-/// What a report is on.
+/// The texts of a report, as they are loaded.
 #[derive(Drop)]
 pub enum Loaded<'a, F> {
     /// Two texts.
@@ -26,13 +26,13 @@ pub enum Loaded<'a, F> {
     },
 }
 
-/// What is known of a file that was opened and could not be read to its end.
+/// The cause for a file that was opened and could not be read to its end.
 const UNREAD: &str = "it is a folder, a read failed, or it is longer than 1100000000 bytes";
 
-/// What is known of a file of which no part could be read.
+/// The cause for a file whose parts could not be read.
 const NO_FILE: &str = "it is no regular file, or a read failed";
 
-/// What is known of a file that has no parts.
+/// The cause for a file that has no parts.
 const QUOTED: &str = "a text with quotes has no parts; leave `--part` out";
 
 /// The bytes of an input. The errors are E0 and E21.
@@ -106,8 +106,8 @@ fn load_part_of<F: OpenFile + FileExt>(
     }
 }
 
-/// What the report of a task is on; the source is read before the traces. A file of traces is
-/// opened once: of a pipe with a name, a second opening would lose what the first one was given.
+/// The texts for the report of a task; the source is read before the traces. A file of traces is
+/// opened once: a second opening of a named pipe would lose the bytes that the first one was given.
 /// The errors are E0 and E21.
 pub fn load_texts<'a, R, F>(
     rt: &R,
@@ -146,8 +146,8 @@ where
     }
 }
 
-/// The source of a task, alone where it has a path, else with the traces that the input holds too.
-/// The errors are E0 and E21.
+/// The source of a task: alone where it has a path, else with the traces, which the input holds
+/// too. The errors are E0 and E21.
 pub fn load_source<R, F>(rt: &R, task: &Task<'_>, reader: &mut F) -> Result<Texts, Refusal>
 where
     R: Files + AllocGlobal,

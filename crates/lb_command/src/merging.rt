@@ -1,4 +1,4 @@
-//! A run that makes one report of several.
+//! A run that merges several reports into one.
 
 ghost use Rattle.std.specs.Prelude.{◌≡◌, ◌<◌, ℕ, List, IfErr, IfOk, IsSome, map, string_bytes};
 ghost use Rattle.lb_command.specs.Conclusions.{IsBaseline};
@@ -37,7 +37,7 @@ fn load_reports<R: Files + AllocGlobal>(rt: &R, paths: &[&str]) -> Result<Vec<Ve
     Ok(texts)
 }
 
-/// The path of a file with a number.
+/// Path number `file`, or `-` where there is none.
 fn path_of<'a>(paths: &[&'a str], file: usize) -> &'a str {
     match paths.get(file) {
         Some(path) => path,
@@ -45,7 +45,7 @@ fn path_of<'a>(paths: &[&'a str], file: usize) -> &'a str {
     }
 }
 
-/// One report in place of several. The errors are E0, E17 and E20.
+/// The one report that `texts` are merged into. The errors are E0, E17 and E20.
 fn merge_texts(alloc: Global, paths: &[&str], texts: &[Vec<u8>]) -> Result<Vec<u8>, Refusal>
     ensures ok { IfOk result (λ text. IsMerged (texts_of texts.now) text.items) }
     ensures err { IfErr result (spec.AreNotMerged (texts_of texts.now)) }
@@ -62,7 +62,7 @@ fn merge_texts(alloc: Global, paths: &[&str], texts: &[Vec<u8>]) -> Result<Vec<u
     }
 }
 
-/// One report in place of those at some paths. The errors are E0, E17, E20 and E21.
+/// The one report that those at `paths` are merged into. The errors are E0, E17, E20 and E21.
 fn merge_files<R: Files + AllocGlobal>(rt: &R, paths: &[&str]) -> Result<Vec<u8>, Refusal>
     ensures ok { IfOk result (λ text. (texts : List (List ℕ)) × IsMerged texts text.items) }
     ensures err { IfErr result spec.IsMergeRefused }
@@ -74,7 +74,7 @@ fn merge_files<R: Files + AllocGlobal>(rt: &R, paths: &[&str]) -> Result<Vec<u8>
     }
 }
 
-/// What goes out of the reports that a task names.
+/// The output for the reports that a task names.
 fn conclude_merge<R: Files + AllocGlobal>(
     rt: &R,
     task: &Task<'_>,
@@ -97,8 +97,8 @@ fn conclude_merge<R: Files + AllocGlobal>(
     Ok(told.into_warned())
 }
 
-/// Runs a task that merges reports, and answers the exit status. What the terms name as an earlier
-/// report is `baseline`.
+/// Runs a task that merges reports, and returns the exit status; `baseline` is the earlier report
+/// that the terms name.
 fn run_measured<R, W, E>(
     rt: &R,
     words: &[String],
@@ -130,8 +130,8 @@ where
     }
 }
 
-/// Runs a task that merges reports, and compares the merged report with an earlier one.
-/// `earlier` is the text of that one. The answer is the exit status.
+/// Runs a task that merges reports and compares the merged report with an earlier one, and returns
+/// the exit status; `earlier` is the text of the earlier report.
 fn run_compared<R, W, E>(
     rt: &R,
     words: &[String],
@@ -159,7 +159,7 @@ where
     }
 }
 
-/// Runs a task that merges reports, and answers the exit status. An earlier report is read before
+/// Runs a task that merges reports, and returns the exit status. An earlier report is read before
 /// them.
 pub fn run_merge<R, W, E>(
     rt: &R,

@@ -54,7 +54,7 @@ pub fn with_modes<'a>(alloc: Global, command: Command<'a>) -> Result<Command<'a>
     with_version(alloc, command)
 }
 
-/// Adds the options that tell what a run is measured by.
+/// Adds the options for the measure and the earlier report of a run.
 pub fn with_terms<'a>(alloc: Global, command: Command<'a>) -> Result<Command<'a>, AllocError>
     ensures { IfOk result (λ c. app_of c ≡ spec.with_terms (app_of command.entry)) }
 {

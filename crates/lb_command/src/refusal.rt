@@ -1,4 +1,4 @@
-//! Why the program prints no report.
+//! Refusals: the reasons why the program prints no report.
 
 ghost use Rattle.std.specs.Prelude.{◌≡◌, ◌<◌, None, true};
 ghost use Rattle.lb_command.specs.Lines.{is_placed, start_of};
@@ -48,18 +48,18 @@ impl Unread {
     }
 }
 
-/// What a refusal comes from, for those who want to know more than its number.
+/// The cause of a refusal, for those who want to know more than its number.
 #[derive(Drop)]
 pub enum Cause {
-    /// What the bench says of the texts.
+    /// The bench refuses the texts.
     Judged { error: BenchError, texts: Texts },
     /// A file could not be read.
     Unread(Unread),
     /// A file is no report; the first of its lines that shows it, counted from 1.
     NoReport { path: String, line: usize },
-    /// A trace of a report is in an earlier one too; its line, counted from 1.
+    /// A trace of a report is in an earlier report too; its line, counted from 1.
     Twice { path: String, line: usize },
-    /// The output failed: how many bytes went out, and of how many, where that is known.
+    /// The output failed after `sent` bytes, of `all` bytes where that is known.
     Unsent { sent: usize, all: Option<usize> },
     /// Nothing has a name that is asked for.
     Unknown(Unknown),
@@ -68,21 +68,21 @@ pub enum Cause {
 /// A name that nothing has.
 #[derive(Drop)]
 pub struct Unknown {
-    /// Whether it is that of a trace, and not of a variable.
+    /// Whether it is sought among the traces, and not among the variables.
     pub is_trace: bool,
     pub name: String,
 }
 
-/// The first column of a line, counted from 1; a line past the greatest number has that number.
+/// The first column of a line, counted from 1; a line past `u32::MAX` counts as `u32::MAX`.
 fn start_of(line: usize) -> Option<(u32, u32)>
     ensures { result ≡ start_of line }
 {
     Some((u32::try_from(line).unwrap_or(u32::MAX), 1))
 }
 
-/// Why the program prints no report: the number of a refusal, 0 to 21, and its place, if it has
-/// one: a line and a column of a source (E1 to E3), or of a file that is read as a report (E17 and
-/// E20).
+/// The reason why the program prints no report: the number of a refusal, 0 to 21, and its place, if
+/// it has one: a line and a column of a source (E1 to E3), or of a file that is read as a report
+/// (E17 and E20).
 #[derive(Drop)]
 pub struct Refusal {
     pub number: u8,
@@ -174,7 +174,7 @@ impl Refusal {
         }
     }
 
-    /// E20: nothing has this name: no trace, or no variable.
+    /// E20: no trace, or no variable, has this name.
     pub fn unknown(alloc: Global, is_trace: bool, name: &str) -> Refusal
         ensures number { result.number ≡ 20 }
         ensures position { result.position ≡ None }

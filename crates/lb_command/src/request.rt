@@ -1,4 +1,4 @@
-//! What the words of the command line ask for.
+//! The request that the words of the command line make.
 
 ghost use Rattle.std.specs.Prelude.{◌≡◌, ◌≢◌, ◌<◌, ◌≤◌, ◌==◌, ◌⊎◌, ℕ, Option, true, false};
 ghost use Rattle.std.specs.Prelude.{IfOk, IfErr, OnOk, OnErr};
@@ -21,10 +21,10 @@ use lb_part::Part;
 use lb_report::Options;
 use std::alloc::{AllocError, Global};
 
-/// What the words ask for.
+/// The request that the words make.
 #[derive(Drop)]
 pub enum Request<'a> {
-    /// The help text, which is this.
+    /// The help text, to be printed.
     Help(String),
     /// The program's name and its version.
     Version,
@@ -32,7 +32,7 @@ pub enum Request<'a> {
     Run(Task<'a>),
 }
 
-/// What a run is to give.
+/// The aim of a run: what it is to give.
 #[derive(Clone, Copy)]
 pub enum Aim {
     /// The report on the traces, at once.
@@ -73,7 +73,7 @@ impl Aim {
     }
 }
 
-/// A run: its options, what it is to give, its terms, and the paths of its inputs. What has no path
+/// A run: its options, its aim, its terms, and the paths of its inputs. An input without a path
 /// comes from standard input.
 #[derive(Drop)]
 pub struct Task<'a> {
@@ -90,7 +90,7 @@ pub struct Task<'a> {
     pub part: Option<Part>,
 }
 
-/// An option with a value: what help calls the value, and what the option is for.
+/// An option with a value; the help text calls the value `value`, and says `help` of the option.
 pub fn named_argument<'a>(alloc: Global, name: &'a str, value: &'a str, help: &'a str) -> Arg<'a>
     ensures rule { rule_of result ≡ given.named name.entry.now }
     ensures global { result.global ≡ false }
@@ -101,7 +101,7 @@ pub fn named_argument<'a>(alloc: Global, name: &'a str, value: &'a str, help: &'
         .help(help)
 }
 
-/// An argument that is told by its place: what help calls it, and what happens without it.
+/// An argument that is known by its place; the help text calls it `value`, and says `help` of it.
 fn placed_argument<'a>(alloc: Global, name: &'a str, value: &'a str, help: &'a str) -> Arg<'a>
     ensures rule { rule_of result ≡ given.placed name.entry.now }
     ensures global { result.global ≡ false }
@@ -130,7 +130,7 @@ fn with_nodes<'a>(alloc: Global, command: Command<'a>) -> Result<Command<'a>, Al
     command.arg(named_argument(alloc, "observe", "NAME", help))
 }
 
-/// Adds the options that tell of workers and batches.
+/// Adds the options for workers and batches.
 fn with_numbers<'a>(alloc: Global, command: Command<'a>) -> Result<Command<'a>, AllocError>
     ensures { IfOk result (λ c. app_of c ≡ spec.with_numbers (app_of command.entry)) }
 {
@@ -152,7 +152,7 @@ fn with_switches<'a>(alloc: Global, command: Command<'a>) -> Result<Command<'a>,
     command.arg(switch_argument(alloc, "follow", help))
 }
 
-/// Adds the options that tell how the work is spread and the report is written.
+/// Adds the options for how the work is spread, and for a live report.
 fn with_spread<'a>(alloc: Global, command: Command<'a>) -> Result<Command<'a>, AllocError>
     ensures { IfOk result (λ c. app_of c ≡ spec.with_spread (app_of command.entry)) }
 {
@@ -185,7 +185,7 @@ fn command_line<'a>(alloc: Global) -> Result<Command<'a>, AllocError>
     with_inputs(alloc, command)
 }
 
-/// What the words give for an argument, or what stands for none.
+/// The value that the words give for the argument `id`, or its default.
 pub fn text_of<'a>(matches: &ArgMatches<'a>, id: &str) -> Option<&'a str>
     ensures { option_map (λ s. s.now) result ≡ first_of id.now (rows_of (found_of matches.now)) }
 {
@@ -268,8 +268,8 @@ pub fn names_trace(matches: &ArgMatches<'_>) -> bool
     text_of(matches, "show").is_some()
 }
 
-/// What the run that the words ask for is to give. The header says that the source is accepted,
-/// too.
+/// The aim of the run that the words ask for. `--header` comes before `--check`: a header says too
+/// that the source is accepted.
 fn aim_of(matches: &ArgMatches<'_>) -> Aim
     ensures { result ≡ spec.aim_of (rows_of (found_of matches.now)) }
 {
@@ -288,7 +288,7 @@ fn aim_of(matches: &ArgMatches<'_>) -> Aim
     }
 }
 
-/// Some paths.
+/// A copy of some paths.
 fn copied<'a>(alloc: Global, paths: &[&'a str]) -> Result<Vec<&'a str>, AllocError>
     ensures { IfOk result (λ copy. copy.items ≡ paths.now) }
 {
@@ -415,8 +415,8 @@ fn task_with<'a>(
     })
 }
 
-/// The run that the words ask for. A live report takes a worker at least, and the usual terms; what
-/// merges reports has no source; a part is one of a file.
+/// The run that the words ask for. A live report takes at least one worker, and the usual terms; a
+/// merge has no source; a part has a file of traces.
 fn read_task<'a>(alloc: Global, matches: &ArgMatches<'a>) -> Result<Task<'a>, Refusal>
     ensures ok { IfOk result (spec.IsTask (rows_of (found_of matches.now))) }
     ensures err { IfErr result (λ refusal. (refusal.number ≡ 0)
@@ -442,7 +442,7 @@ fn help(alloc: Global, error: &Error) -> Result<String, Refusal>
     }
 }
 
-/// What the parser makes of the words.
+/// The values that the parser finds in the words.
 fn parse<'a>(command: Command<'a>, words: &'a [String]) -> Result<ArgMatches<'a>, Error>
     requires { app_of command ≡ spec.command_line }
     ensures ok { IfOk result (λ matches.
@@ -454,7 +454,7 @@ fn parse<'a>(command: Command<'a>, words: &'a [String]) -> Result<ArgMatches<'a>
     command.try_get_matches_from(words)
 }
 
-/// What lawful words ask for.
+/// The request that lawful words make.
 fn request_of<'a>(alloc: Global, matches: &ArgMatches<'a>) -> Result<Request<'a>, Refusal>
     ensures ok { IfOk result (spec.IsRequestOf (rows_of (found_of matches.now))) }
     ensures err { IfErr result (λ refusal. (refusal.number ≡ 0)
@@ -466,8 +466,9 @@ fn request_of<'a>(alloc: Global, matches: &ArgMatches<'a>) -> Result<Request<'a>
     Ok(Request::Run(read_task(alloc, matches)?))
 }
 
-/// What the words ask for; the first is the program's name. The errors are E0 and E20.
-// Out of line, lest what the command line is made of stand on the stack of a whole run.
+/// The request that the words make; the first word is the program's name. The errors are E0 and
+/// E20.
+// Out of line, so that the parts of the command line do not stay on the stack of a whole run.
 #[inline(never)]
 #[tactic(auto, using(crate::proofs::Words::asks_for_help))]
 pub fn read_words(alloc: Global, words: &[String]) -> Result<Request<'_>, Refusal>

@@ -57,7 +57,7 @@ where
 }
 
 /// The report that the bench found on a source and the traces of a feed, where the words ask for no
-/// explanations: nothing is said beside it.
+/// explanations: there are no remarks beside it.
 fn reported(
     alloc: Global,
     source: Vec<u8>,
@@ -179,8 +179,8 @@ where
     }
 }
 
-/// What goes out of a report that was found, and what is said beside it: first what its terms ask
-/// for, then the remarks.
+/// The output for a report that was found, and what is said beside it: first the notes that its
+/// terms ask for, then the remarks.
 fn conclude_found(
     alloc: Global,
     task: &Task<'_>,
@@ -208,7 +208,7 @@ fn conclude_found(
     Ok(told.into_warned())
 }
 
-/// What goes out of the report of a task. What the terms name as an earlier report is `baseline`.
+/// The output for the report of a task; `baseline` is the earlier report that the terms name.
 fn told_report<R, F>(
     rt: &R,
     words: &[String],
@@ -232,8 +232,8 @@ where
     Ok(conclude_found(rt.alloc(), task, found, baseline)?)
 }
 
-/// Runs a task whose report is written at once, and answers the exit status. What the terms name as
-/// an earlier report is `baseline`.
+/// Runs a task whose report is written at once, and returns the exit status; `baseline` is the
+/// earlier report that the terms name.
 fn run_measured<R, F, W, E>(
     rt: &R,
     words: &[String],
@@ -271,8 +271,8 @@ where
     }
 }
 
-/// Runs a task whose report is written at once, and compares it with an earlier report.
-/// `earlier` is the text of that report. The answer is the exit status.
+/// Runs a task whose report is written at once and compared with an earlier report, and returns the
+/// exit status; `earlier` is the text of the earlier report.
 fn run_compared<R, F, W, E>(
     rt: &R,
     words: &[String],
@@ -306,7 +306,7 @@ where
     }
 }
 
-/// Runs a task whose report is written at once, and answers the exit status. An earlier report is
+/// Runs a task whose report is written at once, and returns the exit status. An earlier report is
 /// read before anything else.
 fn run_whole<R, F, W, E>(
     rt: &R,
@@ -342,7 +342,7 @@ where
     }
 }
 
-/// Runs a task, and answers the exit status.
+/// Runs a task, and returns the exit status.
 fn run_task<R, F, W, E>(
     rt: &R,
     words: &[String],
@@ -379,8 +379,9 @@ where
     }
 }
 
-/// Runs the program on these words, a feed and two sinks, and answers its exit status, as `command`
-/// does on streams of std. Feeds and sinks count their bytes, so this says how many bytes were read.
+/// Runs the program on these words, a feed and two sinks, and returns its exit status, as `command`
+/// does on streams of std. Feeds and sinks count their bytes, so the contract says how many bytes
+/// were read.
 pub fn run_command<R, F, W, E>(
     rt: &R,
     words: &[String],

@@ -19,7 +19,7 @@ use std::alloc::{AllocError, Global};
 use std::fs::Files;
 use std::os::unix::fs::FileExt;
 
-/// Why values did not go out whole.
+/// The fault of values that did not go out whole.
 #[derive(Drop)]
 pub enum ShowingFault {
     /// An input could not be read, the texts are refused, or nothing has a name that is asked for.
@@ -29,7 +29,7 @@ pub enum ShowingFault {
     Stopped(FollowError),
 }
 
-/// The names in a list that commas part.
+/// The names in a list that commas part, as `open,level`; empty where there is no list.
 fn listed<'a>(alloc: Global, names: Option<&'a str>) -> Result<Vec<&'a str>, AllocError> {
     let mut listed = Vec::new(alloc);
     if let Some(names) = names {
@@ -40,7 +40,7 @@ fn listed<'a>(alloc: Global, names: Option<&'a str>) -> Result<Vec<&'a str>, All
     Ok(listed)
 }
 
-/// What is shown, where the names of the variables are listed.
+/// The options for the values that are shown; `names` are the variables that are listed.
 fn asked<'a>(values: &Values<'a>, names: &'a [&'a str]) -> ShowOptions<'a>
     ensures { AreAsked values.now result }
 {
@@ -63,7 +63,7 @@ fn asked<'a>(values: &Values<'a>, names: &'a [&'a str]) -> ShowOptions<'a>
     }
 }
 
-/// Why the values are not shown, of some texts.
+/// The fault of a run, for the cause that the values of some texts are not shown.
 fn fault_of(
     alloc: Global,
     values: &Values<'_>,
@@ -86,7 +86,7 @@ fn fault_of(
     }
 }
 
-/// Writes the values on some texts, and answers what is to be warned of.
+/// Writes the values of some texts, and returns the warnings.
 fn show_texts<W: Sink>(
     alloc: Global,
     words: &[String],
@@ -144,7 +144,7 @@ where
     }
 }
 
-/// Writes the values of a task, and answers what is to be warned of.
+/// Writes the values of a task, and returns the warnings.
 fn show_task<R, F, W>(
     rt: &R,
     words: &[String],
@@ -173,7 +173,7 @@ where
     }
 }
 
-/// Runs a task that asks for the values of one trace, and answers the exit status: 0 where they
+/// Runs a task that asks for the values of one trace, and returns the exit status: 0 where they
 /// went out.
 pub fn run_showing<R, F, W, E>(
     rt: &R,

@@ -14,8 +14,8 @@ use std::sync::Wait;
 use std::thread::Threads;
 use std::time::Clock;
 
-/// Runs the program on these words, a feed and the sinks of two writers, and answers its exit
-/// status. Behind it the sinks still lend to the same writers.
+/// Runs the program on these words, a feed and the sinks of two writers, and returns its exit
+/// status. Behind the run the sinks still lend their bytes to the same writers.
 fn run_on<'o, 'e, R, F, O, E>(
     rt: &R,
     words: &[String],
@@ -49,7 +49,7 @@ where
     run_command(rt, words, reader, output, errors)
 }
 
-/// Runs the program on these words, the program's name first, and answers its exit status.
+/// Runs the program on these words, the program's name first, and returns its exit status.
 ///
 /// | Status | When |
 /// |---|---|

@@ -1,4 +1,4 @@
-//! What a run is measured by, and how its report is written.
+//! The terms of a run: its measure, an earlier report, and the format of its report.
 
 ghost use Rattle.std.specs.Prelude.{◌≡◌, IfErr, IfOk, None, OnErr, Some, option_map};
 ghost use Rattle.clap.specs.Words.{first_of, found_of, rows_of};
@@ -10,7 +10,7 @@ use crate::request::{is_given, names_trace, text_of};
 use clap::ArgMatches;
 use lb_listing::Measure;
 
-/// How a report is written.
+/// The format of a report.
 #[derive(Clone, Copy)]
 pub enum Format {
     /// A line for each trace, and a last line that counts.
@@ -19,7 +19,7 @@ pub enum Format {
     Junit,
 }
 
-/// What a run is measured by, and how its report is written.
+/// The terms of a run: its measure, an earlier report, and the format of its report.
 #[derive(Clone, Copy)]
 pub struct Terms<'a> {
     pub measure: Measure,
@@ -29,7 +29,7 @@ pub struct Terms<'a> {
 }
 
 impl Terms<'_> {
-    /// Whether these are the terms of a run that is asked for nothing else.
+    /// Whether these are the usual terms: the run is asked for nothing but its report.
     pub fn are_usual(&self) -> bool
         ensures { result ≡ spec.are_usual self.now }
     {
@@ -40,7 +40,7 @@ impl Terms<'_> {
     }
 }
 
-/// What a run is measured by.
+/// The measure that the words give.
 fn measure_of(matches: &ArgMatches<'_>) -> Measure
     ensures { result ≡ spec.measure_of (rows_of (found_of matches.now)) }
 {

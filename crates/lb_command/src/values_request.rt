@@ -12,16 +12,16 @@ use clap::{ArgMatches, Command};
 use lb_values::Format;
 use std::alloc::{AllocError, Global};
 
-/// The most instants that are shown, where their number is told.
+/// The greatest number that `--last` takes.
 const MOST_INSTANTS: u32 = 1_000_000_000;
 
-/// Which values are shown, and how.
+/// The values that are shown, and their format.
 #[derive(Clone, Copy)]
 pub struct Values<'a> {
     /// The name of the trace.
     pub trace: &'a str,
     pub format: Format,
-    /// How many of the last instants are shown; 0 for all of them, and in a picture for 200.
+    /// The number of last instants that are shown; 0 for all of them, and in a picture for 200.
     pub last: u32,
     /// Whether the variables of every instance are shown.
     pub is_whole: bool,

@@ -13,21 +13,21 @@ use Rattle.lb_check.specs.declared.error.CheckError.TheVariants as check
 use Rattle.lb_flat.specs.declared.error.CyclePlace.{CyclePlace}
 use Rattle.lb_flat.specs.declared.error.OrderError.{OrderError}
 use Rattle.lb_flat.specs.declared.error.OrderError.TheVariants as order
-use Rattle.lb_report.specs.declared.error.BenchError.{BenchError}
-use Rattle.lb_report.specs.declared.error.BenchError.TheVariants as bench
+use Rattle.lb_refusal.specs.declared.error.BenchError.{BenchError}
+use Rattle.lb_refusal.specs.declared.error.BenchError.TheVariants as bench
 
--- the first call of a cycle of calls
+-- the offset of the first call of a cycle of calls
 abbrev pub first_call : List CycleCall → Option ℕ
 first_call [] = None
 first_call (call ∷ calls) = Some call.offset
 
--- the first element of a cycle of elements
+-- the offset of the first element of a cycle of elements
 abbrev pub first_element : List CyclePlace → Option ℕ
 first_element [] = None
 first_element (place ∷ places) = Some place.offset
 
--- what breaks a rule of names, static values and instances; the text's first byte for a node under
--- test that is nowhere
+-- the offset of what breaks a rule of names, static values or instances; 0 for a node under test or
+-- an observer that the text does not declare
 abbrev pub static_offset : StaticError → Option ℕ
 static_offset static.Memory = None
 static_offset (static.Name fault) = Some (unwrap_or fault.value.offset 0)
@@ -37,14 +37,14 @@ static_offset (static.Value fault) = Some fault.value.offset
 static_offset (static.Range fault) = Some fault.value.offset
 static_offset (static.Instances fault) = None
 
--- what breaks a rule of types, clocks or definitions
+-- the offset of what breaks a rule of types, clocks or definitions
 abbrev pub check_offset : CheckError → Option ℕ
 check_offset check.Memory = None
 check_offset (check.Type fault) = Some fault.value.offset
 check_offset (check.Clock fault) = Some fault.value.offset
 check_offset (check.Definition fault) = Some fault.value.offset
 
--- the first element that needs itself
+-- the offset of the first element that needs itself
 abbrev pub order_offset : OrderError → Option ℕ
 order_offset order.Memory = None
 order_offset (order.Cycle cycle) = first_element cycle.value.places.items
@@ -61,7 +61,7 @@ syntax_place (syntax.Character line column) = Some (line, column)
 syntax_place (syntax.Syntax line column) = Some (line, column)
 syntax_place (syntax.Size line column) = Some (line, column)
 
--- where in the source the error stands, as far as it holds that
+-- the line and the column of an error in the source, if the error holds its place
 abbrev pub place_in : (source : List ℕ) → BenchError → Option (ℕ × ℕ)
 place_in source bench.Memory = None
 place_in source (bench.Syntax cause) = syntax_place cause
@@ -71,7 +71,7 @@ place_in source (bench.Flat cause) = None
 place_in source (bench.Order cause) = place_at source (order_offset cause)
 place_in source (bench.Trace cause) = None
 
--- what the first line begins with, as `pump.lus:14:13: error: `
+-- the beginning of the first line, as `pump.lus:14:13: error: `
 abbrev pub head : (name : List ℕ) → (line column : ℕ) → List ℕ
 head name line column =
     name ++ codes ":" ++ decimal line ++ codes ":" ++ decimal column ++ codes ": error: "

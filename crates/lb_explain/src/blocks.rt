@@ -4,10 +4,10 @@ ghost use Rattle.std.specs.Prelude.{◌<◌, length};
 
 use std::simd::prelude::*;
 
-/// How many bytes are looked at together.
+/// The number of bytes that are looked at together.
 pub const BLOCK: usize = 32;
 
-/// A bit for each of 32 bytes: set where it is this one.
+/// A bit for each of 32 bytes: set where the byte is `byte`.
 #[inline(always)]
 pub fn places_of(block: &[u8], byte: u8) -> u64
     requires { 31 < length block.now }
@@ -17,7 +17,7 @@ pub fn places_of(block: &[u8], byte: u8) -> u64
         .to_bitmask()
 }
 
-/// A bit for each of 32 bytes: set where it is a letter.
+/// A bit for each of 32 bytes: set where the byte is a letter.
 #[inline(always)]
 pub fn letters_of(block: &[u8]) -> u64
     requires { 31 < length block.now }

@@ -5,7 +5,7 @@ pub fn byte_at(text: &[u8], at: usize) -> u8 {
     if at < text.len() { text[at] } else { 0 }
 }
 
-/// The bytes from one place to another, as far as the text has them.
+/// The bytes from `from` to `to`, as far as the text has them.
 pub fn part(text: &[u8], from: usize, to: usize) -> &[u8] {
     let end = to.min(text.len());
     let start = from.min(end);
@@ -27,7 +27,7 @@ pub fn find(text: &[u8], from: usize, byte: u8) -> usize {
     text.len()
 }
 
-/// How often a text has a byte.
+/// The number of times that a text has `byte`.
 pub fn count(text: &[u8], byte: u8) -> usize {
     let mut count: usize = 0;
     for b in text {

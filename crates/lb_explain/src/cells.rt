@@ -93,8 +93,8 @@ pub fn put_other_separator(page: &mut String, line: &[u8]) -> Result<(), AllocEr
     Ok(())
 }
 
-/// What to mark of a record of a wrong length: the cells that are too many, or the whole record
-/// where cells are missing.
+/// The bytes to mark of a record of a wrong length: the cells that are too many, or the whole
+/// record where cells are missing.
 fn marked(text: &[u8], record: &Cursor, columns: usize) -> CellPlace {
     let end = end_of_record(text, record.at);
     match cell_at(text, record.at, columns) {
@@ -149,13 +149,6 @@ pub fn explain_length(
     put_length(page, alloc, text, &record, cells, columns)
 }
 
-/// Puts how many cells a record has, and how many the header has.
-fn put_lengths(page: &mut String, cells: usize, columns: usize) -> Result<(), AllocError> {
-    page.push_str("this record has ")?;
-    put_count(page, cells, "cell")?;
-    write!(page, ", and the header has {columns}\n")
-}
-
 /// Puts the explanation of E15 for a record.
 fn put_length(
     page: &mut String,
@@ -168,7 +161,9 @@ fn put_length(
     let found = marked(text.bytes, record, columns);
     let place = stretch_of(text, record, found.start, found.end);
     put_place(page, text, &place, "error")?;
-    put_lengths(page, cells, columns)?;
+    page.push_str("this record has ")?;
+    put_count(page, cells, "cell")?;
+    write!(page, ", and the header has {columns}\n")?;
     put_excerpt(page, text, &place)?;
     put_length_mend(page, text.bytes, record, cells, columns)?;
     put_record(page, alloc, text.bytes, record)
@@ -193,7 +188,7 @@ fn has_digits_alone(bytes: &[u8]) -> bool {
     true
 }
 
-/// How to mend an integer that is out of range; nothing for one that is in range.
+/// The mend of an integer that is out of range; empty for one that is in range.
 fn mend_of_range(cell: &[u8]) -> &'static str {
     let most: u64 = if cell.starts_with(b"-".as_slice()) {
         2_147_483_648
@@ -224,7 +219,7 @@ pub fn is_padded(cell: &[u8]) -> bool {
     matches!(cell, [b' ' | b'\t', ..] | [.., b' ' | b'\t'])
 }
 
-/// How to mend a cell of an integer column; nothing where the cell is an integer in range.
+/// The mend of a cell of an integer column; empty where the cell is an integer in range.
 fn mend_of_int(cell: &[u8]) -> &'static str {
     if is_integer(cell) {
         return mend_of_range(cell);
@@ -238,7 +233,7 @@ fn mend_of_int(cell: &[u8]) -> &'static str {
     }
 }
 
-/// The same for other cells, by the characters in them.
+/// The mend of another cell of an integer column, by the characters in it.
 fn mend_of_digits(cell: &[u8]) -> &'static str {
     if count(cell, b'.') == 1 && has_digits_alone_but(cell, b'.') {
         return "write the number without a point; scale it if need be";
@@ -252,7 +247,7 @@ fn mend_of_digits(cell: &[u8]) -> &'static str {
     "write at most 20 digits, with or without a `-` before them"
 }
 
-/// Whether all bytes are digits, `+`, `-` or this one.
+/// Whether all bytes are digits, `+`, `-` or `sign`.
 fn has_digits_alone_but(bytes: &[u8], sign: u8) -> bool {
     for b in bytes {
         if !b.is_ascii_digit() && *b != sign && *b != b'-' && *b != b'+' {
@@ -262,7 +257,7 @@ fn has_digits_alone_but(bytes: &[u8], sign: u8) -> bool {
     true
 }
 
-/// How to mend a cell of a Boolean column that is no truth value.
+/// The mend of a cell of a Boolean column that is no truth value.
 fn mend_of_bool(cell: &[u8]) -> &'static str {
     if cell.eq_ignore_ascii_case(b"true") {
         return "write `true`, in small letters, or 1";
@@ -312,27 +307,13 @@ fn put_no_value(
     page.push_str(" is no value of it\n")
 }
 
-/// How to mend a cell; nothing where it is a value of its kind.
+/// The mend of a cell; empty where it is a value of its kind.
 fn mend_of(kind: Kind, cell: &[u8]) -> &'static str {
     match kind {
         Kind::Int => mend_of_int(cell),
         Kind::Bool if is_bool(cell) => "",
         Kind::Bool => mend_of_bool(cell),
     }
-}
-
-/// Puts where a cell stands that is no value of its column.
-fn put_wrong_value(
-    page: &mut String,
-    text: &Text<'_>,
-    place: &Stretch,
-    column: &[u8],
-    kind: Kind,
-    cell: &[u8],
-) -> Result<(), AllocError> {
-    put_place(page, text, place, "error")?;
-    put_no_value(page, column, kind, cell)?;
-    put_excerpt(page, text, place)
 }
 
 /// Puts the explanation of E16 for a cell of a record.
@@ -351,7 +332,9 @@ fn put_value(
         return Ok(());
     }
     let place = stretch_of(text, record, found.start, found.end);
-    put_wrong_value(page, text, &place, column, kind, cell.as_slice())?;
+    put_place(page, text, &place, "error")?;
+    put_no_value(page, column, kind, cell.as_slice())?;
+    put_excerpt(page, text, &place)?;
     write!(page, "help: {mend}\n")?;
     put_record(page, alloc, text.bytes, record)
 }

@@ -11,7 +11,7 @@ fn opens_comment(text: &[u8], at: usize) -> bool {
     piece_at(text, at).sort == Sort::Blank
 }
 
-/// How to mend a byte that begins no token, by it and the byte behind it.
+/// The mend of a byte that begins no token, by this byte and the one behind it.
 fn mend_of(first: u8, second: u8) -> &'static str {
     match (first, second) {
         (b'!', b'=') => "unequal is written `<>`",
@@ -26,7 +26,7 @@ fn mend_of(first: u8, second: u8) -> &'static str {
     }
 }
 
-/// The same for bytes outside of ASCII, and for control bytes.
+/// The mend of a byte outside of ASCII or of a control byte, by this byte and the one behind it.
 fn mend_of_byte(first: u8, second: u8) -> &'static str {
     match (first, second) {
         (0xEF, 0xBB) => "save the file as UTF-8 without a byte order mark",
@@ -75,7 +75,7 @@ fn put_mend(page: &mut String, text: &[u8], at: usize) -> Result<(), AllocError>
     write!(page, "help: {mend}\n")
 }
 
-/// Puts how a comment is closed that begins with this byte and `*`.
+/// Puts how a comment is closed that begins with `first` and `*`.
 fn put_closing(page: &mut String, first: u8) -> Result<(), AllocError> {
     if first == b'(' {
         return page.push_str("help: `(*` is closed by the next `*)`\n");
@@ -83,7 +83,7 @@ fn put_closing(page: &mut String, first: u8) -> Result<(), AllocError> {
     page.push_str("help: `/*` is closed by the next `*/`\n")
 }
 
-/// How many bytes to mark.
+/// The number of bytes to mark.
 fn marked(text: &[u8], at: usize) -> usize {
     if opens_comment(text, at) {
         return 2;

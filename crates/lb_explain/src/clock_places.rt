@@ -1,4 +1,4 @@
-//! Where a clock of a node comes from: a declaration of a variable, or a `when`.
+//! The places that give clocks in a node: declarations of variables, and `when`.
 
 use crate::declared::node_named;
 use crate::lexeme::{Lexeme, Sort, token_at};
@@ -12,7 +12,7 @@ struct Waiting {
     sign: bool,
 }
 
-/// What gives a part of a statement its clock.
+/// The place that gives a part of a statement its clock.
 #[derive(Clone, Copy)]
 pub enum ClockPlace {
     /// The declaration of a variable, by its name there.
@@ -21,7 +21,7 @@ pub enum ClockPlace {
     When(Lexeme),
 }
 
-/// The statements of a node: the text, and where its heading begins, after its name.
+/// A node of a text; its heading goes on at `heading`, behind its name.
 #[derive(Clone, Copy)]
 pub struct NodeText<'t> {
     text: &'t [u8],
@@ -84,7 +84,7 @@ fn ends_declaration(text: &[u8], token: &Lexeme, nested: usize) -> bool {
     token.sort == Sort::End || nested == 0 && token.is_among(text, &[b";", b")", b"let"])
 }
 
-/// How many parentheses are open behind a token; `nested` are open before it.
+/// The number of parentheses that are open behind a token; `nested` are open before it.
 fn nested_after(text: &[u8], token: &Lexeme, nested: usize) -> usize {
     if token.is(text, b"(".as_slice()) {
         return nested.saturating_add(1);
@@ -123,7 +123,7 @@ fn gives(text: &[u8], waiting: &Waiting, clock: &SourceClock) -> bool {
     }
 }
 
-/// Where a variable is declared, if its clock is this one.
+/// The declaration of a variable, if its clock is `clock`.
 fn declared_on(node: &NodeText<'_>, name: &[u8], clock: &SourceClock) -> Option<Lexeme> {
     let declaration = declaration_of(node, name)?;
     let is_right = match declared_clock(node.text, declaration.end) {
@@ -133,7 +133,7 @@ fn declared_on(node: &NodeText<'_>, name: &[u8], clock: &SourceClock) -> Option<
     if is_right { Some(declaration) } else { None }
 }
 
-/// Where the variable at a place is declared, if its clock is this one.
+/// The declaration of the variable at a place, if its clock is `clock`.
 pub fn place_of_variable(
     node: &NodeText<'_>,
     at: usize,
@@ -144,14 +144,14 @@ pub fn place_of_variable(
     Some(ClockPlace::Declaration(declaration))
 }
 
-/// Where the variable of the `when` at a place is declared, if its clock is this one.
+/// The declaration of the variable of the `when` at a place, if its clock is `clock`.
 pub fn place_of_waited(node: &NodeText<'_>, at: usize, clock: &SourceClock) -> Option<ClockPlace> {
     let waiting = waiting_at(node.text, token_at(node.text, at));
     let declaration = declared_on(node, waiting.variable.of(node.text), clock)?;
     Some(ClockPlace::Declaration(declaration))
 }
 
-/// The place that gives a clock, if a token is one, and where the search for another goes on.
+/// The place that gives `clock`, if `token` gives it, and the offset at which the search goes on.
 fn place_at(
     node: &NodeText<'_>,
     token: Lexeme,
@@ -195,7 +195,7 @@ pub fn place_after(node: &NodeText<'_>, from: usize, clock: &SourceClock) -> Opt
     None
 }
 
-/// The last place between two others that gives a clock.
+/// The last place between `from` and `to` that gives a clock.
 pub fn place_before(
     node: &NodeText<'_>,
     from: usize,

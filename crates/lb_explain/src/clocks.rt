@@ -4,7 +4,7 @@ use crate::clock_places::{
     ClockPlace, NodeText, place_after, place_before, place_of_variable, place_of_waited,
 };
 use crate::excerpt::{put_bytes, put_place};
-use crate::interfaces::{Interface, interface_of};
+use crate::interfaces::interface_of;
 use crate::lexeme::{Lexeme, Sort, token_at};
 use crate::marking::{put_marked, word_of};
 use crate::paths::put_path;
@@ -73,7 +73,7 @@ fn put_rule(page: &mut String, text: &Text<'_>, fault: &ClockFault) -> Result<()
     }
 }
 
-/// The same, for the rules of `current`, iterators and declarations.
+/// Puts the rule that is broken, for the rules of `current`, iterators and declarations.
 fn put_further_rule(page: &mut String, fault: &ClockFault) -> Result<(), AllocError> {
     match fault.rule {
         ClockRule::Current => {
@@ -130,7 +130,7 @@ fn put_origin(
     page.push('\n')
 }
 
-/// What gives the clock that was found.
+/// The declaration or the `when` that gives the clock that was found.
 fn found_place(node: &NodeText<'_>, fault: &ClockFault, clock: &SourceClock) -> Option<ClockPlace> {
     let at = fault.offset as usize;
     match fault.rule {
@@ -139,7 +139,7 @@ fn found_place(node: &NodeText<'_>, fault: &ClockFault, clock: &SourceClock) -> 
     }
 }
 
-/// What gives the clock that is wanted.
+/// The declaration or the `when` that gives the clock that is wanted.
 fn wanted_place(
     node: &NodeText<'_>,
     fault: &ClockFault,
@@ -185,40 +185,6 @@ fn callee_before(
     Ok(opened.pop())
 }
 
-/// The name of an input of a called node, counted from 1.
-fn name_of_input(called: &Option<Interface>, argument: usize) -> Option<Lexeme> {
-    let input = called.as_ref()?.inputs.get(argument.saturating_sub(1))?;
-    Some(input.name)
-}
-
-/// The name of the input of a called node for an argument, where the node is declared.
-fn input_for(
-    alloc: Global,
-    text: &[u8],
-    callee: &Lexeme,
-    argument: usize,
-) -> Result<Option<Lexeme>, AllocError> {
-    let called = interface_of(alloc, text, callee.of(text))?;
-    let name = name_of_input(&called, argument);
-    drop(called);
-    Ok(name)
-}
-
-/// Puts where a called node declares an input.
-fn put_declared_input(
-    page: &mut String,
-    text: &Text<'_>,
-    input: &Lexeme,
-    callee: &Lexeme,
-) -> Result<(), AllocError> {
-    put_place(page, text, &spot(text, input.start, input.end), "note")?;
-    page.push_str("the input `")?;
-    put_bytes(page, input.of(text.bytes))?;
-    page.push_str("` of ")?;
-    put_bytes(page, callee.of(text.bytes))?;
-    page.push_str(" is declared here\n")
-}
-
 /// Puts where the called node declares the input for an argument.
 fn put_input(
     page: &mut String,
@@ -231,10 +197,19 @@ fn put_input(
     let Some(callee) = callee_before(alloc, text.bytes, from, place)? else {
         return Ok(());
     };
-    match input_for(alloc, text.bytes, &callee, argument)? {
-        Some(input) => put_declared_input(page, text, &input, &callee),
-        None => Ok(()),
-    }
+    let Some(interface) = interface_of(alloc, text.bytes, callee.of(text.bytes))? else {
+        return Ok(());
+    };
+    let Some(input) = interface.inputs.get(argument.saturating_sub(1)) else {
+        return Ok(());
+    };
+    let name = input.name;
+    put_place(page, text, &spot(text, name.start, name.end), "note")?;
+    page.push_str("the input `")?;
+    put_bytes(page, name.of(text.bytes))?;
+    page.push_str("` of ")?;
+    put_bytes(page, callee.of(text.bytes))?;
+    page.push_str(" is declared here\n")
 }
 
 /// Puts where the clocks come from.

@@ -52,7 +52,7 @@ fn has_name(names: &[Vec<u8>], name: &[u8]) -> bool {
     false
 }
 
-/// What is wrong with a header at some column.
+/// A fault of a header at some column.
 #[derive(Clone, Copy, PartialEq, Eq)]
 enum Fault {
     /// The first cell is not `trace`.
@@ -62,7 +62,7 @@ enum Fault {
     Doubled,
 }
 
-/// The first wrong column, counted from 0, and what is wrong there.
+/// The first wrong column, counted from 0, and its fault.
 fn first_fault(signature: &Signature, header: &Header) -> Option<(usize, Fault)> {
     if header.first.as_slice() != b"trace".as_slice() {
         return Some((0, Fault::First));
@@ -107,7 +107,7 @@ fn put_listed(page: &mut String, word: &str, found: usize, name: &str) -> Result
     Ok(())
 }
 
-/// Ends the line of a list of `found` names, with how many of them it does not show.
+/// Ends the line of a list of `found` names, with the number of names that it does not show.
 fn end_list(page: &mut String, found: usize) -> Result<(), AllocError> {
     if found == 0 {
         return Ok(());
@@ -187,7 +187,7 @@ fn put_fault(page: &mut String, fault: Fault, name: &[u8]) -> Result<(), AllocEr
     page.push('\n')
 }
 
-/// What to mark: the cell of the wrong column, or the whole header where there is none.
+/// The bytes to mark: the cell of the wrong column, or the whole header where there is none.
 fn marked(text: &[u8], header: &Header, column: Option<usize>) -> CellPlace {
     let whole = CellPlace {
         start: header.start.at,
@@ -247,7 +247,7 @@ fn put_lists(
     put_wanted(page, signature)
 }
 
-/// Puts a right header; one of many columns is cut off.
+/// Puts a right header, with at most `MOST_WANTED` inputs.
 fn put_wanted(page: &mut String, signature: &Signature) -> Result<(), AllocError> {
     page.push_str("wanted: trace")?;
     for i in 0..signature.len().min(MOST_WANTED) {

@@ -1,4 +1,4 @@
-//! Where in a source a place lies: in which part of which node.
+//! The part of a source, and the node, that a place lies in.
 
 use crate::landmarks::{Passed, pass};
 use crate::lexeme::{Lexeme, Sort, piece_at, run_start};
@@ -21,16 +21,16 @@ pub enum Section {
 #[derive(Clone, Copy)]
 pub struct Context {
     pub part: Section,
-    /// Where the heading, the statement or the constant begins that the place lies in.
+    /// The start of the heading, the statement or the constant that the place lies in.
     pub start: usize,
-    /// Where the last `node` or `function` stands, or the `const` behind it.
+    /// The start of the last `node` or `function`, or of the `const` behind it.
     pub node: usize,
-    /// How many static brackets are open.
+    /// The number of open static brackets.
     depth: usize,
 }
 
 impl Context {
-    /// At the start of a text.
+    /// The context at the start of a text.
     const START: Context = Context {
         part: Section::Top,
         start: 0,
@@ -38,7 +38,7 @@ impl Context {
         depth: 0,
     };
 
-    /// Another part, which begins at a place; the node is the same.
+    /// The context of part `part` of the same node, which begins at `start`.
     fn at(&self, part: Section, start: usize) -> Context {
         Context {
             part,
@@ -48,7 +48,7 @@ impl Context {
         }
     }
 
-    /// The same with another number of open static brackets.
+    /// This context with `depth` open static brackets.
     fn with_depth(&self, depth: usize) -> Context {
         Context {
             part: self.part,
@@ -58,7 +58,7 @@ impl Context {
         }
     }
 
-    /// After a reserved word.
+    /// The context after a reserved word.
     fn after_word(&self, text: &[u8], token: &Lexeme) -> Context {
         let inner = self.part == Section::Heading || self.part == Section::Body;
         match token.word(text) {
@@ -80,7 +80,7 @@ impl Context {
         }
     }
 
-    /// After a symbol.
+    /// The context after a symbol.
     fn after_symbol(&self, text: &[u8], token: &Lexeme) -> Context {
         match token.of(text) {
             b"<<" => self.with_depth(self.depth.saturating_add(1)),
@@ -90,7 +90,7 @@ impl Context {
         }
     }
 
-    /// After a `;` that ends at a place.
+    /// The context after a `;` that ends at `end`.
     fn after_semicolon(&self, end: usize) -> Context {
         if self.depth > 0 || self.part == Section::Heading {
             return *self;
@@ -98,7 +98,7 @@ impl Context {
         self.at(self.part, end)
     }
 
-    /// After a token.
+    /// The context after a token.
     fn after(&self, text: &[u8], token: &Lexeme) -> Context {
         if token.sort != Sort::Mark {
             return *self;
@@ -110,7 +110,7 @@ impl Context {
     }
 }
 
-/// A place between two tokens, and the part that it lies in.
+/// A place between two tokens, and its context.
 #[derive(Clone, Copy)]
 struct Reached {
     context: Context,
@@ -118,7 +118,7 @@ struct Reached {
 }
 
 impl Reached {
-    /// After a stretch without landmarks.
+    /// The context after a stretch without landmarks.
     fn past(&self, passed: &Passed) -> Context {
         match passed.statement {
             Some(end) => self.context.after_semicolon(end),
@@ -126,7 +126,7 @@ impl Reached {
         }
     }
 
-    /// After the next token.
+    /// The place after the next token, and its context.
     fn step(&self, text: &[u8]) -> Reached {
         let token = piece_at(text, self.at);
         Reached {
@@ -135,7 +135,8 @@ impl Reached {
         }
     }
 
-    /// After the next landmark, or some more tokens before a place.
+    /// The place after the next landmark, or after some more tokens where none comes before
+    /// `place`.
     fn advance(&self, text: &[u8], place: usize) -> Reached {
         let passed = pass(text, self.at, place);
         let mut reached = Reached {
@@ -152,7 +153,7 @@ impl Reached {
     }
 }
 
-/// The part that a place lies in.
+/// The context of a place.
 pub fn context_of(text: &[u8], place: usize) -> Context {
     let mut reached = Reached {
         context: Context::START,

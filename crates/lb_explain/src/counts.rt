@@ -2,7 +2,7 @@
 
 use std::alloc::AllocError;
 
-/// Puts how many there are, as `1 cell` or `3 cells`.
+/// Puts a number of things, as `1 cell` or `3 cells`.
 pub fn put_count(page: &mut String, count: usize, thing: &str) -> Result<(), AllocError> {
     write!(page, "{count} {thing}")?;
     if count != 1 {

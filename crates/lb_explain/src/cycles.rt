@@ -6,12 +6,12 @@ use crate::texts::Text;
 use lb_flat::{Cycle, CyclePlace};
 use std::alloc::AllocError;
 
-/// The most elements that are shown, and how many of them stand in one line.
+/// The most elements that are shown, and the number of them in one line.
 const MOST: usize = 27;
 
 const IN_LINE: usize = 3;
 
-/// Puts what stands between an element of the cycle, by its number, and the one before it.
+/// Puts the words between element `place` of a cycle and the element before it.
 fn put_joint(page: &mut String, place: usize) -> Result<(), AllocError> {
     match place {
         0 => Ok(()),

@@ -3,7 +3,7 @@
 use crate::lexeme::{Lexeme, Sort, piece_at, token_at};
 use crate::near::Nearest;
 
-/// Which names a search takes.
+/// The sorts of names that a search takes.
 #[derive(Clone, Copy)]
 pub struct Sorts {
     pub nodes: bool,

@@ -10,27 +10,25 @@ use std::alloc::AllocError;
 /// The most definitions that are shown.
 const MOST: usize = 6;
 
-/// Puts that a function has memory.
-fn put_memory(
-    page: &mut String,
-    text: &Text<'_>,
-    fault: &DefinitionFault,
-) -> Result<(), AllocError> {
-    page.push_str("a function has no memory, and `")?;
-    put_bytes(page, word_of(text, fault.offset))?;
-    page.push_str("` has one\n")
-}
-
 /// Puts the rule that is broken.
 fn put_rule(page: &mut String, text: &Text<'_>, fault: &DefinitionFault) -> Result<(), AllocError> {
-    let (before, behind) = match fault.rule {
-        DefinitionRule::Undefined => ("", " is never defined"),
-        DefinitionRule::Doubled => ("", " is defined more than once"),
-        DefinitionRule::DefinedInput => ("", " is an input, and is defined"),
-        DefinitionRule::NodeCall => ("a function calls functions alone, and ", " is a node"),
-        DefinitionRule::Memory => return put_memory(page, text, fault),
-    };
-    write!(page, "{before}`{}`{behind}\n", fault.name.as_str())
+    let name = fault.name.as_str();
+    match fault.rule {
+        DefinitionRule::Undefined => write!(page, "`{name}` is never defined\n"),
+        DefinitionRule::Doubled => write!(page, "`{name}` is defined more than once\n"),
+        DefinitionRule::DefinedInput => write!(page, "`{name}` is an input, and is defined\n"),
+        DefinitionRule::NodeCall => {
+            write!(
+                page,
+                "a function calls functions alone, and `{name}` is a node\n"
+            )
+        }
+        DefinitionRule::Memory => {
+            page.push_str("a function has no memory, and `")?;
+            put_bytes(page, word_of(text, fault.offset))?;
+            page.push_str("` has one\n")
+        }
+    }
 }
 
 /// Puts where a variable is defined.

@@ -15,7 +15,8 @@ const WIDTH: usize = 80;
 /// The character that a byte order mark is.
 const BYTE_ORDER_MARK: char = '\u{FEFF}';
 
-/// What is shown for a byte of a text that is not UTF-8: `?` where the byte is not printable.
+/// The character that stands for a byte of a text that is not UTF-8: `?` where the byte is not
+/// printable.
 fn plain_char(b: u8) -> char {
     match b {
         b'\t' => ' ',
@@ -64,7 +65,7 @@ pub fn put_times(page: &mut String, c: char, times: usize) -> Result<(), AllocEr
     Ok(())
 }
 
-/// How many columns bytes take.
+/// The number of columns that bytes take.
 fn columns(bytes: &[u8]) -> usize {
     let mut columns: usize = 0;
     for b in bytes {
@@ -73,7 +74,7 @@ fn columns(bytes: &[u8]) -> usize {
     columns
 }
 
-/// Which bytes of a line are shown.
+/// The bytes of a line that are shown.
 #[derive(Clone, Copy)]
 struct Window {
     from: usize,
@@ -97,7 +98,7 @@ fn plain_window(length: usize, at: usize) -> Window {
     }
 }
 
-/// The same, moved so that it cuts no character.
+/// `plain_window`, moved so that it cuts no character.
 fn whole_window(line: &[u8], at: usize) -> Window {
     let found = plain_window(line.len(), at);
     Window {
@@ -117,7 +118,7 @@ fn next_whole(line: &[u8], at: usize) -> usize {
     at
 }
 
-/// How many digits a number has.
+/// The number of digits of `n`.
 fn digits(n: u64) -> usize {
     let mut left = n / 10;
     let mut digits: usize = 1;
@@ -136,7 +137,7 @@ fn margin(line: u64) -> usize {
     digits(line).max(5)
 }
 
-/// Puts the margin with a number.
+/// Puts the margin with the number of a line.
 fn put_margin(page: &mut String, line: u64) -> Result<(), AllocError> {
     put_times(page, ' ', margin(line).saturating_sub(digits(line)))?;
     write!(page, "{line} | ")

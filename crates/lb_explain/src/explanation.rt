@@ -14,8 +14,8 @@ use crate::syntax::explain_syntax;
 use crate::texts::Text;
 use crate::trace_limits::explain_limit;
 use crate::trace_names::explain_trace_name;
-use lb_report::{BenchError, Options};
-use lb_static::{Elab, Signature, StaticError, elaborate};
+use lb_refusal::{BenchError, Options};
+use lb_static::{Signature, elaborate};
 use lb_syntax::{SyntaxError, parse};
 use lb_trace::TraceError;
 use std::alloc::{AllocError, Global};
@@ -23,7 +23,7 @@ use std::alloc::{AllocError, Global};
 /// The most lines of an explanation.
 const MOST_LINES: usize = 19;
 
-/// What was judged: the two texts, and the options of the run.
+/// The two texts that were judged, and the options of the run.
 #[derive(Drop)]
 struct Subject<'a> {
     alloc: Global,
@@ -49,17 +49,6 @@ fn explain_syntax_error(
     }
 }
 
-/// The inputs of the node under test, where the program was accepted.
-fn copy_of_signature(
-    alloc: Global,
-    elaborated: &Result<Elab, StaticError>,
-) -> Result<Option<Signature>, AllocError> {
-    match elaborated {
-        Ok(elab) => Ok(Some(elab.signature().copy(alloc)?)),
-        Err(_) => Ok(None),
-    }
-}
-
 /// The inputs of the node under test of a source that was accepted.
 fn signature_of(
     alloc: Global,
@@ -69,10 +58,10 @@ fn signature_of(
     let Ok(tree) = parse(alloc, source) else {
         return Ok(None);
     };
-    let elaborated = elaborate(alloc, &tree, options.node.as_str(), options.observer_name());
-    let signature = copy_of_signature(alloc, &elaborated);
-    drop(elaborated);
-    signature
+    match elaborate(alloc, &tree, options.node.as_str(), options.observer_name()) {
+        Ok(elab) => Ok(Some(elab.signature().copy(alloc)?)),
+        Err(_) => Ok(None),
+    }
 }
 
 /// Explains E14 or E16, which need the inputs of the node under test.
@@ -126,7 +115,7 @@ fn put_all(page: &mut String, subject: &Subject<'_>, error: &BenchError) -> Resu
     }
 }
 
-/// The first lines of a text.
+/// The first `MOST_LINES` lines of a text, or all of it where it has fewer.
 fn first_lines(text: &[u8]) -> &[u8] {
     let mut lines: usize = 0;
     for (at, b) in text.iter().enumerate() {
@@ -140,9 +129,8 @@ fn first_lines(text: &[u8]) -> &[u8] {
     text
 }
 
-/// Lines for a person that tell where and why a source or its traces are refused by the bench, and
-/// how they may be mended. There are at most 19, each with its newline, and none where nothing more
-/// is known.
+/// Explains to a person where and why the bench refuses a source or its traces, and how to mend
+/// them. There are at most 19 lines, each with its newline, and none where nothing more is known.
 ///
 /// Where the error holds its place in the source, the first line begins with that place. The source
 /// is the beginning of its file: no lines stand before it.

@@ -7,7 +7,7 @@ use crate::texts::Text;
 use itoa::Buffer;
 use lb_check::CheckError;
 use lb_flat::OrderError;
-use lb_report::BenchError;
+use lb_refusal::BenchError;
 use lb_static::StaticError;
 use lb_syntax::{SyntaxError, line_column};
 use std::alloc::{AllocError, Global};
@@ -80,7 +80,7 @@ fn syntax_place(error: &SyntaxError) -> Option<(u32, u32)>
     }
 }
 
-/// Where in the source the error stands, as far as it holds that.
+/// The line and the column of an error in the source, if the error holds its place.
 fn place_in(source: &[u8], error: &BenchError) -> Option<(u32, u32)>
     requires { length source.now < u32.MAX }
     ensures { result ≡ spec.place_in source.now error.now }
@@ -94,7 +94,7 @@ fn place_in(source: &[u8], error: &BenchError) -> Option<(u32, u32)>
     }
 }
 
-/// What the first line begins with.
+/// The beginning of the first line, as `pump.lus:14:13: error: `.
 fn head(alloc: Global, name: &str, line: u32, column: u32) -> Result<Vec<u8>, AllocError>
     ensures { IfOk result (λ h. h.items ≡ spec.head name.now line column) }
 {
@@ -107,7 +107,7 @@ fn head(alloc: Global, name: &str, line: u32, column: u32) -> Result<Vec<u8>, Al
     Ok(bytes)
 }
 
-/// What the first line begins with, where the error holds its place in the source; else nothing.
+/// The beginning of the first line, where the error holds its place in the source; else empty.
 pub fn head_of(alloc: Global, source: &Text<'_>, error: &BenchError) -> Result<Vec<u8>, AllocError>
     ensures { length source.now.bytes.now < u32.MAX → IfOk result (λ h.
         IfSome (spec.place_in source.now.bytes.now error.now) (λ p.

@@ -1,4 +1,5 @@
-//! What could stand at a place in the heading of a node, or among constants, by the tokens before.
+//! The tokens that are expected at a place in the heading of a node or among constants, by the
+//! tokens before it.
 
 use crate::lexeme::{Lexeme, Sort, token_at};
 
@@ -11,7 +12,7 @@ enum List {
     Locals,
 }
 
-/// What comes next in a heading.
+/// A step of a heading: what comes next in it.
 #[derive(Clone, Copy, PartialEq, Eq)]
 enum Step {
     /// The name of the node, and what follows it.
@@ -46,12 +47,12 @@ enum Step {
 struct Place {
     step: Step,
     list: List,
-    /// How many parentheses are open within a size or round a clock.
+    /// The number of open parentheses within a size or round a clock.
     nested: usize,
 }
 
 impl Place {
-    /// The same list at another step.
+    /// The place at `step` of the same list.
     fn to(&self, step: Step) -> Place {
         Place {
             step,
@@ -60,7 +61,7 @@ impl Place {
         }
     }
 
-    /// A list at a step.
+    /// The place at `step` of `list`.
     fn into(&self, list: List, step: Step) -> Place {
         Place {
             step,
@@ -69,7 +70,7 @@ impl Place {
         }
     }
 
-    /// The same step with another number of open parentheses.
+    /// This place with `nested` open parentheses.
     fn nest(&self, nested: usize) -> Place {
         Place {
             step: self.step,
@@ -78,7 +79,7 @@ impl Place {
         }
     }
 
-    /// After the `)` of a list.
+    /// The place after the `)` of a list.
     fn after_list(&self) -> Place {
         match self.list {
             List::Outputs => self.to(Step::AfterOutputs),
@@ -86,7 +87,7 @@ impl Place {
         }
     }
 
-    /// After a `;` of a list.
+    /// The place after a `;` of a list.
     fn after_semicolon(&self) -> Place {
         match self.list {
             List::Locals => self.to(Step::Sections),
@@ -94,7 +95,7 @@ impl Place {
         }
     }
 
-    /// After a token of a size or a clock.
+    /// The place after a token of a size or a clock.
     fn inner(&self, word: &str) -> Place {
         match word {
             "(" => self.nest(self.nested.saturating_add(1)),
@@ -106,7 +107,7 @@ impl Place {
         }
     }
 
-    /// After a size or a clock.
+    /// The place after a size or a clock.
     fn after_inner(&self) -> Place {
         match self.step {
             Step::Clock => self.to(Step::AfterClock),
@@ -114,7 +115,7 @@ impl Place {
         }
     }
 
-    /// After the token that stands behind a type, a clock or a name.
+    /// The place after the token that stands behind a type, a clock or a name.
     fn ended(&self, word: &str) -> Place {
         match word {
             "^" => self.to(Step::Size),
@@ -126,7 +127,7 @@ impl Place {
         }
     }
 
-    /// After a token of the static parameters.
+    /// The place after a token of the static parameters.
     fn parameter(&self, word: &str) -> Place {
         match self.step {
             Step::Const => self.to(Step::Parameter),
@@ -138,7 +139,7 @@ impl Place {
         }
     }
 
-    /// After a token between the lists.
+    /// The place after a token between the lists.
     fn between(&self, word: &str) -> Place {
         match word {
             "<<" => self.into(List::Parameters, Step::Const),
@@ -151,7 +152,7 @@ impl Place {
         }
     }
 
-    /// After a token.
+    /// The place after a token.
     fn after(&self, word: &str) -> Place {
         match self.step {
             Step::Node => self.to(Step::AfterNode),
@@ -167,7 +168,7 @@ impl Place {
         }
     }
 
-    /// What ends a list.
+    /// The tokens that are expected behind a type of the list, or behind a clock.
     fn ends(&self, after_type: bool) -> &'static str {
         match (self.list, after_type) {
             (List::Locals, true) => "`^`, `when` or `;`",
@@ -177,7 +178,7 @@ impl Place {
         }
     }
 
-    /// What could stand here, in the lists.
+    /// The tokens that are expected here, in the lists.
     fn in_lists(&self) -> &'static str {
         match self.step {
             Step::Variable => "a name",
@@ -195,7 +196,7 @@ impl Place {
         }
     }
 
-    /// What could stand here; nothing where that is not known.
+    /// The tokens that are expected here; empty where they are not known.
     fn expected(&self) -> &'static str {
         match self.step {
             Step::Node | Step::Parameter => "a name",
@@ -211,7 +212,7 @@ impl Place {
     }
 }
 
-/// What could stand at a place of the heading whose first word stands at `start`.
+/// The tokens that are expected at a place of the heading whose first word stands at `start`.
 pub fn expected_in_heading(text: &[u8], start: usize, place: usize) -> &'static str {
     let word = token_at(text, start);
     let mut here = Place {
@@ -231,14 +232,14 @@ pub fn expected_in_heading(text: &[u8], start: usize, place: usize) -> &'static 
     here.expected()
 }
 
-/// Where in a constant a place lies: before its value, with what could stand there, or in its
-/// value, with the start of that.
+/// The position of a place in a constant: before its value, with the tokens that are expected
+/// there, or in its value, with the start of the value.
 pub enum InConstant {
     Before(&'static str),
     Value(usize),
 }
 
-/// What could stand after a token of a constant.
+/// The tokens that are expected after a token of a constant.
 fn after_constant_token(text: &[u8], token: &Lexeme) -> &'static str {
     match token.word(text) {
         ":" => "`int`",
@@ -248,7 +249,7 @@ fn after_constant_token(text: &[u8], token: &Lexeme) -> &'static str {
     }
 }
 
-/// Where a place lies in the constant that begins at `start`.
+/// The position of a place in the constant that begins at `start`.
 pub fn constant_at(text: &[u8], start: usize, place: usize, is_first: bool) -> InConstant {
     let mut expected = if is_first {
         "a name"

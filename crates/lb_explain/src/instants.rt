@@ -29,7 +29,7 @@ fn start_before(text: &[u8], end: usize) -> usize {
     0
 }
 
-/// How many records of a trace stand in lines just before a record.
+/// The number of records of the trace `name` in the lines just before a record.
 fn lines_back(text: &[u8], record: &Cursor, name: &[u8]) -> u64 {
     let mut instant: u64 = 0;
     let mut at = record.at;

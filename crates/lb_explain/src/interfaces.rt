@@ -5,7 +5,7 @@ use crate::declared::node_named;
 use crate::lexeme::{Lexeme, Sort, token_at};
 use std::alloc::{AllocError, Global};
 
-/// An input or an output: its name, and where its type stands.
+/// An input or an output: its name, and the start and the end of its type.
 #[derive(Clone, Copy)]
 pub struct Parameter {
     pub name: Lexeme,
@@ -31,7 +31,7 @@ pub struct Interface {
 #[derive(Drop)]
 struct List {
     found: Vec<Parameter>,
-    /// How many variables have their types.
+    /// The number of variables that have their types.
     typed: usize,
     /// Whether a type or a clock is being read, and how many parentheses are open in it.
     in_type: bool,
@@ -52,7 +52,7 @@ impl List {
         }
     }
 
-    /// Extends the type of the variables that wait for theirs.
+    /// Extends the type of the variables whose type is being read.
     fn extend_type(&mut self, start: usize, end: usize) {
         for place in self.typed..self.found.len() {
             if let Some(parameter) = self.found.get_mut(place) {
@@ -118,7 +118,7 @@ fn opening(text: &[u8], from: usize) -> usize {
     at
 }
 
-/// Reads the list that begins at a place, and gives the place behind its `)`.
+/// Reads the list that begins at a place, and returns the place behind its `)`.
 fn read_list(text: &[u8], from: usize, list: &mut List) -> Result<usize, AllocError> {
     let mut at = from;
     for _turn in from..text.len() {
@@ -152,8 +152,8 @@ pub fn interface_of(
     }))
 }
 
-/// The parameter of the node under test that is wired to an input of an observer, by the number of
-/// that: its inputs come first, and then its outputs.
+/// The parameter of the node under test that is wired to input `place` of an observer: the inputs
+/// of the node come first, and then its outputs.
 pub fn observed(interface: &Interface, place: usize) -> Option<Parameter> {
     if place < interface.inputs.len() {
         return interface.inputs.get(place).copied();

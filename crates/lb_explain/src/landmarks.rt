@@ -1,40 +1,39 @@
 //! Landmarks of a source: words that begin or end a part of it, comments, and static brackets.
-//!
-//! Between two landmarks nothing but `;` tells in which part a place lies. So the bytes between
-//! them are looked at 32 at a time, and no tokens are made of them.
+//! Between two landmarks only a `;` changes the context of a place. So the bytes between them are
+//! looked at 32 at a time, and no tokens are made of them.
 
 ghost use Rattle.std.specs.Prelude.{◌<◌, length};
 
 use crate::blocks::{BLOCK, letters_of, places_of};
 use crate::bytes::{part, rest};
 
-/// How many of 32 bytes have two more of them behind.
+/// The number of bytes among 32 that have two more of them behind.
 const STRIDE: usize = 30;
 
-/// A bit for each of these bytes.
+/// A bit for each of the first `STRIDE` bytes.
 const STRIDE_BITS: u64 = 0x3FFF_FFFF;
 
 /// A stretch of a source without landmarks.
 #[derive(Clone, Copy)]
 pub struct Passed {
-    /// Where it ends: at the first byte that may begin a landmark, or less than 32 bytes before the
-    /// end.
+    /// Its end: the first byte that may begin a landmark, or a place less than 32 bytes before the
+    /// end of the search.
     pub end: usize,
-    /// Behind its last `;`, if it has one.
+    /// The place behind its last `;`, if it has one.
     pub statement: Option<usize>,
 }
 
-/// What 32 bytes hold, as bits.
+/// The landmarks, semicolons and letters among 32 bytes, as bits.
 #[derive(Clone, Copy)]
 struct Marks {
-    /// Where landmarks may begin.
+    /// The bytes at which landmarks may begin.
     landmarks: u64,
     semicolons: u64,
     /// Letters and `_`.
     letters: u64,
 }
 
-/// Where `let`, `tel`, `nod`, `con` and `fun` begin among 32 bytes, as bits.
+/// The bytes among 32 at which `let`, `tel`, `nod`, `con` and `fun` begin, as bits.
 #[inline(always)]
 fn words_of(block: &[u8]) -> u64
     requires { 31 < length block.now }
@@ -52,7 +51,7 @@ fn words_of(block: &[u8]) -> u64
     e & ends | o & (node | constant) | u & function
 }
 
-/// Where comments begin among 32 bytes, as bits.
+/// The bytes among 32 at which comments begin, as bits.
 #[inline(always)]
 fn comments_of(block: &[u8]) -> u64
     requires { 31 < length block.now }
@@ -62,7 +61,7 @@ fn comments_of(block: &[u8]) -> u64
     dashes & dashes >> 1 | stars & (places_of(block, b'(') | places_of(block, b'/'))
 }
 
-/// Where static brackets may begin among 32 bytes, as bits.
+/// The bytes among 32 at which static brackets may begin, as bits.
 #[inline(always)]
 fn brackets_of(block: &[u8]) -> u64
     requires { 31 < length block.now }
@@ -72,7 +71,7 @@ fn brackets_of(block: &[u8]) -> u64
     opening & opening >> 1 | closing & closing >> 1
 }
 
-/// What 32 bytes hold; `within` is 1 where a letter or `_` stands before them, else 0.
+/// The marks of 32 bytes; `within` is 1 where a letter or `_` stands before them, else 0.
 #[inline(always)]
 fn marks_of(block: &[u8], within: u64) -> Marks
     requires { 31 < length block.now }
@@ -108,7 +107,7 @@ impl Passed {
     }
 }
 
-/// The stretch without landmarks from a place on, up to another one.
+/// The stretch without landmarks from `from` on, up to `to` at most.
 pub fn pass(text: &[u8], from: usize, to: usize) -> Passed {
     let mut passed = Passed {
         end: from,

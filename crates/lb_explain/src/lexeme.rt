@@ -6,7 +6,7 @@
 use crate::bytes::{byte_at, find, part};
 use crate::words::is_reserved;
 
-/// What a lexeme is.
+/// The sort of a lexeme.
 #[derive(Clone, Copy, PartialEq, Eq)]
 pub enum Sort {
     Name,
@@ -33,17 +33,17 @@ impl Lexeme {
         part(text, self.start, self.end)
     }
 
-    /// Its text; empty where its bytes are none.
+    /// Its text; empty where its bytes are no UTF-8.
     pub fn word<'t>(&self, text: &'t [u8]) -> &'t str {
         std::str::from_utf8(self.of(text)).unwrap_or("")
     }
 
-    /// Whether it is this reserved word or symbol.
+    /// Whether it is the reserved word or symbol `mark`.
     pub fn is(&self, text: &[u8], mark: &[u8]) -> bool {
         self.sort == Sort::Mark && self.of(text) == mark
     }
 
-    /// Whether it is one of these reserved words or symbols.
+    /// Whether it is one of the reserved words or symbols `marks`.
     pub fn is_among(&self, text: &[u8], marks: &[&[u8]]) -> bool {
         for mark in marks {
             if self.is(text, *mark) {
@@ -115,14 +115,14 @@ fn symbol_length(first: u8, second: u8) -> usize {
     }
 }
 
-/// Whether a byte is of symbols that have two bytes.
+/// Whether a byte may stand in a symbol of two bytes.
 fn is_of_pair(b: u8) -> bool {
     b == b'-' || b == b'=' || b == b'<' || b == b'>' || b == b'.'
 }
 
-/// The start of the run of letters and digits, or of symbols, that holds a byte. A token begins
-/// there. The run is followed back to `from` at most, where a token begins too, and no comment
-/// stands from there on.
+/// The start of the run of letters and digits, or of symbols, that holds the byte at `at`. A token
+/// begins there. The run goes back to `from` at most: a token begins there too, and no comment
+/// stands behind it.
 pub fn run_start(text: &[u8], from: usize, at: usize) -> usize {
     for back in 0..at.saturating_sub(from) {
         let start = at.saturating_sub(back);
@@ -141,7 +141,7 @@ fn piece(sort: Sort, start: usize, end: usize) -> Lexeme {
     Lexeme { sort, start, end }
 }
 
-/// A name or a reserved word.
+/// The name or the reserved word at a place.
 fn word_at(text: &[u8], at: usize) -> Lexeme {
     let end = end_of_name(text, at);
     let sort = if is_reserved(part(text, at, end)) {
@@ -164,7 +164,7 @@ fn comment_at(text: &[u8], at: usize, first: u8, second: u8) -> Option<Lexeme> {
     Some(piece(Sort::Blank, at, end))
 }
 
-/// The piece at a place.
+/// The lexeme at a place.
 pub fn piece_at(text: &[u8], at: usize) -> Lexeme {
     if at >= text.len() {
         return piece(Sort::End, text.len(), text.len());
@@ -200,8 +200,8 @@ pub fn token_at(text: &[u8], from: usize) -> Lexeme {
     piece_at(text, at)
 }
 
-/// The last token before a place, of those from another place on; the end of the text where there
-/// is none.
+/// The last token from `from` on that begins before `place`; the end of the text where there is
+/// none.
 pub fn last_before(text: &[u8], from: usize, place: usize) -> Lexeme {
     let mut last = piece_at(text, text.len());
     let mut at = from;

@@ -1,6 +1,5 @@
-//! Why a text is refused: place, cause and mend of a refusal, for a person to read.
-//!
-//! All of this is done after a refusal, from the error and the texts. The first place is told as
+//! Explanations of refusals for a person to read: place, cause and mend.
+//! All of this is done after a refusal, from the error and the texts. The first place is written as
 //! `pump.lus:14:13: error: ..`, which editors can jump to, with the line of the text.
 #![tactic(auto)]
 

@@ -31,7 +31,7 @@ pub fn put_marked(page: &mut String, text: &Text<'_>, offset: u32) -> Result<(),
     put_excerpt(page, text, &token_spot(text, offset))
 }
 
-/// Puts `pump.lus:14:13`.
+/// Puts the place of the token at an offset, as `pump.lus:14:13`.
 pub fn put_where(page: &mut String, text: &Text<'_>, offset: u32) -> Result<(), AllocError> {
     let place = token_spot(text, offset);
     let (name, line, column) = (text.name, place.line, place.column);

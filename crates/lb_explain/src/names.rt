@@ -9,7 +9,7 @@ use crate::words::mend_of_word;
 use lb_static::{NameFault, NameRule, Sought};
 use std::alloc::AllocError;
 
-/// What was looked for.
+/// The words for what was looked for.
 fn sought_word(sought: Sought) -> &'static str {
     match sought {
         Sought::Node => "no node or function is named",
@@ -19,7 +19,7 @@ fn sought_word(sought: Sought) -> &'static str {
     }
 }
 
-/// Which declared names could be meant.
+/// The sorts of declared names that could be meant.
 fn sorts_of(sought: Sought) -> Sorts {
     match sought {
         Sought::Node => Sorts {
@@ -76,7 +76,7 @@ fn put_nearest(
     }
 }
 
-/// Puts in which node a name stands.
+/// Puts the node that a name stands in.
 fn put_node(page: &mut String, fault: &NameFault) -> Result<(), AllocError> {
     match &fault.node {
         Some(node) => {
@@ -104,7 +104,7 @@ fn put_rule(page: &mut String, fault: &NameFault) -> Result<(), AllocError> {
     }
 }
 
-/// Puts how to mend it.
+/// Puts how to mend the fault, or the first declaration of the name, and the node.
 fn put_further(page: &mut String, text: &Text<'_>, fault: &NameFault) -> Result<(), AllocError> {
     match fault.rule {
         NameRule::Unknown(sought) => put_nearest(page, text, fault, sought)?,

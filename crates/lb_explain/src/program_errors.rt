@@ -12,7 +12,7 @@ use crate::types::explain_type;
 use crate::values::{explain_range, explain_value};
 use lb_check::CheckError;
 use lb_flat::{FlatError, OrderError};
-use lb_report::{BenchError, Options};
+use lb_refusal::{BenchError, Options};
 use lb_static::StaticError;
 use std::alloc::{AllocError, Global};
 

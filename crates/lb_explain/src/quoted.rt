@@ -7,7 +7,7 @@ use crate::bytes::{byte_at, part, rest};
 use crate::records::{CellPlace, Cursor, Goal, is_goal};
 use std::alloc::{AllocError, Global};
 
-/// What the bytes before a place are part of.
+/// The state at a place: what the bytes before it are part of.
 #[derive(Clone, Copy, PartialEq, Eq)]
 enum State {
     /// No byte of a record yet.
@@ -27,7 +27,7 @@ pub fn ends_line(b: u8) -> bool {
     b == b'\n' || b == b'\r'
 }
 
-/// After a byte outside of quotes.
+/// The state after a byte outside of quotes.
 fn outside(b: u8) -> State {
     match b {
         b',' => State::Cell,
@@ -36,7 +36,7 @@ fn outside(b: u8) -> State {
     }
 }
 
-/// After a byte.
+/// The state after a byte.
 fn after(state: State, b: u8) -> State {
     match (state, b) {
         (State::Record | State::Cell, b'"') => State::Quoted,
@@ -47,7 +47,7 @@ fn after(state: State, b: u8) -> State {
     }
 }
 
-/// The record that is looked for, from a place between records on.
+/// The record that `goal` looks for, from a place between records on.
 pub fn next_quoted(text: &[u8], from: &Cursor, goal: &Goal<'_>) -> Option<Cursor>
     ensures { IfSome result (λ found. IsNumbered goal.now found.records) }
 {
@@ -97,7 +97,7 @@ pub fn cell_at(text: &[u8], start: usize, place: usize) -> Option<CellPlace> {
     last_cell(text, left, begin)
 }
 
-/// The last cell of a text, if it is the one that is looked for.
+/// The last cell of a text, if it is the one that is looked for: then `left` is 0.
 fn last_cell(text: &[u8], left: usize, begin: usize) -> Option<CellPlace> {
     if left > 0 {
         return None;
@@ -142,7 +142,7 @@ fn emitted(state: State, b: u8) -> Option<u8> {
     }
 }
 
-/// After a byte of a cell: commas and ends of lines are bytes like others.
+/// The state after a byte of a cell: commas and ends of lines are bytes like others.
 fn within(state: State, b: u8) -> State {
     match after(state, b) {
         State::Record | State::Cell => State::Plain,

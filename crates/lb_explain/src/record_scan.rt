@@ -14,10 +14,10 @@ use crate::records::{Cursor, Goal, is_goal};
 #[derive(Drop)]
 pub struct HasQuote;
 
-/// What 32 bytes hold.
+/// The starts of records, the newlines and the quotes among 32 bytes.
 #[derive(Clone, Copy)]
 struct Marks {
-    /// Where records begin.
+    /// The bytes at which records begin.
     starts: u64,
     newlines: u64,
     /// Whether the last of them ends a line: 1 or 0.
@@ -25,7 +25,7 @@ struct Marks {
     has_quote: bool,
 }
 
-/// What 32 bytes hold, where `carry` says whether the byte before them ends a line.
+/// The marks of 32 bytes; `carry` is 1 where the byte before them ends a line, else 0.
 #[inline(always)]
 fn marks_of(block: &[u8], carry: u64) -> Marks
     requires { 31 < length block.now }
@@ -70,7 +70,7 @@ fn is_within(text: &[u8], cursor: &Cursor, starts: u64, goal: &Goal<'_>) -> bool
     }
 }
 
-/// Behind 32 bytes.
+/// The cursor behind 32 bytes.
 #[inline(always)]
 fn past(cursor: &Cursor, marks: &Marks) -> Cursor {
     let records = u64::from(marks.starts.count_ones());
@@ -83,8 +83,8 @@ fn past(cursor: &Cursor, marks: &Marks) -> Cursor {
     }
 }
 
-/// The record that is looked for, byte by byte; `begins` says whether the next byte begins one,
-/// unless it ends a line.
+/// The record that `goal` looks for, found byte by byte; where `begins` is true, the next byte
+/// begins a record unless it ends a line.
 fn walk(
     text: &[u8],
     from: &Cursor,
@@ -118,7 +118,7 @@ fn walk(
     Ok(None)
 }
 
-/// The record that is looked for, from a place between records on.
+/// The record that `goal` looks for, from a place between records on.
 pub fn next_plain(text: &[u8], from: &Cursor, goal: &Goal<'_>) -> Result<Option<Cursor>, HasQuote>
     ensures { IfOk result (λ found. IfSome found (λ c. IsNumbered goal.now c.records)) }
 {

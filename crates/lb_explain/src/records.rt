@@ -10,20 +10,20 @@ use crate::bytes::part;
 use crate::quoted::{first_cell_is, next_quoted};
 use crate::record_scan::next_plain;
 
-/// A place between records of a text: which record comes next, and how many lines stand before.
+/// A place between records of a text, with the numbers of records and of lines before it.
 #[derive(Clone, Copy)]
 pub struct Cursor {
-    /// Where the search goes on.
+    /// The offset at which the search goes on.
     pub at: usize,
-    /// How many records stand before it, with the header.
+    /// The number of records before it, with the header.
     pub records: u64,
-    /// How many newlines stand before it.
+    /// The number of newlines before it.
     pub lines: u64,
     /// Whether a quote may stand before it.
     pub has_quote: bool,
 }
 
-/// Which record is looked for.
+/// The record that is looked for.
 #[derive(Clone, Copy)]
 pub enum Goal<'g> {
     /// The record with this number; the header has 0.
@@ -51,7 +51,7 @@ fn first_byte(text: &[u8]) -> usize {
     }
 }
 
-/// Before the first record.
+/// The cursor before the first record.
 pub fn start_of(text: &[u8]) -> Cursor {
     Cursor {
         at: first_byte(text),
@@ -61,7 +61,7 @@ pub fn start_of(text: &[u8]) -> Cursor {
     }
 }
 
-/// The record that is looked for, from a place on: the cursor stands where it begins.
+/// The record that `goal` looks for, from a place on: the cursor stands where the record begins.
 pub fn find_record(text: &[u8], from: &Cursor, goal: &Goal<'_>) -> Option<Cursor>
     ensures { IfSome result (λ found. IsNumbered goal.now found.records) }
 {

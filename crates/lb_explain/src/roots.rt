@@ -16,26 +16,35 @@ fn put_node(page: &mut String, fault: &RootFault) -> Result<(), AllocError> {
     }
 }
 
-/// What stands before and behind the name in the rule that is broken.
-fn words_of(rule: RootRule) -> (&'static str, &'static str) {
-    match rule {
-        RootRule::NoParameters => ("has the static parameter", ", and may have none"),
-        RootRule::BaseClock => ("has", " on a clock; its inputs and outputs have none"),
-        RootRule::FewInputs => ("has more than 1023 scalar inputs, counted up to", ""),
-        _ => ("has an output", " that is no bool, as a property is"),
-    }
-}
-
 /// Puts the rule that is broken.
 fn put_rule(page: &mut String, fault: &RootFault) -> Result<(), AllocError> {
+    let name = fault.name.as_str();
     match fault.rule {
-        RootRule::SizedTypes => page.push_str("has a type whose size is no number\n"),
-        RootRule::OneOutput => page.push_str("has to have one output, the property\n"),
-        RootRule::AsManyInputs | RootRule::SameType => Ok(()),
-        rule => {
-            let (before, behind) = words_of(rule);
-            write!(page, "{before} `{}`{behind}\n", fault.name.as_str())
+        RootRule::NoParameters => {
+            write!(
+                page,
+                "has the static parameter `{name}`, and may have none\n"
+            )
         }
+        RootRule::SizedTypes => page.push_str("has a type whose size is no number\n"),
+        RootRule::BaseClock => {
+            write!(
+                page,
+                "has `{name}` on a clock; its inputs and outputs have none\n"
+            )
+        }
+        RootRule::FewInputs => write!(
+            page,
+            "has more than 1023 scalar inputs, counted up to `{name}`\n"
+        ),
+        RootRule::OneOutput => page.push_str("has to have one output, the property\n"),
+        RootRule::TruthOutput => {
+            write!(
+                page,
+                "has an output `{name}` that is no bool, as a property is\n"
+            )
+        }
+        RootRule::AsManyInputs | RootRule::SameType => Ok(()),
     }
 }
 
@@ -99,23 +108,6 @@ fn put_type(
     page.push_str(" is wired\n")
 }
 
-/// Puts how an observer does not fit the node under test, where both are declared.
-fn put_misfit(
-    page: &mut String,
-    text: &[u8],
-    fault: &RootFault,
-    observer: &Option<Interface>,
-    tested: &Option<Interface>,
-) -> Result<(), AllocError> {
-    let (Some(observer), Some(tested)) = (observer, tested) else {
-        return page.push_str("does not fit the node under test\n");
-    };
-    if fault.rule == RootRule::AsManyInputs {
-        return put_number(page, text, fault, observer, tested);
-    }
-    put_type(page, text, fault, observer, tested)
-}
-
 /// Puts how an observer does not fit the node under test.
 fn put_wiring(
     page: &mut String,
@@ -126,7 +118,13 @@ fn put_wiring(
 ) -> Result<(), AllocError> {
     let observer = interface_of(alloc, text, fault.node.as_bytes())?;
     let tested = interface_of(alloc, text, tested.as_bytes())?;
-    put_misfit(page, text, fault, &observer, &tested)
+    let (Some(observer), Some(tested)) = (observer, tested) else {
+        return page.push_str("does not fit the node under test\n");
+    };
+    if fault.rule == RootRule::AsManyInputs {
+        return put_number(page, text, fault, &observer, &tested);
+    }
+    put_type(page, text, fault, &observer, &tested)
 }
 
 /// Whether a rule compares an observer with the node under test.

@@ -33,7 +33,7 @@ fn is_counted(text: &[u8], token: &Lexeme) -> bool {
     token.is_among(text, &SIGNS) || token.is_among(text, &SIGN_WORDS)
 }
 
-/// How many static brackets are open behind a token; `depth` are open before it.
+/// The number of static brackets that are open behind a token; `depth` are open before it.
 fn depth_after(text: &[u8], depth: usize, token: &Lexeme) -> usize {
     if token.is(text, b"<<".as_slice()) {
         return depth.saturating_add(1);
@@ -55,7 +55,7 @@ fn ends_statement(text: &[u8], depth: usize, token: &Lexeme) -> bool {
     token.is(text, b"let".as_slice()) || token.is(text, b"tel".as_slice())
 }
 
-/// How many operators and opening brackets the statement has that begins at a place.
+/// The number of operators and opening brackets of the statement that begins at a place.
 fn signs_from(text: &[u8], start: usize) -> usize {
     let mut signs: usize = 0;
     let mut depth: usize = 0;
@@ -72,7 +72,7 @@ fn signs_from(text: &[u8], start: usize) -> usize {
     signs
 }
 
-/// Where the statement of a place begins.
+/// The start of the statement that a place lies in.
 fn statement_start(text: &[u8], place: usize) -> usize {
     let context = context_of(text, place);
     let mut start = context.start;

@@ -1,9 +1,10 @@
-//! What could stand at a place in a statement or in a constant's value, by the tokens before it.
+//! The tokens that are expected at a place in a statement or in a constant's value, by the tokens
+//! before it.
 
 use crate::lexeme::{Lexeme, Sort, token_at};
 use std::alloc::{AllocError, Global};
 
-/// What is open at a place of an expression.
+/// A bracket, an `if` or a `then` that is open at a place of an expression.
 #[derive(Clone, Copy, PartialEq, Eq)]
 enum Open {
     /// Parentheses: of a call where a name or `>>` stands before them.
@@ -18,7 +19,7 @@ enum Open {
     Choice,
 }
 
-/// What the last token was.
+/// The kind of the last token.
 #[derive(Clone, Copy, PartialEq, Eq)]
 enum Last {
     /// None: a statement begins.
@@ -36,11 +37,11 @@ enum Last {
     Applied,
     /// `(` of a call.
     Call,
-    /// What an operand follows.
+    /// A token that an operand follows.
     Operator,
 }
 
-/// What the tokens of a statement tell so far.
+/// The state behind the tokens of a statement that were read so far.
 #[derive(Drop)]
 struct Reading {
     opened: Vec<Open>,
@@ -52,7 +53,7 @@ struct Reading {
 }
 
 impl Reading {
-    /// What was opened last.
+    /// The bracket, `if` or `then` that is open innermost.
     fn innermost(&self) -> Option<Open> {
         match self.opened.as_slice() {
             [.., last] => Some(*last),
@@ -70,14 +71,14 @@ impl Reading {
         }
     }
 
-    /// Opens something, by a token that leaves `last` behind.
+    /// Opens `open`, by a token of kind `last`.
     fn put(&mut self, open: Open, last: Last) -> Result<(), AllocError> {
         self.last = last;
         self.opened.push(open)?;
         Ok(())
     }
 
-    /// A parenthesis opens.
+    /// Opens a parenthesis.
     fn open_group(&mut self) -> Result<(), AllocError> {
         match self.last {
             Last::Name | Last::Arguments | Last::Counted => self.put(Open::Call, Last::Call),
@@ -85,7 +86,7 @@ impl Reading {
         }
     }
 
-    /// A bracket opens.
+    /// Opens a bracket.
     fn open_bracket(&mut self) -> Result<(), AllocError> {
         match self.last {
             Last::Name | Last::Operand => self.put(Open::Index, Last::Operator),
@@ -93,7 +94,7 @@ impl Reading {
         }
     }
 
-    /// Static brackets open.
+    /// Opens static brackets.
     fn open_static(&mut self) -> Result<(), AllocError> {
         let last = if self.is_iterator {
             Last::Applied
@@ -113,13 +114,13 @@ impl Reading {
         Ok(())
     }
 
-    /// An equals sign: of the equation, or an operator.
+    /// Takes `assert`, or an equals sign: that of the equation, or an operator.
     fn equal(&mut self) {
         self.last = Last::Operator;
         self.is_right = true;
     }
 
-    /// An operator: in an expression, or as what an iterator applies.
+    /// Takes an operator: in an expression, or the one that an iterator applies.
     fn operator(&mut self) {
         self.last = if self.last == Last::Applied {
             Last::Operand
@@ -128,7 +129,7 @@ impl Reading {
         };
     }
 
-    /// A bracket closes, and leaves `last` behind.
+    /// Closes a bracket, by a token of kind `last`.
     fn closed(&mut self, last: Last) {
         self.close();
         self.last = last;
@@ -147,49 +148,22 @@ impl Reading {
         Ok(())
     }
 
-    /// Takes a symbol.
-    fn symbol(&mut self, word: &str) -> Result<(), AllocError> {
-        match word {
-            "=" => self.equal(),
-            "^" => self.last = Last::Caret,
-            "#" => self.last = Last::Counted,
-            "," | ";" => self.last = Last::Operator,
-            _ => return self.bracket(word),
-        }
-        Ok(())
-    }
-
-    /// Takes a reserved word that opens and closes nothing.
-    fn plain_word(&mut self, word: &str) {
-        match word {
-            "assert" => self.equal(),
-            "true" | "false" => self.last = Last::Operand,
-            "when" => self.last = Last::When,
-            "nor" => self.last = Last::Counted,
-            "not" if self.last == Last::When => {}
-            _ => self.operator(),
-        }
-    }
-
-    /// Takes a reserved word.
-    fn reserved(&mut self, word: &str) -> Result<(), AllocError> {
-        match word {
-            "if" => self.put(Open::Condition, Last::Operator),
-            "then" => self.choose(Some(Open::Choice)),
-            "else" => self.choose(None),
-            _ => {
-                self.plain_word(word);
-                Ok(())
-            }
-        }
-    }
-
     /// Takes a reserved word or a symbol.
     fn mark(&mut self, word: &str) -> Result<(), AllocError> {
-        match word.as_bytes() {
-            [b'a'..=b'z', ..] => self.reserved(word),
-            _ => self.symbol(word),
+        match word {
+            "if" => self.put(Open::Condition, Last::Operator)?,
+            "then" => self.choose(Some(Open::Choice))?,
+            "else" => self.choose(None)?,
+            "=" | "assert" => self.equal(),
+            "true" | "false" => self.last = Last::Operand,
+            "when" => self.last = Last::When,
+            "^" => self.last = Last::Caret,
+            "#" | "nor" => self.last = Last::Counted,
+            "not" if self.last == Last::When => {}
+            "," | ";" => self.last = Last::Operator,
+            _ => self.bracket(word)?,
         }
+        Ok(())
     }
 
     /// Takes a token.
@@ -206,7 +180,7 @@ impl Reading {
         Ok(())
     }
 
-    /// What could stand where an operand begins.
+    /// The tokens that are expected where an operand begins.
     fn operand(&self) -> &'static str {
         match self.innermost() {
             Some(Open::Static | Open::Index) => "a number, a name, `-` or `(`",
@@ -214,7 +188,7 @@ impl Reading {
         }
     }
 
-    /// What could stand where an operand ends.
+    /// The tokens that are expected where an operand ends.
     fn after_operand(&self) -> &'static str {
         match self.innermost() {
             Some(Open::Group | Open::Call) => "`,`, `)` or an operator",
@@ -227,7 +201,7 @@ impl Reading {
         }
     }
 
-    /// What could stand on the right side.
+    /// The tokens that are expected on the right side.
     fn right(&self) -> &'static str {
         match self.last {
             Last::Name | Last::Operand => self.after_operand(),
@@ -240,7 +214,7 @@ impl Reading {
         }
     }
 
-    /// What could stand on the left side.
+    /// The tokens that are expected on the left side.
     fn left(&self) -> &'static str {
         match (self.last, self.innermost()) {
             (Last::Start, _) => "a name, `(`, `assert` or `tel`",
@@ -252,7 +226,7 @@ impl Reading {
     }
 }
 
-/// What the tokens from `start` to `place` tell.
+/// The state behind the tokens from `start` to `place`.
 fn read(
     alloc: Global,
     text: &[u8],
@@ -282,7 +256,7 @@ fn read(
     Ok(reading)
 }
 
-/// What could stand at a place of the statement that begins at `start`.
+/// The tokens that are expected at a place of the statement that begins at `start`.
 pub fn expected_in_body(
     alloc: Global,
     text: &[u8],
@@ -296,7 +270,7 @@ pub fn expected_in_body(
     Ok(reading.left())
 }
 
-/// What could stand at a place of the static expression that begins at `start` and ends with `;`.
+/// The tokens that are expected at a place of the static expression from `start` to its `;`.
 pub fn expected_in_value(
     alloc: Global,
     text: &[u8],

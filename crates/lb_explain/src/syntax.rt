@@ -1,4 +1,4 @@
-//! E2: no tree spells the tokens.
+//! E2: tokens that spell no tree.
 
 use crate::bytes::{byte_at, part};
 use crate::context::{Context, Section, context_of};
@@ -13,7 +13,7 @@ use std::alloc::{AllocError, Global};
 /// The most bytes of a token that are shown.
 const SHOWN: usize = 40;
 
-/// What could stand at a place among constants.
+/// The tokens that are expected at a place among constants.
 fn expected_in_constants(
     alloc: Global,
     text: &[u8],
@@ -27,7 +27,7 @@ fn expected_in_constants(
     }
 }
 
-/// What could stand at a place between nodes.
+/// The tokens that are expected at a place between nodes.
 fn expected_at_top(last: &Lexeme, text: &[u8]) -> &'static str {
     if last.is(text, b"tel".as_slice()) {
         return "`;`, `.`, `const`, `node`, `function` or the end of the text";
@@ -35,7 +35,7 @@ fn expected_at_top(last: &Lexeme, text: &[u8]) -> &'static str {
     "`const`, `node`, `function` or the end of the text"
 }
 
-/// What could stand at a place; empty where that is not known.
+/// The tokens that are expected at a place; empty where they are not known.
 fn expected_at(
     alloc: Global,
     text: &[u8],
@@ -51,7 +51,7 @@ fn expected_at(
     }
 }
 
-/// A place from which the tokens are read to find the last one before a place in this context.
+/// The place from which tokens are read to find the last token before a place in this context.
 fn window_start(text: &[u8], context: &Context) -> usize {
     if context.part == Section::Top {
         return context.start.saturating_sub(3);
@@ -76,7 +76,7 @@ fn is_infix(text: &[u8], token: &Lexeme) -> bool {
 /// Two texts, and how to mend them where they stand together.
 type Mend = (&'static str, &'static str, &'static str);
 
-/// How to mend two texts; empty where the table does not have them.
+/// The mend of two texts; empty where the table does not have them.
 fn mend_among(mends: &[Mend], first: &str, second: &str) -> &'static str {
     for (one, other, mend) in mends {
         if is_same(*one, first) && is_same(*other, second) {
@@ -94,7 +94,7 @@ static PAIRS: [Mend; 4] = [
     ("=", ">=", "`=>` is the implication"),
 ];
 
-/// How to mend two tokens that other languages write together; empty for other tokens.
+/// The mend of two tokens that other languages write together; empty for other tokens.
 fn mend_of_pair(text: &[u8], last: &Lexeme, found: &Lexeme) -> &'static str {
     let word = found.word(text);
     if last.sort == Sort::Number && (is_same(word, ".") || is_same(word, "..")) {
@@ -108,7 +108,7 @@ fn does_not_group(expected: &str, text: &[u8], found: &Lexeme) -> bool {
     expected.ends_with("or an operator") && is_infix(text, found)
 }
 
-/// What could stand at a place, and a token that stands there.
+/// The tokens that are expected at a place, and a token that stands there instead.
 static PLACES: [Mend; 6] = [
     ("`,` or `=`", ":", "an equation is written `x = e;`"),
     (
@@ -138,7 +138,7 @@ static PLACES: [Mend; 6] = [
     ),
 ];
 
-/// How to mend the token that was found; empty where that is no common mistake.
+/// The mend of the token that was found; empty where it is no common mistake.
 fn mend_of(text: &[u8], last: &Lexeme, found: &Lexeme, expected: &str) -> &'static str {
     let pair = mend_of_pair(text, last, found);
     if !pair.is_empty() {
@@ -158,7 +158,7 @@ fn mend_of(text: &[u8], last: &Lexeme, found: &Lexeme, expected: &str) -> &'stat
     mend_of_word(last.of(text))
 }
 
-/// Puts what was found.
+/// Puts the token that was found.
 fn put_found(page: &mut String, text: &[u8], found: &Lexeme) -> Result<(), AllocError> {
     if found.sort == Sort::End {
         return page.push_str("found the end of the text\n");
@@ -169,7 +169,7 @@ fn put_found(page: &mut String, text: &[u8], found: &Lexeme) -> Result<(), Alloc
     page.push_str("`\n")
 }
 
-/// Puts what could stand there.
+/// Puts the tokens that are expected.
 fn put_expected(page: &mut String, expected: &str) -> Result<(), AllocError> {
     if expected.is_empty() {
         return Ok(());
@@ -195,7 +195,7 @@ fn put_node_name(page: &mut String, text: &[u8], from: usize) -> Result<(), Allo
     page.push_str(", which begins here\n")
 }
 
-/// Puts where the node begins that a place lies in, if it lies in one.
+/// Puts the start of the node that a place lies in, if it lies in one.
 fn put_open_node(page: &mut String, text: &Text<'_>, context: &Context) -> Result<(), AllocError> {
     if context.part != Section::Heading && context.part != Section::Body {
         return Ok(());
@@ -216,7 +216,7 @@ fn put_mend(page: &mut String, mend: &str) -> Result<(), AllocError> {
     write!(page, "help: {mend}\n")
 }
 
-/// The token at a place; the end of the text where the place is at the end or a byte there is 0.
+/// The token at a place; the end of the text where the place is at the end or the byte there is 0.
 fn found_at(text: &[u8], at: usize) -> Lexeme {
     if byte_at(text, at) == 0 {
         return piece_at(text, text.len());

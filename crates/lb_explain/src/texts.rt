@@ -8,7 +8,7 @@ pub struct Text<'a> {
     /// The path of the file, or `-` for standard input.
     pub name: &'a str,
     pub bytes: &'a [u8],
-    /// How many lines of the file stand before the text.
+    /// The number of lines of the file before the text.
     pub lines_before: u64,
 }
 
@@ -19,14 +19,14 @@ pub struct Stretch {
     pub line: u64,
     /// In bytes, from 1.
     pub column: usize,
-    /// Where the line begins in the text.
+    /// The offset of the start of the line in the text.
     pub line_start: usize,
-    /// Where the stretch begins in the text, and where it ends.
+    /// The offsets of the start and the end of the stretch in the text.
     pub start: usize,
     pub end: usize,
 }
 
-/// A stretch of a text, in a line that begins at `line_start` and has `lines` lines before it.
+/// The stretch from `start` to `end`, in a line that begins at `line_start`, behind `lines` lines.
 pub fn spot_in(
     text: &Text<'_>,
     lines: u64,
@@ -55,7 +55,7 @@ pub fn line_start(bytes: &[u8], at: usize) -> usize {
     0
 }
 
-/// A stretch of a text.
+/// The stretch of a text from `start` to `end`.
 pub fn spot(text: &Text<'_>, start: usize, end: usize) -> Stretch {
     let begin = line_start(text.bytes, start);
     let lines = count(part(text.bytes, 0, begin), b'\n') as u64;

@@ -20,7 +20,7 @@ const MOST_CELLS: u64 = 67_108_864;
 enum Limit {
     /// The instants of one trace.
     Instants,
-    /// The cells of all records, with how many there are.
+    /// The cells of all records, and their number.
     Cells(u64),
     Traces,
 }
@@ -30,13 +30,13 @@ fn put_parts(page: &mut String) -> Result<(), AllocError> {
     page.push_str("help: `--part 1/16` judges the first of 16 parts of a file of traces\n")
 }
 
-/// How many instants its trace has up to and with a record.
+/// The number of instants that the trace of a record has, up to and with that record.
 fn instants(alloc: Global, text: &[u8], record: &Cursor) -> Result<u64, AllocError> {
     let name = cell_of(alloc, text, record.at, 0)?;
     Ok(instant_of(text, record, name.as_slice()).saturating_add(1))
 }
 
-/// Which limit a record goes past.
+/// The limit that a record goes past.
 fn limit_of(
     alloc: Global,
     text: &[u8],
@@ -53,7 +53,7 @@ fn limit_of(
     Ok(Limit::Traces)
 }
 
-/// Puts which limit a record goes past.
+/// Puts the limit that a record goes past.
 fn put_limit(page: &mut String, limit: Limit) -> Result<(), AllocError> {
     match limit {
         Limit::Instants => write!(

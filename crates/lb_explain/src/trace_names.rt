@@ -75,36 +75,6 @@ fn explain_rule(
     write!(page, "in record {number}\n")
 }
 
-/// Puts that a name comes back.
-fn put_return(
-    page: &mut String,
-    text: &Text<'_>,
-    record: &Cursor,
-    cell: &CellPlace,
-    name: &[u8],
-) -> Result<(), AllocError> {
-    let place = stretch_of(text, record, cell.start, cell.end);
-    put_place(page, text, &place, "error")?;
-    page.push_str("trace ")?;
-    put_cell(page, name)?;
-    page.push_str(" comes back after a record of another trace\n")?;
-    put_excerpt(page, text, &place)
-}
-
-/// Puts where a trace began that comes back in a record.
-fn put_beginning(
-    page: &mut String,
-    text: &Text<'_>,
-    first: &Cursor,
-    record: &Cursor,
-) -> Result<(), AllocError> {
-    let before = stretch_of(text, first, first.at, first.at);
-    put_place(page, text, &before, "note")?;
-    page.push_str("it began here; the records of a trace stand together\n")?;
-    let number = record.records;
-    write!(page, "in record {number}\n")
-}
-
 /// Explains a name that comes back, where it stood before.
 fn explain_return(
     page: &mut String,
@@ -120,8 +90,17 @@ fn explain_return(
     if first.records >= record.records {
         return Ok(());
     }
-    put_return(page, text, record, cell, name)?;
-    put_beginning(page, text, &first, record)
+    let place = stretch_of(text, record, cell.start, cell.end);
+    put_place(page, text, &place, "error")?;
+    page.push_str("trace ")?;
+    put_cell(page, name)?;
+    page.push_str(" comes back after a record of another trace\n")?;
+    put_excerpt(page, text, &place)?;
+    let before = stretch_of(text, &first, first.at, first.at);
+    put_place(page, text, &before, "note")?;
+    page.push_str("it began here; the records of a trace stand together\n")?;
+    let number = record.records;
+    write!(page, "in record {number}\n")
 }
 
 /// Explains E17 for the record with a number.

@@ -2,7 +2,7 @@
 
 use crate::counts::put_count;
 use crate::excerpt::put_bytes;
-use crate::lexeme::{Lexeme, Sort, last_before, token_at};
+use crate::lexeme::{Sort, last_before, token_at};
 use crate::marking::{put_marked, token_of, word_of};
 use crate::paths::put_path;
 use crate::texts::Text;
@@ -31,7 +31,7 @@ fn put_types(page: &mut String, fault: &TypeFault) -> Result<(), AllocError> {
     page.push('\n')
 }
 
-/// What an operator wants whose operand may have several types.
+/// The types that an operator wants, in words, where it wants one of several.
 fn wanted_by(sign: &[u8]) -> &'static str {
     match sign {
         b"[" => "an array",
@@ -124,7 +124,7 @@ fn put_array(page: &mut String, fault: &TypeFault) -> Result<(), AllocError> {
     page.push('\n')
 }
 
-/// The same, for the rules of calls, arrays, assertions and clocks.
+/// Puts the rule that is broken, for the rules of calls, arrays, assertions and clocks.
 fn put_further_rule(page: &mut String, fault: &TypeFault) -> Result<(), AllocError> {
     match fault.rule {
         TypeRule::ResultCount => page.push_str("one result is wanted, ")?,
@@ -140,41 +140,22 @@ fn put_further_rule(page: &mut String, fault: &TypeFault) -> Result<(), AllocErr
     page.push('\n')
 }
 
-/// Whether a name or a number stands between `not` and a comparison.
-fn is_compared(bytes: &[u8], before: &Lexeme, operand: &Lexeme, after: &Lexeme) -> bool {
+/// Puts how a comparison after `not` was read.
+fn put_reading(page: &mut String, text: &Text<'_>, fault: &TypeFault) -> Result<(), AllocError> {
     const COMPARISONS: [&[u8]; 6] = [b"=", b"<>", b"<", b"<=", b">", b">="];
-    match operand.sort {
-        Sort::Name | Sort::Number => {
-            before.is(bytes, b"not".as_slice()) && after.is_among(bytes, &COMPARISONS)
-        }
-        _ => false,
+    let bytes = text.bytes;
+    let operand = token_of(text, fault.offset);
+    let before = last_before(bytes, fault.part_offset as usize, operand.start);
+    let after = token_at(bytes, operand.end);
+    let is_single = operand.sort == Sort::Name || operand.sort == Sort::Number;
+    if !is_single || !before.is(bytes, b"not".as_slice()) || !after.is_among(bytes, &COMPARISONS) {
+        return Ok(());
     }
-}
-
-/// Puts how the comparison of an operand was read, of which `not` stands before it.
-fn put_negated(
-    page: &mut String,
-    bytes: &[u8],
-    operand: &Lexeme,
-    after: &Lexeme,
-) -> Result<(), AllocError> {
     page.push_str("help: this is read as `(not ")?;
     put_bytes(page, operand.of(bytes))?;
     page.push_str(") ")?;
     put_bytes(page, after.of(bytes))?;
     page.push_str(" ..`; write parentheses round the comparison\n")
-}
-
-/// Puts how a comparison after `not` was read.
-fn put_reading(page: &mut String, text: &Text<'_>, fault: &TypeFault) -> Result<(), AllocError> {
-    let bytes = text.bytes;
-    let operand = token_of(text, fault.offset);
-    let before = last_before(bytes, fault.part_offset as usize, operand.start);
-    let after = token_at(bytes, operand.end);
-    if is_compared(bytes, &before, &operand, &after) {
-        return put_negated(page, bytes, &operand, &after);
-    }
-    Ok(())
 }
 
 /// Puts what an iterator wants of its node.

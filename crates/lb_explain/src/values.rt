@@ -55,7 +55,7 @@ pub fn explain_value(
     put_path(page, text, &fault.path)
 }
 
-/// What a value is used for.
+/// The use of a value, in words.
 fn role_word(role: RangeRole) -> &'static str {
     match role {
         RangeRole::Size => "the size is",
@@ -66,7 +66,7 @@ fn role_word(role: RangeRole) -> &'static str {
     }
 }
 
-/// Puts which value is out of which range.
+/// Puts a value, and the range that it is out of.
 fn put_range(page: &mut String, text: &Text<'_>, fault: &RangeFault) -> Result<(), AllocError> {
     if fault.role == RangeRole::Elements {
         page.push('`')?;

@@ -6,8 +6,7 @@
 ghost use Rattle.std.specs.Prelude.{◌≡◌, [], IfOk, None};
 
 use crate::texts::Text;
-use crate::words::is_same;
-use lb_report::Options;
+use lb_refusal::Options;
 use lb_syntax::{Declarations, Node, Source, parse};
 use std::alloc::{AllocError, Global};
 
@@ -34,27 +33,8 @@ fn push_names<'s>(names: &mut Vec<&'s str>, groups: &'s [Declarations]) -> Resul
     Ok(())
 }
 
-/// Puts a warning for each input of an observer that is wired to something of another name, where
-/// their names are these.
+/// Puts a warning for each input of an observer that is wired to something of another name.
 fn put_warnings(
-    page: &mut String,
-    observer: &str,
-    inputs: &[&str],
-    tested: &str,
-    wired: &[&str],
-) -> Result<(), AllocError> {
-    let mut told: usize = 0;
-    for (input, other) in inputs.iter().zip(wired.iter()) {
-        if !is_same(*input, *other) && told < MOST {
-            write!(page, "warning: {observer}.{input} is {tested}.{other}\n")?;
-            told = told.saturating_add(1);
-        }
-    }
-    Ok(())
-}
-
-/// Puts the warnings for an observer and the node under test.
-fn put_wiring(
     page: &mut String,
     alloc: Global,
     observer: &Node,
@@ -66,7 +46,14 @@ fn put_wiring(
     push_names(&mut wired, tested.inputs.as_slice())?;
     push_names(&mut wired, tested.outputs.as_slice())?;
     let (observer, tested) = (observer.name.as_str(), tested.name.as_str());
-    put_warnings(page, observer, inputs.as_slice(), tested, wired.as_slice())
+    let mut told: usize = 0;
+    for (input, other) in inputs.iter().zip(wired.iter()) {
+        if *input != *other && told < MOST {
+            write!(page, "warning: {observer}.{input} is {tested}.{other}\n")?;
+            told = told.saturating_add(1);
+        }
+    }
+    Ok(())
 }
 
 /// Warnings for a person, one in a line, of each input of the observer that is wired, by place, to
@@ -89,7 +76,7 @@ pub fn wiring_warnings(
     let observer = node_of(&tree, observer.as_str());
     let tested = node_of(&tree, options.node.as_str());
     if let (Some(observer), Some(tested)) = (observer, tested) {
-        put_wiring(&mut page, alloc, observer, tested)?;
+        put_warnings(&mut page, alloc, observer, tested)?;
     }
     page.as_bytes().to_vec(alloc)
 }

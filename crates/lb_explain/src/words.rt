@@ -1,11 +1,11 @@
 //! Words of the language, and words that are not in it.
 
-/// Whether two texts are the same.
+/// Whether two texts are equal.
 pub fn is_same(one: &str, other: &str) -> bool {
     one == other
 }
 
-/// Whether a word is one of these.
+/// Whether a word is one of `words`.
 fn is_among(word: &[u8], words: &[&str]) -> bool {
     for other in words {
         if other.as_bytes() == word {
@@ -15,7 +15,7 @@ fn is_among(word: &[u8], words: &[&str]) -> bool {
     false
 }
 
-/// The reserved words that begin with a letter.
+/// The reserved words that begin with the letter `first`.
 fn reserved_by(first: u8) -> &'static [&'static str] {
     match first {
         b'a' => &["and", "assert"],
@@ -47,7 +47,7 @@ pub fn is_reserved(word: &[u8]) -> bool {
     }
 }
 
-/// Words of other languages, and words that this language writes in another way: how to mend them.
+/// The mends of words of other languages, and of words that this language writes in another way.
 static MENDS: [(&[&str], &str); 18] = [
     (
         &["real", "float"],
@@ -102,7 +102,7 @@ static MENDS: [(&[&str], &str); 18] = [
     (&["with"], "recursion by with is not in the language"),
 ];
 
-/// How to mend a word that is not in the language; empty for other words.
+/// The mend of a word that is not in the language; empty for other words.
 pub fn mend_of_word(word: &[u8]) -> &'static str {
     for (words, mend) in &MENDS {
         if is_among(word, *words) {

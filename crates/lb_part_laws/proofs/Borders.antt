@@ -32,7 +32,7 @@ snoc (b ∷ r) = by (snoc r)
     by (none is) = some [] b (ap (λ (t : List ℕ). b ∷ t) is)
     by (some front e is) = some (b ∷ front) e (ap (λ (t : List ℕ). b ∷ t) is)
 
--- what stands on both sides of a place where a text can be cut
+-- the two sides of a place where a text can be cut: one is empty, or a line ends and a trace begins
 data Seam (front s rest : List ℕ) : Type 0 where
   nothing_before : s ≡ [] → Seam front s rest
   nothing_behind : rest ≡ [] → Seam front s rest
@@ -131,7 +131,7 @@ before-seam front s rest x opens l = record {
       (inl (omega (arith, low, e))) (subst (Begins (text_of front s rest)) w.is b));
 }
 
--- the name of the last record before the seam
+-- the name of the last record before the seam stands at the place of that record
 name-before : (front s rest those : List ℕ) (e : ℕ) (x : Record) (l : LastRecord false s x)
     → s ≡ those ++ e ∷ [] → ends_line e ≡ true
     → name_in x ≡ name_of (drop (length front + l.place) (text_of front s rest))
@@ -153,7 +153,7 @@ unfolding text_of
 at-seam front s c r =
     get_or-append-add front (s ++ c ∷ r) (length s) 0 ∙ get_or_at s c r 0 (length s) refl
 
--- the name of the first record behind it
+-- the name of the first record behind the seam stands at the place of the seam
 name-behind : (front s rest : List ℕ) (y : Record) (back : List Record)
     → StartsTrace (text_of front s rest) (length front + length s)
     → plain_records rest ≡ y ∷ back
@@ -186,7 +186,7 @@ traces-apart front s rest opens (between inner e is closed starts) those back x 
     (sym (name-before front s rest inner e x l is closed) ∙ same
     ∙ name-behind front s rest y back starts begins)
 
--- a stretch from one place where a text can be cut to the next, and what comes behind it
+-- between a stretch, from one place where a text can be cut to the next, and the rest is a border
 pub border : (front s rest : List ℕ) → IsBreak (text_of front s rest) (length front)
     → IsBreak (text_of front s rest) (length front + length s) → IsBorder s rest
 border front s rest opens closes =

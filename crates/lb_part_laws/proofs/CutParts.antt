@@ -1,4 +1,4 @@
--- The parts of a text stand one behind the other.
+-- The parts of a text follow one another: each is the head and a stretch of the rest.
 use Rattle.std.proofs.Common.{◌≡◌, ◌∙◌, ℕ, suc, ◌+◌, ◌-◌, ◌*◌, ◌/◌, ◌<◌, ◌≤◌, false, ◌||◌, List, []}
 use Rattle.std.proofs.Common.{◌∷◌}
 use Rattle.std.proofs.Common.{◌++◌, length, map, take, drop, refl, sym, ap, subst, arith, ◌⊎◌, inl}
@@ -98,7 +98,7 @@ border-at body from to behind opens closes =
 
 -- ## Parts
 
--- the rest of a text in stretches, and what the texts of its parts are
+-- the rest of a text in stretches; each part is the head and a stretch
 pub record InStretches (head rest : List ℕ) (texts : List (List ℕ)) : Type 0 where
   pub stretches : List (List ℕ)
   pub are : AreStretches rest stretches

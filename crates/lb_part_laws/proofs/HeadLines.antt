@@ -17,7 +17,7 @@ use Rattle.lb_part_laws.proofs.RecordPlaces.{rest_records}
 
 -- ## The end of the first record
 
--- a text goes on to the end of a line
+-- the first `n` bytes of a text are `line` and the end of a line
 record Ended (s : List ℕ) (n : ℕ) : Type 0 where
   line : List ℕ
   end : ℕ
@@ -36,7 +36,7 @@ more-line c r m n is e = record {
   long = let l = e.long in omega (arith, is, l);
 }
 
--- within a record
+-- the first `n` bytes of a text, which begins within a record, end with that record
 record Within (s : List ℕ) (n : ℕ) : Type 0 where
   to : Ended s n
   none : rest_records true to.line ≡ []
@@ -64,7 +64,7 @@ ends-within (c ∷ r) n is = by (ends_line c) refl (λ m e. ends-within r m e)
           none = rest-within c others.to.line e ∙ others.none;
         }
 
--- before it
+-- the first `n` bytes of a text are just one record and the end of its line
 record Whole (s : List ℕ) (n : ℕ) : Type 0 where
   to : Ended s n
   first : Record
@@ -116,7 +116,7 @@ none-within (c ∷ r) is = by (ends_line c) refl (λ e. none-within r e)
         let f : option_map (λ m. suc m) (record_end true r) ≡ None = rw e at is in
         rest-within c r e ∙ more (mapped-none (record_end true r) f)
 
--- at most one record
+-- a text has at most one record
 pub data AtMostOne (s : List ℕ) : Type 0 where
   none : rest_records false s ≡ [] → AtMostOne s
   one : (first : Record) → rest_records false s ≡ first ∷ [] → AtMostOne s
@@ -170,7 +170,7 @@ kept-still a b c rest is = by (is_bom a b c) refl
         absurd (omega (arith, l))
     by false e = e
 
--- a line without a mark, whatever comes behind its end
+-- a line without a byte order mark has none, whatever comes behind its end
 bare-line : (line : List ℕ) (end : ℕ) (rest tail : List ℕ) → ends_line end ≡ true
     → strip_bom (line ++ end ∷ rest) ≡ line ++ end ∷ rest
     → strip_bom (line ++ end ∷ tail) ≡ line ++ end ∷ tail
@@ -193,7 +193,7 @@ bare-alone (a ∷ b ∷ []) end rest is = refl
 bare-alone (a ∷ b ∷ c ∷ line) end rest is =
     kept-if a b c line (kept-still a b c (line ++ end ∷ rest) is)
 
--- a text has no mark, or one
+-- a text has no byte order mark, or one
 data Marked (all : List ℕ) : Type 0 where
   bare : strip_bom all ≡ all → Marked all
   mark : (a b c : ℕ) (rest : List ℕ) → all ≡ a ∷ b ∷ c ∷ rest → is_bom a b c ≡ true → Marked all
@@ -215,7 +215,7 @@ gone a b c rest e = rw e refl
 
 -- ## The head
 
--- the head of a text is such a head, and the rest of the text stands behind it
+-- where the head of a text is as long as `front`, it is `front`
 head-at : (all front rest : List ℕ) → all ≡ front ++ rest → head_of all ≡ length front
     → take (head_of all) all ≡ front
 head-at all front rest is long =

@@ -21,7 +21,7 @@ use Rattle.lb_trace.specs.Spelling.{Spells}
 use Rattle.lb_pool.specs.Reports.{IsReport, report_of}
 use Rattle.lb_pool.specs.declared.text.Report.{Report}
 use Rattle.lb_report.specs.Bench.{AreVerdicts, IsBenchReport, IsReportOn, IsVerdict, program_of}
-use Rattle.lb_report.specs.declared.options.Options.{Options}
+use Rattle.lb_refusal.specs.declared.options.Options.{Options}
 use Rattle.lb_listing.specs.Listings.{Line, Lists, names_of, verdicts_of}
 use Rattle.lb_listing.specs.Merged.{IsMerged, joined}
 use Rattle.lb_listing.proofs.Listed.{all_lines}
@@ -123,7 +123,7 @@ is-on source text options s traces report spelled told spells =
 
 -- ## All reports
 
--- one report, and what the others list
+-- the lines of one report, and those of the others, are the lines of all traces
 with-report : (P : Program) (traces more : Traces) (report : Report) (found others : List Line)
     (verdicts : List Verdict) → IsOn P traces report → Lists report.text.items found
     → AreVerdicts P (recording_of P (traces ++ more)) verdicts
@@ -149,7 +149,7 @@ with-report P traces more report found others verdicts on lists judged rest =
     ∙ ap₂ lines_of (sym (map-append (λ (t : Trace). t.0) traces more))
     (take-append-drop (length traces) verdicts)
 
--- what the reports on parts of some traces list, by the verdicts on all of them
+-- the lines of the reports on all parts are the names and verdicts of all traces
 joined-lines : (source : Text) (options : Options) (s : tree.Source) (texts : List Text)
     (reports : List Report) (lists : List Traces) (found : List (List Line))
     (verdicts : List Verdict) → IsOnlyProgram s source
@@ -176,7 +176,7 @@ joined-lines source options s (t ∷ texts) (r ∷ reports) (ts ∷ lists) (l �
     b.1 c.1
     (rest-verdicts (program_of s options) ts (flat_map (λ those. those) lists) verdicts judged))
 
--- the report on all
+-- the merged reports on the parts are the report on the whole text
 pub merged_is : (source all : Text) (options : Options) (texts : List Text) (reports : List Report)
     (whole : Report) (merged : List ℕ) → AreParts all texts
     → AreReportsOn source options texts reports → IsBenchReport source all options whole

@@ -1,4 +1,4 @@
--- The parts of a text spell what the text spells.
+-- The parts of a text spell the traces that the text spells.
 use Rattle.std.proofs.Common.{◌≡◌, ◌∙◌, ℕ, ◌+◌, ◌-◌, false, ◌||◌, List, [], ◌∷◌}
 use Rattle.std.proofs.Common.{◌++◌, length, map, take, drop, Option, None, Some, refl, sym, ap}
 use Rattle.std.proofs.Common.{subst}
@@ -45,7 +45,7 @@ in-stretches all texts parts =
     last-parts all parts.count 0 0 texts parts.some (first-cut all parts.count) parts.each
     parts.plain
 
--- there is a part, and the head stands in it
+-- the head of a text has no quotes: there is a part, and the head stands in it
 plain-head : (head rest : List ℕ) (all : List ℕ) (count : ℕ) (texts : List (List ℕ))
     → InStretches head rest texts → (parts : AreParts all texts) → has_quote head ≡ false
 plain-head head rest all count [] st parts =
@@ -132,7 +132,7 @@ unfolding no-traces
 none-together [] = refl
 none-together (s ∷ more) = none-together more
 
--- it spells no trace
+-- a text of one line at most spells no trace
 spells-none : (elements : Elements) (all : List ℕ) (traces : Traces) → has_quote all ≡ false
     → record_end false (strip_bom all) ≡ None → Spells elements all traces → traces ≡ []
 unfolding SpelledBy records_of rest_records

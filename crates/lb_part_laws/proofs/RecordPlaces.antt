@@ -1,4 +1,4 @@
--- Where the records of a text without quotes begin.
+-- The places where the records of a text without quotes begin.
 use Rattle.std.proofs.Common.{◌≡◌, ◌∙◌, ℕ, zero, suc, ◌<◌, Bool, true, false, not, ◌||◌, List, []}
 use Rattle.std.proofs.Common.{◌∷◌, ◌++◌, length, get_or, drop, refl, sym, ap, subst, arith, ◌==◌}
 use Rattle.lb_trace.specs.Lines.{after_line, line_of, record_of}
@@ -11,7 +11,7 @@ use Rattle.lb_part_laws.specs.Stretches.{name_in}
 
 -- ## Records, byte by byte
 
--- the records of the rest of a text; told whether it begins within a line that has begun
+-- the records of the rest of a text; `true` where it begins within a line
 unfoldable pub rest_records : Bool → List ℕ → List Record
 rest_records true s = plain_records (after_line s)
 rest_records false s = plain_records s
@@ -97,7 +97,7 @@ closes e ends = ap (λ t. (e == 44) || t) ends ∙ by (e == 44)
     by true = refl
     by false = refl
 
--- a cell that ends in a text goes no further
+-- the name in a text with a line end is the same with more text behind it
 pub name-closed : (t : List ℕ) (e : ℕ) (rest : List ℕ) → ends_line e ≡ true
     → name_of ((t ++ e ∷ []) ++ rest) ≡ name_of (t ++ e ∷ [])
 unfolding name_of
@@ -126,7 +126,7 @@ inner-none false c r e is =
     let f : record_of (c ∷ r) ∷ rest_records true r ≡ [] = sym (rest-begin c r e) ∙ is in
     cc f
 
--- where no record is left, none begins
+-- where a text has no record, none begins in it
 none-left : (begun : Bool) (s : List ℕ) → rest_records begun s ≡ [] → (p : ℕ)
     → BeginsIn (not begun) s p → ⊥
 none-left begun [] is p b = let h : p < 0 = b.inside in omega (arith, h)
@@ -146,7 +146,7 @@ none-left begun (c ∷ r) is (suc q) b =
         none true (inner-none begun c r e is)
         (subst (λ (f : Bool). BeginsIn f r q) e next)
 
--- the place of the last record
+-- the place of the last record of a text: no record begins behind it
 pub record LastRecord (begun : Bool) (s : List ℕ) (x : Record) : Type 0 where
   pub place : ℕ
   pub begins : BeginsIn (not begun) s place
@@ -187,7 +187,7 @@ pub no-push : {X : Type 0} (front : List X) (x : X) → [] ≡ front ++ x ∷ []
 no-push [] x is = cc is
 no-push (f ∷ front) x is = cc is
 
--- the last record of what comes behind a byte
+-- the last record of the text `r` behind a byte has a place in it
 abbrev OthersLast : List ℕ → Record → Type 0
 OthersLast r x =
     (f : Bool) (those : List Record) → rest_records f r ≡ those ++ x ∷ [] → LastRecord f r x

@@ -19,7 +19,7 @@ use Rattle.lb_report.specs.Bench.{AreVerdicts}
 use Rattle.lb_listing.specs.Listings.{HasInstant, IsLine, Line, Lists, names_of}
 use Rattle.lb_listing.specs.Listings.{verdicts_of}
 
--- names and verdicts side by side
+-- the lines of a report: names and verdicts side by side
 unfoldable pub lines_of : List (List ℕ) → List Verdict → List Line
 lines_of [] verdicts = []
 lines_of (name ∷ names) [] = []
@@ -54,7 +54,7 @@ lines-joined (name ∷ names) more (v ∷ verdicts) others e =
     ap (λ (ls : List Line). (name, v) ∷ ls)
     (lines-joined names more verdicts others (omega arith))
 
--- the verdict of a trace that is short enough has an instant that such a trace may have
+-- the instant in the verdict of a trace of at most 1000000 instants is one that a trace may have
 ended : (P : Program) (H : History) (count : ℕ) (v : Verdict) → count ≤ 1000000 → Ends P H count v
     → HasInstant v
 ended P H count Passed short ends = tt

@@ -1,4 +1,4 @@
--- Stretches of a text spell what the text spells.
+-- The stretches of a text spell the traces that the text spells.
 use Rattle.std.proofs.Common.{◌≡◌, ◌∙◌, ℕ, ◌<◌, ◌≤◌, Bool, true, false, ◌||◌, if◌then◌else◌}
 use Rattle.std.proofs.Common.{List, [], ◌∷◌, ◌++◌, length, refl, sym, ap, subst, append_assoc}
 use Rattle.std.proofs.Common.{arith}
@@ -64,7 +64,7 @@ plain_bom (a ∷ b ∷ c ∷ rest) none = by (is_bom a b c)
         (or_right (is_quote a) (has_quote (b ∷ c ∷ rest)) none))
     by false = none
 
--- the records of a text that begins with a head
+-- the records of a head and a body are the header and the records of the body
 pub headed : (head body : List ℕ) (h : IsHead head) → has_quote (head ++ body) ≡ false
     → records_of (head ++ body) ≡ h.header ∷ plain_records body
 unfolding records_of

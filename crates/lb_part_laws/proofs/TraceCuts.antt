@@ -12,7 +12,7 @@ use Rattle.lb_part_laws.specs.Stretches.{AreApart, name_in}
 
 -- ## Instants
 
--- the instants that the first records spell, and those that the others do
+-- the instants of the first records, and those of the others
 pub record Halves
     (elements : Elements) (columns : Record) (before after : List Record) (found : List Instant)
     : Type 0 where
@@ -106,7 +106,8 @@ apart_instants elements columns before (r ∷ after) first second one other apar
 of_trace : List ℕ → List Row → List Instant
 of_trace name rows = map (λ row. (name, row)) rows
 
--- instants that begin with those of a trace: they are more, or the trace goes on behind them
+-- the `first` of some instants, which begin with a trace: they have all of it, or it goes on in
+-- `second`
 data Within (name : List ℕ) (rows : List Row) (rest first second : List Instant) : Type 0 where
   more : (others : List Instant) → first ≡ of_trace name rows ++ others → rest ≡ others ++ second
       → Within name rows rest first second
@@ -188,7 +189,7 @@ with_first t traces others first second is cut = record {
   second_is = cut.second_is;
 }
 
--- what is apart stays so without a front
+-- instants that are apart stay so without a front
 apart_behind : (begun others first second : List Instant) → first ≡ begun ++ others
     → ApartInstants first second → ApartInstants others second
 unfolding ApartInstants

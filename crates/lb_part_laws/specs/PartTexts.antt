@@ -9,7 +9,8 @@ use Rattle.lb_trace.specs.Spelling.{Spells}
 use Rattle.lb_part.specs.Parts.{IsPartOf}
 use Rattle.lb_part.specs.declared.part.Part.{Part}
 
--- texts are the parts of a text behind so many of them, up to the last one
+-- texts are the parts of a text behind the first `before`, up to the last one; `count` is the
+-- number of all parts
 abbrev pub AreLastParts : (all : List ℕ) (count before : ℕ) → List (List ℕ) → Type 0
 AreLastParts all count before [] = before ≡ count
 AreLastParts all count before (text ∷ more) =
@@ -23,7 +24,7 @@ pub record AreParts (all : List ℕ) (texts : List (List ℕ)) : Type 0 where
   pub each : AreLastParts all count 0 texts
   pub plain : All (λ text. has_quote text ≡ false) texts
 
--- what each text spells is together these traces
+-- each of `texts` spells traces, and all of these, in order, are `traces`
 pub record SpellTogether (elements : Elements) (texts : List (List ℕ)) (traces : Traces)
     : Type 0 where
   pub lists : List Traces

@@ -5,9 +5,9 @@ use Rattle.std.specs.List.{AllZip}
 use Rattle.lb_syntax.specs.Tokens.{Text}
 use Rattle.lb_pool.specs.declared.text.Report.{Report}
 use Rattle.lb_report.specs.Bench.{IsBenchReport}
-use Rattle.lb_report.specs.declared.options.Options.{Options}
+use Rattle.lb_refusal.specs.declared.options.Options.{Options}
 
--- a report on each text, with one source and one set of options
+-- each report is one on the text at its place, with one source and one set of options
 abbrev pub AreReportsOn : (source : Text) → Options → (texts : List Text) → List Report → Type 0
 AreReportsOn source options texts reports =
     AllZip (λ text report. IsBenchReport source text options report) texts reports

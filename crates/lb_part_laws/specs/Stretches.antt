@@ -12,7 +12,7 @@ use Rattle.lb_trace.specs.Spelling.{Record, Spells}
 abbrev pub name_in : Record → List ℕ
 name_in r = get_or r 0 []
 
--- the last of some records, and the first of others, have two names
+-- the last record of `before` and the first of `after` have different names
 abbrev pub AreApart : (before after : List Record) → Type 0
 AreApart before after =
     (front back : List Record) (a b : Record) → before ≡ front ++ a ∷ [] → after ≡ b ∷ back
@@ -23,7 +23,7 @@ pub record IsBorder (before after : List ℕ) : Type 0 where
   pub lines : plain_records (before ++ after) ≡ plain_records before ++ plain_records after
   pub traces : AreApart (plain_records before) (plain_records after)
 
--- stretches that make a text, one after the other, with a border behind each
+-- the stretches, one after the other, are the text `body`, with a border behind each
 abbrev pub AreStretches : (body : List ℕ) → (stretches : List (List ℕ)) → Type 0
 AreStretches body [] = body ≡ []
 AreStretches body (s ∷ more) =
@@ -39,7 +39,7 @@ pub record IsHead (head : List ℕ) : Type 0 where
   pub one : plain_records (strip_bom line) ≡ header ∷ []
   pub bare : (tail : List ℕ) → strip_bom (line ++ end ∷ tail) ≡ strip_bom line ++ end ∷ tail
 
--- what each stretch spells, behind the head, is together what the text spells
+-- each stretch, behind the head, spells traces, and all of these, in order, are `traces`
 pub record AreSpelled
     (elements : Elements) (head : List ℕ) (stretches : List (List ℕ)) (traces : Traces)
     : Type 0 where

@@ -1,4 +1,4 @@
-//! Laws of parts: what the parts of a trace text spell, and what their reports are together. Each
+//! Laws of parts: the traces that the parts of a trace text spell, and their merged reports. Each
 //! function is a law, and computes nothing.
 #![tactic(auto)]
 

@@ -7,9 +7,9 @@ ghost use Rattle.lb_trace.specs.Plain.{has_quote};
 ghost use Rattle.lb_trace.specs.Spelling.{Spells};
 ghost use Rattle.lb_part_laws.specs.Stretches.{AreSpelled, AreStretches, IsHead};
 
-/// Where a text without quotes spells traces, and is cut where traces begin, each stretch spells
-/// traces behind the head of the text, and the text spells these, stretch by stretch. This is a
-/// law, and computes nothing.
+/// A text without quotes that spells traces may be cut where traces begin. Then each stretch,
+/// behind the head of the text, spells some of them: the traces of the text are those of the
+/// stretches, one after the other. This is a law, and computes nothing.
 pub fn stretches_of_a_text_spell_its_traces()
     ensures { (elements : Elements) → (head body : List ℕ) → (stretches : List (List ℕ))
         → (traces : Traces) → IsHead head → has_quote (head ++ body) ≡ false

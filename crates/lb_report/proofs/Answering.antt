@@ -28,21 +28,21 @@ use Rattle.lb_report.specs.Correct.{IsBenchAnswer, IsFirstTold, first_of}
 use Rattle.lb_report.specs.LiveReports.{IsBenchText}
 use Rattle.lb_report.specs.FirstRefusals.{IsFirstRefusal, IsTextRefusal, too_long, no_tokens}
 use Rattle.lb_report.specs.FirstRefusals.{over_limit, no_tree, of_text, of_program, of_traces}
-use Rattle.lb_report.specs.Refusals.{syntax_number, static_number, check_number, order_number}
-use Rattle.lb_report.specs.Refusals.{number_of}
-use Rattle.lb_report.specs.declared.error.BenchError.{BenchError}
-use Rattle.lb_report.specs.declared.error.BenchError.TheVariants as part
-use Rattle.lb_report.specs.declared.options.Options.{Options}
+use Rattle.lb_refusal.specs.Refusals.{syntax_number, static_number, check_number, order_number}
+use Rattle.lb_refusal.specs.Refusals.{number_of}
+use Rattle.lb_refusal.specs.declared.error.BenchError.{BenchError}
+use Rattle.lb_refusal.specs.declared.error.BenchError.TheVariants as part
+use Rattle.lb_refusal.specs.declared.options.Options.{Options}
 use Rattle.lb_pool.specs.declared.text.Report.{Report}
 use Rattle.lb_report.proofs.FirstRefusals.{is_computed}
 
--- a refusal with this number
+-- a refusal for which `Refuses` holds, and whose number is `number`
 record IsNumbered (Refuses : Refusal → Type 0) (number : ℕ) : Type 0 where
   refusal : Refusal
   refuses : Refuses refusal
   same : number ≡ refusal_number refusal
 
--- ## What each part refuses
+-- ## The refusals of each part
 
 by_text :
     (source : Text) (e : SyntaxError) → 0 < syntax_number e → Parses source (Err e) →
@@ -60,7 +60,7 @@ by_text source (syntax.Size line column) some (inr (ts, index, h)) = record {
   same = refl;
 }
 
--- what is refused of names, static values and instances is refused of the program
+-- a refusal of names, static values and instances is the refusal of the program
 static_first : (P : Program) (r : Refusal) → static_refusal P ≡ Some r → refusal P ≡ Some r
 static_first P r e = ap (λ o. or_else o (or_else (check_refusal P) (unless (is_small P) E12))) e
 
@@ -81,7 +81,7 @@ by_static P (static.Range x) some h =
 by_static P (static.Instances x) some h =
     record { refusal = E12; refuses = static_first P E12 h; same = refl }
 
--- so is what is refused of types, clocks and definitions, where there is nothing before
+-- a refusal of types, clocks and definitions is the refusal of the program, where none is before it
 check_first :
     (P : Program) (r : Refusal) → static_refusal P ≡ None → check_refusal P ≡ Some r →
     refusal P ≡ Some r
@@ -106,7 +106,7 @@ by_order :
 by_order P order.Memory some h = absurd (omega (arith, some))
 by_order P (order.Cycle cycle) some h = record { refusal = E13; refuses = h.0; same = refl }
 
--- ## What the bench answers
+-- ## The answer of the bench
 
 none_or_some : (n : ℕ) → (n ≡ 0) ⊎ (0 < n)
 none_or_some zero = inl refl

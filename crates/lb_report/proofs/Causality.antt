@@ -1,4 +1,4 @@
--- A program is causal, or an element of it needs itself: what the computation finds.
+-- The computation finds that a program is causal, or that an element of it needs itself.
 use Rattle.std.proofs.Common.{◌≡◌, ℕ, zero, suc, ◌<◌, ◌≤◌, ◌⊎◌, inl, inr, Bool, true, false, List}
 use Rattle.std.proofs.Common.{[]}
 use Rattle.std.proofs.Common.{◌∷◌, length, refl, ap, sym, subst, ◌∙◌, arith}
@@ -57,7 +57,7 @@ any_in p [] x i e = absurd i
 any_in p (y ∷ ys) x (inl is) e = or_left (p y) (list_any p ys) (ap p is ∙ e)
 any_in p (y ∷ ys) x (inr i) e = or_right (p y) (list_any p ys) (any_in p ys x i e)
 
--- one of a list that passes a test
+-- an item of a list that passes a test
 record Passing {A : Type 0} (p : A → Bool) (xs : List A) : Type 0 where
   item : A
   stands : In item xs
@@ -115,7 +115,7 @@ all_pass_by true p x y ys e le long f (inr i) =
 all_pass_by false p x y ys e le long f i =
     let l : suc (length ys) ≤ length (filter p ys) = rw e at long in absurd (omega arith)
 
--- where a filter leaves nothing out, each one passes
+-- where a filter leaves nothing out, each item passes
 all_pass : {A : Type 0} (p : A → Bool) (xs : List A) (x : A) →
     length xs ≤ length (filter p xs) → In x xs → p x ≡ true
 all_pass p [] x le i = absurd i
@@ -171,7 +171,7 @@ starts_left ds y _ (by_way_of x z n r) = has_one ds x z n
 
 -- ## A cycle stays
 
--- a definition that needs an element that is left waits
+-- an element that needs one that is left has a definition that waits
 waits : (ds : List Definition) (x y : Element) → NeedsIn ds x y → is_left ds y ≡ true →
     NeedsIn (waiting ds) x y
 waits ds x y n left = record {
@@ -205,7 +205,7 @@ causal_by (d ∷ ds) x e r = absurd cc
 
 -- ## Where no definition goes there is a cycle
 
--- every one of some definitions needs an element of which one is left
+-- each definition of `ds` needs an element that one of `ds` defines
 abbrev AreStuck : List Definition → Type 0
 AreStuck ds = (d : Definition) → In d ds → list_any (is_left ds) d.needed ≡ true
 
@@ -249,7 +249,7 @@ fewer_later true false m n f lt = omega arith
 fewer_later false true m n f lt = let e = f refl in absurd cc
 fewer_later false false m n f lt = omega arith
 
--- one that is passed has a definition that is left
+-- `count_left` goes down where a temporary is passed that has a definition
 one_fewer : (x : Element) (path : List Element) (ds : List Definition) → is_left ds x ≡ true →
     is_passed path x ≡ false → count_left (x ∷ path) ds < count_left path ds
 one_fewer x path [] left new = absurd cc

@@ -1,4 +1,4 @@
--- What the bench answers to a source and the bytes of a feed.
+-- The answer of the bench to a source and the bytes of a feed.
 use Rattle.std.proofs.Common.{ℕ, ◌≡◌, ◌⊎◌, ◌<◌, ◌≤◌, ◌&&◌, ◌==◌, Bool, true, false, not, List, []}
 use Rattle.std.proofs.Common.{◌++◌}
 use Rattle.std.proofs.Common.{None, Option, Result, Ok, Err, refl, sym, ap, ◌∙◌, subst, inl, inr}
@@ -32,14 +32,14 @@ use Rattle.lb_report.specs.AcceptedPrograms.{IsAcceptedProgram}
 use Rattle.lb_report.specs.JudgedParts.{HasRefusedText, IsTextJudged, IsTextRefused}
 use Rattle.lb_report.specs.Windows.{HasRead, IsLoadFault, Left, RunsOver, text_in}
 use Rattle.lb_report.specs.declared.answer.AcceptedProgram.{AcceptedProgram}
-use Rattle.lb_report.specs.declared.error.BenchError.{BenchError}
-use Rattle.lb_report.specs.declared.error.BenchError.TheVariants as part
+use Rattle.lb_refusal.specs.declared.error.BenchError.{BenchError}
+use Rattle.lb_refusal.specs.declared.error.BenchError.TheVariants as part
 use Rattle.lb_report.specs.declared.feed.LoadError.{LoadError}
 use Rattle.lb_report.specs.declared.feed.LoadError.TheVariants as load
 use Rattle.lb_report.specs.declared.feed.TheConstants.{INPUT_LIMIT}
 use Rattle.lb_report.specs.declared.feeding.FeedFault.{FeedFault}
 use Rattle.lb_report.specs.declared.feeding.FeedFault.TheVariants as fault
-use Rattle.lb_report.specs.declared.options.Options.{Options}
+use Rattle.lb_refusal.specs.declared.options.Options.{Options}
 use Rattle.lb_report.specs.declared.rounds.Halt.{Halt}
 use Rattle.lb_report.specs.declared.rounds.Halt.TheVariants as halt
 use Rattle.lb_report.specs.declared.rounds.Judged.{Judged}
@@ -56,12 +56,12 @@ pub record IsNew (w : Window) : Type 0 where
   pub read : w.read ≡ 0
   pub still : w.is_over ≡ false
 
--- the bytes that a feed has given are all that stand in what was read
+-- for a new window, the text read is just the bytes that the feed has given
 all_bytes : (w after : Window) (old new : Left) → IsNew w → (read : HasRead w after old new)
     → text_in w ++ read.more ≡ read.more
 all_bytes w after old new is read = ap (λ t. t ++ read.more) is.nothing
 
--- a feed that was read to its end
+-- an answer to the bytes read is an answer on the feed, once it has been read to its end
 answer_on : (source : Text) (options : Options) (w after : Window) (old new : Left)
     (answer : Result Report BenchError)
     → IsNew w → (read : HasRead w after old new) → after.is_over ≡ true
@@ -94,14 +94,14 @@ load_fault w old new load.Read is bad =
 
 -- ## Refusals
 
--- a text that is too long
+-- a text that is too long is refused
 pub long_refused : (P : Program) (traces : Text) → 1073741824 < length traces
     → Refuses (signature P) traces (trace.Limit None)
 long_refused P traces long =
     let is : outcome (signature P) traces ≡ Err 18 = outcome-long (signature P) traces long in
     inr (is, refused_text (signature P) traces 18 is)
 
--- an error of an outcome
+-- the error of an outcome is a refusal of the traces
 pub outcome_refused : (P : Program) (traces : Text) (e : TraceError)
     → IsRefusal (outcome (signature P) traces) e → Refuses (signature P) traces e
 outcome_refused P traces e bad =
@@ -145,7 +145,7 @@ trace_told source traces options tree e bytes spelled accepted count bad =
         omega (arith, not_less 1073741824 bytes short, count) in
         rw short (told e (outcome_refused (program_of tree options) traces e (bad fits)))
 
--- a source that is refused whatever the traces are
+-- the refusal of a source, whatever the traces are, is an answer on the feed
 source_told : (source : Text) (options : Options) (w mid after : Window) (x y z : Left)
     (e : BenchError)
     → IsNew w → HasRefusedSource source options w mid x y e → HasRead mid after y z
@@ -154,7 +154,7 @@ source_told source options w mid after x y z e is bad rest over =
     let read : HasRead w after x z = read_on w mid after x y z bad.read rest in
     answer_on source options w after x z (Err e) is read over tt (bad.refused read.more)
 
--- a text that is refused however it goes on
+-- the refusal of a text, however it goes on, is an answer on the feed
 text_told : (source : Text) (options : Options) (w mid after : Window) (x y z : Left)
     (e : TraceError) (bytes : ℕ)
     → IsNew w → HasRefusedTraces source options w mid x y e → HasRead mid after y z
@@ -196,7 +196,7 @@ any_told source options w mid after x y z e bytes is bad rest over count =
     inr h.0)
     known.holds.1))
 
--- the part that refuses, once the feed has been read to its end
+-- the refusal by a part is an answer on the feed, once it has been read to its end
 pub feed_refused : (source : Text) (options : Options) (w mid after : Window) (x y z : Left)
     (e : BenchError) (bytes : ℕ)
     → IsNew w → IsJudgingFault source options w mid x y (fault.Refused e)
@@ -222,7 +222,7 @@ feed_refused source options w mid after x y z (part.Trace e) bytes is bad rest o
     text_told source options w mid after x y z e bytes is h rest over count)
     bad
 
--- what was read before the feed fails
+-- where judging stopped with a refusal, the feed has not failed so far
 pub judging_read : (source : Text) (options : Options) (w mid : Window) (x y : Left)
     (e : BenchError)
     → IsJudgingFault source options w mid x y (fault.Refused e) → HasRead w mid x y
@@ -250,7 +250,7 @@ feed_failed source options w mid x y z e f is bad fails =
 module _ (source : Text) (options : Options) (w after : Window) (x y : Left) (j : Judged)
     (is : IsNew w)
     (found : OnlyProgram source options (λ P. IsProgramJudged P w after x y j)) where
-  -- a report on all traces
+  -- a report on all traces is an answer on the feed
   pub feed_reported : (report : Report) (bytes : ℕ) → bytes ≡ after.read → bytes ≤ 1073741824
       → IsReport (trace_names j.roll.names.traces) j.verdicts.items report
       → IsFeedAnswer source options x y (Ok report)
@@ -290,7 +290,7 @@ module _ (source : Text) (options : Options) (w after : Window) (x y : Left) (j 
       })
       tt
 
-  -- none, since the text is too long or memory ran out
+  -- a fault is an answer on the feed where the text is too long or memory ran out
   pub feed_unreported : (bytes : ℕ) (f : FeedFault) → bytes ≡ after.read → IsLastFault bytes f
       → IsFeedAnswer source options x y (Err f)
   feed_unreported bytes f count bad =
@@ -316,7 +316,7 @@ module _ (source : Text) (options : Options) (w after : Window) (x y : Left) (j 
             tt)
       ]
 
-  -- one or the other
+  -- a result that is a report or such a fault is an answer on the feed
   pub feed_answered : (bytes : ℕ) (r : Result Report FeedFault) → bytes ≡ after.read
       → OnOk r (bytes ≤ 1073741824)
       → IfOk r (IsReport (trace_names j.roll.names.traces) j.verdicts.items)
@@ -328,7 +328,7 @@ module _ (source : Text) (options : Options) (w after : Window) (x y : Left) (j 
 
 -- ## A program
 
--- it has a verdict for each trace
+-- a program that has judged a feed gives a verdict for each trace
 pub judged_long : (P : Program) (w after : Window) (x y : Left) (j : Judged)
     → IsProgramJudged P w after x y j
     → length j.verdicts.items ≡ length j.roll.names.traces
@@ -336,7 +336,7 @@ judged_long P w after x y j is =
     is.verdicts.count ∙ sym (names_long is.traces) ∙ ap length (sym is.names)
     ∙ names_long j.roll.names.traces
 
--- what was judged by the equations of a program
+-- traces judged by the equations of a program are judged by the program
 pub program_judged : (P : Program) (p : AcceptedProgram) (w after : Window) (x y : Left)
     (j : Judged)
     → IsAcceptedProgram p P → IsTextJudged p.ordered.program p.signature w after x y j
@@ -381,7 +381,7 @@ judging_fault source options p w after x y (halt.Stopped judged line) found bad 
 judging_fault source options p w after x y halt.Quoted found bad =
     record { read = bad; refused = λ traces. tt }
 
--- a source that is refused
+-- the refusal of a source is a fault of judging
 pub source_fault : (source : Text) (options : Options) (w : Window) (at : Left) (e : BenchError)
     → HasRead w w at at → ((traces : Text) → IsRefused source traces options e)
     → IsJudgingFault source options w w at at (fault.Refused e)

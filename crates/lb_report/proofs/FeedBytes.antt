@@ -9,12 +9,12 @@ use Rattle.lb_pool.specs.Counts.{count_more}
 use Rattle.lb_report.specs.Feeds.{IsTooLong}
 use Rattle.lb_report.specs.declared.feed.TheConstants.{INPUT_LIMIT}
 
--- no read
+-- before a read no bytes have been given
 pub Consumes-none : (at : Option (List ℕ)) → Consumes at at []
 Consumes-none None = tt
 Consumes-none (Some xs) = refl
 
--- two reads, one after the other
+-- two reads, one after the other, give the bytes of both
 pub Consumes-more : (before between after : Option (List ℕ)) (first second whole : List ℕ)
     → Consumes before between first → Consumes between after second → whole ≡ first ++ second
     → Consumes before after whole
@@ -37,7 +37,7 @@ Consumes-filled before between after old new filled count came front read =
     (take (filled + count) new) came read
     (take-add filled count new ∙ ap (λ bytes. bytes ++ take count (drop filled new)) front)
 
--- what came is too much
+-- a feed that gave more than `limit` bytes had more than `limit` to give
 pub more_than : (limit : ℕ) (before after : Option (List ℕ)) (bytes : List ℕ) → limit < length bytes
     → Consumes before after bytes → IfSome before (λ coming. limit < length coming)
 more_than limit None after bytes many came = tt

@@ -14,7 +14,7 @@ use Rattle.lb_report.specs.SectionEnds.{AreEnds, start_of}
 use Rattle.lb_report.proofs.PlacedFiles.{between_more, between_none}
 use Rattle.lb_report.proofs.RangeReads.{end_within}
 
--- one number more
+-- a range with one number more ends with that number
 pub numbers_more : (from count : ℕ)
     → range_with_len from (count + 1) ≡ range_with_len from count ++ (from + count) ∷ []
 numbers_more from count =
@@ -38,7 +38,7 @@ module _ (ends : List ℕ) (size : ℕ) (are : AreEnds 0 size ends) (all : List 
   abbrev IsAt : ℕ → Vec ℕ Global → Type 0
   IsAt k chunk = chunk.items ≡ between (start_of 0 ends k) (get_or ends k 0) all
 
-  -- the last chunks are what stands behind the others
+  -- the last `n` chunks are the bytes from chunk `k` on
   rest_text : (k n : ℕ) (chunks : List (Vec ℕ Global)) → k + n ≡ length ends
       → AllZip IsAt (range_with_len k n) chunks
       → text_of chunks ≡ between (start_of 0 ends k) size all

@@ -102,7 +102,7 @@ one_program P r s first other =
       | inr e ↦ elim (of_rules P s other) [ inl f ↦ cc | inr f ↦ cc ]
     ]
 
--- an accepted program has none
+-- an accepted program has no first refusal
 accepted : (P : Program) (r : Refusal) → IsFirst P (Some r) → IsAccepted P → ⊥
 accepted P E13 h is = is.causal h.1.0 h.1.1
 accepted P r h is = let e = is.rules in cc
@@ -123,7 +123,7 @@ module _ (source traces : Text) (node : Name) (observer : Option Name) where
   abbrev program : Source → Program
   program tree = record { source = tree; root = node; observer = observer }
 
-  -- what holds of the program of one tree holds of that of the other: they are one
+  -- two trees that the source spells are one: what holds of the program of one holds of the other's
   at_one :
       (Q : Program → Type 0) (s t : Source) → IsOnlyProgram s source → IsOnlyProgram t source →
       Q (program t) → Q (program s)
@@ -161,9 +161,9 @@ module _ (source traces : Text) (node : Name) (observer : Option Name) where
     no_other_is = λ other k. at_most_one other first k h;
   }
 
--- ## The computed one
+-- ## The computed first refusal
 
--- what the outcome of a text says of it
+-- the statement on a text for its outcome: it spells the tree, or is refused
 abbrev IsOutcome : Text → Result Source Refusal → Type 0
 IsOutcome text (Ok tree) = IsOnlyProgram tree text
 IsOutcome text (Err r) = IsTextRefusal text r
@@ -271,7 +271,7 @@ program_is : (P : Program) → IsFirst P (program_refusal P)
 unfolding program_refusal
 program_is P = by_rules P (refusal P) refl
 
--- the first refusal of the traces of a program
+-- the number of an outcome is the first refusal of the traces of a program
 traces_are : (P : Program) (text : Text) (o : Result Traces ℕ) → outcome (signature P) text ≡ o →
     IsTraceRefusal P text (trace_number o)
 traces_are P text (Ok traces) e = (traces, sound_text (signature P) text traces e)
@@ -301,12 +301,12 @@ module _ (source traces : Text) (node : Name) (observer : Option Name) where
   unfolding first_refusal
   computed_is = by_source (text_outcome source) (text_is source)
 
-  -- the computed one is the first refusal, and nothing else is
+  -- the computed refusal is the first one, and nothing else is
   pub only_computed :
       IsOnlyFirstRefusal source traces node observer (first_refusal source traces node observer)
   only_computed = only_first source traces node observer _ computed_is
 
-  -- a first refusal is the computed one
+  -- a first refusal is the computed refusal
   pub is_computed :
       (first : Option ℕ) → IsFirstRefusal source traces node observer first →
       first ≡ first_refusal source traces node observer

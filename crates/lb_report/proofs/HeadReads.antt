@@ -1,4 +1,4 @@
--- The header at the front of a text of which more may follow.
+-- The header at the front of a text that may go on.
 use Rattle.std.proofs.Common.{ℕ, ◌≡◌, ◌⊎◌, ◌<◌, ◌≤◌, Bool, true, false, List, [], ◌∷◌}
 use Rattle.std.proofs.Common.{◌++◌, Err, refl, sym, ap, ◌∙◌, subst, append_assoc, ⊎_elim, inl, inr}
 use Rattle.std.proofs.Common.{arith, drop, length, take}
@@ -31,7 +31,7 @@ use Rattle.lb_report.proofs.WindowReads.{read_kept}
 
 -- ## A byte order mark before a line
 
--- an end of a line is no part of it
+-- a text that begins with an end of a line has no byte order mark
 strip_one : (a : ℕ) (rest : List ℕ) → ends_line a ≡ true
     → strip_bom (a ∷ rest) ≡ a ∷ rest
 unfolding strip_bom
@@ -49,7 +49,7 @@ strip_two a b (c ∷ rest) e =
     let none : is_bom a b c ≡ false = grind (arith, nat_tests) in
     rw none refl
 
--- behind whole lines it is left out of them alone
+-- `strip_bom` of whole lines and more text is `strip_bom` of the lines, and then that text
 strip_lines : (head rest : List ℕ) → is_ended head ≡ true
     → strip_bom (head ++ rest) ≡ strip_bom head ++ rest
 strip_lines [] rest e = cc e
@@ -65,7 +65,7 @@ lines_stripped (a ∷ []) e = ap is_ended (strip_one a [] e) ∙ e
 lines_stripped (a ∷ b ∷ []) e = ap is_ended (strip_two a b [] e) ∙ e
 lines_stripped (a ∷ b ∷ c ∷ more) e = strip-ended (a ∷ b ∷ c ∷ more) (omega arith) e
 
--- what stands behind it has no quotes either
+-- a text without quotes has none without its byte order mark
 strip_plain : (text : List ℕ) → has_quote text ≡ false → has_quote (strip_bom text) ≡ false
 unfolding strip_bom
 strip_plain [] plain = plain
@@ -80,7 +80,7 @@ strip_plain (a ∷ b ∷ c ∷ rest) plain = by (is_bom a b c) refl
 
 -- ## Texts without a line
 
--- ends of lines are no quotes
+-- a text without records has no quotes
 blank_plain : (text : List ℕ) → plain_records text ≡ [] → has_quote text ≡ false
 blank_plain [] none = refl
 blank_plain (b ∷ rest) none = by (ends_line b) refl (λ h. blank_plain rest h)
@@ -92,13 +92,13 @@ blank_plain (b ∷ rest) none = by (ends_line b) refl (λ h. blank_plain rest h)
         rw other (behind (sym (plain-skip b rest is) ∙ none))
     by false is behind = cc (plain-line b rest is, none)
 
--- a text without a quote in its lines
+-- the records of a text without quotes are the plain records behind its byte order mark
 records_stripped : (text : List ℕ) → has_quote (strip_bom text) ≡ false
     → records_of text ≡ plain_records (strip_bom text)
 unfolding records_of
 records_stripped text plain = plain_text (strip_bom text) plain
 
--- the records of whole lines stand before those of what follows them
+-- the records of whole lines and more text are those of the lines, and then those of that text
 records_behind : (head behind : List ℕ) → is_ended head ≡ true → has_quote head ≡ false
     → records_of (head ++ behind)
     ≡ plain_records (strip_bom head) ++ records default_config behind
@@ -109,7 +109,7 @@ records_behind head behind ended plain =
 
 -- ## No header
 
--- records of which the first is none
+-- a text whose first records hold no header is refused by E14
 no_header : (elements : Elements) (text : List ℕ) (rows more : List Record)
     → length text ≤ 1073741824 → records_of text ≡ rows ++ more → has_header elements rows ≡ false
     → (rows ≡ [] → more ≡ []) → outcome elements text ≡ Err 14
@@ -123,7 +123,7 @@ none_first : {A : Type 0} (xs : List A) → take 1 xs ≡ [] → xs ≡ []
 none_first [] is = refl
 none_first (x ∷ xs) is = cc is
 
--- a text that is over has no header
+-- a text that is over and has no header is refused by E14
 over_refused : (elements : Elements) (text : List ℕ) → length text ≤ 1073741824
     → has_quote (strip_bom text) ≡ false
     → has_header elements (plain_records (strip_bom text)) ≡ false
@@ -133,7 +133,8 @@ over_refused elements text short plain none =
     (records_stripped text plain ∙ sym (append-nil (plain_records (strip_bom text)))) none
     (λ _. refl)
 
--- the first line of a piece of a text, and whether the text is over with the piece
+-- `head` is the first line of `piece`, the front of `text`; where `over`, the text ends with the
+-- piece
 pub record IsFirstLine (text piece head : List ℕ) (over : Bool) : Type 0 where
   pub behind : List ℕ
   pub rest : List ℕ
@@ -169,7 +170,7 @@ first_line text count len over within fits whole lines some first ended = record
   ];
 }
 
--- it is no header
+-- a text whose first line is no header is refused by E14, however the text goes on
 pub header_refused : (elements : Elements) (text piece head tail : List ℕ) (over : Bool)
     → IsFirstLine text piece head over → has_quote head ≡ false
     → has_header elements (plain_records (strip_bom head)) ≡ false
@@ -187,7 +188,7 @@ header_refused elements text piece head tail over at plain none last short =
         ∙ append_assoc (head ++ at.rest) at.behind tail
         ∙ append_assoc head at.rest (at.behind ++ tail)
 
-    -- the text is over, and has no other lines
+    -- a text that is over is just its piece
     over_all : over ≡ true → text ++ tail ≡ piece
     over_all is =
         ap (λ t. text ++ t) (last is) ∙ append-nil text ∙ at.whole
@@ -257,7 +258,7 @@ head_is elements table text piece head more over at plain headed is = record {
       (fields_of table.header) at.first is;
 }
 
--- where it ends no line nothing stands behind it
+-- nothing stands behind a first line that has no line end
 pub head_ends : (text piece head after : List ℕ) (over : Bool) → IsFirstLine text piece head over
     → text ≡ head ++ after
     → (is_ended head ≡ true) ⊎ ((over ≡ true) × (after ≡ []))
@@ -297,7 +298,7 @@ module _ (elements : Elements) (a b : Window) (x y : Left) (shown : List ℕ) (c
       (sym same) some)
       first ended
 
-  -- there is none
+  -- a feed whose first line is no header is refused
   pub head_none : (e : TraceError) → error_number e ≡ 14
       → has_header elements (plain_records (strip_bom (take len (take count shown)))) ≡ false
       → HasRefusedText elements a b x y e
@@ -314,7 +315,7 @@ module _ (elements : Elements) (a b : Window) (x y : Left) (shown : List ℕ) (c
         ∙ ap (λ n. Err n) (sym number));
   }
 
-  -- it is read
+  -- the header is read where the window drops its first line
   pub head_found : (table : ColumnTable) (more : List Record) (c : Window)
       → is_header elements (fields_of table.header) ≡ true
       → plain_records (strip_bom (take len (take count shown))) ≡ fields_of table.header ∷ more

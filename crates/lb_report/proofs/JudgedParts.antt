@@ -15,7 +15,7 @@ use Rattle.lb_pool.proofs.JoinedVerdicts.{joined_verdicts}
 use Rattle.lb_report.specs.JudgedParts.{IsJudgedPart}
 use Rattle.lb_report.specs.declared.rounds.Judged.{Judged}
 
--- the traces of a further part are judged too
+-- where a part is judged, and then the traces of a further part, both are judged
 pub judged_more :
     (p : FlatProgram) (elements : Elements) (table : ColumnTable) (done part : List Record)
     (before after : Judged) (set : Traces) (found : List Verdict) →

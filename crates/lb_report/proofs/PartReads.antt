@@ -1,4 +1,4 @@
--- Records that are read behind nothing, round after round.
+-- Records with none before them, which are read round after round.
 use Rattle.std.proofs.Common.{ℕ, ◌≡◌, false, List, [], ◌∷◌, ◌++◌, Ok, refl, sym, ap, ◌∙◌, subst}
 use Rattle.std.proofs.Common.{append_assoc}
 use Rattle.std.proofs.lemmas.List.{append-nil}
@@ -24,7 +24,8 @@ use Rattle.lb_trace.proofs.Readings.{with_records-append}
 use Rattle.lb_trace.proofs.TextReadings.{joined_parts, part_spells, refused_behind}
 use Rattle.lb_trace.proofs.TextReadings.{refused_on, refused_one}
 use Rattle.lb_pool.specs.Correct.{AreVerdicts}
-use Rattle.lb_report.specs.JudgedParts.{IsJudged, IsJudgedPart, IsPartRead, IsState, IsStopped}
+use Rattle.lb_report.specs.JudgedParts.{AreJudgedTraces, IsJudgedPart, IsPartRead, IsState}
+use Rattle.lb_report.specs.JudgedParts.{IsStopped}
 use Rattle.lb_report.specs.Sections.{IsPlainHalt}
 use Rattle.lb_report.specs.declared.rounds.Halt.{Halt}
 use Rattle.lb_report.specs.declared.rounds.Halt.TheVariants as halt
@@ -42,7 +43,7 @@ round_held elements set round is =
     ap (λ e. record { signature = e; traces = round.recorder.rows.traces }) is.signature
     ∙ ap (λ ts. record { signature = elements; traces = ts }) is.read
 
--- a worker that begins a round
+-- a roll and a round make a state
 pub begun_state : (elements : Elements) (set : Traces) (s : State) → IsRoll s.judged.roll
     → IsRound elements set s.round → IsState elements s
 begun_state elements set s roll round = record {
@@ -51,13 +52,13 @@ begun_state elements set s roll round = record {
   known = round.known;
 }
 
--- nothing is judged
+-- where no traces are judged, no records are judged
 pub judged_none : (p : FlatProgram) (elements : Elements) (table : ColumnTable) (j : Judged)
-    → IsJudged p elements [] j → IsJudgedPart p elements table [] j
+    → AreJudgedTraces p elements [] j → IsJudgedPart p elements table [] j
 unfolding with_records
 judged_none p elements table j is = record { traces = []; read = refl; judged = is }
 
--- nothing is read behind what was judged
+-- with an empty round, the records that were judged are those that have been read
 pub part_none : (p : FlatProgram) (elements : Elements) (table : ColumnTable)
     (rows : List Record) (s : State)
     → IsJudgedPart p elements table rows s.judged
@@ -74,7 +75,7 @@ part_none p elements table rows s judged held = record {
   held = held;
 }
 
--- some more records are read
+-- where more records are added to the round, these have been read too
 pub part_more : (p : FlatProgram) (elements : Elements) (table : ColumnTable)
     (rows more : List Record) (s next : State)
     → IsPartRead p elements table rows s → next.judged ≡ s.judged
@@ -97,7 +98,7 @@ part_more p elements table rows more s next is same read kept = record {
       (kept ∙ ap (λ (r : Recording). r.signature) is.held);
 }
 
--- one more record is read
+-- where one more record is added to the round, it has been read too
 pub part_one : (p : FlatProgram) (elements : Elements) (table : ColumnTable)
     (rows : List Record) (r : Record) (s next : State)
     → IsPartRead p elements table rows s → next.judged ≡ s.judged
@@ -110,7 +111,7 @@ part_one p elements table rows r s next is same read kept =
     part_more p elements table rows (r ∷ []) s next is same
     (ap (then_read (λ ts. Ok ts)) read) kept
 
--- the traces of the round are judged
+-- where the traces of the round are judged, all records read are judged
 pub part_settled : (p : FlatProgram) (elements : Elements) (table : ColumnTable)
     (rows : List Record) (s : State) (after : Judged) (found : List Verdict) (set : Recording)
     → IsPartRead p elements table rows s → set ≡ s.round.recorder.rows
@@ -129,14 +130,14 @@ part_settled p elements table rows s after found set is same taken verdicts all 
     (judged_more p elements table is.done is.part s.judged after is.set found is.judged is.read
     (subst Taken whole taken) (subst (λ r. AreVerdicts p r found) whole verdicts) all)
 
--- some records that stand behind nothing have been read, and a roll has their traces
+-- `rows`, with no records before them, have been read, and `roll` names their traces
 pub record IsBehind (elements : Elements) (table : ColumnTable) (rows : List Record) (roll : Roll)
     : Type 0 where
   pub traces : Traces
   pub read : with_records elements (columns_in table) [] rows ≡ Ok traces
   pub names : IsRollOf elements roll traces
 
--- the traces that are judged and those of the round
+-- a roll of the judged traces and those of the round names the traces of all records read
 part_behind : (p : FlatProgram) (elements : Elements) (table : ColumnTable)
     (rows : List Record) (s : State) (roll : Roll) (set : Recording)
     → IsPartRead p elements table rows s → set ≡ s.round.recorder.rows
@@ -159,7 +160,7 @@ part_behind p elements table rows s roll set is same taken =
       names = names;
     }
 
--- a record is not added behind the traces of the round
+-- a record that is not added to the round is one at which reading has stopped
 pub part_stopped : (p : FlatProgram) (elements : Elements) (table : ColumnTable)
     (rows more : List Record) (s : State) (roll : Roll) (set : Recording) (line : List ℕ)
     (r : Record)
@@ -180,7 +181,7 @@ part_stopped p elements table rows more s roll set line r is same taken shown =
       names = b.names;
     }
 
--- a record is refused there
+-- a record that is refused behind the traces of the roll is a refusal of the records up to it
 pub part_refused : (p : FlatProgram) (elements : Elements) (table : ColumnTable)
     (rows : List Record) (r : Record) (s : State) (roll : Roll) (set : Recording)
     (e : TraceError)
@@ -230,7 +231,7 @@ part_early p elements table rows s set e is same refused =
     (here (columns_in table) is.judged.traces is.part is.judged.judged.names
     (part_spells elements (columns_in table) is.part is.set is.read)))
 
--- the records of a piece up to one that is not added
+-- the records of a piece are those added, the one that is not added, and those behind it
 pub stopped_rows : (elements : Elements) (columns : Record) (before after : Traces)
     (text rest : List ℕ) (rows : List Record)
     → (at : StopsAt elements columns before after text rest)
@@ -240,7 +241,7 @@ stopped_rows elements columns before after text rest rows at =
     ap (λ rs. rows ++ rs) (at.cut ∙ ap (λ rs. at.done ++ rs) (begun-more rest at.some))
     ∙ sym (append_assoc rows at.done (record_of rest ∷ plain_records (after_line rest)))
 
--- a text without quotes is halted as such
+-- a halt of a text without quotes is an `IsPlainHalt`
 pub plain_halt : (text : List ℕ) (h : Halt) → has_quote text ≡ false → IsPlainHalt text h
 plain_halt text (halt.Load e) plain = tt
 plain_halt text (halt.Refused e) plain = tt

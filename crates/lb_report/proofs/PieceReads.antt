@@ -54,7 +54,7 @@ front_all front rows is =
     ∙ ap (λ rs. rows ++ rs) no_records
     ∙ append-nil rows
 
--- two texts without quotes
+-- two texts without quotes are one text without quotes
 pub plain_both : (first second : List ℕ) → has_quote first ≡ false → has_quote second ≡ false
     → has_quote (first ++ second) ≡ false
 plain_both first second one two =
@@ -64,7 +64,7 @@ plain_both first second one two =
 
 -- ## One piece
 
--- the text of a window is a piece and what is left of it
+-- a text is its first `count` bytes and the rest
 pub piece_cut : (text piece rest : List ℕ) (count : ℕ) → piece ≡ take count text
     → rest ≡ drop count text → text ≡ piece ++ rest
 piece_cut text piece rest count front behind =
@@ -72,7 +72,7 @@ piece_cut text piece rest count front behind =
     ∙ ap (λ t. piece ++ t) (sym behind)
 
 module _ (p : FlatProgram) (elements : Elements) (table : ColumnTable) where
-  -- a piece is read, of which more may follow, or all that was left
+  -- a piece that is read is a part of the rest, or all of it
   pub piece_read : (rows : List Record) (a b c : Window) (x y : Left) (text : List ℕ) (next : State)
       → HasTaken a b x y → text_in b ≡ text ++ text_in c → c.read ≡ b.read
       → c.is_over ≡ b.is_over → c.is_ended ≡ b.is_ended → has_quote text ≡ false
@@ -112,7 +112,7 @@ module _ (p : FlatProgram) (elements : Elements) (table : ColumnTable) where
             plain = ap has_quote same ∙ plain;
           }
 
-  -- the piece has a quote
+  -- where the piece has a quote, the rest is read up to the piece
   pub piece_quoted : (rows : List Record) (a b : Window) (x y : Left) (s : State)
       → HasTaken a b x y → IsPartRead p elements table rows s
       → IsRestRead p elements table rows a b x y s
@@ -165,7 +165,7 @@ module _ (p : FlatProgram) (elements : Elements) (table : ColumnTable) where
       })
       rest
 
-  -- nothing is left
+  -- where nothing is left, all of the rest has been read
   pub pieces_done : (rows : List Record) (a b : Window) (x y : Left) (s : State)
       → IsRestRead p elements table rows a b x y s → b.is_over ≡ true → text_in b ≡ []
       → IsRestDone p elements table rows a b x y s
@@ -182,7 +182,7 @@ module _ (p : FlatProgram) (elements : Elements) (table : ColumnTable) where
         plain = ap has_quote all ∙ at.plain;
       }
 
-  -- another state with the same records
+  -- another state with the same records has read the same part of the rest
   pub pieces_as : (rows : List Record) (a b : Window) (x y : Left) (s next : State)
       → ((rs : List Record) → IsPartRead p elements table rs s
       → IsPartRead p elements table rs next)
@@ -198,7 +198,7 @@ module _ (p : FlatProgram) (elements : Elements) (table : ColumnTable) where
     part = same (rows ++ at.more) at.part;
   }
 
-  -- all is judged
+  -- where all of the rest has been read and its records are judged, the rest is judged
   pub pieces_judged : (rows : List Record) (a b : Window) (x y : Left) (s : State) (j : Judged)
       → ((rs : List Record) → IsPartRead p elements table rs s → IsJudgedPart p elements table rs j)
       → IsRestDone p elements table rows a b x y s
@@ -228,7 +228,7 @@ module _ (p : FlatProgram) (elements : Elements) (table : ColumnTable) where
   halted_at rows more a b x y halt.Quoted read begins bad =
       record { read = read; more = more; begins = begins; halt = bad }
 
-  -- memory ran out
+  -- an error for want of memory halts the rest
   pub memory_halted : (rows : List Record) (a b : Window) (x y : Left) (e : TraceError)
       → HasRead a b x y → error_number e ≡ 0
       → IsRestHalted elements table rows a b x y (halt.Refused e)
@@ -236,7 +236,7 @@ module _ (p : FlatProgram) (elements : Elements) (table : ColumnTable) where
       halted_at rows [] a b x y (halt.Refused e) read
       (λ tail last. (records default_config ((text_in a ++ read.more) ++ tail), refl)) none
 
-  -- of some pieces
+  -- a halt of the records of some pieces is a halt of the rest
   pub pieces_halted : (rows : List Record) (a b : Window) (x y : Left) (s : State) (h : Halt)
       → ((rs : List Record) → IsPartRead p elements table rs s → IsHalt elements table rs h)
       → IsRestRead p elements table rows a b x y s
@@ -251,7 +251,7 @@ module _ (p : FlatProgram) (elements : Elements) (table : ColumnTable) where
       ))
       (bad (rows ++ at.more) at.part)
 
-  -- of all of them
+  -- a halt of the records of all pieces is a halt of the rest
   pub done_halted : (rows : List Record) (a b : Window) (x y : Left) (s : State) (h : Halt)
       → ((rs : List Record) → IsPartRead p elements table rs s → IsHalt elements table rs h)
       → IsRestDone p elements table rows a b x y s
@@ -268,7 +268,7 @@ module _ (p : FlatProgram) (elements : Elements) (table : ColumnTable) where
       ))
       (bad (rows ++ all) at.part)
 
-  -- a piece is not read to its end
+  -- a halt within a piece is a halt of the rest
   pub piece_halted : (rows more : List Record) (a b : Window) (x y : Left) (text rest : List ℕ)
       (h : Halt)
       → (taken : HasTaken a b x y) → text_in b ≡ text ++ rest → has_quote text ≡ false
@@ -307,7 +307,7 @@ module _ (p : FlatProgram) (elements : Elements) (table : ColumnTable) where
                 ∙ sym (append-nil (plain_records text)),
           )
 
-  -- what comes of a further piece
+  -- a reading of further pieces is a reading of the whole rest
   pub reading_on : (rows : List Record) (a b c : Window) (x y z : Left) (s : State) (r : Reading)
       → (at : IsRestRead p elements table rows a b x y s)
       → IsReading p elements table (rows ++ at.more) b c y z r
@@ -338,7 +338,7 @@ module _ (p : FlatProgram) (elements : Elements) (table : ColumnTable) (rows : L
     (ended : b.is_over ≡ false → is_ended (take count (text_in b)) ≡ true)
     (plain : has_quote (take count shown) ≡ false)
     (part : IsPartRead p elements table rows s) (judged : next.judged ≡ s.judged) where
-  -- it is read
+  -- a piece that is cut from the window is read
   pub piece_added : (c : Window) → text_in c ≡ drop count (text_in b) → c.read ≡ b.read
       → c.is_over ≡ b.is_over → c.is_ended ≡ b.is_ended
       → with_records s.round.recorder.rows.signature (columns_in table)
@@ -356,7 +356,7 @@ module _ (p : FlatProgram) (elements : Elements) (table : ColumnTable) (rows : L
       (λ still. ap is_ended front ∙ ended still)
       (part_more p elements table rows (plain_records piece) s next part judged added kept)
 
-  -- it is read up to a record that is not added
+  -- a piece that is read up to a record that is not added halts the rest
   pub piece_stopped : (rest : List ℕ) (h : Halt)
       → StopsAt s.round.recorder.rows.signature (columns_in table) s.round.recorder.rows.traces
       next.round.recorder.rows.traces (take count shown) rest
@@ -399,7 +399,7 @@ left_behind a b c x y count first second third taken behind read within =
 abbrev turn : Bool → ℕ
 turn over = if over then 0 else 1
 
--- unless nothing was left before
+-- the turns left go down with a piece, unless nothing was left before it
 pub piece_goes : (a b c : Window) (x y : Left) (count : ℕ) → IsWindow a → IsWindow b → IsWindow c
     → HasTaken a b x y → text_in c ≡ drop count (text_in b) → c.read ≡ b.read
     → c.is_over ≡ b.is_over → count ≤ length (text_in b)

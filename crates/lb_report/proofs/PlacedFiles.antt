@@ -15,7 +15,7 @@ between_none from all =
     let none : from - from ≡ 0 = omega arith in
     ap (λ n. take n (drop from all)) none
 
--- one after the other
+-- the bytes from `start` to `mid`, and then those to `past`, are the bytes from `start` to `past`
 pub between_more : (start mid past : ℕ) (all : List ℕ) → start ≤ mid → mid ≤ past
     → between start past all ≡ between start mid all ++ between mid past all
 between_more start mid past all first second =
@@ -31,23 +31,23 @@ pub between_long : (start past : ℕ) (all : List ℕ) → length (between start
 between_long start past all =
     let long = length-take (past - start) (drop start all) in omega (arith, long)
 
--- ## What is read of a file
+-- ## Reads of a file
 
--- what is read from its first place on
+-- a read from place 0 of a file is a read of all its bytes
 pub from_begin : (bytes rest : Option (List ℕ)) (given : List ℕ)
     → Consumes (told_from 0 bytes) rest given → Consumes bytes rest given
 from_begin None rest given came = tt
 from_begin (Some all) None given came = absurd came
 from_begin (Some all) (Some rest) given came = came
 
--- what is read before the first read
+-- before the first read no bytes have been read
 pub told_none : (bytes : Option (List ℕ)) (place : ℕ)
     → Consumes (told_from place bytes) (told_from (place + 0) bytes) []
 told_none None place = tt
 told_none (Some all) place =
     let at : place ≡ place + 0 = omega arith in ap (λ n. drop n all) at
 
--- as many bytes as stand between two places
+-- a read of as many bytes as are between two places gives just those bytes
 pub read_whole : (bytes : Option (List ℕ)) (start past n : ℕ) (given : List ℕ)
     → length given ≡ past - start
     → Consumes (told_from start bytes) (told_from (start + n) bytes) given
@@ -56,7 +56,7 @@ read_whole None start past n given long came = tt
 read_whole (Some all) start past n given long came =
     sym (ap (take (past - start)) came ∙ take_at given (drop (start + n) all) (past - start) long)
 
--- ## What a feed of a range gives
+-- ## A feed of a range
 
 pub past_between : (bytes : Option (List ℕ)) (at past : ℕ) → past ≤ at
     → IsAtEnd (told_between at past bytes)
@@ -70,7 +70,7 @@ end_between None at past none = tt
 end_between (Some all) at past none =
     ap (take (past - at)) none ∙ take_all (past - at) [] (omega arith)
 
--- a read of nothing, where there was room for some bytes
+-- a range is at its end where a read gives nothing, though there was room for some bytes
 pub nothing_between : (bytes : Option (List ℕ)) (at past room : ℕ)
     → (0 < min (past - at) room → IsAtEnd (told_from at bytes)) → 0 < room
     → IsAtEnd (told_between at past bytes)
@@ -80,7 +80,7 @@ nothing_between bytes at past room none some =
       | inr over ↦ past_between bytes at past over
     ]
 
--- a read of some bytes
+-- a read of `n` bytes from a file, within a range, is a read from the range
 pub read_between : (bytes : Option (List ℕ)) (at past n : ℕ) (given : List ℕ) → length given ≡ n
     → n ≤ past - at → Consumes (told_from at bytes) (told_from (at + n) bytes) given
     → Consumes (told_between at past bytes) (told_between (at + n) past bytes) given
@@ -92,7 +92,7 @@ read_between (Some all) at past n given long within came =
     ∙ ap (λ k. take k (given ++ rest)) split
     ∙ take-append-add given rest (past - (at + n))
 
--- all that came
+-- all bytes that a range gave up to its end are the bytes between its places
 pub all_between : (bytes left : Option (List ℕ)) (start past : ℕ) (more : List ℕ)
     → Consumes (told_between start past bytes) left more → IsAtEnd left
     → IfSome bytes (λ all. more ≡ between start past all)
@@ -112,7 +112,7 @@ still_none None left end = refl
 still_none (Some all) None end = refl
 still_none (Some all) (Some rest) end = end
 
--- all that came, and what is still to come
+-- the bytes that a range gave, and those still to come, are the bytes between its places
 pub still_between : (bytes left : Option (List ℕ)) (start past : ℕ) (more : List ℕ)
     → Consumes (told_between start past bytes) left more
     → IfSome bytes (λ all. more ++ still bytes left ≡ between start past all)

@@ -4,7 +4,7 @@ use Rattle.std.proofs.Common.{arith, subst, sym}
 use Rattle.std.proofs.lemmas.List.{drop-drop, length-drop, length-take-le, take-append-drop}
 use Rattle.std.proofs.lemmas.List.{take_all, take_at}
 
--- what was copied of a text from a place on is what stands there
+-- bytes that are copied from a place of a text are the next bytes of the text there
 pub copied_next : (all buffer copied : List ℕ) (place n : ℕ)
     → copied ≡ take n (take (length all - place) (drop place all))
     → n ≤ length (take (length all - place) (drop place all))

@@ -1,4 +1,4 @@
--- A plan over so many traces holds as many numbers.
+-- A plan over `n` traces holds `n` numbers.
 use Rattle.std.proofs.Common.{◌≡◌, ℕ, List, length, ◌∙◌}
 use Rattle.std.specs.List.{range_with_len}
 use Rattle.std.proofs.lemmas.List.FromFn.{length-range_with_len}

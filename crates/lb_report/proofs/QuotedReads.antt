@@ -20,7 +20,7 @@ use Rattle.lb_report.specs.declared.window.Window.{Window}
 
 -- ## Record by record
 
--- a reader has given some more records, which are read
+-- a reader has given `more` records behind `given`, and they have been read
 pub record ReadOn (p : FlatProgram) (elements : Elements) (table : ColumnTable) (text : List ℕ)
     (given rows : List Record) (reader : TextReader) (s : State)
     : Type 0 where
@@ -51,7 +51,7 @@ on_more p elements table text given rows a b s next r at reaches part = record {
       part;
 }
 
--- there is no further record
+-- where there is no further record and all are judged, the text is judged
 pub on_end : (p : FlatProgram) (elements : Elements) (table : ColumnTable) (text : List ℕ)
     (given rows : List Record) (reader : TextReader) (s : State) (j : Judged)
     → (at : ReadOn p elements table text given rows reader s)
@@ -63,7 +63,7 @@ on_end p elements table text given rows reader s j at all judged = record {
   judged = judged;
 }
 
--- what was read is not judged
+-- a halt of the records read is a halt of the text
 pub on_halt : (elements : Elements) (table : ColumnTable) (text : List ℕ)
     (given rows more : List Record) (reader : TextReader) (h : Halt)
     → Reaches text (given ++ more) reader → IsHalt elements table (rows ++ more) h
@@ -77,7 +77,7 @@ on_halt elements table text given rows more reader h reaches halt =
       halt = halt;
     }
 
--- and one more record is refused
+-- a halt of the records read and one more is a halt of the text
 pub on_refused : (elements : Elements) (table : ColumnTable) (text : List ℕ)
     (given rows more : List Record) (reader : TextReader) (r : Record) (h : Halt)
     → Reaches text ((given ++ more) ++ r ∷ []) reader
@@ -90,7 +90,7 @@ on_refused elements table text given rows more reader r h reaches halt =
 
 -- ## All that is left of a text, behind the end of a line
 
--- it is judged
+-- the rest is judged where the text of the window, behind the end of a line, is judged
 pub rest_judged : (p : FlatProgram) (elements : Elements) (table : ColumnTable)
     (rows : List Record) (before after : Window) (old new : Left) (line : List ℕ) (j : Judged)
     → HasTaken before after old new → line ≡ 10 ∷ text_in after → after.is_over ≡ true
@@ -106,7 +106,7 @@ rest_judged p elements table rows before after old new line j taken whole over f
       judged = subst (λ rs. IsJudgedPart p elements table (rows ++ rs) j) all from.judged;
     }
 
--- it is not
+-- the rest is halted where the text of the window, behind the end of a line, is halted
 pub rest_halted : (elements : Elements) (table : ColumnTable)
     (rows : List Record) (before after : Window) (old new : Left) (line : List ℕ) (h : Halt)
     → HasTaken before after old new → line ≡ 10 ∷ text_in after → after.is_over ≡ true

@@ -29,7 +29,7 @@ use Rattle.lb_report.proofs.WindowReads.{fault_on, read_on}
 
 -- ## Records
 
--- why some records are not judged, is why all are not that begin with them
+-- a halt of some records is a halt of all records that begin with them
 pub halt_on : (elements : Elements) (table : ColumnTable) (rows more : List Record) (h : Halt)
     → IsHalt elements table rows h → IsHalt elements table (rows ++ more) h
 halt_on elements table rows more (halt.Load e) is = is
@@ -47,7 +47,7 @@ halt_on elements table rows more (halt.Stopped judged line) is = record {
 }
 halt_on elements table rows more halt.Quoted is = tt
 
--- memory ran out before a record was read
+-- an error for want of memory halts a text before a record is read
 pub halted_at_once : (elements : Elements) (table : ColumnTable) (text : List ℕ)
     (rows : List Record) (e : TraceError)
     → error_number e ≡ 0 → HasHaltedAt elements table text [] rows (halt.Refused e)
@@ -58,7 +58,7 @@ halted_at_once elements table text rows e none = record {
   halt = none;
 }
 
--- a worker whose rows have not changed
+-- a state with the same judged traces and the same rows has read the same records
 pub part_kept : (p : FlatProgram) (elements : Elements) (table : ColumnTable)
     (rows : List Record) (s next : State)
     → IsPartRead p elements table rows s → next.judged ≡ s.judged

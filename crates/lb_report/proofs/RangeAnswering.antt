@@ -1,4 +1,4 @@
--- What the bench answers to a source and a file that is read in sections.
+-- The answer of the bench to a source and a file that is read in sections.
 use Rattle.std.proofs.Common.{Bool, ℕ, ◌≡◌, ◌∙◌, ◌≤◌, Result, Ok, Err, ap, arith, inl, inr, length}
 use Rattle.std.proofs.Common.{List, None, Option, Some, [], refl, subst, sym}
 use Rattle.std.specs.Prelude.{IfErr, IfOk}
@@ -22,10 +22,10 @@ use Rattle.lb_report.specs.FeedJudging.{IsLastFault, fault_by}
 use Rattle.lb_report.specs.RangeAnswers.{IsFileAnswer, IsRangeAnswer, IsReadingFault}
 use Rattle.lb_report.specs.Ranges.{IsFileJudged, IsOutcomeJudged, IsOutcomeRefused}
 use Rattle.lb_report.specs.declared.answer.AcceptedProgram.{AcceptedProgram}
-use Rattle.lb_report.specs.declared.error.BenchError.TheVariants as part
+use Rattle.lb_refusal.specs.declared.error.BenchError.TheVariants as part
 use Rattle.lb_report.specs.declared.feeding.FeedFault.{FeedFault}
 use Rattle.lb_report.specs.declared.feeding.FeedFault.TheVariants as fault
-use Rattle.lb_report.specs.declared.options.Options.{Options}
+use Rattle.lb_refusal.specs.declared.options.Options.{Options}
 use Rattle.lb_report.specs.declared.rounds.Halt.{Halt}
 use Rattle.lb_report.specs.declared.rounds.Halt.TheVariants as halt
 use Rattle.lb_report.specs.declared.rounds.Judged.{Judged}
@@ -35,14 +35,14 @@ use Rattle.lb_report.proofs.VerdictLists.{are_verdicts}
 
 -- ## The answer
 
--- a verdict for each trace
+-- a judged file has a verdict for each trace
 pub outcome_long : (p : FlatProgram) (elements : Elements) (bytes : Option (List ℕ)) (j : Judged)
     → IsOutcomeJudged p elements bytes j → length j.verdicts.items ≡ length j.roll.names.traces
 outcome_long p elements bytes j is =
     is.judged.verdicts.count ∙ sym (names_long is.traces) ∙ ap length (sym is.judged.names.names)
     ∙ names_long j.roll.names.traces
 
--- a text of a file of which nothing else is said
+-- an answer for any text is an answer on a file
 any_answer : (source : Text) (options : Options) (bytes : Option (List ℕ)) (may_fail : Bool)
     (r : Result Report FeedFault)
     → ((text : Text) → IsRangeAnswer source text options r) → IsReadingFault may_fail r
@@ -92,13 +92,13 @@ module _ (source : Text) (options : Options) (bytes : Option (List ℕ)) (may_fa
         };
       }
 
-  -- memory ran out
+  -- an error for want of memory is an answer on a file
   no_memory : IsFileAnswer source bytes may_fail options (Err (fault.Refused part.Memory))
   no_memory =
       any_answer source options bytes may_fail (Err (fault.Refused part.Memory))
       (λ text. answered source text options (Err part.Memory) tt tt) tt
 
-  -- a report, or none for want of memory
+  -- a report on judged traces, or an error for want of memory, is an answer on a file
   pub range_answered : (j : Judged) (size : ℕ) (r : Result Report FeedFault)
       → IsOutcomeJudged p.ordered.program p.signature bytes j → size ≤ 1073741824
       → IfOk r (IsReport (trace_names j.roll.names.traces) j.verdicts.items)
@@ -135,7 +135,7 @@ module _ (source : Text) (options : Options) (bytes : Option (List ℕ)) (may_fa
     fault = tt;
   }
 
-  -- what is told where it was not judged to its end
+  -- the fault of a file that was not judged to its end is an answer on the file
   pub range_faulted : (h : Halt)
       → IsFileJudged p.ordered.program p.signature bytes may_fail (Err h)
       → IsFileAnswer source bytes may_fail options (Err (fault_by h))

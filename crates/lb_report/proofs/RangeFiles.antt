@@ -1,4 +1,4 @@
--- A file whose header is read of its first bytes, and the rest in sections.
+-- A file whose header is read from its first bytes, and the rest in sections.
 use Rattle.std.proofs.Common.{ℕ, Bool, ◌≡◌, ◌⊎◌, ◌∙◌, ◌+◌, ◌-◌, ◌<◌, ◌≤◌, true, List, [], ◌++◌}
 use Rattle.std.proofs.Common.{None, Option, Some, Result, Ok, Err, append_assoc, ap, arith, drop}
 use Rattle.std.proofs.Common.{inl, length, length-append, subst, sym, take, ⊎_elim}
@@ -36,7 +36,7 @@ came_within text after more came = by after came
     by None came = absurd came
     by (Some rest) came = omega (arith, ap length came, length-append more rest)
 
--- a text is whole, where the rest of it stands behind its first bytes
+-- the head of a file and the bytes from the end of the head on are the whole file
 text_whole : (all head behind text : List ℕ) (from size : ℕ) → all ≡ head ++ behind
     → from ≡ length head → size ≡ length all → text ≡ between from size all → head ++ text ≡ all
 text_whole all head behind text from size whole at long is =
@@ -48,7 +48,7 @@ text_whole all head behind text from size whole at long is =
     (is ∙ ap (take (size - from)) rest ∙ take_all (size - from) behind fits)
     ∙ sym whole
 
--- it is all bytes of a file, of which the first were read
+-- a head that was read from the first bytes of a file, and the bytes behind it, are the whole file
 file_text : (bytes rest left : Option (List ℕ)) (first more head behind text : List ℕ)
     (from size : ℕ) → Consumes bytes rest first → Consumes (Some first) left more
     → more ≡ head ++ behind → from ≡ length head → IfSome bytes (λ all. size ≡ length all)
@@ -71,11 +71,11 @@ module _ (p : FlatProgram) (elements : Elements) (table : ColumnTable)
     (first : List ℕ) (others : Option (List ℕ)) (came : Consumes bytes others first)
     (w after : Window) (old new : Left) (nothing : text_in w ≡ []) (begun : w.read ≡ 0)
     (given_all : old.coming ≡ Some first) (head : IsHeadRead elements table w after old new) where
-  -- the bytes that were read
+  -- the bytes that were read are the head and those left in the window
   head_parts : head.read.more ≡ head.head ++ text_in after
   head_parts = ap (λ t. t ++ head.read.more) (sym nothing) ∙ head.taken
 
-  -- where the header ends
+  -- the window has read as many bytes as the head and its text have
   pub head_long : after.read ≡ length head.head + length (text_in after)
   head_long =
       omega (

@@ -48,7 +48,7 @@ use Rattle.lb_report.proofs.SectionJoins.{ArePlain}
 use Rattle.lb_report.proofs.Sectioning.{joined}
 use Rattle.lb_report.proofs.WindowReads.{ended_all}
 
--- ## Where sections begin and end
+-- ## The begins and ends of sections
 
 pub end_within : (from size : ℕ) (ends : List ℕ) → AreEnds from size ends → (left i : ℕ)
     → i + left + 1 ≡ length ends → get_or ends i 0 ≤ size
@@ -69,7 +69,7 @@ pub range_past : (from size : ℕ) (ends : List ℕ) → AreRangeEnds from size 
 range_past from size ends are i within =
     end_within from size ends are.follow (length ends - 1 - i) i (omega (arith, within))
 
--- each section begins before the end
+-- each section begins at `size` or before it
 start_within : (from size : ℕ) (ends : List ℕ) → AreEnds from size ends → (left i : ℕ)
     → i + left ≡ length ends → start_of from ends i ≤ size
 start_within from size ends are left zero is =
@@ -88,9 +88,9 @@ range_start from size ends are i within =
 next_start : (from : ℕ) (ends : List ℕ) (k : ℕ) → start_of from ends (k + 1) ≡ get_or ends k 0
 next_start from ends k = let one : k + 1 ≡ suc k = omega arith in ap (start_of from ends) one
 
--- ## What is told of one section
+-- ## The result for one section
 
--- how far a file was read
+-- reads that stopped before `limit` read `count` bytes
 count_from : (limit start count at : ℕ) → at ≡ start + min count (limit - start) → at < limit
     → at ≡ start + count
 count_from limit start count at is below = omega (arith, is, below)
@@ -151,17 +151,18 @@ module _ (p : FlatProgram) (elements : Elements) (table : ColumnTable)
 
 -- ## All sections
 
--- a text that tells nothing
+-- a text of one quote, for a section that was not judged
 abbrev quote : List ℕ
 quote = 34 ∷ []
 
 module _ (p : FlatProgram) (elements : Elements) (table : ColumnTable)
     (bytes : Option (List ℕ)) (from : ℕ) (ends : List ℕ) where
-  -- the bytes of a section that is judged
+  -- `text` is the bytes of section `i`, which is judged
   pub record IsRangeAt (i : ℕ) (text : List ℕ) : Type 0 where
     pub range : IsRange bytes (start_of from ends i) (get_or ends i 0) text
     pub front : (i + 1 == length ends) ≡ false → IsFront text (plain_records text)
-    pub within : (i + 1 == length ends) ≡ false → start_of from ends i + length text ≤ get_or ends i 0
+    pub within : (i + 1 == length ends) ≡ false →
+        start_of from ends i + length text ≤ get_or ends i 0
 
   abbrev RangeAt : ℕ → List ℕ → Type 0
   RangeAt i text = has_quote text ≡ false → IsRangeAt i text
@@ -171,7 +172,7 @@ module _ (p : FlatProgram) (elements : Elements) (table : ColumnTable)
       IsRangeTold p elements table bytes (start_of from ends i) (get_or ends i 0)
       (i + 1 == length ends) told
 
-  -- some bytes for each section; with a quote where it is not judged
+  -- a text for each section; it has a quote where the section is not judged
   pub record AreTexts (is : List ℕ) (told : List (Result Judged Halt)) : Type 0 where
     pub texts : List (List ℕ)
     pub sections : AllZip (IsSection p elements table) texts told
@@ -229,7 +230,7 @@ module _ (p : FlatProgram) (elements : Elements) (table : ColumnTable)
       AllZip-long ToldAt (range_with_len 0 (length ends)) told zip
       ∙ length-range_with_len 0 (length ends)
 
-  -- one section and those behind it are a range
+  -- a section and those behind it are the bytes of one range
   range_more : (start mid past : ℕ) (first rest : List ℕ) → start ≤ mid → mid ≤ past
       → IfSome bytes (λ all. first ≡ between start mid all)
       → IfSome bytes (λ all. rest ≡ between mid past all)
@@ -252,7 +253,7 @@ module _ (p : FlatProgram) (elements : Elements) (table : ColumnTable)
       by (Some all) = sym (between_none place all)
 
   module _ (size : ℕ) (are : AreRangeEnds from size ends) where
-    -- the first of some sections are whole lines between two places
+    -- the first `n` texts are whole lines, and the bytes from `start` to `past`
     record AreFirst (start past n : ℕ) (texts : List (List ℕ)) : Type 0 where
       pub front : IsFront (joined (take n texts)) (lines_of (take n texts))
       pub within : start + length (joined (take n texts)) ≤ past
@@ -309,7 +310,7 @@ module _ (p : FlatProgram) (elements : Elements) (table : ColumnTable)
               rest.is));
         }
 
-    -- all of them
+    -- all texts are the bytes from section `k` to the end, and their lines are its records
     record AreAll (k : ℕ) (texts : List (List ℕ)) : Type 0 where
       pub gives : records default_config (joined texts) ≡ lines_of texts
       pub range : IsRange bytes (start_of from ends k) size (joined texts)
@@ -387,7 +388,7 @@ module _ (p : FlatProgram) (elements : Elements) (table : ColumnTable)
               (subst (λ ts. AllZip RangeAt (range_with_len 0 (length ts)) ts) is ranged)
               (subst ArePlain is plain))
 
-      -- a text behind the first of them
+      -- the first `n` texts, and a text of the bytes behind them, are the bytes of all sections
       behind : (n : ℕ) (text : List ℕ) → AreFirst from (start_of from ends n) n t.texts
           → IsRange bytes (start_of from ends n) size text → n ≤ length ends
           → IsRange bytes from size (joined (take n t.texts) ++ text)
@@ -402,7 +403,7 @@ module _ (p : FlatProgram) (elements : Elements) (table : ColumnTable)
             first.ordered (range_start from size ends are n within) first.is range.is;
       }
 
-      -- what the file has behind the first of them, where it tells its bytes
+      -- a text of the bytes behind the first `n` sections; the file's own bytes where it tells them
       rest_of : (n : ℕ) → n ≤ length ends
           → (text : List ℕ) × IsRange bytes (start_of from ends n) size text
       rest_of n within = by bytes refl
@@ -435,7 +436,7 @@ module _ (p : FlatProgram) (elements : Elements) (table : ColumnTable)
             },
           )
 
-      -- ## What is found of all of them
+      -- ## The result for all sections
 
       pub ranges_judged : (a : Appended) → AreAppended p elements table [] t.texts a
           → length t.texts ≤ a.count → AreRangesJudged p elements table [] bytes from size a.all
@@ -479,7 +480,7 @@ module _ (p : FlatProgram) (elements : Elements) (table : ColumnTable)
                 }
           ]
 
-      -- the rest of them is judged behind the first
+      -- where the rest is judged behind the first `n` sections, all sections are judged
       pub onward_judged : (n : ℕ) (j : Judged) → n < length t.texts → ArePlain (take n t.texts)
           → AreRangesJudged p elements table (lines_of (take n t.texts)) bytes
           (start_of from ends n) size j
@@ -519,7 +520,7 @@ module _ (p : FlatProgram) (elements : Elements) (table : ColumnTable)
       onward_halted may_fail n (halt.Stopped judged line) below plain bad = tt
       onward_halted may_fail n halt.Quoted below plain bad = tt
 
--- memory ran out
+-- an error for want of memory is a refusal of the bytes of a file
 pub ranges_memory : (elements : Elements) (table : ColumnTable) (rows : List Record)
     (bytes : Option (List ℕ)) (from size : ℕ) (e : TraceError) → from ≤ size
     → size ≤ 1073741824 → error_number e ≡ 0
@@ -618,7 +619,7 @@ module _ (p : FlatProgram) (elements : Elements) (table : ColumnTable)
       rest_halted (halt.Stopped judged line) bad = tt
       rest_halted halt.Quoted bad = tt
 
--- what stopped the sections is told
+-- a halt that `append_all` returns is a halt of the bytes of a file
 pub halt_told : (elements : Elements) (table : ColumnTable) (rows : List Record)
     (bytes : Option (List ℕ)) (may_fail : Bool) (from size : ℕ) (h : Halt) → from ≤ size
     → size ≤ 1073741824 → IsToldOn h
@@ -633,7 +634,7 @@ halt_told elements table rows bytes may_fail from size (halt.Stopped judged line
     tt
 halt_told elements table rows bytes may_fail from size halt.Quoted ordered short told = tt
 
--- how many of the sections are judged
+-- no more sections are judged than there are
 pub halt_within : (count all : ℕ) (h : Option Halt) → IsHaltAfter count all h → count ≤ all
 halt_within count all None is = omega (arith, is)
 halt_within count all (Some h) is = omega (arith, is.0)

@@ -1,4 +1,4 @@
--- The numbers of what the bench refuses.
+-- The numbers of the refusals of the bench.
 use Rattle.std.proofs.Common.{◌<◌, arith}
 use Rattle.lb_syntax.specs.declared.error.SyntaxError.TheVariants as syntax
 use Rattle.lb_static.specs.declared.error.StaticError.TheVariants as static
@@ -6,9 +6,9 @@ use Rattle.lb_check.specs.declared.error.CheckError.TheVariants as check
 use Rattle.lb_flat.specs.declared.error.FlatError.TheVariants as flat
 use Rattle.lb_flat.specs.declared.error.OrderError.TheVariants as order
 use Rattle.lb_trace.specs.declared.error.TraceError.TheVariants as trace
-use Rattle.lb_report.specs.Refusals.{number_of}
-use Rattle.lb_report.specs.declared.error.BenchError.{BenchError}
-use Rattle.lb_report.specs.declared.error.BenchError.TheVariants as part
+use Rattle.lb_refusal.specs.Refusals.{number_of}
+use Rattle.lb_refusal.specs.declared.error.BenchError.{BenchError}
+use Rattle.lb_refusal.specs.declared.error.BenchError.TheVariants as part
 
 -- the bench refuses by no number past E18
 pub below_19 : (e : BenchError) → number_of e < 19

@@ -1,5 +1,5 @@
--- What a part of the bench refuses is the first refusal of the program; one that no part refuses is
--- accepted.
+-- A refusal by a part of the bench is the first refusal of the program; a program that no part
+-- refuses is accepted.
 use Rattle.std.proofs.Common.{◌≡◌, true, Option, None, Err, ap, ◌∙◌, subst, sym}
 use Rattle.std.specs.Prelude.{string_bytes}
 use Rattle.std.specs.Option.{option_map}
@@ -22,7 +22,7 @@ use Rattle.lb_flat.specs.declared.error.FlatError.TheVariants as flat
 use Rattle.lb_flat.specs.declared.error.OrderError.{OrderError}
 use Rattle.lb_flat.specs.declared.error.OrderError.TheVariants.{Memory, Cycle}
 use Rattle.lb_report.specs.Bench.{IsCycle, IsTooLarge, program_of}
-use Rattle.lb_report.specs.declared.options.Options.{Options}
+use Rattle.lb_refusal.specs.declared.options.Options.{Options}
 
 -- the program is that of the options
 pub same_program :
@@ -47,7 +47,7 @@ too_large P flat.Memory s c h = tt
 too_large P (flat.Large fault) s c h =
     (size_decides P s c ∙ ap (λ b. unless b E12) h.0, h.1)
 
--- a small one whose equations cannot be put in order is refused for that first
+-- a small program whose equations cannot be put in order is refused for that first
 pub is_cycle :
     (P : Program) (f : FlatProgram) (e : OrderError) → static_refusal P ≡ None →
     check_refusal P ≡ None → is_small P ≡ true → IsExpansionOf P f →
@@ -58,7 +58,7 @@ is_cycle P f (Cycle cycle) s c z expansion found cyclic = (
   found.1 P expansion,
 )
 
--- and so it is where the places of its elements are found
+-- a cycle is still one once the places of its elements are found
 pub placed_cycle :
     (P : Program) (e placed : OrderError) → IsPlaced e placed → IsCycle P e → IsCycle P placed
 placed_cycle P e Memory same h = tt

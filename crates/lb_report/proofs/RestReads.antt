@@ -1,4 +1,4 @@
--- A text whose front has been read, and what is found of its rest.
+-- A text whose front has been read, and the result for its rest.
 use Rattle.std.proofs.Common.{ℕ, ◌≡◌, ◌⊎◌, ◌≤◌, true, List, [], ◌++◌, length, refl}
 use Rattle.std.proofs.Common.{sym, ap}
 use Rattle.std.proofs.Common.{◌∙◌, subst, append_assoc, inl, inr, ⊎_elim}
@@ -29,7 +29,7 @@ use Rattle.lb_report.proofs.WindowReads.{fault_on, read_on}
 
 -- ## Two steps
 
--- where a text begins with a front, what was read of both steps is the front and the rest
+-- where a text after one read is `front` and `rest`, a second read adds its bytes to `rest`
 pub joined_text : (first front rest one two : List ℕ) → first ++ one ≡ front ++ rest
     → first ++ (one ++ two) ≡ front ++ (rest ++ two)
 joined_text first front rest one two is =
@@ -42,7 +42,7 @@ front_rows front rest rows more gives =
     ap (λ rs. rows ++ rs) (gives.gives rest)
     ∙ sym (append_assoc rows more (records default_config rest))
 
--- the rest is judged behind the front
+-- where the rest is judged behind the front, all is judged
 pub rest_on : (p : FlatProgram) (elements : Elements) (table : ColumnTable) (rows : List Record)
     (a b c : Window) (x y z : Left) (s : State) (j : Judged)
     → (at : IsRestRead p elements table rows a b x y s)
@@ -59,7 +59,7 @@ rest_on p elements table rows a b c x y z s j at rest = record {
       rest.judged;
 }
 
--- the rest is not judged to its end
+-- where the rest is halted behind the front, all is halted
 halted_on : (p : FlatProgram) (elements : Elements) (table : ColumnTable) (rows : List Record)
     (a b c : Window) (x y z : Left) (s : State) (h : Halt)
     → (at : IsRestRead p elements table rows a b x y s)
@@ -101,7 +101,7 @@ rest_halted_on p elements table rows a b c x y z s halt.Quoted at rest =
 
 -- ## Why a text is refused
 
--- what is known for certain of records at the front
+-- a certain halt of records at the front of the rest is one of the rest
 refused_of : (elements : Elements) (table : ColumnTable) (rows more : List Record)
     (a b : Window) (x y : Left) (h : Halt)
     → (read : HasRead a b x y) → BeginsWith b.is_over (text_in a ++ read.more) more
@@ -137,7 +137,7 @@ rest_refused elements table rows a b x y halt.Quoted last halted load known =
 
 -- ## Behind a header
 
--- where a header is not ended nothing stands behind it
+-- nothing stands behind a header that has no line end
 end_on : (head : List ℕ) (b c : Window) (y z : Left) → (read : HasRead b c y z)
     → (is_ended head ≡ true) ⊎ ((b.is_over ≡ true) × (text_in b ≡ []))
     → (is_ended head ≡ true) ⊎ (text_in b ++ read.more ≡ [])
@@ -147,7 +147,7 @@ end_on head b c y z read end =
     inr (ap (λ t. t ++ read.more) h.1 ∙ (read.still h.0).0))
     end
 
--- a text whose rest is judged behind its header
+-- a text is judged where its rest is judged behind its header
 pub text_judged : (p : FlatProgram) (elements : Elements) (table : ColumnTable)
     (a b c : Window) (x y z : Left) (j : Judged)
     → IsHeadRead elements table a b x y → IsRestJudged p elements table [] b c y z j
@@ -170,7 +170,7 @@ text_judged p elements table a b c x y z j head rest =
       judged = rest.judged.judged;
     }
 
--- a text whose rest is refused behind its header
+-- a text is refused where its rest is refused behind its header
 refused_text : (elements : Elements) (table : ColumnTable) (a b c : Window) (x y z : Left)
     (e : TraceError)
     → IsHeadRead elements table a b x y → HasRefused elements table [] b c y z e

@@ -17,7 +17,7 @@ use Rattle.lb_trace.specs.Plain.{has_quote, plain_records}
 use Rattle.lb_trace.specs.Refusals.{with_records}
 use Rattle.lb_trace.specs.Spelling.{Record}
 use Rattle.lb_trace.specs.Tables.{columns_in}
-use Rattle.lb_report.specs.JudgedParts.{IsHalt, IsJudged, IsJudgedPart}
+use Rattle.lb_report.specs.JudgedParts.{IsHalt, AreJudgedTraces, IsJudgedPart}
 use Rattle.lb_report.specs.Sections.{AreAppended, IsHaltAfter, IsRefusedWithin, IsSection}
 use Rattle.lb_report.specs.Sections.{IsToldOn, lines_of}
 use Rattle.lb_report.specs.declared.rounds.Halt.{Halt}
@@ -28,7 +28,7 @@ use Rattle.lb_report.proofs.SectionReads.{judged_both}
 
 -- ## Lists side by side
 
--- one list beside another that goes on behind some elements
+-- `xs` stands beside `ys ++ y ∷ rest`, and is split at the element beside `y`
 pub record Beside {A B : Type 0} (R : A → B → Type 0) (xs : List A) (ys : List B) (y : B)
     (rest : List B)
     : Type 0 where
@@ -101,7 +101,7 @@ plain_one_more (t ∷ texts) text all one (suc k) d within =
     plain_one_more texts text (λ j e below. all (suc j) e (omega (arith, below))) one k d
     (omega (arith, within))
 
--- the lines of some texts and of one more
+-- the lines of some texts and one more are those of the texts, and then those of the one
 lines_more : (rows : List Record) (texts : List (List ℕ)) (text : List ℕ)
     → rows ++ lines_of (texts ++ text ∷ []) ≡ (rows ++ lines_of texts) ++ plain_records text
 lines_more rows texts text =
@@ -109,7 +109,7 @@ lines_more rows texts text =
     ∙ ap (λ rs. rows ++ (lines_of texts ++ rs)) (append-nil (plain_records text))
     ∙ sym (append_assoc rows (lines_of texts) (plain_records text))
 
--- the first of some texts
+-- the first `count` texts are `front`, where `front` has `count` texts
 first_texts : (texts front : List (List ℕ)) (text : List ℕ) (more : List (List ℕ)) (count : ℕ)
     → texts ≡ front ++ text ∷ more → count ≡ length front → take count texts ≡ front
 first_texts texts front text more count is long =
@@ -128,7 +128,7 @@ first_and texts front text more is =
 
 -- ## Sections
 
--- why a section is not judged is told on
+-- a halt of records is one that `append_all` returns
 told_on : (elements : Elements) (table : ColumnTable) (rows : List Record) (h : Halt)
     → IsHalt elements table rows h → IsToldOn h
 told_on elements table rows (halt.Load e) bad = absurd bad
@@ -137,7 +137,7 @@ told_on elements table rows (halt.Early e) bad = tt
 told_on elements table rows (halt.Stopped judged line) bad = tt
 told_on elements table rows halt.Quoted bad = tt
 
--- the lines of some sections, which have no quotes, are judged behind some records
+-- the lines of some sections, which have no quotes, are judged behind `rows`
 pub record ArePlainJudged (p : FlatProgram) (elements : Elements) (table : ColumnTable)
     (rows : List Record) (texts : List (List ℕ)) (all : Judged)
     : Type 0 where
@@ -145,7 +145,7 @@ pub record ArePlainJudged (p : FlatProgram) (elements : Elements) (table : Colum
   pub part : IsJudgedPart p elements table (rows ++ lines_of texts) all
 
 module _ (p : FlatProgram) (elements : Elements) (table : ColumnTable) (rows : List Record) where
-  -- none yet
+  -- before the first section, no texts are judged
   pub sections_none : (texts : List (List ℕ)) (before : Judged)
       → IsJudgedPart p elements table rows before
       → AllZip (IsSection p elements table) texts []
@@ -157,13 +157,14 @@ module _ (p : FlatProgram) (elements : Elements) (table : ColumnTable) (rows : L
         part = subst (λ rs. IsJudgedPart p elements table rs before) (sym (append-nil rows)) part;
       }
 
-  -- one more
+  -- where the sections so far are judged, and one more is joined, these are judged
   pub sections_more : (texts : List (List ℕ)) (done : List (Result Judged Halt))
       (all some next : Judged)
       → ((ts : List (List ℕ)) → AllZip (IsSection p elements table) ts done
       → ArePlainJudged p elements table rows ts all)
-      → ((one two : Traces) → IsJudged p elements one all → IsJudged p elements two some
-      → IsJudged p elements (one ++ two) next)
+      → ((one two : Traces) → AreJudgedTraces p elements one all
+      → AreJudgedTraces p elements two some
+      → AreJudgedTraces p elements (one ++ two) next)
       → AllZip (IsSection p elements table) texts (done ++ Ok some ∷ [])
       → ArePlainJudged p elements table rows texts next
   sections_more texts done all some next before joined zip =
@@ -180,7 +181,7 @@ module _ (p : FlatProgram) (elements : Elements) (table : ColumnTable) (rows : L
             first.part some next b.at.part joined);
       }
 
-  -- all of them
+  -- all sections are appended where all are judged and no halt stopped them
   pub sections_all : (texts : List (List ℕ)) (a : Appended)
       → ArePlainJudged p elements table rows texts a.all → a.count ≡ length texts → a.halt ≡ None
       → AreAppended p elements table rows texts a
@@ -193,7 +194,7 @@ module _ (p : FlatProgram) (elements : Elements) (table : ColumnTable) (rows : L
         stopped = subst (IsHaltAfter a.count (length texts)) (sym none) count;
       }
 
-  -- those before one that is told on
+  -- the sections before one with a halt are appended
   pub sections_stopped : (texts : List (List ℕ)) (done rest : List (Result Judged Halt))
       (h : Halt) (a : Appended)
       → ((ts : List (List ℕ)) → AllZip (IsSection p elements table) ts done
@@ -220,7 +221,7 @@ module _ (p : FlatProgram) (elements : Elements) (table : ColumnTable) (rows : L
         );
       }
 
-  -- one that is refused behind them
+  -- a section that is refused behind those before it is a refusal within the sections
   pub sections_refused : (texts : List (List ℕ)) (done rest : List (Result Judged Halt))
       (one : Result Judged Halt) (all : Judged) (e : TraceError)
       → ((ts : List (List ℕ)) → AllZip (IsSection p elements table) ts done

@@ -1,4 +1,4 @@
--- What was judged of sections by themselves, one after the other.
+-- Sections that were judged by themselves, one after the other.
 use Rattle.std.proofs.Common.{ℕ, ◌≡◌, ◌∙◌, List, [], ◌∷◌, ◌++◌, Ok, ap, append_assoc, subst, sym}
 use Rattle.lb_static.specs.Signature.{Elements}
 use Rattle.lb_traces.specs.Traces.{Traces}
@@ -13,16 +13,17 @@ use Rattle.lb_trace.specs.declared.error.TraceError.{TraceError}
 use Rattle.lb_trace.specs.declared.roll.Roll.{Roll}
 use Rattle.lb_trace.specs.declared.table.ColumnTable.{ColumnTable}
 use Rattle.lb_trace.proofs.TextReadings.{joined_parts, part_spells, refused_behind, refused_on}
-use Rattle.lb_report.specs.JudgedParts.{IsJudged, IsJudgedPart, IsStopped}
+use Rattle.lb_report.specs.JudgedParts.{AreJudgedTraces, IsJudgedPart, IsStopped}
 use Rattle.lb_report.specs.declared.rounds.Judged.{Judged}
 
 module _ (p : FlatProgram) (elements : Elements) (table : ColumnTable)
     (rows others : List Record) (first : Judged)
     (one : IsJudgedPart p elements table rows first) where
-  -- two parts that were judged by themselves, and what was judged of both
+  -- two parts that were judged by themselves are judged as one, where `both` joins their traces
   pub judged_both : (second both : Judged) → IsJudgedPart p elements table others second
-      → ((some more : Traces) → IsJudged p elements some first → IsJudged p elements more second
-      → IsJudged p elements (some ++ more) both)
+      → ((some more : Traces) → AreJudgedTraces p elements some first
+      → AreJudgedTraces p elements more second
+      → AreJudgedTraces p elements (some ++ more) both)
       → IsJudgedPart p elements table (rows ++ others) both
   judged_both second both two joined =
       let all = joined one.traces two.traces one.judged two.judged in
@@ -61,7 +62,8 @@ module _ (p : FlatProgram) (elements : Elements) (table : ColumnTable)
         names = names;
       }
 
-  -- its traces are refused behind those of the first
+  -- the traces before the record at which the second part stopped are refused behind those of the
+  -- first
   pub stopped_early : (roll : Roll) (line : List ℕ) (e : TraceError)
       → IsStopped elements table others roll line → RefusesRoll first.roll roll e
       → IsRefusal (with_records elements (columns_in table) [] (rows ++ others)) e

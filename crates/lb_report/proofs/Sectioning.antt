@@ -9,7 +9,7 @@ use Rattle.std.proofs.Math.Seq.{get_or-append_seam, take-add, take-length}
 use Rattle.lb_trace.specs.Chunks.{is_ended}
 use Rattle.lb_report.specs.SectionEnds.{AreEnds, AreSections, section, start_of}
 
--- some sections follow one another from a place to another
+-- sections follow one another from `from` to `to`
 pub record FollowOn (from to : ℕ) (ends : List ℕ) : Type 0 where
   pub last : start_of from ends (length ends) ≡ to
   pub ordered : (i : ℕ) → i < length ends → start_of from ends i ≤ get_or ends i 0
@@ -30,14 +30,14 @@ last_start from ends end = get_or-append_seam ends end [] 0
 one_longer : (ends : List ℕ) (end : ℕ) → length (ends ++ end ∷ []) ≡ suc (length ends)
 one_longer ends end = omega (arith, length-append ends (end ∷ []))
 
--- a section behind the first
+-- a section behind the first begins at the end of the one before it
 pub start_behind : (from : ℕ) (ends : List ℕ) (i : ℕ) → 0 < i
     → start_of from ends i ≡ get_or ends (i - 1) 0
 start_behind from ends zero some = absurd (omega arith)
 start_behind from ends (suc i) some =
     let same : i ≡ suc i - 1 = omega arith in ap (λ k. get_or ends k 0) same
 
--- one section more
+-- sections up to `to`, and one more up to `end`, are sections up to `end`
 pub one_more : (from to end : ℕ) (ends : List ℕ) → FollowOn from to ends → to ≤ end
     → FollowOn from end (ends ++ end ∷ [])
 one_more from to end ends before within =
@@ -61,7 +61,7 @@ one_more from to end ends before within =
           elim which [ inl at ↦ new at | inr lt ↦ old lt ];
     }
 
--- the last section
+-- sections up to `to`, and a last one up to `size`, are all sections up to `size`
 pub are_ends : (from to size : ℕ) (ends : List ℕ) → FollowOn from to ends → to ≤ size
     → AreEnds from size (ends ++ size ∷ [])
 are_ends from to size ends before within =
@@ -95,7 +95,7 @@ section_last text ends to end before =
     ap (λ b. take (get_or all (length ends) 0 - b) (drop b text)) begin
     ∙ ap (λ e. take (e - to) (drop to text)) (get_or-append_seam ends end [] 0)
 
--- some sections of a text, from its begin to a place, are made of whole lines
+-- sections of a text, from its begin to `to`, are made of whole lines
 pub record AreWhole (text : List ℕ) (to : ℕ) (ends : List ℕ) : Type 0 where
   pub follow : FollowOn 0 to ends
   pub within : to ≤ length text
@@ -138,7 +138,7 @@ are_sections text ends to before = record {
       ap is_ended (section_same text ends (length text ∷ []) i lt) ∙ before.whole i lt;
 }
 
--- a place that so many parts of a size lie before
+-- `k` of `count` equal parts of a size are within the size
 pub part_within : (size count k : ℕ) → k < count → size / count * k ≤ size
 part_within size count k within =
     let below : k ≤ count = omega (arith, within) in
@@ -164,7 +164,7 @@ joined_more (first ∷ texts) text =
     ap (λ bytes. first ++ bytes) (joined_more texts text)
     ∙ sym (append_assoc first (joined texts) text)
 
--- the sections up to one are the bytes before it
+-- the first `n` sections, joined, are the bytes before section `n`
 pub sections_join : (text ends : List ℕ) (n : ℕ) → n ≤ length ends
     → ((i : ℕ) → i < length ends → start_of 0 ends i ≤ get_or ends i 0)
     → joined (first_sections text ends n) ≡ take (start_of 0 ends n) text
@@ -182,7 +182,7 @@ sections_join text ends (suc n) within ordered =
     ∙ sym (take-add here (end - here) text)
     ∙ ap (λ k. take k text) all
 
--- all of them are the text
+-- all sections, joined, are the text
 pub sections_are : (text ends : List ℕ) → AreEnds 0 (length text) ends
     → joined (first_sections text ends (length ends)) ≡ text
 sections_are text ends are =

@@ -93,7 +93,7 @@ module _ (elements : Elements) (table : ColumnTable) (rows more : List Record)
   refused_behind (halt.Stopped judged line) rest = read_on a b c x y z read rest
   refused_behind halt.Quoted rest = read_on a b c x y z read rest
 
--- memory ran out
+-- an error for want of memory is a refusal of the rest
 pub out_of_memory : (elements : Elements) (table : ColumnTable) (rows : List Record)
     (a b : Window) (x y : Left) (e : TraceError) → HasRead a b x y → error_number e ≡ 0
     → IsRestRefused elements table rows a b x y (halt.Refused e)
@@ -133,7 +133,7 @@ lines_last texts text =
     flat_map-append plain_records texts (text ∷ [])
     ∙ ap (λ rs. lines_of texts ++ rs) (append-nil (plain_records text))
 
--- some sections that are whole lines without quotes are a front of a text
+-- the first `n` sections, which are whole lines without quotes, are a front of a text
 first_front : (text ends : List ℕ) (n : ℕ) → n ≤ length ends
     → ((i : ℕ) → i < n → is_ended (section text ends i) ≡ true)
     → ((i : ℕ) → i < n → has_quote (section text ends i) ≡ false)
@@ -155,14 +155,14 @@ first_front text ends (suc n) within ended plain =
       ap has_quote (joined_more first last) ∙ plain_both (joined first) last before.1 quotes,
     )
 
--- what was found of some texts is known of each
+-- each one of texts without quotes has no quotes
 plain_at : (texts : List (List ℕ)) (i : ℕ) → ArePlain texts → i < length texts
     → has_quote (get_or texts i []) ≡ false
 plain_at texts i plain within = plain i [] within
 
 -- ## All sections of a text
 
--- they are whole lines but for the last one
+-- the lines of all sections are the lines of the text, where no section has a quote
 lines_from : (text ends : List ℕ) (n : ℕ) → length ends ≡ suc n → AreSections text ends
     → ArePlain (sections_in text ends)
     → (has_quote text ≡ false) × (lines_of (sections_in text ends) ≡ plain_records text)
@@ -210,7 +210,7 @@ front_begins whole front rest tail rows gives is =
     ∙ ap (records default_config) (append_assoc front rest tail)
     ∙ gives.gives (rest ++ tail)
 
--- the bytes of some sections, and of those behind them
+-- a text is its first `n` sections, and then the bytes behind them
 sections_cut : (text ends : List ℕ) (n : ℕ) → n ≤ length ends → AreSections text ends
     → text ≡ joined (first_sections text ends n) ++ drop (start_of 0 ends n) text
 sections_cut text ends n within are =
@@ -218,7 +218,7 @@ sections_cut text ends n within are =
     ∙ ap (λ t. t ++ drop (start_of 0 ends n) text)
     (sym (sections_join text ends n within are.follow.ordered))
 
--- some sections before one that is not judged
+-- the first `n` sections, without quotes and with another one behind them, are a front of a text
 sections_front : (text ends : List ℕ) (n : ℕ) → n < length ends → AreSections text ends
     → ArePlain (take n (sections_in text ends))
     → IsFront (joined (first_sections text ends n)) (lines_of (take n (sections_in text ends)))
@@ -236,7 +236,7 @@ sections_front text ends n below are plain =
     ∙ plain_at texts i plain (omega (arith, lt, long))) in
     subst (λ ts. IsFront (joined (first_sections text ends n)) (lines_of ts)) (sym same) front.0
 
--- a text begins with some rows
+-- the records of `bytes ++ tail` begin with `rows`
 abbrev Begins : (bytes tail : List ℕ) → List Record → Type 0
 Begins bytes tail rows =
     (others : List Record) × (records default_config (bytes ++ tail) ≡ rows ++ others)
@@ -273,7 +273,7 @@ end_within size i ends are within =
     start_within size (suc i) ends are (omega (arith, within)) in
     all
 
--- what stopped sections, if it is not judged again
+-- a halt that `append_all` returns, if it is not for judging again, is a refusal of the rest
 pub told_refused : (elements : Elements) (table : ColumnTable) (a c : Window) (x z : Left)
     (h : Halt)
     → IsToldOn h → is_alone h ≡ false → HasRead a c x z
@@ -299,7 +299,7 @@ module _ (p : FlatProgram) (elements : Elements) (table : ColumnTable)
   many : length parts ≡ length ends
   many = length-map-range_with_len (section text ends) 0 (length ends)
 
-  -- all of them are judged
+  -- where all slices are judged, the rest is judged
   pub slices_judged : (done : Appended) → AreAppended p elements table [] parts done
       → done.halt ≡ None → IsRestJudged p elements table [] a b x y done.all
   slices_judged done judged none =
@@ -316,7 +316,7 @@ module _ (p : FlatProgram) (elements : Elements) (table : ColumnTable)
             ∙ ap (records default_config) taken.taken) judged.part;
       }
 
-  -- a line of one of them is refused
+  -- where a line of a slice is refused, the rest is refused
   pub slices_refused : (e : TraceError) → IsRefusedWithin elements table [] parts e
       → IsRestRefused elements table [] a b x y (halt.Refused e)
   slices_refused e bad = record {
@@ -359,7 +359,7 @@ module _ (p : FlatProgram) (elements : Elements) (table : ColumnTable)
           (λ (h : length ends ≤ bad.count). last tail none h)
           (cases_lt bad.count (length ends))
 
-  -- one of them is not judged
+  -- where a halt stopped the slices, one of them is not judged
   pub slice_below : (done : Appended) (h : Halt) → AreAppended p elements table [] parts done
       → done.halt ≡ Some h → (done.count < length ends) × IsToldOn h
   slice_below done h judged some =
@@ -372,7 +372,7 @@ module _ (p : FlatProgram) (elements : Elements) (table : ColumnTable)
   slice_fits n start below is =
       omega (arith, is, start_within (length text) n ends are.follow (omega (arith, below)))
 
-  -- those before it are judged, and the rest by one worker
+  -- the first `n` slices are judged, and the rest by one worker
   module _ (n start : ℕ) (below : n < length ends) (is : start ≡ start_of 0 ends n)
       (plain : ArePlain (take n parts)) (c : Window) (rest : text_in c ≡ drop start text)
       (read : c.read ≡ b.read) (still : c.is_over ≡ b.is_over)
@@ -408,7 +408,7 @@ module _ (p : FlatProgram) (elements : Elements) (table : ColumnTable)
 
 -- ## Sections side by side
 
--- what is known of the places of sections is known of their bytes
+-- where `R` holds of each `f x`, it holds of the list mapped by `f`
 pub zip_map : {A B C : Type 0} (R : B → C → Type 0) (f : A → B) (xs : List A) (ys : List C)
     → AllZip (λ x y. R (f x) y) xs ys → AllZip R (map f xs) ys
 zip_map R f [] [] zip = zip
@@ -416,7 +416,7 @@ zip_map R f [] (y ∷ ys) zip = absurd zip
 zip_map R f (x ∷ xs) [] zip = absurd zip
 zip_map R f (x ∷ xs) (y ∷ ys) zip = (zip.0, zip_map R f xs ys zip.1)
 
--- ## What a worker tells of a section
+-- ## The result of a worker for a section
 
 pub section_told : (p : FlatProgram) (elements : Elements) (table : ColumnTable) (text : List ℕ)
     (r : Result Judged Halt)

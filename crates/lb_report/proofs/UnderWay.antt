@@ -1,4 +1,4 @@
--- What is ready to be run gives the report of the texts.
+-- The report on a program and traces that are ready to be run is the report on the texts.
 use Rattle.std.proofs.Common.{◌≡◌, ◌∙◌, ℕ, Result, Ok, Err, ap, refl}
 use Rattle.std.proofs.Common.{subst, sym}
 use Rattle.lb_syntax.specs.Tokens.{Text}
@@ -19,9 +19,9 @@ use Rattle.lb_report.specs.Bench.{IsRefused, OnlyProgram, program_of}
 use Rattle.lb_report.specs.LiveReports.{IsBenchText, IsFollowAnswer, IsPrepared, IsTurnedAway}
 use Rattle.lb_report.specs.LiveReports.{IsUnderWay}
 use Rattle.lb_report.specs.declared.answer.AcceptedProgram.{AcceptedProgram}
-use Rattle.lb_report.specs.declared.error.BenchError.{BenchError}
+use Rattle.lb_refusal.specs.declared.error.BenchError.{BenchError}
 use Rattle.lb_report.specs.declared.live.Prepared.{Prepared}
-use Rattle.lb_report.specs.declared.options.Options.{Options}
+use Rattle.lb_refusal.specs.declared.options.Options.{Options}
 use Rattle.lb_report.proofs.Answering.{none_refuses, first_told}
 use Rattle.lb_report.proofs.VerdictLists.{are_verdicts}
 
@@ -59,7 +59,7 @@ is_bench_text source traces options p ready right =
       };
     }
 
--- the traces of the text are such as the program reads
+-- the traces of the text have the kinds that the program reads
 pub has_kinds : (source traces : Text) (options : Options) (p : AcceptedProgram)
     (set : Recording) → OnlyProgram source options (IsAcceptedProgram p)
     → set.signature ≡ p.signature
@@ -83,7 +83,7 @@ is_under_way source traces options p before after m n r ready right followed =
       followed = followed;
     }
 
--- a sink that was not written to, where the texts are refused
+-- a sink is left as it was where the texts are refused
 pub is_turned_away : (source traces : Text) (options : Options) (e : BenchError)
     (a : Taken) (n : ℕ) → IsRefused source traces options e
     → IsTurnedAway source traces options a a n n e

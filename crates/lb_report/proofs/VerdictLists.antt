@@ -1,4 +1,4 @@
--- What a run of a plan answers for equations is the verdict of the program that they stand for.
+-- The verdicts that a run gives for equations are those of the program that they stand for.
 use Rattle.std.proofs.Common.{◌≡◌, List}
 use Rattle.lb_static.specs.Instances.{Program}
 use Rattle.lb_static.specs.DataTypes.{signature}

@@ -1,4 +1,4 @@
--- What a window has read of a feed, step after step.
+-- The bytes that a window has read of a feed, step after step.
 use Rattle.std.proofs.Common.{ℕ, ◌≡◌, ◌+◌, ◌-◌, ◌<◌, ◌⊎◌, Bool, List, [], ◌∷◌, ◌++◌, length, refl}
 use Rattle.std.proofs.Common.{sym, ap, ◌∙◌, ◌≤◌, arith, drop, false, get_or}
 use Rattle.std.proofs.Common.{append_assoc, length-append, inl, inr, ⊎_elim}
@@ -26,7 +26,7 @@ text_length w is =
 
 -- ## Whether the bytes end a line
 
--- behind some bytes the last ones tell it
+-- a text with more bytes behind it ends a line where those bytes do
 pub last_ended : (first : List ℕ) (b : ℕ) (more : List ℕ)
     → is_ended (first ++ b ∷ more) ≡ is_ended (b ∷ more)
 last_ended first b more =
@@ -36,21 +36,21 @@ last_ended first b more =
     (ap (λ n. get_or (first ++ b ∷ more) n 0) all
     ∙ get_or-append-add first (b ∷ more) (length (b ∷ more) - 1) 0)
 
--- bytes that came in two steps
+-- `ended_by` of two steps is `ended_by` of the bytes of both
 pub ended_on : (before : Bool) (first second : List ℕ)
     → ended_by (ended_by before first) second ≡ ended_by before (first ++ second)
 ended_on before first [] = ap (ended_by before) (sym (append-nil first))
 ended_on before [] (c ∷ more) = refl
 ended_on before (b ∷ first) (c ∷ more) = sym (last_ended (b ∷ first) c more)
 
--- all bytes of a text
+-- `ended_by false` of all bytes of a text is `is_ended` of the text
 pub ended_all : (text : List ℕ) → ended_by false text ≡ is_ended text
 ended_all [] = refl
 ended_all (b ∷ more) = refl
 
 -- ## Steps
 
--- nothing has been read by a window that says the same of its feed
+-- a window has read nothing where its `read`, `is_over` and `is_ended` are as before
 unfoldable pub read_none : (before after : Window) (at : Left) → after.read ≡ before.read
     → after.is_over ≡ before.is_over → after.is_ended ≡ before.is_ended
     → HasRead before after at at
@@ -66,7 +66,8 @@ read_none before after at count over ended = record {
   limit = λ within. omega (arith, count, within);
 }
 
--- a window that says the same of its feed as another that has read on
+-- a window with the `read`, `is_over` and `is_ended` of one that has read on has read the same
+-- bytes
 unfoldable pub read_kept : (a b c : Window) (x y : Left) → HasRead a b x y → c.read ≡ b.read
     → c.is_over ≡ b.is_over → c.is_ended ≡ b.is_ended → HasRead a c x y
 read_kept a b c x y read count over ended = record {
@@ -82,7 +83,7 @@ read_kept a b c x y read count over ended = record {
   limit = λ within. omega (arith, count, read.limit within);
 }
 
--- two steps, one after the other
+-- two steps, one after the other, are one step
 unfoldable pub read_on : (a b c : Window) (x y z : Left) → HasRead a b x y → HasRead b c y z
     → HasRead a c x z
 read_on a b c x y z one two = record {
@@ -115,7 +116,7 @@ taken_none before after at count over ended same = record {
   taken = same ∙ sym (append-nil (text_in before));
 }
 
--- how many bytes may still come stays the same
+-- a step leaves the number of `bytes_left` as it was
 pub taken_left : (a b : Window) (x y : Left) → IsWindow a → IsWindow b → HasTaken a b x y
     → bytes_left b ≡ bytes_left a
 taken_left a b x y first second taken =
@@ -132,7 +133,7 @@ taken_on a b c x y z one two = record {
       ∙ append_assoc (text_in a) one.read.more two.read.more;
 }
 
--- a fault after a step is one of both
+-- a fault after a step is a fault of both steps
 pub fault_on : (a b : Window) (x y z : Left) (e : LoadError)
     → HasRead a b x y → IsLoadFault b y z e → IsLoadFault a x z e
 fault_on a b x y z fault.Memory read bad = bad ∙ read.failures

@@ -5,7 +5,7 @@ use Rattle.std.proofs.Math.Seq.{drop-append_seam, take-add, take-append_seam}
 use Rattle.std.proofs.lemmas.List.{drop-append-le, drop-drop, drop-take, length-drop}
 use Rattle.std.proofs.lemmas.List.{length-take-le, take-append-le, take-take}
 
--- without the first of them
+-- the bytes from `start + count` on are those from `start` on, without the first `count`
 pub without_first : (xs : List ℕ) (start end count : ℕ) → count ≤ end - start
     → take (end - (start + count)) (drop (start + count) xs)
     ≡ drop count (take (end - start) (drop start xs))
@@ -16,14 +16,14 @@ without_first xs start end count within =
     ∙ sym (drop-take count rest (drop start xs))
     ∙ ap (λ n. drop count (take n (drop start xs))) (sym all)
 
--- as the front of a list, without its first bytes
+-- the bytes between two places are the front up to `end`, without its first `start` bytes
 of_front : (xs : List ℕ) (start end : ℕ) → start ≤ end
     → take (end - start) (drop start xs) ≡ drop start (take end xs)
 of_front xs start end within =
     let all : end ≡ start + (end - start) = omega (arith, within) in
     sym (drop-take start (end - start) xs) ∙ ap (λ n. drop start (take n xs)) (sym all)
 
--- with more bytes behind them
+-- where `more` is written behind `end`, the bytes between two places grow by `more`
 pub with_more : (xs ys more : List ℕ) (start end count : ℕ) → start ≤ end
     → take end ys ≡ take end xs → take count (drop end ys) ≡ more
     → take (end + count - start) (drop start ys) ≡ take (end - start) (drop start xs) ++ more
@@ -40,7 +40,7 @@ with_more xs ys more start end count within front behind =
     ∙ ap (λ bytes. bytes ++ take count (drop here (drop start ys))) same
     ∙ ap (λ bytes. take here (drop start xs) ++ bytes) last
 
--- what was read into a list behind its front
+-- the front of a list stays where bytes are written behind it
 front_stays : (xs buffer rest : List ℕ) (end : ℕ) → end ≤ length xs
     → take end (take end xs ++ (buffer ++ rest)) ≡ take end xs
 front_stays xs buffer rest end within =
@@ -60,7 +60,7 @@ stands_behind xs buffer rest end count within fits =
     ∙ drop-append_seam front (buffer ++ rest) in
     ap (take count) behind ∙ take-append-le count buffer rest fits
 
--- bytes between two places of a list that was written back
+-- the bytes from `end` on are the same in a list with more behind it that is cut to `size`
 range_in : (xs more : List ℕ) (size end count : ℕ) → end + count ≤ size → end + count ≤ length xs
     → take count (drop end (take size (xs ++ more))) ≡ take count (drop end xs)
 range_in xs more size end count within fits =
@@ -73,7 +73,7 @@ range_in xs more size end count within fits =
     ∙ ap (take count) (drop-append-le end xs more (omega (arith, fits)))
     ∙ take-append-le count (drop end xs) more (omega (arith, fits, long))
 
--- how long a list is behind whose front something was read
+-- a list with `buffer` written behind its front is at least `end + count` long
 written_long : (xs buffer rest : List ℕ) (end count : ℕ) → end ≤ length xs → count ≤ length buffer
     → end + count ≤ length (take end xs ++ (buffer ++ rest))
 written_long xs buffer rest end count within fits =

@@ -1,4 +1,4 @@
--- What a prepared program of the code stands for.
+-- The program that an `AcceptedProgram` of the code stands for.
 -- This file says what data of the program mean; no definition of the language stands on it.
 use Rattle.std.specs.Prelude.{◌≡◌}
 use Rattle.lb_static.specs.Instances.{Program}
@@ -8,7 +8,7 @@ use Rattle.lb_flat.specs.FlatPrograms.{IsFlatOf}
 use Rattle.lb_flat.specs.Programs as flat
 use Rattle.lb_report.specs.declared.answer.AcceptedProgram.{AcceptedProgram}
 
--- it is ready to run this program, which is accepted
+-- `p` is ready to run `P`, which is accepted
 pub record IsAcceptedProgram (p : AcceptedProgram) (P : Program) : Type 0 where
   pub accepted : IsAccepted P
   pub inputs : signature P ≡ p.signature

@@ -1,4 +1,4 @@
--- What `bench` promises of a source text and a trace text.
+-- The reports and refusals of `bench` on a source text and a trace text.
 -- Source: this project's rule.
 use Rattle.std.specs.Prelude.{◌≡◌, ℕ, ◌<◌, Some, None, Err, List, length, get_or}
 use Rattle.std.specs.Prelude.{string_bytes}
@@ -29,9 +29,9 @@ use Rattle.lb_flat.specs.declared.error.OrderError.TheVariants as order
 use Rattle.lb_trace.specs.Errors.{Refuses}
 use Rattle.lb_trace.specs.Spelling.{Spells}
 use Rattle.lb_pool.specs.Reports.{IsReport}
-use Rattle.lb_report.specs.declared.error.BenchError.{BenchError}
-use Rattle.lb_report.specs.declared.error.BenchError.TheVariants as part
-use Rattle.lb_report.specs.declared.options.Options.{Options}
+use Rattle.lb_refusal.specs.declared.error.BenchError.{BenchError}
+use Rattle.lb_refusal.specs.declared.error.BenchError.TheVariants as part
+use Rattle.lb_refusal.specs.declared.options.Options.{Options}
 use Rattle.lb_pool.specs.declared.text.Report.{Report}
 
 -- ## The program
@@ -44,7 +44,7 @@ program_of tree options = record {
   observer = option_map string_bytes options.observer;
 }
 
--- the text spells one tree and no other, and this holds of its program
+-- the text spells one tree and no other, and `Holds` is true of its program
 pub record OnlyProgram (text : Text) (options : Options) (Holds : Program → Type 0) : Type 0 where
   pub tree : Source
   pub spelled : IsOnlyProgram tree text
@@ -85,13 +85,13 @@ IsBenchReport source traces options report =
 
 -- ## Refusals
 
--- the first refusal of a program is its size, which is told
+-- the first refusal of a program is its size, and the error names what is too large
 abbrev pub IsTooLarge : Program → FlatError → Type 0
 IsTooLarge P flat.Memory = Unit {0}
 IsTooLarge P (flat.Large fault) = (refusal P ≡ Some E12) × IsSizeFault P fault
 
--- the first refusal of a program is that an element needs itself at the same instant: elements are
--- told of which each needs the next one, and the last one the first
+-- the first refusal of a program is that an element needs itself at the same instant; the error
+-- lists elements, each of which needs the next one, and the last one the first
 abbrev pub IsCycle : Program → OrderError → Type 0
 IsCycle P order.Memory = Unit {0}
 IsCycle P (order.Cycle cycle) =

@@ -7,7 +7,8 @@ use Rattle.std.specs.List.{starts_with}
 abbrev pub begins : List ℕ → List ℕ → Bool
 begins text bytes = starts_with nat_eq text bytes
 
--- what ends a line: a newline, a carriage return and a newline, or the end of the text
+-- the length of the line end at the front of a text: a newline, a carriage return and a newline, or
+-- the end of the text
 abbrev pub line_end : List ℕ → Option ℕ
 line_end [] = Some 0
 line_end (b ∷ rest) =
@@ -28,7 +29,8 @@ pub record Parts : Type 0 where
   pub source : List ℕ
   pub traces : List ℕ
 
--- with the marker of this length at the front, or one byte further
+-- the parts of `b ∷ rest`: with a marker of `n` bytes at its front, or else with `b` before
+-- `later`, the parts of `rest`
 abbrev pub parts_by : ℕ → List ℕ → Option ℕ → Parts → Parts
 parts_by b rest (Some n) later = record { source = []; traces = drop n (b ∷ rest) }
 parts_by b rest None later = record { source = b ∷ later.source; traces = later.traces }

@@ -15,12 +15,12 @@ is_element a b =
 abbrev pub is_left : List Definition → Element → Bool
 is_left ds x = list_any (λ d. is_element d.element x) ds
 
--- those of some definitions that need an element of which one is left
+-- the definitions of `ds` that need an element that one of `ds` defines
 abbrev pub waiting : List Definition → List Definition
 waiting ds = filter (λ d. list_any (is_left ds) d.needed) ds
 
--- what is left of some definitions after so many turns, in each of which those go that wait for
--- none
+-- the definitions of `ds` that are left after a number of turns; each turn removes those that wait
+-- for none
 unfoldable pub left_after : ℕ → List Definition → List Definition
 left_after zero ds = ds
 left_after (suc n) ds = left_after n (waiting ds)
@@ -33,7 +33,7 @@ is_none (d ∷ ds) = false
 unfoldable pub is_causal : Program → Bool
 is_causal P = is_none (left_after (length (definitions P)) (definitions P))
 
--- what the computation says of a program
+-- the statement on a program for the result of `is_causal`
 abbrev pub IsDecidedBy : Bool → Program → Type 0
 IsDecidedBy true P = IsCausal P
 IsDecidedBy false P = IsCyclic P

@@ -1,4 +1,4 @@
--- What the bench answers to a source and the traces of a feed.
+-- The answer of the bench to a source and the traces of a feed.
 -- Source: this project's rule.
 use Rattle.std.specs.Prelude.{◌≡◌, ◌<◌, ◌⊎◌, length, Result, Ok, Err}
 use Rattle.std.specs.Io.KnownBytes.{Consumes, IsAtEnd}
@@ -7,16 +7,16 @@ use Rattle.lb_report.specs.Correct.{IsBenchAnswer}
 use Rattle.lb_pool.specs.Counts.{count_more}
 use Rattle.lb_report.specs.Feeds.{IsTooLong}
 use Rattle.lb_report.specs.Windows.{Left}
-use Rattle.lb_report.specs.declared.error.BenchError.{BenchError}
+use Rattle.lb_refusal.specs.declared.error.BenchError.{BenchError}
 use Rattle.lb_report.specs.declared.feed.LoadError.{LoadError}
 use Rattle.lb_report.specs.declared.feed.LoadError.TheVariants as load
 use Rattle.lb_report.specs.declared.feeding.FeedFault.{FeedFault}
 use Rattle.lb_report.specs.declared.feeding.FeedFault.TheVariants as fault
-use Rattle.lb_report.specs.declared.options.Options.{Options}
+use Rattle.lb_refusal.specs.declared.options.Options.{Options}
 use Rattle.lb_pool.specs.declared.text.Report.{Report}
 
--- the feed was read to its end, and the answer is that of the bench to all its bytes; a feed that
--- tells its bytes gave those that it told
+-- the feed was read to its end, and `told` is the answer of the bench to all its bytes; a feed that
+-- tells its bytes gave just those
 pub record IsAnswerOnFeed (source : Text) (options : Options) (old new : Left)
     (told : Result Report BenchError)
     : Type 0 where

@@ -1,4 +1,4 @@
--- What has been found of a source and the traces of a feed, before the feed is read to its end.
+-- The results for a source and the traces of a feed, before the feed is read to its end.
 -- This file says what data of the program mean; no definition of the language stands on it.
 use Rattle.std.specs.Prelude.{ℕ, ◌≡◌, ◌<◌, ◌≤◌, ◌&&◌, ◌==◌, ◌⊎◌, List, ◌++◌, length, nat_lt}
 use Rattle.std.specs.Prelude.{None, Ok, not, true, if◌then◌else◌}
@@ -14,17 +14,18 @@ use Rattle.lb_trace.specs.declared.error.TraceError.TheVariants as trace
 use Rattle.lb_report.specs.Bench.{AreVerdicts, IsRefused, OnlyProgram}
 use Rattle.lb_report.specs.JudgedParts.{HasRefusedText}
 use Rattle.lb_report.specs.Windows.{HasRead, IsLoadFault, Left, text_in}
-use Rattle.lb_report.specs.declared.error.BenchError.{BenchError}
-use Rattle.lb_report.specs.declared.error.BenchError.TheVariants as part
+use Rattle.lb_refusal.specs.declared.error.BenchError.{BenchError}
+use Rattle.lb_refusal.specs.declared.error.BenchError.TheVariants as part
 use Rattle.lb_report.specs.declared.feeding.FeedFault.{FeedFault}
 use Rattle.lb_report.specs.declared.feeding.FeedFault.TheVariants as fault
-use Rattle.lb_report.specs.declared.options.Options.{Options}
+use Rattle.lb_refusal.specs.declared.options.Options.{Options}
 use Rattle.lb_report.specs.declared.rounds.Halt.{Halt}
 use Rattle.lb_report.specs.declared.rounds.Halt.TheVariants as halt
 use Rattle.lb_report.specs.declared.rounds.Judged.{Judged}
 use Rattle.lb_report.specs.declared.window.Window.{Window}
 
--- all bytes of a feed are the traces that are judged by a program, if they are not too many
+-- a program has judged the traces of a feed; all bytes of the feed spell them, if they are not too
+-- many
 pub record IsProgramJudged (P : Program) (before after : Window) (old new : Left) (j : Judged)
     : Type 0 where
   pub accepted : IsAccepted P
@@ -50,7 +51,7 @@ HasRefusedTraces source options before after old new e =
     OnlyProgram source options (λ P.
     IsAccepted P × HasRefusedText (signature P) before after old new e)
 
--- the part that refuses, or the feed is at fault
+-- why judging stopped: a part refuses the texts, or the feed is at fault
 abbrev pub IsJudgingFault :
     (source : Text) → Options → (before after : Window) → (old new : Left) → FeedFault → Type 0
 IsJudgingFault source options before after old new (fault.Load e) =
@@ -75,7 +76,8 @@ IsJudgingFault source options before after old new (fault.Refused (part.Trace e)
 abbrev pub too_long : BenchError
 too_long = part.Trace (trace.Limit None)
 
--- what is told of a text of so many bytes, of which the first part refuses so
+-- the refusal of a source and a trace text of `bytes` bytes, where a cause was found while they
+-- were judged: that the text is too long comes before what is wrong with its records
 abbrev pub told_first : BenchError → ℕ → BenchError
 told_first part.Memory bytes = part.Memory
 told_first (part.Syntax e) bytes = part.Syntax e
@@ -91,7 +93,7 @@ abbrev pub IsLastFault : (bytes : ℕ) → FeedFault → Type 0
 IsLastFault bytes f =
     ((1073741824 < bytes) × (f ≡ fault.Refused too_long)) ⊎ (f ≡ fault.Refused part.Memory)
 
--- what is told of a text that was not judged to its end
+-- the fault of a text that was not judged to its end
 abbrev pub fault_by : Halt → FeedFault
 fault_by (halt.Load e) = fault.Load e
 fault_by (halt.Refused e) = fault.Refused (part.Trace e)

@@ -5,7 +5,7 @@ use Rattle.std.specs.List.{range_with_len}
 use Rattle.lb_report.specs.PlacedFiles.{between}
 use Rattle.lb_report.specs.SectionEnds.{AreEnds, start_of}
 
--- the bytes of a chunk, where the file tells its bytes
+-- `chunk` is the bytes of chunk `k`, where the file tells its bytes
 abbrev pub IsChunkAt :
     (bytes : Option (List ℕ)) → (ends : List ℕ) → (k : ℕ) → (chunk : List ℕ) → Type 0
 IsChunkAt bytes ends k chunk =

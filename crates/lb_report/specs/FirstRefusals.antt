@@ -54,7 +54,7 @@ pub data IsFirstRefusal
       → IsTraceRefusal record { source = tree; root = node; observer = observer } traces first
       → IsFirstRefusal source traces node observer first
 
--- this is the first refusal, and nothing else is
+-- `first` is the first refusal, and nothing else is
 pub record IsOnlyFirstRefusal
     (source traces : Text) (node : Name) (observer : Option Name) (first : Option ℕ)
     : Type 0 where
@@ -79,7 +79,7 @@ abbrev pub tokens_by : Option (List Token) → Result Source Refusal
 tokens_by (Some ts) = limited_by (keeps_limits ts) ts
 tokens_by None = Err E1
 
--- the same of a text that is too long, or is not
+-- the tree of a text, or its first refusal; `true` for a text that is too long
 abbrev pub text_by : Bool → Text → Result Source Refusal
 text_by true text = Err E3
 text_by false text = tokens_by (tokens text)

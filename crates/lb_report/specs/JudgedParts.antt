@@ -1,4 +1,4 @@
--- What has been judged of the records of a text while it is read.
+-- The records of a text that are read and judged so far.
 -- This file says what data of the program mean; no definition of the language stands on it.
 use Rattle.std.specs.Prelude.{ℕ, ◌≡◌, ◌≤◌, ◌⊎◌, List, [], ◌∷◌, ◌++◌, length, Bool, false, true, Ok}
 use Rattle.csv.specs.Reading.{default_config, records}
@@ -28,19 +28,19 @@ use Rattle.lb_report.specs.declared.rounds.Reading.TheVariants as reading
 use Rattle.lb_report.specs.declared.rounds.State.{State}
 use Rattle.lb_report.specs.declared.window.Window.{Window}
 
--- the names and verdicts that were kept are those of these traces
-pub record IsJudged (p : FlatProgram) (elements : Elements) (traces : Traces) (j : Judged)
+-- `j` holds the names and verdicts of `traces`
+pub record AreJudgedTraces (p : FlatProgram) (elements : Elements) (traces : Traces) (j : Judged)
     : Type 0 where
   pub names : IsRollOf elements j.roll traces
   pub verdicts : AreVerdicts p record { signature = elements; traces = traces } j.verdicts.items
 
--- records that stand behind nothing have been read and judged
+-- `rows`, with no records before them, have been read and judged
 pub record IsJudgedPart (p : FlatProgram) (elements : Elements) (table : ColumnTable)
     (rows : List Record) (j : Judged)
     : Type 0 where
   pub traces : Traces
   pub read : with_records elements (columns_in table) [] rows ≡ Ok traces
-  pub judged : IsJudged p elements traces j
+  pub judged : AreJudgedTraces p elements traces j
 
 -- a worker's names and rows go together
 pub record IsState (elements : Elements) (s : State) : Type 0 where
@@ -48,7 +48,7 @@ pub record IsState (elements : Elements) (s : State) : Type 0 where
   pub signature : s.round.recorder.rows.signature ≡ elements
   pub known : knows s.round.recorder.names s.round.recorder.rows.traces
 
--- of some records the first have been judged, and the others read
+-- the first of `rows` have been judged, and the others have been read
 pub record IsPartRead (p : FlatProgram) (elements : Elements) (table : ColumnTable)
     (rows : List Record) (s : State)
     : Type 0 where
@@ -60,7 +60,7 @@ pub record IsPartRead (p : FlatProgram) (elements : Elements) (table : ColumnTab
   pub read : with_records elements (columns_in table) [] part ≡ Ok set
   pub held : s.round.recorder.rows ≡ record { signature = elements; traces = set }
 
--- a record stands behind the traces of a roll, and is one of some records
+-- `line` is one of `rows`, and `roll` names the traces of those before it
 pub record IsStopped (elements : Elements) (table : ColumnTable) (rows : List Record) (roll : Roll)
     (line : List ℕ)
     : Type 0 where
@@ -71,7 +71,7 @@ pub record IsStopped (elements : Elements) (table : ColumnTable) (rows : List Re
   pub read : with_records elements (columns_in table) [] done ≡ Ok traces
   pub names : IsRollOf elements roll traces
 
--- why records that stand behind nothing are not judged
+-- why `rows`, with no records before them, are not judged
 abbrev pub IsHalt : Elements → ColumnTable → List Record → Halt → Type 0
 IsHalt elements table rows (halt.Load e) = ⊥
 IsHalt elements table rows (halt.Refused e) = error_number e ≡ 0
@@ -81,7 +81,7 @@ IsHalt elements table rows (halt.Stopped judged line) =
     IsStopped elements table rows judged.roll line.items
 IsHalt elements table rows halt.Quoted = Unit {0}
 
--- what is kept of a part that was stopped is a roll
+-- the names that a halt keeps are a roll
 abbrev pub HasRoll : Halt → Type 0
 HasRoll (halt.Load e) = Unit {0}
 HasRoll (halt.Refused e) = Unit {0}
@@ -89,7 +89,7 @@ HasRoll (halt.Early e) = Unit {0}
 HasRoll (halt.Stopped judged line) = IsRoll judged.roll
 HasRoll halt.Quoted = Unit {0}
 
--- why records that stand behind nothing are refused, where that is known for certain
+-- why `rows`, with no records before them, are refused, where that is certain
 abbrev pub IsLastHalt : Elements → ColumnTable → List Record → Halt → Type 0
 IsLastHalt elements table rows (halt.Load e) = ⊥
 IsLastHalt elements table rows (halt.Refused e) =
@@ -98,13 +98,13 @@ IsLastHalt elements table rows (halt.Early e) = Unit {0}
 IsLastHalt elements table rows (halt.Stopped judged line) = Unit {0}
 IsLastHalt elements table rows halt.Quoted = Unit {0}
 
--- a text that may go on, unless it is over, has these records first
+-- the records of `text` begin with `rows`, however the text goes on; it ends here where it is over
 abbrev pub BeginsWith : (over : Bool) → List ℕ → List Record → Type 0
 BeginsWith over text rows =
     (tail : List ℕ) → (over ≡ true → tail ≡ [])
     → (others : List Record) × (records default_config (text ++ tail) ≡ rows ++ others)
 
--- all that a window and its feed had left has been read and judged behind some records
+-- all that a window and its feed had left has been read and judged behind `rows`
 pub record IsRestJudged (p : FlatProgram) (elements : Elements) (table : ColumnTable)
     (rows : List Record) (before after : Window) (old new : Left) (j : Judged)
     : Type 0 where
@@ -113,14 +113,14 @@ pub record IsRestJudged (p : FlatProgram) (elements : Elements) (table : ColumnT
   pub judged : IsJudgedPart p elements table
       (rows ++ records default_config (text_in before ++ read.more)) j
 
--- the same, and there was no quote
+-- `IsRestJudged` of a rest without quotes
 pub record IsPiecesJudged (p : FlatProgram) (elements : Elements) (table : ColumnTable)
     (rows : List Record) (before after : Window) (old new : Left) (j : Judged)
     : Type 0 where
   pub rest : IsRestJudged p elements table rows before after old new j
   pub plain : has_quote (text_in before ++ rest.read.more) ≡ false
 
--- some of what a window and its feed had left has been read behind some records
+-- the front of what a window and its feed had left has been read behind `rows`
 pub record IsRestRead (p : FlatProgram) (elements : Elements) (table : ColumnTable)
     (rows : List Record) (before after : Window) (old new : Left) (s : State)
     : Type 0 where
@@ -132,7 +132,7 @@ pub record IsRestRead (p : FlatProgram) (elements : Elements) (table : ColumnTab
   pub gives : IsFront front more
   pub part : IsPartRead p elements table (rows ++ more) s
 
--- all of it has been read
+-- all that a window and its feed had left has been read behind `rows`
 pub record IsRestDone (p : FlatProgram) (elements : Elements) (table : ColumnTable)
     (rows : List Record) (before after : Window) (old new : Left) (s : State)
     : Type 0 where
@@ -143,7 +143,7 @@ pub record IsRestDone (p : FlatProgram) (elements : Elements) (table : ColumnTab
       (rows ++ records default_config (text_in before ++ read.more)) s
   pub plain : has_quote (text_in before ++ read.more) ≡ false
 
--- why it was not judged to its end
+-- why the rest behind `rows` was not judged to its end
 pub record HasHalted (elements : Elements) (table : ColumnTable) (rows : List Record)
     (before after : Window) (old new : Left) (h : Halt)
     : Type 0 where
@@ -152,7 +152,7 @@ pub record HasHalted (elements : Elements) (table : ColumnTable) (rows : List Re
   pub begins : BeginsWith after.is_over (text_in before ++ read.more) more
   pub halt : IsHalt elements table (rows ++ more) h
 
--- the same, or the feed is at fault
+-- `HasHalted`, or the feed is at fault
 abbrev pub IsRestHalted :
     Elements → ColumnTable → List Record → (before after : Window) → (old new : Left) → Halt
     → Type 0
@@ -167,7 +167,7 @@ IsRestHalted elements table rows before after old new (halt.Stopped judged line)
 IsRestHalted elements table rows before after old new halt.Quoted =
     HasHalted elements table rows before after old new halt.Quoted
 
--- why the pieces of it were not judged to the end
+-- why the pieces of the rest behind `rows` were not judged to its end
 abbrev pub IsReading :
     FlatProgram → Elements → ColumnTable → List Record → (before after : Window)
     → (old new : Left) → Reading → Type 0
@@ -176,13 +176,13 @@ IsReading p elements table rows before after old new (reading.Quoted s) =
 IsReading p elements table rows before after old new (reading.Halted h) =
     IsRestHalted elements table rows before after old new h
 
--- what is kept is a window, a state and a feed that has not failed, or a roll
+-- a reading that met a quote can go on: its state and window are sound, and the feed did not fail
 abbrev pub IsReadOn : Elements → Window → (old new : Left) → Reading → Type 0
 IsReadOn elements w old new (reading.Quoted s) =
     IsState elements s × IsWindow w × (new.failures ≡ old.failures)
 IsReadOn elements w old new (reading.Halted h) = HasRoll h
 
--- why what is left is refused, where that is known for certain
+-- why the rest behind `rows` is refused, where that is certain
 pub record HasRefused (elements : Elements) (table : ColumnTable) (rows : List Record)
     (before after : Window) (old new : Left) (e : TraceError)
     : Type 0 where
@@ -191,7 +191,7 @@ pub record HasRefused (elements : Elements) (table : ColumnTable) (rows : List R
   pub begins : BeginsWith after.is_over (text_in before ++ read.more) more
   pub refused : IsRefusal (with_records elements (columns_in table) [] (rows ++ more)) e
 
--- the same, or the feed is at fault
+-- `HasRefused` for a certain refusal, or the feed is at fault
 abbrev pub IsRestRefused :
     Elements → ColumnTable → List Record → (before after : Window) → (old new : Left) → Halt
     → Type 0
@@ -206,7 +206,7 @@ IsRestRefused elements table rows before after old new (halt.Stopped judged line
 IsRestRefused elements table rows before after old new halt.Quoted =
     HasRead before after old new
 
--- why the records of a reader are not judged to the end, which had given some of its text
+-- why the records of `text` behind `given` are not judged to the end, behind `rows`
 pub record HasHaltedAt (elements : Elements) (table : ColumnTable) (text : List ℕ)
     (given rows : List Record) (h : Halt)
     : Type 0 where
@@ -215,7 +215,7 @@ pub record HasHaltedAt (elements : Elements) (table : ColumnTable) (text : List 
   pub is : records_of text ≡ given ++ (more ++ others)
   pub halt : IsHalt elements table (rows ++ more) h
 
--- they are judged
+-- the records of `text` behind `given` are judged, behind `rows`
 pub record IsJudgedFrom (p : FlatProgram) (elements : Elements) (table : ColumnTable)
     (text : List ℕ) (given rows : List Record) (j : Judged)
     : Type 0 where
@@ -232,9 +232,9 @@ pub record IsTextJudged (p : FlatProgram) (elements : Elements) (before after : 
   pub traces : Traces
   pub given : length (text_in before ++ read.more) ≤ 1073741824
       → outcome elements (text_in before ++ read.more) ≡ Ok traces
-  pub judged : IsJudged p elements traces j
+  pub judged : AreJudgedTraces p elements traces j
 
--- the text is refused, however it goes on
+-- the text of a feed is refused, however it goes on
 pub record HasRefusedText (elements : Elements) (before after : Window) (old new : Left)
     (e : TraceError)
     : Type 0 where
@@ -243,7 +243,7 @@ pub record HasRefusedText (elements : Elements) (before after : Window) (old new
       → length ((text_in before ++ read.more) ++ tail) ≤ 1073741824
       → IsRefusal (outcome elements ((text_in before ++ read.more) ++ tail)) e
 
--- the same, or the feed is at fault
+-- `HasRefusedText` for a certain refusal, or the feed is at fault
 abbrev pub IsTextRefused :
     Elements → (before after : Window) → (old new : Left) → Halt → Type 0
 IsTextRefused elements before after old new (halt.Load e) = IsLoadFault before old new e
@@ -266,7 +266,7 @@ pub record IsHeadRead (elements : Elements) (table : ColumnTable) (before after 
   pub is : IsHead elements table head
   pub end : (is_ended head ≡ true) ⊎ ((after.is_over ≡ true) × (text_in after ≡ []))
 
--- why there is none: where its line has a quote, all that was read is kept
+-- why no header has been read; where its line has a quote, the window keeps all that was read
 abbrev pub IsHeadHalted :
     Elements → (before after : Window) → (old new : Left) → Halt → Type 0
 IsHeadHalted elements before after old new (halt.Load e) = IsLoadFault before old new e

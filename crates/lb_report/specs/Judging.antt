@@ -1,4 +1,4 @@
--- What is said of a source alone.
+-- The answers to a source alone.
 -- Source: this project's rule.
 use Rattle.std.specs.Prelude.{◌≡◌, Err}
 use Rattle.lb_syntax.specs.Tokens.{Text}
@@ -7,8 +7,8 @@ use Rattle.lb_static.specs.Signature.{Elements}
 use Rattle.lb_check.specs.Acceptance.{IsAccepted}
 use Rattle.lb_report.specs.Bench.{OnlyProgram}
 use Rattle.lb_report.specs.Correct.{IsBenchAnswer}
-use Rattle.lb_report.specs.declared.error.BenchError.{BenchError}
-use Rattle.lb_report.specs.declared.options.Options.{Options}
+use Rattle.lb_refusal.specs.declared.error.BenchError.{BenchError}
+use Rattle.lb_refusal.specs.declared.options.Options.{Options}
 
 -- the source spells exactly one program, which is accepted, and these are the scalar inputs of its
 -- node under test

@@ -1,5 +1,4 @@
 pub mod Cases
-pub mod Refusals
 pub mod Causality
 pub mod FirstRefusals
 pub mod Bench

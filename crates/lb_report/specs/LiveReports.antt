@@ -1,4 +1,4 @@
--- What a live report of a source and a trace text comes to.
+-- The live report on a source and a trace text.
 -- Source: this project's rule.
 use Rattle.std.specs.Prelude.{◌≡◌, ℕ, List, length, Option, Some, None, Result, Ok, Err}
 use Rattle.lb_syntax.specs.Tokens.{Text}
@@ -18,12 +18,12 @@ use Rattle.lb_report.specs.AcceptedPrograms.{IsAcceptedProgram}
 use Rattle.lb_report.specs.Bench.{AreVerdicts, IsOnlyRecording, IsRefused, OnlyProgram}
 use Rattle.lb_report.specs.Correct.{IsFirstTold, first_of}
 use Rattle.lb_report.specs.Ranges.{IsFileText}
-use Rattle.lb_report.specs.Refusals.{number_of}
-use Rattle.lb_report.specs.declared.error.BenchError.{BenchError}
+use Rattle.lb_refusal.specs.Refusals.{number_of}
+use Rattle.lb_refusal.specs.declared.error.BenchError.{BenchError}
 use Rattle.lb_report.specs.declared.live.FollowFault.{FollowFault}
 use Rattle.lb_report.specs.declared.live.FollowFault.TheVariants.{Refused, Stopped}
 use Rattle.lb_report.specs.declared.live.Prepared.{Prepared}
-use Rattle.lb_report.specs.declared.options.Options.{Options}
+use Rattle.lb_refusal.specs.declared.options.Options.{Options}
 
 -- a program is accepted, a text spells just one recording, and the report lists the names and the
 -- verdicts of its traces
@@ -51,7 +51,8 @@ pub record IsUnderWay
   pub nothing_refuses : first_of source traces options ≡ None
   pub followed : IsFollowed report before after failures_before failures_after run
 
--- the same of a file's bytes; of some text where the file does not tell its bytes
+-- a live report on a file is under way: `traces` are the file's bytes where it tells them, and else
+-- some text
 pub record IsFileUnderWay
     (source : Text) (bytes : Option (List ℕ)) (options : Options) (before after : Taken)
     (failures_before failures_after : ℕ) (run : Result (Unit {0}) FollowError)
@@ -81,15 +82,16 @@ IsFollowAnswer source traces options before after m n (Err (Refused e)) =
 IsFollowAnswer source traces options before after m n (Err (Stopped e)) =
     IsUnderWay source traces options before after m n (Err e)
 
--- what is ready to be run: the program of the source, the traces of the text, which it reads, and a
--- plan over them
+-- `p` is ready to be run: it has the program of the source, the traces of the text and a plan over
+-- them
 pub record IsPrepared (source traces : Text) (options : Options) (p : Prepared) : Type 0 where
   pub program : OnlyProgram source options (IsAcceptedProgram p.program)
   pub reading : IsTraceReading p.program.signature traces (Ok p.set)
   pub over_all : length (numbers_in p.plan) ≡ length p.set.traces
   pub kinds : HasKindsOf (flat.program_of p.program.ordered.program) p.set
 
--- the same of a file's bytes
+-- `p` is ready to be run on a file: `traces` are the file's bytes where it tells them, and else
+-- some text
 pub record IsPreparedFile (source : Text) (bytes : Option (List ℕ)) (options : Options)
     (p : Prepared)
     : Type 0 where

@@ -6,7 +6,7 @@ use Rattle.lb_traces.specs.Traces.{Traces}
 use Rattle.lb_flat.specs.declared.program.FlatProgram.{FlatProgram}
 use Rattle.lb_trace.specs.Errors.{IsRefusal}
 use Rattle.lb_trace.specs.Refusals.{outcome}
-use Rattle.lb_report.specs.JudgedParts.{IsJudged}
+use Rattle.lb_report.specs.JudgedParts.{AreJudgedTraces}
 use Rattle.lb_report.specs.declared.rounds.Halt.{Halt}
 use Rattle.lb_report.specs.declared.rounds.Halt.TheVariants as halt
 use Rattle.lb_report.specs.declared.rounds.Judged.{Judged}
@@ -16,9 +16,9 @@ pub record IsWholeJudged (p : FlatProgram) (elements : Elements) (text : List �
     : Type 0 where
   pub traces : Traces
   pub given : length text ≤ 1073741824 → outcome elements text ≡ Ok traces
-  pub judged : IsJudged p elements traces j
+  pub judged : AreJudgedTraces p elements traces j
 
--- why they are not: only an error is known for certain
+-- why the traces of a text are not judged: only a `Refused` is certain
 abbrev pub IsWholeRefused : Elements → List ℕ → Halt → Type 0
 IsWholeRefused elements text (halt.Load e) = ⊥
 IsWholeRefused elements text (halt.Refused e) =

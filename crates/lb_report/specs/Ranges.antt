@@ -1,4 +1,4 @@
--- Sections of a file, of which each is judged by itself.
+-- Sections of a file, each judged by itself.
 -- This file says what data of the program mean; no definition of the language stands on it.
 use Rattle.std.specs.Prelude.{ℕ, ◌≡◌, ◌≤◌, ◌+◌, List, [], ◌++◌, length, Option, Result, Ok, Err}
 use Rattle.std.specs.Prelude.{Bool as Truth, true, false, IfSome}
@@ -14,7 +14,7 @@ use Rattle.lb_trace.specs.Tables.{columns_in}
 use Rattle.lb_trace.specs.Texts.{IsFront}
 use Rattle.lb_trace.specs.declared.error.TraceError.{TraceError}
 use Rattle.lb_trace.specs.declared.table.ColumnTable.{ColumnTable}
-use Rattle.lb_report.specs.JudgedParts.{IsJudged, IsJudgedPart}
+use Rattle.lb_report.specs.JudgedParts.{AreJudgedTraces, IsJudgedPart}
 use Rattle.lb_report.specs.PlacedFiles.{between}
 use Rattle.lb_report.specs.SectionEnds.{AreEnds}
 use Rattle.lb_report.specs.Sections.{IsSectionJudged, IsSetAside}
@@ -29,7 +29,8 @@ pub record AreRangeEnds (from size : ℕ) (ends : List ℕ) : Type 0 where
   pub follow : AreEnds from size ends
   pub short : size ≤ 1073741824
 
--- all bytes of a file between two places, so many that a trace text may have them
+-- `text` is the bytes of a file from `start` to `past`, where it tells them, and short enough for a
+-- trace text
 pub record IsRange (bytes : Option (List ℕ)) (start past : ℕ) (text : List ℕ) : Type 0 where
   pub short : start + length text ≤ 1073741824
   pub is : IfSome bytes (λ all. text ≡ between start past all)
@@ -45,7 +46,7 @@ pub record IsRangeJudged (p : FlatProgram) (elements : Elements) (table : Column
   pub within : last ≡ false → start + length text ≤ past
   pub judged : IsSectionJudged p elements table text j
 
--- what a worker tells of a section
+-- the result of a worker for a section: judged, or set aside
 abbrev pub IsRangeTold :
     FlatProgram → Elements → ColumnTable → (bytes : Option (List ℕ)) → (start past : ℕ)
     → (last : Truth) → Result Judged Halt → Type 0
@@ -53,7 +54,7 @@ IsRangeTold p elements table bytes start past last (Ok j) =
     IsRangeJudged p elements table bytes start past last j
 IsRangeTold p elements table bytes start past last (Err h) = IsSetAside h
 
--- behind some records, the bytes of a file between two places are judged
+-- the bytes of a file between two places are judged behind `rows`
 pub record AreRangesJudged (p : FlatProgram) (elements : Elements) (table : ColumnTable)
     (rows : List Record) (bytes : Option (List ℕ)) (from size : ℕ) (j : Judged)
     : Type 0 where
@@ -61,7 +62,7 @@ pub record AreRangesJudged (p : FlatProgram) (elements : Elements) (table : Colu
   pub range : IsRange bytes from size text
   pub judged : IsJudgedPart p elements table (rows ++ records default_config text) j
 
--- they are refused
+-- the bytes of a file between two places are refused behind `rows`
 pub record AreRangesRefused (elements : Elements) (table : ColumnTable) (rows : List Record)
     (bytes : Option (List ℕ)) (from size : ℕ) (e : TraceError)
     : Type 0 where
@@ -76,7 +77,7 @@ abbrev pub IsFileFault : (may_fail : Truth) → LoadError → Type 0
 IsFileFault may_fail load.Memory = Unit {0}
 IsFileFault may_fail load.Read = may_fail ≡ true
 
--- they are refused, or could not be read
+-- the bytes of a file between two places are refused behind `rows`, or could not be read
 abbrev pub IsRangesHalt :
     Elements → ColumnTable → (rows : List Record) → (bytes : Option (List ℕ)) → (may_fail : Truth)
     → (from size : ℕ) → Halt → Type 0
@@ -93,7 +94,7 @@ IsRangesHalt elements table rows bytes may_fail from size halt.Quoted = Unit {0}
 abbrev pub IsFileText : (bytes : Option (List ℕ)) → (text : List ℕ) → Type 0
 IsFileText bytes text = IfSome bytes (λ all. text ≡ all)
 
--- they are judged, as a text
+-- the bytes of a file are judged, as a text
 pub record IsOutcomeJudged (p : FlatProgram) (elements : Elements) (bytes : Option (List ℕ))
     (j : Judged)
     : Type 0 where
@@ -101,16 +102,16 @@ pub record IsOutcomeJudged (p : FlatProgram) (elements : Elements) (bytes : Opti
   pub is : IsFileText bytes text
   pub traces : Traces
   pub given : outcome elements text ≡ Ok traces
-  pub judged : IsJudged p elements traces j
+  pub judged : AreJudgedTraces p elements traces j
 
--- the text is refused
+-- the bytes of a file are refused, as a text
 pub record IsOutcomeRefused (elements : Elements) (bytes : Option (List ℕ)) (e : TraceError)
     : Type 0 where
   pub text : List ℕ
   pub is : IsFileText bytes text
   pub refused : IsRefusal (outcome elements text) e
 
--- it is judged or refused, or could not be read
+-- a file is judged or refused, or could not be read
 abbrev pub IsFileJudged :
     FlatProgram → Elements → (bytes : Option (List ℕ)) → (may_fail : Truth) → Result Judged Halt
     → Type 0

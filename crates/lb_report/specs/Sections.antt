@@ -1,4 +1,4 @@
--- A text in sections, of which each is judged by itself.
+-- A text in sections, each judged by itself.
 -- This file says what data of the program mean; no definition of the language stands on it.
 use Rattle.std.specs.Prelude.{ℕ, ◌≡◌, ◌<◌, ◌≤◌, ◌++◌, List, [], Option, None, Some, Result, Ok, Err}
 use Rattle.std.specs.Prelude.{Bool as Truth, false, true, flat_map, length, map, take}
@@ -20,9 +20,9 @@ use Rattle.lb_report.specs.declared.rounds.Halt.TheVariants as halt
 use Rattle.lb_report.specs.declared.rounds.Judged.{Judged}
 use Rattle.lb_report.specs.declared.sections.Appended.{Appended}
 
--- ## What is told of a section
+-- ## The result for a section
 
--- its lines, which have no quotes, have been read and judged behind nothing
+-- the lines of a section, which has no quotes, have been read and judged with none before them
 pub record IsSectionJudged (p : FlatProgram) (elements : Elements) (table : ColumnTable)
     (text : List ℕ) (j : Judged)
     : Type 0 where
@@ -30,13 +30,13 @@ pub record IsSectionJudged (p : FlatProgram) (elements : Elements) (table : Colu
   pub part : IsJudgedPart p elements table (plain_records text) j
   pub roll : IsRoll j.roll
 
--- a refusal of a line says that the section has no quotes
+-- a section that is halted by `Stopped` or `Early` has no quotes
 abbrev pub IsPlainHalt : (text : List ℕ) → Halt → Type 0
 IsPlainHalt text (halt.Stopped judged line) = has_quote text ≡ false
 IsPlainHalt text (halt.Early e) = has_quote text ≡ false
 IsPlainHalt text h = Unit {0}
 
--- why it was not judged
+-- why a section was not judged
 pub record IsSectionHalted (elements : Elements) (table : ColumnTable) (text : List ℕ) (h : Halt)
     : Type 0 where
   pub plain : IsPlainHalt text h
@@ -48,12 +48,12 @@ abbrev pub IsSection :
 IsSection p elements table text (Ok j) = IsSectionJudged p elements table text j
 IsSection p elements table text (Err h) = IsSectionHalted elements table text h
 
--- what a worker tells has a roll, if it has any names
+-- the names in the result for a section, if any, are a roll
 abbrev pub KeepsRoll : Result Judged Halt → Type 0
 KeepsRoll (Ok j) = IsRoll j.roll
 KeepsRoll (Err h) = HasRoll h
 
--- whether it is to be judged again, behind those before it
+-- whether a section with this halt is to be judged again, behind those before it
 abbrev pub is_alone : Halt → Truth
 is_alone (halt.Load e) = false
 is_alone (halt.Refused e) = false
@@ -61,8 +61,7 @@ is_alone (halt.Early e) = true
 is_alone (halt.Stopped judged line) = false
 is_alone halt.Quoted = true
 
--- a worker does not judge its section, and tells nothing of the bytes: memory ran out, or it is to
--- be judged again
+-- a halt that says nothing of the bytes of a section: memory ran out, or it is to be judged again
 abbrev pub IsSetAside : Halt → Type 0
 IsSetAside (halt.Load e) = ⊥
 IsSetAside (halt.Refused e) = error_number e ≡ 0
@@ -76,7 +75,7 @@ IsSetAside halt.Quoted = Unit {0}
 abbrev pub lines_of : List (List ℕ) → List Record
 lines_of texts = flat_map plain_records texts
 
--- what stopped them is told on: no refusal but for want of memory
+-- a halt that `append_all` returns: no failed read, and no refusal but for want of memory
 abbrev pub IsToldOn : Halt → Type 0
 IsToldOn (halt.Load e) = ⊥
 IsToldOn (halt.Refused e) = error_number e ≡ 0
@@ -88,7 +87,7 @@ abbrev pub IsHaltAfter : (count all : ℕ) → Option Halt → Type 0
 IsHaltAfter count all None = count ≡ all
 IsHaltAfter count all (Some h) = (count < all) × IsToldOn h
 
--- the first sections have been judged behind some records, all of them if nothing stopped them
+-- the first sections have been judged behind `rows`: all of them if no halt stopped them
 pub record AreAppended (p : FlatProgram) (elements : Elements) (table : ColumnTable)
     (rows : List Record) (texts : List (List ℕ)) (a : Appended)
     : Type 0 where

@@ -15,26 +15,27 @@ use Rattle.lb_report.specs.declared.window.Window.{Window}
 abbrev pub text_in : Window → List ℕ
 text_in w = take (w.end - w.start) (drop w.start w.bytes.items)
 
--- its places are within its bytes, and it has not read too much
+-- the places of a window are within its bytes, and it has not read too much
 pub record IsWindow (w : Window) : Type 0 where
   pub ordered : w.start ≤ w.end
   pub within : w.end ≤ length w.bytes.items
   pub limit : w.read ≤ INPUT_LIMIT
 
--- it has not read too much
+-- a window has not read too much
 abbrev pub IsWithin : Window → Type 0
 IsWithin w = w.read ≤ INPUT_LIMIT
 
--- how many bytes may still come, with those in it
+-- the number of bytes that may still be read, plus that of the bytes in the window
 abbrev pub bytes_left : Window → ℕ
 bytes_left w = (INPUT_LIMIT - w.read) + (w.end - w.start)
 
--- how often it may still be read, at most, with what is in it
+-- the most turns of a reader that takes a byte or finds the end in each: `bytes_left`, and 1 for
+-- the end
 abbrev pub turns_left : Window → ℕ
 turns_left w = bytes_left w + (if w.is_over then 0 else 1)
 
--- a feed at a time: the bytes that it has still to give, where it tells them, how many it has given
--- and how often it has failed
+-- the state of a feed: the bytes that it has still to give, where it tells them, how many it has
+-- given and how often it has failed
 pub record Left : Type 0 where
   pub coming : Option (List ℕ)
   pub given : ℕ
@@ -43,13 +44,13 @@ pub record Left : Type 0 where
 abbrev pub left : Option (List ℕ) → ℕ → ℕ → Left
 left coming given failures = record { coming = coming; given = given; failures = failures }
 
--- whether a text ends with a line, of which these are the last bytes
+-- whether a text with some more bytes at its end ends a line; `before` is the answer without them
 abbrev pub ended_by : (before : Truth) → List ℕ → Truth
 ended_by before [] = before
 ended_by before (b ∷ more) = is_ended (b ∷ more)
 
--- a window has read on: some more bytes of a feed, which did not fail, and at the end there are no
--- more
+-- a window has read `more` bytes of a feed, which did not fail; where it is over, the feed is at
+-- its end
 pub record HasRead (before after : Window) (old new : Left) : Type 0 where
   pub more : List ℕ
   pub consumed : Consumes old.coming new.coming more
@@ -62,20 +63,20 @@ pub record HasRead (before after : Window) (old new : Left) : Type 0 where
   pub still : before.is_over ≡ true → (more ≡ []) × (after.is_over ≡ true)
   pub limit : IsWithin before → IsWithin after
 
--- the same, and the bytes stand behind those that it had
+-- `HasRead`, and the window holds the new bytes behind those that it had
 pub record HasTaken (before after : Window) (old new : Left) : Type 0 where
   pub read : HasRead before after old new
   pub taken : text_in after ≡ text_in before ++ read.more
 
--- a feed has given so many bytes that with those of the window they are too many
+-- a feed has given bytes that, with those that the window had read, are too many
 pub record RunsOver (before : Window) (old new : Left) : Type 0 where
   pub more : List ℕ
   pub many : INPUT_LIMIT < before.read + length more
   pub consumed : Consumes old.coming new.coming more
   pub given : new.given ≡ count_more old.given (length more)
 
--- why a window has no more bytes: the feed failed or gave too many, or it did not fail and memory
--- ran out
+-- why a window could not read on: the feed failed or gave too many bytes, or memory ran out and the
+-- feed did not fail
 abbrev pub IsLoadFault : (before : Window) (old new : Left) → LoadError → Type 0
 IsLoadFault before old new fault.Memory = new.failures ≡ old.failures
 IsLoadFault before old new fault.Read =

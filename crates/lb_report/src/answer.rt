@@ -18,19 +18,18 @@ ghost use Rattle.lb_report.specs.Correct.{IsBenchAnswer};
 ghost use Rattle.lb_report.specs.AcceptedPrograms.{IsAcceptedProgram};
 
 use crate::case::split_case;
-use crate::error::BenchError;
 use crate::feeding::{FeedFault, MOST_BYTES, Sizes, bench_feed, too_long};
-use crate::options::Options;
 use crate::sections::TextFeed;
 use lb_check::check;
 use lb_flat::{Ordered, expand, order, with_places};
 use lb_pool::Report;
+use lb_refusal::{BenchError, Options};
 use lb_static::{Signature, elaborate};
 use lb_syntax::{Source, parse};
 use std::alloc::Global;
 use std::thread::Threads;
 
-/// A program that keeps all rules: its signature is that of its traces, its equations run.
+/// A program that keeps all rules: the signature of its traces and its equations, ready to run.
 #[derive(Drop)]
 pub(crate) struct AcceptedProgram {
     pub(crate) signature: Signature,
@@ -74,7 +73,7 @@ pub(crate) fn accept(
     accept_tree(alloc, &tree, options)
 }
 
-/// Why a source is refused with a trace text that has too many bytes.
+/// The refusal of a source and a trace text that has too many bytes.
 fn refusal_of_long(alloc: Global, source: &[u8], options: &Options) -> BenchError
     ensures { (traces : Text) → 1073741824 < length traces
         → IsRefused source.now traces options.now result }
@@ -87,10 +86,11 @@ fn refusal_of_long(alloc: Global, source: &[u8], options: &Options) -> BenchErro
 
 /// Runs a node of a source over the traces of a text, and reports the verdict of each.
 ///
-/// The options name the node under test and the observer, and tell how many workers judge sections
-/// of the text side by side: 1 to 64, or with 0 as many as there are processors. The report is the
-/// same each time. An error is the refusal of the first part that refuses: E1 to E18, or E0 where
-/// memory ran out. The text is judged as [`bench_feed`](crate::bench_feed) judges one that is read.
+/// The options name the node under test and the observer, and set how many workers judge sections
+/// of the text side by side: 1 to 64, or with 0 as many as there are processors. The report does
+/// not depend on that number. An error is the refusal of the first part that refuses: E1 to E18, or
+/// E0 where memory ran out. The text is judged as [`bench_feed`](crate::bench_feed) judges one that
+/// is read.
 pub fn bench<R: AllocGlobal + Threads + Sync>(
     rt: &R,
     source: &[u8],

@@ -5,8 +5,8 @@ ghost use Rattle.lb_report.specs.Cases as spec;
 
 const WORD: &[u8] = b"%traces";
 
-/// The length of what ends a line here: a newline, a carriage return and a newline, or the end of
-/// the text.
+/// The length of the line end at the front of the text: a newline, a carriage return and a newline,
+/// or the end of the text.
 fn line_end(text: &[u8]) -> Option<usize>
     ensures value { result ≡ spec.line_end text.now }
     ensures within { IfSome result (λ n. n ≤ length text.now) }

@@ -1,4 +1,4 @@
-//! Where inputs come from, and reading them to their end.
+//! Feeds, which give the bytes of inputs, and reading a feed to its end.
 
 ghost use Rattle.std.specs.Prelude.{◌≡◌, ℕ, List, Option, None, ◌⊎◌, ◌+◌, ◌<◌, ◌≤◌, length, take};
 ghost use Rattle.std.specs.Prelude.{drop, vec_len, IfOk, OnOk, OnErr, IfSome, IsErrOf};
@@ -15,7 +15,7 @@ use thiserror::Error;
 #[error("the input could not be read")]
 pub struct FeedFailed;
 
-/// Where an input comes from.
+/// A feed, which gives the bytes of an input.
 pub trait Feed {
     /// The bytes still to come, where the feed tells them.
     ghost coming: { Self → Option (List ℕ) } = { λ _. None };
@@ -26,12 +26,12 @@ pub trait Feed {
     /// How many bytes it has given, or `u64.MAX` where they are more.
     ghost given: { Self → ℕ };
 
-    /// Reads the next bytes into the front of the buffer, and answers how many they are. 0 into a
+    /// Reads the next bytes into the front of `buffer`, and returns how many they are. 0 into a
     /// buffer that is not empty is the end.
     fn read(&mut self, buffer: &mut [u8]) -> Result<usize, FeedFailed>
         requires { failures self.old < u64.MAX }
 
-        // What `Ok` holds.
+        // `Ok`: the number of bytes, which are at the front of `buffer`.
         ensures within { IfOk result (λ n. n ≤ length buffer.new) }
         ensures next { IfOk result (λ n.
             Consumes (coming self.old) (coming self.new) (take n buffer.new)) }
@@ -134,14 +134,14 @@ pub const INPUT_LIMIT: usize = 1_100_000_000;
 /// How much room is made at a time.
 const PIECE: usize = 1 << 20;
 
-/// Reads once, behind the bytes that are there already, and answers how many bytes came. Behind
-/// them the list is room to read into.
+/// Reads once, into `bytes` behind the first `filled`, which were read before. Returns how many
+/// bytes came.
 fn read_piece<F: Feed>(feed: &mut F, bytes: &mut Vec<u8>, filled: usize) -> Result<usize, LoadError>
     requires filled { filled ≤ vec_len bytes.old }
     requires limit { filled ≤ INPUT_LIMIT }
     requires failures { F.failures feed.old < u64.MAX }
 
-    // What `Ok` holds.
+    // `Ok`: the number of bytes, which stand behind the first `filled`.
     ensures within { IfOk result (λ n. filled + n ≤ vec_len bytes.new) }
     ensures front { OnOk result (take filled bytes.new.items ≡ take filled bytes.old.items) }
     ensures next { IfOk result (λ n.
@@ -151,7 +151,7 @@ fn read_piece<F: Feed>(feed: &mut F, bytes: &mut Vec<u8>, filled: usize) -> Resu
         F.given feed.new ≡ count_more (F.given feed.old) n) }
     ensures ok { OnOk result (F.failures feed.new ≡ F.failures feed.old) }
 
-    // The feed failed, or it did not and memory ran out.
+    // `Read`: the feed failed. `Memory`: memory ran out, and the feed did not fail.
     ensures read { IsErrOf result LoadError.Read → F.failures feed.old < F.failures feed.new }
     ensures memory { IsErrOf result LoadError.Memory → F.failures feed.new ≡ F.failures feed.old }
 {
@@ -166,7 +166,7 @@ fn read_piece<F: Feed>(feed: &mut F, bytes: &mut Vec<u8>, filled: usize) -> Resu
 pub fn load<F: Feed>(alloc: Global, feed: &mut F) -> Result<Vec<u8>, LoadError>
     requires { F.failures feed.old < u64.MAX }
 
-    // What `Ok` holds: all bytes.
+    // `Ok`: all bytes.
     ensures all { IfOk result (λ bytes.
         IfSome (F.coming feed.old) (λ coming. bytes.items ≡ coming)) }
     ensures end { OnOk result (IsAtEnd (F.coming feed.new)) }
@@ -175,11 +175,11 @@ pub fn load<F: Feed>(alloc: Global, feed: &mut F) -> Result<Vec<u8>, LoadError>
         F.given feed.new ≡ count_more (F.given feed.old) (vec_len bytes)) }
     ensures ok { OnOk result (F.failures feed.new ≡ F.failures feed.old) }
 
-    // When a read is refused: the feed failed, or it gave too many bytes.
+    // `Read`: the feed failed, or it gave too many bytes.
     ensures read { IsErrOf result LoadError.Read → (F.failures feed.old < F.failures feed.new)
         ⊎ IsTooLong (F.coming feed.old) (F.given feed.old) (F.given feed.new) }
 
-    // No refusal for want of memory hides a read that failed.
+    // `Memory`: memory ran out, and no read failed.
     ensures memory { IsErrOf result LoadError.Memory → F.failures feed.new ≡ F.failures feed.old }
 {
     let mut bytes = Vec::new(alloc);

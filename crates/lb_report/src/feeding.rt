@@ -13,35 +13,34 @@ ghost use Rattle.lb_report.specs.Ranges.{IsFileJudged};
 ghost use Rattle.lb_report.specs.Windows.{IsWindow, left};
 
 use crate::answer::{AcceptedProgram, accept};
-use crate::error::BenchError;
 use crate::feed::{Feed, LoadError};
-use crate::options::Options;
 use crate::placed::{PlacedFile, bytes_from};
 use crate::rounds::{Halt, Judged, Rounds, row_bytes};
 use crate::sections::{TextFeed, ends_in_file, judge_by, judge_ranges};
 use crate::window::Window;
 use lb_pool::{LaneProgram, Report, SetRunner, compile};
+use lb_refusal::{BenchError, Options};
 use lb_trace::TraceError;
 use rayon::current_num_threads;
 use std::alloc::Global;
 use std::thread::Threads;
 
-/// How much of a text is judged at once. What a report says does not hang on it.
+/// How much of a text is judged at once. A report does not depend on these sizes.
 #[derive(Clone, Copy)]
 pub struct Sizes {
-    /// How many bytes of a text are in memory with one worker, unless a trace is longer, and of
-    /// each section of a file with several. What several workers judge and can only be read in
-    /// order is in memory as a whole.
+    /// How many bytes are in memory, unless a trace is longer: of the text with one worker, and of
+    /// each section of a file with several. A text that several workers judge and that can only be
+    /// read in order is in memory as a whole.
     pub window: usize,
     /// How many bytes of rows are run at once, about.
     pub round: usize,
-    /// The least bytes of a file that is read in sections.
+    /// The least size, in bytes, of a file that is read in sections.
     pub least: u64,
 }
 
 impl Sizes {
-    /// Rounds that fill many lanes, and are so small that a run takes 24 MB and 2 MB for each of up
-    /// to four workers.
+    /// The sizes for a run: rounds fill many lanes, and yet a run takes only 24 MB and 2 MB for
+    /// each of up to four workers.
     pub fn usual(workers: u32) -> Sizes
         ensures window { result.window ≤ 1048576 }
         ensures filled { 4980736 ≤ result.round }
@@ -86,7 +85,7 @@ impl From<LoadError> for FeedFault {
     }
 }
 
-/// How the traces of a program are judged by so many workers.
+/// The rounds in which a worker judges the traces of a program.
 fn rounds_of<'a, 'p>(
     alloc: Global,
     program: &'a AcceptedProgram,
@@ -110,7 +109,7 @@ fn rounds_of<'a, 'p>(
     }
 }
 
-/// How many workers judge: as many as there are processors where the options leave that open.
+/// The number of workers that judge: that of the options, or for 0 the number of processors.
 fn workers_of<R: Threads>(rt: &R, options: &Options) -> usize {
     match options.workers {
         0 => current_num_threads(rt),
@@ -153,9 +152,9 @@ where
     }
 }
 
-/// Judges the traces of a file of so many bytes by a program, in sections. None where nothing
-/// stands behind a header within the first bytes, and where the header has a quote, is refused or
-/// could not be read.
+/// Judges the traces of a file of `size` bytes by a program, in sections. None where the first
+/// `HEAD` bytes hold nothing behind the header, where the header has a quote, is refused or could
+/// not be read, and where memory ran out before the sections are judged.
 fn judged_file<R, F>(
     rt: &R,
     alloc: Global,
@@ -196,12 +195,11 @@ where
     Some(judge_ranges(rt, &rounds, &table, file, from, size, ends.as_slice()))
 }
 
-/// As [`bench`](crate::bench) on the traces of a large file that is open, which several workers
-/// read in sections side by side, each at places of its own. None says nothing of the texts:
-/// [`bench_feed`] of the file's bytes then tells. It is answered where one worker is to read the
-/// file, where it is no regular file, not large or longer than a trace text may be, and where the
-/// source or the header is not plainly accepted. E21 is told only of a file of which a read may
-/// fail.
+/// [`bench`](crate::bench) on the traces of a large open file, which several workers read in
+/// sections side by side, each at its own places. None says nothing of the texts: [`bench_feed`] of
+/// the file's bytes then answers. None is returned where one worker is to read the file, where it
+/// is no regular file, not large or longer than a trace text may be, and where the source or the
+/// header is not plainly accepted. E21 is returned only for a file whose reads may fail.
 pub fn bench_ranges<R, F>(
     rt: &R,
     source: &[u8],
@@ -264,7 +262,7 @@ where
     }
 }
 
-/// What is told of a text that was not judged to its end.
+/// The fault of a text that was not judged to its end.
 fn fault_of(halt: Halt) -> FeedFault
     ensures { result ≡ fault_by halt }
 {
@@ -275,7 +273,7 @@ fn fault_of(halt: Halt) -> FeedFault
     }
 }
 
-/// The report on the traces of a text of so many bytes.
+/// The report on the traces of a text; `bytes` is the length of the text.
 fn report_of(alloc: Global, judged: &Judged, bytes: usize) -> Result<Report, FeedFault>
     requires { length judged.now.verdicts.items ≡ length judged.now.roll.names.traces }
     ensures short { OnOk result (bytes ≤ 1073741824) }
@@ -299,8 +297,8 @@ pub(crate) fn too_long() -> BenchError
     BenchError::Trace(TraceError::Limit { record: None })
 }
 
-/// Why a source and a trace text of so many bytes are refused, of which the first part refuses so:
-/// that a text is too long comes before what is wrong with its records.
+/// The refusal of a source and a trace text of `bytes` bytes, where `cause` was found while they
+/// were judged. That a text is too long comes before what is wrong with its records.
 fn first_of(cause: BenchError, bytes: usize) -> BenchError
     ensures { result ≡ told_first cause bytes }
 {

@@ -1,4 +1,4 @@
-//! A file in chunks that end with lines, each of which is loaded for itself.
+//! A file in chunks of whole lines, each loaded by itself.
 //!
 //! ```text
 //! file    trace,x | a,1 | a,5 | b,0 | c,7
@@ -15,20 +15,21 @@ use crate::placed::{PlacedFile, bytes_between};
 use crate::sections::start_at;
 use std::alloc::{AllocError, Global};
 
-/// The least bytes of a file that is worth several threads.
+/// The least size, in bytes, of a file that several threads read.
 const LEAST: u64 = 1 << 21;
 
-/// The bytes of a chunk, about: so few that they stay near the processor while they are read.
+/// The size of a chunk in bytes, about: small enough to stay in the processor's cache.
 const CHUNK: u64 = 1 << 18;
 
-/// The bytes of the first chunk, about: it is read before the others.
+/// The size of the first chunk in bytes, about. It is read before the others.
 const FIRST: u64 = 1 << 16;
 
-/// How far the end of a line is looked for.
+/// How many bytes are searched for the end of a line.
 const PROBE: usize = 4096;
 
-/// Where the first line begins behind a place of a file; None where no line ends soon.
-// Out of line, lest its buffer stand on the stack of a whole run.
+/// The place behind the first line end that is found from `from` on. None where none is found
+/// within `PROBE` bytes.
+// Not inlined, so that its buffer is not on the stack of a whole run.
 #[inline(never)]
 fn line_start<F: PlacedFile>(file: &F, from: u64) -> Option<u64> {
     let mut probe = [0u8; PROBE];
@@ -39,7 +40,8 @@ fn line_start<F: PlacedFile>(file: &F, from: u64) -> Option<u64> {
     from.checked_add(found as u64 + 1)
 }
 
-/// Where the chunks of a file of so many bytes end, each with a line, the last one at its size.
+/// The places where the chunks of a file end, each behind a line. The last one ends at `size`, the
+/// end of the file.
 fn chunk_ends<F: PlacedFile>(alloc: Global, file: &F, size: u64) -> Result<Vec<u64>, AllocError>
     requires { size ≤ INPUT_LIMIT }
     ensures { IfOk result (λ ends. AreEnds 0 size ends.items) }
@@ -59,7 +61,7 @@ fn chunk_ends<F: PlacedFile>(alloc: Global, file: &F, size: u64) -> Result<Vec<u
     Ok(ends)
 }
 
-/// The numbers from 1 to a count.
+/// The numbers from 1 to `count`.
 fn numbers_to(alloc: Global, count: usize) -> Result<Vec<usize>, AllocError>
     ensures { IfOk result (λ numbers. numbers.items ≡ range_with_len 1 count) }
 {
@@ -70,14 +72,14 @@ fn numbers_to(alloc: Global, count: usize) -> Result<Vec<usize>, AllocError>
     Ok(numbers)
 }
 
-/// A large file in chunks, of which the first is loaded.
+/// A large file in chunks, with the first one loaded.
 #[derive(Drop)]
 pub(crate) struct FileChunks<'f, F> {
     file: &'f F,
-    /// Where they end.
+    /// The places where the chunks end.
     ends: Vec<u64>,
     pub(crate) first: Vec<u8>,
-    /// The numbers of the others.
+    /// The numbers of the other chunks.
     pub(crate) numbers: Vec<usize>,
 }
 
@@ -108,7 +110,7 @@ impl<'f, F: PlacedFile> FileChunks<'f, F> {
         })
     }
 
-    /// The bytes of a chunk; None where they could not be read.
+    /// The bytes of chunk `k`. None where there is no such chunk, or where a read or memory failed.
     pub(crate) fn load(&self, alloc: Global, k: usize) -> Option<Vec<u8>>
         ensures { IfSome result (λ chunk.
             IsChunkAt (F.bytes self.now.file.now) self.now.ends.items k chunk.items) }

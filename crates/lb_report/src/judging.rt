@@ -4,8 +4,7 @@ ghost use Rattle.std.specs.Prelude.{IfOk, IfErr};
 ghost use Rattle.lb_report.specs.Judging.{IsAcceptedSource, IsRefusedSource};
 
 use crate::answer::{AcceptedProgram, accept};
-use crate::error::BenchError;
-use crate::options::Options;
+use lb_refusal::{BenchError, Options};
 use lb_static::Signature;
 use std::alloc::Global;
 

@@ -3,24 +3,20 @@
 
 mod answer;
 mod case;
-mod error;
 mod feed;
 mod feeding;
 mod file_chunks;
 mod judging;
 mod laws;
 mod live;
-mod options;
 mod placed;
 mod quoted;
-mod refusal;
 mod rounds;
 mod sections;
 mod window;
 
 pub use answer::{bench, run_case};
 pub use case::split_case;
-pub use error::BenchError;
 pub use feed::{Feed, FeedFailed, LoadError, Reader, load};
 pub use feeding::{FeedFault, Sizes, bench_feed, bench_ranges};
 pub use judging::judge;
@@ -28,7 +24,6 @@ pub use laws::first_refusal_is_computed;
 pub use lb_pool::{
     FollowError, Gate, NoGate, Report, Sent, Sink, SinkFailed, Writer, report_text, send, status,
 };
+pub use lb_refusal::{BenchError, Options, word};
 pub use live::{FollowFault, follow, follow_file};
-pub use options::Options;
 pub use placed::{FilePlaces, PlacedFile, TextPlaces};
-pub use refusal::word;

@@ -17,11 +17,10 @@ ghost use Rattle.lb_report.specs.LiveReports.{IsFileUnderWay, IsFollowAnswer, Is
 ghost use Rattle.lb_report.specs.LiveReports.{IsPreparedFile};
 
 use crate::answer::{AcceptedProgram, accept};
-use crate::error::BenchError;
 use crate::file_chunks::FileChunks;
-use crate::options::Options;
 use crate::placed::PlacedFile;
 use lb_pool::{FollowError, Gate, Plan, Sink, run_follow};
+use lb_refusal::{BenchError, Options};
 use lb_trace::{read_loaded, read_traces_by};
 use lb_traces::TraceSet;
 use std::alloc::{AllocError, Global};
@@ -52,7 +51,7 @@ impl From<BenchError> for FollowFault {
     }
 }
 
-/// What is ready to be run.
+/// A program, its traces and a plan over them, ready to be run.
 #[derive(Drop)]
 struct Prepared {
     program: AcceptedProgram,
@@ -60,7 +59,7 @@ struct Prepared {
     plan: Plan,
 }
 
-/// Which traces run together, as the options say.
+/// The plan of which traces run together, as the options say.
 fn plan_of(alloc: Global, set: &TraceSet, options: &Options) -> Result<Plan, AllocError>
     ensures { IfOk result (λ plan. length (numbers_in plan) ≡ length set.now.traces) }
 {
@@ -88,9 +87,9 @@ fn prepare<R: Threads + Sync>(
     Ok(Prepared { program, set, plan })
 }
 
-/// The program that a source spells and the traces of a text, ready to be run: the text begins with
-/// a chunk and goes on with those that `load` gives for some numbers. None where they are not read
-/// by these means.
+/// The program that a source spells and the traces of a text, ready to be run. The text is the
+/// chunk `first`, then the chunks that `load` returns for `numbers`. None where anything is
+/// refused, the text has quotes, or a chunk is not loaded.
 fn prepare_loaded<R, F>(
     rt: &R,
     source: &[u8],
@@ -123,8 +122,8 @@ where
     Some(Prepared { program, set, plan })
 }
 
-/// As [`prepare_loaded`] of the chunks of a large file. None also where one worker is to read it,
-/// and where it is not large.
+/// [`prepare_loaded`] of the chunks of a large file. None also where one worker is to read it, and
+/// where it is not large.
 fn prepare_file<R, F>(rt: &R, source: &[u8], file: &F, options: &Options) -> Option<Prepared>
 where
     R: AllocGlobal + Threads + Sync,
@@ -151,7 +150,7 @@ where
     )
 }
 
-/// Runs what is ready, and writes its report.
+/// Runs the traces of `prepared`, and writes the report to `sink`.
 fn follow_prepared<R, G, S>(
     rt: &R,
     alloc: Global,
@@ -184,7 +183,7 @@ where
 /// known.
 ///
 /// Where the texts are refused no byte goes out. Where memory is refused in the run, or the sink
-/// fails, the first bytes of the report went out, and the error tells how many.
+/// fails, the first bytes of the report went out, and the error counts them.
 pub fn follow<R, G, S>(
     rt: &R,
     source: &[u8],
@@ -210,9 +209,9 @@ where
     }
 }
 
-/// As [`follow`] of a source and the traces of a large file, which is read in chunks, each at its
-/// place. None, and no byte went out, where one worker is to read it, where it is not large, and
-/// where anything is refused: [`follow`] of its bytes then tells what refuses first.
+/// [`follow`] of a source and the traces of a large file, which is read in chunks, each at its
+/// place. None where one worker is to read it, where it is not large, and where anything is
+/// refused; then no byte went out, and [`follow`] of its bytes answers.
 pub fn follow_file<R, F, G, S>(
     rt: &R,
     source: &[u8],

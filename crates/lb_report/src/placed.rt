@@ -23,8 +23,8 @@ pub trait PlacedFile {
     fn size(&self) -> u64
         ensures { IfSome (bytes self.now) (λ bytes. result ≡ length bytes) };
 
-    /// Reads the bytes from a place on into the front of the buffer, and answers how many they are.
-    /// 0 into a buffer that is not empty is the end.
+    /// Reads the bytes from `place` on into the front of `buffer`, and returns how many they are. 0
+    /// into a buffer that is not empty is the end.
     fn read_at(&self, buffer: &mut [u8], place: u64) -> Result<usize, FeedFailed>
         ensures within { IfOk result (λ n. n ≤ length buffer.new) }
         ensures next { IfOk result (λ n. Consumes (told_from place (bytes self.now))
@@ -42,7 +42,7 @@ pub struct FilePlaces<'f, F> {
 }
 
 impl<'f, F: OpenFile + FileExt> FilePlaces<'f, F> {
-    /// A file that is open.
+    /// The places of an open file.
     pub fn new(file: &'f F) -> FilePlaces<'f, F>
         ensures { result.file.now ≡ file.now }
     {
@@ -50,7 +50,7 @@ impl<'f, F: OpenFile + FileExt> FilePlaces<'f, F> {
     }
 }
 
-/// The bytes of a regular file; 0 where that is not known.
+/// The number of bytes of a regular file; 0 where that is not known.
 fn size_of<F: OpenFile>(file: &F) -> u64 {
     match file.metadata() {
         Ok(found) if found.is_file() => found.len(),
@@ -98,7 +98,8 @@ impl PlacedFile for TextPlaces<'_> {
     }
 }
 
-/// Reads once behind the bytes of a file that stand at a place, and answers how many bytes came.
+/// Reads once from `place + filled` of a file, into `bytes` behind the first `filled`. Returns how
+/// many bytes came.
 fn read_behind<F: PlacedFile>(
     file: &F,
     bytes: &mut Vec<u8>,
@@ -117,7 +118,7 @@ fn read_behind<F: PlacedFile>(
     file.read_at(&mut bytes[filled..], place + filled as u64)
 }
 
-/// The bytes of a file from a place on, at most so many. None where they could not be read.
+/// The bytes of a file from `place` on, at most `most`. None where a read or memory failed.
 pub(crate) fn bytes_from<F: PlacedFile>(
     alloc: Global,
     file: &F,
@@ -147,7 +148,8 @@ pub(crate) fn bytes_from<F: PlacedFile>(
     Some(bytes)
 }
 
-/// The bytes of a file between two places. None where they could not be read, or are not so many.
+/// The bytes of a file from `start` to `past`. None where a read or memory failed, and where the
+/// file ends before `past`.
 pub(crate) fn bytes_between<F: PlacedFile>(
     alloc: Global,
     file: &F,

@@ -83,7 +83,7 @@ impl Rounds<'_, '_> {
         }
     }
 
-    /// The same, where the rest may stand behind something.
+    /// `judge_rest`, but the halt is returned as it is: other records may stand before the rest.
     fn judge_further<F: Feed>(
         &self,
         feed: &mut F,
@@ -195,7 +195,7 @@ impl Rounds<'_, '_> {
         self.judge_behind(window.text(), table, state)
     }
 
-    /// Judges a text that stands behind a state, and may have quotes.
+    /// Judges a text behind what `state` has read; the text may have quotes.
     fn judge_behind(&self, text: &[u8], table: &ColumnTable, state: State) -> Result<Judged, Halt>
         requires table { IsColumnTable self.now.signature.now table.now }
         requires state { IsState self.now.signature.now state }
@@ -210,7 +210,7 @@ impl Rounds<'_, '_> {
             → HasHaltedAt self.now.signature.now table.now (10 ∷ text.now) [] rows halt) }
         ensures kept { IfErr result HasRoll }
     {
-        // A byte order mark is left out at the begin of a text alone.
+        // Behind a line end a byte order mark stays in the text: only a whole text drops it.
         let mut line = b"\n".to_vec(self.alloc)?;
         line.extend_from_slice(text)?;
         let mut reader = reader_of(self.alloc, line.as_slice());
@@ -247,11 +247,11 @@ impl Rounds<'_, '_> {
             }
             state = self.read_record(table, &entry, state)?;
         }
-        // No text has so many records.
+        // No text has that many records.
         Err(Halt::from(AllocError))
     }
 
-    /// Adds a record to the round, or to another where that is full.
+    /// Adds a record to the round, or to a new one where `ready_for` begins one.
     fn read_record(
         &self,
         table: &ColumnTable,
@@ -280,7 +280,7 @@ impl Rounds<'_, '_> {
         }
     }
 
-    /// Begins another round, where the one is full and the record is of another trace.
+    /// Begins a new round where the present one is full and `entry` begins another trace.
     fn ready_for(&self, entry: &ByteRecord, state: State) -> Result<State, Halt>
         requires { IsState self.now.signature.now state }
         ensures state { IfOk result (IsState self.now.signature.now) }
@@ -301,7 +301,7 @@ impl Rounds<'_, '_> {
         self.with_room(state)
     }
 
-    /// Why a record is refused that was not added to a round.
+    /// The halt at a record that the round has refused with `cause`.
     fn refused_record(
         &self,
         table: &ColumnTable,

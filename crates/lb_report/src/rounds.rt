@@ -4,8 +4,8 @@
 //! feed -> window -> whole traces -> rows -> once they are many, run -> names and verdicts
 //! ```
 //!
-//! A round ends where its rows take so many bytes; then its traces are run, and their rows let go.
-//! What is kept of a trace is its name, its length and its verdict.
+//! A round ends once it has enough instants or traces; then its traces are run, and their rows are
+//! dropped. The name, the length and the verdict of each trace are kept.
 
 ghost use Rattle.std.specs.Prelude.{◌≡◌, ◌<◌, ◌≤◌};
 
@@ -50,9 +50,9 @@ pub(crate) enum Halt {
     Load(LoadError),
     /// It is refused, or memory ran out.
     Refused(TraceError),
-    /// It is refused if nothing stands before it.
+    /// It is refused if no other records stand before it.
     Early(TraceError),
-    /// A record of it is refused behind the traces that are named.
+    /// A record of it is refused; `judged` names the traces before it.
     Stopped { judged: Judged, record: Vec<u8> },
     /// It has a quote.
     Quoted,
@@ -89,7 +89,7 @@ impl From<LoadError> for Halt {
     }
 }
 
-/// What a worker has from round to round.
+/// The state of a worker from round to round.
 #[derive(Drop)]
 pub(crate) struct State {
     pub(crate) judged: Judged,
@@ -115,11 +115,12 @@ impl Judged {
     ghost use Rattle.lb_traces.specs.Traces.{Traces};
     ghost use Rattle.lb_flat.specs.declared.program.FlatProgram.{FlatProgram};
     ghost use Rattle.lb_trace.specs.Rolls.{IsRoll, RefusesRoll};
-    ghost use Rattle.lb_report.specs.JudgedParts.{IsJudged};
+    ghost use Rattle.lb_report.specs.JudgedParts.{AreJudgedTraces};
 
-    /// Nothing yet.
+    /// The names and verdicts of no traces.
     pub(crate) fn new(alloc: Global, signature: &Signature) -> Result<Judged, AllocError>
-        ensures { IfOk result (λ judged. (p : FlatProgram) → IsJudged p signature.now [] judged) }
+        ensures { IfOk result (λ judged. (p : FlatProgram)
+            → AreJudgedTraces p signature.now [] judged) }
     {
         Ok(Judged {
             roll: Roll::new(alloc, signature)?,
@@ -127,15 +128,15 @@ impl Judged {
         })
     }
 
-    /// Puts what was judged of further text behind this.
+    /// Appends the names and verdicts of `more`, which was judged of the text behind.
     pub(crate) fn append(self, alloc: Global, more: &Judged) -> Result<Judged, TraceError>
         requires names { IsRoll self.roll }
         requires more { IsRoll more.now.roll }
         ensures roll { IfOk result (λ judged. IsRoll judged.roll) }
         ensures ok { IfOk result (λ judged. (p : FlatProgram) → (elements : Elements)
-            → (some others : Traces) → IsJudged p elements some self
-            → IsJudged p elements others more.now
-            → IsJudged p elements (some ++ others) judged) }
+            → (some others : Traces) → AreJudgedTraces p elements some self
+            → AreJudgedTraces p elements others more.now
+            → AreJudgedTraces p elements (some ++ others) judged) }
         ensures err { IfErr result (RefusesRoll self.roll more.now.roll) }
     {
         let Judged { roll, mut verdicts } = self;
@@ -169,7 +170,7 @@ impl Rounds<'_, '_> {
     ghost use Rattle.lb_report.specs.Windows.{HasTaken, IsLoadFault, IsWindow, left};
     ghost use Rattle.lb_report.specs.Windows.{text_in, turns_left};
 
-    /// A round with room for its cells, and some more.
+    /// An empty round with room for its cells and a quarter more.
     fn new_round(&self) -> Result<RoundReader, AllocError>
         ensures { IfOk result (IsRound self.now.signature.now []) }
     {
@@ -177,7 +178,7 @@ impl Rounds<'_, '_> {
         RoundReader::new(self.alloc, self.signature, cells.saturating_add(cells / 4))
     }
 
-    /// Nothing but what was judged.
+    /// A state of `judged` and an empty round.
     pub(crate) fn begin_with(&self, judged: Judged) -> Result<State, AllocError>
         requires { IsRoll judged.roll }
         ensures state { IfOk result (IsState self.now.signature.now) }
@@ -194,7 +195,7 @@ impl Rounds<'_, '_> {
         })
     }
 
-    /// Nothing yet.
+    /// A state in which no record has been read.
     pub(crate) fn begin(&self) -> Result<State, AllocError>
         ensures state { IfOk result (IsState self.now.signature.now) }
         ensures part { IfOk result (λ state. (table : Table) →
@@ -210,8 +211,8 @@ impl Rounds<'_, '_> {
         set.instants() >= self.instants || set.len() >= MOST_TRACES
     }
 
-    /// Runs the traces of the round, and puts their names and verdicts behind the others; gives the
-    /// round back too.
+    /// Runs the traces of the round, and appends their names and verdicts to the others. Returns
+    /// the round too.
     fn settle(&self, state: State) -> Result<(Judged, Option<RoundRoom>, RoundReader), Halt>
         requires { IsState self.now.signature.now state }
         ensures roll { IfOk result (λ found. IsRoll found.0.roll) }
@@ -244,7 +245,7 @@ impl Rounds<'_, '_> {
         Ok((Judged { roll, verdicts }, room, round))
     }
 
-    /// The same, and begins another round.
+    /// Runs the traces of the round by `settle`, and begins another round.
     pub(crate) fn next_round(&self, state: State) -> Result<State, Halt>
         requires { IsState self.now.signature.now state }
         ensures state { IfOk result (IsState self.now.signature.now) }
@@ -268,7 +269,7 @@ impl Rounds<'_, '_> {
         })
     }
 
-    /// The same where the round is full.
+    /// `next_round` where the round is full, and else the state as it is.
     pub(crate) fn with_room(&self, state: State) -> Result<State, Halt>
         requires { IsState self.now.signature.now state }
         ensures state { IfOk result (IsState self.now.signature.now) }
@@ -309,7 +310,7 @@ impl Rounds<'_, '_> {
         Ok(judged)
     }
 
-    /// What is known where reading stopped.
+    /// The halt of a reading that stopped at a line.
     fn stop(&self, state: State, stopped: Stopped<'_>) -> Halt
         requires { IsRoll state.judged.roll }
         ensures halt { (table : Table) → (rows more : List Record)
@@ -340,7 +341,7 @@ impl Rounds<'_, '_> {
         }
     }
 
-    /// Why a text is refused that stands behind nothing.
+    /// The halt of a text with nothing before it: `Early` and `Stopped` become `Refused`.
     pub(crate) fn refusal(&self, table: &ColumnTable, halt: Halt) -> Halt
         requires table { IsColumnTable self.now.signature.now table.now }
         requires kept { HasRoll halt }
@@ -361,7 +362,7 @@ impl Rounds<'_, '_> {
         }
     }
 
-    /// Reads the header of a feed, and leaves the window behind it.
+    /// Reads the header of a feed, and drops its bytes from the window.
     pub(crate) fn read_header<F: Feed>(
         &self,
         feed: &mut F,
@@ -395,8 +396,9 @@ impl Rounds<'_, '_> {
         Ok(table)
     }
 
-    /// How many bytes at the begin of a text are known to be lines, so many that one of them is not
-    /// empty, if there is such a line.
+    /// Reads until the window begins with whole lines and one of them is not empty, or the feed is
+    /// over. Returns how many bytes these lines have, or all bytes of the window where the feed is
+    /// over.
     fn first_piece<F: Feed>(&self, feed: &mut F, window: &mut Window) -> Result<usize, LoadError>
         requires window { IsWindow window.old }
         requires failures { F.failures feed.old < u64.MAX }
@@ -425,8 +427,8 @@ impl Rounds<'_, '_> {
         }
     }
 
-    /// How many bytes at the front of the window are whole traces; all that it has where the feed
-    /// is over.
+    /// Reads until the window begins with whole traces, or the feed is over. Returns how many bytes
+    /// these traces have, or all bytes of the window where the feed is over.
     pub(crate) fn next_piece<F: Feed>(
         &self,
         feed: &mut F,
@@ -457,7 +459,7 @@ impl Rounds<'_, '_> {
         Ok(window.text().len())
     }
 
-    /// Adds the next whole traces of a feed to the round, or all that is left of it.
+    /// Adds the next whole traces of a feed to the round, or all that is left of the feed.
     fn read_piece<F: Feed>(
         &self,
         feed: &mut F,

@@ -35,7 +35,7 @@ use rayon::prelude::*;
 use std::alloc::{AllocError, Global};
 use std::thread::Threads;
 
-/// How far the end of a trace is looked for at first, and at most.
+/// How many bytes are searched for the end of a trace, at first and at most.
 const PROBE: usize = 1 << 16;
 
 const MOST_PROBE: usize = 1 << 22;
@@ -85,8 +85,8 @@ impl Feed for TextFeed<'_> {
     }
 }
 
-/// The bytes of a file between two places, as a feed. What it has given is counted from the begin
-/// of the file. It fails only where a read of such a file may.
+/// The bytes of a file between two places, as a feed. The bytes given are counted from the begin of
+/// the file. The feed fails only where a read of such a file may fail.
 #[derive(Drop)]
 pub(crate) struct RangeFeed<'f, F: PlacedFile> {
     file: &'f F,
@@ -145,7 +145,8 @@ impl<F: PlacedFile> Feed for RangeFeed<'_, F> {
     }
 }
 
-/// Where sections of a file end, each with a whole trace, the last one at its size.
+/// The places where up to `count` sections of a file end, each behind a whole trace. The first
+/// section begins at `from`, and the last one ends at `size`, the end of the file.
 pub(crate) fn ends_in_file<F: PlacedFile>(
     alloc: Global,
     file: &F,
@@ -171,8 +172,8 @@ pub(crate) fn ends_in_file<F: PlacedFile>(
     Ok(ends)
 }
 
-// Where a trace ends that stands behind a place of a file; the last end where the place is not
-// behind it, or none is found.
+// The end of a trace behind `place` of a file. `last` where `place` is not behind it, or where no
+// end is found.
 fn end_behind<F: PlacedFile>(alloc: Global, file: &F, last: u64, place: u64, size: u64) -> u64
     requires last { last ≤ size }
     requires place { place ≤ size }
@@ -189,7 +190,7 @@ fn end_behind<F: PlacedFile>(alloc: Global, file: &F, last: u64, place: u64, siz
     }
 }
 
-// Where a trace ends that stands behind a place of a file.
+// The end of a trace behind `place` of a file. None where none is found.
 fn end_in_file<F: PlacedFile>(alloc: Global, file: &F, place: u64, size: u64) -> Option<u64>
     requires within { place ≤ size }
     requires size { size ≤ 1073741824 }
@@ -225,7 +226,7 @@ fn trace_end(text: &[u8]) -> Option<usize>
     if count == 0 { None } else { Some(line + count) }
 }
 
-/// What was judged of the first sections, how many these are, and why not of all.
+/// The first sections as judged, how many they are, and why the others are not judged.
 #[derive(Drop)]
 struct Appended {
     all: Judged,
@@ -233,8 +234,8 @@ struct Appended {
     halt: Option<Halt>,
 }
 
-/// Puts what was judged one after the other. A section that is not judged by itself is left out,
-/// with all behind it.
+/// Appends the judged sections to `before`, in order. A section that was not judged by itself is
+/// left out, with all behind it.
 fn append_all(
     alloc: Global,
     judged: Vec<Result<Judged, Halt>>,
@@ -282,16 +283,16 @@ fn append_all(
     })
 }
 
-/// Whether what a section tells is that it can not be judged by itself.
+/// Whether the halt of a section says that it cannot be judged by itself.
 fn goes_on_alone(halt: &Halt) -> bool
     ensures { result ≡ is_alone halt.now }
 {
     matches!(halt, Halt::Quoted | Halt::Early(_))
 }
 
-/// Judges a section of a file by itself, the last one or another. In a file that has changed its
-/// bytes may not end with a line at the place where the next one begins; then it is judged again
-/// with what follows it. So it is where it could not be read or is refused.
+/// Judges the section of a file from `start` to `past` by itself. `Quoted` says that it is to be
+/// judged again with what follows it: it has a quote, could not be read or is refused, or it is not
+/// the last one and does not end with a line at `past`, as in a file that has changed.
 fn judge_range<F: PlacedFile>(
     rounds: &Rounds<'_, '_>,
     table: &ColumnTable,
@@ -316,7 +317,7 @@ fn judge_range<F: PlacedFile>(
     }
 }
 
-/// Where a section of a file begins.
+/// The place where section `i` of a file begins.
 pub(crate) fn start_at(from: u64, ends: &[u64], i: usize) -> u64
     requires { i ≤ length ends.now }
     ensures { result ≡ start_of from ends.now i }
@@ -324,7 +325,7 @@ pub(crate) fn start_at(from: u64, ends: &[u64], i: usize) -> u64
     if i == 0 { from } else { ends[i - 1] }
 }
 
-/// What is told of each section of a file behind its header.
+/// The sections of a file behind its header, each judged by itself.
 fn told_ranges<R: Threads + Sync, F: PlacedFile + Sync>(
     rt: &R,
     rounds: &Rounds<'_, '_>,
@@ -360,8 +361,7 @@ fn told_ranges<R: Threads + Sync, F: PlacedFile + Sync>(
         .collect::<Vec<_>>(rt, rounds.alloc)
 }
 
-/// Judges the bytes of a file of so many bytes from a place on by one worker, behind what was
-/// judged before.
+/// Judges the bytes of a file from `start` to `size` by one worker, behind `judged`.
 fn judge_onward<F: PlacedFile>(
     rounds: &Rounds<'_, '_>,
     table: &ColumnTable,
@@ -390,7 +390,7 @@ fn judge_onward<F: PlacedFile>(
     rounds.judge_rest(&mut feed, &mut window, table, rounds.begin_with(judged)?)
 }
 
-/// Judges the sections of a file of so many bytes behind its header.
+/// Judges the sections of a file behind its header, which are from `from` to `size`.
 pub(crate) fn judge_ranges<R: Threads + Sync, F: PlacedFile + Sync>(
     rt: &R,
     rounds: &Rounds<'_, '_>,
@@ -421,8 +421,7 @@ pub(crate) fn judge_ranges<R: Threads + Sync, F: PlacedFile + Sync>(
     judge_onward(rounds, table, file, start, size, all)
 }
 
-// Where the whole traces end that stand between two places of a text; the first place where there
-// is none.
+// The end of the whole traces between `last` and `place` of a text; `last` where there are none.
 fn end_in_text(text: &[u8], last: usize, place: usize) -> usize
     requires last { last ≤ length text.now }
     requires place { place ≤ length text.now }
@@ -436,7 +435,7 @@ fn end_in_text(text: &[u8], last: usize, place: usize) -> usize
     last + whole_traces(&text[last..place])
 }
 
-/// The end of each of so many slices of a text of whole traces.
+/// The ends of up to `count` slices of a text, each but the last of whole traces.
 pub(crate) fn ends_in_text(
     alloc: Global,
     text: &[u8],
@@ -457,7 +456,7 @@ pub(crate) fn ends_in_text(
     Ok(ends)
 }
 
-/// The bytes of a section of a text.
+/// The bytes of section `i` of a text.
 fn section_bytes<'t>(text: &'t [u8], ends: &[usize], i: usize) -> &'t [u8]
     requires ends { AreSections text.now ends.now }
     requires i { i < length ends.now }
@@ -467,7 +466,7 @@ fn section_bytes<'t>(text: &'t [u8], ends: &[usize], i: usize) -> &'t [u8]
     &text[start..ends[i]]
 }
 
-/// The judged slices of a text.
+/// The slices of a text, each judged by itself.
 fn judge_slices<R: Threads + Sync>(
     rt: &R,
     rounds: &Rounds<'_, '_>,
@@ -537,7 +536,7 @@ fn judge_among<R: Threads + Sync, F: Feed + Send>(
     rounds.judge_rest(feed, window, table, rounds.begin_with(all)?)
 }
 
-/// Where a section of a text begins.
+/// The place where section `i` of a text begins.
 fn start_in(ends: &[usize], i: usize) -> usize
     requires { i ≤ length ends.now }
     ensures { result ≡ start_of 0 ends.now i }

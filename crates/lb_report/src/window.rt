@@ -1,4 +1,4 @@
-//! A text that comes from a feed, of which a part is in memory.
+//! The window of a feed: the part of its text that is in memory.
 //!
 //! ```text
 //! bytes   . . . . a , 1 | b , 0 | b , . . .
@@ -12,7 +12,7 @@ ghost use Rattle.lb_report.specs.Windows.{ended_by};
 use crate::feed::{Feed, INPUT_LIMIT, LoadError};
 use std::alloc::{AllocError, Global};
 
-/// The bytes of a feed that have been read and are not yet let go.
+/// The bytes of a feed that have been read and are not yet dropped.
 #[derive(Drop)]
 pub(crate) struct Window {
     pub(crate) bytes: Vec<u8>,
@@ -20,13 +20,13 @@ pub(crate) struct Window {
     pub(crate) end: usize,
     /// How many bytes the feed has given.
     pub(crate) read: usize,
-    /// Whether these are all.
+    /// Whether the feed has no more bytes.
     pub(crate) is_over: bool,
-    /// Whether the last of them ends a line.
+    /// Whether the last byte that the feed has given ends a line.
     pub(crate) is_ended: bool,
 }
 
-// Whether a text ends with a line, of which these are the last bytes.
+// Whether a text with `more` at its end ends a line; `before` is the answer without `more`.
 fn ends_by(before: bool, more: &[u8]) -> bool
     ensures { result ≡ ended_by before more.now }
 {
@@ -42,7 +42,7 @@ impl Window {
     ghost use Rattle.lb_report.specs.Windows.{HasRead, HasTaken, IsLoadFault, IsWindow};
     ghost use Rattle.lb_report.specs.Windows.{IsWithin, left, text_in};
 
-    /// A window of so many bytes, with nothing in it.
+    /// An empty window with room for `size` bytes.
     pub(crate) fn new(alloc: Global, size: usize) -> Result<Window, AllocError>
         ensures window { IfOk result IsWindow }
         ensures empty { IfOk result (λ w. text_in w ≡ []) }
@@ -59,7 +59,7 @@ impl Window {
         })
     }
 
-    /// The bytes in it.
+    /// The bytes in the window.
     pub(crate) fn text(&self) -> &[u8]
         requires { IsWindow self.now }
         ensures { result.now ≡ text_in self.now }
@@ -67,7 +67,7 @@ impl Window {
         &self.bytes[self.start..self.end]
     }
 
-    /// Lets go of so many bytes at the front.
+    /// Drops the first `count` bytes.
     pub(crate) fn let_go(&mut self, count: usize)
         requires window { IsWindow self.old }
         requires count { count ≤ self.old.end - self.old.start }
@@ -80,7 +80,7 @@ impl Window {
         self.start += count;
     }
 
-    // Has the bytes at the front and some room behind them.
+    // Moves the bytes to the front, and makes room behind them.
     fn make_room(&mut self) -> Result<(), AllocError>
         requires { IsWindow self.old }
         ensures window { OnOk result (IsWindow self.new) }
@@ -104,7 +104,7 @@ impl Window {
         Ok(())
     }
 
-    // Reads once behind the bytes.
+    // Reads once from the feed, into the room behind the bytes.
     fn read_more<F: Feed>(&mut self, feed: &mut F) -> Result<(), LoadError>
         requires window { IsWindow self.old }
         requires front { self.old.start ≡ 0 }
@@ -133,8 +133,8 @@ impl Window {
         Ok(())
     }
 
-    /// Reads until the window is full or the feed is over. Where it is full already it is made
-    /// twice as large.
+    /// Reads until the window is full or the feed is over. A window that is full already is first
+    /// made twice as large.
     pub(crate) fn fill<F: Feed>(&mut self, feed: &mut F) -> Result<(), LoadError>
         requires window { IsWindow self.old }
         requires failures { F.failures feed.old < u64.MAX }
@@ -174,7 +174,7 @@ impl Window {
         Ok(())
     }
 
-    /// Whether the feed has no more.
+    /// Whether the feed has no more bytes.
     pub(crate) fn is_over(&self) -> bool
         ensures { result ≡ self.now.is_over }
     {
@@ -188,7 +188,7 @@ impl Window {
         self.is_ended
     }
 
-    /// Whether nothing is in it, and the feed has no more.
+    /// Whether the window is empty and the feed has no more bytes.
     pub(crate) fn is_done(&self) -> bool
         requires { IsWindow self.now }
         ensures over { result ≡ true → self.now.is_over ≡ true }
@@ -205,7 +205,7 @@ impl Window {
         self.read
     }
 
-    /// Reads the rest of the feed, and lets go of it.
+    /// Reads the rest of the feed and drops it.
     pub(crate) fn drain<F: Feed>(&mut self, feed: &mut F) -> Result<(), LoadError>
         requires within { IsWithin self.old }
         requires failures { F.failures feed.old < u64.MAX }
@@ -224,7 +224,7 @@ impl Window {
         Ok(())
     }
 
-    // Lets go of all bytes.
+    // Drops all bytes.
     fn let_go_all(&mut self)
         requires { IsWithin self.old }
         ensures window { IsWindow self.new }

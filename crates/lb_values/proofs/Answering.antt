@@ -1,4 +1,4 @@
--- What is answered on the values of a trace, from what the parts answer.
+-- The answer on the values of a trace, from the answers of the parts.
 use Rattle.std.proofs.Common.{◌≡◌, ◌≢◌, ◌<◌, ℕ, List, Result, Err, true, length}
 use Rattle.std.proofs.Common.{refl, subst, sym}
 use Rattle.lb_syntax.specs.Correct.{IsOnlyProgram}
@@ -10,9 +10,9 @@ use Rattle.lb_pool.specs.Taken.{Taken}
 use Rattle.lb_pool.specs.declared.follow_error.FollowError.{FollowError}
 use Rattle.lb_pool.proofs.SinkBytes.{takes_nothing}
 use Rattle.lb_report.specs.Bench.{IsRefused, program_of}
-use Rattle.lb_report.specs.declared.error.BenchError.{BenchError}
-use Rattle.lb_report.specs.declared.error.BenchError.TheVariants.{Memory}
-use Rattle.lb_report.specs.declared.options.Options.{Options}
+use Rattle.lb_refusal.specs.declared.error.BenchError.{BenchError}
+use Rattle.lb_refusal.specs.declared.error.BenchError.TheVariants.{Memory}
+use Rattle.lb_refusal.specs.declared.options.Options.{Options}
 use Rattle.lb_report.proofs.Answering.{answered}
 use Rattle.lb_show.specs.Shows.{IsCsvOf, csv_rest, is_csv}
 use Rattle.lb_show.specs.declared.error.ShowError.{ShowError}
@@ -31,7 +31,7 @@ left_as_it_was : (a : Taken) (m : ℕ) → IsLeft a a m m
 left_as_it_was a m = record { kept = takes_nothing a; never_failed = refl }
 
 module _ (source traces : Text) (options : Options) (asked : ShowOptions) where
-  -- the texts are refused
+  -- where the texts are refused and the sink is as it was, the refusal is an answer on the values
   pub refused_by :
       (a : Taken) (m : ℕ) (e : BenchError) → IsRefused source traces options e →
       IsValuesAnswer source traces options asked a a m m (Err (Refused e))
@@ -40,7 +40,7 @@ module _ (source traces : Text) (options : Options) (asked : ShowOptions) where
 
   module _ (tree : Source) (only : IsOnlyProgram tree source) (case : Case)
       (is : IsCase (program_of tree options) traces case) where
-    -- what is asked for is not there
+    -- where the trace or variable asked for is not there, its fault is an answer on the values
     pub unshown :
         (a : Taken) (m : ℕ) (error : ShowError) (fault : ValuesFault) →
         IsFaultOf error fault →
@@ -70,7 +70,7 @@ module _ (source traces : Text) (options : Options) (asked : ShowOptions) where
         (sym told)
         (record { tree = tree; spelled = only; holds = is.accepted }, left_as_it_was a m)
 
-    -- the values went out, or their first bytes
+    -- values that went out, or their first bytes, are an answer on the values
     pub sent_of :
         (shown : Show) (before after : Taken) (m n : ℕ)
         (run : Result (Unit {0}) FollowError) →

@@ -9,7 +9,7 @@ use Rattle.lb_trace.specs.Correct.{IsTraceReading}
 use Rattle.lb_trace.specs.Spelling.{Spells}
 use Rattle.lb_report.specs.Bench.{IsOnlyRecording}
 
--- what is read under the signature of a program is the one recording of it
+-- traces that are read under the signature of a program are the one recording of it
 pub recorded_is :
     (P : Program) (elements : Elements) (text : Text) (r : Recording) →
     elements ≡ signature P → IsTraceReading elements text (Ok r) → IsOnlyRecording P text r

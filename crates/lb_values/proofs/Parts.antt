@@ -10,11 +10,11 @@ use Rattle.lb_pool.specs.declared.follow_error.FollowError.{FollowError}
 use Rattle.lb_pool.proofs.SinkBytes.{taken_and_kept, takes_more, takes_no_byte, takes_nothing}
 use Rattle.lb_values.specs.Sending.{HasSent, IsText}
 
--- before the first part
+-- before the first part nothing has been sent
 pub none_sent : (told : Bool) (a : Taken) (first : List ℕ) → HasSent told a a first first
 none_sent told a first = record { gone = []; took = takes_no_byte a; parts = λ is. refl }
 
--- one part more
+-- a part that went out behind those before has been sent
 pub part_sent :
     (told : Bool) (a b c : Taken) (first rest last before part : List ℕ) →
     HasSent told a b first rest → before ≡ [] →
@@ -29,7 +29,7 @@ part_sent told a b c first rest last before part sent none next took = record {
       ∙ sym (append_assoc sent.gone part last);
 }
 
--- all parts
+-- where all parts went out, the text is sent
 pub all_sent :
     (told : Bool) (a b c : Taken) (first rest : List ℕ) (m n : ℕ) →
     HasSent told a b first rest → (told ≡ true → rest ≡ []) → TakesNothing b c → n ≡ m →
@@ -55,7 +55,7 @@ begun a b c gone rest took kept =
           subst (λ xs. Takes a c xs) (sym front) (taken_and_kept a b c gone took kept);
     }
 
--- the first parts
+-- where only the first parts went out, for a cause, the first bytes of the text are sent
 pub some_sent :
     (told : Bool) (a b c : Taken) (first rest : List ℕ) (m n : ℕ) (e : FollowError) →
     HasSent told a b first rest → TakesNothing b c → HasCause e m n →
@@ -70,14 +70,14 @@ some_sent told a b c first rest m n e sent kept cause = (
   },
 )
 
--- the first parts, and nothing of the next one
+-- where nothing of the next part went out, the first bytes of the text are sent
 pub parts_sent :
     (told : Bool) (a b : Taken) (first rest : List ℕ) (m n : ℕ) (e : FollowError) →
     HasSent told a b first rest → HasCause e m n → IsText told first a b m n (Err e)
 parts_sent told a b first rest m n e sent cause =
     some_sent told a b b first rest m n e sent (takes_nothing b) cause
 
--- a part that went out whole
+-- a part that went out whole has been sent
 pub whole_part :
     (told : Bool) (a c : Taken) (old last cleared part sent : List ℕ) → cleared ≡ [] →
     (told ≡ true → cleared ++ old ≡ part ++ last) → sent ≡ part → Takes a c sent →
@@ -86,7 +86,7 @@ whole_part told a c old last cleared part sent none next same took =
     part_sent told a a c old old last cleared part (none_sent told a old) none next
     (subst (λ (xs : List ℕ). Takes a c xs) same took)
 
--- a part of which the first bytes went out
+-- a part whose first bytes went out has been sent up to some rest
 pub front_part :
     (told : Bool) (a c : Taken) (old last cleared part sent : List ℕ) (n : ℕ) →
     cleared ≡ [] → (told ≡ true → cleared ++ old ≡ part ++ last) → sent ≡ part →
@@ -103,7 +103,7 @@ front_part told a c old last cleared part sent n none next same took =
           (subst (λ (xs : List ℕ). Takes a c (take n xs)) same took),
     )
 
--- further parts
+-- parts that were sent, and then further parts, have all been sent
 pub sent_on :
     (told told' : Bool) (a b c : Taken) (first rest last : List ℕ) → told' ≡ told →
     HasSent told a b first rest → HasSent told' b c rest last → HasSent told a c first last
@@ -116,7 +116,7 @@ sent_on told told' a b c first rest last same sent further = record {
       ∙ sym (append_assoc sent.gone further.gone last);
 }
 
--- all parts, and the sink hands them on or fails
+-- where all parts went out and the sink flushes or fails, the text is sent, or its first bytes
 pub finished :
     (told : Bool) (a b c : Taken) (first rest : List ℕ) (m m' n : ℕ)
     (r : Result (Unit {0}) FollowError) → HasSent told a b first rest →
@@ -128,7 +128,7 @@ finished told a b c first rest m m' n (Err e) sent none kept same ok cause =
     some_sent told a b c first rest m n e sent kept
     (subst (λ (k : ℕ). HasCause e k n) same cause)
 
--- the first parts, where a later one stopped
+-- where a later part stopped, the first bytes of the text are sent
 pub stopped :
     (told : Bool) (a b : Taken) (first rest : List ℕ) (m m' n : ℕ) (e : FollowError) →
     HasSent told a b first rest → m' ≡ m → HasCause e m' n → IsText told first a b m n (Err e)

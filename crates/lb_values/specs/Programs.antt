@@ -1,4 +1,4 @@
--- What a program that is ready to be replayed stands for, and its recorded traces.
+-- The meaning of a program that is ready to be replayed, and of its recorded traces.
 -- This file says what data of the program mean; no definition of the language stands on it.
 use Rattle.std.specs.Prelude.{◌≡◌}
 use Rattle.lb_syntax.specs.Tokens.{Text}
@@ -11,13 +11,14 @@ use Rattle.lb_report.specs.Bench.{IsOnlyRecording}
 use Rattle.lb_values.specs.declared.case.Case.{Case}
 use Rattle.lb_values.specs.declared.program.Program.{Program}
 
--- it is this program, which is accepted
+-- `p` stands for the program `P`, which is accepted
 pub record IsProgram (p : Program) (P : Meant) : Type 0 where
   pub accepted : IsAccepted P
   pub inputs : signature P ≡ p.checked.elab.signature
   pub equations : IsFlatOf P (flat.program_of p.ordered.program)
 
--- it is this program, which is accepted, with the one list of traces that a text spells
+-- `case` stands for the program `P`, which is accepted, with the one list of traces that a text
+-- spells
 pub record IsCase (P : Meant) (text : Text) (case : Case) : Type 0 where
   pub accepted : IsAccepted P
   pub equations : IsFlatOf P (flat.program_of case.program.ordered.program)

@@ -1,4 +1,4 @@
--- What is promised of the values of one trace.
+-- The promise of `show_values` on the values of one trace.
 -- Source: this project's rule.
 use Rattle.std.specs.Prelude.{◌≡◌, ◌≢◌, ◌<◌, ℕ, List, Result, Ok, Err, length}
 use Rattle.lb_syntax.specs.Tokens.{Text}
@@ -11,9 +11,9 @@ use Rattle.lb_pool.specs.Taken.{Taken, TakesNothing}
 use Rattle.lb_pool.specs.declared.follow_error.FollowError.{FollowError}
 use Rattle.lb_report.specs.Bench.{IsOnlyRecording, OnlyProgram}
 use Rattle.lb_report.specs.Correct.{IsBenchAnswer}
-use Rattle.lb_report.specs.declared.error.BenchError.{BenchError}
-use Rattle.lb_report.specs.declared.error.BenchError.TheVariants.{Memory}
-use Rattle.lb_report.specs.declared.options.Options.{Options}
+use Rattle.lb_refusal.specs.declared.error.BenchError.{BenchError}
+use Rattle.lb_refusal.specs.declared.error.BenchError.TheVariants.{Memory}
+use Rattle.lb_refusal.specs.declared.options.Options.{Options}
 use Rattle.lb_show.specs.Shows.{IsCsvOf}
 use Rattle.lb_show.specs.declared.error.ShowError.{ShowError}
 use Rattle.lb_show.specs.declared.error.ShowError.TheVariants as show
@@ -24,8 +24,8 @@ use Rattle.lb_values.specs.declared.values.ValuesFault.{ValuesFault}
 use Rattle.lb_values.specs.declared.values.ValuesFault.TheVariants.{Refused, UnknownTrace}
 use Rattle.lb_values.specs.declared.values.ValuesFault.TheVariants.{UnknownVariable, Stopped}
 
--- a program is accepted, a text spells just one recording, and where CSV is asked for, it is that of
--- a flat program that stands for the program, on the trace that is named
+-- a program is accepted, and a text spells just one recording. Where CSV is asked for, it is the
+-- CSV of a flat program that stands for the program, on the named trace
 pub record AreValuesOn (P : Program) (traces : Text) (asked : ShowOptions) (text : List ℕ) : Type 0
   where
     pub accepted : IsAccepted P
@@ -59,13 +59,13 @@ pub record IsLeft (before after : Taken) (failures_before failures_after : ℕ) 
     pub kept : TakesNothing before after
     pub never_failed : failures_after ≡ failures_before
 
--- why values are not shown
+-- the fault for an error of showing values
 abbrev pub IsFaultOf : ShowError → ValuesFault → Type 0
 IsFaultOf show.Memory fault = fault ≡ Refused Memory
 IsFaultOf show.UnknownTrace fault = fault ≡ UnknownTrace
 IsFaultOf (show.UnknownVariable place) fault = fault ≡ UnknownVariable place
 
--- what is said of texts before any byte goes out
+-- the statement on texts for a fault before any byte goes out
 abbrev pub IsFault : (source traces : Text) → Options → ShowOptions → ValuesFault → Type 0
 IsFault source traces options asked (Refused e) = IsBenchAnswer source traces options (Err e)
 IsFault source traces options asked UnknownTrace =

@@ -6,18 +6,18 @@ use lb_report::Options;
 use lb_syntax::parse;
 use std::alloc::{AllocError, Global};
 
-/// What was read of a line of a report.
+/// The part of a line of a report that was read so far.
 #[derive(Clone, Copy, PartialEq, Eq)]
 enum Read {
     /// A part of the name.
     Name,
     /// The name, and the space behind it.
     Space,
-    /// More.
+    /// More than the name and the space.
     Rest,
 }
 
-/// What is read of a line with one byte more.
+/// The part read of a line once the byte `b` follows; behind a line end the next line begins.
 fn read_more(read: Read, b: u8) -> Read {
     match (read, b) {
         (_, b'\n') => Read::Name,
@@ -27,7 +27,7 @@ fn read_more(read: Read, b: u8) -> Read {
     }
 }
 
-/// The numbers of the first traces of a report that did not pass, so many at most: behind the name
+/// The numbers of the first traces of a report that did not pass, at most `most`: behind the name
 /// of each begins the word `fault`, `undefined`, `assertion` or `false`.
 fn failing(alloc: Global, report: &[u8], most: usize) -> Result<Vec<u32>, AllocError> {
     let mut numbers = Vec::new(alloc);
@@ -48,7 +48,7 @@ fn failing(alloc: Global, report: &[u8], most: usize) -> Result<Vec<u32>, AllocE
     Ok(numbers)
 }
 
-/// Tells why the first traces of a report do not pass, so many at most: for each a line with its
+/// Explains why the first traces of a report do not pass, at most `most`: for each a line with its
 /// name, its verdict and what decides that, and where the property or an assertion is false the
 /// steps behind it. The report is one on these texts; `file` is the name of the source.
 pub fn explain_report(

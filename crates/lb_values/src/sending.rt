@@ -1,6 +1,7 @@
 //! Values go to a sink, part by part.
 
-ghost use Rattle.std.specs.Prelude.{◌≡◌, ◌<◌, ℕ, List, [], Ok, true, false, IfErr, IfOk, OnErr, OnOk};
+ghost use Rattle.std.specs.Prelude.{◌≡◌, ◌<◌, ℕ, List, [], Ok, true, false, IfErr, IfOk, OnErr};
+ghost use Rattle.std.specs.Prelude.{OnOk};
 ghost use Rattle.lb_pool.specs.Follows.{HasCause};
 ghost use Rattle.lb_pool.specs.Taken.{TakesNothing};
 ghost use Rattle.lb_show.specs.Shows.{csv_rest, is_csv, parts_left};
@@ -10,7 +11,7 @@ use lb_pool::{FollowError, Sink, send};
 use lb_show::Show;
 use std::alloc::Global;
 
-/// Writes the next part of some values to a sink, and answers whether more is left. `count` bytes
+/// Writes the next part of some values to a sink, and returns whether more is left. `count` bytes
 /// went out before.
 fn send_part<S: Sink>(
     show: &mut Show<'_>,
@@ -44,7 +45,7 @@ fn send_part<S: Sink>(
     }
 }
 
-/// Hands on what a sink keeps back, once so many bytes went out.
+/// Flushes a sink. `count` bytes went out before, and an error reports them.
 fn finish<S: Sink>(count: usize, sink: &mut S) -> Result<(), FollowError>
     requires { S.failures sink.old < u64.MAX }
     ensures kept { TakesNothing (S.taken sink.old) (S.taken sink.new) }

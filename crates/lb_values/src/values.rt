@@ -6,7 +6,7 @@ ghost use Rattle.lb_syntax.specs.SourceView.{view_source};
 ghost use Rattle.lb_syntax.specs.Tokens.{Text};
 ghost use Rattle.lb_syntax.specs.Tree.{Source};
 ghost use Rattle.lb_report.specs.Bench.{program_of};
-ghost use Rattle.lb_report.specs.declared.options.Options.{Options as Asking};
+ghost use Rattle.lb_refusal.specs.declared.options.Options.{Options as Asking};
 ghost use Rattle.lb_values.specs.Programs.{IsCase};
 ghost use Rattle.lb_values.specs.Values.{IsFaultOf, IsValuesAnswer};
 
@@ -116,8 +116,9 @@ fn show_tree<S: Sink>(
 /// Writes the values of one trace to a sink, instant by instant up to the one that decides its
 /// verdict, or to the end where it passed.
 ///
-/// The options name the node under test and the observer; what is shown, and how, is asked apart.
-/// It takes the memory of the texts and of one instant, and of a picture that of all that it shows.
+/// The options name the node under test and the observer; `asked` says what is shown, and how.
+/// The memory taken is that of the texts and of one instant; a picture takes memory for all that it
+/// shows.
 pub fn show_values<S: Sink>(
     alloc: Global,
     source: &[u8],

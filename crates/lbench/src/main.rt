@@ -21,15 +21,14 @@ fn words<R: Runtime + AllocGlobal>(rt: &R) -> Result<Vec<String>, Refusal> {
     }
 }
 
-/// Says that the traces are awaited, where these words ask for them and standard input is a
-/// terminal.
+/// Says that traces are awaited, where these words ask for them and standard input is a terminal.
 fn say_awaited<E: Write>(alloc: Global, words: &[String], stdin: Stdin, errors: &mut E) {
     if stdin.is_terminal() {
         let _ = announce(alloc, words, &mut Writer::new(errors));
     }
 }
 
-/// Runs the program on the words of the command line and these streams, and answers its exit
+/// Runs the program on the words of the command line and these streams, and returns its exit
 /// status.
 fn run<R, E>(rt: &R, mut stdin: Stdin, errors: &mut E) -> u8
 where
@@ -63,7 +62,7 @@ fn is_coloured<R: Runtime + AllocGlobal>(rt: &R, stderr: &Stderr) -> bool {
     }
 }
 
-/// Runs the program on the standard streams, and answers its exit status.
+/// Runs the program on the standard streams, and returns its exit status.
 fn run_on_streams<R>(rt: &R, stdin: Stdin, stderr: Stderr) -> u8
 where
     R: Runtime + AllocGlobal + Threads + Wait + Sync,
@@ -77,10 +76,10 @@ where
     }
 }
 
-/// How much stack a run has, in bytes: more than the deepest texts need that are accepted.
+/// The stack of a run, in bytes: more than the deepest accepted texts need.
 const STACK: usize = 2 << 20;
 
-/// Runs the program in a thread with that stack; where no thread can be made, on the stack that it
+/// Runs the program in a thread with that stack; where no thread can be made, in the thread that it
 /// has.
 fn main(rt: HostRuntime) -> ExitCode {
     let builder = Builder::new().stack_size(STACK);

@@ -1,4 +1,4 @@
--- A refusal of the texts is told with its number and its place.
+-- A refusal of the texts is reported with its number and its place.
 use Rattle.std.proofs.Common.{Err, Global, Ok, Vec, ℕ, subst}
 use Rattle.lb_report.specs.LiveReports.{IsFollowAnswer}
 use Rattle.lb_report.specs.declared.live.FollowFault.{FollowFault}

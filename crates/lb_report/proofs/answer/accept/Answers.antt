@@ -1,9 +1,9 @@
--- What is refused of the tree is refused of the text that spells it.
+-- A refusal of the tree is a refusal of the text that spells it.
 use Rattle.std.proofs.Common.{Result, Ok, Err}
 use Rattle.std.specs.Prelude.{IfErr}
 use Rattle.lb_syntax.specs.Tokens.{Text}
 use Rattle.lb_report.specs.Bench.{IsRefused}
-use Rattle.lb_report.specs.declared.error.BenchError.{BenchError}
+use Rattle.lb_refusal.specs.declared.error.BenchError.{BenchError}
 use Rattle.lb_report.proofs.answer.accept.Goals as goal
 
 of_every : {A : Type 0} (r : Result A BenchError) (Q : Text → BenchError → Type 0)

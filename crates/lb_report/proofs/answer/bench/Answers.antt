@@ -1,6 +1,6 @@
 -- A text is a feed that tells its bytes; one that is too long is refused before it is read.
 use Rattle.std.proofs.Common.{◌<◌, Err, Ok, arith, length}
-use Rattle.lb_report.specs.declared.error.BenchError.TheVariants.{Memory}
+use Rattle.lb_refusal.specs.declared.error.BenchError.TheVariants.{Memory}
 use Rattle.lb_report.proofs.Answering.{answered}
 use Rattle.lb_report.proofs.TextAnswering.{text_answered}
 use Rattle.lb_report.proofs.answer.bench.Goals as goal

@@ -1,4 +1,4 @@
--- Too long is the text of a source that is accepted.
+-- Where the source is accepted, the trace text is too long.
 use Rattle.std.proofs.Common.{sym, subst}
 use Rattle.lb_report.specs.Bench.{IsRefused}
 use Rattle.lb_report.proofs.TextAnswering.{refused_long}

@@ -4,7 +4,7 @@ use Rattle.lb_pool.specs.Counts.{count_more}
 use Rattle.lb_report.specs.declared.feed.TheConstants.{INPUT_LIMIT}
 use Rattle.lb_report.proofs.feed.load.Given as goal
 
--- the filled part is what came so far
+-- the filled part is the bytes that came so far
 pub record IsFilled (first now : Option (List ℕ)) (filled : ℕ) (bytes : Vec ℕ Global) : Type 0 where
   pub within : filled ≤ vec_len bytes
   pub limit : filled ≤ INPUT_LIMIT

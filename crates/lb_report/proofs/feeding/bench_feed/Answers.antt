@@ -8,7 +8,7 @@ use Rattle.lb_report.specs.FeedAnswers.{IsFeedAnswer}
 use Rattle.lb_report.specs.Windows.{Left, left}
 use Rattle.lb_report.specs.declared.feeding.FeedFault.{FeedFault}
 use Rattle.lb_report.specs.declared.feeding.FeedFault.TheVariants as fault
-use Rattle.lb_report.specs.declared.options.Options.{Options}
+use Rattle.lb_refusal.specs.declared.options.Options.{Options}
 use Rattle.lb_report.proofs.FeedAnswering.{IsNew, feed_answered, feed_failed, feed_refused}
 use Rattle.lb_report.proofs.FeedAnswering.{judged_long, judging_read, load_fault}
 use Rattle.lb_report.proofs.feeding.bench_feed.Goals as goal

@@ -1,4 +1,4 @@
--- The header is read of the first bytes of a file, and the rest in sections.
+-- The header is read from the first bytes of a file, and the rest in sections.
 use Rattle.std.proofs.Common.{◌≡◌, ◌∙◌, ◌≤◌, ◌-◌, Some, ap, arith, length, subst, sym}
 use Rattle.std.specs.Io.KnownBytes.{Consumes}
 use Rattle.lb_report.specs.Ranges.{IsFileJudged}

@@ -1,4 +1,4 @@
--- What is ready is run, and gives the report of the texts; else the sink is as it was.
+-- The run of what is ready gives the report on the texts; else the sink is as it was.
 use Rattle.std.proofs.lemmas.Result.{err_from_is_err_and}
 use Rattle.lb_report.proofs.UnderWay.{is_turned_away, is_under_way}
 use Rattle.lb_report.proofs.live.follow.Goals as goal

@@ -1,4 +1,4 @@
--- What each part refuses is refused of the texts; else all is ready.
+-- A refusal by a part is a refusal of the texts; else all is ready.
 use Rattle.std.proofs.Common.{rules, subst, sym}
 use Rattle.std.proofs.lemmas.Result.{err_from_is_err_and}
 use Rattle.lb_trace.specs.Correct.{IsTraceReading}

@@ -1,4 +1,4 @@
--- So many bytes were read as stand between the places.
+-- As many bytes were read as there are between the places.
 use Rattle.std.proofs.Common.{◌≡◌, ◌-◌, arith, length}
 use Rattle.lb_report.proofs.PlacedFiles.{read_whole}
 use Rattle.lb_report.proofs.placed.bytes_between.Goals as goal

@@ -1,4 +1,4 @@
--- The filled part is what came so far.
+-- The filled part is the bytes that came so far.
 use Rattle.std.proofs.Common.{◌+◌, ◌≡◌, arith, subst, take}
 use Rattle.std.specs.Io.KnownBytes.{Consumes}
 use Rattle.lb_report.specs.PlacedFiles.{told_from}

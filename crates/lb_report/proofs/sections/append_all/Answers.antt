@@ -25,7 +25,7 @@ nothing_left : {X : Type 0} (l : List X) → length l ≡ 0 → l ≡ []
 nothing_left [] h = refl
 nothing_left (x ∷ xs) h = absurd (omega arith)
 
--- all that came are those before, this one, and the rest
+-- all elements are those `done`, then `x`, then `rest`
 came : {X : Type 0} (all done left rest : List X) (x : X) → done ++ left ≡ all → left ≡ x ∷ rest
     → all ≡ done ++ x ∷ rest
 came all done left rest x is steps = sym is ∙ ap (λ l. done ++ l) steps

@@ -1,5 +1,5 @@
--- All of a feed stands in the window: its slices are judged one after the other, and what is behind
--- one that is not judged by itself is judged by one worker.
+-- All of a feed stands in the window: its slices are judged by themselves and appended. From one
+-- that is not judged by itself on, one worker judges.
 use Rattle.std.proofs.Common.{◌∙◌, ◌≤◌, [], arith, length, refl, subst, sym}
 use Rattle.std.proofs.lemmas.Result.{IfErr-weaker, IfOk-weaker}
 use Rattle.lb_trace.specs.declared.error.TraceError.TheVariants.{Memory}

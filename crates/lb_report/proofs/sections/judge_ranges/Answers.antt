@@ -1,5 +1,5 @@
--- All sections are judged by themselves, and put one after the other; what is behind one that is
--- not judged by itself is judged by one worker.
+-- All sections are judged by themselves and appended. From one that is not judged by itself on, one
+-- worker judges.
 use Rattle.std.proofs.Common.{◌≡◌, ◌≤◌, ◌-◌, [], Some, arith, length, refl}
 use Rattle.std.proofs.Common.{subst, take}
 use Rattle.std.proofs.lemmas.Result.{IfErr-weaker, IfOk-weaker}

@@ -1,4 +1,4 @@
-use Rattle.lb_report.specs.declared.error.BenchError.TheVariants.{Syntax}
+use Rattle.lb_refusal.specs.declared.error.BenchError.TheVariants.{Syntax}
 use Rattle.lb_values.proofs.Answering.{refused_by}
 use Rattle.lb_values.proofs.values.show_values.Goals as goal
 

@@ -22,6 +22,6 @@ invariant-pieces g l = record {
       (left (g.F.Feed.coming l.feed) (g.F.Feed.given l.feed) (g.F.Feed.failures l.feed)) l.state;
 }
 
--- each turn lets go of some bytes, or is the last
+-- each turn drops some bytes, or is the last
 abbrev pub decreases-pieces : goal.decreases-pieces
 decreases-pieces g l = turns_left l.window

@@ -86,7 +86,7 @@ returns-in_err-state-clause-err c =
     (fields_of c.next.new.entry) c.in_err-state.field-0.0 goes
     (c.in_err-state.ensures.err (rows ++ at.more) at.part))
 
--- no text has so many records
+-- no text has that many records
 pub returns-clause-err : goal.returns-clause-err
 returns-clause-err c = rw c.from.ensures (λ text given rows reaches is.
     let at = c.records.invariant.on text given rows reaches is in

@@ -1,4 +1,4 @@
--- What is refused of the rest is told for certain.
+-- A refusal of the rest is certain.
 use Rattle.lb_report.proofs.RestReads.{rest_refused}
 use Rattle.lb_report.proofs.rounds.Rounds.judge_rest.Goals as goal
 

@@ -1,4 +1,4 @@
--- What is known for certain where nothing stands before.
+-- A refusal is certain where no records stand before.
 use Rattle.std.proofs.Common.{inl}
 use Rattle.lb_report.proofs.PartReads.{stopped_refused}
 use Rattle.lb_report.proofs.rounds.Rounds.refusal.Goals as goal

@@ -1,4 +1,4 @@
--- What a read gives stands at the front of the bytes that are left.
+-- The bytes of a read are the front of the bytes that were left.
 use Rattle.std.proofs.Common.{◌≡◌, ◌+◌, ◌-◌, ◌≤◌, ◌++◌, arith, drop, length, subst, sym, take}
 use Rattle.std.proofs.Math.Seq.{take-append-le}
 use Rattle.std.proofs.lemmas.List.{length-take, length-take-le}

@@ -1,4 +1,4 @@
--- What was read stands behind what was there.
+-- The bytes that were read stand behind those that were there.
 use Rattle.std.proofs.Common.{◌≡◌, ◌∙◌, ◌<◌, ◌≤◌, ◌+◌, ◌-◌, ap, arith, drop, eqb-true}
 use Rattle.std.proofs.Common.{length, rules, sym, take}
 use Rattle.std.proofs.lemmas.List.{length-take-le}

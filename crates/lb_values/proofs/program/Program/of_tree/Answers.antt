@@ -1,4 +1,4 @@
--- Each part refuses what the parts before it let through.
+-- Each part refuses only what the parts before it accept.
 use Rattle.std.proofs.Common.{◌≡◌, ◌∙◌, Ok, Err, None, ap, sym, subst}
 use Rattle.std.proofs.lemmas.Result.{err_from_is_err_and}
 use Rattle.lb_syntax.specs.SourceView.{view_source}

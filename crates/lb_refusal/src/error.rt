@@ -1,7 +1,7 @@
 //! Why there is no report.
 
 ghost use Rattle.std.specs.Prelude.{◌≡◌, ◌<◌};
-ghost use Rattle.lb_report.specs.Refusals as spec;
+ghost use Rattle.lb_refusal.specs.Refusals as spec;
 
 use crate::refusal::word;
 use lb_check::CheckError;
@@ -72,7 +72,7 @@ fn order_number(cause: &OrderError) -> u8
     }
 }
 
-/// Why there is no report: what the part that refused says.
+/// Why there is no report: the error of the part that refused.
 #[derive(Drop, Error)]
 pub enum BenchError {
     /// E0: memory ran out outside the parts below.
@@ -105,7 +105,7 @@ impl fmt::Debug for BenchError {
 }
 
 impl From<AllocError> for BenchError {
-    ghost use Rattle.lb_report.specs.declared.error.BenchError.TheVariants.{Memory};
+    ghost use Rattle.lb_refusal.specs.declared.error.BenchError.TheVariants.{Memory};
 
     ghost from_gives = { λ _ e. e ≡ Memory };
 
@@ -115,7 +115,7 @@ impl From<AllocError> for BenchError {
 }
 
 impl From<SyntaxError> for BenchError {
-    ghost use Rattle.lb_report.specs.declared.error.BenchError.TheVariants.{Syntax};
+    ghost use Rattle.lb_refusal.specs.declared.error.BenchError.TheVariants.{Syntax};
 
     ghost from_gives = { λ cause e. e ≡ Syntax cause };
 
@@ -125,7 +125,7 @@ impl From<SyntaxError> for BenchError {
 }
 
 impl From<StaticError> for BenchError {
-    ghost use Rattle.lb_report.specs.declared.error.BenchError.TheVariants.{Static};
+    ghost use Rattle.lb_refusal.specs.declared.error.BenchError.TheVariants.{Static};
 
     ghost from_gives = { λ cause e. e ≡ Static cause };
 
@@ -135,7 +135,7 @@ impl From<StaticError> for BenchError {
 }
 
 impl From<CheckError> for BenchError {
-    ghost use Rattle.lb_report.specs.declared.error.BenchError.TheVariants.{Check};
+    ghost use Rattle.lb_refusal.specs.declared.error.BenchError.TheVariants.{Check};
 
     ghost from_gives = { λ cause e. e ≡ Check cause };
 
@@ -145,7 +145,7 @@ impl From<CheckError> for BenchError {
 }
 
 impl From<FlatError> for BenchError {
-    ghost use Rattle.lb_report.specs.declared.error.BenchError.TheVariants.{Flat};
+    ghost use Rattle.lb_refusal.specs.declared.error.BenchError.TheVariants.{Flat};
 
     ghost from_gives = { λ cause e. e ≡ Flat cause };
 
@@ -155,7 +155,7 @@ impl From<FlatError> for BenchError {
 }
 
 impl From<OrderError> for BenchError {
-    ghost use Rattle.lb_report.specs.declared.error.BenchError.TheVariants.{Order};
+    ghost use Rattle.lb_refusal.specs.declared.error.BenchError.TheVariants.{Order};
 
     ghost from_gives = { λ cause e. e ≡ Order cause };
 
@@ -165,7 +165,7 @@ impl From<OrderError> for BenchError {
 }
 
 impl From<TraceError> for BenchError {
-    ghost use Rattle.lb_report.specs.declared.error.BenchError.TheVariants.{Trace};
+    ghost use Rattle.lb_refusal.specs.declared.error.BenchError.TheVariants.{Trace};
 
     ghost from_gives = { λ cause e. e ≡ Trace cause };
 

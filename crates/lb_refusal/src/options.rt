@@ -1,10 +1,10 @@
-//! What a run is asked for.
+//! The options of a run.
 
 ghost use Rattle.std.specs.Prelude.{◌≡◌, ◌≤◌, string_bytes};
 ghost use Rattle.std.specs.Option.{option_map};
 
-/// What a run is asked for. It says nothing of what the report holds but which node is under test
-/// and which one observes: the rest is how the work is spread.
+/// The options of a run. Only the node under test and the observer change what the report says: the
+/// rest sets how the work is spread.
 #[derive(Drop)]
 pub struct Options {
     /// The node under test.

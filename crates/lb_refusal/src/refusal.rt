@@ -1,7 +1,7 @@
 //! The words of refusals.
 
 ghost use Rattle.std.specs.Prelude.{◌≡◌, ◌<◌};
-ghost use Rattle.lb_report.specs.Refusals as spec;
+ghost use Rattle.lb_refusal.specs.Refusals as spec;
 
 /// The word of a refusal's number, E0 to E21.
 pub fn word(number: u8) -> &'static str
