@@ -1,4 +1,4 @@
-//! Explanations in colour: what a terminal gets of the lines of a page.
+//! Explanations in colour: the bytes that a terminal gets for the lines of a page.
 
 use lb_command::Painted;
 use std::alloc::{AllocError, Global};
@@ -16,7 +16,7 @@ warning: `level` is an input of the node alone
 help: write `true`, in small letters, or 1
 ";
 
-/// The same in colour: the word `error:` and the marks are red, `warning:` is yellow, and `help:`
+/// The page in colour: the word `error:` and the marks are red, `warning:` is yellow, and `help:`
 /// is cyan.
 const PAINTED: &[u8] = b"refused: E16 cell in record 3
 pump.csv:4:7: \x1b[1;31merror:\x1b[0m column `open` is bool, and `TRUE` is no value of it
@@ -27,10 +27,10 @@ pump.csv:4:7: \x1b[1;31merror:\x1b[0m column `open` is bool, and `TRUE` is no va
 \x1b[1;36mhelp:\x1b[0m write `true`, in small letters, or 1
 ";
 
-/// What is no text stays as it is.
+/// Bytes that are no text, and stay as they are.
 const NO_TEXT: &[u8] = b"help: \xff\n";
 
-/// What a terminal gets of these bytes.
+/// The bytes that a terminal gets for these bytes; none if writing fails.
 fn painted(alloc: Global, bytes: &[u8]) -> Result<Vec<u8>, AllocError> {
     let mut terminal: Vec<u8> = Vec::new(alloc);
     let sent = Painted::new(alloc, &mut terminal).write_all(bytes);

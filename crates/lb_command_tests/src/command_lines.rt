@@ -1,4 +1,4 @@
-//! Running a command line on an input, what it prints, and what is wanted.
+//! Runs of command lines on inputs, and the comparison of what is printed with what is wanted.
 
 use lb_command::command;
 use std::alloc::{AllocError, Global};
@@ -26,7 +26,7 @@ pub struct Run {
     pub status: u8,
 }
 
-/// Bytes that were printed.
+/// The text of bytes that were printed.
 fn text(bytes: &[u8]) -> &str {
     std::str::from_utf8(bytes).unwrap_or("no text")
 }
@@ -58,7 +58,7 @@ impl Run {
         })
     }
 
-    /// A run of what is asked: the first line has the words, and the others are the input.
+    /// A run of a row: its first line has the words, and the others are the input.
     pub fn new<R: Files + AllocGlobal + Threads + Wait + Clock + Sync>(
         rt: &R,
         asked: &str,
@@ -70,13 +70,13 @@ impl Run {
         Run::on(rt, line, input)
     }
 
-    /// What is printed as an error, and the status.
+    /// The errors that are printed, and the status.
     pub fn push_errors(&self, said: &mut String) -> Result<(), AllocError> {
         let errors = text(self.errors.as_slice());
         write!(said, "{errors}status {}", self.status)
     }
 
-    /// What is printed as an error, the status, and whether there is output.
+    /// The errors that are printed, the status, and whether there is output.
     pub fn push_answer(&self, said: &mut String) -> Result<(), AllocError> {
         self.push_errors(said)?;
         if self.output.is_empty() {
@@ -85,20 +85,20 @@ impl Run {
         said.push_str(" with output")
     }
 
-    /// What is printed as output, what is printed as an error, and the status, apart.
+    /// The output, the errors and the status, with `|` between them.
     pub fn push_apart(&self, said: &mut String) -> Result<(), AllocError> {
         let (output, errors) = (text(self.output.as_slice()), text(self.errors.as_slice()));
         write!(said, "{output}|{errors}|{}\n", self.status)
     }
 
-    /// What is printed as output and then as an error, and the status.
+    /// The output, then the errors, and the status.
     pub fn push_printed(&self, said: &mut String) -> Result<(), AllocError> {
         said.push_str(text(self.output.as_slice()))?;
         self.push_errors(said)
     }
 }
 
-/// What a command line on an input prints, and its status.
+/// The output, the errors and the status of a command line on an input, with `|` between them.
 pub fn told<R: Files + AllocGlobal + Threads + Wait + Clock + Sync>(
     rt: &R,
     line: &str,
@@ -117,7 +117,7 @@ pub fn is_same(one: &str, other: &str) -> bool {
     one == other
 }
 
-/// Fails a test unless it says what is wanted. What it says instead is shown.
+/// Fails a test unless `said` is `wanted`. The failure shows `said`.
 pub fn expect(said: &Result<String, AllocError>, wanted: &str) -> Result<(), Fail> {
     match said {
         Ok(said) if is_same(said.as_str(), wanted) => Ok(()),

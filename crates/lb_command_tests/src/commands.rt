@@ -4,7 +4,7 @@ use crate::command_lines::{expect, told};
 use crate::outputs::answer_within;
 use std::test::Fail;
 
-/// Words and inputs, and what is printed.
+/// Words and inputs, and the errors, the status, and whether there is output.
 pub const RUNS: &str = "\
 lbench --batch 65 => refused: E20 usage
 status 2
@@ -169,14 +169,14 @@ const n = 2;
 node tank(level: int^n; open: bool^3^n; x: int) returns (ok: bool); let ok = x < 5; tel
 ";
 
-/// Its header, in which the last index runs fastest.
+/// The header of `TANK`, in which the last index changes fastest.
 const HEADER: &str = "\
 trace,level[0],level[1],\
 open[0][0],open[0][1],open[0][2],open[1][0],open[1][1],open[1][2],x
 ||0
 ";
 
-/// Whether a version is told, and nothing else.
+/// Whether a version is printed, and nothing else.
 fn is_version(said: &str) -> bool {
     said.starts_with("lbench 0.1.0\nrattle-kit-") && said.ends_with("||0\n")
 }

@@ -1,6 +1,7 @@
-//! Controllers, and why their traces do not pass: each of the four verdicts, of five controllers.
+//! Controllers, and the reasons why their traces do not pass: each of the four verdicts, of five
+//! controllers.
 
-/// Words and inputs, and what is printed as output and as an error, with the status.
+/// Words and inputs, and the output, the errors and the status.
 pub const CONTROLLERS: &str = "\
 lbench --node cruise --observe safe --explain
 -- A cruise control. The wheel tells its speed now and then.

@@ -1,7 +1,7 @@
 //! Runs of the program on files.
 //!
-//! The files of a test stand in the folder for temporary files, and are gone when it ends. `@` in a
-//! text stands for that folder and for what the names of the files begin with.
+//! The files of a test stand in the folder for temporary files, and are removed when it ends. `@`
+//! in a text stands for that folder and for the first letters of the names of the files.
 
 use crate::command_lines::{Run, expect};
 use std::alloc::{AllocError, Global};
@@ -15,7 +15,7 @@ use std::{env, fs};
 
 // ## Files
 
-/// A text with its folder in place of each `@`.
+/// A text with the folder, and the first letters of the names, in place of each `@`.
 fn in_folder(alloc: Global, folder: &str, text: &str) -> Result<String, AllocError> {
     let mut written = String::new(alloc);
     let mut pieces = text.split('@');
@@ -43,7 +43,7 @@ fn remove_file<R: Files + AllocGlobal>(rt: &R, folder: &str, name: &str) -> Resu
     Ok(())
 }
 
-/// Writes files that are given by their names and their texts.
+/// Writes files: their names and their texts.
 fn write_files<R: Files + AllocGlobal>(
     rt: &R,
     folder: &str,
@@ -82,7 +82,7 @@ where
     Run::on(rt, line.as_str(), input)
 }
 
-/// What runs print, one after the other, that are given by their command lines and their inputs.
+/// The output, the errors and the status of each run: its command line and its input.
 fn push_runs<R: Files + AllocGlobal + Threads + Wait + Clock + Sync>(
     rt: &R,
     folder: &str,
@@ -98,14 +98,14 @@ where
     Ok(())
 }
 
-/// Files, runs on them, and what these print.
+/// Files, runs on them, and what these are to print.
 struct Case {
     files: &'static [(&'static str, &'static str)],
     runs: &'static [(&'static str, &'static str)],
     wanted: &'static str,
 }
 
-/// What the runs of a case print.
+/// The answer on a case: what its runs print.
 fn answer<R: Files + AllocGlobal + Threads + Wait + Clock + Sync>(
     rt: &R,
     folder: &str,
@@ -122,7 +122,7 @@ where
     Ok(said)
 }
 
-/// Fails a test unless a case is answered as it wants.
+/// Fails a test unless the answer on a case is the wanted one.
 fn expect_answer<R: Files + AllocGlobal + Threads + Wait + Clock + Sync>(
     rt: &R,
     folder: &str,
@@ -171,7 +171,7 @@ fn paths(rt: HostRuntime) -> Result<(), Fail> {
     expect_answer(&rt, folder.as_str(), &PATHS)
 }
 
-/// The reports on two parts, their XML, and the first of them twice.
+/// The reports on two parts, merged as XML; then the first of them twice.
 static MERGED: Case = Case {
     files: &[
         (
@@ -207,7 +207,7 @@ fn merged_files(rt: HostRuntime) -> Result<(), Fail> {
     expect_answer(&rt, folder.as_str(), &MERGED)
 }
 
-/// An earlier report: one trace passed that is false now, and one is gone.
+/// An earlier report: one of its traces passed and is false now, and one is gone.
 static COMPARED: Case = Case {
     files: &[(
         "@earlier",
@@ -301,7 +301,7 @@ g,2
     ),
 ];
 
-/// The report on all of them.
+/// The report on all seven traces.
 const ALL: &str = "\
 a false 2
 b passed
@@ -331,7 +331,7 @@ where
     write_file(rt, folder, report, run.output.as_slice())
 }
 
-/// Judges each of a number of parts. Adds the names of their reports to a command line.
+/// Judges each of `parts` parts. Adds the names of their reports to a command line.
 fn write_parts<R: Files + AllocGlobal + Threads + Wait + Clock + Sync>(
     rt: &R,
     folder: &str,
@@ -362,7 +362,7 @@ fn remove_parts<R: Files + AllocGlobal>(
     Ok(())
 }
 
-/// What is printed where the reports on a number of parts are merged.
+/// What is printed when the reports on `parts` parts are merged.
 fn merged<R: Files + AllocGlobal + Threads + Wait + Clock + Sync>(
     rt: &R,
     folder: &str,
@@ -379,7 +379,7 @@ where
     Ok(said)
 }
 
-/// Fails a test unless the reports on up to twenty-five parts are merged to the report on all.
+/// Fails a test unless merging the reports on 1 to 25 parts gives the report on all traces.
 fn expect_merged<R: Files + AllocGlobal + Threads + Wait + Clock + Sync>(
     rt: &R,
     folder: &str,

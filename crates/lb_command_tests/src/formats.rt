@@ -1,6 +1,6 @@
 //! Values of a trace in each format: clocks, an array, nil, a fault, and two levels of instances.
 
-/// Words and inputs, and what is printed as output and as an error, with the status.
+/// Words and inputs, and the output, the errors and the status.
 pub const FORMATS: &str = "\
 lbench --show t --all
 node keep(c: bool; x: int when c) returns (y: int);

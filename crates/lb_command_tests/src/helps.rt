@@ -1,7 +1,7 @@
-//! Rows on what is said of common mistakes in texts.
+//! Rows on the explanations of common mistakes in texts.
 
-/// What could stand where a token is refused, and how common mistakes in sources and traces are
-/// mended.
+/// The tokens that could stand where one is refused, and the help for common mistakes in sources
+/// and traces.
 pub const HELPS: &str = "\
 lbench --explain
 node main(x: int) returns (ok: bool);

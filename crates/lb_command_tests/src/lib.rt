@@ -1,9 +1,9 @@
-//! Tests of the command line, as users meet it: what is printed, what `--explain` tells of each
+//! Tests of the command line, as users meet it: what is printed, what `--explain` reports for each
 //! refusal and verdict, what `--show` shows, and the exit status. There is nothing else here.
 //!
-//! Most go over a table of text: the words, what stands in standard input, and what is wanted of
-//! the run, taken apart when the test runs, so that a further row costs no proof. What is wanted
-//! was written by hand, but for random programs.
+//! Most go over a table of text. A row has the words, the standard input, and what the run is to
+//! print, and is split when the test runs, so that a further row costs no proof. What is wanted was
+//! written by hand, but for random programs.
 #![tactic(auto)]
 
 #[cfg(test)]

@@ -24,7 +24,8 @@ const SOURCE: &str = "node main(open: bool) returns (ok: bool);
 let ok = open; tel
 ";
 
-/// What is printed as an error, and the status, where the output has room for some bytes.
+/// The errors that are printed, and the status, where the output goes to `room`, which may be
+/// short.
 pub fn answer_within<R: Files + AllocGlobal + Threads + Wait + Clock + Sync>(
     rt: &R,
     line: &str,
@@ -79,7 +80,8 @@ status 3";
     expect(&said, wanted)
 }
 
-/// How the explanation begins where the help went out in part; its length is not told here.
+/// The first bytes of the explanation where the help went out in part. The length of the help is
+/// left out.
 const FAILED_HELP: &str = "refused: E19 write
 lbench: error: the output failed after 9 of ";
 

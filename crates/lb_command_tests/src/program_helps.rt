@@ -1,6 +1,6 @@
-//! Rows on what is said of common mistakes in programs.
+//! Rows on the explanations of common mistakes in programs.
 
-/// How common mistakes in names, sizes, types, clocks and definitions are told.
+/// The explanations of common mistakes in names, sizes, types, clocks and definitions.
 pub const PROGRAM_HELPS: &str = "\
 lbench --explain
 node main(x: int^M) returns (ok: bool);

@@ -1,10 +1,10 @@
 //! Random programs, and each cell of the values of a trace.
 //!
-//! `bench/values` makes the programs, and works out the values by a naive reading of the equations,
-//! which is written apart, from the pages alone. Out of many these few have, taken together, each
-//! form on a clock and off it, and each verdict.
+//! `bench/values` makes the programs, and computes the values by a naive reading of the equations,
+//! which is written apart, from the pages alone. These few programs were chosen out of many:
+//! together they have each form on a clock and off it, and each verdict.
 
-/// Words and inputs, and what is printed as output and as an error, with the status.
+/// Words and inputs, and the output, the errors and the status.
 pub const RANDOM_VALUES: &str = "\
 lbench --show t0 --all --format csv
 node count(x: int) returns (n: int);

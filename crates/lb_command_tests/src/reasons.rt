@@ -1,6 +1,6 @@
-//! Why traces do not pass, as it is told.
+//! The reasons that are printed for traces that do not pass.
 
-/// Words and inputs, and what is printed as output and as an error, with the status.
+/// Words and inputs, and the output, the errors and the status.
 pub const REASONS: &str = "\
 lbench --observe safe --explain
 -- Heats below 18 degrees, and stops above 22.

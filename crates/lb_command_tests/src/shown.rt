@@ -1,6 +1,6 @@
-//! Values of traces, as they are printed.
+//! The values of traces, as they are printed.
 
-/// Words and inputs, and what is printed as output and as an error, with the status.
+/// Words and inputs, and the output, the errors and the status.
 pub const SHOWN: &str = "\
 lbench --show one
 -- Two levels of instances, an array, a clock, nil and a fault.

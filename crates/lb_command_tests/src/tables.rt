@@ -1,7 +1,7 @@
 //! The tables of text, and the loop over their rows.
 //!
-//! A row has the words of a command line in its first line, then the input, and after a mark what
-//! is wanted. `{3 a}` in a row stands for `aaa`, and `{1..2 x@ @, }` for `x1 1, x2 2, `.
+//! A row has the words of a command line in its first line, then the input, and behind a mark the
+//! wanted answer. `{3 a}` in a row stands for `aaa`, and `{1..2 x@ @, }` for `x1 1, x2 2, `.
 
 use crate::command_lines::{Run, expect, is_same};
 use crate::{
@@ -16,18 +16,18 @@ use std::test::Fail;
 use std::thread::Threads;
 use std::time::Clock;
 
-/// What the rows of a table ask about a run.
+/// The part of a run that the rows of a table ask for.
 #[derive(Clone, Copy)]
 enum Asks {
-    /// What is printed as an error, and the status.
+    /// The errors that are printed, and the status.
     Errors,
-    /// The same, and whether there is output.
+    /// The errors that are printed, the status, and whether there is output.
     Answers,
     /// All that is printed, and the status.
     Prints,
 }
 
-/// A table: what its rows ask about, the mark before what is wanted, and the rows.
+/// A table: the part of a run that it asks for, the mark before the wanted answer, and the rows.
 type Table = (Asks, &'static str, &'static str);
 
 const TEXTS: Table = (Asks::Errors, " => ", texts::TEXTS);
@@ -50,7 +50,7 @@ const REASONS: Table = (Asks::Prints, "\n=>\n", reasons::REASONS);
 
 const CONTROLLERS: Table = (Asks::Prints, "\n=>\n", controllers::CONTROLLERS);
 
-/// A turn with a number in place of each `@`.
+/// The text `turn` with a number in place of each `@`.
 fn push_numbered(row: &mut String, number: u32, turn: &str) -> Result<(), AllocError> {
     let mut pieces = turn.split('@');
     row.push_str(pieces.next().unwrap_or(""))?;
@@ -60,7 +60,7 @@ fn push_numbered(row: &mut String, number: u32, turn: &str) -> Result<(), AllocE
     Ok(())
 }
 
-/// The turns of `a@` from a first number to an end, one after the other.
+/// The text `turn` once for each number from `first` up to `end`, with the number for each `@`.
 fn push_turns(row: &mut String, first: u32, end: u32, turn: &str) -> Result<(), AllocError> {
     let has_number = turn.split_once('@').is_some();
     for number in first..end {
@@ -73,7 +73,7 @@ fn push_turns(row: &mut String, first: u32, end: u32, turn: &str) -> Result<(), 
     Ok(())
 }
 
-/// The first number and the end of `3` or `1..3`.
+/// The first number and the end of a range: 0 and 3 for `3`, 1 and 4 for `1..3`.
 fn numbers(text: &str) -> Option<(u32, u32)> {
     let (first, last) = match text.split_once("..") {
         Some((first, last)) => (first, last),
@@ -83,14 +83,15 @@ fn numbers(text: &str) -> Option<(u32, u32)> {
     Some((first.parse::<u32>().ok()?, last.saturating_add(1)))
 }
 
-/// Of `3 a@}` and what follows it, the numbers, the turn and what follows.
+/// The parts of `3 a@}` and a rest: the range of `3`, the turn `a@`, and the rest.
 fn repeated(piece: &str) -> Option<((u32, u32), &str, &str)> {
     let (repeated, rest) = piece.split_once('}')?;
     let (count, turn) = repeated.split_once(' ')?;
     Some((numbers(count)?, turn, rest))
 }
 
-/// The row in which all turns are written out, and whether each brace has a number of turns.
+/// Writes `short` to `row` with all turns written out. Returns whether each brace has a number of
+/// turns.
 fn write_out(row: &mut String, short: &str) -> Result<bool, AllocError> {
     let mut pieces = short.split('{');
     row.clear();
@@ -105,7 +106,7 @@ fn write_out(row: &mut String, short: &str) -> Result<bool, AllocError> {
     Ok(true)
 }
 
-/// What a run answers on what a row asks.
+/// The answer of a run to a row.
 fn push_answer<R: Files + AllocGlobal + Threads + Wait + Clock + Sync>(
     rt: &R,
     asks: Asks,
@@ -123,7 +124,8 @@ where
     }
 }
 
-/// Whether a row is answered as it wants, with the answer. A row without the mark is not.
+/// Whether `said`, the answer to a row, is the wanted one. A row without the mark has no wanted
+/// answer.
 fn is_right<R: Files + AllocGlobal + Threads + Wait + Clock + Sync>(
     rt: &R,
     table: Table,
@@ -142,8 +144,8 @@ where
     Ok(is_same(said.as_str(), wanted))
 }
 
-/// Whether each row of a table is answered as it wants. The first that is not stays in `row`, with
-/// its answer in `said`; a row with a brace without a number of turns is one.
+/// Whether each row of a table has the wanted answer. The first that has not stays in `row`, with
+/// its answer in `said`. A row with a brace without a number of turns is wrong too.
 fn is_answered<R: Files + AllocGlobal + Threads + Wait + Clock + Sync>(
     rt: &R,
     table: Table,
@@ -162,8 +164,7 @@ where
     Ok(true)
 }
 
-/// The first row of a table that is answered otherwise than it wants, and its answer. Nothing where
-/// there is none.
+/// The first row of a table with a wrong answer, and that answer. Nothing where there is none.
 fn first_wrong<R: Files + AllocGlobal + Threads + Wait + Clock + Sync>(
     rt: &R,
     table: Table,

@@ -1,4 +1,4 @@
-//! What is answered on a case text: the report and the status, or why there is none.
+//! The answer on a case text: the report and its status, or the refusal.
 
 ghost use Rattle.std.specs.Prelude.{◌<◌, IfOk};
 
@@ -23,7 +23,7 @@ pub fn push_refusal(said: &mut String, error: &BenchError) -> Result<(), AllocEr
     }
 }
 
-/// The node `main`, and how its runs are spread: over 64 workers and 64 lanes at most.
+/// Options to test the node `main` by `workers` workers in `lanes` lanes, at most 64 of each.
 pub fn spread(
     alloc: Global,
     workers: u32,
@@ -37,7 +37,7 @@ pub fn spread(
     Ok(Options::new(node, None, workers.min(64), lanes, by_length))
 }
 
-/// The node under test, `main`, and an observer. An empty name is none.
+/// Options to test the node `main` with `observer`; an empty name is no observer.
 fn options(alloc: Global, observer: &str) -> Result<Options, AllocError> {
     let observer = if observer.is_empty() {
         None
@@ -59,14 +59,12 @@ fn push_outcome(said: &mut String, outcome: &Result<Report, BenchError>) -> Resu
     }
 }
 
-/// The same, and lets it go.
+/// `push_outcome` for an outcome that is then dropped.
 fn push_last(said: &mut String, outcome: Result<Report, BenchError>) -> Result<(), AllocError> {
-    let pushed = push_outcome(said, &outcome);
-    drop(outcome);
-    pushed
+    push_outcome(said, &outcome)
 }
 
-/// What a run on a case text answers.
+/// The answer of a run on a case text.
 pub fn push_run<R: AllocGlobal + Threads + Sync>(
     rt: &R,
     case: &[u8],
@@ -76,7 +74,7 @@ pub fn push_run<R: AllocGlobal + Threads + Sync>(
     push_last(said, run_case(rt, case, options))
 }
 
-/// What is answered on a case text. An empty name is no observer.
+/// The answer on a case text. An empty name is no observer.
 pub fn push_answer<R: AllocGlobal + Threads + Sync>(
     rt: &R,
     case: &str,
@@ -87,8 +85,8 @@ pub fn push_answer<R: AllocGlobal + Threads + Sync>(
     push_run(rt, case.as_bytes(), &options, said)
 }
 
-/// Whether a line of traces can stand with each cell in quotes: it has no quote and no carriage
-/// return.
+/// Whether the cells of a line of traces can be put in quotes: the line is not empty, and has no
+/// quote and no carriage return.
 fn is_plain(line: &str) -> bool {
     for letter in line.chars() {
         if letter == '"' || letter == '\r' {
@@ -111,7 +109,7 @@ fn push_quoted_line(line: &str, quoted: &mut String) -> Result<(), AllocError> {
     quoted.push_str("\"\n")
 }
 
-/// A line of traces with each cell in quotes, or as it stands.
+/// A line of traces, with each cell in quotes if the line is plain.
 fn push_line(line: &str, quoted: &mut String) -> Result<(), AllocError> {
     if is_plain(line) {
         return push_quoted_line(line, quoted);
@@ -129,8 +127,8 @@ fn push_quoted(case: &str, quoted: &mut String) -> Result<(), AllocError> {
     Ok(())
 }
 
-/// What is answered on a case text with each cell of its traces in quotes, or on both texts in
-/// rounds, where that is not what is wanted.
+/// The answers on a case text that differ from `wanted`: with each cell of its traces in quotes
+/// and, without an observer, in rounds.
 fn push_unlike_quoted<R: AllocGlobal + Threads + Sync>(
     rt: &R,
     case: &str,
@@ -150,8 +148,8 @@ fn push_unlike_quoted<R: AllocGlobal + Threads + Sync>(
     Ok(())
 }
 
-/// What is answered on a case text after its first line, which may name an observer; and what is
-/// answered with each cell in quotes, or in rounds, where that is something else.
+/// The answer on a case text behind its first line, which may name an observer; then the answers
+/// that differ with each cell in quotes, or in rounds.
 pub fn push_case<R: AllocGlobal + Threads + Sync>(
     rt: &R,
     asked: &str,

@@ -10,22 +10,21 @@ use crate::sources::checked_of;
 use crate::texts::{around, expect, first_line, is_same};
 use crate::{forms, random, runs};
 use lb_check::Verdict;
-use lb_flat::{Flat, Ordered, eval_trace, expand, order};
+use lb_flat::{Ordered, eval_trace, expand, order};
 use lb_lanes::Plane;
 use lb_report::split_case;
 use lb_sim::{
     BatchRoom, BatchRun, Inputs, LaneProgram, compile, has_kinds, run_batch, run_queue_in,
 };
-use lb_static::Signature;
-use lb_syntax::{Source, parse};
+use lb_syntax::parse;
 use lb_trace::read_traces;
 use lb_traces::TraceSet;
 use std::alloc::{AllocError, Global};
 use std::test::Fail;
 
-// ## What is asked
+// ## Questions
 
-/// What is asked of the lanes of a case.
+/// A question on the lanes of a case.
 #[derive(Clone, Copy)]
 enum Question<'a> {
     /// The verdicts of all traces, 64 at a time, about three of them in each lane.
@@ -58,7 +57,7 @@ fn push_verdict(verdict: Verdict, said: &mut String) -> Result<(), AllocError> {
     }
 }
 
-// Whether these are at most 64 numbers of traces.
+// Whether `numbers` are at most 64 numbers of traces of `set`.
 fn are_members(set: &TraceSet, numbers: &[u32]) -> bool
     ensures members { result ≡ true → All (λ k. k < length set.now.traces) numbers.now }
     ensures few { result ≡ true → length numbers.now ≤ 64 }
@@ -74,7 +73,7 @@ fn are_members(set: &TraceSet, numbers: &[u32]) -> bool
 
 // ## Whole batches
 
-// The verdict of a trace in a lane, and that it is another one than alone.
+// The verdict of a member in its lane, marked if `eval_trace` gives another one.
 fn push_judged(
     alloc: Global,
     ordered: &Ordered,
@@ -93,7 +92,7 @@ fn push_judged(
     said.push('\n')
 }
 
-// The verdict of each member in its lane, if there are such traces.
+// The verdict of each member in its lane, if the members are traces of `set`.
 fn push_members(
     alloc: Global,
     ordered: &Ordered,
@@ -115,7 +114,7 @@ fn push_members(
     Ok(())
 }
 
-// The same where about three members run in each lane, one after the other.
+// `push_members` where about three members run in each lane, one after the other.
 fn push_queue(
     alloc: Global,
     ordered: &Ordered,
@@ -137,7 +136,7 @@ fn push_queue(
     Ok(())
 }
 
-// The same of all traces, 64 at a time.
+// `push_queue` for all traces, 64 at a time.
 fn push_all(
     alloc: Global,
     ordered: &Ordered,
@@ -165,7 +164,7 @@ fn numbers_of(alloc: Global, text: &str) -> Result<Vec<u32>, AllocError> {
     Ok(numbers)
 }
 
-// The same of batches that a text spells.
+// `push_members` for each batch that a text spells: `0 1;2` is two batches.
 fn push_batches(
     alloc: Global,
     ordered: &Ordered,
@@ -183,7 +182,7 @@ fn push_batches(
 
 // ## Step by step
 
-// The lanes whose members have an instant.
+// The lanes whose members have instant `t`.
 fn lanes_at(set: &TraceSet, members: &[u32], t: u32) -> Plane
     requires members { All (λ k. k < length set.now.traces) members.now }
     requires few { length members.now ≤ 64 }
@@ -197,7 +196,7 @@ fn lanes_at(set: &TraceSet, members: &[u32], t: u32) -> Plane
     Plane(lanes)
 }
 
-// Whether each of these lanes has a member that has the instant.
+// Whether each lane of `live` has a member with instant `t`.
 fn have_instant(set: &TraceSet, members: &[u32], t: u32, live: Plane) -> bool
     requires members { All (λ k. k < length set.now.traces) members.now }
     requires few { length members.now ≤ 64 }
@@ -211,7 +210,7 @@ fn have_instant(set: &TraceSet, members: &[u32], t: u32, live: Plane) -> bool
     true
 }
 
-// The lanes that are not active, each with its verdict, and an active one that has not passed.
+// The lanes that are not active, each with its verdict, and the active ones that have not passed.
 fn push_lanes(run: &BatchRun<'_>, count: u32, said: &mut String) -> Result<(), AllocError>
     requires { count ≤ 64 }
 {
@@ -227,7 +226,7 @@ fn push_lanes(run: &BatchRun<'_>, count: u32, said: &mut String) -> Result<(), A
     said.push('\n')
 }
 
-// One instant of the lanes that were live and whose members have it, and the lanes after it.
+// Runs one instant in the live lanes whose members have it; then the lanes after it.
 fn push_step(
     run: &mut BatchRun<'_>,
     inputs: &mut Inputs,
@@ -253,7 +252,7 @@ fn push_step(
     push_lanes(run, members.len() as u32, said)
 }
 
-// The lanes before the first instant and after each of ten.
+// The lanes before the first instant, and after each of ten instants.
 fn push_steps(
     run: &mut BatchRun<'_>,
     inputs: &mut Inputs,
@@ -274,7 +273,7 @@ fn push_steps(
     Ok(())
 }
 
-// The same of all traces of a set, if they are few and the inputs of the program are theirs.
+// `push_steps` for all traces of a set, if they are at most 64 and have the inputs of the program.
 fn push_run(
     alloc: Global,
     program: &LaneProgram<'_>,
@@ -291,29 +290,10 @@ fn push_run(
         return said.push_str("no run");
     }
     let mut run = BatchRun::new(alloc, program, members.len() as u32)?;
-    let pushed = push_steps(&mut run, &mut inputs, set, members, said);
-    drop(run);
-    drop(inputs);
-    pushed
+    push_steps(&mut run, &mut inputs, set, members, said)
 }
 
 // ## Cases
-
-// What the lanes of a program answer.
-fn push_in_lanes(
-    alloc: Global,
-    ordered: &Ordered,
-    program: &LaneProgram<'_>,
-    set: &TraceSet,
-    question: Question<'_>,
-    said: &mut String,
-) -> Result<(), AllocError> {
-    match question {
-        Question::All => push_all(alloc, ordered, program, set, said),
-        Question::Members(batches) => push_batches(alloc, ordered, program, set, batches, said),
-        Question::Steps => push_run(alloc, program, set, said),
-    }
-}
 
 fn push_on_set(
     alloc: Global,
@@ -323,40 +303,21 @@ fn push_on_set(
     said: &mut String,
 ) -> Result<(), AllocError> {
     let program = compile(alloc, ordered)?;
-    let pushed = push_in_lanes(alloc, ordered, &program, set, question, said);
-    drop(program);
-    pushed
-}
-
-/// The equations of a program, without an order, and its signature, if it is accepted.
-pub fn expanded(alloc: Global, tree: &Source, observer: &str) -> Option<(Flat, Signature)> {
-    let checked = checked_of(alloc, tree, observer)?;
-    let flat = expand(alloc, &checked).ok();
-    let signature = checked.into_signature();
-    Some((flat?, signature))
+    match question {
+        Question::All => push_all(alloc, ordered, &program, set, said),
+        Question::Members(batches) => { push_batches(alloc, ordered, &program, set, batches, said) }
+        Question::Steps => push_run(alloc, &program, set, said),
+    }
 }
 
 /// The equations of a case and its traces, if its texts are accepted. An empty name is no observer.
 pub fn prepared(alloc: Global, case: &str, observer: &str) -> Option<(Ordered, TraceSet)> {
     let (source, traces) = split_case(case.as_bytes());
     let tree = parse(alloc, source).ok()?;
-    let expanded = expanded(alloc, &tree, observer);
-    drop(tree);
-    let (flat, signature) = expanded?;
-    let ordered = order(alloc, flat).ok();
-    ordered.zip(read_traces(alloc, &signature, traces).ok())
-}
-
-fn push_on_prepared(
-    alloc: Global,
-    prepared: &Option<(Ordered, TraceSet)>,
-    question: Question<'_>,
-    said: &mut String,
-) -> Result<(), AllocError> {
-    match prepared {
-        Some((ordered, set)) => push_on_set(alloc, ordered, set, question, said),
-        None => said.push_str("refused"),
-    }
+    let checked = checked_of(alloc, &tree, observer)?;
+    let flat = expand(alloc, &checked).ok();
+    let set = read_traces(alloc, &checked.into_signature(), traces).ok()?;
+    Some((order(alloc, flat?).ok()?, set))
 }
 
 fn push_on_case(
@@ -366,14 +327,14 @@ fn push_on_case(
     question: Question<'_>,
     said: &mut String,
 ) -> Result<(), AllocError> {
-    let prepared = prepared(alloc, case, observer);
-    let pushed = push_on_prepared(alloc, &prepared, question, said);
-    drop(prepared);
-    pushed
+    match &prepared(alloc, case, observer) {
+        Some((ordered, set)) => push_on_set(alloc, ordered, set, question, said),
+        None => said.push_str("refused"),
+    }
 }
 
-/// What is answered on a case whose records are told by their count: its first line has the members
-/// of some batches, `steps`, or nothing.
+/// The answer on a case with counted records. Its first line has the members of some batches,
+/// `steps`, or nothing.
 pub fn push_lanes_of(alloc: Global, asked: &str, said: &mut String) -> Result<(), AllocError> {
     let (line, short) = first_line(asked);
     let mut case = String::new(alloc);
@@ -390,9 +351,9 @@ pub fn push_lanes_of(alloc: Global, asked: &str, said: &mut String) -> Result<()
 
 // ## Rows
 
-/// The lanes of one batch in each order; of traces in which a clock ticks first at other instants,
-/// and in which a memory stays nil for other whiles; of sixty-five lengths, so that the second
-/// batch has one trace; of traces of which some end early, one of these replaced, and step by step.
+/// Cases: one batch in each order; traces in which a clock first ticks at different instants, or a
+/// memory stays nil for different times; sixty-five lengths, so that the second batch has one
+/// trace; traces of which some end early, one of them replaced, and step by step.
 pub const BATCHES: &str = "\
 0 1 2;0 2 1;1 0 2;1 2 0;2 0 1;2 1 0
 node cnt(x: int) returns (n: int); let n = x -> pre n + x; tel
@@ -641,7 +602,7 @@ fn is_same_in_lanes(alloc: Global, row: &str, said: &mut String) -> Result<bool,
     })
 }
 
-// The first of some cases that has other verdicts in lanes, which are said then.
+// The first of some cases that has other verdicts in lanes; `said` has these verdicts then.
 fn other_in_lanes<'a>(
     alloc: Global,
     rows: &'a str,
@@ -655,7 +616,8 @@ fn other_in_lanes<'a>(
     Ok(None)
 }
 
-// The first of all cases that has other verdicts in lanes, and these. Nothing where there is none.
+// The first of all cases that has other verdicts in lanes, behind these. Nothing where there is
+// none.
 fn first_in_lanes(alloc: Global) -> Result<String, AllocError> {
     let mut said = String::new(alloc);
     for rows in [runs::REPORTS, forms::FORMS, random::PROGRAMS] {
@@ -666,7 +628,7 @@ fn first_in_lanes(alloc: Global) -> Result<String, AllocError> {
     Ok(String::new(alloc))
 }
 
-/// Each program of the whole language has the same verdicts in lanes.
+/// Each program of the whole language has the verdicts of its report in lanes too.
 #[test]
 fn programs_in_lanes(rt: HostRuntime) -> Result<(), Fail> {
     expect(&first_in_lanes(rt.alloc()), "")

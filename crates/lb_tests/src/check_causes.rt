@@ -1,16 +1,16 @@
-//! Why a program breaks a rule of types, clocks or definitions, and where: each place, type and
-//! clock by hand, since no contract speaks of them.
+//! The rules of types, clocks and definitions that programs break, and where. Each place, type and
+//! clock was found by hand, since no contract speaks of them.
 //!
 //! The last line of a source names its node under test, and perhaps its observer after a comma.
-//! Places are lines and columns; the first is that of the statement or declaration, the second that
-//! of what is at fault, and one of a sign stands in brackets.
+//! Places are lines and columns: first that of the statement or declaration, then that of the
+//! fault, and in brackets that of a sign.
 
 use crate::texts::{around, last_line, named};
 use lb_check::{
     CheckError, Checked, ClockFault, DefinitionFault, Part, SourceClock, SourceType, TypeFault,
     TypeRule, check,
 };
-use lb_static::{CallPath, CallStep, Start, elaborate};
+use lb_static::{CallPath, Start, elaborate};
 use lb_syntax::{Source, line_column, parse};
 use std::alloc::{AllocError, Global};
 
@@ -210,17 +210,7 @@ fn push_sign(text: &str, sign: Option<u32>, said: &mut String) -> Result<(), All
     Ok(())
 }
 
-/// `, add 2:9 #1`
-fn push_step(text: &str, step: &CallStep, said: &mut String) -> Result<(), AllocError> {
-    write!(said, ", {}", step.node.as_str())?;
-    push_place(text, step.offset, said)?;
-    match step.index {
-        Some(index) => write!(said, " #{index}"),
-        None => Ok(()),
-    }
-}
-
-/// `main`, or the way from there: `main, two 4:5, add 2:9 #1`.
+/// ` by main`, or the path from there: ` by main, two 4:5, add 2:9 #1`.
 fn push_path(text: &str, path: &CallPath, said: &mut String) -> Result<(), AllocError> {
     let start = match path.start {
         Start::UnderTest => "by",
@@ -228,7 +218,11 @@ fn push_path(text: &str, path: &CallPath, said: &mut String) -> Result<(), Alloc
     };
     write!(said, " {start} {}", path.node.as_str())?;
     for step in &path.steps {
-        push_step(text, step, said)?;
+        write!(said, ", {}", step.node.as_str())?;
+        push_place(text, step.offset, said)?;
+        if let Some(index) = step.index {
+            write!(said, " #{index}")?;
+        }
     }
     Ok(())
 }
@@ -242,7 +236,7 @@ fn push_types(types: &[SourceType], said: &mut String) -> Result<(), AllocError>
     Ok(())
 }
 
-/// What has the wrong type, or how many there are for how many.
+/// The rule of types that is broken; for a wrong count, the number found and the number wanted.
 fn push_rule(rule: TypeRule, said: &mut String) -> Result<(), AllocError> {
     match rule {
         TypeRule::ArgumentCount { found, wanted } => {
@@ -253,7 +247,7 @@ fn push_rule(rule: TypeRule, said: &mut String) -> Result<(), AllocError> {
     }
 }
 
-/// What breaks a rule of types.
+/// The fault against a rule of types.
 fn push_type(text: &str, fault: &TypeFault, said: &mut String) -> Result<(), AllocError> {
     push_part(
         text,
@@ -284,7 +278,7 @@ fn push_clock(
     }
 }
 
-/// What breaks a rule of clocks.
+/// The fault against a rule of clocks.
 fn push_clocks(text: &str, fault: &ClockFault, said: &mut String) -> Result<(), AllocError> {
     push_part(
         text,
@@ -301,16 +295,7 @@ fn push_clocks(text: &str, fault: &ClockFault, said: &mut String) -> Result<(), 
     push_path(text, &fault.path, said)
 }
 
-/// Where a variable is defined.
-fn push_defined(text: &str, definitions: &[u32], said: &mut String) -> Result<(), AllocError> {
-    for definition in definitions {
-        said.push_str(" defined")?;
-        push_place(text, *definition, said)?;
-    }
-    Ok(())
-}
-
-/// What breaks a rule of definitions.
+/// The fault against a rule of definitions.
 fn push_definition(
     text: &str,
     fault: &DefinitionFault,
@@ -328,11 +313,14 @@ fn push_definition(
         write!(said, " {}", fault.name.as_str())?;
     }
     push_place(text, fault.offset, said)?;
-    push_defined(text, &fault.definitions, said)?;
+    for definition in &fault.definitions {
+        said.push_str(" defined")?;
+        push_place(text, *definition, said)?;
+    }
     push_path(text, &fault.path, said)
 }
 
-/// What breaks a rule, if a rule is broken.
+/// The cause of a refusal.
 fn push_error(text: &str, error: &CheckError, said: &mut String) -> Result<(), AllocError> {
     match error {
         CheckError::Memory => said.push_str("no memory"),
@@ -342,7 +330,7 @@ fn push_error(text: &str, error: &CheckError, said: &mut String) -> Result<(), A
     }
 }
 
-/// What breaks a rule, if a rule is broken.
+/// `accepted`, or the cause of the refusal.
 fn push_checked(
     text: &str,
     checked: &Result<Checked, CheckError>,
@@ -354,7 +342,7 @@ fn push_checked(
     }
 }
 
-/// What is answered on a tree with this node under test, and this observer unless it is empty.
+/// The answer on a tree with this node under test, and this observer unless it is empty.
 fn push_cause(
     alloc: Global,
     text: &str,
@@ -363,16 +351,13 @@ fn push_cause(
     observer: &str,
     said: &mut String,
 ) -> Result<(), AllocError> {
-    let Some(elab) = elaborate(alloc, tree, node, named(observer)).ok() else {
+    let Ok(elab) = elaborate(alloc, tree, node, named(observer)) else {
         return said.push_str("no program");
     };
-    let checked = check(alloc, elab);
-    let pushed = push_checked(text, &checked, said);
-    drop(checked);
-    pushed
+    push_checked(text, &check(alloc, elab), said)
 }
 
-/// What is answered on a source, of which the last line is no part.
+/// The answer on a source. The last line is no part of the source.
 pub fn push_answer(alloc: Global, asked: &str, said: &mut String) -> Result<(), AllocError> {
     let (text, last) = last_line(asked);
     let (node, observer) = around(last, ",");

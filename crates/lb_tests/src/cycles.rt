@@ -3,11 +3,20 @@
 //! Elements are numbered as variables are declared, those of arrays one after the other. Each of a
 //! cycle needs the next one at the same instant, and the last one the first.
 
-use crate::batches::expanded;
-use lb_flat::{ElementId, Flat, OrderError, Ordered, order};
-use lb_static::Signature;
-use lb_syntax::{Source, SyntaxError, parse};
+use crate::sources::checked_of;
+use lb_flat::{ElementId, OrderError, expand, order};
+use lb_syntax::parse;
 use std::alloc::{AllocError, Global};
+
+// The cycle of a source; none if it has an order or is refused sooner.
+fn cycle_of(alloc: Global, source: &str) -> Option<Vec<ElementId>> {
+    let tree = parse(alloc, source.as_bytes()).ok()?;
+    let checked = checked_of(alloc, &tree, "")?;
+    match order(alloc, expand(alloc, &checked).ok()?) {
+        Err(OrderError::Cycle(cycle)) => Some(Box::into_inner(cycle).elements),
+        _ => None,
+    }
+}
 
 // The place of the least number of a cycle.
 fn least_of(cycle: &[ElementId]) -> usize {
@@ -20,65 +29,22 @@ fn least_of(cycle: &[ElementId]) -> usize {
     least
 }
 
-fn push_elements(elements: &[ElementId], said: &mut String) -> Result<(), AllocError> {
-    for element in elements {
+// A cycle from its least number on.
+fn push_cycle(cycle: &[ElementId], said: &mut String) -> Result<(), AllocError> {
+    let least = least_of(cycle);
+    said.push_str("cycle")?;
+    for element in cycle.iter().skip(least).chain(cycle.iter().take(least)) {
         write!(said, " {}", element.0)?;
     }
     Ok(())
 }
 
-// A cycle from its least number on.
-fn push_cycle(cycle: &[ElementId], said: &mut String) -> Result<(), AllocError> {
-    let (last, first) = cycle.split_at(least_of(cycle).min(cycle.len()));
-    said.push_str("cycle")?;
-    push_elements(first, said)?;
-    push_elements(last, said)
-}
-
-// The cycle of some equations, if they have no order.
-fn push_ordered(
-    ordered: &Result<Ordered, OrderError>,
-    said: &mut String,
-) -> Result<(), AllocError> {
-    match ordered {
-        Err(OrderError::Cycle(cycle)) => push_cycle(cycle.elements.as_slice(), said),
-        _ => said.push_str("no cycle"),
-    }
-}
-
-// The cycle of a program, if it is accepted but for that.
-fn push_cycle_of(
-    alloc: Global,
-    expanded: Option<(Flat, Signature)>,
-    said: &mut String,
-) -> Result<(), AllocError> {
-    let Some((flat, _)) = expanded else {
-        return said.push_str("no cycle");
-    };
-    let ordered = order(alloc, flat);
-    let pushed = push_ordered(&ordered, said);
-    drop(ordered);
-    pushed
-}
-
-// The cycle of a tree.
-fn push_cycle_in(
-    alloc: Global,
-    parsed: &Result<Source, SyntaxError>,
-    said: &mut String,
-) -> Result<(), AllocError> {
-    match parsed {
-        Ok(tree) => push_cycle_of(alloc, expanded(alloc, tree, ""), said),
-        Err(_) => said.push_str("no cycle"),
-    }
-}
-
 /// The cycle of a source.
 pub fn push_answer(alloc: Global, asked: &str, said: &mut String) -> Result<(), AllocError> {
-    let parsed = parse(alloc, asked.as_bytes());
-    let pushed = push_cycle_in(alloc, &parsed, said);
-    drop(parsed);
-    pushed
+    match &cycle_of(alloc, asked) {
+        Some(cycle) => push_cycle(cycle.as_slice(), said),
+        None => said.push_str("no cycle"),
+    }
 }
 
 // Sources, and the numbers of the elements of their cycles. The input and the output come first.

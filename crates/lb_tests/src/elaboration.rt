@@ -1,7 +1,7 @@
-//! Programs and what stands for them before any type is looked at, or why they are refused.
+//! Sources and the answers of `elaborate`: the instances and the inputs, or the refusal.
 //!
-//! The names that the refusals of names, static values and sizes hold stand in no contract. The
-//! inputs of the last program have 2^32 scalar elements, one more than 32 bits count.
+//! No contract says which names a refusal of names, static values or sizes holds. The inputs of the
+//! last program have 2^32 scalar elements, one more than 32 bits count.
 
 /// Sources, each with its node under test, and perhaps an observer, in the last line.
 pub const CASES: &str = "node main(x: int) returns (ok: bool); let ok = x > 0; tel

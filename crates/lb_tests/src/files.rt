@@ -11,10 +11,10 @@ use std::test::Fail;
 use std::thread::Threads;
 use std::{env, fs};
 
-/// A node whose verdict is false where an integer is 12.
+/// A node that is false where its input is 12 or more.
 const SOURCE: &str = "node main(x: int) returns (ok: bool); let ok = x < 12; tel";
 
-/// A trace text of so many instants.
+/// A trace text of `count` instants. One more instant, with 12, follows each 99th.
 fn traces_of(alloc: Global, count: u32) -> Result<String, AllocError> {
     let mut text = String::from_str(alloc, "trace,x\n")?;
     for k in 0..count {
@@ -26,7 +26,7 @@ fn traces_of(alloc: Global, count: u32) -> Result<String, AllocError> {
     Ok(text)
 }
 
-/// The answer on a trace file by a number of workers, where it is not the one that is wanted.
+/// The answer on a trace file by `workers` workers, if it is not `wanted`.
 fn push_other<R>(
     rt: &R,
     path: &str,
@@ -49,8 +49,8 @@ where
     push_unlike(wanted, other.as_str(), workers, 0, said)
 }
 
-/// Says what is otherwise where a large file is not read in sections as its text is judged, or is
-/// read so by one worker.
+/// The wrong answers on a large file. Three workers read it in sections and judge it as its text;
+/// one worker reads it as a whole.
 fn push_large<R>(rt: &R, path: &str, said: &mut String) -> Result<(), Fail>
 where
     R: Files + AllocGlobal + Threads + Sync,
@@ -65,7 +65,7 @@ where
     Ok(())
 }
 
-/// Says what is otherwise where a file that is not large is not left to one worker.
+/// The wrong answer on a short file. Four workers leave it to be read as a whole.
 fn push_short<R>(rt: &R, path: &str, said: &mut String) -> Result<(), Fail>
 where
     R: Files + AllocGlobal + Threads + Sync,
@@ -77,8 +77,7 @@ where
     Ok(())
 }
 
-/// A large file is not read as its text is judged, or a short one not left to one worker: what is
-/// answered then.
+/// The wrong answers on a large file and on a short one.
 fn push_both<R>(rt: &R, path: &str, said: &mut String) -> Result<(), Fail>
 where
     R: Files + AllocGlobal + Threads + Sync,

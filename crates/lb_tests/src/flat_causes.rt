@@ -1,17 +1,18 @@
-//! Why a program is too large (E12), and where the elements of a cycle are defined (E13).
+//! The sizes of programs that are too large (E12), and the definitions of the elements of cycles
+//! (E13).
 //!
-//! An element of a cycle is told in a line of its own, with the place of what defines it and the
-//! way to its instance: the node under test or the observer, and each call from there. They stand
-//! as they need one another, from the one with the least number on.
+//! Each element of a cycle has a line of its own, with the place of what defines it and the path to
+//! its instance: the node under test or the observer, and each call from there. Each element needs
+//! the next one; the first has the least number.
 
 use crate::sources::checked_of;
 use lb_check::Checked;
-use lb_flat::{Cycle, Flat, FlatError, OrderError, SizeFault, expand, order, with_places};
+use lb_flat::{Cycle, FlatError, OrderError, expand, order, with_places};
 use lb_static::CallPath;
 use lb_syntax::{line_column, parse};
 use std::alloc::{AllocError, Global};
 
-/// ` at 3:5`: where the byte at an offset stands.
+/// ` at 3:5`: the line and the column of an offset.
 fn push_place(text: &str, offset: u32, said: &mut String) -> Result<(), AllocError> {
     let bytes = text.as_bytes();
     if bytes.len() >= u32::MAX as usize {
@@ -34,7 +35,7 @@ fn push_path(text: &str, path: &CallPath, said: &mut String) -> Result<(), Alloc
     Ok(())
 }
 
-/// The element at a place of a cycle.
+/// Element `k` of a cycle, with the place of its definition and the path to its instance.
 fn push_element(text: &str, cycle: &Cycle, k: usize, said: &mut String) -> Result<(), AllocError> {
     let Some(place) = cycle.places.get(k) else {
         return said.push_str("\n no place");
@@ -73,63 +74,30 @@ fn push_cycle(text: &str, cycle: &Cycle, said: &mut String) -> Result<(), AllocE
     Ok(())
 }
 
-fn push_size(fault: &SizeFault, said: &mut String) -> Result<(), AllocError> {
-    let least = if fault.is_least { "at least " } else { "" };
-    write!(said, "\n size {least}{} of {}", fault.size, fault.limit)
-}
-
-/// A cycle that has its places.
-fn push_placed(text: &str, cause: &OrderError, said: &mut String) -> Result<(), AllocError> {
-    match cause {
-        OrderError::Cycle(cycle) => push_cycle(text, cycle, said),
-        OrderError::Memory => said.push_str("\n memory"),
-    }
-}
-
-/// Why equations have no order.
-fn push_disorder(
-    alloc: Global,
-    text: &str,
-    checked: &Checked,
-    flat: Flat,
-    said: &mut String,
-) -> Result<(), AllocError> {
-    let Some(cause) = order(alloc, flat).err() else {
-        return said.push_str("\n in order");
-    };
-    let placed = with_places(alloc, checked, cause);
-    let pushed = push_placed(text, &placed, said);
-    drop(placed);
-    pushed
-}
-
 fn push_order(
     alloc: Global,
     text: &str,
     checked: &Checked,
     said: &mut String,
 ) -> Result<(), AllocError> {
-    match expand(alloc, checked) {
-        Ok(flat) => push_disorder(alloc, text, checked, flat, said),
-        Err(FlatError::Large(fault)) => push_size(&fault, said),
-        Err(FlatError::Memory) => said.push_str("\n memory"),
+    let flat = match expand(alloc, checked) {
+        Ok(flat) => flat,
+        Err(FlatError::Large(fault)) => {
+            let least = if fault.is_least { "at least " } else { "" };
+            return write!(said, "\n size {least}{} of {}", fault.size, fault.limit);
+        }
+        Err(FlatError::Memory) => return said.push_str("\n memory"),
+    };
+    match order(alloc, flat) {
+        Ok(_) => said.push_str("\n in order"),
+        Err(cause) => match with_places(alloc, checked, cause) {
+            OrderError::Cycle(cycle) => push_cycle(text, &cycle, said),
+            OrderError::Memory => said.push_str("\n memory"),
+        },
     }
 }
 
-/// Why a program is refused, if it is refused no sooner.
-fn push_refusal(
-    alloc: Global,
-    text: &str,
-    checked: &Option<Checked>,
-    said: &mut String,
-) -> Result<(), AllocError> {
-    match checked {
-        Some(checked) => push_order(alloc, text, checked, said),
-        None => said.push_str("\n refused before"),
-    }
-}
-
-/// Why a source is refused, with an observer that is named; an empty name is none.
+/// The cause for which a source is refused, with `observer`; an empty name is no observer.
 pub fn push_cause(
     alloc: Global,
     observer: &str,
@@ -139,10 +107,10 @@ pub fn push_cause(
     let Ok(tree) = &parse(alloc, text.as_bytes()) else {
         return said.push_str("\n refused before");
     };
-    let checked = checked_of(alloc, tree, observer);
-    let pushed = push_refusal(alloc, text, &checked, said);
-    drop(checked);
-    pushed
+    match &checked_of(alloc, tree, observer) {
+        Some(checked) => push_order(alloc, text, checked, said),
+        None => said.push_str("\n refused before"),
+    }
 }
 
 /// Sources without an observer. Cycles: after comments, tabs and carriage returns; in what is

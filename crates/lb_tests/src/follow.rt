@@ -1,4 +1,4 @@
-//! The live report: what goes out, and when.
+//! The live report: the bytes that go out, and when.
 
 ghost use Rattle.std.specs.Prelude.{◌<◌};
 
@@ -18,9 +18,9 @@ use std::test::Fail;
 use std::thread::Threads;
 use std::time::Clock;
 
-// ## Whatever the workers and the batches
+// ## Any number of workers and lanes
 
-// The case of a row whose records are told by their count, and how its live report ends, with the
+// Writes the case of a row with counted records, and the answer of its live report: `whole` and the
 // report.
 fn write_case(
     short: &str,
@@ -38,7 +38,7 @@ fn write_case(
     report.push_str(around(row.as_str(), "status ").0)
 }
 
-// How a live report ended.
+// The end of a live report: `whole`, the number of a refusal, or the cause of a stop.
 fn push_end(answer: &Result<(), FollowFault>, said: &mut String) -> Result<(), AllocError> {
     match answer {
         Ok(()) => said.push_str("whole"),
@@ -47,14 +47,12 @@ fn push_end(answer: &Result<(), FollowFault>, said: &mut String) -> Result<(), A
     }
 }
 
-// The same, and lets it go.
+// `push_end` for an answer that is then dropped.
 fn push_last(answer: Result<(), FollowFault>, said: &mut String) -> Result<(), AllocError> {
-    let pushed = push_end(&answer, said);
-    drop(answer);
-    pushed
+    push_end(&answer, said)
 }
 
-// How a live report on a case ends that goes out behind a gate.
+// The end of a live report on a case, written to `sink` by workers that pass `gate`.
 fn push_followed<R, G, S>(
     rt: &R,
     case: &str,
@@ -74,7 +72,7 @@ where
     push_last(follow(rt, source, traces, options, gate, sink), said)
 }
 
-// How a live report ends, and what went out of it.
+// The end of a live report, and the bytes that went out.
 fn push_live<R: AllocGlobal + Threads + Wait + Clock + Sync>(
     rt: &R,
     case: &str,
@@ -96,7 +94,7 @@ fn push_live<R: AllocGlobal + Threads + Wait + Clock + Sync>(
     write!(said, ":\n{text}")
 }
 
-// What goes out of a live report on a case, where that is not a report.
+// The answer of a live report on a case, if it is not `report`.
 fn push_other<R: AllocGlobal + Threads + Wait + Clock + Sync>(
     rt: &R,
     case: &str,
@@ -117,7 +115,7 @@ fn push_other<R: AllocGlobal + Threads + Wait + Clock + Sync>(
     )
 }
 
-// The same for each of these numbers of workers and of lanes, in order and by length.
+// `push_other` for each number of workers and of lanes, in order and by length.
 fn push_others<R: AllocGlobal + Threads + Wait + Clock + Sync>(
     rt: &R,
     case: &str,
@@ -135,7 +133,7 @@ fn push_others<R: AllocGlobal + Threads + Wait + Clock + Sync>(
     Ok(())
 }
 
-// What goes out of live reports on the cases of a table, where that is not a report.
+// The answers of live reports on the cases of a table that are not the report of the case.
 fn unlike_reports<R: AllocGlobal + Threads + Wait + Clock + Sync>(
     rt: &R,
 ) -> Result<String, AllocError> {
@@ -150,7 +148,7 @@ fn unlike_reports<R: AllocGlobal + Threads + Wait + Clock + Sync>(
     Ok(unlike)
 }
 
-/// The report goes out whole, whatever its verdicts are.
+/// The report goes out whole, whatever the workers, the lanes and the verdicts are.
 #[test]
 fn every_worker_and_width(rt: HostRuntime) -> Result<(), Fail> {
     expect(&unlike_reports(&rt), "")
@@ -158,7 +156,7 @@ fn every_worker_and_width(rt: HostRuntime) -> Result<(), Fail> {
 
 // ## While batches run
 
-/// Takes all bytes, and counts the lines.
+/// An output that takes all bytes, and counts the lines.
 #[derive(Drop)]
 struct CountedLines<'a> {
     text: Vec<u8>,
@@ -178,7 +176,7 @@ impl Write for CountedLines<'_> {
     }
 }
 
-/// Holds the worker of batch 1 until the lines of batch 0 are out.
+/// A gate that holds the worker of batch 1 until the lines of batch 0 are out.
 #[derive(Drop)]
 struct UntilWritten<'a> {
     lines: &'a AtomicU64,
@@ -205,8 +203,8 @@ impl Gate for UntilWritten<'_> {
     }
 }
 
-// How a live report on sixty-five lengths ends, with two workers and a gate, and how many lines
-// went out.
+// The end of a live report on traces of sixty-five lengths, by two workers that pass a gate, and
+// the number of lines that went out.
 fn gated<R: AllocGlobal + Threads + Wait + Clock + Sync, G: Gate + Sync>(
     rt: &R,
     gate: &G,
@@ -223,7 +221,7 @@ fn gated<R: AllocGlobal + Threads + Wait + Clock + Sync, G: Gate + Sync>(
     Ok(said)
 }
 
-/// A body that writes everything at the end does not pass the gate.
+/// An implementation that writes everything at the end does not pass the gate.
 #[test]
 fn lines_while_a_batch_waits(rt: HostRuntime) -> Result<(), Fail> {
     let lines = AtomicU64::new(0);
@@ -236,7 +234,7 @@ fn lines_while_a_batch_waits(rt: HostRuntime) -> Result<(), Fail> {
     Ok(())
 }
 
-/// A body that runs all batches on one thread does not pass the gate.
+/// An implementation that runs all batches on one thread does not pass the gate.
 #[test]
 fn one_thread_for_all_lines(rt: HostRuntime) -> Result<(), Fail> {
     let lines = AtomicU64::new(0);
@@ -248,7 +246,7 @@ fn one_thread_for_all_lines(rt: HostRuntime) -> Result<(), Fail> {
 
 // ## A sink that fails
 
-/// Takes one byte a write. Once it has taken `fails_at` bytes, each write fails.
+/// An output that takes one byte a write. Once it has taken `fails_at` bytes, each write fails.
 #[derive(Drop)]
 struct Brittle<'a> {
     taken: &'a mut Vec<u8>,
@@ -274,7 +272,7 @@ impl Write for Brittle<'_> {
     }
 }
 
-// A live report on a sink that takes a few bytes and then fails: how it ends, and these bytes.
+// The end of a live report on a sink that fails after `fails_at` bytes, and the bytes that it took.
 fn push_brittle<R: AllocGlobal + Threads + Wait + Clock + Sync>(
     rt: &R,
     case: &str,
@@ -295,8 +293,8 @@ fn push_brittle<R: AllocGlobal + Threads + Wait + Clock + Sync>(
     write!(said, ":\n{text}")
 }
 
-// Such a live report where it does not stop once its sink has failed, or where the bytes that went
-// out are not its first ones.
+// The answer of `push_brittle`, if the report does not stop once its sink has failed, or if the
+// bytes that went out are not its first ones.
 fn push_not_stopped<R: AllocGlobal + Threads + Wait + Clock + Sync>(
     rt: &R,
     case: &str,
@@ -311,7 +309,7 @@ fn push_not_stopped<R: AllocGlobal + Threads + Wait + Clock + Sync>(
     push_unlike(wanted.as_str(), said.as_str(), 2, fails_at, unlike)
 }
 
-// What is otherwise where each write of a report fails in turn.
+// The wrong answers where each write of a report fails in turn, and the length of the report.
 fn not_stopped<R: AllocGlobal + Threads + Wait + Clock + Sync>(
     rt: &R,
 ) -> Result<String, AllocError> {
@@ -347,7 +345,7 @@ trace,x,y,c
 a,1,2,1
 ";
 
-// How a live report on refused texts ends, and what goes out of it.
+// The end of a live report on refused texts, and the bytes that go out.
 fn refused<R: AllocGlobal + Threads + Wait + Clock + Sync>(rt: &R) -> Result<String, AllocError> {
     let options = spread(rt.alloc(), 1, 64, false)?;
     let mut said = String::new(rt.alloc());
@@ -366,8 +364,8 @@ fn refused_texts(rt: HostRuntime) -> Result<(), Fail> {
 /// A node that is false from ninety on.
 const NINETY: &[u8] = b"node main(x: int) returns (ok: bool); let ok = x < 90; tel\n";
 
-// A text of more than two megabytes, and its report: traces of a hundred instants, each of which
-// counts on from a number below twenty.
+// A text of more than two megabytes, and its report. Each trace has a hundred instants, and counts
+// up from a number below twenty.
 fn push_counting(text: &mut String, report: &mut String) -> Result<(), AllocError> {
     text.push_str("trace,x\n")?;
     for k in 0..2600u32 {
@@ -380,7 +378,7 @@ fn push_counting(text: &mut String, report: &mut String) -> Result<(), AllocErro
     report.push_str("total 2600 passed 0 fault 0 undefined 0 assertion 0 false 2600\n")
 }
 
-// What goes out of a live report on a text that is read at its places.
+// The bytes of a live report on a text that is read in chunks; none if the report is not whole.
 fn placed<R: AllocGlobal + Threads + Wait + Clock + Sync>(
     rt: &R,
     text: &[u8],

@@ -7,7 +7,8 @@ ghost use Rattle.lb_flat.specs.Standing.{HasKindsOf};
 ghost use Rattle.lb_pool.specs.FollowSeats.{IsFollowSeatOf, right_of};
 ghost use Rattle.lb_pool.specs.Settlements.{IsRight};
 
-use crate::pool::first_prepared;
+use crate::batches::prepared;
+use crate::pool::first_case;
 use crate::texts::expect;
 use lb_check::Verdict;
 use lb_flat::{Ordered, eval_trace};
@@ -17,7 +18,7 @@ use lb_traces::TraceSet;
 use std::alloc::{AllocError, Global};
 use std::test::Fail;
 
-// What a trace is settled with.
+// The verdict with which a trace is settled, or `failed`.
 fn push_settled(settled: Option<Verdict>, said: &mut String) -> Result<(), AllocError> {
     match settled {
         Some(Verdict::Passed) => said.push_str(" passed"),
@@ -80,7 +81,7 @@ fn push_post(
     said.push('\n')
 }
 
-// The verdict of a trace, found alone.
+// The verdict of a trace by `eval_trace`.
 fn verdict_of(
     alloc: Global,
     board: &FollowBoard,
@@ -157,25 +158,14 @@ fn push_steps(
     write!(said, "shares {}", seat.shares())
 }
 
-// The same of a case.
-fn push_steps_of(
-    alloc: Global,
-    case: &Option<(Ordered, TraceSet)>,
-    said: &mut String,
-) -> Result<(), AllocError> {
-    match case {
-        Some((ordered, set)) => push_steps(alloc, ordered, set, said),
-        None => said.push_str("refused"),
-    }
-}
-
 // The steps on the first case of the table, which has sixty-five traces.
 fn steps_of_row(alloc: Global) -> Result<String, AllocError> {
     let mut said = String::new(alloc);
-    let case = first_prepared(alloc)?;
-    let pushed = push_steps_of(alloc, &case, &mut said);
-    drop(case);
-    pushed?;
+    let case = first_case(alloc)?;
+    match &prepared(alloc, case.as_str(), "") {
+        Some((ordered, set)) => push_steps(alloc, ordered, set, &mut said)?,
+        None => said.push_str("refused")?,
+    }
     Ok(said)
 }
 
@@ -195,7 +185,7 @@ claim 1
 claim none
 shares 64";
 
-/// A trace is settled once, and a look tells with what.
+/// A trace is settled once, and a look returns its verdict.
 #[test]
 fn settled_once(rt: HostRuntime) -> Result<(), Fail> {
     expect(&steps_of_row(rt.alloc()), STEPS)

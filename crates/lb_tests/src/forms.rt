@@ -1,4 +1,4 @@
-//! Programs of all forms and what is answered: arrays, calls, iterators, clocks and observers.
+//! Programs of all forms and the answers on them: arrays, calls, iterators, clocks and observers.
 
 /// Case texts: inputs that are arrays; sizes that are constants; variables and calls on clocks; a
 /// fault of a clock; `current` of `current`; iterators with and without a memory; several results;

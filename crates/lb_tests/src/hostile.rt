@@ -25,7 +25,7 @@ b,0
 /// The number of an answer that is neither a refusal nor a whole report.
 const NO_ANSWER: u8 = 99;
 
-/// An answer in one number: that of the refusal, or 0 for a report with its last line.
+/// An answer as one number: that of the refusal, or 0 for a report with its last line.
 fn number_of(said: &str) -> u8 {
     match said.strip_prefix("E") {
         Some(refusal) => around(refusal, " ").0.parse::<u8>().unwrap_or(NO_ANSWER),
@@ -34,7 +34,7 @@ fn number_of(said: &str) -> u8 {
     }
 }
 
-/// What is answered on a case text by one worker.
+/// The answer on a case text by one worker, as a number.
 fn answer<R: AllocGlobal + Threads + Sync>(rt: &R, case: &[u8]) -> Result<u8, AllocError> {
     let options = spread(rt.alloc(), 1, 64, false)?;
     let mut said = String::new(rt.alloc());
@@ -42,8 +42,8 @@ fn answer<R: AllocGlobal + Threads + Sync>(rt: &R, case: &[u8]) -> Result<u8, Al
     Ok(number_of(said.as_str()))
 }
 
-/// What the last line of a trace text calls for: a trace name alone is a record without its cell
-/// (E15), a comma behind it begins a cell that is empty (E16), and all else is a report.
+/// The wanted answer by the last line of a trace text: a trace name alone is a record without its
+/// cell (E15), a comma behind it begins an empty cell (E16), and all else is a report.
 fn of_last_line(text: &str) -> u8 {
     let line = text.rsplit('\n').next().unwrap_or("");
     match line.len() {
@@ -53,7 +53,7 @@ fn of_last_line(text: &str) -> u8 {
     }
 }
 
-/// What is to be answered on the case text where it ends after some bytes.
+/// The wanted answer on `text`, the first bytes of the case text.
 fn wanted_of(text: &str) -> u8 {
     let Some((_, rest)) = text.split_once("tel") else {
         return if text.is_empty() { 4 } else { 2 };
@@ -70,7 +70,7 @@ fn wanted_of(text: &str) -> u8 {
     }
 }
 
-/// The first length at which the case text is answered otherwise than wanted when it is cut there.
+/// The first length to which the case text is cut and then has a wrong answer, behind that answer.
 /// Nothing where there is none.
 fn first_wrong_cut<R: AllocGlobal + Threads + Sync>(rt: &R) -> Result<String, AllocError> {
     for length in 0..CASE.len() + 1 {
@@ -91,7 +91,7 @@ fn cut_texts(rt: HostRuntime) -> Result<(), Fail> {
 /// The bytes that are put in place of each byte.
 const DAMAGE: [u8; 3] = [0, 0xFF, b'('];
 
-/// What is answered on the case text where one of its bytes is another.
+/// The answer on the case text with `byte` at `place`.
 fn answer_damaged<R: AllocGlobal + Threads + Sync>(
     rt: &R,
     place: usize,
@@ -104,8 +104,8 @@ fn answer_damaged<R: AllocGlobal + Threads + Sync>(
     answer(rt, text.as_slice())
 }
 
-/// The first place at which the case text is answered neither by a refusal with a number of the
-/// texts nor by a whole report when its byte is another. Nothing where there is none.
+/// The first place of the case text, and the byte put there, for which the answer is neither a
+/// refusal of the texts, with a number below 19, nor a whole report. Nothing where there is none.
 fn first_wrong_damage<R: AllocGlobal + Threads + Sync>(rt: &R) -> Result<String, AllocError> {
     for place in 0..CASE.len() {
         for byte in DAMAGE {
@@ -122,33 +122,34 @@ fn damaged_texts(rt: HostRuntime) -> Result<(), Fail> {
     expect(&first_wrong_damage(&rt), "")
 }
 
-/// A source of `count` nodes, 2 or more. Each node calls the next, but for the last.
+/// A source of `count` nodes. Each node calls the next, but for the last.
 fn chain_of(alloc: Global, count: u32) -> Result<String, AllocError> {
     let mut source = String::new(alloc);
-    source.push_str("node main(a: int) returns (b: bool); let b = n1(a); tel\n")?;
-    for k in 2..count {
+    let mut name = String::from_str(alloc, "main")?;
+    for k in 1..count {
+        let node = name.as_str();
         write!(
             source,
-            "node n{}(a: int) returns (b: bool); let b = n{k}(a); tel\n",
-            k.saturating_sub(1)
+            "node {node}(a: int) returns (b: bool); let b = n{k}(a); tel\n"
         )?;
+        name = format!(in alloc; "n{k}")?;
     }
+    let node = name.as_str();
     write!(
         source,
-        "node n{}(a: int) returns (b: bool); let b = a > 0; tel\n",
-        count.saturating_sub(1)
+        "node {node}(a: int) returns (b: bool); let b = a > 0; tel\n"
     )?;
     Ok(source)
 }
 
-/// What is answered on a chain of `count` nodes, which runs over one trace.
+/// The answer on a chain of `count` nodes, which runs over one trace.
 fn answer_on_chain<R: AllocGlobal + Threads + Sync>(rt: &R, count: u32) -> Result<u8, AllocError> {
     let mut case = chain_of(rt.alloc(), count)?;
     case.push_str("%traces\ntrace,a\nt,1\n")?;
     answer(rt, case.as_bytes())
 }
 
-/// What is answered on the longest chain, and on a longer one.
+/// The answers on the longest chain that is accepted, and on a longer one.
 fn answers_on_chains<R: AllocGlobal + Threads + Sync>(rt: &R) -> Result<String, AllocError> {
     let longest = answer_on_chain(rt, 64)?;
     let longer = answer_on_chain(rt, 65)?;

@@ -34,7 +34,7 @@ fn plane_of(spelled: &str) -> Option<Plane> {
     Some(Plane(spelled.parse::<u64>().ok()?))
 }
 
-// What a kernel puts into the lanes of a width of `out`, and the plane that it gives.
+// Runs a kernel, which puts its result into the lanes of `width` of `out`, and returns its plane.
 fn put(
     kernel: &[u8],
     a: &LaneWord,
@@ -58,7 +58,7 @@ fn put(
     Plane(0)
 }
 
-// What the kernel of a row makes of its two words; it puts it into lanes that hold 0.
+// The result of the kernel of a row on its two words, put into lanes that held 0, and its plane.
 fn put_row(asked: &str, width: Width) -> Option<(LaneWord, Plane)> {
     let mut words = asked.split(' ');
     let kernel = words.next()?;
@@ -70,7 +70,7 @@ fn put_row(asked: &str, width: Width) -> Option<(LaneWord, Plane)> {
     Some((out, plane))
 }
 
-/// Lanes 0, 1, 31 and 63 of what a kernel makes of two words, and its plane.
+/// Lanes 0, 1, 31 and 63 of the result of a kernel on two words, and its plane.
 pub fn push_words(asked: &str, said: &mut String) -> Result<(), AllocError> {
     match put_row(asked, Width::all()) {
         Some((out, plane)) => {
@@ -83,8 +83,7 @@ pub fn push_words(asked: &str, said: &mut String) -> Result<(), AllocError> {
     }
 }
 
-// The lanes of a row that are told, and what its kernel makes of the words in the least width with
-// these.
+// The lanes that a row asks for, and the result of its kernel in the least width with these lanes.
 fn put_narrow_row(asked: &str) -> Option<(Plane, LaneWord, Plane)> {
     let (row, told) = asked.rsplit_once(' ')?;
     let told = plane_of(told)?;
@@ -92,8 +91,8 @@ fn put_narrow_row(asked: &str) -> Option<(Plane, LaneWord, Plane)> {
     Some((told, out, plane))
 }
 
-/// The lanes that are told of what a kernel makes of two words in the least width with these, and
-/// of its plane.
+/// The lanes that a row asks for, of the result of its kernel in the least width with these lanes,
+/// and of its plane.
 pub fn push_narrow(asked: &str, said: &mut String) -> Result<(), AllocError> {
     let Some((told, out, plane)) = put_narrow_row(asked) else {
         return said.push_str("no numbers");
@@ -106,9 +105,10 @@ pub fn push_narrow(asked: &str, said: &mut String) -> Result<(), AllocError> {
     write!(said, "{}", plane.and(told).0)
 }
 
-// Kernels, two words, and the lanes that count or are taken; then lanes 0, 1, 31 and 63 of the
-// result, and the faults or where it holds. `E`, `B` and `M` take the first word where it is equal
-// to the second, below it or at most it, and else the second.
+// Rows: a kernel, two words, and the plane of the lanes that count, or that take the first word.
+// Then lanes 0, 1, 31 and 63 of the result, and the plane of its faults, or of where it holds. `E`,
+// `B` and `M` take the first word where it is equal to the second, below it or at most it, and else
+// the second.
 pub const WORDS: &str = "\
 + 5,63:2147483647 7,63:1 all => 12 12 12 0 9223372036854775808
 + 5,63:2147483647 7,63:1 9223372036854775807 => 12 12 12 0 0
@@ -156,9 +156,10 @@ set 1,63:2 3,1:-4 9223372036854775809 => 1 -4 3 2 0
 set 1,63:2 3,1:-4 all => 1 1 1 2 0
 copy -1,31:2147483647,63:-2147483648 0 0 => -1 -1 2147483647 -2147483648 0";
 
-// Kernels, two words, the lanes that count or are taken, and those that are told; then these lanes
-// of the result, and the faults or where it holds in them. Only the least width with the lanes that
-// are told is computed, and what stands in others is to change nothing.
+// Rows: a kernel, two words, the plane of the lanes that count, or that take the first word, and
+// the lanes that are asked for. Then these lanes of the result, and of the plane of its faults, or
+// of where it holds. Only the least width with these lanes is computed, and the values of other
+// lanes change nothing.
 pub const NARROW: &str = "\
 = 4,15:-4,16:9 4 0 32769 => 0 0 1
 = 4,15:-4,31:9 4,16:0,31:9 0 2147581952 => 0 0 0 2147483648

@@ -41,7 +41,7 @@ pub fn operator(sign: u8) -> IntOperator {
     }
 }
 
-// What is put into lanes that hold 99, and where it faults.
+// The result of a kernel that puts it into lanes which held 99, and the plane of its faults.
 fn put(kernel: &[u8], a: &IntLanes, b: &IntLanes, active: Plane) -> (IntLanes, Plane)
     requires left { AreInts a.now }
     requires right { AreInts b.now }
@@ -57,7 +57,7 @@ fn put(kernel: &[u8], a: &IntLanes, b: &IntLanes, active: Plane) -> (IntLanes, P
     (out, faults)
 }
 
-// What a kernel makes of two rows of integers, and where it faults or holds.
+// The result of a kernel on two rows of integers, and the plane where it faults or holds.
 fn applied(kernel: &[u8], a: &IntLanes, b: &IntLanes, active: Plane) -> (IntLanes, Plane)
     requires left { AreInts a.now }
     requires right { AreInts b.now }
@@ -77,7 +77,7 @@ fn applied(kernel: &[u8], a: &IntLanes, b: &IntLanes, active: Plane) -> (IntLane
     }
 }
 
-// What the kernel of a row makes of its numbers, if they are five.
+// The result of the kernel of a row on its numbers, if they are five.
 fn applied_row(asked: &str) -> Option<(IntLanes, Plane)> {
     let mut words = asked.split(' ');
     let kernel = words.next()?;
@@ -87,7 +87,7 @@ fn applied_row(asked: &str) -> Option<(IntLanes, Plane)> {
     Some(applied(kernel.as_bytes(), &a, &b, active))
 }
 
-// What a kernel makes of its numbers.
+// Lanes 0 and 1 of the result of a kernel on its numbers, and its plane.
 pub fn push_ints(asked: &str, said: &mut String) -> Result<(), AllocError> {
     match applied_row(asked) {
         Some((lanes, faults)) => { write!(said, "{} {} {}", lanes.get(0), lanes.get(1), faults.0) }
@@ -95,7 +95,7 @@ pub fn push_ints(asked: &str, said: &mut String) -> Result<(), AllocError> {
     }
 }
 
-// What a kernel makes of two planes.
+// The result of a kernel on two planes.
 fn combined(kernel: &[u8], p: Plane, q: Plane) -> Plane {
     match kernel {
         [b'&', ..] => p.and(q),
@@ -106,7 +106,7 @@ fn combined(kernel: &[u8], p: Plane, q: Plane) -> Plane {
     }
 }
 
-// What the kernel of a row makes of its planes, if they are two.
+// The result of the kernel of a row on its planes, if they are two.
 fn combined_row(asked: &str) -> Option<Plane> {
     let mut words = asked.split(' ');
     let kernel = words.next()?;
@@ -115,7 +115,7 @@ fn combined_row(asked: &str) -> Option<Plane> {
     Some(combined(kernel.as_bytes(), p, q))
 }
 
-// What a kernel makes of its planes.
+// The result of a kernel on its planes.
 pub fn push_plane(asked: &str, said: &mut String) -> Result<(), AllocError> {
     match combined_row(asked) {
         Some(plane) => write!(said, "{}", plane.0),
@@ -123,9 +123,10 @@ pub fn push_plane(asked: &str, said: &mut String) -> Result<(), AllocError> {
     }
 }
 
-// Kernels, lanes 0 and 1 of their operands, and the lanes that count or are taken; then lanes 0 and
-// 1 of the result, and the faults or where it holds. All other lanes are 0. Those with `>` put
-// their result into lanes that held something else.
+// Rows: a kernel, lanes 0 and 1 of its operands, and the plane of the lanes that count, or that
+// take the first operand. Then lanes 0 and 1 of the result, and the plane of its faults, or of
+// where it holds. All other lanes are 0. A kernel with `>` puts its result into lanes that held
+// something else.
 pub const INTEGERS: &str = "\
 + 2147483647 2 1 3 3 => 0 5 1
 + 2147483647 2 1 3 2 => 0 5 0
@@ -166,7 +167,7 @@ blend -1 5 1 7 2 => 1 5 0
 >set -1 5 1 7 2 => 1 5 0
 >set -1 5 1 7 1 => -1 7 0";
 
-// Kernels and their planes; the last takes lanes 0 and 1 of the first one.
+// Kernels and their planes; the last takes lanes 0 and 1 of the first plane.
 pub const PLANES: &str = "\
 & 12 10 => 8
 | 12 10 => 14
@@ -174,7 +175,7 @@ pub const PLANES: &str = "\
 ! 1 0 => 18446744073709551614
 select 5 12 => 13";
 
-// Rows that are not 0, each with its number, as `3:5;`. Others stay as they are.
+// Sets the rows that a text spells: `3:5;` sets row 3 to 5. Others stay as they are.
 fn set_rows(words: &mut [u64; 64], asked: &str) {
     for row in asked.split(';') {
         let (number, word) = around(row, ":");
@@ -198,7 +199,7 @@ pub fn push_transposed(asked: &str, said: &mut String) -> Result<(), AllocError>
     Ok(())
 }
 
-// Rows of 64 columns that are not 0, and the columns as rows.
+// The rows of a matrix that are not 0, and those of the transposed matrix.
 pub const MATRICES: &str = "\
 0:2; => 1:1;
 63:1; => 0:9223372036854775808;
@@ -245,7 +246,7 @@ fn drawn(seed: u64) -> [u64; 65] {
     all
 }
 
-// Whether a matrix in which rows and columns are full is transposed.
+// Whether `transpose` is right on a matrix whose rows and columns are full.
 fn is_full_transposed() -> bool {
     let drawn = drawn(7);
     let mut old = [0; 64];
@@ -265,7 +266,7 @@ fn a_full_matrix(rt: HostRuntime) {
 
 const LENGTHS: [usize; 5] = [0, 1, 63, 64, 65];
 
-// The kernels on words.
+// Runs the kernel on words with this number.
 fn run_words(kernel: u8, a: &[u64], b: &[u64], out: &mut [u64])
     requires left { length a.now ≡ length out.old }
     requires right { length b.now ≡ length out.old }
@@ -279,7 +280,7 @@ fn run_words(kernel: u8, a: &[u64], b: &[u64], out: &mut [u64])
     }
 }
 
-// What they make of two words; the last is given the exclusive or.
+// The result of a kernel on two words. The last kernel finds their exclusive or in `out`.
 fn word_of(kernel: u8, a: u64, b: u64) -> u64 {
     match kernel {
         0 => a & b,
@@ -305,7 +306,7 @@ fn are_as_alone(a: &[u64], b: &[u64], out: &mut [u64]) -> bool
     true
 }
 
-// The same for each length.
+// `are_as_alone` for each length.
 fn are_words_as_alone() -> bool {
     let (a, b) = (drawn(1), drawn(2));
     let mut out = [0; 65];
@@ -318,7 +319,7 @@ fn are_words_as_alone() -> bool {
     true
 }
 
-// 65 elements with `from`, and each next number, in every lane.
+// 65 elements, with `from`, `from + 1` and so on in all lanes.
 fn counted(alloc: Global, from: i64) -> Result<Vec<IntLanes>, AllocError> {
     let mut all = Vec::new(alloc);
     for k in 0..65i64 {
@@ -327,7 +328,7 @@ fn counted(alloc: Global, from: i64) -> Result<Vec<IntLanes>, AllocError> {
     Ok(all)
 }
 
-// Whether lanes 0 and 2 are new.
+// Whether lanes 0 and 2 are new, and lane 1 is old.
 fn are_new(ints: &[IntLanes]) -> bool {
     let mut old = 0i64;
     for lanes in ints {
@@ -340,7 +341,7 @@ fn are_new(ints: &[IntLanes]) -> bool {
     true
 }
 
-// Whether the commit of the first elements is as it should be, for each length.
+// Whether `commit_ints` is right on the first elements, for each length.
 fn are_committed(old: &mut [IntLanes], new: &[IntLanes]) -> bool {
     for n in LENGTHS {
         if n > old.len() || n > new.len() {
@@ -354,14 +355,14 @@ fn are_committed(old: &mut [IntLanes], new: &[IntLanes]) -> bool {
     true
 }
 
-// The same of elements in which each number follows on the one before.
+// `are_committed` for the elements of `counted`.
 fn are_counted_committed(alloc: Global) -> Result<bool, AllocError> {
     let mut old = counted(alloc, 0)?;
     let new = counted(alloc, 1000)?;
     Ok(are_committed(&mut old, &new))
 }
 
-// Whether a value is outside that stands at the end of so many.
+// Whether `any_outside` finds `value`, which stands last among `n` values.
 fn is_outside(n: usize, value: i64) -> bool {
     let mut values = [0; 65];
     let n = n.min(65);
@@ -371,7 +372,7 @@ fn is_outside(n: usize, value: i64) -> bool {
     any_outside(&values[..n])
 }
 
-// The lanes that are outside, of two at the bounds.
+// The lanes out of range, where lane 0 is one past the greatest integer and lane 1 is the least.
 fn outside_lanes() -> Plane {
     let mut lanes = IntLanes::splat(0);
     lanes.set(0, 2147483648);
@@ -379,7 +380,7 @@ fn outside_lanes() -> Plane {
     lanes.outside()
 }
 
-// Whether a value is found outside just where one is, for each length.
+// Whether a value out of range is found just where there is one, for each length.
 fn are_outside_found() -> bool {
     for n in LENGTHS {
         if is_outside(n, 0) || is_outside(n, -2147483648) || is_outside(n, 2147483648) != (n > 0) {

@@ -1,8 +1,8 @@
 //! Tests of the libraries below the command line, as their callers meet them. There is nothing else
 //! here.
 //!
-//! Most go over a table of text: what is asked and what is wanted, taken apart when the test runs,
-//! so that a further case costs no proof. What is wanted was worked out by hand.
+//! Most go over a table of text. A row has a question and the wanted answer, and is split when the
+//! test runs, so that a further case costs no proof. The wanted answers were worked out by hand.
 #![tactic(auto)]
 
 #[cfg(test)]

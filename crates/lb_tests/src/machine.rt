@@ -1,5 +1,5 @@
-//! Code over planes and words: what its places hold once it has run. What is wanted was worked out
-//! apart.
+//! Code over planes and words, and the values of its places after a run. The wanted values were
+//! worked out apart.
 
 ghost use Rattle.std.specs.Prelude.{◌≡◌, ◌<◌, ◌≤◌, ◌+◌, IfSome, length};
 ghost use Rattle.lb_machine.specs.Correct.{HasRoom};
@@ -8,7 +8,7 @@ use crate::lanes::{number, operator};
 use crate::texts::{around, is_same};
 use lb_lanes::{IntOperator, LaneWord, Width};
 use lb_machine::{
-    Code, Comparison, EVERYWHERE, NOWHERE, PlaneId, PlaneOperator, WordId, carry_planes,
+    Code, Comparison, FALSE_PLANE, PlaneId, PlaneOperator, TRUE_PLANE, WordId, carry_planes,
     carry_words,
 };
 use std::alloc::{AllocError, Global};
@@ -79,8 +79,8 @@ fn operated(
     requires { HasRoom code.old 4 }
 {
     if 0 < active && active < code.planes && a < code.words && b < code.words {
-        let idle = code.combine(PlaneOperator::AndNot, EVERYWHERE, PlaneId(active))?;
-        let made = code.operate(op, WordId(a), WordId(b), idle, NOWHERE, NOWHERE)?;
+        let idle = code.combine(PlaneOperator::AndNot, TRUE_PLANE, PlaneId(active))?;
+        let made = code.operate(op, WordId(a), WordId(b), idle, FALSE_PLANE, FALSE_PLANE)?;
         return Ok(Made::Both(made.0, made.1));
     }
     Ok(Made::Nothing)
@@ -104,7 +104,7 @@ fn copied_word(code: &mut Code, a: u32) -> Result<Made, AllocError>
     Ok(Made::Nothing)
 }
 
-// What a command makes of the numbers behind it.
+// The places that a command makes of the numbers behind it.
 fn make(code: &mut Code, letter: u8, a: u32, b: u32, c: u32) -> Result<Made, AllocError>
     requires { HasRoom code.old 4 }
 {
@@ -124,7 +124,7 @@ fn make(code: &mut Code, letter: u8, a: u32, b: u32, c: u32) -> Result<Made, All
     }
 }
 
-// The planes that are within one, a bit for each of the first 64.
+// The planes that are within plane `outer`, a bit for each of the first 64.
 fn marked(alloc: Global, code: &Code, outer: u32) -> Result<Made, AllocError> {
     let count = code.planes as usize;
     let mut from = vec![in alloc; false; count]?;
@@ -150,7 +150,7 @@ fn place(word: Option<&str>) -> u32 {
     }
 }
 
-// What a command makes, beside few places.
+// The places that a command makes, if the code has at most `MOST` planes and words.
 fn make_one(alloc: Global, code: &mut Code, command: &str) -> Result<Made, AllocError> {
     let mut words = command.split(' ');
     let letter = match words.next().unwrap_or("").as_bytes() {
@@ -170,7 +170,7 @@ fn make_one(alloc: Global, code: &mut Code, command: &str) -> Result<Made, Alloc
     }
 }
 
-// The code of some commands beside four planes and three words, and what each makes.
+// The code of some commands over four planes and three words, and the places that each makes.
 fn built(alloc: Global, commands: &str) -> Result<(Code, Vec<Made>), AllocError> {
     let mut code = Code::new(alloc, 4, 3);
     let mut all = Vec::new(alloc);
@@ -189,7 +189,7 @@ fn pair(first: i32, second: i32) -> LaneWord {
     word
 }
 
-// The word 0, two that are given by their lanes 0 and 1, and words of 0 behind them.
+// Word `k`: the first is 0, two are given by their lanes 0 and 1, and those behind are 0.
 fn word_at(k: u32, given: &[i32; 4]) -> LaneWord {
     match k {
         1 => pair(given[0], given[1]),
@@ -198,7 +198,7 @@ fn word_at(k: u32, given: &[i32; 4]) -> LaneWord {
     }
 }
 
-// Planes false and true everywhere, two that are given, and planes of false behind them.
+// Plane `k`: the first two are false and true, two are given, and those behind are false.
 fn plane_at(k: u32, given: (u32, u32)) -> u64 {
     match k {
         1 => u64::MAX,
@@ -208,7 +208,7 @@ fn plane_at(k: u32, given: (u32, u32)) -> u64 {
     }
 }
 
-// So many words.
+// The first `count` words.
 fn words_for(alloc: Global, given: &[i32; 4], count: u32) -> Result<Vec<LaneWord>, AllocError> {
     let mut words = Vec::new(alloc);
     for k in 0..count {
@@ -217,7 +217,7 @@ fn words_for(alloc: Global, given: &[i32; 4], count: u32) -> Result<Vec<LaneWord
     Ok(words)
 }
 
-// So many planes.
+// The first `count` planes.
 fn planes_for(alloc: Global, given: (u32, u32), count: u32) -> Result<Vec<u64>, AllocError> {
     let mut planes = Vec::new(alloc);
     for k in 0..count {
@@ -249,27 +249,7 @@ fn push_word(words: &[LaneWord], w: WordId, said: &mut String) -> Result<(), All
     }
 }
 
-// What stands where a command said.
-fn push_one(
-    planes: &[u64],
-    words: &[LaneWord],
-    one: Made,
-    said: &mut String,
-) -> Result<(), AllocError> {
-    match one {
-        Made::Plane(p) => push_plane(planes, p, said),
-        Made::Word(w) => push_word(words, w, said),
-        Made::Both(w, p) => {
-            push_word(words, w, said)?;
-            push_plane(planes, p, said)
-        }
-        Made::Within(is_within) => write!(said, " {is_within}"),
-        Made::Marks(marks) => write!(said, " {marks:b}"),
-        Made::Nothing => said.push_str(" nothing"),
-    }
-}
-
-// What stands where the commands said.
+// The values of the places that the commands made.
 fn push_made(
     planes: &[u64],
     words: &[LaneWord],
@@ -277,12 +257,22 @@ fn push_made(
     said: &mut String,
 ) -> Result<(), AllocError> {
     for one in all {
-        push_one(planes, words, *one, said)?;
+        match *one {
+            Made::Plane(p) => push_plane(planes, p, said)?,
+            Made::Word(w) => push_word(words, w, said)?,
+            Made::Both(w, p) => {
+                push_word(words, w, said)?;
+                push_plane(planes, p, said)?;
+            }
+            Made::Within(is_within) => write!(said, " {is_within}")?,
+            Made::Marks(marks) => write!(said, " {marks:b}")?,
+            Made::Nothing => said.push_str(" nothing")?,
+        }
     }
     Ok(())
 }
 
-// How many instructions code has.
+// The number of instructions of code.
 fn instructions(code: &Code) -> usize {
     let mut count = code.instructions.choices.len();
     for block in &code.instructions.blocks {
@@ -291,7 +281,7 @@ fn instructions(code: &Code) -> usize {
     count
 }
 
-// Runs code, if there is just its room, and tells what it made.
+// Runs code, if it has just its room, and reports its number of instructions and the places made.
 fn push_run(
     code: &Code,
     planes: &mut [u64],
@@ -342,13 +332,13 @@ pub fn push_results(alloc: Global, asked: &str, said: &mut String) -> Result<(),
     )
 }
 
-// Two planes, then lanes 0 and 1 of two words, and commands; how many instructions that takes, and
-// the places that they give. `~` is "and not", `?` chooses a plane, `l` is "at most", and `b`
-// chooses a word; behind the operands of an operator stands the plane of its lanes, and its faults
-// follow its results. Where what is asked is there already, no instruction is made; `^` first makes
-// a plane that is not the second one, and an operator one of the lanes that are not its own. A test
-// and the choice of a word by it right behind are one instruction. `i` asks whether a plane is
-// known to be within another one, and `m` for all that are within one, the plane of number 0 last.
+// Rows: two planes, lanes 0 and 1 of two words, and commands. Then the number of instructions, and
+// the places that the commands give. `~` is "and not", `?` chooses a plane, `l` is "at most", and
+// `b` chooses a word. An operator has the plane of its lanes behind its operands, and its faults
+// follow its results. What is there already takes no instruction. `^` first makes the negation of
+// its second plane, and an operator the plane of the lanes that are not its own. A test and the
+// choice of a word by it right behind are one instruction. `i` asks whether a plane is known to be
+// within another one, and `m` for all planes that are within one, plane 0 last.
 pub const CODES: &str = "\
 12 10 0 0 0 0 | & 2 3, | 2 3, ^ 2 3, ~ 2 3, ~ 3 2, ~ 1 2 => \
 7: 4=8 5=14 7=6 8=4 9=2 10=18446744073709551603
@@ -425,7 +415,7 @@ pub fn push_carried(asked: &str, said: &mut String) -> Result<(), AllocError> {
     push_words(first, a, b, said)
 }
 
-// The first place, and the two that are carried there and to the next one; what stands then.
+// Rows: the first place, and the two that are carried there and to the next place. Then all six.
 pub const CARRIES: &str = "\
 planes 0 2 3 => now 12 13 12 13 14 15
 planes 0 5 2 => now 15 12 12 13 14 15

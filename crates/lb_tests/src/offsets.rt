@@ -1,9 +1,9 @@
-//! Where the names and the forms of a tree stand in its text.
+//! The offsets of the names and the forms of a tree in its text.
 //!
-//! Each constant, node, group of declarations and statement is told in a line of its own. A form is
-//! told by the token that stands at its offset, as `if@40`; one with an operand on its left by its
-//! sign, with the offset of its first token, as `+@14 from 10`. What stands inside it follows. A
-//! name is told too where the bytes at its offset are others.
+//! Each constant, node, group of declarations and statement has a line of its own. A form is shown
+//! by the token at its offset: `if@40`. A form with an operand on its left is shown by its sign,
+//! with the offset of its first token: `+@14 from 10`. The parts of a form follow it. A name is
+//! written out if other bytes stand at its offset.
 
 use lb_syntax::{
     Constant, Declarations, Expr, Name, Node, Offset, Operator, Source, Statement, Static, parse,
@@ -153,7 +153,7 @@ fn push_expr(text: &[u8], e: &Expr, said: &mut String) -> Result<(), AllocError>
     }
 }
 
-/// The groups of a node that stand in one place of it, after the word that is given.
+/// The groups of inputs, outputs or locals of a node, each behind `word`.
 fn push_groups(
     text: &[u8],
     word: &str,
@@ -219,7 +219,7 @@ fn push_source(text: &[u8], source: &Source, said: &mut String) -> Result<(), Al
     Ok(())
 }
 
-/// Where the names and the forms of a text stand.
+/// The offsets of the names and the forms of a text.
 pub fn push_offsets(alloc: Global, text: &str, said: &mut String) -> Result<(), AllocError> {
     match &parse(alloc, text.as_bytes()) {
         Ok(source) => push_source(text.as_bytes(), source, said),
@@ -227,7 +227,7 @@ pub fn push_offsets(alloc: Global, text: &str, said: &mut String) -> Result<(), 
     }
 }
 
-/// Texts, and where what is in them stands.
+/// Texts, and the offsets of their names and forms.
 pub const OFFSETS: &str = "-- sizes\r
 const n = 3;\tk: int\t= -(n + 4) * n;\r
 /* one

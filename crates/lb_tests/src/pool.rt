@@ -12,7 +12,7 @@ use lb_flat::{Ordered, eval_trace};
 use lb_pool::{ClaimBoard, ClaimSeat, Gate, Plan, run_claims};
 use lb_report::{Options, status};
 use lb_static::Signature;
-use lb_trace::{TraceError, read_traces};
+use lb_trace::read_traces;
 use lb_traces::TraceSet;
 use std::alloc::{AllocError, Global};
 use std::hint::spin_loop;
@@ -22,7 +22,7 @@ use std::thread::Threads;
 
 // ## Plans
 
-// A trace text with traces of so many instants, which have no cells.
+// The records of traces with these lengths, numbered from 0, without cells.
 fn push_traces(text: &mut String, lengths: &str) -> Result<(), AllocError> {
     let mut number: u32 = 0;
     for length in lengths.split(' ') {
@@ -34,7 +34,7 @@ fn push_traces(text: &mut String, lengths: &str) -> Result<(), AllocError> {
     Ok(())
 }
 
-// How many batches and traces a plan has, and its batches.
+// The number of batches and of traces of a plan, and its batches.
 fn push_batches(plan: &Plan, said: &mut String) -> Result<(), AllocError> {
     write!(said, "{} of {}:", plan.batches(), plan.traces())?;
     for i in 0..plan.batches() {
@@ -46,7 +46,7 @@ fn push_batches(plan: &Plan, said: &mut String) -> Result<(), AllocError> {
     Ok(())
 }
 
-// The plan of a width, as `2` or `2 by length`.
+// The plan for a width: `2`, or `2 by length`.
 fn push_plan_of(
     alloc: Global,
     set: &TraceSet,
@@ -69,31 +69,20 @@ fn push_plan_of(
     push_batches(&plan?, said)
 }
 
-// The same of a text that has been read.
-fn push_plan_of_read(
-    alloc: Global,
-    read: Result<TraceSet, TraceError>,
-    width: &str,
-    said: &mut String,
-) -> Result<(), AllocError> {
-    let pushed = match &read {
-        Ok(set) => push_plan_of(alloc, set, width, said),
-        Err(_) => said.push_str("no traces"),
-    };
-    drop(read);
-    pushed
-}
-
-/// The plan of a width and the lengths of some traces.
+/// The plan for a width and the lengths of some traces.
 pub fn push_plan(alloc: Global, asked: &str, said: &mut String) -> Result<(), AllocError> {
     let (width, lengths) = around(asked, ":");
     let mut text = String::from_str(alloc, "trace\n")?;
     push_traces(&mut text, lengths)?;
-    let read = read_traces(alloc, &Signature::new(alloc), text.as_str().as_bytes());
-    push_plan_of_read(alloc, read, width, said)
+    let signature = Signature::new(alloc);
+    match &read_traces(alloc, &signature, text.as_str().as_bytes()) {
+        Ok(set) => push_plan_of(alloc, set, width, said),
+        Err(_) => said.push_str("no traces"),
+    }
 }
 
-// A width and the lengths of traces, 0 first; how many batches and traces, and the batches.
+// Rows: a width, and the lengths of the traces, that of trace 0 first. Then the number of batches
+// and of traces, and the batches.
 pub const PLANS: &str = "\
 64:{65  1} => 2 of 65: |{64  @} | 64
 64 by length:{65  1} => 2 of 65: |{64  @} | 64
@@ -144,7 +133,7 @@ fn push_draws(
     Ok(())
 }
 
-/// What two seats of a board draw in turn, and whether it is all.
+/// The numbers that two seats of a board claim in turn, and whether these are all.
 pub fn push_claims(alloc: Global, asked: &str, said: &mut String) -> Result<(), AllocError> {
     let (limit, turns) = around(asked, " ");
     let (board, seat) = ClaimBoard::new(alloc, limit.parse::<u32>().unwrap_or(0))?;
@@ -154,8 +143,8 @@ pub fn push_claims(alloc: Global, asked: &str, said: &mut String) -> Result<(), 
     said.push_str(if board.close(seat) { "all" } else { "not all" })
 }
 
-// How many numbers there are and who claims; what is drawn, and whether the two were told that
-// it is all.
+// Rows: the count of numbers, and the seat of each claim. Then the numbers that are claimed, and
+// whether the board reports that these are all.
 pub const CLAIMS: &str = "\
 3 ababa => 0 1 2 - - all
 3 abab => 0 1 2 - all
@@ -182,7 +171,8 @@ fn moved(board: &ClaimBoard, first: ClaimSeat, second: ClaimSeat) -> (ClaimSeat,
     (board.join(first, left), right)
 }
 
-// The shares of two seats, of which `a` or `b` gives the larger half of its own to the other.
+// The shares of two seats after each turn, in which `a` or `b` gives the larger half of its own to
+// the other.
 fn push_moves(
     board: &ClaimBoard,
     first: ClaimSeat,
@@ -210,7 +200,7 @@ fn push_moves(
     Ok(())
 }
 
-/// The shares of the two halves of a seat, and after each turn.
+/// The shares of a seat, those of its two halves, and those after each turn.
 pub fn push_shares(alloc: Global, turns: &str, said: &mut String) -> Result<(), AllocError> {
     let (board, seat) = ClaimBoard::new(alloc, 3)?;
     write!(said, "{}: ", seat.shares())?;
@@ -219,8 +209,9 @@ pub fn push_shares(alloc: Global, turns: &str, said: &mut String) -> Result<(), 
     push_moves(&board, first, second, turns, said)
 }
 
-// Who gives the larger half of its shares to the other; all shares, those of the two halves, and
-// those after each turn. In the second row a seat of three shares is cut.
+// Rows: the seats that give the larger half of their shares to the other, turn by turn. Then all
+// shares, those of the two halves, and those after each turn. In the second row a seat of three
+// shares is cut.
 pub const SHARES: &str = "\
 a => 64: 32 32, 16 48
 bbbbaaaaaa => 64: 32 32, 48 16, 56 8, 60 4, 62 2, 31 33, 15 49, 7 57, 3 61, 1 63, 1 63";
@@ -238,7 +229,7 @@ fn push_records(case: &mut String, line: &str) -> Result<(), AllocError> {
     Ok(())
 }
 
-/// A case whose records are told by their count.
+/// A case with counted records, written out: `a 2,7` is `a,7` twice.
 pub fn push_case(case: &mut String, short: &str) -> Result<(), AllocError> {
     let (source, traces) = around(short, "%traces\n");
     write!(case, "{source}%traces\n")?;
@@ -248,10 +239,10 @@ pub fn push_case(case: &mut String, short: &str) -> Result<(), AllocError> {
     Ok(())
 }
 
-/// How many lanes a batch has.
+/// The numbers of lanes of a batch.
 pub const LANES: [u32; 3] = [1, 7, 64];
 
-// What a run on a case answers, where that is not what is wanted.
+// The answer of a run on a case, if it is not `wanted`.
 fn push_other<R: AllocGlobal + Threads + Sync>(
     rt: &R,
     case: &str,
@@ -270,7 +261,7 @@ fn push_other<R: AllocGlobal + Threads + Sync>(
     )
 }
 
-// The same for each of these numbers of workers and lanes, in order and by length.
+// `push_other` for each number of workers and of lanes, in order and by length.
 fn push_others<R: AllocGlobal + Threads + Sync>(
     rt: &R,
     case: &str,
@@ -288,8 +279,8 @@ fn push_others<R: AllocGlobal + Threads + Sync>(
     Ok(())
 }
 
-/// What runs with all these numbers of workers and widths, in order and by length, answer on a case
-/// whose records are told by their count.
+/// The answer on a case with counted records, and the answers that differ with other numbers of
+/// workers and lanes, in order or by length.
 pub fn push_spread<R: AllocGlobal + Threads + Sync>(
     rt: &R,
     asked: &str,
@@ -303,8 +294,9 @@ pub fn push_spread<R: AllocGlobal + Threads + Sync>(
     said.push_str(unlike.as_str())
 }
 
-// Sixty-five lengths, so that at width 64 the second batch has one trace; traces of which some end
-// early; the same where one of these passes, so that its line and the last one differ; no trace.
+// Cases: sixty-five lengths, so that at width 64 the second batch has one trace; traces of which
+// some end early; such traces, one of which passes, so that its line and the last one differ; no
+// trace.
 pub const SPREADS: &str = "\
 node main() returns (ok: bool);
 var n: int;
@@ -368,18 +360,18 @@ status 0";
 
 // ## Two workers at once
 
-/// Holds the worker of batch 0 until another batch has been entered.
+/// A gate that holds the worker of batch 0 until another batch has been entered.
 #[derive(Drop)]
 pub struct Hold {
     is_entered: AtomicBool,
     has_given_up: AtomicBool,
 }
 
-/// How often the worker of batch 0 looks.
+/// The number of times that a worker which is held looks before it gives up.
 pub const TURNS: u32 = 100_000_000;
 
 impl Hold {
-    /// No batch has been entered.
+    /// A gate where no batch has been entered.
     pub fn new() -> Hold {
         Hold {
             is_entered: AtomicBool::new(false),
@@ -387,7 +379,7 @@ impl Hold {
         }
     }
 
-    /// Whether the worker of batch 0 has looked for the last time.
+    /// Whether the worker that is held has looked for the last time.
     pub fn has_given_up(&self) -> bool {
         self.has_given_up.load(Ordering::SeqCst)
     }
@@ -413,7 +405,7 @@ impl Gate for Hold {
     }
 }
 
-// The verdict of the last of sixty-five traces, found alone.
+// The verdict of the last of sixty-five traces, by `eval_trace`.
 fn push_last(
     alloc: Global,
     ordered: &Ordered,
@@ -429,7 +421,7 @@ fn push_last(
     }
 }
 
-// How many verdicts two workers find, the status, and the last verdict.
+// The number of verdicts that two workers find, the status, and the last verdict.
 fn push_verdicts<R: Threads + Sync>(
     rt: &R,
     alloc: Global,
@@ -458,37 +450,18 @@ pub fn first_case(alloc: Global) -> Result<String, AllocError> {
     Ok(case)
 }
 
-/// The equations of the first case and its traces.
-pub fn first_prepared(alloc: Global) -> Result<Option<(Ordered, TraceSet)>, AllocError> {
-    let case = first_case(alloc)?;
-    Ok(prepared(alloc, case.as_str(), ""))
-}
-
-// The same of a case.
-fn push_gated<R: Threads + Sync>(
-    rt: &R,
-    alloc: Global,
-    case: &Option<(Ordered, TraceSet)>,
-    gate: &Hold,
-    said: &mut String,
-) -> Result<(), AllocError> {
-    match case {
-        Some((ordered, set)) => push_verdicts(rt, alloc, ordered, set, gate, said),
-        None => said.push_str("refused"),
-    }
-}
-
-// The same of the first case.
+// `push_verdicts` for the first case.
 fn gated<R: Threads + Sync>(rt: &R, alloc: Global, gate: &Hold) -> Result<String, AllocError> {
     let mut said = String::new(alloc);
-    let case = first_prepared(alloc)?;
-    let pushed = push_gated(rt, alloc, &case, gate, &mut said);
-    drop(case);
-    pushed?;
+    let case = first_case(alloc)?;
+    match &prepared(alloc, case.as_str(), "") {
+        Some((ordered, set)) => push_verdicts(rt, alloc, ordered, set, gate, &mut said)?,
+        None => said.push_str("refused")?,
+    }
     Ok(said)
 }
 
-/// A body that runs all batches on one thread does not pass the gate.
+/// An implementation that runs all batches on one thread does not pass the gate.
 #[test]
 fn one_thread_for_all(rt: HostRuntime) -> Result<(), Fail> {
     let gate = Hold::new();

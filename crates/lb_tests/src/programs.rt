@@ -4,8 +4,8 @@ use crate::answers;
 use std::alloc::AllocError;
 use std::thread::Threads;
 
-/// What is answered on the nodes, the front and the end of a program. One that keeps the rules is
-/// refused later, since it has no traces.
+/// The answer on a program of `NODES`, a front and an end. A program that keeps the rules is
+/// refused later (E14), since it has no traces; its answer is `accepted`.
 pub fn push_answer<R: AllocGlobal + Threads + Sync>(
     rt: &R,
     front: &str,
@@ -21,7 +21,7 @@ pub fn push_answer<R: AllocGlobal + Threads + Sync>(
     Ok(())
 }
 
-/// What the nodes under test may call.
+/// A constant and nodes, which the nodes under test may use.
 const NODES: &str = "\
 const k = 2;
 node two(a, b: int) returns (p, q: int); let p = a + 1; q = b * 2; tel

@@ -1,8 +1,8 @@
 //! Random programs of the whole language, and the verdicts of random traces.
 //!
-//! A generator made the programs, and an evaluator that was written apart, from the pages alone,
-//! said what is wanted. Out of many these few have, taken together, each form on a clock and off
-//! it.
+//! A generator made the programs. An evaluator that was written apart, from the pages alone, found
+//! the wanted verdicts. These few programs were chosen out of many: together they have each form on
+//! a clock and off it.
 
 /// The programs.
 pub const PROGRAMS: &str = "

@@ -11,8 +11,8 @@ use std::thread::Threads;
 /// A record: `#` is the number of its trace, `x` and `c` are its cells.
 const RECORD: &str = "t#,x,c";
 
-/// What stands in its place: itself, a cell more or less, a cell that is none, a name that is none
-/// or comes back, and quotes.
+/// The records in its place: itself, a cell more or less, an ill-formed cell, an ill-formed name or
+/// one that comes back, and quotes.
 const MISTAKES: [&str; 9] = [
     RECORD,
     "t#,x,c,1",
@@ -90,8 +90,8 @@ fn push_random(
     Ok(())
 }
 
-/// What is answered on a random text in rounds or in sections, where that is not what is answered
-/// on it as a whole.
+/// The answers on a random text, in rounds and in sections, that differ from that on the text as a
+/// whole.
 fn push_differing<R: AllocGlobal + Threads + Sync>(
     rt: &R,
     text: &[u8],
@@ -104,7 +104,7 @@ fn push_differing<R: AllocGlobal + Threads + Sync>(
     push_unlike_reads(rt, text, first, whole.as_str(), unlike)
 }
 
-/// The answers on random texts with each mistake in each record that are others in rounds or in
+/// The answers on random texts, with each mistake in each record, that differ in rounds or in
 /// sections.
 fn differing<R: AllocGlobal + Threads + Sync>(rt: &R) -> Result<String, AllocError> {
     let mut numbers = Numbers { state: 47 };

@@ -1,4 +1,4 @@
-//! Trace texts: what is read of them, whichever way their records end and their cells are written.
+//! Trace texts and the traces that are read of them, however records end and cells are written.
 
 use crate::texts::{around, is_same};
 use lb_static::Signature;
@@ -23,31 +23,26 @@ pub fn push_text(short: &str, text: &mut String) -> Result<(), AllocError> {
     Ok(())
 }
 
-// The cells of an instant.
-fn push_row(row: &[i32], said: &mut String) -> Result<(), AllocError> {
-    said.push_str(" (")?;
-    for cell in row {
-        write!(said, " {cell}")?;
-    }
-    said.push_str(" )")
-}
-
 // The names of the traces, each with the cells of its instants.
 fn push_traces(alloc: Global, set: &TraceSet, said: &mut String) -> Result<(), AllocError> {
     let mut row = Vec::new(alloc);
     for k in 0..set.len() {
         write!(said, "{}:", set.name(k))?;
         for t in 0..set.length(k) {
+            said.push_str(" (")?;
             row.clear();
             set.copy_row(k, t, &mut row)?;
-            push_row(row.as_slice(), said)?;
+            for cell in row.as_slice() {
+                write!(said, " {cell}")?;
+            }
+            said.push_str(" )")?;
         }
         said.push_str(";")?;
     }
     Ok(())
 }
 
-// What is read of a text under a signature, or its refusal.
+// The traces that are read of a text under a signature, or its refusal.
 fn push_read(
     alloc: Global,
     signature: &Signature,
@@ -56,11 +51,14 @@ fn push_read(
 ) -> Result<(), AllocError> {
     let mut text = String::new(alloc);
     push_text(asked, &mut text)?;
-    let read = read_traces(alloc, signature, text.as_str().as_bytes());
-    push_last(alloc, read, said)
+    push_outcome(
+        alloc,
+        &read_traces(alloc, signature, text.as_str().as_bytes()),
+        said,
+    )
 }
 
-// An integer `x` and a Boolean `c`.
+// The signature of an integer `x` and a Boolean `c`.
 fn two_columns(alloc: Global) -> Result<Signature, AllocError> {
     let mut signature = Signature::new(alloc);
     signature.push(String::from_str(alloc, "x")?, Kind::Int)?;
@@ -68,12 +66,12 @@ fn two_columns(alloc: Global) -> Result<Signature, AllocError> {
     Ok(signature)
 }
 
-/// What is read of a text whose columns are an integer `x` and a Boolean `c`, or its refusal.
+/// The traces of a text whose columns are an integer `x` and a Boolean `c`, or its refusal.
 pub fn push_answer(alloc: Global, asked: &str, said: &mut String) -> Result<(), AllocError> {
     push_read(alloc, &two_columns(alloc)?, asked, said)
 }
 
-/// The same of a text whose columns are integers `x` and `y` and a Boolean `c`.
+/// `push_answer` for a text whose columns are integers `x` and `y` and a Boolean `c`.
 pub fn push_three(alloc: Global, asked: &str, said: &mut String) -> Result<(), AllocError> {
     let mut signature = Signature::new(alloc);
     signature.push(String::from_str(alloc, "x")?, Kind::Int)?;
@@ -82,7 +80,7 @@ pub fn push_three(alloc: Global, asked: &str, said: &mut String) -> Result<(), A
     push_read(alloc, &signature, asked, said)
 }
 
-// What is said of a text that has been read, or of its refusal.
+// The traces that were read, or the refusal.
 fn push_outcome(
     alloc: Global,
     read: &Result<TraceSet, TraceError>,
@@ -94,18 +92,7 @@ fn push_outcome(
     }
 }
 
-// The same, and lets it go.
-fn push_last(
-    alloc: Global,
-    read: Result<TraceSet, TraceError>,
-    said: &mut String,
-) -> Result<(), AllocError> {
-    let pushed = push_outcome(alloc, &read, said);
-    drop(read);
-    pushed
-}
-
-// The place behind the line that begins at a place, if it has an end.
+// The place behind the line that begins at `at`, if the line has an end.
 fn line_end(text: &[u8], at: usize) -> Option<usize> {
     for (k, b) in text.iter().enumerate() {
         if k >= at && *b == b'\n' {
@@ -115,7 +102,7 @@ fn line_end(text: &[u8], at: usize) -> Option<usize> {
     None
 }
 
-// Chunk 1 or 2 of a text: the line that begins at a place, up to an end, or the rest.
+// Chunk `k` of a text: for 1 the bytes from `at` to `end`, else the bytes from `end` on.
 fn chunk_at(alloc: Global, text: &[u8], at: usize, end: usize, k: usize) -> Option<Vec<u8>> {
     let chunk = if k == 1 {
         text.get(at..end)
@@ -128,8 +115,8 @@ fn chunk_at(alloc: Global, text: &[u8], at: usize, end: usize, k: usize) -> Opti
     Some(copy)
 }
 
-// What is read of a text in three chunks, of which the second is the line that begins at a place;
-// none where they are not read as chunks.
+// The traces of a text in three chunks, the second of which is the line at `at`; none if the text
+// is not read in chunks.
 fn read_at<R: Threads + Sync>(
     rt: &R,
     alloc: Global,
@@ -144,24 +131,8 @@ fn read_at<R: Threads + Sync>(
     read_loaded(rt, alloc, signature, body.get(..at)?, &load, numbers, 2)
 }
 
-// Whether a text was read in chunks, with what was read.
-fn push_chunks(
-    alloc: Global,
-    read: Option<TraceSet>,
-    said: &mut String,
-) -> Result<bool, AllocError> {
-    let pushed = match &read {
-        Some(set) => push_traces(alloc, set, said),
-        None => Ok(()),
-    };
-    let is_read = read.is_some();
-    drop(read);
-    pushed?;
-    Ok(is_read)
-}
-
-// What is read of a text in chunks, cut at each of its places, where anything is read and that is
-// not what was said.
+// The first reading of a text in chunks that differs from `said`. The text is cut at each of its
+// places.
 fn push_by_chunks<R: Threads + Sync>(
     rt: &R,
     alloc: Global,
@@ -171,16 +142,19 @@ fn push_by_chunks<R: Threads + Sync>(
 ) -> Result<(), AllocError> {
     let mut other = String::new(alloc);
     for at in 0..body.len() {
+        let Some(set) = &read_at(rt, alloc, signature, body, at) else {
+            continue;
+        };
         other.clear();
-        let read = read_at(rt, alloc, signature, body, at);
-        if push_chunks(alloc, read, &mut other)? && !is_same(other.as_str(), said.as_str()) {
+        push_traces(alloc, set, &mut other)?;
+        if !is_same(other.as_str(), said.as_str()) {
             return write!(said, " and cut at {at} {other}");
         }
     }
     Ok(())
 }
 
-// Whether a number of workers read of a text what was said; what they read else is said too.
+// Whether this number of workers read what stands in `said`. If not, what they read is added.
 fn is_read_by<R: Threads + Sync>(
     rt: &R,
     alloc: Global,
@@ -191,7 +165,7 @@ fn is_read_by<R: Threads + Sync>(
 ) -> Result<bool, AllocError> {
     let mut other = String::new(alloc);
     let read = read_traces_by(rt, alloc, signature, body, workers);
-    push_last(alloc, read, &mut other)?;
+    push_outcome(alloc, &read, &mut other)?;
     if is_same(other.as_str(), said.as_str()) {
         return Ok(true);
     }
@@ -199,8 +173,8 @@ fn is_read_by<R: Threads + Sync>(
     Ok(false)
 }
 
-// What is read of a text, or its refusal, by each number of workers and in chunks; or the first
-// that makes a difference.
+// The traces of a text, or its refusal, and the first reading that differs, by a number of workers
+// or in chunks.
 fn push_each_reading<R: Threads + Sync>(
     rt: &R,
     alloc: Global,
@@ -208,7 +182,7 @@ fn push_each_reading<R: Threads + Sync>(
     body: &[u8],
     said: &mut String,
 ) -> Result<(), AllocError> {
-    push_last(alloc, read_traces(alloc, signature, body), said)?;
+    push_outcome(alloc, &read_traces(alloc, signature, body), said)?;
     for workers in 0..24u32 {
         if !is_read_by(rt, alloc, signature, body, workers, said)? {
             return Ok(());
@@ -217,7 +191,7 @@ fn push_each_reading<R: Threads + Sync>(
     push_by_chunks(rt, alloc, signature, body, said)
 }
 
-/// The same of a text whose columns are an integer `x` and a Boolean `c`.
+/// `push_each_reading` for a text whose columns are an integer `x` and a Boolean `c`.
 pub fn push_by_workers<R: Threads + Sync>(
     rt: &R,
     alloc: Global,
@@ -338,32 +312,19 @@ fn signature_of(alloc: Global, kinds: &str, text: &mut String) -> Result<Signatu
     Ok(signature)
 }
 
-// The Booleans of a text that has been read, or its refusal.
-fn push_kept(read: &Result<TraceSet, TraceError>, said: &mut String) -> Result<(), AllocError> {
-    match read {
-        Ok(set) => push_words(set, said),
-        Err(error) => write!(said, "E{} {error}", error.number()),
-    }
-}
-
-// A record in each line, behind those of a text.
-fn push_records(records: &str, text: &mut String) -> Result<(), AllocError> {
-    for record in records.split(' ') {
-        write!(text, "\n{record}")?;
-    }
-    Ok(())
-}
-
-/// What is kept of the Booleans of some records, which stand behind the kinds of their columns.
+/// The bits that are kept of the Booleans of some records, which stand behind the kinds of their
+/// columns.
 pub fn push_bits(alloc: Global, asked: &str, said: &mut String) -> Result<(), AllocError> {
     let (kinds, records) = around(asked, " ");
     let mut text = String::new(alloc);
     let signature = signature_of(alloc, kinds, &mut text)?;
-    push_records(records, &mut text)?;
-    let read = read_traces(alloc, &signature, text.as_str().as_bytes());
-    let pushed = push_kept(&read, said);
-    drop(read);
-    pushed
+    for record in records.split(' ') {
+        write!(text, "\n{record}")?;
+    }
+    match &read_traces(alloc, &signature, text.as_str().as_bytes()) {
+        Ok(set) => push_words(set, said),
+        Err(error) => write!(said, "E{} {error}", error.number()),
+    }
 }
 
 // The kinds of columns and some records: no Boolean, one, and some among integers; sixty-four,

@@ -48,24 +48,17 @@ a
 ----
  => ||";
 
-const VERDICTS: [Verdict; 4] = [
-    Verdict::Passed,
-    Verdict::Assertion(0),
-    Verdict::Fault(1999999999),
-    Verdict::Undefined(0),
-];
-
-fn push_statuses(verdicts: &[Verdict], said: &mut String) -> Result<(), AllocError> {
-    for verdict in verdicts {
-        write!(said, "{} ", status(&[*verdict]))?;
-    }
-    Ok(())
-}
-
 // The statuses of some verdicts, and the parts of options.
 fn told(alloc: Global) -> Result<String, AllocError> {
     let mut said = String::new(alloc);
-    push_statuses(&VERDICTS, &mut said)?;
+    for verdict in [
+        Verdict::Passed,
+        Verdict::Assertion(0),
+        Verdict::Fault(1999999999),
+        Verdict::Undefined(0),
+    ] {
+        write!(said, "{} ", status(&[verdict]))?;
+    }
     let options = Options::new(String::from_str(alloc, "main")?, None, 1, 64, true);
     push_options(&options, &mut said)?;
     Ok(said)

@@ -1,5 +1,5 @@
-//! Traces that come from a feed and are judged in rounds of a few bytes: what is answered is what
-//! the text as a whole calls for.
+//! Traces that come from a feed and are judged in rounds of a few bytes: the answer is that on the
+//! text as a whole.
 
 use crate::answers::{push_refusal, spread};
 use crate::readings::push_text;
@@ -30,21 +30,21 @@ pub const SIZES: [Sizes; 3] = [
     },
 ];
 
-/// How many workers judge.
+/// The numbers of workers that judge.
 pub const WORKERS: [u32; 4] = [0, 1, 2, 7];
 
-/// A text that is given in two pieces, or in more where there is less room; it may fail where it
-/// would be over.
+/// A feed that gives a text in two pieces, or in more where there is less room. It may fail at the
+/// end of the text.
 #[derive(Drop)]
 pub struct Pieces<'t> {
     rest: &'t [u8],
-    /// How many bytes of the first piece are left.
+    /// The number of bytes of the first piece that are left.
     first: usize,
     fails: bool,
 }
 
 impl<'t> Pieces<'t> {
-    /// A text of which so many bytes are the first piece.
+    /// A feed of `text` in two pieces, the first of `first` bytes.
     pub fn new(text: &'t [u8], first: usize) -> Pieces<'t> {
         Pieces {
             rest: text,
@@ -53,7 +53,7 @@ impl<'t> Pieces<'t> {
         }
     }
 
-    /// The same of a text that fails behind its bytes.
+    /// `new` for a feed that fails at the end of the text.
     fn failing(text: &'t [u8], first: usize) -> Pieces<'t> {
         Pieces {
             rest: text,
@@ -90,7 +90,7 @@ pub fn push_report(said: &mut String, report: &Report) -> Result<(), AllocError>
     write!(said, "status {}", report.status)
 }
 
-/// Why there is no report, with the record where that is known.
+/// The cause for which there is no report, with the record where that is known.
 pub fn push_cause(said: &mut String, cause: &BenchError) -> Result<(), AllocError> {
     match cause {
         BenchError::Trace(cause) => write!(said, "E{} {cause}", cause.number()),
@@ -98,7 +98,7 @@ pub fn push_cause(said: &mut String, cause: &BenchError) -> Result<(), AllocErro
     }
 }
 
-/// What is answered on a text as a whole, in one line.
+/// The answer on a text as a whole, in one line.
 fn push_answered(said: &mut String, answer: &Result<Report, BenchError>) -> Result<(), AllocError> {
     match answer {
         Ok(report) => push_report(said, report),
@@ -106,14 +106,12 @@ fn push_answered(said: &mut String, answer: &Result<Report, BenchError>) -> Resu
     }
 }
 
-/// The same, and lets it go.
+/// `push_answered` for an answer that is then dropped.
 fn push_answer(said: &mut String, answer: Result<Report, BenchError>) -> Result<(), AllocError> {
-    let pushed = push_answered(said, &answer);
-    drop(answer);
-    pushed
+    push_answered(said, &answer)
 }
 
-/// What is answered on a source and a text as a whole.
+/// The answer on a source and a text as a whole.
 pub fn push_whole<R: AllocGlobal + Threads + Sync>(
     rt: &R,
     source: &str,
@@ -124,7 +122,7 @@ pub fn push_whole<R: AllocGlobal + Threads + Sync>(
     push_answer(said, bench(rt, source.as_bytes(), text, &options))
 }
 
-/// What is found on a feed or a file, in one line.
+/// The answer on a feed or a file, in one line.
 fn push_judgement(said: &mut String, found: &Result<Report, FeedFault>) -> Result<(), AllocError> {
     match found {
         Ok(report) => push_report(said, report),
@@ -134,15 +132,13 @@ fn push_judgement(said: &mut String, found: &Result<Report, FeedFault>) -> Resul
     }
 }
 
-/// The same, and lets it go.
+/// `push_judgement` for an answer that is then dropped.
 pub fn push_found(said: &mut String, found: Result<Report, FeedFault>) -> Result<(), AllocError> {
-    let pushed = push_judgement(said, &found);
-    drop(found);
-    pushed
+    push_judgement(said, &found)
 }
 
-/// What is answered on a source and a feed by so many workers, in rounds of these sizes, where that
-/// is not what is wanted.
+/// The answer on a source and a feed, if it is not `wanted`. `run` is the number of workers and the
+/// sizes of the rounds.
 fn push_unlike_feed<R: AllocGlobal + Threads + Sync>(
     rt: &R,
     source: &str,
@@ -161,9 +157,9 @@ fn push_unlike_feed<R: AllocGlobal + Threads + Sync>(
     push_unlike(wanted, said.as_str(), workers, first, unlike)
 }
 
-/// The answers in rounds that are not what is wanted, on a text that is cut at a byte: by one
-/// worker with each of the sizes, and by several, whose number and sizes take turns from byte to
-/// byte.
+/// The answers in rounds that are not `wanted`, on a text that is cut at byte `first`: by one
+/// worker with each of the sizes, and by a number of workers and with sizes that change from byte
+/// to byte.
 pub fn push_unlike_rounds<R: AllocGlobal + Threads + Sync>(
     rt: &R,
     source: &str,
@@ -180,13 +176,14 @@ pub fn push_unlike_rounds<R: AllocGlobal + Threads + Sync>(
     push_unlike_feed(rt, source, Pieces::new(text, first), run, wanted, unlike)
 }
 
-/// A sum over the instants of a trace.
+/// A node that sums its input over the instants of a trace.
 pub const SUM: &str = "\
 node main(x: int; c: bool) returns (ok: bool);
 var n: int;
 let n = (0 -> pre n) + x; ok = n < 40 or c; tel";
 
-/// What is answered on a text, whole and in rounds, cut at each of its bytes.
+/// The answer on a text as a whole, and the answers that differ in rounds, cut at each of its
+/// bytes.
 fn push_cuts<R: AllocGlobal + Threads + Sync>(
     rt: &R,
     text: &[u8],
@@ -200,7 +197,7 @@ fn push_cuts<R: AllocGlobal + Threads + Sync>(
     said.push_str(unlike.as_str())
 }
 
-/// The same of a text whose columns are an integer `x` and a Boolean `c`.
+/// `push_cuts` for a text whose columns are an integer `x` and a Boolean `c`.
 pub fn push_cut<R: AllocGlobal + Threads + Sync>(
     rt: &R,
     asked: &str,
@@ -213,7 +210,7 @@ pub fn push_cut<R: AllocGlobal + Threads + Sync>(
 
 // Texts of twenty records. One trace, twenty and two; a fault; lines that end in each way, and
 // empty ones; a byte order mark; names that come back, soon and late; each refusal of a record, at
-// the begin, late and in the last one; quotes that first come late, of a name, of a cell with a
+// the start, late and in the last one; quotes that first come late, of a name, of a cell with a
 // line end, and open ones.
 pub const CUTS: &str = "\
 trace,x,c{20 /a,@,0} => \
@@ -249,11 +246,11 @@ E17 the trace name of record 20 is ill-formed or comes back
 trace,x,c{19 /t@,@,1}/z,1,'1 => {19 t@ passed; }z passed; \
 total 20 passed 20 fault 0 undefined 0 assertion 0 false 0; status 0";
 
-/// The longest trace text of a case that is judged in rounds.
+/// The length of the longest trace text of a case that is judged in rounds.
 const SHORT: usize = 2_000;
 
-/// What is answered on a text in rounds, cut behind its first bytes, where that is not what is
-/// answered on it as a whole.
+/// The answers on a text in rounds, cut behind its first bytes, that differ from that on it as a
+/// whole.
 fn push_first_cuts<R: AllocGlobal + Threads + Sync>(
     rt: &R,
     source: &str,
@@ -268,7 +265,7 @@ fn push_first_cuts<R: AllocGlobal + Threads + Sync>(
     Ok(())
 }
 
-/// The same of a case text with short traces.
+/// `push_first_cuts` for a case text, if its traces are short.
 pub fn push_case_in_rounds<R: AllocGlobal + Threads + Sync>(
     rt: &R,
     case: &str,
@@ -281,8 +278,8 @@ pub fn push_case_in_rounds<R: AllocGlobal + Threads + Sync>(
     push_first_cuts(rt, source, traces.as_bytes(), unlike)
 }
 
-/// What is answered on a feed that fails behind each number of bytes of a text, by each number of
-/// workers, where that is not E21.
+/// The answers that are not E21 on feeds that fail behind each number of bytes of a text, by each
+/// number of workers.
 fn push_not_told<R: AllocGlobal + Threads + Sync>(
     rt: &R,
     source: &str,
@@ -313,7 +310,7 @@ const SOURCES: [&str; 3] = [
     "",
 ];
 
-/// What is answered on feeds that fail, where that is not E21.
+/// The answers that are not E21 on feeds that fail.
 fn not_told<R: AllocGlobal + Threads + Sync>(rt: &R) -> Result<String, AllocError> {
     let mut said = String::new(rt.alloc());
     for text in FAILING {

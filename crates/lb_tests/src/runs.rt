@@ -1,4 +1,4 @@
-//! Case texts and what the program answers: the report and the status, or the refusal.
+//! Case texts and the answers of the program: the report and the status, or the refusal.
 
 use crate::answers::push_refusal;
 use crate::texts::expect;
@@ -8,8 +8,8 @@ use lb_trace::TraceError;
 use std::alloc::{AllocError, Global};
 use std::test::Fail;
 
-/// Refusals that no case has.
-// Refusals that no text brings about in little time.
+/// The refusals that no case has.
+// No text brings them about in little time.
 fn rare_refusals(alloc: Global) -> Result<String, AllocError> {
     let mut said = String::new(alloc);
     push_refusal(&mut said, &BenchError::Memory)?;

@@ -14,8 +14,8 @@ use std::sync::atomic::{AtomicU64, Ordering};
 use std::test::Fail;
 use std::thread::Threads;
 
-/// A file that is held in memory. A read gives so many bytes at most; after so many reads the file
-/// has other bytes, or none can be read, but it tells its first size.
+/// A file in memory. A read gives at most `most` bytes. After `changes_after` reads the file has
+/// the bytes `later`, or cannot be read, but it keeps its first size.
 #[derive(Drop)]
 struct Held<'t> {
     text: &'t [u8],
@@ -94,10 +94,11 @@ impl FileExt for Held<'_> {
     }
 }
 
-/// How many workers judge.
+/// The numbers of workers that judge.
 const WORKERS: [u32; 3] = [0, 2, 7];
 
-/// What is answered on a source and a file by so many workers.
+/// The answer on a source and a file by `workers` workers, or `as a whole` if the file is not read
+/// in sections.
 pub fn push_ranges<R, F>(
     rt: &R,
     source: &str,
@@ -117,8 +118,8 @@ where
     }
 }
 
-/// What is answered on a text by so many bytes a read, where that is not what is wanted: the number
-/// of workers and the sizes take turns.
+/// The answer on a text by at most `most` bytes a read, if it is not `wanted`. The number of
+/// workers and the sizes change with `most`.
 pub fn push_unlike_reads<R: AllocGlobal + Threads + Sync>(
     rt: &R,
     text: &[u8],
@@ -133,8 +134,8 @@ pub fn push_unlike_reads<R: AllocGlobal + Threads + Sync>(
     push_unlike(wanted, said.as_str(), workers, most, unlike)
 }
 
-/// What is answered on a text in memory by several workers, and on a file in reads of each length
-/// up to fifty.
+/// The answer on a text in memory by two workers, and the answers that differ on a file by reads of
+/// each length below fifty.
 fn push_reads<R: AllocGlobal + Threads + Sync>(
     rt: &R,
     text: &[u8],
@@ -148,7 +149,7 @@ fn push_reads<R: AllocGlobal + Threads + Sync>(
     said.push_str(unlike.as_str())
 }
 
-/// The same of a file whose columns are an integer `x` and a Boolean `c`.
+/// `push_reads` for a file whose columns are an integer `x` and a Boolean `c`.
 pub fn push_sections<R: AllocGlobal + Threads + Sync>(
     rt: &R,
     asked: &str,
@@ -159,7 +160,7 @@ pub fn push_sections<R: AllocGlobal + Threads + Sync>(
     push_reads(rt, text.as_str().as_bytes(), said)
 }
 
-/// A text of so many traces of one instant each. Their names are a letter and a number, and all
+/// A text of `count` traces of one instant each. Their names are a letter and a number, and all
 /// lines are of one length.
 fn numbered_text(alloc: Global, letter: char, count: u32) -> Result<String, AllocError> {
     let mut text = String::from_str(alloc, "trace,x,c\n")?;
@@ -169,7 +170,7 @@ fn numbered_text(alloc: Global, letter: char, count: u32) -> Result<String, Allo
     Ok(text)
 }
 
-/// The number behind the letter `a` or another.
+/// The number in a name, behind the letter `a` or `letter`.
 fn number_behind(name: &str, letter: char) -> Option<usize> {
     let number = match name.strip_prefix('a') {
         Some(number) => number,
@@ -178,8 +179,8 @@ fn number_behind(name: &str, letter: char) -> Option<usize> {
     number.parse::<usize>().ok()
 }
 
-/// Whether what is said is a report on so many traces or more that all passed, with the numbers
-/// from 0 on behind the letter `a` or another.
+/// Whether `said` is a report on `least` traces or more that all passed, named by the letter `a` or
+/// `letter` and the numbers from 0 on.
 fn is_numbered(said: &str, letter: char, least: usize) -> bool {
     for (k, line) in said.split("; ").enumerate() {
         let Some(name) = line.strip_suffix(" passed") else {
@@ -192,8 +193,8 @@ fn is_numbered(said: &str, letter: char, least: usize) -> bool {
     false
 }
 
-/// Whether the report on a file that changes has each of so many lines once, as it was at some
-/// read. There may be no report where the file is not read in sections.
+/// Whether the report on a file that changes has each of at least `least` lines once, as it was at
+/// some read. There is no report if the file is not read in sections.
 fn is_whole_report<R: AllocGlobal + Threads + Sync>(
     rt: &R,
     file: &Held<'_>,
@@ -211,13 +212,14 @@ fn is_whole_report<R: AllocGlobal + Threads + Sync>(
     Ok(is_same(said.as_str(), "as a whole") || is_numbered(said.as_str(), letter, least))
 }
 
-/// How many lines a file has at first.
+/// The number of traces that a file has at first.
 const LINES: u32 = 3_000;
 
-/// What it becomes: the letter of its traces, and how many they are.
+/// The files that it becomes: the letter of the traces, and their number.
 const LATER: [(char, u32); 4] = [('b', LINES), ('c', 5_000), ('d', 200), ('e', 0)];
 
-/// Whether all reports are whole on a file that becomes another one after so many reads.
+/// Whether all reports are whole on a file that becomes `later` after each of some numbers of
+/// reads.
 fn are_whole_reports<R: AllocGlobal + Threads + Sync>(
     rt: &R,
     text: &[u8],
@@ -236,28 +238,17 @@ fn are_whole_reports<R: AllocGlobal + Threads + Sync>(
     Ok(true)
 }
 
-/// The letter of a later file of so many lines, where a report on it is not whole.
-fn push_torn<R: AllocGlobal + Threads + Sync>(
-    rt: &R,
-    text: &[u8],
-    letter: char,
-    count: u32,
-    said: &mut String,
-) -> Result<(), AllocError> {
-    let later = numbered_text(rt.alloc(), letter, count)?;
-    let least = count.min(LINES) as usize;
-    if !are_whole_reports(rt, text, letter, later.as_bytes(), least)? {
-        said.push(letter)?;
-    }
-    Ok(())
-}
-
 /// The letters of the files on which a report is not whole.
 fn torn_reports<R: AllocGlobal + Threads + Sync>(rt: &R) -> Result<String, AllocError> {
     let mut said = String::new(rt.alloc());
     let text = numbered_text(rt.alloc(), 'a', LINES)?;
     for (letter, count) in LATER {
-        push_torn(rt, text.as_bytes(), letter, count, &mut said)?;
+        let later = numbered_text(rt.alloc(), letter, count)?;
+        let least = count.min(LINES) as usize;
+        let (text, later) = (text.as_bytes(), later.as_bytes());
+        if !are_whole_reports(rt, text, letter, later, least)? {
+            said.push(letter)?;
+        }
     }
     Ok(said)
 }
@@ -268,7 +259,7 @@ fn changing_files(rt: HostRuntime) -> Result<(), Fail> {
     expect(&torn_reports(&rt), "")
 }
 
-/// Whether no report is made of a file of which a read failed.
+/// Whether a file with a failing read gives no report.
 fn is_failure_told<R: AllocGlobal + Threads + Sync>(
     rt: &R,
     file: &Held<'_>,
@@ -289,7 +280,7 @@ fn is_failure_told<R: AllocGlobal + Threads + Sync>(
     Ok(!said.as_str().starts_with("E") && !file.has_changed())
 }
 
-/// The numbers of reads after which no more can be read, where a report is made.
+/// The numbers of reads after which reading fails, but a report is made.
 fn not_told<R: AllocGlobal + Threads + Sync>(rt: &R) -> Result<String, AllocError> {
     let mut said = String::new(rt.alloc());
     for reads in 0..80u64 {
@@ -303,14 +294,14 @@ fn not_told<R: AllocGlobal + Threads + Sync>(rt: &R) -> Result<String, AllocErro
     Ok(said)
 }
 
-/// Files of which no more can be read after so many reads.
+/// Files that cannot be read any more after some reads.
 #[test]
 fn failing_files(rt: HostRuntime) -> Result<(), Fail> {
     expect(&not_told(&rt), "")
 }
 
-// Texts of twenty records, as files: what a run as a whole answers, but where the header is none,
-// has a quote, or nothing behind it.
+// Texts of twenty records, as files. The answer is that of a run as a whole, but for a header that
+// is wrong, has a quote, or has nothing behind it.
 pub const FILES: &str = "\
 trace,x,c{20 /a,@,0} => \
 a false 9; total 1 passed 0 fault 0 undefined 0 assertion 0 false 1; status 1

@@ -122,7 +122,7 @@ node n() returns (y: int) let tel; x at 1:36";
 /// The first line of a text whose second one is within a body.
 pub const BODY: &str = "node n() returns (y: int) let\n";
 
-/// What stands between `let` and the end, on the second line.
+/// The text behind `let`, on the second line, and the place of its error.
 pub const STATEMENTS: &str = "; tel at 2:1
 const n = 1; tel at 2:1
 if a then b tel at 2:1
@@ -161,7 +161,7 @@ y = 1; at 2:7";
 /// The first line of a text whose second one is an expression.
 pub const TERM: &str = "node n() returns (y: int) let y =\n";
 
-/// What stands after `y =`, on the second line.
+/// The text behind `y =`, on the second line, and the place of its error.
 pub const EXPRESSIONS: &str = "a | ; tel at 2:5
 a | at 2:4
 a -> ) tel at 2:6
@@ -361,7 +361,7 @@ when c; at 2:1";
 /// The first line of a text whose second one is a static expression.
 pub const CONSTANT: &str = "const n =\n";
 
-/// What stands after `const n =`, on the second line.
+/// The text behind `const n =`, on the second line, and the place of its error.
 pub const STATICS: &str = "; at 2:1
 true; at 2:1
 not 1; at 2:1

@@ -1,9 +1,10 @@
-//! Source texts at their limits and beyond: what is counted in them, or why they are refused.
+//! Source texts at their limits and beyond: the number of their constants and nodes, or the
+//! refusal.
 //!
 //! `no token begins at` is E1, `no tree fits the tokens up to` is E2, `over its limit at` is E3.
 //! The contract says no more of the place of E2 than that it is at a token or at the end.
 
-/// Texts, and how many constants and nodes they have.
+/// Texts, and the number of their constants and nodes, or the refusal.
 pub const CASES: &str = "-- nothing
 text => 0 constants, 0 nodes
 ----

@@ -1,22 +1,15 @@
-//! What is answered about a source: about its text, or its node under test and its observer.
+//! The answers on a source: on its text, or on its node under test and its observer.
 //!
-//! The last line says what is asked: `text`, or a node under test, perhaps with its observer after
-//! a comma. Of a text its constants and nodes are counted; of a program its instances and its
-//! specializations, before the nodes that are reached and the scalar inputs.
+//! The last line has the question: `text`, or a node under test, perhaps with its observer after a
+//! comma. The answer on a text is the number of its constants and nodes. The answer on a program is
+//! the number of its instances and specializations, the nodes that are reached, and the scalar
+//! inputs.
 
 use crate::texts::{around, is_same, last_line, named};
 use lb_check::{Checked, check};
-use lb_static::{Elab, Signature, StaticError, elaborate};
+use lb_static::{Elab, StaticError, elaborate};
 use lb_syntax::{Source, SyntaxError, parse};
 use std::alloc::{AllocError, Global};
-
-/// ` x: Int`
-fn push_inputs(inputs: &Signature, said: &mut String) -> Result<(), AllocError> {
-    for i in 0..inputs.len() {
-        write!(said, " {}: {:?}", inputs.name(i), inputs.kind(i))?;
-    }
-    Ok(())
-}
 
 /// `7 of 4: main f g | x: Int`
 fn push_program(elab: &Elab, said: &mut String) -> Result<(), AllocError> {
@@ -27,10 +20,14 @@ fn push_program(elab: &Elab, said: &mut String) -> Result<(), AllocError> {
         write!(said, " {}", node.tree.name.as_str())?;
     }
     said.push_str(" |")?;
-    push_inputs(elab.signature(), said)
+    let inputs = elab.signature();
+    for i in 0..inputs.len() {
+        write!(said, " {}: {:?}", inputs.name(i), inputs.kind(i))?;
+    }
+    Ok(())
 }
 
-/// What a node under test and its observer come to.
+/// The program of a node under test and its observer, or the refusal.
 fn push_elaborated(
     said: &mut String,
     elaborated: &Result<Elab, StaticError>,
@@ -41,7 +38,7 @@ fn push_elaborated(
     }
 }
 
-/// What is answered about a tree.
+/// The answer on a tree.
 fn push_about(
     alloc: Global,
     source: &Source,
@@ -53,13 +50,10 @@ fn push_about(
         return write!(said, "{constants} constants, {} nodes", source.nodes.len());
     }
     let (node, observer) = around(word, ", ");
-    let elaborated = elaborate(alloc, source, node, named(observer));
-    let pushed = push_elaborated(said, &elaborated);
-    drop(elaborated);
-    pushed
+    push_elaborated(said, &elaborate(alloc, source, node, named(observer)))
 }
 
-/// What is answered about a text that was parsed.
+/// The answer on a text that was parsed.
 fn push_parsed(
     alloc: Global,
     parsed: &Result<Source, SyntaxError>,
@@ -91,7 +85,7 @@ pub fn push_place(
     push_refused(&parse(alloc, text.as_str().as_bytes()), said)
 }
 
-/// What is answered about a text, by its last line.
+/// The answer on a text, to the question in its last line.
 pub fn push_answer(alloc: Global, asked: &str, said: &mut String) -> Result<(), AllocError> {
     let (text, word) = last_line(asked);
     push_parsed(alloc, &parse(alloc, text.as_bytes()), word, said)

@@ -1,13 +1,13 @@
-//! What breaks a rule of names, static values and instances, and where.
+//! The faults against rules of names, static values and instances, and their places.
 //!
-//! The last line of a row says what is asked: a node under test, perhaps with its observer after a
-//! comma. A place is told by line and column, which were counted by hand. A way to an instance is
-//! told by the start and then the calls, as `main > f 5:12[0]`, with the index of an iterated call.
+//! The last line of a row has the node under test, perhaps with its observer after a comma. A place
+//! is line and column, counted by hand. A path to an instance is the start and then the calls, with
+//! the index of an iterated call: `main > f 5:12[0]`.
 
 use crate::texts::{around, last_line, named};
 use lb_static::{
-    CallCycle, CallPath, CallStep, Elab, LimitFault, NameFault, NameRule, RangeFault, RootFault,
-    Start, StaticError, ValueFault, ValueRule, elaborate,
+    CallCycle, CallPath, Elab, LimitFault, NameFault, NameRule, RangeFault, RootFault, Start,
+    StaticError, ValueFault, ValueRule, elaborate,
 };
 use lb_syntax::{BinaryOperator, line_column, parse};
 use std::alloc::{AllocError, Global};
@@ -21,18 +21,6 @@ fn push_place(text: &[u8], offset: u32, said: &mut String) -> Result<(), AllocEr
     write!(said, "{}:{}", place.line, place.column)
 }
 
-/// `: unknown Value`
-fn push_name_rule(text: &[u8], rule: NameRule, said: &mut String) -> Result<(), AllocError> {
-    match rule {
-        NameRule::Unknown(sought) => write!(said, ": unknown {sought:?}"),
-        NameRule::Doubled { first } => {
-            said.push_str(": doubled, first ")?;
-            push_place(text, first, said)
-        }
-        NameRule::Arguments { wanted, given } => write!(said, ": {wanted} wanted, {given} given"),
-    }
-}
-
 /// `E4 5:12 x in main: unknown Value`
 fn push_name(text: &[u8], fault: &NameFault, said: &mut String) -> Result<(), AllocError> {
     said.push_str("E4 ")?;
@@ -44,16 +32,13 @@ fn push_name(text: &[u8], fault: &NameFault, said: &mut String) -> Result<(), Al
     if let Some(node) = &fault.node {
         write!(said, " in {}", node.as_str())?;
     }
-    push_name_rule(text, fault.rule, said)
-}
-
-/// ` > f 5:12[0]`
-fn push_step(text: &[u8], step: &CallStep, said: &mut String) -> Result<(), AllocError> {
-    write!(said, " > {} ", step.node.as_str())?;
-    push_place(text, step.offset, said)?;
-    match step.index {
-        Some(index) => write!(said, "[{index}]"),
-        None => Ok(()),
+    match fault.rule {
+        NameRule::Unknown(sought) => write!(said, ": unknown {sought:?}"),
+        NameRule::Doubled { first } => {
+            said.push_str(": doubled, first ")?;
+            push_place(text, first, said)
+        }
+        NameRule::Arguments { wanted, given } => write!(said, ": {wanted} wanted, {given} given"),
     }
 }
 
@@ -65,12 +50,16 @@ fn push_path(text: &[u8], path: &CallPath, said: &mut String) -> Result<(), Allo
     }
     said.push_str(path.node.as_str())?;
     for step in &path.steps {
-        push_step(text, step, said)?;
+        write!(said, " > {} ", step.node.as_str())?;
+        push_place(text, step.offset, said)?;
+        if let Some(index) = step.index {
+            write!(said, "[{index}]")?;
+        }
     }
     Ok(())
 }
 
-/// An operator of static expressions.
+/// The sign of an operator of static expressions.
 fn sign(operator: BinaryOperator) -> &'static str {
     match operator {
         BinaryOperator::Plus => "+",
@@ -82,25 +71,20 @@ fn sign(operator: BinaryOperator) -> &'static str {
     }
 }
 
-/// `1 / 0`
-fn push_value_rule(rule: &ValueRule, said: &mut String) -> Result<(), AllocError> {
-    match rule {
-        ValueRule::Operator {
-            operator,
-            left,
-            right,
-        } => write!(said, "{left} {} {right}", sign(*operator)),
-        ValueRule::Negation { operand } => write!(said, "- {operand}"),
-        ValueRule::Constant { name } => write!(said, "{} needs itself", name.as_str()),
-    }
-}
-
 /// `E5 5:12 in main: 1 / 0 | main`
 fn push_value(text: &[u8], fault: &ValueFault, said: &mut String) -> Result<(), AllocError> {
     said.push_str("E5 ")?;
     push_place(text, fault.offset, said)?;
     write!(said, " in {}: ", fault.node.as_str())?;
-    push_value_rule(&fault.rule, said)?;
+    match &fault.rule {
+        ValueRule::Operator {
+            operator,
+            left,
+            right,
+        } => write!(said, "{left} {} {right}", sign(*operator))?,
+        ValueRule::Negation { operand } => write!(said, "- {operand}")?,
+        ValueRule::Constant { name } => write!(said, "{} needs itself", name.as_str())?,
+    }
     push_path(text, &fault.path, said)
 }
 
@@ -161,7 +145,7 @@ fn push_error(text: &[u8], error: &StaticError, said: &mut String) -> Result<(),
     }
 }
 
-/// What breaks a rule, if a rule is broken.
+/// `accepted`, or the fault.
 fn push_elaborated(
     text: &[u8],
     elaborated: &Result<Elab, StaticError>,
@@ -173,7 +157,7 @@ fn push_elaborated(
     }
 }
 
-/// What breaks a rule in a text, by its last line.
+/// The fault of a text, with the node under test and the observer of its last line.
 pub fn push_answer(alloc: Global, asked: &str, said: &mut String) -> Result<(), AllocError> {
     let (text, word) = last_line(asked);
     let (node, observer) = around(word, ", ");
@@ -181,10 +165,7 @@ pub fn push_answer(alloc: Global, asked: &str, said: &mut String) -> Result<(), 
     let Ok(tree) = &parse(alloc, text) else {
         return said.push_str("no tree");
     };
-    let elaborated = elaborate(alloc, tree, node, named(observer));
-    let pushed = push_elaborated(text, &elaborated, said);
-    drop(elaborated);
-    pushed
+    push_elaborated(text, &elaborate(alloc, tree, node, named(observer)), said)
 }
 
 /// Names.

@@ -6,7 +6,8 @@ use std::alloc::{AllocError, Global};
 use std::io::{ErrorKind, Read, Write};
 use std::test::Fail;
 
-/// Gives a few bytes at a time, and is interrupted once it has given so many.
+/// An input that gives three bytes at a time, and is interrupted once it has given `fails_at`
+/// bytes.
 #[derive(Drop)]
 struct FailingInput {
     given: usize,
@@ -28,14 +29,14 @@ impl Read for FailingInput {
     }
 }
 
-/// How an output fails: a signal interrupts it, or it takes nothing.
+/// A failure of an output: a signal interrupts it, or it takes nothing.
 #[derive(Clone, Copy, PartialEq, Eq)]
 enum Fails {
     Interrupted,
     Full,
 }
 
-/// Takes one byte a write, and fails at its so manyth write.
+/// An output that takes one byte a write, and fails at write `fails_at`, counted from 1.
 #[derive(Drop)]
 struct FailingOutput {
     writes: u32,
@@ -62,7 +63,7 @@ impl Write for FailingOutput {
 
 const LINE: &[u8] = b"total 0 passed 0 fault 0 undefined 0 assertion 0 false 0\n";
 
-/// How many bytes are read whole, and after how many an input fails.
+/// The lengths of inputs that are read whole, and the lengths after which an input fails.
 const WHOLE: [usize; 4] = [0, 1, 1048576, 2500000];
 
 const FAILING: [usize; 4] = [0, 1, 10, 1500000];
@@ -104,8 +105,8 @@ fn inputs(rt: HostRuntime) -> Result<(), Fail> {
     expect(&first_wrong(rt.alloc()), "")
 }
 
-/// How many bytes went out before the output failed, or none where all did, and how often it
-/// failed.
+/// The number of bytes that went out before the output failed, or none if all did, and the number
+/// of failures.
 fn sent(bytes: &[u8], fails_at: u32, fails: Fails) -> (Option<usize>, u64) {
     let mut output = FailingOutput {
         writes: 0,
@@ -120,7 +121,7 @@ fn sent(bytes: &[u8], fails_at: u32, fails: Fails) -> (Option<usize>, u64) {
     (failed_after, sink.failures())
 }
 
-/// The first write at which a failure is told otherwise. Nothing where there is none.
+/// The first write whose failure is reported wrongly. Nothing where there is none.
 fn first_untold(alloc: Global) -> Result<String, AllocError> {
     for k in 0..LINE.len() {
         for fails in [Fails::Interrupted, Fails::Full] {
@@ -132,19 +133,11 @@ fn first_untold(alloc: Global) -> Result<String, AllocError> {
     Ok(String::new(alloc))
 }
 
-/// Whether a line goes out whole.
-fn is_sent(alloc: Global) -> bool {
-    let mut bytes: Vec<u8> = Vec::new(alloc);
-    send(&mut Writer::new(&mut bytes), LINE).is_ok() && bytes.as_slice() == LINE
-}
-
-/// Whether a failure is told where there is none: of a line, and of no byte.
-fn is_told_without_failure() -> bool {
-    sent(LINE, 0, Fails::Interrupted) != (None, 0) || sent(b"", 1, Fails::Full) != (None, 0)
-}
-
 #[test]
 fn outputs(rt: HostRuntime) -> Result<(), Fail> {
-    assert!(rt; is_sent(rt.alloc()) && !is_told_without_failure());
+    let mut bytes: Vec<u8> = Vec::new(rt.alloc());
+    assert!(rt; send(&mut Writer::new(&mut bytes), LINE).is_ok() && bytes.as_slice() == LINE);
+    assert!(rt; sent(LINE, 0, Fails::Interrupted) == (None, 0));
+    assert!(rt; sent(b"", 1, Fails::Full) == (None, 0));
     expect(&first_untold(rt.alloc()), "")
 }

@@ -1,6 +1,6 @@
 //! The tables of text, and the loop over their rows.
 //!
-//! A row says what is asked, then after a mark, mostly ` => `, what is wanted.
+//! A row has a question and, behind a mark, mostly ` => `, the wanted answer.
 //!
 //! ```text
 //! node f() returns (y: int) let tel
@@ -22,20 +22,20 @@ use std::alloc::{AllocError, Global};
 use std::test::Fail;
 use std::thread::Threads;
 
-/// What the rows of a table ask about, which one thread answers.
+/// A question that one thread answers.
 #[derive(Clone, Copy)]
 enum Alone<'a> {
     /// A source: its text, or its node under test.
     Sources,
-    /// A source: what breaks a rule of names, static values and instances.
+    /// A source: its fault against a rule of names, static values and instances.
     StaticCauses,
-    /// What stands behind this front: the place at which the text is refused as E2.
+    /// The text behind this front: the place at which the whole is refused as E2.
     Places(&'a str),
-    /// A text: where its names and forms stand.
+    /// A text: the offsets of its names and forms.
     Offsets,
-    /// A source: what breaks a rule of types, clocks or definitions, and where.
+    /// A source: its fault against a rule of types, clocks or definitions, and the place.
     CheckCauses,
-    /// A source, with an observer that is named: why it is too large, or has no order.
+    /// A source with this observer: the cause for which it is too large, or has no order.
     FlatCauses(&'a str),
     /// The two parts of a case text.
     Parts,
@@ -43,7 +43,7 @@ enum Alone<'a> {
     Cycles,
     /// The plan of a width and the lengths of traces.
     Plans,
-    /// What two seats of a board draw in turn.
+    /// The numbers that two seats of a board claim in turn.
     Claims,
     /// The shares of two seats that give to one another.
     Shares,
@@ -51,15 +51,15 @@ enum Alone<'a> {
     Readings,
     /// A trace text under the signature `x: int, y: int, c: bool`.
     Orders,
-    /// The kinds of columns, and records, whose Booleans are asked for.
+    /// The kinds of columns, and records: the bits of their Booleans.
     Bits,
-    /// A case whose records are told by their count, in lanes.
+    /// A case with counted records, in lanes.
     Batches,
     /// A kernel on integers, and its operands.
     Ints,
     /// A kernel on words of 64 integers, and its operands.
     Words,
-    /// The same, and the lanes of a width.
+    /// A kernel on words of 64 integers, its operands, and the lanes of a width.
     NarrowWords,
     /// A kernel on planes, and its operands.
     Planes,
@@ -71,31 +71,31 @@ enum Alone<'a> {
     Carries,
 }
 
-/// What the rows of a table ask about.
+/// A question that the rows of a table ask.
 #[derive(Clone, Copy)]
 enum Asks<'a> {
-    /// What one thread answers.
+    /// A question that one thread answers.
     Alone(Alone<'a>),
     /// A case text.
     Cases,
-    /// What stands behind some nodes and this front.
+    /// The end of a program, behind some nodes and this front.
     Programs(&'a str),
-    /// A case text, whatever the workers and the batches.
+    /// A case with counted records, by any number of workers and lanes.
     Spreads,
-    /// A trace text under the signature `x: int, c: bool`, whatever the workers.
+    /// A trace text under the signature `x: int, c: bool`, by any number of workers.
     Parted,
-    /// A trace text of a sum of `x` where `c` is not, in rounds, cut at each byte.
+    /// A trace text for the node `SUM`, in rounds, cut at each byte.
     Cuts,
-    /// The same as a file, in sections, whatever the reads.
+    /// A trace text for the node `SUM`, as a file in sections, by reads of any length.
     Files,
 }
 
-/// How the rows of a table stand.
+/// The form of a table.
 #[derive(Clone, Copy)]
 struct Form {
-    /// What stands between two rows.
+    /// The mark between two rows.
     between: &'static str,
-    /// What stands in a row between what is asked and what is wanted.
+    /// The mark in a row between the question and the wanted answer.
     mark: &'static str,
 }
 
@@ -105,7 +105,7 @@ const LINES: Form = Form {
     mark: " => ",
 };
 
-/// A row in each line, and the place that is wanted.
+/// A row in each line, with the wanted place at its end.
 const PLACES: Form = Form {
     between: "\n",
     mark: " at ",
@@ -117,7 +117,7 @@ const TEXTS: Form = Form {
     mark: " => ",
 };
 
-/// A line of dashes between two rows, and what is wanted in lines of its own.
+/// A line of dashes between two rows, and the wanted answer in lines of its own.
 const OFFSETS: Form = Form {
     between: "\n----\n",
     mark: "\n=>",
@@ -129,22 +129,22 @@ const BATCHES: Form = Form {
     mark: "%answer\n",
 };
 
-/// Cases whose answers do not.
+/// Cases whose answers end without a line end.
 const SPREADS: Form = Form {
     between: "\n%case\n",
     mark: "%answer\n",
 };
 
-/// The same, with the observer of each in the line of the mark between them.
+/// Cases whose answers end without a line end, each with its observer in the line of `%case`.
 const CASES: Form = Form {
     between: "\n%case",
     mark: "%answer\n",
 };
 
-/// A table: what its rows ask about, how they stand, and the rows.
+/// A table: the question and the form of its rows, and the rows.
 type Table = (Asks<'static>, Form, &'static str);
 
-/// Texts: what is read of them, and where they are refused.
+/// Texts: their programs and parts, and the places of their refusals.
 static TEXT_TABLES: [Table; 7] = [
     (Asks::Alone(Alone::Sources), TEXTS, source_texts::CASES),
     (Asks::Alone(Alone::Places("")), PLACES, source_places::PARTS),
@@ -167,7 +167,7 @@ static TEXT_TABLES: [Table; 7] = [
     (Asks::Alone(Alone::Parts), TEXTS, reports::CASES),
 ];
 
-/// Sources: where their names and forms stand, and what a refusal holds.
+/// Sources: the offsets of their names and forms, and the causes of refusals.
 static CAUSE_TABLES: [Table; 10] = [
     (Asks::Alone(Alone::Offsets), OFFSETS, offsets::OFFSETS),
     (
@@ -213,7 +213,7 @@ static CAUSE_TABLES: [Table; 10] = [
     (Asks::Alone(Alone::CheckCauses), TEXTS, check_causes::CASES),
 ];
 
-/// Kernels, code, cycles, batches and what is claimed of them.
+/// Kernels, code, cycles, batches and claims.
 static LANE_TABLES: [Table; 12] = [
     (Asks::Alone(Alone::Ints), LINES, lanes::INTEGERS),
     (Asks::Alone(Alone::Planes), LINES, lanes::PLANES),
@@ -257,7 +257,7 @@ static CASE_TABLES: [Table; 8] = [
 /// Cases at the limits of size and number.
 static LIMIT_TABLES: [Table; 1] = [(Asks::Cases, CASES, hostile::LIMITS)];
 
-/// The turns of `a@` from a first number to an end, one after the other.
+/// The text `turn` once for each number from `first` up to `end`, with the number for each `@`.
 fn push_turns(row: &mut String, first: u32, end: u32, turn: &str) -> Result<(), AllocError> {
     for number in first..end {
         let mut pieces = turn.split('@');
@@ -269,7 +269,7 @@ fn push_turns(row: &mut String, first: u32, end: u32, turn: &str) -> Result<(), 
     Ok(())
 }
 
-/// The first number and the end of `3` or `1..3`.
+/// The first number and the end of a range: 0 and 3 for `3`, 1 and 4 for `1..3`.
 fn numbers(text: &str) -> Option<(u32, u32)> {
     let (first, last) = match text.split_once("..") {
         Some((first, last)) => (first, last),
@@ -279,14 +279,15 @@ fn numbers(text: &str) -> Option<(u32, u32)> {
     Some((first.parse::<u32>().ok()?, last.saturating_add(1)))
 }
 
-/// Of `3 a@}` and what follows it, the numbers, the turn and what follows.
+/// The parts of `3 a@}` and a rest: the range of `3`, the turn `a@`, and the rest.
 fn repeated(piece: &str) -> Option<((u32, u32), &str, &str)> {
     let (repeated, rest) = piece.split_once('}')?;
     let (count, turn) = repeated.split_once(' ')?;
     Some((numbers(count)?, turn, rest))
 }
 
-/// The row in which all turns are written out, and whether each brace has a number of turns.
+/// Writes `short` to `row` with all turns written out. Returns whether each brace has a number of
+/// turns.
 pub fn write_out(row: &mut String, short: &str) -> Result<bool, AllocError> {
     let mut pieces = short.split('{');
     row.clear();
@@ -307,7 +308,7 @@ static ROUND_TABLES: [Table; 2] = [
     (Asks::Files, LINES, sections::FILES),
 ];
 
-/// What is answered on what a row asks of one thread.
+/// The answer to a question that one thread answers.
 fn push_alone(
     alloc: Global,
     asks: Alone<'_>,
@@ -340,7 +341,7 @@ fn push_alone(
     }
 }
 
-/// What is answered on what a row asks.
+/// The answer to the question of a row.
 fn push_answer<R: AllocGlobal + Threads + Sync>(
     rt: &R,
     asks: Asks<'_>,
@@ -358,7 +359,8 @@ fn push_answer<R: AllocGlobal + Threads + Sync>(
     }
 }
 
-/// Whether a row is answered as it wants, with the answer. A row without the mark is not.
+/// Whether `said`, the answer to a row, is the wanted one. A row without the mark has no wanted
+/// answer.
 fn is_right<R: AllocGlobal + Threads + Sync>(
     rt: &R,
     table: Table,
@@ -374,8 +376,8 @@ fn is_right<R: AllocGlobal + Threads + Sync>(
     Ok(is_same(said.as_str(), wanted))
 }
 
-/// Whether each row of a table is answered as it wants. The first that is not stays in `row`, with
-/// its answer in `said`; a row with a brace without a number of turns is one.
+/// Whether each row of a table has the wanted answer. The first that has not stays in `row`, with
+/// its answer in `said`. A row with a brace without a number of turns is wrong too.
 fn is_answered<R: AllocGlobal + Threads + Sync>(
     rt: &R,
     table: Table,
@@ -391,8 +393,8 @@ fn is_answered<R: AllocGlobal + Threads + Sync>(
     Ok(true)
 }
 
-/// The first row of some tables that is answered otherwise than it wants, and its answer. Nothing
-/// where there is none.
+/// The first row of some tables with a wrong answer, behind that answer. Nothing where there is
+/// none.
 fn first_wrong<R: AllocGlobal + Threads + Sync>(
     rt: &R,
     tables: &[Table],

@@ -1,19 +1,19 @@
-//! Parts of texts, and what a test wants to be said.
+//! Parts of texts, and the comparison of an answer with the wanted one.
 
 use std::alloc::AllocError;
 use std::test::Fail;
 
-/// What stands before the first mark, and what behind it: all and nothing where there is none.
+/// The text before the first mark, and the text behind it: all and nothing where there is no mark.
 pub fn around<'t>(text: &'t str, mark: &str) -> (&'t str, &'t str) {
     text.split_once(mark).unwrap_or((text, ""))
 }
 
-/// The first line, and what stands behind it: nothing and all where there is one line.
+/// The first line, and the text behind it: nothing and all where there is one line.
 pub fn first_line(text: &str) -> (&str, &str) {
     text.split_once('\n').unwrap_or(("", text))
 }
 
-/// What stands before the last line, and that line: nothing and all where there is one line.
+/// The text before the last line, and that line: nothing and all where there is one line.
 pub fn last_line(text: &str) -> (&str, &str) {
     text.rsplit_once('\n').unwrap_or(("", text))
 }
@@ -28,8 +28,7 @@ pub fn is_same(one: &str, other: &str) -> bool {
     one == other
 }
 
-/// Adds what is answered by so many workers, with a number of the run, where that is not what is
-/// wanted.
+/// Adds an answer that is not `wanted`, with the number of its run and of its workers.
 pub fn push_unlike(
     wanted: &str,
     answer: &str,
@@ -43,7 +42,7 @@ pub fn push_unlike(
     write!(unlike, "; run {number} by {workers} workers: {answer}")
 }
 
-/// Fails a test unless it says what is wanted. What it says instead is shown.
+/// Fails a test unless `said` is `wanted`. The failure shows `said`.
 pub fn expect(said: &Result<String, AllocError>, wanted: &str) -> Result<(), Fail> {
     match said {
         Ok(said) if is_same(said.as_str(), wanted) => Ok(()),

@@ -13,7 +13,7 @@ zero_is_int : is_int (pos 0) ≡ true
 unfolding is_int
 zero_is_int = refl
 
--- an integer of 32 bits, after the casts
+-- an integer of 32 bits is still one after the casts
 small : (v r : ℤ) → SFits w32 v → SFits w64 r → r ≡ to_z w32 (of_z w32 v)
     → is_int (to_z w64 (of_z w64 r)) ≡ true
 small v r f g e = ap is_int (to_z-of_z w64 r g ∙ e ∙ to_z-of_z w32 v f) ∙ int_fits v f
