@@ -1,5 +1,5 @@
 #!/bin/sh
-# Prints a trace text of about so many bytes for scale/valve.lus, with traces of 1 to 2000 instants.
+# Prints a trace text of about BYTES bytes for scale/valve.lus, with traces of 1 to 2000 instants.
 #
 #     scale/make_traces.sh BYTES > traces.csv
 awk -v bytes="$1" 'BEGIN {

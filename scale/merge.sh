@@ -3,8 +3,8 @@
 #
 #     scale/merge.sh FOLDER N [OPTION ..]
 #
-# Prints the report of the whole, with the status that a run over the whole would have. Where the
-# report of a part is missing, it names it, and the status is 3. OPTIONS are those that go with
+# Prints the report of the whole file, with the status of a run over the whole file. If the report
+# of a part is missing, it names that part, and the status is 3. OPTION is one that goes with
 # --merge: --strict, --baseline, --format. LBENCH names the program.
 set -u
 folder=$1 count=$2

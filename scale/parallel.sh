@@ -1,11 +1,11 @@
 #!/bin/sh
-# Judges a trace file in parts by GNU parallel, some at a time, and joins the reports.
+# Judges a trace file in parts with GNU parallel, JOBS parts at a time, and joins the reports.
 #
 #     scale/parallel.sh FOLDER N JOBS [OPTION ..] SOURCE TRACES
 #
-# JOBS is what `parallel --jobs` takes. A part that fails is tried twice more. For many machines set
-# HOSTS to what `parallel --sshlogin` takes, as HOSTS=16/rack1,16/rack2; they have the program and
-# these files under the same paths, or on a shared disk. LBENCH names the program.
+# JOBS is what `parallel --jobs` takes. A part that fails is tried twice more. For several machines
+# set HOSTS to what `parallel --sshlogin` takes, as HOSTS=16/rack1,16/rack2. The machines must have
+# the program and these files under the same paths, or on a shared disk. LBENCH names the program.
 set -u
 here=$(cd "$(dirname "$0")" && pwd)
 folder=$1 count=$2 jobs=$3

@@ -1,7 +1,7 @@
 #!/bin/sh
-# Tries the recipe of GNU parallel: a text that one run can take, in 1 to 25 parts, with 1 and with 4
-# jobs. Each merged report has to be, byte for byte, the report of the whole. Then a part is lost, and
-# the run is given again.
+# Tries the recipe for GNU parallel on a text that one run can take, in 1 to 25 parts, with 1 and
+# with 4 jobs. Each merged report has to be, byte for byte, the report of the whole text. Then the
+# report of a part is removed, and the recipe is run again.
 #
 #     LBENCH=crates/lbench/out/lbench scale/try_parallel.sh [BYTES]
 set -eu

@@ -1,12 +1,14 @@
 #!/bin/bash
-# Tries the recipe of Slurm on this machine alone: installs Debian's slurm-wlm and munge where they
-# are missing, runs munged, slurmctld and slurmd with a configuration in a folder of their own, judges
-# a text in 16 parts by an array, sees a part fail, repeats it, and joins the reports. It needs root.
+# Tries the recipe for Slurm on this machine alone. It installs Debian's slurmctld, slurmd, slurm-client and
+# munge if they are missing, and runs munged, slurmctld and slurmd with a configuration in a folder of its own.
+# Then it judges a text in 16 parts by an array, of which one part fails, repeats that part, and
+# joins the reports. It needs root.
 #
 #     LBENCH=crates/lbench/out/lbench scale/try_slurm.sh [BYTES [SHOULD]]
 #
-# With SHOULD, a file, the merged report has to be, byte for byte, what the file has; without it the
-# text is small enough for one run, whose report it has to be. It ends the processes that it started.
+# SHOULD is a file: the merged report has to be equal to it, byte for byte. Without SHOULD the text
+# must be small enough for one run, and the merged report has to be the report of that run. The
+# script ends the processes that it started.
 set -eu
 here=$(cd "$(dirname "$0")" && pwd)
 LBENCH=$(realpath "${LBENCH:-$(command -v lbench)}")
@@ -74,7 +76,7 @@ sinfo
 "$here/make_traces.sh" "$bytes" >"$work/traces.csv"
 ls -l "$work/traces.csv" | awk '{ print $5 " bytes of traces" }'
 cd "$here/.."
-# Part 11 can not be read the first time: its folder has a directory in the place of its report.
+# Part 11 cannot be written the first time: a directory stands in the place of its report.
 mkdir -p "$work/parts/00011.part"
 sbatch --wait --array=1-16 --export=ALL scale/array.sbatch "$work/parts" 16 scale/valve.lus \
     "$work/traces.csv" || echo "a task of the array failed"

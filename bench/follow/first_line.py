@@ -1,6 +1,6 @@
 #!/usr/bin/env python3
-"""first_line.py TRACES COMMAND...: runs COMMAND with TRACES on a pipe as its standard input, and
-prints how long after the last byte was taken the first line came, and the last."""
+"""first_line.py TRACES COMMAND...: runs COMMAND with TRACES on a pipe as its standard input. Prints
+how long after the last byte was taken the first line of the report came, and the last line."""
 import subprocess
 import sys
 import threading

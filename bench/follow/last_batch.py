@@ -1,7 +1,7 @@
 #!/usr/bin/env python3
-"""last_batch.py LBENCH [INSTANTS [WORKERS]]: runs LBENCH with --follow on 6,440 short traces. The last
-40 of them stand in a batch with a trace of INSTANTS instants. Prints when the lines of all short ones
-came, when those after them did, and how many processors were busy between."""
+"""last_batch.py LBENCH [INSTANTS [WORKERS]]: runs LBENCH with --follow on 6,440 short traces. The
+last 40 of them are in one batch with a trace of INSTANTS instants. Prints when the lines of all
+short traces came, when the lines after them came, and how many processors were busy in between."""
 import os
 import subprocess
 import sys

@@ -1,7 +1,7 @@
 #!/usr/bin/env bash
-# Times lbench with --follow beside the same run without it, with 1, 4 and 64 workers, and shows when
-# the first line of a live report goes out. Needs awk and python3 on the path, and rt where no path
-# of a program is given.
+# Times lbench with --follow and without it, with 1, 4 and 64 workers, and shows when the first line
+# of a live report goes out. Needs awk and python3 on the path, and rt if no path of a program is
+# given.
 #
 #     bench/follow/run.sh [LBENCH [RECORDS]]
 set -euo pipefail
@@ -26,7 +26,7 @@ timed() {
     echo "$name $((${EPOCHREALTIME/[.,]/} - start))" >> "$work/times"
 }
 
-# They take turns, so that what else the machine does falls on all.
+# The runs take turns, so that other load on the machine falls on all of them.
 for _ in 1 2 3 4 5; do
     for workers in 1 4 64; do
         timed "plain-$workers" --workers "$workers"

@@ -1,8 +1,8 @@
 #!/usr/bin/env bash
-# Reads a million traces of one instant, whose names are chosen to have one hash in a table, and a
-# million with one letter changed, which have many. The times should be alike. The names fall from
-# one to the next, or stand in no order. Needs rt, python3 and GNU time on the path. With a path as
-# its argument that program is tried.
+# Times lbench on a million traces of one instant whose names are chosen to have the same hash in a
+# table, and on a million whose names differ from these in one letter and have many hashes. The
+# times should be alike. The names stand in falling order, or in no order. Needs rt, python3 and GNU
+# time on the path. With a path as its argument that program is tried.
 #
 #     bench/hostile/names.sh [PROGRAM]
 set -euo pipefail

@@ -1,4 +1,4 @@
-"""Runs a program on streams that do not block or that nobody reads, and tells how it ends."""
+"""Runs a program on streams that do not block or that nobody reads, and prints how it ends."""
 import fcntl
 import os
 import signal

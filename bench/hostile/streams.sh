@@ -1,8 +1,8 @@
 #!/usr/bin/env bash
-# Runs lbench on streams that are hard on it: a pipe with a name whose writer ends at once, streams
-# that do not block, an output that nobody reads, a limit of file size, a path that is not UTF-8.
-# Each answer is compared with the table of docs/FORMATS.md, section 3. Needs rt, mkfifo and python3
-# on the path. With a path as its argument that program is tried.
+# Runs lbench on difficult streams: a named pipe whose writer ends at once, streams that do not
+# block, an output that nobody reads, a limit of file size, a path that is not UTF-8. Each answer is
+# compared with the table of docs/FORMATS.md, section 3. Needs rt, mkfifo and python3 on the path.
+# With a path as its argument that program is tried.
 #
 #     bench/hostile/streams.sh [PROGRAM]
 set -euo pipefail
@@ -26,7 +26,7 @@ is() {
 echo 'node main(x: int) returns (ok: bool); let ok = x < 12; tel' > source.lus
 awk 'BEGIN { print "trace,x"; for (n = 0; n < 200000; n++) print "t" n "," n % 7 }' > traces.csv
 
-# A pipe with a name. The writer writes, closes and ends, with 1, 2 and 0 workers.
+# A named pipe, with 1, 2 and 0 workers. The writer writes, closes and ends.
 mkfifo pipe
 right=0
 for turn in $(seq 1 20); do

@@ -1,6 +1,6 @@
 #!/usr/bin/env bash
-# Tells where an instant of a trace spends its time in the lanes of lb_sim, and of what instructions
-# its code is. With no arguments it does so for the programs of the scripts beside it.
+# Prints where an instant of a trace spends its time in the lanes of lb_sim, and the instructions of
+# its code. Without arguments it does so for the programs of the folders beside it.
 # The crates are proved and built by LLVM as the merge gate builds them. Needs rt and awk.
 #
 #     bench/instant/run.sh [SOURCE TRACES [NODE [OBSERVER]]]
@@ -15,12 +15,12 @@ instant_bench: lb_sim lb_trace lb_flat lb_traces lb_machine lb_lanes lb_check lb
 cp "$top/HANDLES" "$work/"
 (cd "$work/crates/instant_bench" && quietly rt run)
 
-# Keeps what the program tells of a source and its traces.
+# Keeps what the program prints about a source and its traces.
 timed() {
     "$work/crates/instant_bench/out/instant_bench" "${@:2}" | sed "s/^/$1 /" >> "$work/told"
 }
 
-# They take turns, so that what else the machine does falls on all.
+# The runs take turns, so that other load on the machine falls on all of them.
 for _ in 1 2 3; do
     if [ $# -gt 0 ]; then
         timed "$(basename "$1" .lus)" "$1" "$2" "${3:-main}" ${4:+"$4"}

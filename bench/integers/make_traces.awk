@@ -1,4 +1,4 @@
-# Writes a trace text of so many records (-v records=N) for tanks.lus: eight levels that wander, a
+# Writes a trace text of N records (-v records=N) for tanks.lus: eight levels that wander, a
 # set point, a demand and a message about each fourth instant, in traces of 500 instants, or of 100
 # to 900 with -v mixed=1. Near the end of some traces comes a demand that the openings do not meet,
 # one that goes beyond the integers, or a set point that is not assumed. It writes the same bytes at

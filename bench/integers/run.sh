@@ -1,7 +1,7 @@
 #!/usr/bin/env bash
-# Times what lbench takes to evaluate traces of integers, with one worker, and the same rows in a C
-# program. What reading and reporting take is measured with a null source and taken off; the C
-# program has its rows in memory. Needs rt, gcc and awk on the path.
+# Times lbench, with one worker, and a C program on the same traces of integers. The time of reading
+# and reporting is measured with null.lus and subtracted; the C program has its rows in memory.
+# Needs rt, gcc and awk on the path.
 #
 #     bench/integers/run.sh [LBENCH [RECORDS]]
 #
@@ -18,7 +18,7 @@ awk -v records="$records" -f "$here/make_traces.awk" > "$work/fixed.csv"
 awk -v records="$records" -v mixed=1 -f "$here/make_traces.awk" > "$work/mixed.csv"
 
 # Runs the bench on a source and the traces of these lengths, and keeps the report and the
-# microseconds. The status tells of verdicts alone.
+# microseconds. Status 1 only means that some trace fails.
 timed() {
     local source=$1 lengths=$2 option=${3:-}
     local start=${EPOCHREALTIME/[.,]/}
@@ -26,7 +26,7 @@ timed() {
     echo "$source$option $lengths $((${EPOCHREALTIME/[.,]/} - start))" >> "$work/times"
 }
 
-# They take turns, so that what else the machine does falls on all.
+# The runs take turns, so that other load on the machine falls on all of them.
 for _ in 1 2 3 4 5 6 7 8 9; do
     for lengths in fixed mixed; do
         "$work/tanks" "$work/$lengths.csv" > "$work/$lengths.report" 2> "$work/nanoseconds"

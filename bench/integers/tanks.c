@@ -12,7 +12,7 @@
 enum { TANKS = 8, HALF = TANKS / 2, COLUMNS = TANKS + 3 };
 enum verdict { PASSED, FAULT, ASSERTION, FALSE_, VERDICTS };
 
-// The operators: what leaves the range of int, or divides by zero, is a fault.
+// The operators: a result out of the range of int, or a division by zero, is a fault.
 static inline int32_t add(int32_t a, int32_t b, bool *fault) {
     int32_t result;
     *fault |= __builtin_add_overflow(a, b, &result);

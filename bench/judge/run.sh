@@ -53,7 +53,7 @@ values() {
 nodes > "$work/nodes.lus"
 values > "$work/values.lus"
 (cd "$work/crates/judge_bench" && quietly rt run < "$work/nodes.lus")
-# The two texts take turns, so that what else the machine does falls on both.
+# The two texts take turns, so that other load on the machine falls on both.
 for _ in $(seq 10); do
     for text in nodes values; do
         env time -f "%M" -o "$work/peak" "$work/crates/judge_bench/out/judge_bench" \

@@ -1,6 +1,6 @@
 #!/bin/sh
-# Checks the JUnit XML of each example against a schema, by xmllint of Debian's libxml2-utils, and
-# compares it byte for byte with what suite.awk makes of the report.
+# Checks the JUnit XML of each example against a schema, with xmllint of Debian's libxml2-utils, and
+# compares it byte for byte with what suite.awk makes from the report.
 #
 #     LBENCH=crates/lbench/out/lbench bench/junit/run.sh
 set -eu

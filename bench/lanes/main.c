@@ -1,4 +1,5 @@
-// Times the plain loops: a line of each name and the picoseconds of one call on 64 lanes.
+// Times the plain loops. Prints a line for each: its name and the picoseconds of one call on 64
+// lanes.
 #include <inttypes.h>
 #include <stddef.h>
 #include <stdint.h>

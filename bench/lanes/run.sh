@@ -12,7 +12,7 @@ lanes_bench: lb_lanes" "$crates/lb_lanes" "$here/lanes_bench"
 
 gcc -O2 -o "$work/plain" "$here/main.c" "$here/plain.c"
 (cd "$work/crates/lanes_bench" && quietly rt run)
-# The two take turns, so that what else the machine does falls on both.
+# The two programs take turns, so that other load on the machine falls on both.
 for _ in 1 2 3 4 5; do
     "$work/crates/lanes_bench/out/lanes_bench" >> "$work/kernels"
     "$work/plain" >> "$work/loops"

@@ -1,10 +1,11 @@
 """Sources that are hard to judge.
 
     hostile.py              the names of the sources, each with what it has
-    hostile.py NAME BYTES   the longest source of this name that has at most so many bytes
+    hostile.py NAME BYTES   the longest source of this name that has at most BYTES bytes
 
-The same bytes at each run. A statement has at most 500 operators and opening brackets, so much of
-what stands here is a nest of nearly as many around a long row, or an array of as many dimensions.
+It prints the same bytes at each run. A statement has at most 500 operators and opening brackets, so
+many of these sources nest nearly as many operators around a long row, or have an array of as many
+dimensions.
 """
 
 import itertools
@@ -16,7 +17,7 @@ RESERVED = set(
 )
 # Nearly the most operators and opening brackets of a statement.
 DEEP = 490
-# The type of an array of as many dimensions, with one element.
+# The type of an array of DEEP dimensions, with one element.
 WIDE = "int" + "^1" * DEEP
 LETTERS = "abcdefghijklmnopqrstuvwxyzABCDEFGHIJKLMNOPQRSTUVWXYZ"
 
@@ -35,7 +36,7 @@ SOURCE_OF_NAMES = all_names()
 
 
 def names(count):
-    """So many short names, none twice."""
+    """As many short names as count says, none twice."""
     while len(NAMES) < count:
         NAMES.append(next(SOURCE_OF_NAMES))
     return NAMES[:count]
@@ -325,7 +326,7 @@ FAMILIES = [
 
 
 def longest(family, size):
-    """The text for the greatest count that has at most so many bytes."""
+    """The text of a family for the greatest count with which it has at most size bytes."""
     least = 2
     while len(family(2 * least)) <= size:
         least *= 2

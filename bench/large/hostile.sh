@@ -1,8 +1,8 @@
 #!/usr/bin/env bash
-# Times lbench on sources of 1,000,000 bytes that are hard to judge, those of hostile.py: each is
-# stopped after 60 s of processor time. Wanted are under 3 s and 500 MB for each, whatever it is
-# answered. Needs rt, python3 and GNU time on the path. With a path as its argument that program is
-# timed; with names after it these sources alone.
+# Times lbench on the sources of hostile.py: 1,000,000 bytes each, and hard to judge. Each run is
+# stopped after 60 s of processor time. Wanted are under 3 s and 500 MB for each source, whatever
+# the answer is. Needs rt, python3 and GNU time on the path. With a path as its argument that
+# program is timed; with names after the path, only these sources are run.
 #
 #     bench/large/hostile.sh [PROGRAM [NAME ...]]
 set -euo pipefail

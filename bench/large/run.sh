@@ -1,6 +1,6 @@
 #!/usr/bin/env bash
 # Times lbench on programs at the limits: many specializations, many instances, large sizes, and a
-# million traces of one instant. It is proved and built by LLVM as the merge gate builds it.
+# million traces of one instant. lbench is proved and built by LLVM as the merge gate builds it.
 # Needs rt, awk and GNU time on the path. With a path as its argument that program is timed.
 #
 #     bench/large/run.sh [PROGRAM]
@@ -14,7 +14,7 @@ lbench=${1:-$crates/lbench/out/lbench}
 
 source() { awk -v which="$1" -f "$here/sources.awk" > "$work/$1.lus"; }
 
-# Runs the bench, and keeps its seconds, its peak of memory in KiB and what it answered.
+# Runs the bench, and keeps its seconds, its peak of memory in KiB and its answer.
 timed() {
     local name=$1 traces=$2
     env time -f "%e %M" -o "$work/time" "$lbench" "$work/$name.lus" "$work/$traces.csv" \
@@ -31,7 +31,7 @@ awk 'BEGIN {
 }' > "$work/traces.csv"
 (printf trace; for n in $(seq 0 98); do printf ',a[%s]' "$n"; done; echo) > "$work/row.csv"
 
-# They take turns, so that what else the machine does falls on all.
+# The runs take turns, so that other load on the machine falls on all of them.
 for _ in 1 2 3 4 5; do
     timed trivial none
     timed sizes none

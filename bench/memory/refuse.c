@@ -1,5 +1,6 @@
-/* Preloaded into a program, it refuses one request for memory, the one whose number stands in the
-   environment as REFUSED, and counts all of them into the file that COUNTED names. */
+/* This library is preloaded into a program. It refuses one request for memory: the one whose number
+   is in the environment variable REFUSED. It counts all requests, and writes their number into the
+   file that COUNTED names. */
 #define _GNU_SOURCE
 #include <errno.h>
 #include <fcntl.h>

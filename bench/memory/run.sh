@@ -1,10 +1,10 @@
 #!/usr/bin/env bash
-# Refuses each request for memory of a run in turn: with 0, 1 and 7 workers, in the order of the
-# traces and by length, from files, from standard input and as a case text, of a source that is
-# refused, and of a live report. Each run has to answer E0 with status 3, with no output or with the
-# first bytes of a live report, or else what it answers with ample memory: some requests a run can do
-# without. lbench is proved and built by LLVM as the merge gate builds it. Needs rt and cc on the
-# path. With a path as its argument that program is tried.
+# Refuses each request for memory of a run in turn. The runs have 0, 1 and 7 workers, with and
+# without --by-length; the traces come from a file, from standard input and from a
+# case text; one source is refused; some reports are live. Each run has to answer E0 with status 3,
+# and with no output or the first bytes of a live report. It may also answer as with ample memory,
+# since some requests are not needed. lbench is proved and built by LLVM as the merge gate builds
+# it. Needs rt and cc on the path. With a path as its argument that program is tried.
 #
 #     bench/memory/run.sh [PROGRAM]
 set -euo pipefail
@@ -26,8 +26,8 @@ once() {
         "$lbench" "$@" < "$input" > "$work/output" 2> "$work/errors" || status=$?
 }
 
-# may_be_out WORD ..: whether a run that memory was refused to may leave this output: nothing, or with
-# --follow the first bytes of the report.
+# may_be_out WORD ..: whether a run whose request was refused may leave this output: it may leave
+# nothing, or with --follow the first bytes of the report.
 may_be_out() {
     local size
     size=$(stat -c %s "$work/output")

@@ -1,5 +1,5 @@
 #!/usr/bin/env python3
-"""Compares the options that stand in `lbench --help`, in the man page, in the completions for bash,
+"""Compares the options that are in `lbench --help`, in the man page, in the completions for bash,
 zsh and fish, and in the table of docs/FORMATS.md.
 
     bench/options/run.py LBENCH
@@ -15,7 +15,7 @@ TOP = Path(__file__).resolve().parents[2]
 
 
 def in_help(lbench):
-    """The options that the program prints, the long ones."""
+    """The long options that the program prints."""
     text = subprocess.run([lbench, "--help"], capture_output=True, text=True, check=True).stdout
     return set(re.findall(r"--[a-z][a-z-]*", text))
 

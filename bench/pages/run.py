@@ -3,10 +3,10 @@
 
     bench/pages/run.py PAGE.md [LBENCH]
 
-A section begins with `## `. A fenced block with two words, as ```lus pump.lus, names a file. It is
-written into a folder, and stays there until another block has the name. A `console` block has
-commands after `$ `, each with what it prints. LBENCH is the program, crates/lbench/out/lbench unless
-another path is given.
+A section begins with `## `. A fenced block with two words, as ```lus pump.lus, is a file. It is
+written into a folder, and stays there until another block has the same name. A `console` block has
+commands after `$ `, each followed by what it prints. LBENCH is the program:
+crates/lbench/out/lbench, unless another path is given.
 """
 
 import os
@@ -47,7 +47,7 @@ def printed_by(command, folder, program):
 
 
 def run_section(text, folder, program):
-    """Runs the commands of a section: each with what it should print and what it prints."""
+    """Runs the commands of a section. Yields each with what it should print and what it prints."""
     for words, lines in blocks(text):
         if len(words) == 2:
             with open(os.path.join(folder, words[1]), 'w') as file:

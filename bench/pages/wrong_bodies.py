@@ -1,9 +1,9 @@
 #!/usr/bin/env python3
-"""Writes the tables of docs/WRONG_BODIES.md: a row for each edit, with what its line `plants:` says.
+"""Writes the tables of docs/WRONG_BODIES.md: a row for each edit, with its line `plants:`.
 
     bench/pages/wrong_bodies.py [--check]
 
-With `--check` nothing is written, and the status is 1 where the page has other tables.
+With `--check` nothing is written, and the status is 1 if the page has other tables.
 """
 
 import glob

@@ -29,7 +29,7 @@ nodes() {
 nodes 100000 > "$work/shorter.lus"
 nodes 1000000 > "$work/longer.lus"
 (cd "$work/crates/parse_bench" && quietly rt run < "$work/shorter.lus")
-# The two texts take turns, so that what else the machine does falls on both.
+# The two texts take turns, so that other load on the machine falls on both.
 for _ in $(seq 20); do
     for text in shorter longer; do
         "$work/crates/parse_bench/out/parse_bench" < "$work/$text.lus"

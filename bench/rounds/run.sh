@@ -1,9 +1,9 @@
 #!/usr/bin/env bash
-# Times lbench, and looks at its peak of memory, on trace texts that are judged round by round: from
-# a file, a pipe, a pipe with a name and standard input, with one worker and with four; ten times
-# the text; texts with quotes, and refused in their last record; a million traces of one instant,
-# and one of a million. Beside it stands a C program that judges the same traces in one pass. Needs
-# rt, gcc, awk and GNU time on the path.
+# Measures the time and the peak of memory of lbench on trace texts that are judged round by round:
+# from a file, a pipe, a named pipe and standard input, with one worker and with four; a text, and
+# one that is ten times as long; a text with quotes, and one that is refused in its last record; a
+# million traces of one instant, and one trace of a million instants. A C program judges the same
+# traces in one pass, for comparison. Needs rt, gcc, awk and GNU time on the path.
 #
 #     bench/rounds/run.sh [LBENCH [RECORDS]]
 #
@@ -58,14 +58,14 @@ each() {
     timed "long,file,$count" "long.$count" "${run[@]}" "$work/one.lus" "$work/long.csv"
 }
 
-# They take turns, so that what else the machine does falls on all.
+# The runs take turns, so that other load on the machine falls on all of them.
 for _ in 1 2 3 4 5; do
     for text in text tenfold; do timed "$text,c,1" "$text.c" "$work/stream" "$work/$text.csv"; done
     each 1
     each 4
 done
 
-# One report of each text, whoever judged it and wherever it came from.
+# All reports of a text are the same, whichever program judged it and wherever it came from.
 for text in text tenfold; do
     for way in 1 4 pipe.1 pipe.4 input.1 input.4 named.1 named.4; do
         cmp "$work/$text.c" "$work/$text.$way"

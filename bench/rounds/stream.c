@@ -1,5 +1,5 @@
-// tanks.lus in C, end to end: the text is read in pieces by a reader written by hand, each instant
-// is evaluated once its record has been read, and only names and verdicts are kept.
+// tanks.lus in C, from the text to the report: a reader written by hand reads the text in pieces,
+// each instant is evaluated once its record has been read, and only names and verdicts are kept.
 #define main evaluate_rows
 #include "../integers/tanks.c"
 #undef main
@@ -10,7 +10,7 @@ static char piece[PIECE];
 static size_t piece_length, place;
 static FILE *text;
 
-// The next byte of the text; EOF behind its last one.
+// The next byte of the text; EOF after its last one.
 static inline int next(void) {
     if (place == piece_length) {
         piece_length = fread(piece, 1, PIECE, text);
@@ -32,7 +32,7 @@ static inline int32_t next_cell(void) {
     return is_negative ? -value : value;
 }
 
-// The bytes up to the next comma; false behind the last record.
+// Reads the bytes up to the next comma into name; false after the last record.
 static bool next_name(char *name) {
     size_t length = 0;
     int byte = next();

@@ -1,4 +1,4 @@
-# Writes a trace text of so many records (-v records=N) in traces of 190 instants, with values that
+# Writes a trace text of N records (-v records=N) in traces of 190 instants, with values that
 # look drawn at random: twenty integers a record, or with -v booleans=1 forty Booleans; with
 # -v quoted=1 each cell in quotes. It writes the same bytes at each run.
 BEGIN {

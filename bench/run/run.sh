@@ -19,7 +19,7 @@ make_text integers
 make_text quoted -v quoted=1
 make_text booleans -v booleans=1
 
-# Runs a program on a text, and keeps what it wrote, its seconds and its peak of memory in KiB.
+# Runs a program on a text, and keeps its output, its seconds and its peak of memory in KiB.
 timed() {
     local text=$1 name=$2
     shift 2
@@ -27,7 +27,7 @@ timed() {
         > "$work/$text.$name.out"
 }
 
-# They take turns, so that what else the machine does falls on all.
+# The runs take turns, so that other load on the machine falls on all of them.
 for _ in 1 2 3 4 5; do
     for text in integers quoted booleans; do
         source=$here/tank_farm.lus
@@ -38,8 +38,8 @@ for _ in 1 2 3 4 5; do
     done
 done
 
-# The bench has judged each trace, the same by one worker and by four, and the other program has
-# seen each cell.
+# The bench has judged each trace, with one worker as with four, and the other program has counted
+# each cell.
 for text in integers quoted booleans; do
     cmp "$work/$text.lbench.out" "$work/$text.four_workers.out"
     echo "$text $(wc -c < "$work/$text.csv") $(cat "$work/$text.count_cells.out")" >> "$work/texts"

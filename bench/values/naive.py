@@ -1,9 +1,10 @@
-"""A naive reading of the equations of a program: what each variable holds at each instant.
+"""A naive evaluation of the equations of a program: the value of each variable at each instant.
 
-It is written from docs/LANGUAGE.md alone, with no thought of speed: an expression is worked out at
-an instant by working out its operands, and a memory by looking back for its last tick.
+It is written from docs/LANGUAGE.md alone, without regard to speed. An expression is evaluated at an
+instant by evaluating its operands there, and a memory by looking back for its last tick.
 
-A scalar is a number, a truth, NIL or BAD, an array a list, and ABSENT stands where there is none.
+The value of a scalar is a number, a Boolean, NIL or BAD; the value of an array is a list. ABSENT
+stands where there is no value.
 """
 
 import sys
@@ -13,7 +14,7 @@ ABSENT, NIL, BAD = 'absent', 'nil', 'bad'
 LEAST, MOST = -2**31, 2**31 - 1
 
 # A type is 'int', 'bool' or a pair of the type of the elements and their number.
-# A clock is a list of pairs of a variable and the truth that it has to have, from the base on.
+# A clock is a list of pairs, from the base on: a variable, and the Boolean that it has to have.
 BASE = ()
 
 Column = namedtuple('Column', 'name instance variable path')
@@ -48,7 +49,7 @@ OPERATORS = {
 
 
 def strict(function, operands):
-    """What a data operator gives: BAD where an operand is, else NIL where one is."""
+    """The result of a data operator: BAD if an operand is BAD, else NIL if an operand is NIL."""
     if any(operand is BAD for operand in operands):
         return BAD
     if any(operand is NIL for operand in operands):
@@ -99,7 +100,7 @@ def names_in(expression):
 
 
 class Instance:
-    """A node as it is called at one place, with memories of its own."""
+    """An instance: a node as it is called at one place, with memories of its own."""
 
     def __init__(self, program, label, name, parameters, is_there, arguments):
         self.program, self.label = program, label
@@ -433,7 +434,7 @@ class Instance:
         return any(holds(value, BAD) for value in named)
 
     def truths(self, t):
-        """What the assertions and the clock variables hold that are there."""
+        """The values, at an instant, of the assertions that tick and of the clock variables."""
         asserted = [self.value(e, t) for e, clock in self.asserted if self.ticks(clock, t)]
         return asserted, [self.variable(name, t) for name in self.clock_names]
 
@@ -480,7 +481,7 @@ class Program:
         self.instants = len(rows)
 
     def event(self, t):
-        """What decides at an instant, or None."""
+        """The word of the verdict that is decided at an instant, or None."""
         if any(instance.has_fault(t) for instance in self.instances):
             return 'fault'
         asserted, wanted = [], [self.judge.variable(self.judge.node.outputs[0].name, t)]

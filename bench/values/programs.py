@@ -134,7 +134,7 @@ class Program:
         self.random.shuffle(self.lines)
 
     def some_clock(self):
-        """The base clock, or that of a variable."""
+        """The base clock, or the clock of a variable."""
         truths = [name for name in self.ready if self.kinds[name] == 'bool'
                   and len(self.clocks[name]) < 2]
         if self.random.random() < 0.5 or not truths:

@@ -26,7 +26,7 @@ def row(seed):
 
 
 def within(line):
-    """A line of a string literal, parted where it is too long."""
+    """A line of a string literal, split where it is too long."""
     parts = []
     while len(line) > WIDTH + 1:
         end = line.rfind(',', 0, WIDTH) + 1

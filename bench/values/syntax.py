@@ -1,4 +1,4 @@
-"""Reads the text of a source into trees. An accepted source is wanted: nothing is refused here.
+"""Reads the text of a source into trees. The source must be an accepted one: nothing is refused.
 
 An expression is a tuple of its form and its parts, as ('binary', '+', a, b). Static expressions
 have the forms 'number', 'name', 'negate' and 'binary'.

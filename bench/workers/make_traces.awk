@@ -1,4 +1,4 @@
-# Writes a trace text of so many records (-v records=N): forty Boolean columns, whose values look
+# Writes a trace text of N records (-v records=N): forty Boolean columns, whose values look
 # drawn at random, in traces of 20 to 360 instants. It writes the same bytes at each run.
 function draw() {
     state = (state * 16807) % 2147483647

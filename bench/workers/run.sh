@@ -1,7 +1,8 @@
 #!/usr/bin/env bash
-# Times lbench on a large text of Boolean traces with 1, 4 and 64 workers and with rayon (0), less
-# what reading and reporting take, and a claim from a claim board, by one thread and by two at once.
-# All of it is proved and built by LLVM as the merge gate builds it. Needs rt and awk on the path.
+# Times lbench on a large text of Boolean traces with 1, 4 and 64 workers and with as many as rayon
+# chooses (0); the time of reading and reporting is subtracted. Also times a claim from a claim
+# board, by one thread and by two at once. All programs are proved and built by LLVM as the merge
+# gate builds them. Needs rt and awk on the path.
 #
 #     bench/workers/run.sh [RECORDS]
 set -euo pipefail
@@ -20,7 +21,7 @@ cp "$top/HANDLES" "$work/"
 
 awk -v records="$records" -f "$here/make_traces.awk" > "$work/traces.csv"
 
-# Runs the bench with so many workers on a source, and keeps the report and the microseconds.
+# Runs the bench with this number of workers on a source, and keeps the report and the microseconds.
 timed() {
     local name=$1 workers=$2 source=$3
     local start=${EPOCHREALTIME/[.,]/}
@@ -28,7 +29,7 @@ timed() {
     echo "$name $((${EPOCHREALTIME/[.,]/} - start))" >> "$work/times"
 }
 
-# They take turns, so that what else the machine does falls on all.
+# The runs take turns, so that other load on the machine falls on all of them.
 for _ in 1 2 3 4 5; do
     for workers in 1 4 64 0; do
         timed "reading-$workers" "$workers" "$here/reading.lus"

@@ -1,6 +1,6 @@
 #!/bin/sh
-# The CSV of a logger, with a column of times, `;` between cells, TRUE and FALSE, and 10.0 for 10,
-# becomes a trace text. It is for files without quotes.
+# Turns the CSV of a logger into a trace text. The CSV has a column of times, `;` between cells,
+# TRUE and FALSE, and 10.0 for 10. It must have no quotes.
 #
 #     recipes/loggers/awk.sh < logger.csv > traces.csv
 awk -F ';' -v OFS=, '

@@ -1,5 +1,5 @@
 #!/bin/sh
-# The same by Miller: it also takes quoted cells, and finds the columns by their names.
+# Does the same as awk.sh, with Miller. It also takes quoted cells, and finds the columns by name.
 #
 #     recipes/loggers/mlr.sh < logger.csv > traces.csv
 mlr --csv --ifs ';' --ofs , \

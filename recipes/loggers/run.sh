@@ -1,6 +1,6 @@
 #!/bin/sh
-# Runs the recipes for the CSV of loggers, and compares what they print with wanted.csv. mlr is the
-# program of Miller: `apt install miller` on Debian.
+# Runs the recipes for the CSV of loggers, and compares what they print with wanted.csv. The program
+# mlr is Miller: `apt install miller` on Debian.
 set -eu
 cd "$(dirname "$0")"
 for recipe in awk mlr; do
