@@ -141,8 +141,8 @@ pub use Rattle.lb_static.specs.StaticValues.{named, natural}
 pub use Rattle.lb_static.specs.StoredTypes.{declared_type, declared_types, naturals, view_type}
 pub use Rattle.lb_static.specs.TermForms.{IsPair, IsRow, IsSingle}
 pub use Rattle.lb_static.specs.declared.elab.Elaboration.{Elaboration}
-pub use Rattle.lb_static.specs.declared.reach.NodeId.{NodeId}
-pub use Rattle.lb_static.specs.declared.reach.Reached.{Reached}
+pub use Rattle.lb_static.specs.declared.reachable.NodeId.{NodeId}
+pub use Rattle.lb_static.specs.declared.reachable.Reached.{Reached}
 pub use Rattle.lb_static.specs.declared.resolved.CallId.{CallId}
 pub use Rattle.lb_static.specs.declared.resolved.CallSite.{CallSite}
 pub use Rattle.lb_static.specs.declared.resolved.ResolvedNode.{ResolvedNode}

@@ -1,4 +1,4 @@
--- Which programs are accepted, and why others are refused first.
+-- The acceptance of a program, and the first refusal of one that is not accepted.
 -- Source: this project's rule.
 use Rattle.std.specs.Prelude.{◌≡◌, Option, Some, None}
 use Rattle.std.specs.List.{list_all}
@@ -23,7 +23,7 @@ abbrev pub refusal : Program → Option Refusal
 refusal P =
     or_else (static_refusal P) (or_else (check_refusal P) (unless (is_small P) E12))
 
--- a program is accepted where no rule is broken and it is causal
+-- an accepted program breaks no rule and is causal
 pub record IsAccepted (P : Program) : Type 0 where
   pub rules : refusal P ≡ None
   pub causal : IsCausal P

@@ -1,5 +1,5 @@
--- Which parts of a node keep the rules of types, clocks and definitions: its declared variables and
--- its statements, each by itself. A part that breaks them breaks them for the node.
+-- The rules of types, clocks and definitions for one part of a node: a declared variable or a
+-- statement. A part that breaks a rule breaks it for the node.
 -- This file says what data of the program mean; no definition of the language stands on it.
 use Rattle.std.specs.Prelude.{ℕ, ◌+◌, Bool, ◌&&◌, ◌||◌, not, nat_eq, nat_lt, if◌then◌else◌, is_some}
 use Rattle.std.specs.Prelude.{Option, List, [], ◌∷◌, ◌++◌, length, slice_get}
@@ -17,17 +17,17 @@ use Rattle.lb_check.specs.DefinitionRules.{definition_count, is_memoryless}
 use Rattle.lb_check.specs.Occurrences.{Occurrence, occurrences, statements}
 use Rattle.lb_check.specs.TypeRules.{is_clock_typed, is_statement_typed}
 
--- what stands at a place of a list, if something does, passes a test
+-- whether the item of `xs` at place `i`, if there is one, passes `test`
 abbrev pub at_place : {A : Type 0} → (A → Bool) → List A → ℕ → Bool
 at_place test xs i = list_all test (listed (λ x. x ∷ []) (slice_get xs i))
 
--- the place of the first item of a list that fails a test
+-- the place of the first item of `xs` that fails `test`
 abbrev pub first_broken : {A : Type 0} → (A → Bool) → List A → Option ℕ
 first_broken test xs = position_from (λ x. not (test x)) 0 xs
 
 -- ## Types
 
--- the variable of its declared clock is a truth; a statement keeps the rules of types
+-- whether a part keeps the rules of types; of a variable, its clock variable is a truth
 abbrev pub is_part_typed : Program → Instance → Part → Bool
 is_part_typed P here (part.Variable x) =
     at_place (is_clock_typed P here) (variables here.node) x.0
@@ -35,8 +35,8 @@ is_part_typed P here (part.Statement j) = at_place (is_statement_typed P here) h
 
 -- ## Clocks
 
--- for what the variable at a place may wait: an input for inputs, an output for inputs and outputs,
--- a local for any variable
+-- the variables for which the one at place `i` may wait: an input for inputs, an output for inputs
+-- and outputs, a local for any variable
 abbrev pub awaitable : Node → ℕ → List Declaration
 awaitable here i =
     if nat_lt i (length here.inputs)
@@ -45,13 +45,13 @@ awaitable here i =
     then here.inputs ++ here.outputs
     else variables here
 
--- its declared clock waits for such a variable, and has an end
+-- whether the declared clock of `d` waits for a variable of `awaitable`, and runs in no circle
 abbrev pub is_declared_clock : Node → ℕ → Declaration → Bool
 is_declared_clock here i d =
     is_clocked_by (awaitable here i) d && is_some (variable_clock here d.name)
 
--- the right side of a statement and its parts stand on the clocks that the text gives them, and its
--- left variables on those of the results
+-- whether the right side of a statement and its parts stand on the clocks that the text gives them,
+-- and its left variables on the clocks of the results
 abbrev pub is_side_clocked : Program → Node → Statement × Occurrence → Bool
 is_side_clocked P here (s, o) =
     list_all (is_occurrence_clocked P here) (occurrences P here o.clock o.calls_before o.expr)
@@ -65,7 +65,7 @@ is_part_clocked P here (part.Statement j) =
 
 -- ## Definitions
 
--- the variable at a place has the definitions that it should have: an input none, another one
+-- whether the variable at place `i` has as many definitions as it should: an input none, others one
 abbrev pub is_defined_right : Node → ℕ → Declaration → Bool
 is_defined_right here i d =
     nat_eq (definition_count here d.name) (if nat_lt i (length here.inputs) then 0 else 1)

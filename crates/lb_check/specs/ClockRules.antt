@@ -17,7 +17,7 @@ use Rattle.lb_check.specs.Clocks.{Clock, Base, On, Given, variable_clock, declar
 use Rattle.lb_check.specs.Clocks.{given_inputs, result_clocks, ungrouped}
 use Rattle.lb_check.specs.Occurrences.{Occurrence, node_occurrences, statements}
 
--- ## The same clock
+-- ## Equal clocks
 
 abbrev pub is_clock : Clock → Clock → Bool
 is_clock Base Base = true
@@ -31,16 +31,16 @@ are_clocks ks ls = false
 
 -- ## Declarations
 
--- a declaration has no clock, or one that passes a test
+-- whether a declaration has no clock, or one that passes `test`
 abbrev pub if_clocked : (Sampling → Bool) → Declaration → Bool
 if_clocked test d = list_all test (listed (λ s. s ∷ []) d.clock)
 
--- the variable of a declared clock is among these
+-- whether the variable of a declared clock is among `allowed`
 abbrev pub is_clocked_by : List Declaration → Declaration → Bool
 is_clocked_by allowed d = if_clocked (λ s. among s.variable (map (λ v. v.name) allowed)) d
 
--- an input's clock variable is an input, and an output's is an input or an output; declared clocks
--- do not run in a circle
+-- whether the clock variable of each input is an input, that of each output is an input or an
+-- output, and no declared clocks run in a circle
 abbrev pub are_declared_clocks : Node → Bool
 are_declared_clocks here =
     list_all (is_clocked_by here.inputs) here.inputs
@@ -49,8 +49,8 @@ are_declared_clocks here =
 
 -- ## Calls
 
--- an input of the callee that is the clock variable of a parameter is given a variable of the
--- caller
+-- whether a variable of the caller is given for the clock variable of a parameter, where that is an
+-- input of the callee
 abbrev pub is_given_variable : Node → Node → Given → Declaration → Bool
 is_given_variable here callee given d =
     if_clocked (λ s.
@@ -63,31 +63,32 @@ are_given_variables here callee es =
     list_all (is_given_variable here callee (given_inputs callee.inputs es))
     (callee.inputs ++ callee.outputs)
 
--- a call on clock k is given variables for clocks; where it has one result, k is the clock of that
+-- whether a call on clock `k` is given variables for clocks, and, if it has one result, has it on
+-- `k`
 abbrev pub is_call_clocked : Node → Clock → Exprs → Node → Bool
 is_call_clocked here k es callee =
     are_given_variables here callee es
     && (not (nat_eq (length callee.outputs) 1)
     || are_clocks (result_clocks k callee es []) (k ∷ []))
 
--- iterated nodes have no clocked parameters
+-- whether a node has no clocked parameters, as an iterated node must
 abbrev pub is_base_clocked_node : Node → Bool
 is_base_clocked_node callee =
     list_all (λ d. not (is_some d.clock)) (callee.inputs ++ callee.outputs)
 
--- a node that is named, if it is one, passes a test
+-- whether the node with name `f`, if there is one, passes `test`
 abbrev pub if_node : Program → (Node → Bool) → Name → Bool
 if_node P test f = list_all test (listed (λ n. n ∷ []) (node_named P f))
 
 -- ## Expressions
 
--- a clock that stands one step below k
+-- whether a clock stands one step below `k`
 abbrev pub is_just_below : Clock → Option Clock → Bool
 is_just_below k (Some (On l x sign)) = is_clock k l
 is_just_below k o = false
 
--- an expression may stand on clock k; its parts stand on the clocks that `occurrences` gives them.
--- `current` is refused where nothing determines the clock of its operand.
+-- whether an expression may stand on clock `k`. Its parts stand on the clocks that `occurrences`
+-- gives them. `current` is refused where nothing determines the clock of its operand.
 abbrev pub is_on_clock : Program → Node → Clock → Expr → Bool
 is_on_clock P here k (Variable x) =
     not (among x (variable_names here)) || is_clock k (declared_clock here x)
@@ -105,7 +106,7 @@ is_occurrence_clocked P here o = is_on_clock P here o.clock o.expr
 abbrev pub left_clocks : Node → List Name → List Clock
 left_clocks here xs = map (declared_clock here) xs
 
--- the left variables are on the clocks of the results of a right side on clock k
+-- whether the left variables are on the clocks of the results of a right side on clock `k`
 abbrev pub are_on_results : Program → Node → Clock → List Name → Expr → Bool
 are_on_results P here k lefts (Call f statics es) =
     if_node P (λ n. are_clocks (left_clocks here lefts) (result_clocks k n es lefts)) f

@@ -1,4 +1,4 @@
--- What it means that the code found where a term may stand.
+-- The meaning of the clock set that the code infers for a term.
 -- This file says what data of the program mean; no definition of the language stands on it.
 use Rattle.std.specs.Prelude.{◌≡◌, ℕ, nat_eq, Bool, true, false, ◌&&◌, Some, None, List, [], ◌∷◌}
 use Rattle.std.specs.Prelude.{slice_get}
@@ -10,7 +10,7 @@ use Rattle.lb_static.specs.Names.{keeps_names}
 use Rattle.lb_static.specs.ReachedNodes.{IsReached}
 use Rattle.lb_static.specs.ResolvedNodes.{node_of, texts_of}
 use Rattle.lb_static.specs.ResolvedTerms.{expr_of}
-use Rattle.lb_static.specs.declared.reach.Reached.{Reached}
+use Rattle.lb_static.specs.declared.reachable.Reached.{Reached}
 use Rattle.lb_static.specs.declared.resolved.CallId.{CallId}
 use Rattle.lb_static.specs.declared.resolved.ResolvedNode.{ResolvedNode}
 use Rattle.lb_static.specs.declared.resolved.ResolvedStatement.{ResolvedStatement}
@@ -31,12 +31,12 @@ use Rattle.lb_check.specs.TermClocks.{Context, infer_clock}
 use Rattle.lb_check.specs.declared.clock_set.ClockSet.{ClockSet}
 use Rattle.lb_check.specs.declared.clock_set.ClockSet.TheVariants.{NoClock, AnyClock, OneClock}
 
--- an expression and its parts keep the rules of clocks where it stands on clock k after n calls
+-- whether an expression on clock `k` after `n` calls, and its parts, keep the rules of clocks
 abbrev pub is_clocked_on : Program → ResolvedNode → tree.Clock → ℕ → Expr → Bool
 is_clocked_on P here k n e =
     list_all (is_occurrence_clocked P (node_of here)) (occurrences P (node_of here) k n e)
 
--- an expression may stand on these clocks alone, and its own is one of them
+-- the clock set of an expression: it may stand on these clocks alone, and its own is one of them
 abbrev pub IsClockSet : Program → ResolvedNode → Expr → ClockSet → Type 0
 IsClockSet P here e NoClock = (k : tree.Clock) (n : ℕ) → is_clocked_on P here k n e ≡ false
 IsClockSet P here e AnyClock =
@@ -47,7 +47,7 @@ IsClockSet P here e (OneClock c) =
     × (clock_of P (node_of here) e ≡ Some (clock_in here c))
     × ((k : tree.Clock) (n : ℕ) → is_clocked_on P here k n e ≡ is_clock k (clock_in here c))
 
--- each of some terms may stand where the code found
+-- the clock set that is inferred for each term of a list is right
 abbrev pub AreClockSets : Program → ResolvedNode → Context → List Term → Type 0
 AreClockSets P here ctx [] = Unit {0}
 AreClockSets P here ctx (e ∷ es) =
@@ -64,12 +64,12 @@ pub record SeesClocks (P : Program) (r : Reached) (here : ResolvedNode) : Type 0
 
 -- ## One result
 
--- what a call calls has one output
+-- whether the callee of a call has one output
 abbrev pub calls_single : Reached → ResolvedNode → CallId → Bool
 calls_single r n c = holds (λ m. nat_eq m.outputs 1) (callee_in r n c)
 
 unfoldable mutual
-  -- each call in a term, itself included, has one result; iterators may have more
+  -- whether each call in a term, itself included, has one result; iterators may have more
   pub is_single : Reached → ResolvedNode → Term → Bool
   is_single r n (Literal m) = true
   is_single r n (Truth b) = true
@@ -99,13 +99,13 @@ unfoldable mutual
   are_single r n end_of-Term = true
   are_single r n (more_of-Term e rest) = is_single r n e && are_single r n rest
 
--- a right side: a call that is all of it may have more results
+-- whether each call in a right side has one result; a call that is all of it may have more
 unfoldable pub is_single_within : Reached → ResolvedNode → Term → Bool
 is_single_within r n (Group' p e) = is_single_within r n e
 is_single_within r n (Call' c arity all) = are_single r n all
 is_single_within r n e = is_single r n e
 
--- each call of a statement has one result, but for one that is a whole right side
+-- whether each call of a statement has one result, apart from one that is a whole right side
 abbrev pub is_statement_single : Reached → ResolvedNode → ResolvedStatement → Bool
 is_statement_single r n (statement.Equation lefts e) = is_single_within r n e
 is_statement_single r n (statement.Assertion e) = is_single r n e

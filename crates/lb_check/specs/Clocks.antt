@@ -12,14 +12,14 @@ use Rattle.lb_static.specs.StaticValues.{named}
 use Rattle.lb_static.specs.Instances.{Program, node_named}
 use Rattle.lb_static.specs.DataTypes.{variables}
 
--- the instants of the base clock, or those of a clock at which a variable has this sign
+-- a clock: the base clock, or the instants of a clock at which a variable has a sign
 pub data Clock : Type 0 where
   Base : Clock
   On : Clock → Name → Bool → Clock
 
 -- ## Declared clocks
 
--- the clock of a declaration, where that of the variable that it waits for is known
+-- the clock for a declared sampling, where `clock_of` gives the clock of its variable
 abbrev pub sampled :
     (Declaration → Option Clock) → List Declaration → Option Sampling → Option Clock
 sampled clock_of vars None = Some Base
@@ -27,12 +27,12 @@ sampled clock_of vars (Some s) =
     named (λ v. v.name) s.variable vars >>= λ v.
     clock_of v >>= λ k. Some (On k s.variable s.sign)
 
--- the declared clock of a variable, on which variables wait for others at most n deep
+-- the declared clock of a variable where its depth is less than `n`, else none
 abbrev pub clock_within : ℕ → List Declaration → Declaration → Option Clock
 clock_within zero vars d = None
 clock_within (suc n) vars d = sampled (clock_within n vars) vars d.clock
 
--- none where declared clocks run in a circle
+-- the declared clock of variable `x`, or none where declared clocks run in a circle
 abbrev pub variable_clock : Node → Name → Option Clock
 variable_clock n x =
     let vars = variables n in
@@ -51,25 +51,24 @@ abbrev pub parent : Clock → Option Clock
 parent Base = None
 parent (On k x sign) = Some k
 
--- how deep a clock stands
+-- the depth of a clock: 0 for the base clock
 abbrev pub depth : Clock → ℕ
 depth Base = 0
 depth (On k x sign) = suc (depth k)
 
--- so many clocks further up
+-- the clock that is `n` steps further up, or the base clock where there are fewer
 abbrev pub above : ℕ → Clock → Clock
 above zero k = k
 above (suc n) Base = Base
 above (suc n) (On k x sign) = above n k
 
--- how deep the clock of a callee's variable stands in the callee
+-- the depth of the clock of a callee's variable, in the callee
 abbrev pub own_depth : Node → Declaration → ℕ
 own_depth n d = depth (declared_clock n d.name)
 
 -- ## The clocks of a callee, as its caller sees them
 
--- which variable of the caller stands for a variable of the callee, where one does: pairs of the
--- callee's and the caller's
+-- pairs of a variable of the callee and the variable of the caller that stands for it
 abbrev pub Given : Type 0
 Given = List (Name × Name)
 
@@ -86,20 +85,20 @@ abbrev pub ungrouped : Expr → Expr
 ungrouped (Group e) = ungrouped e
 ungrouped e = e
 
--- a variable, in parentheses or not
+-- the name of an expression that is a variable, in parentheses or not
 abbrev pub as_variable : Expr → Option Name
 as_variable (Variable x) = Some x
 as_variable (Group e) = as_variable e
 as_variable e = None
 
--- the variables given for inputs
+-- the inputs for which a variable is given, each with that variable
 abbrev pub given_inputs : List Declaration → Exprs → Given
 given_inputs [] es = []
 given_inputs (d ∷ ds) Nil = []
 given_inputs (d ∷ ds) (Cons e es) =
     listed (λ y. (d.name, y) ∷ []) (as_variable e) ++ given_inputs ds es
 
--- the left variables of outputs
+-- the outputs, each with its left variable
 abbrev pub given_outputs : List Declaration → List Name → Given
 given_outputs [] xs = []
 given_outputs (d ∷ ds) [] = []
@@ -125,7 +124,7 @@ abbrev pub first_result_clock : Clock → Node → Given → List Declaration �
 first_result_clock k n given [] = k
 first_result_clock k n given (d ∷ ds) = outer k given (declared_clock n d.name)
 
--- the clock of a call, from those that its arguments determine
+-- the clock of a call, from the clocks that its arguments determine
 abbrev pub called_clock : Exprs → List (Option Clock) → Node → Option Clock
 called_clock es ks n =
     let given = given_inputs n.inputs es in
@@ -176,7 +175,7 @@ abbrev mutual
   first_clock P n Nil = None
   first_clock P n (Cons e es) = or_else (clock_of P n e) (first_clock P n es)
 
-  -- the clock that each of these determines
+  -- the clock that each expression of a row determines
   pub each_clock : Program → Node → Exprs → List (Option Clock)
   each_clock P n Nil = []
   each_clock P n (Cons e es) = clock_of P n e ∷ each_clock P n es

@@ -1,4 +1,4 @@
--- What a check of a program promises to the layer above.
+-- The promise of a check of a program to the layer above.
 -- This file says what data of the program mean; no definition of the language stands on it.
 use Rattle.std.specs.Prelude.{◌≡◌, Option, Some, None, Result, Ok, Err, string_bytes}
 use Rattle.lb_syntax.specs.Refusals.{E9, E10, E11}
@@ -13,9 +13,10 @@ use Rattle.lb_check.specs.ClockRules.{is_clocked}
 use Rattle.lb_check.specs.DefinitionRules.{is_defined}
 use Rattle.lb_check.specs.TypeRules.{is_typed}
 
--- the answer to an elaborated program is the first of the rules of types, clocks and definitions
--- that it breaks, with the name of a node of which an instance breaks it, and the statement or the
--- variable of that node which does, unless memory ran out
+-- the answer to an elaborated program is right: it is accepted where it breaks no rule of types,
+-- clocks and definitions. Else the answer is the first of these rules that it breaks, with the name
+-- of a node of which an instance breaks it, and the statement or the variable of that node which
+-- does; or memory ran out.
 abbrev pub IsAnswer : Program → Result Checked CheckError → Type 0
 IsAnswer P (Ok c) = check_refusal P ≡ None
 IsAnswer P (Err error.Memory) = Unit {0}
@@ -31,7 +32,7 @@ IsAnswer P (Err (error.Definition e)) =
     × IsBrokenIn (λ here. is_defined P here.node) (λ here. is_part_defined P here.node) P
     (string_bytes e.value.node) e.value.part
 
--- what is found is the first of these rules that the program breaks, and none where it keeps them
+-- the found refusal is right: the first of these rules that the program breaks, or none
 abbrev pub IsRefusal : Program → Option CheckError → Type 0
 IsRefusal P None = check_refusal P ≡ None
 IsRefusal P (Some e) = IsAnswer P (Err e)

@@ -10,17 +10,17 @@ use Rattle.lb_static.specs.Instances.{Program}
 use Rattle.lb_static.specs.Parts.{left_names, node_parts}
 use Rattle.lb_check.specs.ClockRules.{if_node}
 
--- how often a name stands on the left, over all left sides of the node together
+-- the number of times that name `x` stands on the left in a node
 abbrev pub definition_count : Node → Name → ℕ
 definition_count here x = count_by (bytes_eq x) (flat_map left_names here.body)
 
--- each output and local is defined once, an input never
+-- whether each output and local is defined once, and no input is
 abbrev pub defines_once : Node → Bool
 defines_once here =
     list_all (λ d. nat_eq (definition_count here d.name) 1) (here.outputs ++ here.locals)
     && list_all (λ d. nat_eq (definition_count here d.name) 0) here.inputs
 
--- an expression itself has no memory, and calls nothing that may have one
+-- whether an expression, its parts apart, has no memory, and calls functions alone
 abbrev pub is_memoryless : Program → Expr → Bool
 is_memoryless P (Pre a) = false
 is_memoryless P (Arrow a b) = false

@@ -22,7 +22,7 @@ instance_elements P here = flat_map (elements P here) (variables here.node)
 unfoldable pub program_elements : Program → List Element
 program_elements P = flat_map (instance_elements P) (instances P)
 
--- what each holds
+-- the kind of each scalar element of a program
 unfoldable pub element_kinds : Program → List Kind
 element_kinds P =
     flat_map (λ here. flat_map (λ d. replicate (width P here d) d.kind) (variables here.node))
@@ -30,15 +30,15 @@ element_kinds P =
 
 -- ## Numbers
 
--- the instance at a path among these, and how many elements stand before its own, where n stand
--- before those of all these
+-- the instance at path `p` in a list, with the number of elements that stand before its own; `n`
+-- elements stand before those of the list
 unfoldable pub found_from : Program → ℕ → List Instance → Path → Option (ℕ × Instance)
 found_from P n [] p = None
 found_from P n (here ∷ rest) p =
     if is_path here.path p then Some (n, here)
     else found_from P (n + length (instance_elements P here)) rest p
 
--- the numbers of the elements of a variable among these, where n elements stand before them
+-- the numbers of the elements of variable `x` in a list of declarations, which begins at number `n`
 unfoldable pub numbers_from : Program → Instance → ℕ → List Declaration → Name → List ℕ
 numbers_from P here n [] x = []
 numbers_from P here n (d ∷ ds) x =

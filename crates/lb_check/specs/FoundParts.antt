@@ -1,4 +1,4 @@
--- Which part of a node the code finds to break a rule.
+-- The part of a node that breaks a rule, as the code finds it.
 -- This file mirrors code (src/type_rules.rt, src/clock_rules.rt, src/definition_rules.rt); no
 -- definition of the language stands on it.
 use Rattle.std.specs.Prelude.{◌≡◌, ◌≢◌, ℕ, ◌<◌, Bool, true, false, Option, Some, None, List}
@@ -8,8 +8,8 @@ use Rattle.lb_static.specs.DataTypes.{variables}
 use Rattle.lb_static.specs.ReachedNodes.{tree_at}
 use Rattle.lb_static.specs.ResolvedNodes.{node_of}
 use Rattle.lb_static.specs.Instances.{Program}
-use Rattle.lb_static.specs.declared.reach.NodeId.{NodeId}
-use Rattle.lb_static.specs.declared.reach.Reached.{Reached}
+use Rattle.lb_static.specs.declared.reachable.NodeId.{NodeId}
+use Rattle.lb_static.specs.declared.reachable.Reached.{Reached}
 use Rattle.lb_static.specs.declared.resolved.ResolvedNode.{ResolvedNode}
 use Rattle.lb_static.specs.declared.resolved.ResolvedStatement.{ResolvedStatement}
 use Rattle.lb_static.specs.declared.table.Specialization.{Specialization}
@@ -32,19 +32,19 @@ is_part_typed_in ctx n (part.Variable x) = at_place (is_variable_typed ctx) n.va
 is_part_typed_in ctx n (part.Statement j) =
     at_place (is_resolved_statement_typed ctx) n.body.items j
 
--- a specialization breaks the rules of types, and this part of its node does
+-- a specialization breaks the rules of types, and part `p` of its node breaks them
 abbrev pub IsIllTyped : Reached → Table → Specialization → Part → Type 0
 IsIllTyped r t s p =
     (is_specialization_typed r t s ≡ false)
     × ((n : ResolvedNode) → slice_get r.nodes.items s.node.0 ≡ Some n →
     is_part_typed_in (context_of r t n s) n p ≡ false)
 
--- a part that breaks them, or none where the specialization keeps them
+-- a part that breaks the rules of types, or none where the specialization keeps them
 abbrev pub IsTypedPart : Reached → Table → Specialization → Option Part → Type 0
 IsTypedPart r t s None = is_specialization_typed r t s ≡ true
 IsTypedPart r t s (Some p) = IsIllTyped r t s p
 
--- the specialization at a place is of this node, and breaks them in this part
+-- the specialization at `place` is of node `id`, and breaks the rules of types in part `p`
 abbrev pub IsIllTypedAt : Reached → Table → (place : ℕ) → NodeId → Part → Type 0
 IsIllTypedAt r t place id p =
     (s : Specialization) × (slice_get t.specializations.items place ≡ Some s) × (s.node ≡ id)
@@ -52,15 +52,15 @@ IsIllTypedAt r t place id p =
 
 -- ## Clocks
 
--- the declared clock of the variable at a place breaks the rules, or each keeps them
+-- the place of a variable whose declared clock breaks the rules, or none where each keeps them
 abbrev pub IsDeclaredClock : Node → Option ℕ → Type 0
 IsDeclaredClock here None = are_declared_clocks here ≡ true
 IsDeclaredClock here (Some i) =
     (are_declared_clocks here ≡ false)
     × (at_place (is_declared_clock here i) (variables here) i ≡ false)
 
--- a variable breaks the rules of declared clocks; a statement of a node that keeps them breaks the
--- rules of clocks
+-- a part that breaks the rules of clocks: a variable breaks the rules of declared clocks, or a
+-- statement breaks the other rules, in a node that keeps those of declared clocks
 abbrev pub IsPartIllClocked : Reached → ResolvedNode → Part → Type 0
 IsPartIllClocked r n (part.Variable x) =
     at_place (is_declared_clock (node_of n) x.0) (variables (node_of n)) x.0 ≡ false
@@ -68,33 +68,33 @@ IsPartIllClocked r n (part.Statement j) =
     (are_declared_clocks (node_of n) ≡ true)
     × (at_place (is_resolved_statement_clocked (clocks.context_of r n)) n.body.items j ≡ false)
 
--- a node that is reached breaks the rules of clocks, and this part of it does
+-- the reached node `id` breaks the rules of clocks, and its part `p` breaks them
 abbrev pub IsIllClocked : Reached → NodeId → Part → Type 0
 IsIllClocked r id p =
     (is_clocked_at r id ≡ false)
     × ((n : ResolvedNode) → slice_get r.nodes.items id.0 ≡ Some n → IsPartIllClocked r n p)
 
--- a part that breaks them, or none where the node keeps them
+-- a part that breaks the rules of clocks, or none where the node keeps them
 abbrev pub IsClockedPart : Reached → NodeId → Option Part → Type 0
 IsClockedPart r id None = is_clocked_at r id ≡ true
 IsClockedPart r id (Some p) = IsIllClocked r id p
 
 -- ## Definitions
 
--- the variable at a place has not the definitions that it should have, or each has them
+-- the place of a variable with too few or too many definitions, or none where each has its number
 abbrev pub IsDefinedPlace : (inputs count : ℕ) → List ResolvedStatement → Option ℕ → Type 0
 IsDefinedPlace inputs count ss None =
     (i : ℕ) → i < count → count_statements i ss ≡ wanted_count inputs i
 IsDefinedPlace inputs count ss (Some i) =
     (i < count) × (count_statements i ss ≢ wanted_count inputs i)
 
--- a node that is reached breaks the rules of definitions, and this part of it does
+-- the reached node `id` breaks the rules of definitions, and its part `p` breaks them
 abbrev pub IsIllDefined : Program → Reached → NodeId → Part → Type 0
 IsIllDefined P r id p =
     (is_defined_at P r id ≡ false)
     × ((here : Node) → tree_at r id ≡ Some here → is_part_defined P here p ≡ false)
 
--- a part that breaks them, or none where the node keeps them
+-- a part that breaks the rules of definitions, or none where the node keeps them
 abbrev pub IsDefinedPart : Program → Reached → NodeId → Option Part → Type 0
 IsDefinedPart P r id None = is_defined_at P r id ≡ true
 IsDefinedPart P r id (Some p) = IsIllDefined P r id p

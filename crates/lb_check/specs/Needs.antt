@@ -1,4 +1,4 @@
--- Which scalar elements of variables an element needs at the same instant.
+-- The scalar elements of variables that an element needs at the same instant.
 -- Source: this project's rule, on scalar elements after expansion; the Lustre V6 reference manual
 -- has it on variables.
 use Rattle.std.specs.Prelude.{◌≡◌, ℕ, suc, ◌+◌, ◌-◌, ◌*◌, Bool, true, false, ◌&&◌, Option, Some}
@@ -44,43 +44,43 @@ elements_named P here x = listed (elements P here) (named (λ d. d.name) x (vari
 
 -- ## Clocks as the whole program sees them
 
--- the base clock of the program, or a clock at the instants at which a variable, with its path, has
--- this sign
+-- a clock: the base clock of the program, or the instants of a clock at which a variable, with its
+-- path, has a sign
 pub data WholeClock : Type 0 where
   Always : WholeClock
   Where : WholeClock → Path → Name → Bool → WholeClock
 
--- an input or output of a node that is the clock variable of an input or output
+-- whether `x` is the clock variable of an input or output of node `n`
 abbrev pub is_clock_parameter : Node → Name → Bool
 is_clock_parameter n x =
     list_any (λ d. holds (λ s. bytes_eq s.variable x) d.clock) (n.inputs ++ n.outputs)
 
--- a call or an iterated node
+-- whether an expression is a call or an iterated node
 abbrev pub is_site : Expr → Bool
 is_site (Call f statics es) = true
 is_site (Iterate it (Node_named f statics) m es) = true
 is_site e = false
 
--- the call of this number in the text of a node
+-- the call with number `call` in the text of a node
 abbrev pub call_at : Program → Node → ℕ → Option Occurrence
 call_at P n call = find (λ o. nat_eq o.calls_before call && is_site o.expr) (node_occurrences P n)
 
--- whether the whole right side of a statement is the call of this number
+-- whether the whole right side of a statement is the call with number `call`
 abbrev pub is_right_side : ℕ → Occurrence → Bool
 is_right_side call o = nat_eq o.calls_before call && is_site (ungrouped o.expr)
 
--- the left variables of the equation whose whole right side is this call
+-- the left variables of the equation whose whole right side is the call with number `call`
 abbrev pub lefts_at : Program → Node → ℕ → List Name
 lefts_at P n call =
     listed (λ s. left_names s.0) (find (λ s. is_right_side call s.1) (statements P n))
 
--- what stands for the clock parameters of a callee, among its inputs and outputs
+-- the clock parameters of a callee for which the caller gives a variable, each with that variable
 abbrev pub given_parameters : Node → Exprs → List Name → Given
 given_parameters callee es lefts =
     filter (λ g. is_clock_parameter callee g.0)
     (given_inputs callee.inputs es ++ given_outputs callee.outputs lefts)
 
--- the variables of the caller that stand for clock parameters of the instance of a call
+-- the clock parameters of the callee of a call, each with the variable that stands for it
 abbrev pub given_to : Program → Node → ℕ → Expr → Given
 given_to P n call (Call f statics es) =
     listed (λ callee. given_parameters callee es (lefts_at P n call)) (node_named P f)
@@ -91,8 +91,8 @@ given_at P caller call =
     listed (λ here. listed (λ o. given_to P here.node call o.expr) (call_at P here.node call))
     caller
 
--- the variable, with its path, that serves for a variable in a clock: where the caller gives one
--- for it, that of the caller
+-- the variable, with its path, that stands for variable `x` in a clock: that of the caller where
+-- the caller gives one, else `x` itself
 abbrev pub serves : Path → Name → Option (Name × Name) → (Name → Path × Name) → Path × Name
 serves p x (Some g) further = further g.1
 serves p x None further = (p, x)
@@ -104,7 +104,7 @@ serving P (Child p call index) x =
     let given = named (λ g. g.0) x (given_at P (instance_at P p) call) in
     serves (Child p call index) x given (serving P p)
 
--- a clock of the instance at a path that runs on this clock
+-- a clock of the instance at path `p`, which runs on clock `runs`, as the whole program sees it
 abbrev pub whole_clock : Program → Path → WholeClock → Clock → WholeClock
 whole_clock P p runs Base = runs
 whole_clock P p runs (On k x sign) =
@@ -126,32 +126,32 @@ runs_on P (Child p call index) =
     Some (whole_clock P p (runs_on P p) (site_clock P o.clock o.expr)))
     Always
 
--- the variables that a clock waits for
+-- the elements that a clock waits for
 abbrev pub clock_elements : WholeClock → List Element
 clock_elements Always = []
 clock_elements (Where k p x sign) =
     record { path = p; variable = x; index = 0 } ∷ clock_elements k
 
--- those of a clock of an instance
+-- the elements that a clock of an instance waits for
 abbrev pub waits_for : Program → Instance → Clock → List Element
 waits_for P here k = clock_elements (whole_clock P here.path (runs_on P here.path) k)
 
--- ## What gives a value
+-- ## The elements that give a value
 
--- the elements of an output of the instance of a call at an index
+-- the elements of output `x` of the instance that a call has at an index
 abbrev pub output_elements :
     Program → Instance → Name → List Static → (call index : ℕ) → Name → List Element
 output_elements P here f statics call index x =
     listed (λ callee. elements_named P callee x)
     (callee_of P here (call_site f statics) call index)
 
--- element by element of two arrays, or one result of all
+-- the needs of an iterated symbol: `map` element by element of two arrays, `red` all for one result
 abbrev pub symbol_needs : ArrayIterator → List (List (List Element)) → List (List Element)
 symbol_needs Map (xs ∷ (ys ∷ [])) = zip2 (λ a b. a ++ b) xs ys
 symbol_needs Red (xs ∷ (ys ∷ [])) = (joined xs ++ joined ys) ∷ []
 symbol_needs it xss = []
 
--- elements that each need themselves
+-- the needs of elements that each need themselves
 abbrev pub itself : List Element → List (List Element)
 itself xs = map (λ x. x ∷ []) xs
 
@@ -159,9 +159,9 @@ abbrev pub both : List (List Element) → List (List Element) → List (List Ele
 both xss yss = zip2 (λ xs ys. xs ++ ys) xss yss
 
 unfoldable mutual
-  -- for each scalar element of an expression that stands after n calls, the elements that give its
-  -- value at the same instant: both branches of `if` and both sides of `->` count, the operand of
-  -- `pre` does not, and `when` and `current` add the variables of the clock that is passed
+  -- for each scalar element of an expression after `n` calls, the elements that give its value at
+  -- the same instant. Both branches of `if` and both sides of `->` count, and the operand of `pre`
+  -- does not. `when` and `current` add the variables of the clock that is passed.
   pub needs : Program → Instance → ℕ → Expr → List (List Element)
   needs P here n (Literal m) = [] ∷ []
   needs P here n (Truth b) = [] ∷ []
@@ -207,9 +207,9 @@ unfoldable mutual
   all_needs P here n (Cons e es) =
       needs P here n e ∷ all_needs P here (n + call_count e) es
 
--- ## What defines an element
+-- ## The definitions of elements
 
--- an element, and what its defining expression or its clock needs
+-- an element, and the elements that its defining expression or its clock needs
 pub record Definition : Type 0 where
   pub element : Element
   pub needed : List Element
@@ -217,7 +217,7 @@ pub record Definition : Type 0 where
 abbrev pub defined_as : List Element → List (List Element) → List Definition
 defined_as xs yss = zip2 (λ x ys. record { element = x; needed = ys }) xs yss
 
--- the inputs of the instance of a call at an index need these
+-- the definitions of the inputs of a callee: they need the elements of its arguments
 abbrev pub input_definitions :
     Program → Option Instance → List (List (List Element)) → List Definition
 input_definitions P callee args =
@@ -243,13 +243,13 @@ equation_definitions P here (Equation lefts e) o =
     defined_as (flat_map (elements_named P here) lefts) (needs P here o.calls_before e)
 equation_definitions P here (Assertion e) o = []
 
--- what every element of a variable needs by its clock
+-- the definitions by a clock: each element of a variable needs the elements of its clock
 abbrev pub clock_definitions : Program → Instance → Declaration → List Definition
 clock_definitions P here d =
     let needed = waits_for P here (declared_clock here.node d.name) in
     map (λ x. record { element = x; needed = needed }) (elements P here d)
 
--- what defines the elements of an instance, and the inputs of those that it calls
+-- the definitions of the elements of an instance, and of the inputs of its callees
 abbrev pub definitions_at : Program → Instance → List Definition
 definitions_at P here =
     flat_map (λ s. equation_definitions P here s.0 s.1) (statements P here.node)
@@ -257,7 +257,7 @@ definitions_at P here =
     (node_occurrences P here.node)
     ++ flat_map (clock_definitions P here) (variables here.node))
 
--- the observer's inputs are the inputs and outputs of the node under test
+-- the definitions of the observer's inputs: the inputs and outputs of the node under test
 abbrev pub observer_definitions :
     Program → Option Instance → Option Instance → List Definition
 observer_definitions P (Some root) (Some observer) =
@@ -272,7 +272,7 @@ definitions P =
 
 -- ## Causality
 
--- an element needs another at the same instant
+-- element `x` needs element `y` at the same instant
 pub record Needs (P : Program) (x y : Element) : Type 0 where
   pub by : Definition
   pub stands : In by (definitions P)

@@ -1,13 +1,13 @@
--- Which variables a node with resolved names defines, and which of its statements have memory, as
--- the code finds them.
+-- The variables that a node with resolved names defines, and its statements with memory, as the
+-- code finds them.
 -- This file mirrors code (src/definition_rules.rt); no definition of the language stands on it.
 use Rattle.std.specs.Prelude.{◌≡◌, ℕ, ◌+◌, Bool, true, false, cond, ◌&&◌, nat_lt, Option, None}
 use Rattle.std.specs.Prelude.{List, [], ◌∷◌, if◌then◌else◌, ◌==◌, EachIndex, min, slice_index}
 use Rattle.lb_syntax.specs.Lists.{holds}
 use Rattle.lb_static.specs.Instances.{Program}
 use Rattle.lb_static.specs.ReachedNodes.{callee_in, tree_at}
-use Rattle.lb_static.specs.declared.reach.NodeId.{NodeId}
-use Rattle.lb_static.specs.declared.reach.Reached.{Reached}
+use Rattle.lb_static.specs.declared.reachable.NodeId.{NodeId}
+use Rattle.lb_static.specs.declared.reachable.Reached.{Reached}
 use Rattle.lb_static.specs.declared.resolved.CallId.{CallId}
 use Rattle.lb_static.specs.declared.resolved.ResolvedNode.{ResolvedNode}
 use Rattle.lb_static.specs.declared.resolved.VariableId.{VariableId}
@@ -24,7 +24,7 @@ use Rattle.lb_check.specs.DefinitionRules.{is_defined}
 
 -- ## Left variables
 
--- how often a place stands among some left variables
+-- the number of times that place `i` stands among some left variables
 abbrev pub count_left : ℕ → List VariableId → ℕ
 count_left i [] = 0
 count_left i (x ∷ xs) = (if x.0 == i then 1 else 0) + count_left i xs
@@ -33,28 +33,28 @@ abbrev pub count_statement : ℕ → ResolvedStatement → ℕ
 count_statement i (statement.Equation lefts e) = count_left i lefts.items
 count_statement i (statement.Assertion e) = 0
 
--- how often it stands on the left of some statements
+-- the number of times that place `i` stands on the left of some statements
 abbrev pub count_statements : ℕ → List ResolvedStatement → ℕ
 count_statements i [] = 0
 count_statements i (s ∷ ss) = count_statement i s + count_statements i ss
 
--- counts of these numbers, in which 2 stands for any more
+-- each count is the `number` of its place, where 2 stands for 2 and more
 abbrev pub AreCounts : List ℕ → (ℕ → ℕ) → Type 0
 AreCounts counts number =
     EachIndex counts (λ i. min 2 (slice_index counts i) ≡ min 2 (number i))
 
--- how often the variable at a place should stand on the left, of which so many first are inputs
+-- the number of times that variable `i` should stand on the left: 0 for the first `inputs`, else 1
 abbrev pub wanted_count : (inputs i : ℕ) → ℕ
 wanted_count inputs i = if nat_lt i inputs then 0 else 1
 
 -- ## Memory
 
--- what a call calls is a function
+-- whether the callee of a call is a function
 abbrev pub calls_function : Reached → ResolvedNode → CallId → Bool
 calls_function r n c = holds (λ callee. callee.tree.now.is_function) (callee_in r n c)
 
 unfoldable mutual
-  -- a term holds no `->`, `fby`, `pre` and `current`, and calls functions alone
+  -- whether a term holds no `->`, `fby`, `pre` and `current`, and calls functions alone
   pub is_memoryless : Reached → ResolvedNode → Term → Bool
   is_memoryless r n (Literal m) = true
   is_memoryless r n (Truth b) = true
@@ -91,13 +91,13 @@ abbrev pub is_statement_memoryless : Reached → ResolvedNode → ResolvedStatem
 is_statement_memoryless r n (statement.Equation lefts e) = is_memoryless r n e
 is_statement_memoryless r n (statement.Assertion e) = is_memoryless r n e
 
--- the first statement with memory, of a function
+-- the place of the first statement with memory, in a function
 abbrev pub memory_in_function : Reached → ResolvedNode → Option ℕ
 memory_in_function r n =
     cond n.tree.now.is_function (first_broken (is_statement_memoryless r n) n.body.items) None
 
 -- ## Nodes
 
--- a node that is reached keeps the rules of definitions
+-- whether the reached node `id` keeps the rules of definitions
 abbrev pub is_defined_at : Program → Reached → NodeId → Bool
 is_defined_at P r id = holds (is_defined P) (tree_at r id)

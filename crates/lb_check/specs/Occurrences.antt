@@ -22,7 +22,7 @@ pub record Occurrence : Type 0 where
 abbrev pub at : Clock → ℕ → Expr → Occurrence
 at k n e = record { expr = e; clock = k; calls_before = n }
 
--- how many calls an expression has
+-- the number of calls in an expression
 abbrev pub call_count : Expr → ℕ
 call_count e = length (sites e)
 
@@ -32,8 +32,8 @@ call_clocks k None es = []
 call_clocks k (Some callee) es = argument_clocks k callee es
 
 abbrev mutual
-  -- the occurrences of an expression and of its parts, in text order, where it stands on clock k
-  -- after n calls; parentheses are none
+  -- the occurrences of an expression on clock `k` after `n` calls, and of its parts, in text order;
+  -- parentheses are no occurrence
   pub occurrences : Program → Node → Clock → ℕ → Expr → List Occurrence
   occurrences P here k n (Literal m) = at k n (Literal m) ∷ []
   occurrences P here k n (Truth b) = at k n (Truth b) ∷ []
@@ -76,13 +76,13 @@ abbrev mutual
   occurrences P here k n (Iterate it (Symbol op) m es) =
       at k n (Iterate it (Symbol op) m es) ∷ occurrences_in P here k n es
 
-  -- those of expressions on one clock
+  -- the occurrences of a row of expressions on one clock
   pub occurrences_in : Program → Node → Clock → ℕ → Exprs → List Occurrence
   occurrences_in P here k n Nil = []
   occurrences_in P here k n (Cons e es) =
       occurrences P here k n e ++ occurrences_in P here k (n + call_count e) es
 
-  -- those of expressions each on a clock of its own
+  -- the occurrences of a row of expressions, each on a clock of its own
   pub occurrences_each : Program → Node → List Clock → ℕ → Exprs → List Occurrence
   occurrences_each P here ks n Nil = []
   occurrences_each P here [] n (Cons e es) = []
@@ -91,8 +91,8 @@ abbrev mutual
 
 -- ## Statements
 
--- the clock of an equation is that of its first left variable; that of an assertion is its own, or
--- the base clock where nothing determines it
+-- the clock of a statement: of an equation that of its first left variable; of an assertion its
+-- own, or the base clock where nothing determines it
 abbrev pub statement_clock : Program → Node → Statement → Clock
 statement_clock P here (Equation [] e) = Base
 statement_clock P here (Equation (x ∷ xs) e) = declared_clock here x

@@ -1,4 +1,4 @@
--- What the clocks that the code compares stand for in a node.
+-- The clocks that the code compares, and their meaning in a node.
 -- This file says what data of the program mean; no definition of the language stands on it.
 use Rattle.std.specs.Prelude.{◌≡◌, Bool, true, List}
 use Rattle.lb_syntax.specs.Tree.{Name}
@@ -18,12 +18,12 @@ use Rattle.lb_check.specs.declared.own_clock.Clock.TheVariants.{Base, On}
 abbrev pub name_in : ResolvedNode → VariableId → Name
 name_in r x = name_at (variable_names (node_of r)) x
 
--- the clock that the text of a node sees
+-- a clock of the code, as the text of a node sees it
 abbrev pub clock_in : ResolvedNode → Clock → tree.Clock
 clock_in r Base = tree.Base
 clock_in r (On x sign) = tree.On (declared_clock (node_of r) (name_in r x)) (name_in r x) sign
 
--- the variable of a clock is one of the node
+-- whether the variable of a clock is one of the node
 abbrev pub is_clock_within : ResolvedNode → Clock → Bool
 is_clock_within r Base = true
 is_clock_within r (On x sign) = is_variable (counts_of r) x

@@ -1,5 +1,5 @@
--- The clock on which each part of a term stands, and what is found of the calls in it, as the code
--- places them.
+-- The clock on which each part of a term stands, and what is found of its calls, as the code places
+-- them.
 -- This file mirrors code (src/placed_clock.rt, src/given_variables.rt, src/found_clocks.rt); no
 -- definition of the language stands on it.
 use Rattle.std.specs.Prelude.{◌≡◌, ℕ, zero, suc, ◌+◌, ◌<◌, nat_eq, Bool, false, if◌then◌else◌}
@@ -7,7 +7,7 @@ use Rattle.std.specs.Prelude.{Option, Some, None, option_map, List, [], ◌∷�
 use Rattle.std.specs.Prelude.{length, take, get_or}
 use Rattle.std.specs.List.{list_any}
 use Rattle.lb_syntax.specs.Lists.{either_or, holds, listed}
-use Rattle.lb_static.specs.declared.reach.Reached.{Reached}
+use Rattle.lb_static.specs.declared.reachable.Reached.{Reached}
 use Rattle.lb_static.specs.declared.resolved.CallId.{CallId}
 use Rattle.lb_static.specs.declared.resolved.ResolvedNode.{ResolvedNode}
 use Rattle.lb_static.specs.declared.resolved.ResolvedStatement.{ResolvedStatement}
@@ -32,15 +32,15 @@ use Rattle.lb_check.specs.declared.found_clocks.NodeClocks.{NodeClocks}
 use Rattle.lb_check.specs.declared.own_clock.Clock.{Clock}
 use Rattle.lb_check.specs.declared.own_clock.Clock.TheVariants.{Base}
 
--- ## What is found
+-- ## Found calls, terms and nodes
 
--- of a call: the clock on which its instances run, and which variables of the node stand for clock
--- parameters of what it calls
+-- a found call: the clock on which its instances run, and the variables of the node that stand for
+-- clock parameters of its callee
 pub record FoundCall : Type 0 where
   pub runs : Clock
   pub given : List GivenVariable
 
--- of a term: the clock on which it stands, and what is found of it as a call, if it is one
+-- a found term: the clock on which it stands, and what is found of it as a call, if it is one
 pub record FoundTerm : Type 0 where
   pub clock : Clock
   pub call : Option FoundCall
@@ -51,12 +51,12 @@ part k = record { clock = k; call = None }
 abbrev pub called : Clock → FoundCall → FoundTerm
 called k c = record { clock = k; call = Some c }
 
--- of a node: the clocks of its terms, and its calls
+-- a found node: the clocks of its terms, and its calls
 pub record FoundNode : Type 0 where
   pub terms : List Clock
   pub calls : List FoundCall
 
--- one more term
+-- `f` with one more term
 abbrev pub with_term : FoundNode → FoundTerm → FoundNode
 with_term f t = record {
   terms = f.terms ++ (t.clock ∷ []);
@@ -70,7 +70,7 @@ with_terms f (t ∷ ts) = with_terms (with_term f t) ts
 abbrev pub nothing_found : FoundNode
 nothing_found = record { terms = []; calls = [] }
 
--- what the code keeps stands for this
+-- the found call for which the code keeps `c`
 abbrev pub call_in : CallClock → FoundCall
 call_in c = record { runs = c.runs; given = c.given.items }
 
@@ -82,23 +82,23 @@ found_in f = record { terms = f.terms.items; calls = map call_in f.calls.items }
 abbrev pub waits_at : ℕ → Option Sampling → Bool
 waits_at i c = holds (λ s. nat_eq s.variable.0 i) c
 
--- an input or output waits for the variable at a place
+-- whether an input or output waits for the variable at place `i`
 abbrev pub is_awaited : ResolvedNode → ℕ → Bool
 is_awaited n i =
     list_any (λ v. waits_at i v.clock) (take (n.inputs + n.outputs) n.variables.items)
 
--- flags of the inputs and outputs of a node: whether one of them waits for it
+-- each flag says whether an input or output of the node waits for the variable at its place
 abbrev pub AreAwaited : ResolvedNode → List Bool → Type 0
 AreAwaited n flags = (i : ℕ) → i < length flags → get_or flags i false ≡ is_awaited n i
 
 abbrev pub pair_at : ℕ → VariableId → GivenVariable
 pair_at i y = record { callee = record { 0 = i }; caller = y }
 
--- what stands for the parameter at a place, if it is a clock parameter
+-- the clock parameter at place `i` with the variable that stands for it; none for other parameters
 abbrev pub given_variable : ResolvedNode → (ℕ → Option VariableId) → ℕ → Option GivenVariable
 given_variable n given i = if is_awaited n i then option_map (pair_at i) (given i) else None
 
--- at so many places from one on
+-- the results of `given_variable` at `count` places from `first` on
 abbrev pub given_from : ResolvedNode → (ℕ → Option VariableId) → (first count : ℕ) →
     List GivenVariable
 given_from n given i zero = []
@@ -112,33 +112,33 @@ given_variables n os lefts =
 
 -- ## Clocks
 
--- the clock that these determine, or the base clock where they determine none
+-- the clock that a clock set determines, or the base clock where it determines none
 abbrev pub determined_clock : ClockSet → Clock
 determined_clock (OneClock k) = k
 determined_clock s = Base
 
--- the clock of the one operand of a term on clock k, if that is not `current`
+-- the clock of the operand of a term on clock `k`, if it has one operand and is not `current`
 abbrev pub operand_clock : Context → Clock → Term → Clock
 operand_clock ctx k (When' p e x sign) = ctx.variable x
 operand_clock ctx k t = k
 
--- the clock of the operand of `current`, which is the first of these
+-- the clock of the operand of `current`, which is the first of the list
 abbrev pub current_clock : List Operand → Clock
 current_clock [] = Base
 current_clock (o ∷ os) = determined_clock o.clock_set
 
--- the clocks of the arguments of a callee that runs on this clock, where these variables of the
--- caller stand for those of the callee
+-- the clocks of the arguments of a callee that runs on clock `base`, where the variables `given` of
+-- the caller stand for those of the callee
 abbrev pub argument_clocks : Clock → (ℕ → Option VariableId) → ResolvedNode → List Clock
 argument_clocks base given n =
     map (λ v. either_or (expected (Some base) given v.clock) base)
     (take n.inputs n.variables.items)
 
--- the clock on which a callee runs that is called in a term on clock k
+-- the clock on which the callee of a call runs that stands on clock `k`
 abbrev pub call_base : Clock → ResolvedNode → List Operand → Clock
 call_base k n os = either_or (base_of (input_clocks n) (clock_sets os)) k
 
--- the clocks of the arguments, and what is found of the call
+-- the clocks of the arguments of a call that stands on clock `k`
 abbrev pub call_clocks : Context → Clock → CallId → List Operand → List Clock
 call_clocks ctx k c os =
     listed (λ n. argument_clocks (call_base k n os) (given_at os) n) (ctx.callee c)
@@ -147,7 +147,7 @@ abbrev pub nested_call : Clock → List Operand → Option ResolvedNode → Foun
 nested_call k os None = record { runs = k; given = [] }
 nested_call k os (Some n) = record { runs = call_base k n os; given = given_variables n os [] }
 
--- the clock on which a callee runs whose call is a whole right side
+-- the clock on which the callee of a call runs that is a whole right side
 abbrev pub side_base : Context → ResolvedNode → List Operand → List VariableId → Clock
 side_base ctx n os lefts = either_or (result_base ctx n os lefts) Base
 
@@ -162,16 +162,16 @@ side_call ctx lefts os None = record { runs = left_clock ctx lefts; given = [] }
 side_call ctx lefts os (Some n) =
     record { runs = side_base ctx n os lefts; given = given_variables n os lefts }
 
--- an iterated node runs on the clock of its term
+-- the found call of an iterated node, which runs on the clock of its term
 abbrev pub iterated_call : Clock → FoundCall
 iterated_call k = record { runs = k; given = [] }
 
--- a term with a row of operands on its own clock
+-- the found term of a term on clock `k` whose operands are a row on clock `k`
 abbrev pub row_term : Clock → Term → FoundTerm
 row_term k (IterateNode' it c arity all) = called k (iterated_call k)
 row_term k t = part k
 
--- these terms are found: what is known of others is left
+-- placing terms takes their operands `own` from `known`, and adds what is found of the terms
 abbrev pub IsPlaced :
     List Operand → List FoundTerm → (before after : FoundNode) → (known left : List Operand) →
     Type 0
@@ -182,7 +182,7 @@ IsPlaced own found before after known left =
 -- ## Terms
 
 unfoldable mutual
-  -- what is found of the parts of a term on clock k, in text order; parentheses are none
+  -- the found terms of a term on clock `k` and of its parts, in text order, parentheses apart
   pub placed_terms : Context → Clock → Term → List FoundTerm
   placed_terms ctx k (Literal n) = part k ∷ []
   placed_terms ctx k (Truth b) = part k ∷ []
@@ -213,23 +213,23 @@ unfoldable mutual
       called k (iterated_call k) ∷ placed_row ctx k all
   placed_terms ctx k (IterateSymbol' it op n arity all) = part k ∷ placed_row ctx k all
 
-  -- those of terms on one clock
+  -- the found terms of a row of terms on one clock
   pub placed_row : {m : _} → Context → Clock → Row_of-Term m → List FoundTerm
   placed_row ctx k end_of-Term = []
   placed_row ctx k (more_of-Term e rest) = placed_terms ctx k e ++ placed_row ctx k rest
 
-  -- those of terms each on a clock of its own
+  -- the found terms of a row of terms, each on a clock of its own
   pub placed_arguments : {m : _} → Context → List Clock → Row_of-Term m → List FoundTerm
   placed_arguments ctx ks end_of-Term = []
   placed_arguments ctx [] (more_of-Term e rest) = []
   placed_arguments ctx (k ∷ ks) (more_of-Term e rest) =
       placed_terms ctx k e ++ placed_arguments ctx ks rest
 
--- those of a list of terms on one clock
+-- the found terms of a list of terms on one clock
 abbrev pub placed_all : Context → Clock → List Term → List FoundTerm
 placed_all ctx k es = flat_map (placed_terms ctx k) es
 
--- those of a list of terms each on a clock of its own
+-- the found terms of a list of terms, each on a clock of its own
 abbrev pub placed_each : Context → List Clock → List Term → List FoundTerm
 placed_each ctx ks [] = []
 placed_each ctx [] (e ∷ es) = []
@@ -237,14 +237,14 @@ placed_each ctx (k ∷ ks) (e ∷ es) = placed_terms ctx k e ++ placed_each ctx 
 
 -- ## Statements
 
--- those of a call that is a whole right side
+-- the found terms of a call that is a whole right side
 abbrev pub placed_call :
     Context → List VariableId → CallId → List Operand → List Term → List FoundTerm
 placed_call ctx lefts c os es =
     called (left_clock ctx lefts) (side_call ctx lefts os (ctx.callee c))
     ∷ placed_each ctx (side_clocks ctx lefts c os) es
 
--- those of the right side of an equation
+-- the found terms of the right side of an equation
 unfoldable pub placed_side : Context → List VariableId → Term → List FoundTerm
 placed_side ctx lefts (Group' p e) = placed_side ctx lefts e
 placed_side ctx lefts (Call' c arity all) =
@@ -257,6 +257,6 @@ placed_statement ctx (statement.Equation lefts e) = placed_side ctx lefts.items 
 placed_statement ctx (statement.Assertion e) =
     placed_terms ctx (determined_clock (infer_clock ctx e)) e
 
--- what is found of all terms of a node
+-- the found terms of a node
 abbrev pub node_terms : Reached → ResolvedNode → List FoundTerm
 node_terms r n = flat_map (placed_statement (context_of r n)) n.body.items

@@ -1,5 +1,5 @@
--- The types of the results of each part of a term, as a walk over the term finds them, and what is
--- kept of them.
+-- The types of the results of each part of a term, as a walk over the term finds them, and the part
+-- of them that is kept.
 -- This file mirrors code (src/types.rt, src/part_types.rt, src/placed_types.rt and
 -- src/found_types.rt); no definition of the language stands on it.
 use Rattle.std.specs.Prelude.{◌≡◌, ℕ, ◌-◌, ◌<◌, ◌≤◌, Bool, false, min, nat_eq, Option, Some, None}
@@ -8,7 +8,7 @@ use Rattle.std.specs.Prelude.{slice_get, sum_by, if◌then◌else◌}
 use Rattle.std.specs.Global.{Global}
 use Rattle.lb_syntax.specs.Lists.{either_or, listed}
 use Rattle.lb_syntax.specs.declared.tree.Kind.{Kind}
-use Rattle.lb_static.specs.declared.reach.Reached.{Reached}
+use Rattle.lb_static.specs.declared.reachable.Reached.{Reached}
 use Rattle.lb_static.specs.declared.table.Specialization.{Specialization}
 use Rattle.lb_static.specs.declared.table.Table.{Table}
 use Rattle.lb_static.specs.DataTypes.{DataType, int, product, total}
@@ -29,12 +29,12 @@ use Rattle.lb_check.specs.declared.found_types.TermType.{TermType}
 use Rattle.lb_check.specs.declared.part_types.PartType.{PartType}
 use Rattle.lb_check.specs.declared.part_types.PartTypes.{PartTypes}
 
--- what is found of one term: the types of its results, or none where a rule of types is broken
+-- the types of the results of a term, or none where a rule of types is broken
 abbrev pub FoundTypes : Type 0
 FoundTypes = Option (List DataType)
 
 unfoldable mutual
-  -- what is found of the parts of a term, in text order; parentheses are none
+  -- the found types of a term and of its parts, in text order, parentheses apart
   pub placed_types : Context → Term → List FoundTypes
   placed_types ctx (Literal n) = results ctx (Literal n) ∷ []
   placed_types ctx (Truth b) = results ctx (Truth b) ∷ []
@@ -79,31 +79,31 @@ abbrev pub statement_types : Context → ResolvedStatement → List FoundTypes
 statement_types ctx (statement.Equation lefts e) = placed_types ctx e
 statement_types ctx (statement.Assertion e) = placed_types ctx e
 
--- those of all terms of a node
+-- the found types of all terms of a node
 abbrev pub node_types : Context → ResolvedNode → List FoundTypes
 node_types ctx n = flat_map (statement_types ctx) n.body.items
 
--- those of the terms of a list
+-- the found types of a list of terms and their parts
 abbrev pub placed_all_types : Context → List Term → List FoundTypes
 placed_all_types ctx es = flat_map (placed_types ctx) es
 
--- those of the node of a specialization
+-- the found types of all terms of the node of a specialization
 abbrev pub specialization_types : Reached → Table → Specialization → List FoundTypes
 specialization_types r t s =
     listed (λ (n : ResolvedNode). node_types (context_of r t n s) n)
     (slice_get r.nodes.items s.node.0)
 
--- ## What a walk over a term finds
+-- ## A walk over a term
 
--- the one type of a term, or `int`
+-- the one type of a list, or `int` where there is not one
 abbrev pub type_among : List DataType → DataType
 type_among ts = either_or (only ts) int
 
--- how many scalar elements a term counts with
+-- the number of scalar elements with which a term counts, up to 65,537
 abbrev pub part_size : FoundTypes → ℕ
 part_size o = min (total (either_or o [])) 65537
 
--- what is kept of a term
+-- a term that is kept: its type, and the number of its scalar elements
 pub record FoundPart : Type 0 where
   pub data_type : DataType
   pub elements : ℕ
@@ -111,8 +111,8 @@ pub record FoundPart : Type 0 where
 abbrev pub found_part : FoundTypes → FoundPart
 found_part o = record { data_type = type_among (either_or o []); elements = part_size o }
 
--- how many scalar elements there may be before they are too many, and what is kept of terms:
--- nothing where there are too many
+-- the number of scalar elements that are left before they are too many, and the terms that are
+-- kept: none where there are too many
 pub record Kept : Type 0 where
   pub left : ℕ
   pub found : List FoundPart
@@ -123,7 +123,7 @@ part_in p = record { data_type = view_type p.data_type; elements = p.elements }
 abbrev pub kept_in : PartTypes → Kept
 kept_in k = record { left = k.left; found = map part_in k.found.items }
 
--- one more term
+-- `k` with one more term
 abbrev pub noted_part : Kept → FoundPart → Kept
 noted_part k p = record {
   left = k.left - p.elements;
@@ -133,34 +133,36 @@ noted_part k p = record {
 abbrev pub noted : Kept → FoundTypes → Kept
 noted k o = noted_part k (found_part o)
 
--- more terms, the last one first
+-- `k` with more terms, the last one first
 abbrev pub kept : Kept → List FoundTypes → Kept
 kept k [] = k
 kept k (o ∷ os) = noted (kept k os) o
 
--- a term counts with this number of elements, where elements are counted
+-- a term counts with `size` elements, as long as elements are counted
 abbrev pub IsCounted : (left n size : ℕ) → Type 0
 IsCounted left n size = 0 < left → n ≡ size
 
--- the parts of a term are noted against the order of the text, and its type is known
+-- a walk over a term notes its parts, the last one first, and finds its type
 abbrev pub IsWalked : Context → Term → (before after : Kept) → Option DataType → Type 0
 IsWalked ctx e before after own =
     (own ≡ type_of ctx e) × (after ≡ kept before (placed_types ctx e))
 
--- those of terms in a row are, and what follows from their types is known
+-- a walk over terms in a row notes their parts, the last one first, and finds `given` from their
+-- types
 abbrev pub IsRowWalked :
     {A : Type 0} → Context → List Term → (before after : Kept) → A →
     (List (Option DataType) → A) → Type 0
 IsRowWalked ctx es before after given of =
     (given ≡ of (map (type_of ctx) es)) × (after ≡ kept before (placed_all_types ctx es))
 
--- the operands seen, as the last two of `[a, b, c]`, do not fit, and no part is kept any more
+-- the last `seen` operands of a row, such as the last two of `[a, b, c]`, do not fit, and no part
+-- is kept any more
 abbrev pub IsDecided : (seen : ℕ) (fit : Bool) (left : ℕ) → Type 0
 IsDecided seen fit left = (0 < seen) × (fit ≡ false) × (left ≡ 0)
 
--- ## What is kept of types
+-- ## The types that are kept
 
--- the rows of terms, and the sizes of their types
+-- a found node: the rows of its terms, and the sizes of their types
 pub record FoundNode : Type 0 where
   pub terms : List TermType
   pub sizes : List ℕ
@@ -171,7 +173,7 @@ found_in f = record { terms = f.terms.items; sizes = f.sizes.items }
 abbrev pub nothing_found : FoundNode
 nothing_found = record { terms = []; sizes = [] }
 
--- one more term, of this kind, with these sizes, the outermost last, and this number of elements
+-- `f` with one more term, of kind `kind`, with the sizes `ns`, the outermost last, and `n` elements
 abbrev pub with_row : FoundNode → Kind → List ℕ → ℕ → FoundNode
 with_row f kind ns n = record {
   terms =
@@ -185,7 +187,7 @@ with_row f kind ns n = record {
   sizes = f.sizes ++ ns;
 }
 
--- one more term, of which this is kept
+-- `f` with one more term that is kept
 abbrev pub with_part : FoundNode → FoundPart → FoundNode
 with_part f p = with_row f p.data_type.kind (reverse p.data_type.sizes) p.elements
 
@@ -193,7 +195,7 @@ abbrev pub with_parts : FoundNode → List FoundPart → FoundNode
 with_parts f [] = f
 with_parts f (p ∷ ps) = with_parts (with_part f p) ps
 
--- one more term, whose results have these types
+-- `f` with one more term, whose results have the types `ts`
 abbrev pub with_types : FoundNode → List DataType → FoundNode
 with_types f ts =
     with_row f (type_among ts).kind (reverse (type_among ts).sizes) (min (total ts) 65537)
@@ -205,24 +207,24 @@ abbrev pub with_terms : FoundNode → List FoundTypes → FoundNode
 with_terms f [] = f
 with_terms f (o ∷ os) = with_terms (with_term f o) os
 
--- all that is kept is moved to what is found, in text order
+-- all terms that are kept are moved to the found node, in text order
 abbrev pub AreMoved : (before after : Kept) → (found more : FoundNode) → Type 0
 AreMoved before after found more =
     (after ≡ record before { found = [] }) × (more ≡ with_parts found (reverse before.found))
 
--- all terms are kept, or they have this many scalar elements or more
+-- all terms are found, or they have `many` scalar elements or more
 abbrev pub AreNoted : ℕ → List FoundTypes → Option FoundNode → Type 0
 AreNoted many os None = many ≤ sum_by part_size os
 AreNoted many os (Some f) = f ≡ with_terms nothing_found os
 
--- all that is kept of a specialization
+-- the found node of a specialization
 abbrev pub found_of : Reached → Table → Specialization → FoundNode
 found_of r t s = with_terms nothing_found (specialization_types r t s)
 
 abbrev pub size_of : FoundNode → ℕ
 size_of f = sum_by (λ (t : TermType). t.elements) f.terms
 
--- what is kept of each specialization, or nothing where all of them together have more than 65,536
+-- the found node of each specialization, or none where all of them together have more than 65,536
 -- scalar elements
 abbrev pub AreFound : Reached → Table → Option (Vec NodeTypes Global) → Type 0
 AreFound r t None =
@@ -230,13 +232,13 @@ AreFound r t None =
 AreFound r t (Some all) =
     map found_in all.items ≡ map (found_of r t) t.specializations.items
 
--- ## What is read of it
+-- ## Types that are read again
 
 -- the sizes of the type of the term at a place
 abbrev pub sizes_of : FoundNode → ℕ → List ℕ
 sizes_of f i =
     listed (λ (t : TermType). take t.rank (drop t.first f.sizes)) (slice_get f.terms i)
 
--- how many scalar elements each of its elements has
+-- the number of scalar elements in each element of the term at place `i`, up to 65,537
 abbrev pub parts_of : FoundNode → ℕ → ℕ
 parts_of f i = min (product (take (length (sizes_of f i) - 1) (sizes_of f i))) 65537

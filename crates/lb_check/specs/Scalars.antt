@@ -1,4 +1,4 @@
--- What one scalar element holds at one instant, and the tables of the data operators.
+-- The value of one scalar element at one instant, and the tables of the data operators.
 -- Source: Lustre V6 reference manual, data operators and the undefined value nil. Faults and
 -- strictness are this project's rule.
 use Rattle.std.specs.Prelude.{Bool, true, false, not, ◌&&◌, ◌||◌, nat_le, nat_eq, ℤ, int_lt, int_le}
@@ -15,26 +15,26 @@ use Rattle.lb_syntax.specs.declared.tree.Kind.TheVariants.{Int as Int_kind, Bool
 use Rattle.lb_syntax.specs.Lists.{either_or}
 use Rattle.lb_static.specs.Arithmetic.{is_int, arithmetic, negated}
 
--- `Nil` is the undefined value, which a memory holds before its first tick; `Bad` is the value of a
--- fault
+-- a scalar: `Nil` is the undefined value, which a memory holds before its first tick, and `Bad` is
+-- the value of a fault
 pub data Scalar : Type 0 where
   Integer : ℤ → Scalar
   Boolean : Bool → Scalar
   Nil : Scalar
   Bad : Scalar
 
--- absent, or a scalar
+-- a cell: absent, or a scalar
 abbrev pub Cell : Type 0
 Cell = Option Scalar
 
--- what one scalar element holds, instant by instant
+-- the cells of one scalar element, instant by instant
 abbrev pub Stream : Type 0
 Stream = List Cell
 
 -- ## Strictness
 
--- a data operator with a faulty operand has the value of a fault, else with a nil operand nil, and
--- else this result; the one place that says so
+-- the value of a data operator: that of a fault where an operand is faulty, else nil where one is
+-- nil, else `result`; the one place that says so
 abbrev pub strict : List Scalar → Scalar → Scalar
 strict [] result = result
 strict (Bad ∷ vs) result = Bad
@@ -47,7 +47,7 @@ strict (v ∷ vs) result = strict vs result
 abbrev pub or_fault : Option ℤ → Scalar
 or_fault o = either_or (option_map Integer o) Bad
 
--- two truth values are the same
+-- whether two truth values are the same
 abbrev pub same : Bool → Bool → Bool
 same true b = b
 same false b = not b
@@ -89,7 +89,7 @@ one_scalar op v = strict (v ∷ []) (one_value op v)
 
 -- ## `if`, `#` and `nor`
 
--- the chosen branch, where the other one may be faulty or nil; nil where the condition is
+-- the chosen branch, where the other one may be faulty or nil; nil where the condition is nil
 abbrev pub chosen : Scalar → Scalar → Scalar → Scalar
 chosen (Boolean true) v w = v
 chosen (Boolean false) v w = w

@@ -1,4 +1,4 @@
--- What it is for a history to solve a program on a trace.
+-- The histories that solve a program on a trace.
 -- Source: Lustre V6 reference manual, equations and node instances. A solution is pinned
 -- completely: shape, length, presence and kind of every stream are part of it.
 use Rattle.std.specs.Prelude.{◌≡◌, ℕ, zero, suc, ◌+◌, Bool, true, false, ◌&&◌, Option, Some, None}
@@ -20,7 +20,7 @@ use Rattle.lb_check.specs.Occurrences.{Occurrence, node_occurrences, statements}
 use Rattle.lb_check.specs.Streams.{History, presence, streams, all_streams, argument_streams}
 use Rattle.lb_check.specs.Streams.{number}
 
--- ## What goes into the instances that are called
+-- ## The inputs of called instances
 
 -- the inputs of the instance at a path, in order, have these streams
 abbrev pub Receives : History → Path → List Declaration → List (List Stream) → Type 0
@@ -36,8 +36,8 @@ accumulated outputs [] init i = init
 accumulated outputs (o ∷ outs) init zero = init
 accumulated outputs (o ∷ outs) init (suc i) = outputs i o.name
 
--- what goes into instance i of n of an iterator, where `outputs i` are the outputs of instance i:
--- the accumulator, if there is one, and the elements
+-- the inputs of instance `i` of the `n` instances of an iterator, where `outputs i` are the outputs
+-- of instance `i`: the accumulator, if there is one, and the elements
 abbrev pub iterator_inputs :
     {A : Type 0} → (ℕ → Name → List A) → ℕ → ArrayIterator → List Declaration →
     List (List A) → ℕ → List (List A)
@@ -94,7 +94,7 @@ AreEqual P H here (Assertion e) o = Unit {0}
 
 -- ## Variables
 
--- a stream is present exactly at these instants, with scalars of this kind
+-- whether a stream is present exactly at these instants, with scalars of this kind
 abbrev pub fits : Kind → List Bool → Stream → Bool
 fits kind [] [] = true
 fits kind (true ∷ bs) (Some v ∷ xs) = is_of_kind kind v && fits kind bs xs
@@ -125,7 +125,7 @@ column_of rows j = map (λ row. slice_get row j) rows
 abbrev pub columns_of : ℕ → Inputs → List Stream
 columns_of n rows = map (column_of rows) (range_with_len 0 n)
 
--- the scalars of an instant have these kinds, and none is nil or a fault
+-- whether the scalars of an instant have these kinds, and none is nil or a fault
 abbrev pub is_row : List Kind → List Scalar → Bool
 is_row [] [] = true
 is_row (kind ∷ kinds) (v ∷ vs) = is_given kind v && is_row kinds vs

@@ -1,5 +1,5 @@
--- What an environment of the code stands for when clocks are judged, and what a call gives for the
--- variables of its callee.
+-- The meaning of an environment of the code for clocks, and the variables that a call gives for
+-- those of its callee.
 -- This file says what data of the program mean; no definition of the language stands on it.
 use Rattle.std.specs.Prelude.{ℕ, Option, Some, None, List, map}
 use Rattle.lb_static.specs.declared.resolved.ResolvedNode.{ResolvedNode}
@@ -18,15 +18,15 @@ abbrev pub clock_above : ResolvedNode → Clock → Option Clock
 clock_above n Base = None
 clock_above n (On x sign) = Some (declared_in n x)
 
--- what the numbers of the node stand for
+-- the context of an environment: the meaning of the numbers of its node
 abbrev pub context_in : ClockEnv → Context
 context_in s = context_of s.reached.now s.node.now
 
--- the clocks that are declared for some variables
+-- the declared clocks of some variables
 abbrev pub clocks_of : List Variable → List (Option Sampling)
 clocks_of vs = map (λ v. v.clock) vs
 
--- the variable of the caller that stands for one of the callee
+-- the variable of the caller that stands for a variable of the callee
 abbrev pub given_in : Given → ℕ → Option VariableId
 given_in (Nested os) = given_at os.now
 given_in (Whole inputs os lefts) = stands_for inputs os.now lefts.now

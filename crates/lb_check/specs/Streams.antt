@@ -26,7 +26,7 @@ use Rattle.lb_check.specs.Occurrences.{call_count}
 
 -- ## Data, instant by instant
 
--- a value at the instants of a clock
+-- the value `v` at an instant of a clock, else nothing
 abbrev pub held : {A : Type 0} → A → Bool → Option A
 held v true = Some v
 held v false = None
@@ -73,12 +73,12 @@ across f (false ∷ bs) xss = None ∷ across f bs (map tail_of xss)
 
 -- ## Time
 
--- the newest value, once a cell was seen
+-- the newest value: that of the cell, or `before` where it is absent
 abbrev pub newest : Scalar → Cell → Scalar
 newest before None = before
 newest before (Some v) = v
 
--- `pre`: at the instants of a clock the value one tick before, and at the first tick the given one
+-- `pre`: at the instants of a clock the value one tick before, and at the first tick `before`
 abbrev pub previous : Scalar → List Bool → Stream → Stream
 previous before [] xs = []
 previous before (b ∷ bs) xs =
@@ -95,7 +95,7 @@ abbrev pub sample : Bool → Cell → Cell
 sample true x = x
 sample false x = None
 
--- `current`: at the instants of a clock the latest value so far, before any the given one
+-- `current`: at the instants of a clock the latest value so far, or `before` where there is none
 abbrev pub latest : Scalar → List Bool → Stream → Stream
 latest before (b ∷ bs) (None ∷ xs) = held before b ∷ latest before bs xs
 latest before (b ∷ bs) (Some v ∷ xs) = held v b ∷ latest v bs xs
@@ -103,8 +103,8 @@ latest before bs xs = []
 
 -- ## Histories and clocks
 
--- at which instants each instance runs, and for each variable of each instance the streams of its
--- scalar elements, the first index slowest
+-- a history: the instants at which each instance runs, and for each variable of each instance the
+-- streams of its scalar elements, the first index slowest
 pub record History : Type 0 where
   pub ticks : Path → List Bool
   pub columns : Path → Name → List Stream
@@ -114,11 +114,12 @@ abbrev pub shows : Bool → Cell → Bool
 shows sign (Some (Boolean b)) = same sign b
 shows sign x = false
 
--- those of some instants at which a variable has this sign
+-- the instants of `bs` at which the variable with stream `xs` has this sign
 abbrev pub sampled_at : List Bool → Bool → Stream → List Bool
 sampled_at bs sign xs = zip2 (λ b x. b && shows sign x) bs xs
 
--- those at which the variable with these streams has this sign; a clock variable has one
+-- the instants of `bs` at which the variable with these streams has this sign; a clock variable has
+-- one
 abbrev pub signed : List Bool → Bool → List Stream → List Bool
 signed bs sign [] = bs
 signed bs sign (xs ∷ xss) = sampled_at bs sign xs
@@ -130,7 +131,7 @@ presence H p (On k x sign) = signed (presence H p k) sign (H.columns p x)
 
 -- ## Iterators
 
--- of n instances, each output, its elements by instance
+-- the outputs of `n` instances, one output after another, each with its elements by instance
 abbrev pub gathered : {A : Type 0} → (ℕ → Name → List A) → ℕ → List Declaration → List A
 gathered outputs n outs =
     flat_map (λ o. flat_map (λ i. outputs i o.name) (range_with_len 0 n)) outs
@@ -140,14 +141,14 @@ abbrev pub last_of : {A : Type 0} → (ℕ → Name → List A) → ℕ → List
 last_of outputs n [] = []
 last_of outputs n (o ∷ outs) = outputs (n - 1) o.name
 
--- what an iterated node gives, where `outputs i` are the outputs of instance i
+-- the results of an iterated node, where `outputs i` are the outputs of instance `i`
 abbrev pub iterated :
     {A : Type 0} → (ℕ → Name → List A) → ℕ → ArrayIterator → List Declaration → List A
 iterated outputs n Map outs = gathered outputs n outs
 iterated outputs n Red outs = last_of outputs n outs
 iterated outputs n Fill outs = last_of outputs n outs ++ gathered outputs n (tail_of outs)
 
--- a symbol over the elements of two arrays, or from an initial value over those of one
+-- the results of an iterated symbol: over two arrays, or from an initial value over one array
 abbrev pub symbols : ArrayIterator → BinaryOperator → List (List Stream) → List Stream
 symbols Map op (xs ∷ (ys ∷ [])) = zip2 (along_two (two_scalars op)) xs ys
 symbols Red op ((init ∷ []) ∷ (ys ∷ [])) = fold (along_two (two_scalars op)) init ys ∷ []
@@ -156,11 +157,11 @@ symbols it op xsss = []
 -- ## Expressions
 
 module _ (P : Program) (here : Instance) where
-  -- the one type of an expression, of which an accepted program has one
+  -- the type of an expression with one result; any other has `int`
   abbrev pub data_type : Expr → DataType
   data_type e = either_or (data_types P here e >>= only) int
 
-  -- the scalar elements of one element of an array
+  -- the number of scalar elements in one element of an array
   abbrev pub part_count : Expr → ℕ
   part_count e = product (tail_of (data_type e).sizes)
 
@@ -228,13 +229,13 @@ abbrev mutual
       (outputs_of P here f)
   streams P H here k n (Iterate it (Symbol op) m es) = symbols it op (all_streams P H here k n es)
 
-  -- those of expressions on one clock
+  -- the streams of each expression of a row on one clock
   pub all_streams : Program → History → Instance → Clock → ℕ → Exprs → List (List Stream)
   all_streams P H here k n Nil = []
   all_streams P H here k n (Cons e es) =
       streams P H here k n e ∷ all_streams P H here k (n + call_count e) es
 
-  -- those of expressions each on a clock of its own
+  -- the streams of each expression of a row, each on a clock of its own
   pub argument_streams :
       Program → History → Instance → List Clock → ℕ → Exprs → List (List Stream)
   argument_streams P H here ks n Nil = []

@@ -1,4 +1,4 @@
--- The clocks that a term accepts, as the code finds it.
+-- The clocks that a term accepts, as the code finds them.
 -- This file mirrors code (src/term_clock.rt, src/walked_clocks.rt, src/call_clock.rt,
 -- src/clock_rules.rt); no definition of the language stands on it.
 use Rattle.std.specs.Prelude.{ℕ, ◌+◌, ◌-◌, nat_lt, nat_eq, Bool, true, false, ◌&&◌, ◌||◌, not}
@@ -7,7 +7,7 @@ use Rattle.std.specs.Prelude.{drop, length, slice_get, if◌then◌else◌}
 use Rattle.std.specs.List.{list_all}
 use Rattle.lb_syntax.specs.Lists.{◌>>=◌, either_or, or_else, holds}
 use Rattle.lb_static.specs.ReachedNodes.{callee_in}
-use Rattle.lb_static.specs.declared.reach.Reached.{Reached}
+use Rattle.lb_static.specs.declared.reachable.Reached.{Reached}
 use Rattle.lb_static.specs.declared.resolved.CallId.{CallId}
 use Rattle.lb_static.specs.declared.resolved.ResolvedNode.{ResolvedNode}
 use Rattle.lb_static.specs.declared.resolved.Sampling.{Sampling}
@@ -28,9 +28,9 @@ use Rattle.lb_check.specs.declared.clock_set.Operand.{Operand}
 use Rattle.lb_check.specs.declared.clock_set.ClockSet.{ClockSet}
 use Rattle.lb_check.specs.declared.clock_set.ClockSet.TheVariants.{NoClock, AnyClock, OneClock}
 
--- ## What stands for the numbers of a node
+-- ## The meaning of the numbers of a node
 
--- the declared clock of each variable, and the node of each call
+-- a context: the declared clock of each variable, and the node of each call
 pub record Context : Type 0 where
   pub variable : VariableId → Clock
   pub callee : CallId → Option ResolvedNode
@@ -47,15 +47,15 @@ context_of r n = record { variable = declared_in n; callee = callee_in r n }
 
 -- ## Clocks
 
--- the clock above `On x sign` is always the declared clock of x
+-- whether two clocks are the same; the clock above `On x sign` is always the declared clock of `x`
 abbrev pub is_same : Clock → Clock → Bool
 is_same Base Base = true
 is_same (On x sign) (On y other) = nat_eq x.0 y.0 && same sign other
 is_same k l = false
 
--- ## Where a term may stand
+-- ## Clock sets
 
--- where two may stand together
+-- the clock set of two operands together: the clocks that both accept
 abbrev pub both : ClockSet → ClockSet → ClockSet
 both NoClock s = NoClock
 both AnyClock s = s
@@ -63,41 +63,41 @@ both (OneClock k) NoClock = NoClock
 both (OneClock k) AnyClock = OneClock k
 both (OneClock k) (OneClock l) = if is_same k l then OneClock k else NoClock
 
--- where these may stand together
+-- the clock set of operands together: the clocks that all accept
 abbrev pub together : List Operand → ClockSet
 together [] = AnyClock
 together (o ∷ os) = both o.clock_set (together os)
 
--- on this clock, if there is one
+-- whether a clock set accepts clock `k`, if there is one
 abbrev pub accepts_clock : Option Clock → ClockSet → Bool
 accepts_clock k NoClock = false
 accepts_clock k AnyClock = true
 accepts_clock k (OneClock l) = holds (λ k. is_same l k) k
 
--- on the clock of a variable at this sign, where its operand may stand on the variable's own
+-- the clock set of `when`: `x` at this sign, where its operand accepts the clock of `x`
 abbrev pub sampled : Context → VariableId → Bool → ClockSet → ClockSet
 sampled ctx x sign s = if accepts_clock (Some (ctx.variable x)) s then OneClock (On x sign) else
     NoClock
 
--- one clock further up
+-- the clock set of `current`: one clock above that of its operand
 abbrev pub raised : Context → ClockSet → ClockSet
 raised ctx (OneClock (On x sign)) = OneClock (ctx.variable x)
 raised ctx s = NoClock
 
 -- ## Calls
 
--- the clocks that are declared for the inputs and for the outputs of a node
+-- the declared clocks of the inputs, and below of the outputs, of a node
 abbrev pub input_clocks : ResolvedNode → List (Option Sampling)
 input_clocks n = map (λ v. v.clock) (take n.inputs n.variables.items)
 
 abbrev pub output_clocks : ResolvedNode → List (Option Sampling)
 output_clocks n = map (λ v. v.clock) (take n.outputs (drop n.inputs n.variables.items))
 
--- the variable that a call gives for an input
+-- the variable that a call gives for input `i`, if it gives a variable
 abbrev pub given_at : List Operand → ℕ → Option VariableId
 given_at os i = slice_get os i >>= λ o. o.variable
 
--- each input that a parameter waits for is given a variable
+-- whether the variable that a parameter waits for, if it is an input, is given a variable
 abbrev pub is_given : ℕ → List Operand → Option Sampling → Bool
 is_given inputs os None = true
 is_given inputs os (Some s) =
@@ -108,21 +108,21 @@ are_given n os =
     list_all (λ v. is_given n.inputs os v.clock)
     (take (n.inputs + n.outputs) n.variables.items)
 
--- the base clock of a callee: that of the first operand whose parameter is on the base clock, and
--- which stands on one clock alone
+-- the base clock of a callee: that of the first operand that stands on one clock alone and whose
+-- parameter is on the base clock
 abbrev pub base_of : List (Option Sampling) → List ClockSet → Option Clock
 base_of [] ss = None
 base_of (c ∷ cs) [] = None
 base_of (None ∷ cs) (OneClock k ∷ ss) = Some k
 base_of (c ∷ cs) (s ∷ ss) = base_of cs ss
 
--- the clock of a parameter as the caller sees it, where the callee runs on this clock and these
--- variables of the caller stand for those of the callee
+-- the clock of a parameter as the caller sees it, where the callee runs on clock `base`, and the
+-- variables `given` of the caller stand for those of the callee
 abbrev pub expected : Option Clock → (ℕ → Option VariableId) → Option Sampling → Option Clock
 expected base given None = base
 expected base given (Some s) = option_map (λ y. On y s.sign) (given s.variable.0)
 
--- each may stand on the clock of its parameter
+-- whether each operand accepts the clock of its parameter
 abbrev pub all_fit :
     Option Clock → (ℕ → Option VariableId) → List (Option Sampling) → List ClockSet → Bool
 all_fit base given [] ss = true
@@ -137,13 +137,13 @@ abbrev pub clock_set_on : Option Clock → ClockSet
 clock_set_on None = AnyClock
 clock_set_on (Some k) = OneClock k
 
--- where the first result stands
+-- the clock set of the first result of a call
 abbrev pub first_result :
     Option Clock → (ℕ → Option VariableId) → List (Option Sampling) → ClockSet
 first_result base given [] = clock_set_on base
 first_result base given (c ∷ cs) = clock_set_on (expected base given c)
 
--- where a call with one result may stand
+-- the clock set of a call with one result
 abbrev pub call_clock_set : ResolvedNode → List Operand → ClockSet
 call_clock_set n os =
     let base = base_of (input_clocks n) (clock_sets os) in
@@ -151,14 +151,14 @@ call_clock_set n os =
     then first_result base (given_at os) (output_clocks n)
     else NoClock
 
--- iterated nodes have no clocked parameters
+-- whether a node has no clocked parameters, as an iterated node must
 abbrev pub is_base_clocked : ResolvedNode → Bool
 is_base_clocked n =
     list_all (λ v. not (is_some v.clock)) (take (n.inputs + n.outputs) n.variables.items)
 
 -- ## Terms
 
--- where a term with a row of operands may stand
+-- the clock set of a term with a row of operands
 abbrev pub row_clock_set : Context → Term → List Operand → ClockSet
 row_clock_set ctx (Call' c arity all) os =
     either_or (option_map (λ n. call_clock_set n os) (ctx.callee c)) NoClock
@@ -166,14 +166,14 @@ row_clock_set ctx (IterateNode' it c arity all) os =
     if holds is_base_clocked (ctx.callee c) then together os else NoClock
 row_clock_set ctx t os = together os
 
--- where a term with one operand may stand
+-- the clock set of a term with one operand, from the clock set of that
 abbrev pub unary_clock_set : Context → Term → ClockSet → ClockSet
 unary_clock_set ctx (Current' p e) s = raised ctx s
 unary_clock_set ctx (When' p e x sign) s = sampled ctx x sign s
 unary_clock_set ctx t s = s
 
 unfoldable mutual
-  -- where a term may stand
+  -- the clock set of a term: the clocks on which it may stand
   pub infer_clock : Context → Term → ClockSet
   infer_clock ctx (Literal n) = AnyClock
   infer_clock ctx (Truth b) = AnyClock
@@ -204,34 +204,35 @@ unfoldable mutual
   infer_clock ctx (IterateSymbol' it op n arity all) =
       row_clock_set ctx (IterateSymbol' it op n arity all) (operands_in ctx all)
 
-  -- the operands that a row of terms is
+  -- the operands for a row of terms
   pub operands_in : {m : _} → Context → Row_of-Term m → List Operand
   operands_in ctx end_of-Term = []
   operands_in ctx (more_of-Term e rest) =
       record { clock_set = infer_clock ctx e; variable = variable_of e } ∷ operands_in ctx rest
 
--- an operand that a term is
+-- the operand for a term: its clock set, and its variable if it is one
 abbrev pub operand_of : Context → Term → Operand
 operand_of ctx e = record { clock_set = infer_clock ctx e; variable = variable_of e }
 
--- those that a list of terms is
+-- the operands for a list of terms
 abbrev pub operands_of : Context → List Term → List Operand
 operands_of ctx es = map (operand_of ctx) es
 
 -- ## Statements
 
--- the clock of an equation is that of its first left variable
+-- the clock of an equation: that of its first left variable
 abbrev pub left_clock : Context → List VariableId → Clock
 left_clock ctx [] = Base
 left_clock ctx (x ∷ xs) = ctx.variable x
 
--- the left variables stand on the clock of the right side
+-- whether the left variables stand on the clock of the right side
 abbrev pub is_one_clocked : Context → List VariableId → ClockSet → Bool
 is_one_clocked ctx lefts s =
     let k = left_clock ctx lefts in
     accepts_clock (Some k) s && list_all (λ x. is_same k (ctx.variable x)) lefts
 
--- the variable of the caller that stands for one of a callee: an operand or a left variable
+-- the variable of the caller that stands for variable `i` of a callee: an operand or a left
+-- variable
 abbrev pub stands_for : ℕ → List Operand → List VariableId → ℕ → Option VariableId
 stands_for inputs os lefts i =
     if nat_lt i inputs then given_at os i else slice_get lefts (i - inputs)
@@ -239,7 +240,7 @@ stands_for inputs os lefts i =
 abbrev pub left_clock_sets : Context → List VariableId → List ClockSet
 left_clock_sets ctx lefts = map (λ x. OneClock (ctx.variable x)) lefts
 
--- the base clock of a callee whose results are those of an equation
+-- the base clock of a callee whose results are those of an equation with these left variables
 abbrev pub result_base :
     Context → ResolvedNode → List Operand → List VariableId → Option Clock
 result_base ctx n os [] = Some Base
@@ -247,7 +248,7 @@ result_base ctx n os (x ∷ xs) =
     or_else (base_of (output_clocks n) (left_clock_sets ctx (x ∷ xs)))
     (base_of (input_clocks n) (clock_sets os))
 
--- the operands of a call, and the left variables as its results, stand on the clocks of its
+-- whether the operands of a call, and the left variables as its results, stand on the clocks of its
 -- parameters
 abbrev pub is_call_clocked :
     Context → ResolvedNode → List Operand → List VariableId → Bool
@@ -259,12 +260,12 @@ is_call_clocked ctx n os lefts =
     && (all_fit base given (input_clocks n) (clock_sets os)
     && all_fit base given (output_clocks n) (left_clock_sets ctx lefts)))
 
--- an equation whose right side is a call keeps the rules of clocks
+-- whether an equation whose right side is a call keeps the rules of clocks
 abbrev pub is_called_clocked : Context → List VariableId → CallId → List Term → Bool
 is_called_clocked ctx lefts c es =
     holds (λ n. is_call_clocked ctx n (operands_of ctx es) lefts) (ctx.callee c)
 
--- an equation with this right side keeps the rules of clocks
+-- whether an equation with this right side keeps the rules of clocks
 unfoldable pub is_equation_clocked : Context → List VariableId → Term → Bool
 is_equation_clocked ctx lefts (Group' p e) = is_equation_clocked ctx lefts e
 is_equation_clocked ctx lefts (Call' c arity all) =
@@ -281,6 +282,6 @@ is_resolved_statement_clocked ctx (statement.Equation lefts e) =
     is_equation_clocked ctx lefts.items e
 is_resolved_statement_clocked ctx (statement.Assertion e) = stands (infer_clock ctx e)
 
--- each statement of a node keeps the rules of clocks
+-- whether each statement of a node keeps the rules of clocks
 abbrev pub is_body_clocked : Reached → ResolvedNode → Bool
 is_body_clocked r n = list_all (is_resolved_statement_clocked (context_of r n)) n.body.items

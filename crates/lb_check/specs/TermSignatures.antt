@@ -1,4 +1,4 @@
--- What a term with a row of operands takes and gives, type by type.
+-- The types that a term with a row of operands takes and gives.
 -- This file mirrors code (src/signature.rt); no definition of the language stands on it.
 use Rattle.std.specs.Prelude.{ℕ, ℤ, Bool, true, false, ◌&&◌, ◌==◌, nat_eq, nat_lt, Option, Some}
 use Rattle.std.specs.Prelude.{None, option_map, List, [], ◌∷◌, map, length, take, drop, replicate}
@@ -10,7 +10,7 @@ use Rattle.lb_syntax.specs.declared.tree.BinaryOperator.{BinaryOperator}
 use Rattle.lb_syntax.specs.declared.tree.Kind.{Kind}
 use Rattle.lb_syntax.specs.declared.tree.Kind.TheVariants.{Int as Int_kind, Bool as Bool_kind}
 use Rattle.lb_syntax.specs.Lists.{◌>>=◌, all_some, either_or, holds, where_true}
-use Rattle.lb_static.specs.declared.reach.Reached.{Reached}
+use Rattle.lb_static.specs.declared.reachable.Reached.{Reached}
 use Rattle.lb_static.specs.declared.resolved.CallId.{CallId}
 use Rattle.lb_static.specs.declared.resolved.ResolvedNode.{ResolvedNode}
 use Rattle.lb_static.specs.declared.resolved.Term.{Term, AtMostOne', Nor', Call', IterateNode'}
@@ -34,8 +34,8 @@ use Rattle.lb_check.specs.declared.type_env.TypeEnv.{TypeEnv}
 use Rattle.lb_check.specs.declared.types.SideTypes.{SideTypes}
 use Rattle.lb_check.specs.declared.types.SideTypes.TheVariants.{Single, Several}
 
--- the types that are taken and given, each there or not, and whether what takes and gives them may
--- be called or iterated
+-- a signature: the types that are taken and given, with none for a type that is not there, and
+-- whether it may be called or iterated
 pub record Signature : Type 0 where
   pub takes : List (Option DataType)
   pub gives : List (Option DataType)
@@ -49,53 +49,53 @@ nothing = record { takes = []; gives = []; stands = false }
 abbrev pub type_at : List (Option DataType) → ℕ → Option DataType
 type_at os i = either_or (slice_get os i) None
 
--- whether there are two types, and they are one
+-- whether both types are there, and they are the same
 abbrev pub are_one : Option DataType → Option DataType → Bool
 are_one o p = holds (λ s. holds (λ t. is_type s t) p) o
 
--- the type with these values as its sizes, the outermost last, where all are without a sign
+-- the type with `values` as its sizes, the outermost last, where none is negative
 abbrev pub type_with : Kind → List ℤ → Option DataType
 type_with kind values =
     option_map (λ ns. record { kind = kind; sizes = reverse ns }) (naturals values)
 
--- whether there is a type, and it is the one with these sizes, the outermost last
+-- whether `o` is the type of this kind with these sizes, the outermost last
 abbrev pub is_type_with : Option DataType → Kind → List ℕ → Bool
 is_type_with o kind sizes = are_one o (Some (record { kind = kind; sizes = reverse sizes }))
 
--- whether a value is this size
+-- whether `value` is the size `size`
 abbrev pub is_size : ℤ → ℕ → Bool
 is_size value size = holds (λ n. n == size) (natural value)
 
--- whether these values are these sizes
+-- whether the values are the sizes, place by place
 abbrev pub are_sizes : List ℤ → List ℕ → Bool
 are_sizes values sizes =
     list_all (λ p. is_size p.0 p.1) (zip values sizes) && (length values == length sizes)
 
--- whether there are the types that are wanted, and no others
+-- whether the given types are those that are wanted, and no others
 abbrev pub are_met : (wanted given : List (Option DataType)) → Bool
 are_met [] [] = true
 are_met [] (o ∷ os) = false
 are_met (w ∷ ws) [] = false
 are_met (w ∷ ws) (o ∷ os) = are_one w o && are_met ws os
 
--- the one type of all, if they have one
+-- the common type of all, if they have one
 abbrev pub common : List (Option DataType) → Option DataType
 common [] = None
 common (o ∷ []) = o
 common (o ∷ (p ∷ os)) = when_both o (common (p ∷ os)) common_type
 
--- what is given for operands of these types
+-- the types of the results for operands of these types
 abbrev pub outcome : Signature → List (Option DataType) → Option (List (Option DataType))
 outcome s os = where_true (s.stands && are_met s.takes os) s.gives
 
--- ## What is called
+-- ## Callees
 
 abbrev pub scalars : Kind → ℕ → Bool → Signature
 scalars kind n stands =
     let scalar : Option DataType = Some (record { kind = kind; sizes = [] }) in
     record { takes = replicate n scalar; gives = scalar ∷ []; stands = stands }
 
--- a node under these static values
+-- the signature of a node under these static values
 abbrev pub declared_signature : List ℤ → ResolvedNode → Signature
 declared_signature statics n = record {
   takes = map (declared_type statics) (take n.inputs n.variables.items);
@@ -112,26 +112,26 @@ callee_signature r (Some s) =
 abbrev pub called_at : Reached → Table → Specialization → CallId → Signature
 called_at r t s c = callee_signature r (called_by t s c)
 
--- an iterated data operator: a comparison is not iterated
+-- the signature of an iterated data operator: a comparison is not iterated
 abbrev pub symbol_signature : BinaryOperator → Signature
 symbol_signature op =
     if is_arithmetic op then scalars Int_kind 2 true else scalars Bool_kind 2 (is_logical op)
 
--- ## What is iterated
+-- ## Iterated callees
 
 abbrev pub arrays : ℕ → Option DataType → Option DataType
 arrays n o = o >>= array_of n
 
--- arrays of all types but the first
+-- a row of types with arrays of all but the first
 abbrev pub rest_arrays : ℕ → List (Option DataType) → List (Option DataType)
 rest_arrays n [] = []
 rest_arrays n (o ∷ os) = o ∷ map (arrays n) os
 
--- the accumulator is the first that is taken and the first that is given
+-- whether the first type that is taken is the first that is given: that of the accumulator
 abbrev pub is_accumulated : Signature → Bool
 is_accumulated s = are_one (type_at s.takes 0) (type_at s.gives 0)
 
--- which types of a row stand for arrays of them
+-- a row of types with arrays of none, of all, or of all but the first
 abbrev pub arrays_in : Arrays → List (Option DataType) → List (Option DataType)
 arrays_in No os = os
 arrays_in (All n) os = map (arrays n) os
@@ -154,7 +154,7 @@ abbrev pub iterated : ArrayIterator → Option ℕ → Signature → Signature
 iterated it None s = nothing
 iterated it (Some n) s = iterated_by it n s
 
--- what a term with this number of operands in a row takes and gives, a list apart
+-- the signature of a term with `count` operands in a row, a list apart
 abbrev pub signature : (CallId → Signature) → Context → Term → ℕ → Signature
 signature called ctx (AtMostOne' arity all) count = scalars Bool_kind count true
 signature called ctx (Nor' arity all) count = scalars Bool_kind count true
@@ -164,7 +164,7 @@ signature called ctx (IterateSymbol' it op n arity all) count =
     iterated it (ctx.count n) (symbol_signature op)
 signature called ctx t count = nothing
 
--- what such a term gives for operands of these types
+-- the types of the results of a term with a row of operands of these types, a list apart
 abbrev pub given_of : (CallId → Signature) → Context → Term → List (Option DataType) →
     Option (List (Option DataType))
 given_of called ctx t os = outcome (signature called ctx t (length os)) os
@@ -186,11 +186,11 @@ evaluated s = if s.stands then pair_of (all_some s.takes) (all_some s.gives) els
 abbrev pub like_later : ℕ → (own later : Option DataType) → Option DataType
 like_later seen own later = if nat_eq seen 0 then own else when_both own later common_type
 
--- whether this number of operands may be given
+-- whether a signature takes `count` operands
 abbrev pub has_arity : Signature → ℕ → Bool
 has_arity s count = s.stands && nat_eq (length s.takes) count
 
--- ## What the code holds
+-- ## The meaning of what the code holds
 
 abbrev pub elements_in : Elements → List (Option DataType)
 elements_in (Scalars kind n) = replicate n (Some (record { kind = kind; sizes = [] }))

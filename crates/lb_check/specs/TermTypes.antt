@@ -6,7 +6,7 @@ use Rattle.std.specs.List.{list_all}
 use Rattle.lb_syntax.specs.declared.tree.ArrayIterator.{ArrayIterator}
 use Rattle.lb_syntax.specs.declared.tree.BinaryOperator.{BinaryOperator}
 use Rattle.lb_syntax.specs.Lists.{◌>>=◌, where_true, all_some, either_or, holds}
-use Rattle.lb_static.specs.declared.reach.Reached.{Reached}
+use Rattle.lb_static.specs.declared.reachable.Reached.{Reached}
 use Rattle.lb_static.specs.declared.resolved.CallId.{CallId}
 use Rattle.lb_static.specs.declared.resolved.CallSite.{CallSite}
 use Rattle.lb_static.specs.declared.resolved.ResolvedNode.{ResolvedNode}
@@ -32,11 +32,11 @@ use Rattle.lb_check.specs.Types.{constant_type, unary_type, binary_type, common_
 use Rattle.lb_check.specs.Types.{index_type, slice_type, join_type, list_type, symbol_types}
 use Rattle.lb_check.specs.Types.{iterator_types, only, singly}
 
--- the types of the inputs and of the outputs of what is called
+-- the types of the inputs and of the outputs of a callee
 abbrev pub CallTypes : Type 0
 CallTypes = List DataType × List DataType
 
--- what stands for the numbers in a term
+-- a context: the meaning of the numbers in a term
 pub record Context : Type 0 where
   pub variable : VariableId → Option DataType
   pub constant : StaticId → Option DataType
@@ -44,13 +44,13 @@ pub record Context : Type 0 where
   pub call : CallId → Option CallTypes
   pub repeats : CallId → Option ℕ
 
--- ## What stands for the numbers of a specialization
+-- ## The meaning of the numbers of a specialization
 
 -- the type of a static parameter or a constant
 abbrev pub constant_at : List ℤ → StaticId → Option DataType
 constant_at statics i = constant_type (slice_get statics i.0)
 
--- a size or an index
+-- the value of a size or an index
 abbrev pub count_at : List ℤ → StaticId → Option ℕ
 count_at statics i = slice_get statics i.0 >>= natural
 
@@ -87,7 +87,7 @@ context_of r t n s = record {
 
 -- ## Terms
 
--- a truth gives this
+-- the type `o`, where `c` is the type of a truth
 abbrev pub when_truth : Option DataType → Option DataType → Option DataType
 when_truth c o = c >>= λ c. where_true (is_type truth c) c >>= λ _. o
 
@@ -95,7 +95,7 @@ abbrev pub when_both : Option DataType → Option DataType → (DataType → Dat
     → Option DataType
 when_both o p f = o >>= λ t. p >>= f t
 
--- the types of the results of a row of operands of these types
+-- the types of the results of `#` and `nor` with operands of these types
 abbrev pub truth_results : List DataType → Option (List DataType)
 truth_results ts = where_true (list_all (is_type truth) ts) (truth ∷ [])
 
@@ -164,7 +164,7 @@ unfoldable mutual
   type_of ctx (IterateSymbol' it op n arity all) =
       types_in ctx all >>= row_results ctx (IterateSymbol' it op n arity all) >>= only
 
-  -- those of a row of terms
+  -- the types of a row of terms
   pub types_in : {m : _} → Context → Row_of-Term m → Option (List DataType)
   types_in ctx end_of-Term = Some []
   types_in ctx (more_of-Term e rest) =
@@ -184,7 +184,7 @@ two_types (Binary' op p a q b) l r = when_both l r (binary_type op)
 two_types (Join' p a q b) l r = when_both l r join_type
 two_types e l r = when_both l r common_type
 
--- those of a list of terms
+-- the types of a list of terms
 abbrev pub types_of : Context → List Term → Option (List DataType)
 types_of ctx es = all_some (map (type_of ctx) es)
 
@@ -219,7 +219,7 @@ abbrev pub is_resolved_statement_typed : Context → ResolvedStatement → Bool
 is_resolved_statement_typed ctx (statement.Equation lefts e) = is_equation_typed ctx lefts.items e
 is_resolved_statement_typed ctx (statement.Assertion e) = is_one_truth ctx e
 
--- the variable of a declared clock is a truth
+-- whether the variable of a declared clock is a truth
 abbrev pub is_clock_typed : Context → Option Sampling → Bool
 is_clock_typed ctx None = true
 is_clock_typed ctx (Some s) = holds (is_type truth) (ctx.variable s.variable)

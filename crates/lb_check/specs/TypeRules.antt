@@ -19,13 +19,13 @@ use Rattle.lb_check.specs.Types.{data_types}
 abbrev pub type_of_name : Program → Instance → Name → Option DataType
 type_of_name P here x = named (λ d. d.name) x (variables here.node) >>= variable_type P here
 
--- the left variables have the types of the results; an assertion is a truth
+-- whether the left variables have the types of the results; an assertion is a truth
 abbrev pub is_statement_typed : Program → Instance → Statement → Bool
 is_statement_typed P here (Equation lefts e) =
     are_same P (data_types P here e) (all_some (map (type_of_name P here) lefts))
 is_statement_typed P here (Assertion e) = are_same P (data_types P here e) (Some (truth ∷ []))
 
--- the variable of a declared clock is a truth
+-- whether the variable of a declared clock is a truth
 abbrev pub is_clock_typed : Program → Instance → Declaration → Bool
 is_clock_typed P here d =
     list_all (λ s. holds (is_type truth) (type_of_name P here s.variable))
@@ -42,7 +42,7 @@ is_typed P here =
 abbrev pub expression_size : Program → Instance → Expr → ℕ
 expression_size P here e = total (either_or (data_types P here e) [])
 
--- those of every variable, and of every expression and part of one
+-- the scalar elements of every variable of an instance, and of every expression and part of one
 abbrev pub instance_size : Program → Instance → ℕ
 instance_size P here =
     sum_by (width P here) (variables here.node)
@@ -51,6 +51,6 @@ instance_size P here =
 abbrev pub size : Program → ℕ
 size P = sum_by (instance_size P) (instances P)
 
--- E12: at most 65,536
+-- E12: whether a program has at most 65,536 scalar elements
 abbrev pub is_small : Program → Bool
 is_small P = nat_le (size P) 65536

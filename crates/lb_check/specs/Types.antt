@@ -54,7 +54,7 @@ are_ints s t = is_type s int && is_type t int
 abbrev pub are_truths : DataType → DataType → Bool
 are_truths s t = is_type s truth && is_type t truth
 
--- what an operator gives, where its operands have the types that it takes
+-- the type of the result of an operator, where its operand has the type that it takes
 abbrev pub unary_type : UnaryOperator → DataType → Option DataType
 unary_type Not t = where_true (is_type t truth) truth
 unary_type Negate t = where_true (is_type t int) int
@@ -71,7 +71,7 @@ common_type s t = where_true (is_type s t) t
 
 -- ## Arrays
 
--- an array of n of these; no array is longer than 4,096
+-- the type of an array of `n` elements of type `t`; no array is longer than 4,096
 abbrev pub array_of : ℕ → DataType → Option DataType
 array_of n t =
     where_true (nat_le 1 n && nat_le n 4096) (record { kind = t.kind; sizes = n ∷ t.sizes })
@@ -128,14 +128,14 @@ iterator_types Map n ins outs args = map_types n ins outs args
 iterator_types Red n ins outs args = red_types n ins outs args
 iterator_types Fill n ins outs args = fill_types n ins outs args
 
--- the types of what an iterated data operator takes and of what it gives: numbers, or truths; a
+-- the types of the operands and of the result of an iterated data operator: numbers, or truths; a
 -- comparison is not iterated
 abbrev pub symbol_types : BinaryOperator → Option (List DataType × List DataType)
 symbol_types op =
     if is_arithmetic op then Some (int ∷ int ∷ [], int ∷ [])
     else where_true (is_logical op) (truth ∷ truth ∷ [], truth ∷ [])
 
--- the types of the inputs and of the outputs of what is called or iterated
+-- the types of the inputs and of the outputs of a callee or of an iterated operator
 abbrev pub operator_types : Program → Instance → Operator → Option (List DataType × List DataType)
 operator_types P here (Node_named f statics) =
     callee_of P here (call_site f statics) 0 0 >>= λ n.
@@ -162,7 +162,7 @@ only ts = None
 abbrev pub singly : Option DataType → Option (List DataType)
 singly o = option_map (λ t. t ∷ []) o
 
--- one result from an operand with one result, and from two
+-- the type of one result, from one operand with one result, and below from two
 abbrev pub from_one : Option (List DataType) → (DataType → Option DataType) → Option (List DataType)
 from_one ts f = ts >>= only >>= λ t. singly (f t)
 
@@ -171,7 +171,7 @@ abbrev pub from_two :
     Option (List DataType)
 from_two ts us f = ts >>= only >>= λ t. us >>= only >>= λ u. singly (f t u)
 
--- one truth from truths
+-- the type of one truth, from operands that are truths
 abbrev pub from_truths : Option (List DataType) → Option (List DataType)
 from_truths ts = ts >>= λ ts. where_true (list_all (is_type truth) ts) (truth ∷ [])
 

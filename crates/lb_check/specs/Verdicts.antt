@@ -48,11 +48,11 @@ assertions P n = some_of (map (λ s. assertion_of s.0 s.1) (statements P n))
 abbrev pub variable_columns : History → Instance → List Stream
 variable_columns H here = flat_map (λ d. H.columns here.path d.name) (variables here.node)
 
--- those of the operands that it keeps
+-- the streams of the operands that the memories of an instance keep
 abbrev pub memory_columns : Program → History → Instance → List Stream
 memory_columns P H here = flat_map (streams_at P H here) (memory_operands P here)
 
--- those of its assertions
+-- the streams of the assertions of an instance
 abbrev pub assertion_columns : Program → History → Instance → List Stream
 assertion_columns P H here = flat_map (streams_at P H here) (assertions P here.node)
 
@@ -65,41 +65,41 @@ named_places P H here =
 abbrev pub clock_variables : Node → List Declaration
 clock_variables n = filter (λ d. among d.name (clock_names n)) (variables n)
 
--- the streams of those of an instance
+-- the streams of the clock variables of an instance
 abbrev pub clock_columns : History → Instance → List Stream
 clock_columns H here =
     flat_map (λ d. H.columns here.path d.name) (clock_variables here.node)
 
--- ## What happens at an instant
+-- ## The events of an instant
 
--- a cell is present and holds a fault
+-- whether a cell is present and holds a fault
 abbrev pub is_bad : Option Cell → Bool
 is_bad (Some (Some Bad)) = true
 is_bad x = false
 
--- a cell is present and nil
+-- whether a cell is present and nil
 abbrev pub is_nil : Option Cell → Bool
 is_nil (Some (Some Nil)) = true
 is_nil x = false
 
--- a cell is present and false
+-- whether a cell is present and false
 abbrev pub is_false : Option Cell → Bool
 is_false (Some (Some (Boolean false))) = true
 is_false x = false
 
--- one of some streams passes a test at instant t
+-- whether one of some streams passes a test at instant `t`
 abbrev pub some_at : (Option Cell → Bool) → ℕ → List Stream → Bool
 some_at test t xss = list_any (λ xs. test (slice_get xs t)) xss
 
--- a fault occurs: a named place holds one
+-- whether a fault occurs: a named place holds one
 abbrev pub is_fault : Program → History → ℕ → Bool
 is_fault P H t = list_any (λ here. some_at is_bad t (named_places P H here)) (instances P)
 
--- an assertion of some instance is false
+-- whether an assertion of some instance is false
 abbrev pub is_failed : Program → History → ℕ → Bool
 is_failed P H t = list_any (λ here. some_at is_false t (assertion_columns P H here)) (instances P)
 
--- where the node stands whose one output is the property: the observer, or else the node under test
+-- the path of the node whose one output is the property: the observer, or else the node under test
 abbrev pub property_path : Option Name → Path
 property_path None = Root
 property_path (Some o) = Observer
@@ -109,12 +109,12 @@ property_columns P H =
     listed (λ here. flat_map (λ d. H.columns here.path d.name) here.node.outputs)
     (instance_at P (property_path P.observer))
 
--- the property is false
+-- whether the property is false
 abbrev pub is_violated : Program → History → ℕ → Bool
 is_violated P H t = some_at is_false t (property_columns P H)
 
--- nil stands where a truth is wanted: in a variable that serves as a clock, an assertion or the
--- property
+-- whether nil stands where a truth is wanted: in a variable that serves as a clock, an assertion or
+-- the property
 abbrev pub is_undefined : Program → History → ℕ → Bool
 is_undefined P H t =
     list_any (λ here. some_at is_nil t (clock_columns H here)) (instances P)
@@ -123,19 +123,20 @@ is_undefined P H t =
 
 -- ## The verdict
 
--- one of the four happens
+-- whether instant `t` decides: a fault, a nil truth, a failed assertion or a false property
 abbrev pub decides : Program → History → ℕ → Bool
 decides P H t =
     is_fault P H t || (is_undefined P H t || (is_failed P H t || is_violated P H t))
 
--- one happens at this instant, which is one of so many, and none before
+-- `t` is the first of `count` instants that decides
 pub record IsLeast (P : Program) (H : History) (count t : ℕ) : Type 0 where
   pub within : t < count
   pub happens : decides P H t ≡ true
   pub not_before : (s : ℕ) → s < t → decides P H s ≡ false
 
--- a history over so many instants ends with a verdict: at the least instant a fault comes before
--- what is undefined, that before an assertion, and an assertion before the property
+-- the verdict at the end of a history over `count` instants: at the first instant that decides, a
+-- fault comes before what is undefined, that before an assertion, and an assertion before the
+-- property
 abbrev pub Ends : Program → History → ℕ → Verdict → Type 0
 Ends P H count Passed = (t : ℕ) → t < count → decides P H t ≡ false
 Ends P H count (Fault t) = IsLeast P H count t × (is_fault P H t ≡ true)
@@ -157,9 +158,9 @@ pub record IsOnlyVerdict (P : Program) (X : Inputs) (v : Verdict) : Type 0 where
   pub has : HasVerdict P X v
   pub only : (w : Verdict) → HasVerdict P X w → v ≡ w
 
--- ## The same by looking at one instant after another
+-- ## The verdict by looking at one instant after another
 
--- what an instant decides; `Passed` where it decides nothing
+-- the verdict that instant `t` decides; `Passed` where it decides nothing
 abbrev pub judged : Program → History → ℕ → Verdict
 judged P H t =
     if is_fault P H t then Fault t else
@@ -171,7 +172,7 @@ abbrev pub or_later : Verdict → Verdict → Verdict
 or_later Passed v = v
 or_later v w = v
 
--- the verdict over so many instants from instant t on
+-- the verdict over `n` instants from instant `t` on
 abbrev pub verdict_from : Program → History → ℕ → ℕ → Verdict
 verdict_from P H t zero = Passed
 verdict_from P H t (suc n) = or_later (judged P H t) (verdict_from P H (suc t) n)

@@ -1,4 +1,4 @@
--- What a walk over a term finds of its clocks: the operands of each `current` and of each call.
+-- The operands of each `current` and of each call in a term, as a walk over it finds them.
 -- This file mirrors code (src/walked_clocks.rt); no definition of the language stands on it.
 use Rattle.std.specs.Prelude.{◌≡◌, List, [], ◌∷◌, ◌++◌, flat_map, reverse}
 use Rattle.lb_static.specs.declared.resolved.Term.{Term, Literal, Truth, Variable, Value, Group'}
@@ -12,8 +12,8 @@ use Rattle.lb_check.specs.declared.clock_set.ClockSet.{ClockSet}
 use Rattle.lb_check.specs.declared.clock_set.Operand.{Operand}
 
 unfoldable mutual
-  -- the operands of each `current` and of each call in a term, in text order: those of a call
-  -- before those within them
+  -- the operands of each `current` and of each call in a term, in text order: the operands of a
+  -- call stand before the operands within them
   pub known_operands : Context → Term → List Operand
   known_operands ctx (Literal n) = []
   known_operands ctx (Truth b) = []
@@ -40,22 +40,21 @@ unfoldable mutual
   known_operands ctx (IterateNode' it c arity all) = known_in ctx all
   known_operands ctx (IterateSymbol' it op n arity all) = known_in ctx all
 
-  -- those in a row of terms
+  -- the known operands of a row of terms
   pub known_in : {m : _} → Context → Row_of-Term m → List Operand
   known_in ctx end_of-Term = []
   known_in ctx (more_of-Term e rest) = known_operands ctx e ++ known_in ctx rest
 
--- those in a list of terms
+-- the known operands of a list of terms
 abbrev pub known_among : Context → List Term → List Operand
 known_among ctx es = flat_map (known_operands ctx) es
 
--- what is known of a term is added against the order of the text, and the clocks that it accepts
--- are inferred
+-- a walk over a term adds its known operands, the last one first, and infers its clock set
 abbrev pub IsWalked : Context → Term → (before after : List Operand) → ClockSet → Type 0
 IsWalked ctx e before after s =
     (s ≡ infer_clock ctx e) × (after ≡ before ++ reverse (known_operands ctx e))
 
--- and of terms in a row
+-- a walk over a row of terms adds their known operands, the last one first
 abbrev pub IsRowWalked :
     Context → List Term → (before after : List Operand) → List Operand → Type 0
 IsRowWalked ctx es before after os =

@@ -1,4 +1,4 @@
-//! On which clocks calls stand (E10).
+//! The clocks on which calls stand (E10).
 
 ghost use Rattle.std.specs.Prelude.{◌≡◌, ◌+◌, ◌∷◌, [], List, take, drop, IfOk};
 ghost use Rattle.lb_static.specs.declared.resolved.VariableId as named;
@@ -12,7 +12,7 @@ use crate::term_clock::ClockEnv;
 use lb_static::{ResolvedNode, Sampling, Term, Variable, VariableId, part_of};
 use std::alloc::{AllocError, Global};
 
-/// The variable that a term is, in parentheses or not.
+/// The variable of a term that is a variable, in parentheses or not.
 #[tactic(auto, unfolding(crate::specs::CallClocks::variable_of))]
 pub fn variable_of(term: &Term) -> Option<VariableId>
     ensures { result ≡ variables.variable_of term.now }
@@ -24,17 +24,17 @@ pub fn variable_of(term: &Term) -> Option<VariableId>
     }
 }
 
-/// The variables of the caller that stand for those of a callee.
+/// The variables of the caller that stand for variables of a callee.
 #[derive(Clone, Copy)]
 pub enum Given<'a> {
     /// The operands of a call within a term.
     Nested(&'a [Operand]),
-    /// Those of a call that is a whole right side, for so many inputs, and the left variables for
-    /// the outputs.
+    /// The operands of a call that is a whole right side, for this number of inputs, and the left
+    /// variables for the outputs.
     Whole(usize, &'a [Operand], &'a [VariableId]),
 }
 
-/// The variable that an operand is.
+/// The variable of the operand at a place, if it is a variable.
 fn given_at(operands: &[Operand], place: usize) -> Option<VariableId>
     ensures { result ≡ mirror.given_at operands.now place }
 {
@@ -42,7 +42,7 @@ fn given_at(operands: &[Operand], place: usize) -> Option<VariableId>
 }
 
 impl Given<'_> {
-    /// What stands for the variable of the callee at a place.
+    /// The variable of the caller that stands for the variable of the callee at a place.
     pub fn at(&self, place: usize) -> Option<VariableId>
         ensures { result ≡ given_in self.now place }
     {
@@ -59,7 +59,7 @@ impl Given<'_> {
     }
 }
 
-/// Some of the variables of a node: so many from a place on, or as many as there are.
+/// The variables of a node from place `first` on: `count`, or as many as there are.
 fn variables_from<'t>(node: &'t ResolvedNode, first: usize, count: usize) -> &'t [Variable]
     ensures { result.now ≡ take count (drop first node.now.variables.items) }
 {
@@ -78,7 +78,7 @@ pub fn parameters<'t>(node: &'t ResolvedNode) -> &'t [Variable]
     }
 }
 
-/// Whether the parameter that a clock waits for, if it is one of so many inputs, is given a
+/// Whether the variable that a clock waits for, if it is one of the first `inputs`, is given a
 /// variable.
 fn is_given(inputs: usize, operands: &[Operand], clock: Option<Sampling>) -> bool
     ensures { result ≡ mirror.is_given inputs operands.now clock }
@@ -92,8 +92,8 @@ fn is_given(inputs: usize, operands: &[Operand], clock: Option<Sampling>) -> boo
     }
 }
 
-/// Whether a call gives a variable for each input that is the clock variable of a parameter of the
-/// node that it calls.
+/// Whether a call gives a variable for each input of its callee that is the clock variable of a
+/// parameter.
 pub fn are_given(callee: &ResolvedNode, operands: &[Operand]) -> bool
     ensures { result ≡ mirror.are_given callee.now operands.now }
 {
@@ -105,8 +105,8 @@ pub fn are_given(callee: &ResolvedNode, operands: &[Operand]) -> bool
     true
 }
 
-/// The base clock of a callee, if an operand determines it: its parameter is on the base clock, and
-/// it stands on one clock alone.
+/// The base clock of a callee, if an operand determines it: the operand stands on one clock alone,
+/// and its parameter is on the base clock.
 fn determined(clock: Option<Sampling>, clock_set: ClockSet) -> Option<Clock>
     ensures { result ≡ mirror.base_of (clock ∷ []) (clock_set ∷ []) }
 {
@@ -116,8 +116,8 @@ fn determined(clock: Option<Sampling>, clock_set: ClockSet) -> Option<Clock>
     }
 }
 
-/// The base clock of a callee: that which the first operand determines that determines one.
-#[tactic(auto, using(crate::proofs::ClockSetRows::beside))]
+/// The base clock of a callee: that of the first operand that determines one.
+#[tactic(auto, using(crate::proofs::clocking::ClockSetRows::beside))]
 fn base_of(parameters: &[Variable], operands: &[Operand]) -> Option<Clock>
     ensures { result ≡ mirror.base_of (clocks_of parameters.now) (mirror.clock_sets operands.now) }
 {
@@ -132,8 +132,8 @@ fn base_of(parameters: &[Variable], operands: &[Operand]) -> Option<Clock>
     None
 }
 
-/// The clock of a parameter as the caller sees it, if it sees one: that on which the callee runs,
-/// or one on which a variable that stands there for one of the callee has a sign.
+/// The clock of a parameter as the caller sees it, if it sees one: the clock on which the callee
+/// runs, or one on which the variable that the caller gives for the clock variable has a sign.
 pub fn expected(base: Option<Clock>, given: &Given, clock: Option<Sampling>) -> Option<Clock>
     ensures { result ≡ mirror.expected base (given_in given.now) clock }
 {
@@ -169,7 +169,7 @@ pub fn base_clock(callee: &ResolvedNode, operands: &[Operand]) -> Option<Clock>
 }
 
 /// Whether each operand may stand on the clock of its parameter.
-#[tactic(auto, using(crate::proofs::ClockSetRows::beside))]
+#[tactic(auto, using(crate::proofs::clocking::ClockSetRows::beside))]
 fn all_fit(
     base: Option<Clock>,
     given: &Given,
@@ -191,7 +191,7 @@ fn all_fit(
     true
 }
 
-/// Where the first result of a callee stands.
+/// The clocks that the first result of a callee accepts.
 fn first_result(base: Option<Clock>, given: &Given, outputs: &[Variable]) -> ClockSet
     ensures { result ≡ mirror.first_result base (given_in given.now) (clocks_of outputs.now) }
 {
@@ -251,8 +251,8 @@ fn left_operands(
     Ok(results)
 }
 
-/// The base clock of a callee whose results are those of an equation: the first that they, or else
-/// the operands, determine.
+/// The base clock of a callee whose results are those of an equation: the first that the results,
+/// or else the operands, determine.
 fn result_base(callee: &ResolvedNode, operands: &[Operand], results: &[Operand]) -> Option<Clock>
     ensures { (ctx : mirror.Context) (lefts : List named.VariableId) →
         mirror.clock_sets results.now ≡ mirror.left_clock_sets ctx lefts →

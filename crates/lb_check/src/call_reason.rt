@@ -1,4 +1,4 @@
-//! Why a call or an iterator has not one type, where its arguments have types (E9).
+//! The reason why a call or an iterator has not one type, where its arguments have types (E9).
 
 use crate::signature::{TypeRow, is_wanted, signature_of};
 use crate::sites::Site;
@@ -9,7 +9,8 @@ use crate::types::type_of;
 use lb_static::Term;
 use std::alloc::{AllocError, Global};
 
-/// An argument, counted from 0, that has another type than its input, or whose input has none.
+/// The reason for an argument, counted from 0, that has another type than its input, or whose input
+/// has no type.
 fn of_argument<'t>(
     alloc: Global,
     site: Site<'t>,
@@ -29,7 +30,7 @@ fn of_argument<'t>(
     })
 }
 
-/// A call with another number of results than one.
+/// The reason for a call with no result or with several, where one is wanted.
 fn of_results<'t>(site: Site<'t>) -> TypeReason<'t> {
     TypeReason {
         rule: TypeRule::ResultCount,
@@ -40,8 +41,7 @@ fn of_results<'t>(site: Site<'t>) -> TypeReason<'t> {
     }
 }
 
-/// What is wrong with the first argument that has another type than its input, or else with the
-/// results.
+/// The reason for the first argument that has another type than its input, or else for the results.
 fn of_arguments<'t>(
     alloc: Global,
     env: &TypeEnv,
@@ -58,7 +58,7 @@ fn of_arguments<'t>(
     Ok(of_results(site))
 }
 
-/// Why a call or an iterator with these arguments has not one type.
+/// The reason why a call or an iterator with these arguments has not one type.
 pub fn call_reason<'t>(
     alloc: Global,
     env: &TypeEnv<'t, '_>,

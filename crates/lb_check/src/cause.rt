@@ -1,5 +1,5 @@
-//! What all causes hold: the name of a node, the way to an instance, and where the parts of a node
-//! stand.
+//! The parts of all causes: the name of a node, the way to an instance, and the offsets of the
+//! parts of a node.
 
 ghost use Rattle.std.specs.Prelude.{◌≡◌, IfOk, string_bytes};
 ghost use Rattle.lb_syntax.specs.Lists.{listed};
@@ -10,7 +10,7 @@ use lb_static::{CallPath, NodeId, Origin, Reached, Table, VariableId, call_path}
 use lb_syntax::{Declarations, Name, Node, Sampling};
 use std::alloc::{AllocError, Global};
 
-/// The name of a node again, or an empty one where there is no such node.
+/// A copy of the name of a node; an empty one where there is no such node.
 pub fn name_of(alloc: Global, reached: &Reached, id: NodeId) -> Result<String, AllocError>
     ensures { IfOk result (λ name.
         string_bytes name ≡ listed (λ n. n.name) (tree_at reached.now id)) }
@@ -64,8 +64,8 @@ pub struct DeclaredVariable<'t> {
     pub clock: Option<&'t Sampling>,
 }
 
-/// The variable at a place among those of some declarations; the place then counts from the end of
-/// them.
+/// The variable at a place among some declarations. Where there is none, `place` is counted from
+/// their end on.
 fn declared_among<'t>(
     declarations: &'t [Declarations],
     place: &mut usize,
@@ -94,10 +94,13 @@ pub fn declared_variable<'t>(node: &'t Node, variable: VariableId) -> Option<Dec
     declared_among(&node.locals, &mut place)
 }
 
-/// Where the name of a variable of a node is declared.
+/// The offset at which the name of a variable of a node is declared.
 pub fn variable_offset(node: &Node, variable: VariableId) -> u32 {
     match declared_variable(node, variable) {
-        Some(declared) => declared.name.offset(),
+        Some(declared) => {
+            let name = declared.name;
+            name.offset
+        }
         None => 0,
     }
 }
@@ -124,18 +127,19 @@ pub fn variable_names<'t>(alloc: Global, node: &'t Node) -> Result<Vec<&'t Name>
     Ok(names)
 }
 
-/// Where the variable of a declared clock stands.
+/// The offset of the variable of a declared clock.
 pub fn clock_offset(node: &Node, variable: VariableId) -> u32 {
     let Some(declared) = declared_variable(node, variable) else {
         return 0;
     };
-    match declared.clock {
-        Some(clock) => clock.variable.offset(),
-        None => declared.name.offset(),
-    }
+    let name = match declared.clock {
+        Some(clock) => &clock.variable,
+        None => declared.name,
+    };
+    name.offset
 }
 
-/// Where a part of a node begins.
+/// The offset at which a part of a node begins.
 pub fn part_offset(reached: &Reached, id: NodeId, part: Part) -> u32 {
     let Some(node) = reached.nodes.get(id.0) else {
         return 0;

@@ -1,4 +1,4 @@
-//! A checked program: what the layer above reads of it.
+//! A checked program, as the layer above reads it.
 
 ghost use Rattle.std.specs.Prelude.{◌≡◌, option_map, slice_get};
 ghost use Rattle.lb_syntax.specs.Lists as lists;
@@ -18,15 +18,15 @@ pub struct Checking<'s> {
     pub elab: Elab<'s>,
     /// What is found of each reached node: the clock of each term and what is found of each call.
     pub clocks: Vec<NodeClocks>,
-    /// What is found of each specialization: the types of its terms; nothing where the terms of all
-    /// of them together have more than 65,536 scalar elements, so that the program is too large.
+    /// What is found of each specialization: the types of its terms; none where the terms of all of
+    /// them together have more than 65,536 scalar elements, so that the program is too large.
     pub types: Option<Vec<NodeTypes>>,
 }
 
 /// An elaborated program that keeps the rules of types, clocks and definitions.
 ///
-/// Contracts see what is found of it, which names the program. That it is true of this program, and
-/// that the program keeps the rules, is known of every `Checked`; the read calls say it.
+/// Contracts see it as a `Checking`: the program, and what is found of it. Each `Checked` keeps the
+/// rules, and what is found is true of its program; the read calls say so.
 #[derive(Drop)]
 pub struct Checked<'s> {
     checking: Checking<'s>,
@@ -65,7 +65,7 @@ impl<'s> Checked<'s> {
         &self.checking.elab
     }
 
-    /// The clocks on which the terms of a node stand, in text order: none of a node that is not
+    /// The clocks on which the terms of a node stand, in text order; none for a node that is not
     /// reached.
     pub fn term_clocks(&self, node: NodeId) -> &[Clock]
         ensures value { result.now
@@ -78,7 +78,7 @@ impl<'s> Checked<'s> {
         }
     }
 
-    /// What is found of the calls of a node, in text order: none of a node that is not reached.
+    /// What is found of the calls of a node, in text order; none for a node that is not reached.
     pub fn call_clocks(&self, node: NodeId) -> &[CallClock]
         ensures value { result.now
             ≡ listed (λ f. f.calls.items) (slice_get self.now.clocks.items node.0) }
@@ -90,7 +90,7 @@ impl<'s> Checked<'s> {
         }
     }
 
-    /// The types of the terms of a specialization, in text order: of none where the terms of all
+    /// The types of the terms of a specialization, in text order; none where the terms of all
     /// specializations together have more than 65,536 scalar elements.
     pub fn term_types(&self, specialization: SpecializationId) -> Option<&NodeTypes>
         ensures value { option_map (λ f. f.now) result

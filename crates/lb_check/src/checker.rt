@@ -20,7 +20,7 @@ use lb_static::{Elab, Reached, Table};
 use std::alloc::{AllocError, Global};
 
 /// The first of the rules of types (E9), clocks (E10) and definitions (E11) that a program breaks,
-/// each over all instances, with what breaks it, if there is one.
+/// each over all instances, with its fault; none where the program keeps them.
 fn broken_rule(
     alloc: Global,
     reached: &Reached,
@@ -45,7 +45,7 @@ fn broken_rule(
 
 /// Checks an elaborated program: the first of the rules of types (E9), clocks (E10) and definitions
 /// (E11) that it breaks, each over all instances, with the node and the part of it that breaks it,
-/// and why; or the program again.
+/// and why; or the checked program.
 pub fn check<'s>(alloc: Global, elab: Elab<'s>) -> Result<Checked<'s>, CheckError>
     ensures answer { IsAnswer (elaborated_program elab.entry) result }
     ensures same { IfOk result (λ c. c.elab ≡ elab.entry) }

@@ -1,4 +1,4 @@
-//! Declared clocks: which variables wait for others, and how deep their clocks stand (E10).
+//! Declared clocks: the variables that wait for others, and the depths of their clocks (E10).
 
 ghost use Rattle.std.specs.Prelude.{◌≡◌, ◌+◌, ◌<◌, ◌≤◌, ℕ, true, Some, None, List, length};
 ghost use Rattle.std.specs.Prelude.{IfOk, IfSome};
@@ -14,9 +14,10 @@ ghost use Rattle.lb_check.specs.FoundParts.{IsDeclaredClock};
 use lb_static::{ResolvedNode, Variable};
 use std::alloc::{AllocError, Global};
 
-/// How deep the declared clock of a variable stands: the steps to a variable without a clock, or
-/// to one whose depth is known. None where there are more steps than variables, in a circle.
-#[tactic(auto, using(crate::proofs::ClockDepths::steps))]
+/// The depth of the declared clock of a variable: the number of steps to a variable without a
+/// clock, or to one whose depth is known, with that depth added. None in a circle, where there are
+/// more steps than variables.
+#[tactic(auto, using(crate::proofs::clocking::ClockDepths::steps))]
 fn depth_of(depths: &[Option<usize>], variables: &[Variable], first: usize) -> Option<usize>
     requires awaited { AreAwaited variables.now }
     requires known { AreDepths variables.now depths.now }
@@ -42,7 +43,7 @@ fn depth_of(depths: &[Option<usize>], variables: &[Variable], first: usize) -> O
     None
 }
 
-/// Notes how deep a variable and those that it leads to stand, up to one of which it is known.
+/// Notes the depths of a variable and of those that it leads to, up to one whose depth is known.
 fn note_depths(depths: &mut [Option<usize>], variables: &[Variable], first: usize, depth: usize)
     requires awaited { AreAwaited variables.now }
     requires known { AreDepths variables.now depths.old }
@@ -81,9 +82,9 @@ fn first_in_circle(alloc: Global, variables: &[Variable]) -> Result<Option<usize
     Ok(None)
 }
 
-/// The place of the first of some variables that is on a clock and waits for none of so many first
-/// variables.
-#[tactic(auto, using(crate::proofs::ClockedNodes::waits_next))]
+/// The place of the first variable of a list that is on a clock and waits for none of the first
+/// `count` variables.
+#[tactic(auto, using(crate::proofs::clocking::ClockedNodes::waits_next))]
 fn first_waiting_past(variables: &[Variable], count: usize) -> Option<usize>
     ensures first { result ≡ first_broken (waits_below count) variables.now }
     ensures within { IfSome result (λ i. i < length variables.now) }
@@ -98,7 +99,7 @@ fn first_waiting_past(variables: &[Variable], count: usize) -> Option<usize>
     None
 }
 
-/// Whether a node has as many variables as inputs and outputs, and each that is waited for.
+/// Whether a node has all its inputs and outputs, and each variable that is waited for.
 fn is_whole(node: &ResolvedNode) -> bool
     ensures interface { result ≡ true →
         node.now.inputs + node.now.outputs ≤ length node.now.variables.items }

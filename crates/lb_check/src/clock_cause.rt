@@ -1,7 +1,7 @@
-//! Why a part of a node breaks the rules of clocks (E10).
+//! The reason why a part of a node breaks the rules of clocks (E10).
 //!
-//! What is told of a term is its innermost part that stands on no clock, of which each operand
-//! stands on one.
+//! The reported part of a term is the innermost one that stands on no clock, though each of its
+//! operands does: in `a + (b + c)`, with `b` and `c` on two clocks, it is `b + c`.
 
 ghost use Rattle.std.specs.Prelude.{◌≡◌, IfOk, string_bytes};
 ghost use Rattle.lb_syntax.specs.Lists.{listed};
@@ -25,16 +25,16 @@ use lb_static::{
 use lb_syntax::{Name, Statement};
 use std::alloc::{AllocError, Global};
 
-/// What is found of a term, from what is found of its operands.
+/// The clocking of a term, found from that of its operands.
 #[derive(Clone, Copy)]
 enum Clocking {
-    /// It stands on these clocks, and is this variable, if it is one.
+    /// The term stands on these clocks, and is this variable, if it is one.
     Clocked(Operand),
-    /// Why this term, or a part of it, stands on no clock.
+    /// The reason why this term, or a part of it, stands on no clock.
     Unclocked(ClockReason),
 }
 
-/// What is found of the operands of a term.
+/// The clocking of the operands of a term.
 #[derive(Drop)]
 enum OperandClocking {
     Clocked(Vec<Operand>),
@@ -52,7 +52,7 @@ fn own_clock_set(env: &ClockEnv, term: &Term, operands: &[Operand]) -> ClockSet 
     }
 }
 
-/// The variable that a term with these operands is, in parentheses or not.
+/// The variable of a term with these operands, if it is a variable, in parentheses or not.
 fn own_variable(term: &Term, operands: &[Operand]) -> Option<VariableId> {
     match (term, operands) {
         (Term::Variable(x), _) => Some(*x),
@@ -61,7 +61,7 @@ fn own_variable(term: &Term, operands: &[Operand]) -> Option<VariableId> {
     }
 }
 
-/// What is found of a term of which each operand stands on a clock.
+/// The clocking of a term of which each operand stands on a clock.
 fn own_clocking(env: &ClockEnv, site: Site, operands: &[Operand]) -> Clocking {
     match own_clock_set(env, site.term, operands) {
         ClockSet::NoClock => Clocking::Unclocked(clock_reason(env, site, operands)),
@@ -72,7 +72,7 @@ fn own_clocking(env: &ClockEnv, site: Site, operands: &[Operand]) -> Clocking {
     }
 }
 
-/// What is found of the operands of a term: the first part that stands on no clock is told.
+/// The clocking of the operands of a term: the first part that stands on no clock is reported.
 #[cycle(clockings)]
 fn clocked_operands(
     alloc: Global,
@@ -92,7 +92,7 @@ fn clocked_operands(
     Ok(OperandClocking::Clocked(operands))
 }
 
-/// What is found of a term: each part is looked at once.
+/// The clocking of a term: each part is looked at once.
 #[cycle(clockings)]
 fn clocked_term(alloc: Global, env: &ClockEnv, site: Site) -> Result<Clocking, AllocError> {
     match clocked_operands(alloc, env, site)? {
@@ -111,7 +111,7 @@ fn first_elsewhere(env: &ClockEnv, clock: Clock, lefts: &[VariableId]) -> Option
     None
 }
 
-/// A left variable, counted from 0, on another clock than what stands on the right.
+/// The reason for a left variable, counted from 0, on another clock than the right side.
 fn left_reason(
     env: &ClockEnv,
     lefts: &[VariableId],
@@ -127,8 +127,8 @@ fn left_reason(
     clocks_differ(rule, left_offset(statement, place), found, wanted)
 }
 
-/// Why an equation whose right side is no call breaks the rules of clocks, where its right side
-/// stands on a clock.
+/// The reason why an equation whose right side is no call, and stands on a clock, breaks the rules
+/// of clocks.
 fn lefts_reason(
     env: &ClockEnv,
     lefts: &[VariableId],
@@ -143,7 +143,7 @@ fn lefts_reason(
     left_reason(env, lefts, place, Some(clock), statement)
 }
 
-/// Whether a result with this clock stands on that of its left variable.
+/// Whether a result with this clock stands on the clock of its left variable.
 fn is_result_on(env: &ClockEnv, found: Option<Clock>, left: VariableId) -> bool {
     match found {
         Some(clock) => is_same(clock, env.variable(left)),
@@ -151,7 +151,7 @@ fn is_result_on(env: &ClockEnv, found: Option<Clock>, left: VariableId) -> bool 
     }
 }
 
-/// The results of a call, of which one is on another clock than its left variable.
+/// The reason for a call with a result on another clock than its left variable.
 fn results_reason(
     env: &ClockEnv,
     callee: &ResolvedNode,
@@ -169,8 +169,8 @@ fn results_reason(
     of_rule(ClockRule::Left(1), statement.offset())
 }
 
-/// Why an equation whose right side is a call breaks the rules of clocks, where the arguments stand
-/// on clocks.
+/// The reason why an equation whose right side is a call, with arguments that stand on clocks,
+/// breaks the rules of clocks.
 fn called_reason(
     alloc: Global,
     env: &ClockEnv,
@@ -188,7 +188,7 @@ fn called_reason(
     }
 }
 
-/// Why an equation whose right side is this call breaks the rules of clocks.
+/// The reason why an equation whose right side is this call breaks the rules of clocks.
 fn call_equation_reason(
     alloc: Global,
     env: &ClockEnv,
@@ -207,7 +207,7 @@ fn call_equation_reason(
     }
 }
 
-/// Why an equation breaks the rules of clocks.
+/// The reason why an equation breaks the rules of clocks.
 fn equation_reason(
     alloc: Global,
     env: &ClockEnv,
@@ -224,7 +224,7 @@ fn equation_reason(
     }
 }
 
-/// Why what is asserted stands on no clock.
+/// The reason why the expression of an assertion stands on no clock.
 fn assertion_reason(alloc: Global, env: &ClockEnv, site: Site) -> Result<ClockReason, AllocError> {
     match clocked_term(alloc, env, site)? {
         Clocking::Clocked(_) => Ok(of_rule(ClockRule::Current, site.offset())),
@@ -232,7 +232,7 @@ fn assertion_reason(alloc: Global, env: &ClockEnv, site: Site) -> Result<ClockRe
     }
 }
 
-/// Why a statement breaks the rules of clocks.
+/// The reason why a statement breaks the rules of clocks.
 fn statement_reason(
     alloc: Global,
     env: &ClockEnv,
@@ -275,7 +275,7 @@ fn signs_of(
     Ok(signs)
 }
 
-/// The name of a variable again, of those by their places.
+/// A copy of the name of a variable; `names` has the names by place.
 fn name_at(alloc: Global, names: &[&Name], variable: VariableId) -> Result<String, AllocError> {
     match names.get(variable.0) {
         Some(name) => String::from_str(alloc, name.as_str()),
@@ -300,7 +300,7 @@ fn shown(
     }
 }
 
-/// Which rule of declared clocks the clock of a variable breaks.
+/// The rule of declared clocks that the clock of a variable breaks.
 fn declared_rule(node: &ResolvedNode, variable: VariableId) -> ClockRule {
     let clock = match node.variables.get(variable.0) {
         Some(declared) => declared.clock,
@@ -320,7 +320,7 @@ fn declared_rule(node: &ResolvedNode, variable: VariableId) -> ClockRule {
     }
 }
 
-/// Why a part of a node breaks the rules of clocks.
+/// The reason why a part of a node breaks the rules of clocks.
 fn part_reason(alloc: Global, env: &ClockEnv, part: Part) -> Result<ClockReason, AllocError> {
     match part {
         Part::Variable(variable) => Ok(of_rule(
@@ -338,7 +338,7 @@ fn part_reason(alloc: Global, env: &ClockEnv, part: Part) -> Result<ClockReason,
     }
 }
 
-/// Why a part breaks the rules of clocks.
+/// The reason why the found part breaks the rules of clocks.
 fn found_reason(
     alloc: Global,
     reached: &Reached,
@@ -350,7 +350,7 @@ fn found_reason(
     }
 }
 
-/// What breaks the rules of clocks in this part, and where.
+/// The fault of clocks of this part.
 pub fn clock_fault(
     alloc: Global,
     reached: &Reached,

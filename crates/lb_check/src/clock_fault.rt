@@ -1,4 +1,4 @@
-//! What breaks a rule of clocks, and where (E10).
+//! A fault of clocks, and its place (E10).
 
 use crate::part::Part;
 use lb_static::CallPath;
@@ -11,8 +11,8 @@ pub struct ClockSign {
     pub sign: bool,
 }
 
-/// A clock of a node: its base clock where there is no sign, else the last variable has its sign
-/// where those before it have theirs.
+/// A clock of a node. Without signs it is the base clock; else the last variable has its sign where
+/// the variables before it have theirs.
 #[derive(Drop)]
 pub struct SourceClock {
     pub signs: Vec<ClockSign>,
@@ -35,7 +35,7 @@ impl fmt::Display for SourceClock {
     }
 }
 
-/// What stands on the wrong clock. Operands, arguments and left variables count from 1.
+/// The rule of clocks that is broken. Operands, arguments and left variables count from 1.
 #[derive(Clone, Copy, Debug)]
 pub enum ClockRule {
     /// An operand of an operator, which is on another clock than those before it: of `if` the two
@@ -51,10 +51,10 @@ pub enum ClockRule {
     Current,
     /// An iterated node, of which a parameter has a clock of its own.
     IteratedNode,
-    /// A left variable of an equation, which is on another clock than what stands on the right.
+    /// A left variable of an equation, which is on another clock than the right side.
     Left(usize),
-    /// The variable of the declared clock of an input, which is no input, or that of an output,
-    /// which is a local.
+    /// The variable of the declared clock of an input, which is no input, or of an output, which is
+    /// a local.
     Interface,
     /// A declared clock that leads in a circle.
     Circle,
@@ -66,15 +66,15 @@ pub enum ClockRule {
 pub struct ClockFault {
     /// The name of the node in which it is.
     pub node: String,
-    /// The statement that breaks it, or the variable whose declared clock does.
+    /// The statement that breaks the rule, or the variable whose declared clock does.
     pub part: Part,
-    /// Where that begins.
+    /// The offset of that part.
     pub part_offset: u32,
-    /// What is at fault.
+    /// The rule that is broken.
     pub rule: ClockRule,
-    /// Where what is at fault begins.
+    /// The offset of what is at fault.
     pub offset: u32,
-    /// Where the sign of the operator stands whose operand is at fault, if it has one between its
+    /// The offset of the sign of the operator whose operand is at fault, if it has one between its
     /// operands.
     pub sign_offset: Option<u32>,
     /// The clock of what is at fault: none where nothing determines it.

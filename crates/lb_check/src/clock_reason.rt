@@ -1,4 +1,4 @@
-//! Why a term stands on no clock, where its operands stand on one (E10).
+//! The reason why a term stands on no clock, where its operands stand on clocks (E10).
 
 use crate::call_clock::{Given, base_clock, expected, inputs_of, is_base_clocked, parameters};
 use crate::clock_fault::ClockRule;
@@ -8,7 +8,8 @@ use crate::sites::Site;
 use crate::term_clock::ClockEnv;
 use lb_static::{ResolvedNode, Term, Variable};
 
-/// What is wrong with a part of a node, where it stands, and on which clock it is and should be.
+/// A rule of clocks that is broken: its place, the clock that is found, and the clock that is
+/// wanted.
 #[derive(Clone, Copy)]
 pub struct ClockReason {
     pub rule: ClockRule,
@@ -18,7 +19,7 @@ pub struct ClockReason {
     pub wanted: Option<Clock>,
 }
 
-/// The clock that a term alone accepts, if it is one.
+/// The clock of a clock set, if it has one alone.
 pub fn only_clock(clock_set: ClockSet) -> Option<Clock> {
     match clock_set {
         ClockSet::OneClock(clock) => Some(clock),
@@ -26,7 +27,7 @@ pub fn only_clock(clock_set: ClockSet) -> Option<Clock> {
     }
 }
 
-/// What stands at an offset on another clock than is wanted.
+/// The reason for a rule that is broken at an offset, by another clock than is wanted.
 pub fn clocks_differ(
     rule: ClockRule,
     offset: u32,
@@ -42,12 +43,12 @@ pub fn clocks_differ(
     }
 }
 
-/// What breaks a rule of clocks at an offset, whatever its clock is.
+/// The reason for a rule that is broken at an offset, without clocks.
 pub fn of_rule(rule: ClockRule, offset: u32) -> ClockReason {
     clocks_differ(rule, offset, None, None)
 }
 
-/// An operand at a place that is on another clock than is wanted.
+/// The reason for an operand at a place that is on another clock than is wanted.
 fn of_sign(
     site: Site,
     rule: ClockRule,
@@ -64,7 +65,7 @@ fn of_sign(
     }
 }
 
-/// An operand of an operator, counted from 0, on another clock than those before it.
+/// The reason for an operand, counted from 0, on another clock than those before it.
 fn of_operand(site: Site, place: usize, found: ClockSet, wanted: ClockSet) -> ClockReason {
     let rule = ClockRule::Operand(place.saturating_add(1));
     of_sign(site, rule, place, found, only_clock(wanted))
@@ -101,7 +102,7 @@ fn first_apart(operands: &[Operand]) -> Option<Apart> {
     None
 }
 
-/// Operands in a row of which one is on another clock than those before it.
+/// The reason for a row of operands, one of which is on another clock than those before it.
 fn of_row(site: Site, operands: &[Operand]) -> ClockReason {
     match first_apart(operands) {
         Some(apart) => of_operand(site, apart.place, apart.found, apart.before),
@@ -109,7 +110,7 @@ fn of_row(site: Site, operands: &[Operand]) -> ClockReason {
     }
 }
 
-/// Arguments of an iterator of which one is on another clock than those before it.
+/// The reason for an argument of an iterator that is on another clock than those before it.
 fn of_arguments(site: Site, operands: &[Operand]) -> ClockReason {
     match first_apart(operands) {
         Some(apart) => clocks_differ(
@@ -122,7 +123,7 @@ fn of_arguments(site: Site, operands: &[Operand]) -> ClockReason {
     }
 }
 
-/// An iterated node with a parameter on a clock of its own, or with arguments on several clocks.
+/// The reason for an iterated node with a clocked parameter, or with arguments on several clocks.
 fn of_iterated(site: Site, callee: Option<&ResolvedNode>, operands: &[Operand]) -> ClockReason {
     match callee {
         Some(callee) if is_base_clocked(callee) => of_arguments(site, operands),
@@ -138,8 +139,7 @@ fn is_variable(operands: &[Operand], place: usize) -> bool {
     }
 }
 
-/// The place of the first argument that is no variable and should be one: a parameter waits for its
-/// input.
+/// The place of the first argument that is no variable, though a parameter waits for its input.
 fn first_not_given(callee: &ResolvedNode, operands: &[Operand]) -> Option<usize> {
     for parameter in parameters(callee) {
         if let Some(clock) = parameter.clock {
@@ -152,7 +152,7 @@ fn first_not_given(callee: &ResolvedNode, operands: &[Operand]) -> Option<usize>
     None
 }
 
-/// The first argument that stands on another clock than its parameter, if there is one.
+/// The reason for the first argument that stands on another clock than its parameter, if one does.
 fn wrong_argument(
     site: Site,
     base: Option<Clock>,
@@ -172,7 +172,7 @@ fn wrong_argument(
     None
 }
 
-/// What is wrong with the arguments of a call, if one of them is wrong.
+/// The reason for the arguments of a call, if one of them is wrong.
 pub fn arguments_reason(
     site: Site,
     callee: &ResolvedNode,
@@ -189,7 +189,7 @@ pub fn arguments_reason(
     }
 }
 
-/// A call within a term, of which an argument is wrong.
+/// The reason for a call within a term, of which an argument is wrong.
 fn of_call(site: Site, callee: Option<&ResolvedNode>, operands: &[Operand]) -> ClockReason {
     let reason = match callee {
         Some(callee) => {
@@ -204,8 +204,8 @@ fn of_call(site: Site, callee: Option<&ResolvedNode>, operands: &[Operand]) -> C
     }
 }
 
-/// An operand that cannot stand where it does: that of `when`, on another clock than the variable, or
-/// that of `current`, on the base clock or on a clock that nothing determines.
+/// The reason for an operand that cannot stand where it does: of `when`, on another clock than the
+/// variable; of `current`, on the base clock or on a clock that nothing determines.
 fn of_sampled(
     site: Site,
     rule: ClockRule,
@@ -218,7 +218,7 @@ fn of_sampled(
     }
 }
 
-/// A choice whose branches are on several clocks, or whose condition is on another than they.
+/// The reason for a choice with branches on several clocks, or with its condition on another clock.
 fn of_choice(site: Site, operands: &[Operand]) -> ClockReason {
     let [condition, left, right] = operands else {
         return of_rule(ClockRule::Operand(1), site.offset());
@@ -230,7 +230,7 @@ fn of_choice(site: Site, operands: &[Operand]) -> ClockReason {
     }
 }
 
-/// Why a term stands on no clock, where each of its operands stands on one.
+/// The reason why a term stands on no clock, where each of its operands stands on one.
 pub fn clock_reason(env: &ClockEnv, site: Site, operands: &[Operand]) -> ClockReason {
     match site.term {
         Term::When(_, x, _) => {

@@ -128,8 +128,8 @@ fn first_ill_clocked_statement(alloc: Global, env: &ClockEnv) -> Result<Option<u
     Ok(None)
 }
 
-/// The first part of a node that is reached that breaks the rules of clocks: a declared clock, or
-/// else a statement.
+/// The first part of a reached node that breaks the rules of clocks: a declared clock, or else a
+/// statement.
 fn ill_clocked_part(
     alloc: Global,
     reached: &Reached,
@@ -170,9 +170,9 @@ fn first_ill_clocked(
     Ok(None)
 }
 
-/// The first node of an instance that breaks the rules of clocks (E10), where each instance keeps
-/// those of types, and its first part that does: the declared clocks of a node do not run in a
-/// circle, and what each statement of it combines is on one clock.
+/// The first node of an instance that breaks the rules of clocks (E10), and its first part that
+/// does, where each instance keeps the rules of types. The declared clocks of a node do not run in
+/// a circle, and what each statement of it combines is on one clock.
 pub fn ill_clocked(
     alloc: Global,
     reached: &Reached,

@@ -9,15 +9,15 @@ use lb_static::VariableId;
 /// The clocks that a term accepts.
 #[derive(Clone, Copy)]
 pub enum ClockSet {
-    /// On none: a rule of clocks is broken in it.
+    /// No clock: a rule of clocks is broken in the term.
     NoClock,
-    /// On each: nothing in it determines a clock.
+    /// Each clock: nothing in the term determines one.
     AnyClock,
-    /// On this one alone.
+    /// This clock alone.
     OneClock(Clock),
 }
 
-/// An operand in a row: where it may stand, and the variable that it is, in parentheses or not.
+/// An operand in a row: its clock set, and its variable, if it is one, in parentheses or not.
 #[derive(Clone, Copy)]
 pub struct Operand {
     pub clock_set: ClockSet,
@@ -44,7 +44,7 @@ impl ClockSet {
         }
     }
 
-    /// Whether a term accepts this clock, if there is one.
+    /// Whether the set accepts this clock, if there is one.
     pub fn accepts_clock(self, clock: Option<Clock>) -> bool
         ensures { result ≡ mirror.accepts_clock clock self }
     {
@@ -58,7 +58,7 @@ impl ClockSet {
 }
 
 /// The clocks that all of some operands accept.
-#[tactic(auto, using(crate::proofs::ClockSetRows::together_next))]
+#[tactic(auto, using(crate::proofs::clocking::ClockSetRows::together_next))]
 pub fn together(operands: &[Operand]) -> ClockSet
     ensures { result ≡ mirror.together operands.now }
 {

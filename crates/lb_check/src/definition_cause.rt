@@ -1,4 +1,4 @@
-//! Why a part of a node breaks the rules of definitions (E11).
+//! The reason why a part of a node breaks the rules of definitions (E11).
 
 ghost use Rattle.std.specs.Prelude.{◌≡◌, IfOk, string_bytes};
 ghost use Rattle.lb_syntax.specs.Lists.{listed};
@@ -12,7 +12,7 @@ use lb_static::{CallId, Reached, ResolvedNode, ResolvedStatement, Table, Term, V
 use lb_syntax::Statement;
 use std::alloc::{AllocError, Global};
 
-/// Which rule of definitions a part breaks, where, and by which name.
+/// A rule of definitions that a part breaks, with a name and an offset.
 #[derive(Clone, Copy)]
 struct DefinitionReason<'t> {
     rule: DefinitionRule,
@@ -20,7 +20,7 @@ struct DefinitionReason<'t> {
     offset: u32,
 }
 
-/// The node that a call calls, if it is no function.
+/// The callee of a call, if it is no function.
 fn called_node<'a, 's>(
     reached: &'a Reached<'s>,
     node: &ResolvedNode<'s>,
@@ -58,7 +58,7 @@ fn memory_of<'t>(reached: &Reached, node: &ResolvedNode, site: Site<'t>) -> Opti
     None
 }
 
-/// The call of a node in a function.
+/// The reason for a call of a node in a function.
 fn call_reason<'a, 's>(
     reached: &'a Reached<'s>,
     node: &'a ResolvedNode<'s>,
@@ -79,7 +79,7 @@ fn call_reason<'a, 's>(
     }
 }
 
-/// An operator with memory, or a call of a node, in a function.
+/// The reason for an operator with memory, or for a call of a node, in a function.
 fn memory_reason<'a, 's>(
     reached: &'a Reached<'s>,
     node: &'a ResolvedNode<'s>,
@@ -95,14 +95,14 @@ fn memory_reason<'a, 's>(
     }
 }
 
-/// What is told of a part that is not there.
+/// The reason for a part that is not there.
 const NO_REASON: DefinitionReason<'static> = DefinitionReason {
     rule: DefinitionRule::Undefined,
     name: "",
     offset: 0,
 };
 
-/// Why a statement of a function breaks the rules.
+/// The reason why a statement of a function breaks the rules.
 fn statement_reason<'a, 's>(
     reached: &'a Reached<'s>,
     node: &'a ResolvedNode<'s>,
@@ -119,7 +119,7 @@ fn statement_reason<'a, 's>(
     }
 }
 
-/// Why a variable has not the definitions that it should have.
+/// The reason for a variable with too few or too many definitions.
 fn variable_reason<'a, 's>(
     node: &'a ResolvedNode<'s>,
     variable: VariableId,
@@ -143,7 +143,7 @@ fn variable_reason<'a, 's>(
     }
 }
 
-/// Why a part of a node breaks the rules of definitions, where its variable is defined or not.
+/// The reason why a part breaks the rules of definitions; `is_defined` is of its variable.
 fn found_reason<'a, 's>(
     reached: &'a Reached<'s>,
     found: IllFormed,
@@ -156,7 +156,7 @@ fn found_reason<'a, 's>(
     }
 }
 
-/// Notes where a variable stands among the left variables of a statement.
+/// Notes the offsets at which a variable stands among the left variables of a statement.
 fn note_lefts(
     definitions: &mut Vec<u32>,
     variable: VariableId,
@@ -170,13 +170,13 @@ fn note_lefts(
     };
     for (left, name) in lefts.iter().zip(names.iter()) {
         if left.0 == variable.0 {
-            definitions.push(name.offset())?;
+            definitions.push(name.offset)?;
         }
     }
     Ok(())
 }
 
-/// Where a part that is a variable stands on left sides.
+/// The offsets at which a part that is a variable stands on left sides.
 fn definitions_of(
     alloc: Global,
     reached: &Reached,
@@ -191,7 +191,7 @@ fn definitions_of(
     Ok(definitions)
 }
 
-/// What breaks the rules of definitions in this part, and where.
+/// The fault of definitions of this part.
 pub fn definition_fault(
     alloc: Global,
     reached: &Reached,

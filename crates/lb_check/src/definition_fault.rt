@@ -1,10 +1,10 @@
-//! What breaks a rule of definitions or of functions, and where (E11).
+//! A fault of definitions or of functions, and its place (E11).
 
 use crate::part::Part;
 use lb_static::CallPath;
 use std::fmt;
 
-/// Which rule of definitions or of functions is broken.
+/// The rule of definitions or of functions that is broken.
 #[derive(Clone, Copy, Debug)]
 pub enum DefinitionRule {
     /// An output or a local that stands on no left side.
@@ -25,18 +25,18 @@ pub enum DefinitionRule {
 pub struct DefinitionFault {
     /// The name of the node or function in which it is.
     pub node: String,
-    /// The variable that has not the definitions that it should have, or the statement with memory.
+    /// The variable with too few or too many definitions, or the statement with memory.
     pub part: Part,
-    /// Where that begins: the name in the declaration of a variable.
+    /// The offset of that part: of the name in the declaration of a variable.
     pub part_offset: u32,
-    /// Which rule it is.
+    /// The rule that is broken.
     pub rule: DefinitionRule,
     /// The name of the variable, or of the node that is called; empty for an operator.
     pub name: String,
-    /// Where what is at fault begins: the declaration of the variable, the operator (its sign, if
+    /// The offset of what is at fault: the declaration of the variable, the operator (its sign, if
     /// that stands between its operands) or the call.
     pub offset: u32,
-    /// Where the variable stands on left sides.
+    /// The offsets at which the variable stands on left sides.
     pub definitions: Vec<u32>,
     /// The calls by which an instance of the node is reached.
     pub path: CallPath,

@@ -22,15 +22,15 @@ use lb_static::{
 };
 use std::alloc::{AllocError, Global};
 
-/// One place more than so many, of which 2 stands for any more.
+/// `seen` and one more, where 2 stands for 2 and more.
 fn one_more(seen: u8) -> u8
     ensures { result ≡ min 2 (seen + 1) }
 {
     if seen < 2 { seen + 1 } else { 2 }
 }
 
-/// Counts the places of some left variables: 0, 1, and 2 for any more.
-#[tactic(auto, using(crate::proofs::Defining::count_next))]
+/// Counts how often each place stands among some left variables: 0, 1, and 2 for any more.
+#[tactic(auto, using(crate::proofs::definitions::Defining::count_next))]
 fn count(counts: &mut [u8], lefts: &[VariableId])
     ensures { mirror.AreCounts counts.new (λ i.
         slice_index counts.old i + mirror.count_left i lefts.now) }
@@ -43,8 +43,8 @@ fn count(counts: &mut [u8], lefts: &[VariableId])
     }
 }
 
-/// How often each of so many variables stands on the left: 0, 1, and 2 for any more.
-#[tactic(auto, using(crate::proofs::Defining::counts_next))]
+/// For each of `variables` variables how often it stands on the left: 0, 1, and 2 for any more.
+#[tactic(auto, using(crate::proofs::definitions::Defining::counts_next))]
 fn left_counts(
     alloc: Global,
     variables: usize,
@@ -83,7 +83,7 @@ fn first_ill_defined_variable(
     Ok(None)
 }
 
-/// Whether what a call calls is a function.
+/// Whether the callee of a call is a function.
 fn calls_function(reached: &Reached, node: &ResolvedNode, call: CallId) -> bool
     ensures { result ≡ mirror.calls_function reached.now node.now call }
 {
@@ -95,7 +95,7 @@ fn calls_function(reached: &Reached, node: &ResolvedNode, call: CallId) -> bool
 
 /// Whether none of these terms holds `->`, `fby`, `pre`, `current` or a call of a node.
 #[cycle(memory)]
-#[tactic(auto, using(crate::proofs::Defining::memoryless_next))]
+#[tactic(auto, using(crate::proofs::definitions::Defining::memoryless_next))]
 fn all_memoryless(reached: &Reached, node: &ResolvedNode, terms: &[Term]) -> bool
     ensures { result ≡ list_all (mirror.is_memoryless reached.now node.now) terms.now }
 {
@@ -139,7 +139,7 @@ fn is_memoryless(reached: &Reached, node: &ResolvedNode, term: &Term) -> bool
     }
 }
 
-/// The place of the first statement of a function with memory.
+/// The place of the first statement with memory, in a function.
 fn first_with_memory(reached: &Reached, node: &ResolvedNode) -> Option<usize>
     ensures { result ≡ first_broken (mirror.is_statement_memoryless reached.now node.now)
         node.now.body.items }
@@ -164,8 +164,8 @@ fn memory_in_function(reached: &Reached, node: &ResolvedNode) -> Option<usize>
     }
 }
 
-/// The first part of a node that is reached that breaks the rules of definitions: a statement of a
-/// function with memory, or else a variable.
+/// The first part of a reached node that breaks the rules of definitions: a statement of a function
+/// with memory, or else a variable.
 fn ill_defined_part(
     alloc: Global,
     reached: &Reached,

@@ -1,4 +1,4 @@
-//! Why a program is refused here.
+//! The error of a check.
 
 use crate::clock_fault::ClockFault;
 use crate::definition_fault::DefinitionFault;
@@ -6,7 +6,7 @@ use crate::type_fault::TypeFault;
 use std::alloc::AllocError;
 use std::fmt;
 
-/// Which rule of types, clocks or definitions a program breaks first.
+/// The rule of types, clocks or definitions that a program breaks first.
 ///
 /// Names, static values and instances were judged before, by `lb_static`. What comes later, the
 /// size of the program and its cycles, is judged by `lb_flat`.

@@ -1,4 +1,4 @@
-//! What is found of the terms and calls of a node when its clocks are judged.
+//! The clocks that are found of the terms and calls of a node.
 
 ghost use Rattle.std.specs.Prelude.{◌≡◌, OnOk};
 ghost use Rattle.lb_check.specs.PlacedClocks as placed_mirror;
@@ -7,33 +7,33 @@ use crate::own_clock::Clock;
 use lb_static::VariableId;
 use std::alloc::{AllocError, Global};
 
-/// A variable of a callee, and that of its caller which stands for it.
+/// A variable of a callee, and the variable of its caller that stands for it.
 #[derive(Clone, Copy)]
 pub struct GivenVariable {
     pub callee: VariableId,
     pub caller: VariableId,
 }
 
-/// What is found of a call.
+/// The clock of a call, and the variables that it gives for clock parameters.
 #[derive(Drop)]
 pub struct CallClock {
     /// The clock on which the instances of the call run.
     pub runs: Clock,
-    /// What stands for the clock parameters of the callee.
+    /// The variables that stand for the clock parameters of the callee.
     pub given: Vec<GivenVariable>,
 }
 
-/// What is found of a node, in text order.
+/// The clocks of the terms and calls of a node, in text order.
 #[derive(Drop)]
 pub struct NodeClocks {
     /// The clock on which each term stands.
     pub terms: Vec<Clock>,
-    /// What is found of each call.
+    /// The clock of each call, with the variables that it gives.
     pub calls: Vec<CallClock>,
 }
 
 impl NodeClocks {
-    /// Nothing of any term.
+    /// The clocks of no term.
     pub(crate) fn new(alloc: Global) -> NodeClocks
         ensures { placed_mirror.found_in result ≡ placed_mirror.nothing_found }
     {
@@ -53,7 +53,7 @@ impl NodeClocks {
         Ok(())
     }
 
-    /// Notes the clock of a call, and what is found of it.
+    /// Notes the clock of a call, and its `CallClock`.
     pub(crate) fn note_call(&mut self, clock: Clock, call: CallClock) -> Result<(), AllocError>
         ensures { OnOk result (placed_mirror.found_in self.new
             ≡ placed_mirror.with_term (placed_mirror.found_in self.old)

@@ -1,4 +1,4 @@
-//! What is found of the terms of a specialization when its types are judged.
+//! The types that are found of the terms of a specialization.
 
 ghost use Rattle.std.specs.Prelude.{◌≡◌, min, sum_by, OnOk};
 ghost use Rattle.lb_check.specs.PlacedTypes as placed_mirror;
@@ -14,12 +14,12 @@ const MOST: u32 = 65536;
 #[derive(Clone, Copy)]
 pub struct TermType {
     pub kind: Kind,
-    /// How many scalar elements the term has, or 65,537 for more than 65,536: of a call with
-    /// several results those of all.
+    /// The number of scalar elements of the term, or 65,537 for more than 65,536; of a call with
+    /// several results, of all results.
     pub elements: u32,
-    /// Where the sizes of its type stand among those of all terms.
+    /// The place of the first size of its type, among the sizes of all terms.
     pub first: usize,
-    /// How many sizes its type has.
+    /// The number of sizes of its type.
     pub rank: usize,
 }
 
@@ -33,7 +33,7 @@ pub struct NodeTypes {
 }
 
 impl NodeTypes {
-    /// Notes the kind of a term, its sizes and how many scalar elements it has.
+    /// Notes the kind of a term, its sizes and the number of its scalar elements.
     pub(crate) fn note(
         &mut self,
         kind: Kind,
@@ -53,7 +53,7 @@ impl NodeTypes {
         Ok(())
     }
 
-    /// How many scalar elements all terms have together, or 65,537 for more than 65,536.
+    /// The number of scalar elements of all terms together, or 65,537 for more than 65,536.
     pub fn size(&self) -> u32
         ensures { result ≡ min (sum_by (λ t. t.elements) self.now.terms.items) 65537 }
     {
@@ -64,7 +64,7 @@ impl NodeTypes {
         MOST + 1 - left
     }
 
-    /// The sizes of the type of a term, the outermost last: none of a term that is not there.
+    /// The sizes of the type of a term, the outermost last; none for a term that is not there.
     pub fn sizes(&self, term: usize) -> &[u64]
         ensures { result.now ≡ placed_mirror.sizes_of (placed_mirror.found_in self.now) term }
     {
@@ -74,7 +74,7 @@ impl NodeTypes {
         }
     }
 
-    /// How many scalar elements each element of a term that is an array has, or 65,537 for more
+    /// The number of scalar elements in each element of a term that is an array, or 65,537 for more
     /// than 65,536.
     pub fn part_count(&self, term: usize) -> u32
         ensures { result ≡ placed_mirror.parts_of (placed_mirror.found_in self.now) term }

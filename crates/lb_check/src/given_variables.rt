@@ -1,4 +1,4 @@
-//! Which variables of a caller stand for clock parameters of a callee.
+//! The variables of a caller that stand for clock parameters of a callee.
 
 ghost use Rattle.std.specs.Prelude.{◌≡◌, ◌+◌, ◌<◌, ◌||◌, ℕ, false, IfOk, OnOk, ◌++◌, ◌∷◌, []};
 ghost use Rattle.std.specs.Prelude.{get_or, length, take};
@@ -14,7 +14,7 @@ use lb_static::{ResolvedNode, Sampling, VariableId};
 use std::alloc::{AllocError, Global};
 
 /// Flags the variable that a clock waits for, if it has a flag.
-#[tactic(auto, using(crate::proofs::GivenRows::flag_more, crate::proofs::GivenRows::flag_past))]
+#[tactic(auto, using(crate::proofs::clocking::GivenRows::flag_more, crate::proofs::clocking::GivenRows::flag_past))]
 fn flag_awaited(awaited: &mut [bool], clock: Option<Sampling>)
     ensures length_kept { length awaited.new ≡ length awaited.old }
     ensures flagged { (i : ℕ) → i < length awaited.old → get_or awaited.new i false
@@ -29,7 +29,7 @@ fn flag_awaited(awaited: &mut [bool], clock: Option<Sampling>)
 }
 
 /// For each input and output of a node, whether one of them waits for it.
-#[tactic(auto, using(crate::proofs::GivenRows::waited_more))]
+#[tactic(auto, using(crate::proofs::clocking::GivenRows::waited_more))]
 fn awaited_parameters(alloc: Global, node: &ResolvedNode) -> Result<Vec<bool>, AllocError>
     ensures length { IfOk result (λ awaited. length awaited.items
         ≡ length (take (node.now.inputs + node.now.outputs) node.now.variables.items)) }
@@ -44,7 +44,7 @@ fn awaited_parameters(alloc: Global, node: &ResolvedNode) -> Result<Vec<bool>, A
     Ok(awaited)
 }
 
-/// What stands for the parameter at this place, if it is a clock parameter.
+/// The clock parameter at this place, with the variable that stands for it; none for another one.
 fn given_variable(awaited: &[bool], given: &Given, place: usize) -> Option<GivenVariable>
     requires { place < length awaited.now }
     ensures { (n : Node) → placed_mirror.AreAwaited n awaited.now →
@@ -73,7 +73,7 @@ fn add_given(pairs: &mut Vec<GivenVariable>, pair: Option<GivenVariable>) -> Res
     }
 }
 
-/// What stands for the clock parameters of a node.
+/// The clock parameters of a node, each with the variable that stands for it.
 fn given_where(
     alloc: Global,
     awaited: &[bool],

@@ -1,4 +1,4 @@
-//! The types of what operators give.
+//! The types of the results of operators.
 
 ghost use Rattle.std.specs.Prelude.{◌≡◌, pos, Some, option_map, IfOk};
 ghost use Rattle.lb_syntax.specs.Lists as lists;
@@ -12,7 +12,7 @@ use lb_static::DataType;
 use lb_syntax::{BinaryOperator, Kind, UnaryOperator};
 use std::alloc::{AllocError, Global};
 
-/// What is given, where the operands fit.
+/// The type `given`, where the operands fit.
 fn given_where(fits: bool, given: DataType) -> Option<DataType>
     ensures { option_map view_type result ≡ lists.where_true fits (view_type given) }
 {
@@ -37,7 +37,7 @@ pub fn literal_type(alloc: Global, number: u32) -> Option<DataType>
     constant_type(alloc, i64::from(number))
 }
 
-/// What an operator gives, where its operand has the type that it takes.
+/// The type of the result of an operator, where its operand has the type that it takes.
 pub fn unary_type(alloc: Global, op: UnaryOperator, operand: DataType) -> Option<DataType>
     ensures { option_map view_type result ≡ types.unary_type op (view_type operand) }
 {
@@ -61,7 +61,7 @@ fn are_truths(left: &DataType, right: &DataType) -> bool
     left.is_truth() && right.is_truth()
 }
 
-/// What an operator gives, where its operands have the types that it takes.
+/// The type of the result of an operator, where its operands have the types that it takes.
 #[inline(always)]
 fn binary_type(
     alloc: Global,
@@ -93,7 +93,7 @@ fn binary_type(
     }
 }
 
-/// What an operator gives for its operands, if they have types.
+/// The type of the result of an operator, if its operands have types.
 #[inline(always)]
 pub fn of_operands(
     alloc: Global,
@@ -126,7 +126,7 @@ pub fn common_type(left: Option<DataType>, right: Option<DataType>) -> Option<Da
     }
 }
 
-/// The type of one array and then another.
+/// The type of two arrays that are joined.
 #[inline(always)]
 pub fn joined(
     left: Option<DataType>,
@@ -142,7 +142,7 @@ pub fn joined(
     }
 }
 
-/// What is given under a condition, if that is a truth.
+/// The type `given` under a condition, if that is a truth.
 #[inline(always)]
 pub fn when_truth(condition: Option<DataType>, given: Option<DataType>) -> Option<DataType>
     ensures { option_map view_type result
@@ -151,7 +151,7 @@ pub fn when_truth(condition: Option<DataType>, given: Option<DataType>) -> Optio
     if condition?.is_truth() { given } else { None }
 }
 
-/// Whether there are two types, and they are one.
+/// Whether both types are there, and they are the same.
 pub fn are_one(left: &Option<DataType>, right: &Option<DataType>) -> bool
     ensures { result ≡ signatures.are_one (option_map view_type left.now)
         (option_map view_type right.now) }

@@ -11,7 +11,7 @@ pub enum Part {
     Statement(usize),
 }
 
-/// A part of a node that is reached that breaks a rule of clocks or of definitions.
+/// A part of a reached node that breaks a rule of clocks or of definitions.
 #[derive(Clone, Copy)]
 pub struct IllFormed {
     pub node: NodeId,

@@ -15,28 +15,28 @@ use lb_static::DataType;
 use lb_syntax::Kind;
 use std::alloc::{AllocError, Global};
 
-/// More scalar elements than a program may have: this number stands for any greater one.
+/// One more than the most scalar elements of a program: this number stands for any greater one.
 const TOO_MANY: u32 = 65_537;
 
-/// What is kept of the types of the results of a part.
+/// A part that is kept: its type, and the number of its scalar elements.
 #[derive(Drop)]
 pub struct PartType {
     /// The type of the one result, or `int` where there is another number of results.
     pub data_type: DataType,
-    /// How many scalar elements all results have, or 65,537 for more than 65,536.
+    /// The number of scalar elements of all results, or 65,537 for more than 65,536.
     pub elements: u32,
 }
 
 /// The parts found so far, against the order of the text.
 #[derive(Drop)]
 pub struct PartTypes {
-    /// How many scalar elements they may have before they are too many. None is kept then.
+    /// The number of scalar elements that are left before they are too many. At 0 no part is kept.
     pub left: u32,
     pub found: Vec<PartType>,
 }
 
-/// How many scalar elements the types of a row have together, or 65,537 for more than 65,536, and 0
-/// where one of them is not there.
+/// The number of scalar elements of the types of a row together: 65,537 for more than 65,536, and 0
+/// where one of the types is not there.
 fn given_size(alloc: Global, given: &TypeRow) -> Result<u32, AllocError>
     ensures { IfOk result (λ n. n
         ≡ placed_mirror.part_size (all_some (mirror.row_in given.now))) }
@@ -52,7 +52,7 @@ fn given_size(alloc: Global, given: &TypeRow) -> Result<u32, AllocError>
 }
 
 impl PartTypes {
-    /// Keeps no part.
+    /// Parts of which none is kept.
     pub fn none(alloc: Global) -> PartTypes {
         PartTypes {
             left: 0,
@@ -60,7 +60,7 @@ impl PartTypes {
         }
     }
 
-    /// One more part.
+    /// Adds a part.
     #[inline(always)]
     fn note(&mut self, data_type: &DataType, elements: u32) -> Result<(), AllocError>
         ensures { OnOk result (placed_mirror.kept_in self.new
@@ -79,8 +79,8 @@ impl PartTypes {
         Ok(())
     }
 
-    /// How many scalar elements a part of this type counts with: where no part is kept, they are
-    /// not counted.
+    /// The number of scalar elements with which a part of this type counts; they are not counted
+    /// where no part is kept.
     fn counted(&self, data_type: &DataType) -> u32
         ensures { placed_mirror.IsCounted self.now.left result
             (min (element_count (view_type data_type.now)) 65537) }
@@ -92,7 +92,7 @@ impl PartTypes {
         }
     }
 
-    /// One more part, whose one result has this type, if it has one.
+    /// Adds a part whose one result has this type, if it has one.
     #[inline(always)]
     pub fn note_one(&mut self, alloc: Global, own: &Option<DataType>) -> Result<(), AllocError>
         ensures { OnOk result (placed_mirror.kept_in self.new
@@ -108,8 +108,8 @@ impl PartTypes {
         }
     }
 
-    /// How many scalar elements the results of a part count with: where no part is kept, they are
-    /// not counted.
+    /// The number of scalar elements with which the results of a part count; they are not counted
+    /// where no part is kept.
     fn given_counted(&self, alloc: Global, given: &Option<TypeRow>) -> Result<u32, AllocError>
         ensures { IfOk result (λ n. placed_mirror.IsCounted self.now.left n
             (placed_mirror.part_size
@@ -124,7 +124,7 @@ impl PartTypes {
         }
     }
 
-    /// One more part, whose results have these types, if it has any, and gives its one type.
+    /// Adds a part whose results have these types, if it has any, and returns its one type.
     pub fn note_given(
         &mut self,
         alloc: Global,

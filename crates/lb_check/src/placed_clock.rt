@@ -1,4 +1,4 @@
-//! The clocks on which terms stand and calls run, from those of the statements of a node down.
+//! The clocks on which terms stand and calls run, from the statements of a node down.
 
 ghost use Rattle.std.specs.Prelude.{◌≡◌, ◌++◌, IfOk, OnOk, drop, map, slice_get};
 ghost use Rattle.lb_syntax.specs.Lists.{listed};
@@ -28,7 +28,7 @@ fn determined_clock(clock_set: ClockSet) -> Clock
     }
 }
 
-/// The clock of the one operand of a term that stands on this clock and is not `current`.
+/// The clock of the operand of a term on this clock that has one operand and is not `current`.
 fn operand_clock(env: &ClockEnv, clock: Clock, term: &Term) -> Clock
     ensures { result ≡ placed_mirror.operand_clock (context_in env.now) clock term.now }
 {
@@ -38,7 +38,7 @@ fn operand_clock(env: &ClockEnv, clock: Clock, term: &Term) -> Clock
     }
 }
 
-/// The clock of the operand of `current`, which is the first of these.
+/// The clock of the operand of `current`, which is the first known operand.
 fn current_clock(known: &[Operand]) -> Clock
     ensures { result ≡ placed_mirror.current_clock known.now }
 {
@@ -48,7 +48,7 @@ fn current_clock(known: &[Operand]) -> Clock
     }
 }
 
-/// What is known past so many operands.
+/// The known operands past the first `count`.
 fn past(known: &[Operand], count: usize) -> &[Operand]
     ensures { result.now ≡ drop count known.now }
 {
@@ -76,7 +76,7 @@ fn argument_clocks(
     Ok(clocks)
 }
 
-/// The clock on which a callee runs that is called in a term on this clock.
+/// The clock on which the callee of a call runs that stands on this clock.
 fn call_base(clock: Clock, callee: &ResolvedNode, operands: &[Operand]) -> Clock
     ensures { result ≡ placed_mirror.call_base clock callee.now operands.now }
 {
@@ -86,7 +86,7 @@ fn call_base(clock: Clock, callee: &ResolvedNode, operands: &[Operand]) -> Clock
     }
 }
 
-/// The clocks of the arguments of a call in a term that stands on this clock.
+/// The clocks of the arguments of a call that stands on this clock.
 fn call_clocks(
     alloc: Global,
     env: &ClockEnv,
@@ -106,7 +106,7 @@ fn call_clocks(
     }
 }
 
-/// What is found of a call in a term that stands on this clock.
+/// The clock and the given variables of a call within a term that stands on this clock.
 fn nested_call(
     alloc: Global,
     env: &ClockEnv,
@@ -129,7 +129,7 @@ fn nested_call(
     }
 }
 
-/// The clock on which a callee runs whose call is the whole right side of an equation.
+/// The clock on which the callee of a call runs that is the whole right side of an equation.
 fn side_base(
     alloc: Global,
     env: &ClockEnv,
@@ -167,7 +167,7 @@ fn side_clocks(
     }
 }
 
-/// What is found of a call that is the whole right side of an equation.
+/// The clock and the given variables of a call that is the whole right side of an equation.
 fn side_call(
     alloc: Global,
     env: &ClockEnv,
@@ -214,7 +214,7 @@ fn note_row(
     }
 }
 
-/// Notes the clocks of terms that stand on this clock, and gives what is known of others.
+/// Notes the clocks of terms that stand on this clock, and returns the known operands of others.
 #[cycle(placing)]
 fn place_all<'k>(
     alloc: Global,
@@ -244,8 +244,8 @@ fn clock_at(clocks: &[Clock], place: usize) -> Option<Clock>
     clocks.get(place).copied()
 }
 
-/// Notes the clocks of an argument that stands on this clock. One without a clock, of which a call
-/// with the right types has none, is noted nowhere.
+/// Notes the clocks of an argument that stands on this clock. An argument without a clock is not
+/// noted; a call with the right types has none.
 #[cycle(placing)]
 fn place_argument<'k>(
     alloc: Global,
@@ -270,8 +270,8 @@ fn place_argument<'k>(
     }
 }
 
-/// Notes the clocks of arguments that stand each on a clock of its own, and gives what is known of
-/// others.
+/// Notes the clocks of arguments, each of which stands on a clock of its own, and returns the known
+/// operands of others.
 #[inline(always)]
 #[cycle(placing)]
 fn place_each<'k>(
@@ -295,8 +295,8 @@ fn place_each<'k>(
     Ok(left)
 }
 
-/// Notes the clocks of the parts of a term that stands on this clock, in text order, and gives what
-/// is known of others.
+/// Notes the clocks of the parts of a term that stands on this clock, in text order, and returns
+/// the known operands of others.
 #[cycle(placing)]
 fn place<'k>(
     alloc: Global,
@@ -392,7 +392,7 @@ fn place_call(
     Ok(())
 }
 
-/// Notes the clocks of a term that is a whole side on this clock.
+/// Notes the clocks of a term that is a whole right side on this clock.
 fn place_whole(
     alloc: Global,
     env: &ClockEnv,
@@ -456,7 +456,7 @@ fn place_statement(
     }
 }
 
-/// What is found of a node: the clock of each term and what is found of each call, in text order.
+/// The clocks of a node: the clock of each term, and the `CallClock` of each call, in text order.
 fn node_clocks(alloc: Global, env: &ClockEnv) -> Result<NodeClocks, AllocError>
     ensures { IfOk result (λ found. placed_mirror.found_in found
         ≡ placed_mirror.with_terms placed_mirror.nothing_found
@@ -469,7 +469,7 @@ fn node_clocks(alloc: Global, env: &ClockEnv) -> Result<NodeClocks, AllocError>
     Ok(placed)
 }
 
-/// What is found of each reached node.
+/// The clocks of each reached node.
 pub fn placed_clocks(alloc: Global, reached: &Reached) -> Result<Vec<NodeClocks>, AllocError>
     ensures { IfOk result (λ all. map placed_mirror.found_in all.items
         ≡ map (λ n. placed_mirror.with_terms placed_mirror.nothing_found

@@ -30,7 +30,7 @@ fn walk_statement(
     Ok(())
 }
 
-/// Moves all parts to what is found of a specialization, in text order.
+/// Moves all parts to the found types of a specialization, in text order.
 fn move_all(parts: &mut PartTypes, found: &mut NodeTypes) -> Result<(), AllocError>
     ensures { OnOk result (placed_mirror.AreMoved (placed_mirror.kept_in parts.old)
         (placed_mirror.kept_in parts.new) (placed_mirror.found_in found.old)
@@ -42,8 +42,8 @@ fn move_all(parts: &mut PartTypes, found: &mut NodeTypes) -> Result<(), AllocErr
     Ok(())
 }
 
-/// What is found of the terms of a specialization, or nothing where they have this many scalar
-/// elements or more: statements behind those that have as many are not looked at.
+/// The found types of a specialization, or none where its terms have `many` scalar elements or
+/// more. The statements after those that have as many are not looked at.
 fn node_types(alloc: Global, env: &TypeEnv, many: u32) -> Result<Option<NodeTypes>, AllocError>
     requires { many ≤ 65537 }
     ensures { IfOk result (λ found. placed_mirror.AreNoted many
@@ -68,8 +68,8 @@ fn node_types(alloc: Global, env: &TypeEnv, many: u32) -> Result<Option<NodeType
     Ok(Some(found))
 }
 
-/// What is found of the terms of a specialization of the table, or nothing where they have this
-/// many scalar elements or more.
+/// The found types of a specialization of the table, or none where its terms have `many` scalar
+/// elements or more.
 fn specialization_types(
     alloc: Global,
     reached: &Reached,
@@ -99,8 +99,8 @@ fn specialization_types(
     }
 }
 
-/// What is found of the terms of each specialization, or nothing where all of them together have
-/// more than 65,536 scalar elements: the program is too large then, and the rest is not looked at.
+/// The found types of each specialization, or none where all terms together have more than 65,536
+/// scalar elements: the program is too large then, and the rest is not looked at.
 pub fn placed_types(
     alloc: Global,
     reached: &Reached,

@@ -1,5 +1,5 @@
-//! What the specializations of a node share. What keeps the rules of types by that alone is judged
-//! once for the node.
+//! The shared part of the specializations of a node. A statement that keeps the rules of types by
+//! the shared part alone is judged once for the node.
 //!
 //! ```text
 //! static values of f<<3>>:     3    9    4
@@ -10,7 +10,7 @@
 ghost use Rattle.std.specs.Prelude.{◌≡◌, ◌&&◌, map, IfOk, slice_get};
 ghost use Rattle.std.specs.List.{list_all, zip};
 ghost use Rattle.lb_static.specs.Arithmetic.{is_int};
-ghost use Rattle.lb_static.specs.declared.reach.Reached.{Reached as ReachedNodes};
+ghost use Rattle.lb_static.specs.declared.reachable.Reached.{Reached as ReachedNodes};
 ghost use Rattle.lb_static.specs.declared.resolved.ResolvedNode.{ResolvedNode as Node};
 ghost use Rattle.lb_check.specs.SharedTypes as mirror;
 ghost use Rattle.lb_check.specs.StoredTypes.{context_in};
@@ -21,18 +21,19 @@ use crate::type_rules::is_resolved_statement_typed;
 use lb_static::{NodeId, Reached, Specialization, SpecializationId, StaticInt, Table};
 use std::alloc::{AllocError, Global};
 
-/// What the specializations of a node share.
+/// The shared part of the specializations of a node.
 #[derive(Drop)]
 pub struct SharedPart {
-    /// As a specialization of the node: -1, which is no size and no index, stands for static values
-    /// that differ, and a place past all specializations for callees that do.
+    /// The shared part as a specialization of the node: -1, which is no size and no index, stands
+    /// for static values that differ, and a number past all specializations for callees that
+    /// differ.
     pub part: Specialization,
-    /// For each statement of the node, in text order, whether it keeps the rules of types by what
-    /// is shared.
+    /// For each statement of the node, in text order, whether it keeps the rules of types by the
+    /// shared part alone.
     pub settled: Vec<bool>,
 }
 
-/// What two static values share.
+/// The shared value of two static values: -1 where they differ.
 fn shared_value(one: StaticInt, other: StaticInt) -> StaticInt {
     if one.get() == other.get() {
         one
@@ -41,7 +42,7 @@ fn shared_value(one: StaticInt, other: StaticInt) -> StaticInt {
     }
 }
 
-/// What two callees share.
+/// The shared callee of two callees: a number past all specializations where they differ.
 fn shared_callee(one: SpecializationId, other: SpecializationId) -> SpecializationId {
     if one.0 == other.0 {
         one
@@ -50,7 +51,7 @@ fn shared_callee(one: SpecializationId, other: SpecializationId) -> Specializati
     }
 }
 
-/// Leaves of what is shared what this specialization shares too.
+/// Narrows a shared part to what this specialization shares too.
 fn narrow(shared: &mut Specialization, specialization: &Specialization) {
     for (value, other) in shared.statics.iter_mut().zip(specialization.statics.iter()) {
         *value = shared_value(*value, *other);
@@ -60,7 +61,7 @@ fn narrow(shared: &mut Specialization, specialization: &Specialization) {
     }
 }
 
-/// A specialization again, without the values of its static parameters.
+/// A copy of a specialization, without the values of its static parameters.
 fn copy(alloc: Global, specialization: &Specialization) -> Result<Specialization, AllocError> {
     Ok(Specialization {
         node: specialization.node,
@@ -80,8 +81,8 @@ fn blank(alloc: Global, node: NodeId) -> Specialization {
     }
 }
 
-/// What the specializations of each reached node share. Nothing is promised of it: a specialization
-/// for which it does not stand is judged by itself.
+/// The shared part of the specializations of each reached node. Nothing is promised of it: a
+/// specialization for which it does not stand is judged by itself.
 fn shared_specializations(
     alloc: Global,
     reached: &Reached,
@@ -103,7 +104,7 @@ fn shared_specializations(
     Ok(all)
 }
 
-/// Which statements of a node keep the rules of types.
+/// For each statement of a node, whether it keeps the rules of types.
 fn typed_statements(alloc: Global, env: &TypeEnv) -> Result<Vec<bool>, AllocError>
     ensures { IfOk result (λ settled. settled.items
         ≡ map (is_resolved_statement_typed (context_in env.now)) env.now.node.now.body.items) }
@@ -115,7 +116,7 @@ fn typed_statements(alloc: Global, env: &TypeEnv) -> Result<Vec<bool>, AllocErro
     Ok(settled)
 }
 
-/// What is shared, and what keeps the rules of types by it.
+/// A shared part, with the statements that keep the rules of types by it.
 fn judged_part(
     alloc: Global,
     reached: &Reached,
@@ -139,7 +140,7 @@ fn judged_part(
     Ok(SharedPart { part, settled })
 }
 
-/// What the specializations of each reached node share, and what keeps the rules of types by it.
+/// The shared part of each reached node, with the statements that keep the rules of types by it.
 pub fn shared_parts(
     alloc: Global,
     reached: &Reached,
@@ -161,8 +162,8 @@ fn is_int(value: i64) -> bool
     i64::from(i32::MIN) <= value && value <= i64::from(i32::MAX)
 }
 
-/// Whether what is shared stands for this static value: it is the value, or both are an `int` and
-/// what is shared has a sign.
+/// Whether a shared value stands for a static value: it is the value, or both are an `int` and the
+/// shared one is negative.
 fn is_value_shared(shared: StaticInt, value: StaticInt) -> bool
     ensures { result ≡ mirror.is_value_shared shared value }
 {
@@ -170,7 +171,7 @@ fn is_value_shared(shared: StaticInt, value: StaticInt) -> bool
         || (shared.natural().is_none() && (is_int(shared.get()) && is_int(value.get())))
 }
 
-/// Whether what is shared stands for each of these static values, as far as both go.
+/// Whether shared values stand for static values, place by place, as far as both go.
 fn all_values_shared(shared: &[StaticInt], values: &[StaticInt]) -> bool
     ensures { result ≡ list_all (λ p. mirror.is_value_shared p.0 p.1) (zip shared.now values.now) }
 {
@@ -180,21 +181,21 @@ fn all_values_shared(shared: &[StaticInt], values: &[StaticInt]) -> bool
         .all(|(one, value)| is_value_shared(*one, *value))
 }
 
-/// Whether what is shared stands for each of these static values.
+/// Whether shared values stand for static values, place by place.
 fn are_values_shared(shared: &[StaticInt], values: &[StaticInt]) -> bool
     ensures { result ≡ mirror.all_paired mirror.is_value_shared shared.now values.now }
 {
     all_values_shared(shared, values) && shared.len() == values.len()
 }
 
-/// Whether what is shared stands for this callee: it is the callee, or the place of none.
+/// Whether a shared callee stands for a callee: it is the callee, or no specialization's number.
 fn is_callee_shared(table: &Table, shared: SpecializationId, callee: SpecializationId) -> bool
     ensures { result ≡ mirror.is_callee_shared table.now shared callee }
 {
     shared.0 == callee.0 || table.specializations.len() <= shared.0 as usize
 }
 
-/// Whether what is shared stands for each of these callees, as far as both go.
+/// Whether shared callees stand for callees, place by place, as far as both go.
 fn all_callees_shared(
     table: &Table,
     shared: &[SpecializationId],
@@ -209,7 +210,7 @@ fn all_callees_shared(
         .all(|(one, callee)| is_callee_shared(table, *one, *callee))
 }
 
-/// Whether what is shared stands for each of these callees.
+/// Whether shared callees stand for callees, place by place.
 fn are_callees_shared(
     table: &Table,
     shared: &[SpecializationId],
@@ -221,7 +222,7 @@ fn are_callees_shared(
     all_callees_shared(table, shared, callees) && shared.len() == callees.len()
 }
 
-/// Whether what is shared stands for this specialization.
+/// Whether a shared part stands for this specialization.
 fn is_part_shared(table: &Table, shared: &Specialization, specialization: &Specialization) -> bool
     ensures { result ≡ mirror.is_part_shared table.now shared.now specialization.now }
 {
@@ -230,8 +231,8 @@ fn is_part_shared(table: &Table, shared: &Specialization, specialization: &Speci
             && are_callees_shared(table, &shared.callees, &specialization.callees))
 }
 
-/// Which statements of a specialization are known to keep the rules of types by what is shared, in
-/// text order.
+/// For each statement of a specialization, in text order, whether the shared part settles that it
+/// keeps the rules of types; empty where the shared part does not stand for the specialization.
 pub fn settled_statements<'a>(
     parts: &'a [SharedPart],
     table: &Table,

@@ -1,5 +1,5 @@
-//! What a term with a row of operands takes and gives. Each type is made when it is asked for, and
-//! none is kept.
+//! The types that a term with a row of operands takes and gives. Each type is made when it is asked
+//! for, and none is kept.
 //!
 //! ```text
 //! map<<f, 3>>(x, y)    takes int^3 and bool^3, gives int^3
@@ -27,11 +27,11 @@ use std::alloc::{AllocError, Global};
 pub enum Elements<'a> {
     /// A number of scalars of one kind.
     Scalars(Kind, usize),
-    /// Those of variables, by the values of the static expressions of their node.
+    /// The types of variables, by the values of the static expressions of their node.
     Declared(&'a [Variable], &'a [StaticInt]),
 }
 
-/// Which types of a row stand for arrays of them, of this length.
+/// The types of a row that stand for arrays of them, of this length.
 #[derive(Clone, Copy)]
 pub enum Arrays {
     No,
@@ -47,25 +47,25 @@ pub struct TypeRow<'a> {
     pub arrays: Arrays,
 }
 
-/// What is called takes and gives.
+/// The types that a callee takes and gives.
 #[derive(Clone, Copy)]
 pub struct Called<'a> {
     pub takes: Elements<'a>,
     pub gives: Elements<'a>,
-    /// Whether it is there, and may be called or iterated.
+    /// Whether the callee is there, and may be called or iterated.
     pub stands: bool,
 }
 
-/// What a term takes and gives.
+/// The types that a term takes and gives.
 #[derive(Clone, Copy)]
 pub struct Signature<'a> {
     pub takes: TypeRow<'a>,
     pub gives: TypeRow<'a>,
-    /// Whether it is there, and may be called or iterated.
+    /// Whether the callee is there, and may be called or iterated.
     pub stands: bool,
 }
 
-/// A scalar, if this place is one of a row of them.
+/// The type of a scalar, if `place` is one of a row of `count` scalars.
 fn scalar_at(alloc: Global, kind: Kind, count: usize, place: usize) -> Option<DataType>
     ensures { option_map view_type result
         ≡ mirror.type_at (mirror.elements_in (Elements.Scalars kind count)) place }
@@ -93,7 +93,7 @@ fn declared_at(
     }
 }
 
-/// Whether a value is this size.
+/// Whether `value` is the size `size`.
 fn is_size(value: StaticInt, size: u64) -> bool
     ensures { result ≡ mirror.is_size value size }
 {
@@ -103,7 +103,7 @@ fn is_size(value: StaticInt, size: u64) -> bool
     }
 }
 
-/// Whether each of these values is the size at its place, as far as both go.
+/// Whether each value is the size at its place, as far as both go.
 fn all_sizes(values: &[StaticInt], sizes: &[u64]) -> bool
     ensures { result ≡ list_all (λ p. mirror.is_size p.0 p.1) (zip values.now sizes.now) }
 {
@@ -113,23 +113,22 @@ fn all_sizes(values: &[StaticInt], sizes: &[u64]) -> bool
         .all(|(value, size)| is_size(*value, *size))
 }
 
-/// Whether these values are these sizes.
+/// Whether the values are the sizes, place by place.
 fn are_sizes(values: &[StaticInt], sizes: &[u64]) -> bool
     ensures { result ≡ mirror.are_sizes values.now sizes.now }
 {
     all_sizes(values, sizes) && values.len() == sizes.len()
 }
 
-/// Whether the type with these values as its sizes is the one with the other sizes, the outermost
-/// last in both.
+/// Whether the type with `values` as its sizes is the one with `sizes`, the outermost last in both.
 fn is_type_of(own: Kind, values: &[StaticInt], kind: Kind, sizes: &[u64]) -> bool
     ensures { result ≡ mirror.is_type_with (mirror.type_with own values.now) kind sizes.now }
 {
     own == kind && are_sizes(values, sizes)
 }
 
-/// Whether this is an array of this length, by its outermost size and whether its elements are
-/// those that are wanted.
+/// Whether a type is an array of length `size`, by its outermost size, and by whether its elements
+/// are those that are wanted.
 fn is_array_of(size: u64, outermost: u64, has_elements: bool) -> bool
     ensures { result
         ≡ ((size == outermost) && ((nat_le 1 size && nat_le size 4096) && has_elements)) }
@@ -138,7 +137,7 @@ fn is_array_of(size: u64, outermost: u64, has_elements: bool) -> bool
 }
 
 impl Elements<'_> {
-    /// How many types there are.
+    /// The number of types.
     fn len(&self) -> usize
         ensures { result ≡ length (mirror.elements_in self.now) }
     {
@@ -205,7 +204,7 @@ pub fn array_type(size: u64, element: Option<DataType>) -> Result<Option<DataTyp
 }
 
 impl TypeRow<'_> {
-    /// How many types there are.
+    /// The number of types.
     pub fn len(&self) -> usize
         ensures { result ≡ length (mirror.row_in self.now) }
     {
@@ -251,7 +250,7 @@ impl TypeRow<'_> {
     }
 }
 
-/// Scalars of one kind: this number of them is taken, and one is given.
+/// A callee that takes `count` scalars of one kind, and gives one.
 fn scalars<'a>(kind: Kind, count: usize, stands: bool) -> Called<'a>
     ensures { mirror.called_in result ≡ mirror.scalars kind count stands }
 {
@@ -262,7 +261,7 @@ fn scalars<'a>(kind: Kind, count: usize, stands: bool) -> Called<'a>
     }
 }
 
-/// What is not there takes and gives nothing.
+/// A callee that is not there: it takes and gives nothing.
 fn nothing<'a>() -> Called<'a>
     ensures { mirror.called_in result ≡ mirror.nothing }
 {
@@ -284,7 +283,7 @@ fn declared<'a>(node: &'a ResolvedNode, statics: &'a [StaticInt]) -> Called<'a>
     }
 }
 
-/// The inputs and the outputs of what is called.
+/// The inputs and the outputs of the callee of a call.
 fn callee<'a>(env: &TypeEnv<'a, '_>, call: CallId) -> Called<'a>
     ensures { mirror.called_in result ≡ mirror.calls_in env.now call }
 {
@@ -297,7 +296,7 @@ fn callee<'a>(env: &TypeEnv<'a, '_>, call: CallId) -> Called<'a>
     }
 }
 
-/// What an iterated data operator takes and gives.
+/// The types that an iterated data operator takes and gives.
 fn symbol<'a>(op: BinaryOperator) -> Called<'a>
     ensures { mirror.called_in result ≡ mirror.symbol_signature op }
 {
@@ -313,7 +312,7 @@ fn symbol<'a>(op: BinaryOperator) -> Called<'a>
     }
 }
 
-/// What is called, and how its types stand in the rows that are taken and given.
+/// The signature of a callee, with arrays for the types that `takes` and `gives` name.
 fn spread<'a>(called: &Called<'a>, takes: Arrays, gives: Arrays, stands: bool) -> Signature<'a>
     ensures { mirror.signature_in result
         ≡ mirror.spread (mirror.called_in called.now) takes gives stands }
@@ -331,7 +330,7 @@ fn spread<'a>(called: &Called<'a>, takes: Arrays, gives: Arrays, stands: bool) -
     }
 }
 
-/// What is called once.
+/// The signature of a callee that is called once.
 fn plain<'a>(called: &Called<'a>) -> Signature<'a>
     ensures { mirror.signature_in result ≡ mirror.called_in called.now }
 {
@@ -347,7 +346,7 @@ fn is_accumulated(alloc: Global, called: &Called) -> Result<bool, AllocError>
     Ok(are_one(&taken, &given))
 }
 
-/// What is called with an accumulator, where it takes and gives as many types as it should.
+/// The signature of a callee with an accumulator, if the numbers of its types fit (`fits`).
 fn accumulated<'a>(
     alloc: Global,
     called: &Called<'a>,
@@ -367,9 +366,9 @@ fn accumulated<'a>(
     ))
 }
 
-/// What is iterated over arrays of this length, if that is known: `map` takes and gives arrays,
-/// `red` takes them beside an accumulator and gives it alone, `fill` takes it alone and gives them
-/// beside it.
+/// The signature of a callee that is iterated over arrays of this length, if that is known: `map`
+/// takes and gives arrays, `red` takes arrays beside an accumulator and gives the accumulator
+/// alone, `fill` takes the accumulator alone and gives arrays beside it.
 fn iterated<'a>(
     alloc: Global,
     iterator: ArrayIterator,
@@ -396,7 +395,7 @@ fn iterated<'a>(
     }
 }
 
-/// What a term with this number of operands in a row takes and gives, a list apart.
+/// The signature of a term with this number of operands in a row, a list apart.
 pub fn signature_of<'a>(
     alloc: Global,
     env: &TypeEnv<'a, '_>,
@@ -419,7 +418,7 @@ pub fn signature_of<'a>(
     }
 }
 
-/// Whether a type, if there is one, is the one that is wanted at a place: the wanted one is not
+/// Whether a type, if there is one, is the one that is wanted at a place. The wanted type is not
 /// made.
 pub fn is_wanted(wanted: &TypeRow, place: usize, given: &Option<DataType>) -> bool
     ensures { result ≡ mirror.are_one
@@ -431,7 +430,7 @@ pub fn is_wanted(wanted: &TypeRow, place: usize, given: &Option<DataType>) -> bo
     }
 }
 
-/// The type of a row of one.
+/// The type of a row with one type.
 fn only_type(alloc: Global, row: &TypeRow) -> Result<Option<DataType>, AllocError>
     ensures { IfOk result (λ o. option_map view_type o
         ≡ lists.◌>>=◌ (all_some (mirror.row_in row.now)) types.only) }
@@ -443,7 +442,7 @@ fn only_type(alloc: Global, row: &TypeRow) -> Result<Option<DataType>, AllocErro
     }
 }
 
-/// The one type that is given, where there is one and no more.
+/// The one type of a row that is given, where it has one and no more.
 pub fn only_given(alloc: Global, given: &Option<TypeRow>) -> Result<Option<DataType>, AllocError>
     ensures { IfOk result (λ o. option_map view_type o ≡ lists.◌>>=◌ (lists.◌>>=◌
         (option_map mirror.row_in given.now) all_some) types.only) }

@@ -1,4 +1,4 @@
-//! Terms beside the expressions that they were made of.
+//! Terms beside the expressions of which they were made.
 
 ghost use Rattle.std.specs.Prelude.{◌<◌, IfSome};
 ghost use Rattle.lb_static.specs.declared.resolved.Term.{size-Term};
@@ -6,14 +6,14 @@ ghost use Rattle.lb_static.specs.declared.resolved.Term.{size-Term};
 use lb_static::Term;
 use lb_syntax::{Expr, Statement};
 
-/// A term, and the expression that it was made of.
+/// A term, and the expression of which it was made.
 #[derive(Clone, Copy)]
 pub struct Site<'t> {
     pub term: &'t Term,
     pub expr: &'t Expr,
 }
 
-/// The item at a place, or what stands in for one that is not there.
+/// The expression at a place, or `other` where there is none.
 fn item_or<'t>(exprs: &'t [Expr], place: usize, other: &'t Expr) -> &'t Expr {
     match exprs.get(place) {
         Some(expr) => expr,
@@ -60,7 +60,7 @@ fn term_operand<'t>(term: &'t Term, place: usize) -> Option<&'t Term>
     }
 }
 
-/// The operand of an expression at a place: itself where there is none.
+/// The operand of an expression at a place; the expression itself where there is none.
 pub fn operand_at<'t>(expr: &'t Expr, place: usize) -> &'t Expr {
     match expr {
         Expr::Group(a, _) | Expr::Unary(_, a, _) | Expr::Pre(a, _) | Expr::Current(a, _) => a,
@@ -77,7 +77,7 @@ pub fn operand_at<'t>(expr: &'t Expr, place: usize) -> &'t Expr {
     }
 }
 
-/// The first or the second of two.
+/// The first of two expressions at place 0, else the second.
 fn two<'t>(first: &'t Expr, second: &'t Expr, place: usize) -> &'t Expr {
     if place == 0 { first } else { second }
 }
@@ -93,12 +93,12 @@ impl<'t> Site<'t> {
         })
     }
 
-    /// Where the expression begins.
+    /// The offset at which the expression begins.
     pub fn offset(self) -> u32 {
         self.expr.offset()
     }
 
-    /// Where the sign of its operator stands: between its operands, or before them.
+    /// The offset of the sign of its operator: between its operands, or before them.
     pub fn sign_offset(self) -> u32 {
         match self.expr.sign_offset() {
             Some(at) => at,
@@ -106,33 +106,33 @@ impl<'t> Site<'t> {
         }
     }
 
-    /// Where its operand at a place begins.
+    /// The offset at which its operand at a place begins.
     pub fn operand_offset(self, place: usize) -> u32 {
         operand_at(self.expr, place).offset()
     }
 
-    /// Where the variable of `when` stands, the index, or the first end of a slice.
+    /// The offset of the variable of `when`, of the index, or of the first end of a slice.
     pub fn inner_offset(self) -> u32 {
         match self.expr {
-            Expr::When(_, name, _, _) => name.offset(),
+            Expr::When(_, name, _, _) => name.offset,
             Expr::Index(_, index, _) | Expr::Slice(_, index, _, _) => index.offset(),
             _ => self.expr.offset(),
         }
     }
 }
 
-/// The right side of a statement, or what is asserted.
+/// The right side of an equation, or the expression of an assertion.
 pub fn right_side<'t>(statement: &'t Statement) -> &'t Expr {
     match statement {
         Statement::Equation(_, right, _) | Statement::Assertion(right, _) => right,
     }
 }
 
-/// Where the left variable at a place stands; where the statement begins if there is none.
+/// The offset of the left variable at a place; that of the statement if there is none.
 pub fn left_offset(statement: &Statement, place: usize) -> u32 {
     match statement {
         Statement::Equation(lefts, _, at) => match lefts.get(place) {
-            Some(left) => left.offset(),
+            Some(left) => left.offset,
             None => *at,
         },
         Statement::Assertion(_, at) => *at,

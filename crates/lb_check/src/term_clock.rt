@@ -1,4 +1,4 @@
-//! The clocks that a term accepts, from those that its operands accept (E10).
+//! The clocks that a term accepts, from the clocks that its operands accept (E10).
 
 ghost use Rattle.std.specs.Prelude.{◌≡◌, option_map};
 ghost use Rattle.lb_check.specs.StoredClocks.{context_in};
@@ -25,7 +25,7 @@ impl<'a, 's> ClockEnv<'a, 's> {
         declared_clock(self.node, x)
     }
 
-    /// The node that a call calls.
+    /// The callee of a call.
     #[tactic(auto, unfolding(crate::specs::TermClocks::context_of))]
     pub fn callee(&self, c: CallId) -> Option<&'a ResolvedNode<'s>>
         ensures { option_map (λ n. n.now) result ≡ (context_in self.now).callee c }
@@ -33,7 +33,7 @@ impl<'a, 's> ClockEnv<'a, 's> {
         self.reached.callee(self.node, c)
     }
 
-    /// Where `current` of a term that stands there may stand: one clock further up.
+    /// The clocks that `current` of an operand accepts: one clock further up.
     #[tactic(auto, unfolding(crate::specs::TermClocks::context_of))]
     fn raised(&self, clock_set: ClockSet) -> ClockSet
         ensures { result ≡ mirror.raised (context_in self.now) clock_set }
@@ -47,8 +47,8 @@ impl<'a, 's> ClockEnv<'a, 's> {
         }
     }
 
-    /// Where a term may stand that is a term that stands there `when` a variable has this sign: on
-    /// that clock, where the term may stand on the clock of the variable.
+    /// The clocks that an operand `when` a variable has this sign accepts: the clock of that sign,
+    /// where the operand accepts the clock of the variable.
     fn sampled(&self, x: VariableId, sign: bool, clock_set: ClockSet) -> ClockSet
         ensures { result ≡ mirror.sampled (context_in self.now) x sign clock_set }
     {
@@ -77,7 +77,7 @@ pub fn row_clock_set(env: &ClockEnv, term: &Term, operands: &[Operand]) -> Clock
     }
 }
 
-/// The clocks that a term accepts whose one operand accepts these.
+/// The clocks that a term with one operand accepts, from those that the operand accepts.
 pub fn unary_clock_set(env: &ClockEnv, term: &Term, operand: ClockSet) -> ClockSet
     ensures { result ≡ mirror.unary_clock_set (context_in env.now) term.now operand }
 {

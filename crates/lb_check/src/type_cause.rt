@@ -1,6 +1,7 @@
-//! Why a part of a node breaks the rules of types (E9).
+//! The reason why a part of a node breaks the rules of types (E9).
 //!
-//! What is told of a term is its innermost part that has no type, of which each operand has one.
+//! The reported part of a term is the innermost one that has no type, though each operand of it has
+//! one.
 
 ghost use Rattle.std.specs.Prelude.{◌≡◌, IfOk, string_bytes};
 ghost use Rattle.lb_syntax.specs.Lists.{listed};
@@ -23,16 +24,16 @@ use lb_static::{DataType, Reached, ResolvedStatement, Table, Term, VariableId};
 use lb_syntax::{Expr, Kind, Statement};
 use std::alloc::{AllocError, Global};
 
-/// What is found of a term, from what is found of its operands.
+/// The typing of a term, found from that of its operands.
 #[derive(Drop)]
 enum Typing<'t> {
-    /// It has this type.
+    /// The term has this type.
     Typed(DataType),
     /// This part has no type, though each of its operands has one.
     Untyped(Site<'t>),
 }
 
-/// What is found of a term of which each operand has a type.
+/// The typing of a term of which each operand has a type.
 fn own_typing<'t>(data_type: Option<DataType>, site: Site<'t>) -> Typing<'t> {
     match data_type {
         Some(data_type) => Typing::Typed(data_type),
@@ -40,7 +41,7 @@ fn own_typing<'t>(data_type: Option<DataType>, site: Site<'t>) -> Typing<'t> {
     }
 }
 
-/// What is found of a term with this number of operands in a row, a list apart.
+/// The typing of a term with this number of operands in a row, a list apart.
 #[cycle(typings)]
 fn typed_row<'t>(
     alloc: Global,
@@ -65,7 +66,7 @@ fn typed_row<'t>(
     Ok(own_typing(own, site))
 }
 
-/// What is found of a list of this number of elements.
+/// The typing of a list of this number of elements.
 #[cycle(typings)]
 fn typed_list<'t>(
     alloc: Global,
@@ -87,7 +88,7 @@ fn typed_list<'t>(
     Ok(own_typing(own, site))
 }
 
-/// The type of a term with three operands or fewer, from those of the operands.
+/// The type of a term with three operands or fewer, from the types of the operands.
 fn type_from(
     alloc: Global,
     env: &TypeEnv,
@@ -105,7 +106,7 @@ fn type_from(
     }
 }
 
-/// What is found of a term with three operands or fewer.
+/// The typing of a term with three operands or fewer.
 #[cycle(typings)]
 fn typed_few<'t>(alloc: Global, env: &TypeEnv, site: Site<'t>) -> Result<Typing<'t>, AllocError> {
     let mut types = Vec::new(alloc);
@@ -122,7 +123,7 @@ fn typed_few<'t>(alloc: Global, env: &TypeEnv, site: Site<'t>) -> Result<Typing<
     Ok(own_typing(own, site))
 }
 
-/// What is found of a term: each part is looked at once.
+/// The typing of a term: each part is looked at once.
 #[cycle(typings)]
 fn typed_term<'t>(alloc: Global, env: &TypeEnv, site: Site<'t>) -> Result<Typing<'t>, AllocError> {
     match site.term {
@@ -136,7 +137,7 @@ fn typed_term<'t>(alloc: Global, env: &TypeEnv, site: Site<'t>) -> Result<Typing
     }
 }
 
-/// An equation with another number of left variables than its right side has results.
+/// The reason for an equation with more or fewer left variables than its right side has results.
 fn count_reason<'t>(
     right: &'t Term,
     found: usize,
@@ -152,7 +153,7 @@ fn count_reason<'t>(
     }
 }
 
-/// A left variable, counted from 0, that has another type than the result for it.
+/// The reason for a left variable, counted from 0, that has another type than the result for it.
 fn left_reason<'t>(
     right: &'t Term,
     left: Option<&VariableId>,
@@ -187,7 +188,7 @@ fn first_unlike(
     Ok(None)
 }
 
-/// Why an equation breaks the rules whose right side has these types.
+/// The reason why an equation breaks the rules whose right side has results of these types.
 fn lefts_reason<'t>(
     alloc: Global,
     env: &TypeEnv,
@@ -206,7 +207,7 @@ fn lefts_reason<'t>(
     }
 }
 
-/// What is asserted and is not one truth.
+/// The reason for an assertion of what is not one truth.
 fn assertion_reason<'t>(term: &'t Term, expr: &Expr) -> TypeReason<'t> {
     TypeReason {
         rule: TypeRule::Assertion,
@@ -217,8 +218,8 @@ fn assertion_reason<'t>(term: &'t Term, expr: &Expr) -> TypeReason<'t> {
     }
 }
 
-/// Why a statement breaks the rules whose right side, or what it asserts, has results of these
-/// types.
+/// The reason why a statement breaks the rules whose right side, or whose assertion, has results of
+/// these types.
 fn results_reason<'t>(
     alloc: Global,
     env: &TypeEnv,
@@ -248,7 +249,7 @@ fn call_results(
     }
 }
 
-/// Why a statement breaks the rules of types.
+/// The reason why a statement breaks the rules of types.
 fn statement_reason<'t>(
     alloc: Global,
     env: &TypeEnv<'t, '_>,
@@ -270,7 +271,7 @@ fn statement_reason<'t>(
     }
 }
 
-/// The variable of a declared clock that is no truth.
+/// The reason for a variable of a declared clock that is no truth.
 fn clock_reason<'t>(env: &TypeEnv<'t, '_>, variable: VariableId) -> TypeReason<'t> {
     let clock = match env.node.variables.get(variable.0) {
         Some(declared) => declared.clock,
@@ -288,7 +289,7 @@ fn clock_reason<'t>(env: &TypeEnv<'t, '_>, variable: VariableId) -> TypeReason<'
     }
 }
 
-/// Why a part of a specialization breaks the rules of types.
+/// The reason why a part of a specialization breaks the rules of types.
 fn part_reason<'t>(
     alloc: Global,
     env: &TypeEnv<'t, '_>,
@@ -307,7 +308,7 @@ fn part_reason<'t>(
     }
 }
 
-/// The type of a result of a right side.
+/// The type of the result of a right side at a place.
 fn result_at(
     alloc: Global,
     env: &TypeEnv,
@@ -329,7 +330,7 @@ fn shown(data_type: DataType) -> SourceType {
     }
 }
 
-/// The one type that is told.
+/// The type that is reported, if it is one.
 fn told_type(alloc: Global, env: &TypeEnv, typed: Typed) -> Result<Option<DataType>, AllocError> {
     match typed {
         Typed::Nothing | Typed::Results(_) => Ok(None),
@@ -341,7 +342,7 @@ fn told_type(alloc: Global, env: &TypeEnv, typed: Typed) -> Result<Option<DataTy
     }
 }
 
-/// The types that are told.
+/// The types that are reported.
 fn told_types(alloc: Global, env: &TypeEnv, typed: Typed) -> Result<Vec<SourceType>, AllocError> {
     let mut types = Vec::new(alloc);
     if let Typed::Results(term) = typed {
@@ -356,7 +357,7 @@ fn told_types(alloc: Global, env: &TypeEnv, typed: Typed) -> Result<Vec<SourceTy
     Ok(types)
 }
 
-/// What is told of a part that breaks the rules of types.
+/// A reason in which the types are those that are reported.
 #[derive(Drop)]
 struct ToldReason {
     rule: TypeRule,
@@ -366,7 +367,7 @@ struct ToldReason {
     wanted: Option<SourceType>,
 }
 
-/// What is told for a reason.
+/// The reported form of a reason.
 fn told(alloc: Global, env: &TypeEnv, reason: TypeReason) -> Result<ToldReason, AllocError> {
     let found = told_types(alloc, env, reason.found)?;
     let wanted = match told_type(alloc, env, reason.wanted)? {
@@ -382,7 +383,7 @@ fn told(alloc: Global, env: &TypeEnv, reason: TypeReason) -> Result<ToldReason, 
     })
 }
 
-/// What is told of a part.
+/// The reported reason for a part.
 fn told_of(
     alloc: Global,
     reached: &Reached,
@@ -413,7 +414,7 @@ fn told_of(
     }
 }
 
-/// What breaks the rules of types in this part, and where.
+/// The fault of types of this part.
 pub fn type_fault(
     alloc: Global,
     reached: &Reached,

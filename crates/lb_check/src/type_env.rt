@@ -1,4 +1,4 @@
-//! What the numbers in the terms of a specialization stand for when its types are judged.
+//! The meaning of the numbers in the terms of a specialization, when its types are judged.
 
 ghost use Rattle.std.specs.Prelude.{◌≡◌, option_map, IfOk};
 ghost use Rattle.lb_static.specs.StoredTypes.{view_type};
@@ -21,21 +21,21 @@ pub struct TypeEnv<'a, 's> {
     pub specialization: &'a Specialization,
 }
 
-/// The type of the static parameter or constant that stands there.
+/// The type of the static parameter or constant `i`.
 fn constant_at(alloc: Global, statics: &[StaticInt], i: StaticId) -> Option<DataType>
     ensures { option_map view_type result ≡ mirror.constant_at statics.now i }
 {
     constant_type(alloc, statics.get(i.0)?.get())
 }
 
-/// The size or index that stands there.
+/// The value of the size or index `i`.
 fn count_at(statics: &[StaticInt], i: StaticId) -> Option<u64>
     ensures { result ≡ mirror.count_at statics.now i }
 {
     statics.get(i.0)?.natural()
 }
 
-/// How often what stands at a call site is called, if it is iterated.
+/// The number of instances of a call site that is iterated; 0 for another call site.
 fn repeats_of(statics: &[StaticInt], site: CallSite) -> Option<u64>
     ensures { result ≡ mirror.repeats_of statics.now site }
 {
@@ -69,7 +69,7 @@ impl TypeEnv<'_, '_> {
         constant_at(alloc, &self.specialization.statics, i)
     }
 
-    /// A size or an index.
+    /// The value of a size or an index.
     #[tactic(auto, unfolding(crate::specs::TermTypes::context_of))]
     pub fn count(&self, i: StaticId) -> Option<u64>
         ensures { result ≡ (context_in self.now).count i }
@@ -77,7 +77,7 @@ impl TypeEnv<'_, '_> {
         count_at(&self.specialization.statics, i)
     }
 
-    /// How often an iterated node is called.
+    /// The number of instances of an iterated node.
     #[tactic(auto, unfolding(crate::specs::TermTypes::context_of))]
     pub fn repeats(&self, c: CallId) -> Option<u64>
         ensures { result ≡ (context_in self.now).repeats c }

@@ -1,4 +1,4 @@
-//! What breaks a rule of types, and where (E9).
+//! A fault of types, and its place (E9).
 
 use crate::part::Part;
 use lb_static::CallPath;
@@ -26,7 +26,7 @@ impl fmt::Display for SourceType {
     }
 }
 
-/// What has the wrong type. Operands, arguments and left variables count from 1.
+/// The rule of types that is broken. Operands, arguments and left variables count from 1.
 #[derive(Clone, Copy, Debug)]
 pub enum TypeRule {
     /// A number, a constant or a static parameter outside the range of `int`.
@@ -39,8 +39,8 @@ pub enum TypeRule {
     ArgumentCount { found: usize, wanted: usize },
     /// A call with no result or with several, where one is wanted.
     ResultCount,
-    /// An iterator over a node that it does not go over: the accumulator is no input, or is not of
-    /// the type of the first output, or there are too few or too many outputs.
+    /// An iterator over a node that cannot be iterated so: the accumulator is no input, or is not
+    /// of the type of the first output, or there are too few or too many outputs.
     IteratedNode,
     /// An array with no element, or with more than 4,096.
     Length,
@@ -50,7 +50,7 @@ pub enum TypeRule {
     Left(usize),
     /// An equation that has another number of left variables than its right side has results.
     LeftCount { found: usize, wanted: usize },
-    /// What is asserted.
+    /// The expression of an assertion.
     Assertion,
     /// The variable of a declared clock or of `when`.
     ClockVariable,
@@ -61,21 +61,21 @@ pub enum TypeRule {
 pub struct TypeFault {
     /// The name of the node in which it is.
     pub node: String,
-    /// The statement that breaks it, or the variable whose declared clock does.
+    /// The statement that breaks the rule, or the variable whose declared clock does.
     pub part: Part,
-    /// Where that begins.
+    /// The offset of that part.
     pub part_offset: u32,
-    /// What is at fault.
+    /// The rule that is broken.
     pub rule: TypeRule,
-    /// Where what is at fault begins.
+    /// The offset of what is at fault.
     pub offset: u32,
-    /// Where the sign of the operator stands whose operand is at fault, if it has one between its
+    /// The offset of the sign of the operator whose operand is at fault, if it has one between its
     /// operands.
     pub sign_offset: Option<u32>,
-    /// The type of what is at fault: none where it has none, several of a call with several
-    /// results. Of a left variable it is that of the result for it.
+    /// The types of what is at fault: none where it has none, several of a call with several
+    /// results. Of a left variable it is the type of the result for it.
     pub found: Vec<SourceType>,
-    /// The type that would be right, where it is one alone.
+    /// The type that would be right, where only one would be.
     pub wanted: Option<SourceType>,
     /// The calls by which an instance of the node is reached that breaks the rule.
     pub path: CallPath,

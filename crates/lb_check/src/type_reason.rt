@@ -1,4 +1,4 @@
-//! Why a term without a type has none, where its operands have types (E9).
+//! The reason why a term has no type, where its operands have types (E9).
 
 use crate::call_reason::call_reason;
 use crate::signature::TypeRow;
@@ -10,7 +10,7 @@ use lb_static::{Term, VariableId};
 use lb_syntax::{BinaryOperator, Kind, UnaryOperator};
 use std::alloc::{AllocError, Global};
 
-/// What has a type that is told, or types.
+/// The source of the type, or of the types, that a fault reports.
 #[derive(Clone, Copy)]
 pub enum Typed<'t> {
     Nothing,
@@ -22,12 +22,12 @@ pub enum Typed<'t> {
     Results(&'t Term),
     /// The result of a term at a place.
     Result(&'t Term, usize),
-    /// What is taken at a place.
+    /// The type at a place of a row.
     Input(TypeRow<'t>, usize),
 }
 
-/// What is wrong with a part of a node, where it stands, and what has its type and that which it
-/// should have.
+/// A rule of types that is broken: its place, the source of the type that is found, and the source
+/// of the type that is wanted.
 #[derive(Clone, Copy)]
 pub struct TypeReason<'t> {
     pub rule: TypeRule,
@@ -37,7 +37,7 @@ pub struct TypeReason<'t> {
     pub wanted: Typed<'t>,
 }
 
-/// What is wrong at an offset, whatever the types are.
+/// The reason for a rule that is broken at an offset, without types.
 pub fn of_rule<'t>(rule: TypeRule, offset: u32) -> TypeReason<'t> {
     TypeReason {
         rule,
@@ -48,12 +48,12 @@ pub fn of_rule<'t>(rule: TypeRule, offset: u32) -> TypeReason<'t> {
     }
 }
 
-/// A term that is too long or too short, or of which nothing better is known.
+/// The reason for a term that is too long or too short, or of which nothing better is known.
 fn of_length<'t>(site: Site<'t>) -> TypeReason<'t> {
     of_rule(TypeRule::Length, site.offset())
 }
 
-/// An operand of a term, counted from 0, that has another type than is wanted.
+/// The reason for an operand, counted from 0, that has another type than is wanted.
 fn of_operand<'t>(
     site: Site<'t>,
     place: usize,
@@ -69,7 +69,7 @@ fn of_operand<'t>(
     }
 }
 
-/// The variable of `when`, the index or the ends of a slice that are wrong.
+/// The reason for a wrong variable of `when`, index or slice end.
 fn of_inner<'t>(
     site: Site<'t>,
     rule: TypeRule,
@@ -85,7 +85,7 @@ fn of_inner<'t>(
     }
 }
 
-/// The kind of the operands of an operator, but for those that take each kind.
+/// The kind of the operands of an operator; none where it takes each kind.
 fn operand_kind(op: BinaryOperator) -> Option<Kind> {
     match op {
         BinaryOperator::Or | BinaryOperator::Xor | BinaryOperator::And | BinaryOperator::Implies =>
@@ -111,7 +111,7 @@ fn is_scalar(alloc: Global, env: &TypeEnv, term: &Term, kind: Kind) -> Result<bo
     }
 }
 
-/// An operator with two operands, one of which has the wrong type.
+/// The reason for an operator with two operands, one of which has the wrong type.
 fn of_binary<'t>(
     alloc: Global,
     env: &TypeEnv,
@@ -135,7 +135,7 @@ fn of_binary<'t>(
     }
 }
 
-/// An array of no element of another, or of too many.
+/// The reason for a join of what is no array, or of arrays with different or too many elements.
 fn of_join<'t>(
     alloc: Global,
     env: &TypeEnv,
@@ -157,7 +157,7 @@ fn of_join<'t>(
     Ok(of_length(site))
 }
 
-/// A choice whose condition is no truth, or whose branches have different types.
+/// The reason for a choice whose condition is no truth, or whose branches have different types.
 fn of_choice<'t>(
     alloc: Global,
     env: &TypeEnv,
@@ -173,7 +173,7 @@ fn of_choice<'t>(
     }
 }
 
-/// An index or a slice of what is no array, or one outside the array.
+/// The reason for an index or a slice of what is no array, or one outside the array.
 fn of_index<'t>(
     alloc: Global,
     env: &TypeEnv,
@@ -188,7 +188,7 @@ fn of_index<'t>(
     }
 }
 
-/// Operands that should all be truths, one of which is none.
+/// The reason for operands that should all be truths, one of which is none.
 fn of_truths<'t>(
     alloc: Global,
     env: &TypeEnv,
@@ -203,7 +203,7 @@ fn of_truths<'t>(
     Ok(of_length(site))
 }
 
-/// Elements of which one has another type than the first, or which are too few or too many.
+/// The reason for elements of different types, or for too few or too many elements.
 fn of_elements<'t>(
     alloc: Global,
     env: &TypeEnv,
@@ -225,7 +225,7 @@ fn of_elements<'t>(
     Ok(of_length(site))
 }
 
-/// Why a term has no type, or a call not one, where each of its operands has a type.
+/// The reason why a term has no type, or a call not one, where each of its operands has a type.
 pub fn type_reason<'t>(
     alloc: Global,
     env: &TypeEnv<'t, '_>,

@@ -29,7 +29,7 @@ use lb_static::{
 };
 use std::alloc::{AllocError, Global};
 
-/// Whether variables have the types that are given. Those of the variables are made one at a time.
+/// Whether variables have the given types. The types of the variables are made one at a time.
 fn have_types(
     alloc: Global,
     env: &TypeEnv,
@@ -149,7 +149,7 @@ fn is_settled(settled: &[bool], k: usize) -> bool
     matches!(settled.get(k), Some(true))
 }
 
-/// The place of the first statement that breaks the rules of types: those that are settled are not
+/// The place of the first statement that breaks the rules of types. Settled statements are not
 /// looked at.
 fn first_ill_typed_statement(
     alloc: Global,

@@ -1,4 +1,4 @@
-//! The types of terms (E9), each found once from those of its operands.
+//! The types of terms (E9), each found once from the types of its operands.
 
 ghost use Rattle.std.specs.Prelude.{◌≡◌, ◌<◌, ◌↔◌, ◌&&◌, option_map};
 ghost use Rattle.std.specs.Prelude.{IfOk, IsTrue, OnOk};
@@ -94,7 +94,7 @@ pub fn two_types(
     }
 }
 
-/// Notes a term with one result, and gives its type again.
+/// Notes a term with one result, and returns its type.
 #[inline(always)]
 fn note_one(
     alloc: Global,
@@ -110,7 +110,7 @@ fn note_one(
     Ok(own)
 }
 
-/// Notes a term without operands, and gives its type.
+/// Notes a term without operands, and returns its type.
 fn walk_leaf(
     alloc: Global,
     env: &TypeEnv,
@@ -126,7 +126,8 @@ fn walk_leaf(
     note_one(alloc, own, parts)
 }
 
-/// The type of the elements of a list, of which this is known from the later ones.
+/// The type of the elements of a list: `own` of one, together with `later` of the `seen` ones
+/// behind it.
 pub fn like_later(seen: usize, own: Option<DataType>, later: Option<DataType>) -> Option<DataType>
     ensures { option_map view_type result ≡ signatures.like_later seen
         (option_map view_type own) (option_map view_type later) }
@@ -138,7 +139,7 @@ pub fn like_later(seen: usize, own: Option<DataType>, later: Option<DataType>) -
     }
 }
 
-/// Whether an operand has the type that is wanted at its place, and those after it have theirs.
+/// Whether an operand has the type that is wanted at its place, and those behind it fit (`fits`).
 pub fn fits_too(fits: bool, wanted: &TypeRow, place: usize, own: &Option<DataType>) -> bool
     ensures { result ≡ (fits && signatures.are_one
         (signatures.type_at (signatures.row_in wanted.now) place) (option_map view_type own.now)) }
@@ -146,14 +147,14 @@ pub fn fits_too(fits: bool, wanted: &TypeRow, place: usize, own: &Option<DataTyp
     fits && is_wanted(wanted, place, own)
 }
 
-/// Whether this number of operands may be given.
+/// Whether a signature takes this number of operands.
 pub fn has_arity(signature: &Signature, count: usize) -> bool
     ensures { result ≡ signatures.has_arity (signatures.signature_in signature.now) count }
 {
     signature.stands && signature.takes.len() == count
 }
 
-/// What is given, where the operands fit.
+/// The types `given`, where the operands fit.
 pub fn given_where<'a>(fits: bool, given: TypeRow<'a>) -> Option<TypeRow<'a>>
     ensures { option_map signatures.row_in result
         ≡ lists.where_true fits (signatures.row_in given.entry) }
@@ -161,15 +162,15 @@ pub fn given_where<'a>(fits: bool, given: TypeRow<'a>) -> Option<TypeRow<'a>>
     if fits { Some(given) } else { None }
 }
 
-/// Whether the operands that were walked, as the last two of `[a, b, c]`, decide about their row:
-/// they do not fit, and no part is kept any more.
+/// Whether the operands that were walked, such as the last two of `[a, b, c]`, decide about their
+/// row: they do not fit, and no part is kept any more.
 fn is_decided(seen: usize, fit: bool, parts: &PartTypes) -> bool
     ensures { IsTrue result ↔ placed_mirror.IsDecided seen fit parts.now.left }
 {
     seen > 0 && !fit && parts.left == 0
 }
 
-/// Notes the parts of the elements of a list, the last one first, and gives the type of the list.
+/// Notes the parts of the elements of a list, the last one first, and returns the type of the list.
 #[cycle(walking)]
 fn walk_list(
     alloc: Global,
@@ -193,8 +194,8 @@ fn walk_list(
     array_type(size, element)
 }
 
-/// Notes the parts of the operands of a term in a row, the last one first, and gives what the term
-/// gives.
+/// Notes the parts of the operands of a term in a row, the last one first, and returns the types
+/// that the term gives.
 #[cycle(walking)]
 fn walk_row<'a>(
     alloc: Global,
@@ -221,7 +222,7 @@ fn walk_row<'a>(
     Ok(given_where(fits, signature.gives))
 }
 
-/// Notes the elements of a list, and then the list, and gives its type.
+/// Notes the elements of a list, and then the list, and returns its type.
 #[cycle(walking)]
 fn walk_array(
     alloc: Global,
@@ -239,8 +240,8 @@ fn walk_array(
     note_one(alloc, own, parts)
 }
 
-/// Notes the operands of a term with a row of them, a list apart, and then the term, and gives its
-/// one type.
+/// Notes the operands of a term with a row of them, a list apart, and then the term, and returns
+/// its one type.
 #[cycle(walking)]
 fn walk_given(
     alloc: Global,
@@ -258,7 +259,7 @@ fn walk_given(
     parts.note_given(alloc, &given)
 }
 
-/// Notes the operand of a term with one, and then the term, and gives its type.
+/// Notes the operand of a term with one, and then the term, and returns its type.
 #[cycle(walking)]
 fn walk_single(
     alloc: Global,
@@ -278,7 +279,7 @@ fn walk_single(
     note_one(alloc, own, parts)
 }
 
-/// Notes the operands of a term with two, the right one first, and then the term, and gives its
+/// Notes the operands of a term with two, the right one first, and then the term, and returns its
 /// type.
 #[cycle(walking)]
 fn walk_pair(
@@ -302,7 +303,7 @@ fn walk_pair(
     note_one(alloc, own, parts)
 }
 
-/// Notes the operands of a choice, its condition last, and then the choice, and gives its type.
+/// Notes the operands of a choice, its condition last, and then the choice, and returns its type.
 #[cycle(walking)]
 fn walk_choice(
     alloc: Global,
@@ -328,8 +329,8 @@ fn walk_choice(
     note_one(alloc, own, parts)
 }
 
-/// Notes the parts of a term against the order of the text, each after its operands, and gives the
-/// one type of the term, or none where a rule of types is broken.
+/// Notes the parts of a term against the order of the text, each after its operands, and returns
+/// the one type of the term, or none where a rule of types is broken.
 #[cycle(walking)]
 pub fn walk(
     alloc: Global,
@@ -374,16 +375,16 @@ pub fn type_of(alloc: Global, env: &TypeEnv, term: &Term) -> Result<Option<DataT
     walk(alloc, env, term, &mut PartTypes::none(alloc))
 }
 
-/// What a right side gives.
+/// The types of the results of a right side.
 #[derive(Drop)]
 pub enum SideTypes<'a> {
     /// One result of this type, if it has one.
     Single(Option<DataType>),
-    /// What a term with a row of operands gives, if they fit.
+    /// The results of a term with a row of operands, if they fit.
     Several(Option<TypeRow<'a>>),
 }
 
-/// What a right side gives: a call or an iterator may have several results.
+/// The types of the results of a right side: a call or an iterator may have several.
 #[tactic(auto, unfolding(crate::specs::TermTypes::results))]
 pub fn side_types<'a>(
     alloc: Global,
@@ -423,7 +424,7 @@ fn row_types(alloc: Global, row: &TypeRow) -> Result<Option<Vec<DataType>>, Allo
     Ok(Some(types))
 }
 
-/// The types of the results of a right side, to be told, or none where a rule of types is broken.
+/// The types of the results of a right side, or none where a rule of types is broken.
 pub fn results(
     alloc: Global,
     env: &TypeEnv,

@@ -1,12 +1,12 @@
 //! The nodes of specializations, each once.
 
 ghost use Rattle.std.specs.Prelude.{◌≡◌, ◌⊎◌, ℕ, Bool, true, false, not, get_or, find, map, IfOk};
-ghost use Rattle.lb_static.specs.declared.reach.NodeId as reach;
+ghost use Rattle.lb_static.specs.declared.reachable.NodeId as reach;
 
 use lb_static::{NodeId, Specialization};
 use std::alloc::{AllocError, Global};
 
-/// Flags a node, and tells whether it was not flagged before. A node past the flags never is.
+/// Flags a node, and returns whether it had no flag before. A node past the flags is never flagged.
 fn flag(seen: &mut [bool], id: NodeId) -> bool
     ensures fresh { result ≡ not (get_or seen.old id.0 false) }
     ensures flagged { (k : ℕ) → get_or seen.new k false ≡ true
@@ -22,7 +22,7 @@ fn flag(seen: &mut [bool], id: NodeId) -> bool
 }
 
 /// The nodes of some specializations, each once, in the order in which they come up first. There
-/// are so many flags; a node past them is simply added.
+/// are flags for `nodes` nodes; a node past them is added each time.
 pub fn used_nodes(
     alloc: Global,
     nodes: usize,

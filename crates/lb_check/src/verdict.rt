@@ -1,6 +1,6 @@
 //! The verdict of a trace.
 
-/// What the node under test, or its observer, comes to on one trace.
+/// The verdict of one trace, on the node under test or by its observer.
 ///
 /// The first instant at which something goes wrong decides; at one instant a fault comes before
 /// what is undefined, that before a failed assertion, and that before a false property. Instants
@@ -12,7 +12,7 @@ pub enum Verdict {
     /// An arithmetic fault occurred at this instant.
     Fault(u32),
     /// An assertion, the property or a variable that serves as a clock was nil at this instant: it
-    /// hangs on a memory before its first tick.
+    /// depends on a memory before its first tick.
     Undefined(u32),
     /// An assertion was false at this instant: an assumption on the environment did not hold.
     Assertion(u32),

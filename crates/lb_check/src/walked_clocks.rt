@@ -1,7 +1,8 @@
-//! The clocks that a term accepts (E10), found from the operands up, and with them what the
-//! operands of each `current` and of each call in it are.
+//! The clocks that a term accepts (E10), found from the operands up, together with the operands of
+//! each `current` and of each call in it.
 //!
-//! What `walk` calls of itself is inlined, so that a level of nesting has one frame on the stack.
+//! The functions that `walk` calls itself through are inlined: a level of nesting has one frame on
+//! the stack.
 
 ghost use Rattle.std.specs.Prelude.{◌≡◌, reverse, IfOk};
 ghost use Rattle.lb_check.specs.StoredClocks.{context_in};
@@ -14,7 +15,7 @@ use crate::term_clock::{ClockEnv, row_clock_set, unary_clock_set};
 use lb_static::Term;
 use std::alloc::{AllocError, Global};
 
-/// Operands the other way round.
+/// The operands in the opposite order.
 fn turned(operands: Vec<Operand>) -> Vec<Operand>
     ensures { result.items ≡ reverse operands.items }
 {
@@ -23,7 +24,8 @@ fn turned(operands: Vec<Operand>) -> Vec<Operand>
     turned
 }
 
-/// Adds what is known of terms in a row, the last one first, and gives the operands that they are.
+/// Adds the known operands of terms in a row, the last one first, and returns the operands for
+/// them.
 #[inline(always)]
 #[cycle(clock_sets)]
 fn walk_all(
@@ -47,8 +49,8 @@ fn walk_all(
 }
 
 /// Adds the operands of each `current` and of each call in a term, against the order of the text,
-/// and gives the clocks that the term accepts, such that it and its parts keep the rules of clocks
-/// there.
+/// and returns the clocks that the term accepts: on these it and its parts keep the rules of
+/// clocks.
 #[cycle(clock_sets)]
 fn walk(
     alloc: Global,
@@ -105,18 +107,18 @@ fn walk(
     }
 }
 
-/// What is inferred of a term.
+/// The clocks that are inferred of a term, and the operands in it.
 #[derive(Drop)]
 pub struct Inferred {
     /// The clocks that it accepts.
     pub clock_set: ClockSet,
-    /// The operands of each `current` and of each call in it, in text order: those of a call before
-    /// those within them.
+    /// The operands of each `current` and of each call in it, in text order: the operands of a call
+    /// stand before the operands within them.
     pub operands: Vec<Operand>,
 }
 
-/// What is inferred of a term.
-#[tactic(auto, using(crate::proofs::WalkedClocks::known_turned))]
+/// Infers the clocks that a term accepts, and the operands in it.
+#[tactic(auto, using(crate::proofs::clocking::WalkedClocks::known_turned))]
 pub fn infer(alloc: Global, env: &ClockEnv, term: &Term) -> Result<Inferred, AllocError>
     ensures clock_set { IfOk result (λ found. found.clock_set
         ≡ mirror.infer_clock (context_in env.now) term.now) }
@@ -131,7 +133,7 @@ pub fn infer(alloc: Global, env: &ClockEnv, term: &Term) -> Result<Inferred, All
     })
 }
 
-/// The clocks that a term accepts, such that it and its parts keep the rules of clocks there.
+/// The clocks that a term accepts: on these it and its parts keep the rules of clocks.
 pub fn infer_clock(alloc: Global, env: &ClockEnv, term: &Term) -> Result<ClockSet, AllocError>
     ensures { IfOk result (λ s. s ≡ mirror.infer_clock (context_in env.now) term.now) }
 {
@@ -139,7 +141,7 @@ pub fn infer_clock(alloc: Global, env: &ClockEnv, term: &Term) -> Result<ClockSe
     Ok(clock_set)
 }
 
-/// The operands that some terms are.
+/// The operands for some terms.
 pub fn operands_of(
     alloc: Global,
     env: &ClockEnv,

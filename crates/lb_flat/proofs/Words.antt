@@ -1,42 +1,50 @@
 -- The words that the proof files of this crate share, each from where it is defined.
-pub use Rattle.lb_check.proofs.AcceptedNumbers.{number_of, numbers_below, numbers_width}
-pub use Rattle.lb_check.proofs.AcceptedRules.{all_typed, clocked, statements_typed}
-pub use Rattle.lb_check.proofs.ApartLists.{Every-at, Every-from, in_either, in_first, in_second}
-pub use Rattle.lb_check.proofs.ApartLists.{of_pieces, to_pieces}
-pub use Rattle.lb_check.proofs.CallNumbers.{call_of, own_right}
-pub use Rattle.lb_check.proofs.CalledInstances.{IsInstanceOf, instance_there}
-pub use Rattle.lb_check.proofs.Checks.{instantiation_kept, kept, names_kept, second_none}
-pub use Rattle.lb_check.proofs.ClockTests.{clock_same, declared_within}
-pub use Rattle.lb_check.proofs.ClockedNodes.{get_name}
-pub use Rattle.lb_check.proofs.DeclaredClocks.{IsOwn, declared_own}
-pub use Rattle.lb_check.proofs.DeterminedClocks.{OfCalled, count_of}
-pub use Rattle.lb_check.proofs.DistinctNames.{distinct_at, held_at}
-pub use Rattle.lb_check.proofs.ElementKinds.{kinds_at_numbers, length_kinds}
-pub use Rattle.lb_check.proofs.ElementValues.{element_values, pieces_count, values_at_numbers}
-pub use Rattle.lb_check.proofs.Every.{Every-all, Every-append, Every-both, Every-first, Every-map}
-pub use Rattle.lb_check.proofs.Every.{Every-second, Every-tested}
-pub use Rattle.lb_check.proofs.FittedCalls.{specialized_instance, values_at}
-pub use Rattle.lb_check.proofs.FittedTypes.{unfound}
-pub use Rattle.lb_check.proofs.GivenParameters.{called_runs, found_in}
-pub use Rattle.lb_check.proofs.InstanceNames.{callee_node, find_in, variables_distinct}
-pub use Rattle.lb_check.proofs.InstancePaths.{at_path, called, in_instances, instances_apart}
-pub use Rattle.lb_check.proofs.InstancePaths.{path_is, same_instance, same_path}
-pub use Rattle.lb_check.proofs.ListPairs.{get_mapped}
-pub use Rattle.lb_check.proofs.LongStreams.{length-both}
-pub use Rattle.lb_check.proofs.NamedClocks.{IsOver, declared_over}
-pub use Rattle.lb_check.proofs.Numbers.{found_at, found_some, length_elements}
-pub use Rattle.lb_check.proofs.OccurrenceClocks.{IsVariable, occurrence_fits, own_variables}
-pub use Rattle.lb_check.proofs.OccurrenceSites.{call_of_site, node_calls, numbered_append, own_site}
-pub use Rattle.lb_check.proofs.OperandTypes.{bound, first_of_all, truly}
-pub use Rattle.lb_check.proofs.SameInstances.{IsEntered, all_called, all_children, all_entered}
-pub use Rattle.lb_check.proofs.SameSolutions.{solves_same}
-pub use Rattle.lb_check.proofs.ServedNumbers.{zip_first}
-pub use Rattle.lb_check.proofs.ServedValues.{IsCallOf, IsRightOf, serving_same}
-pub use Rattle.lb_check.proofs.SiteOccurrences.{site_occurs}
-pub use Rattle.lb_check.proofs.TypeRows.{row_in}
-pub use Rattle.lb_check.proofs.TypedCalls.{call_typed, found_name, left_types, named_there}
-pub use Rattle.lb_check.proofs.TypedCalls.{ungrouped_types}
-pub use Rattle.lb_check.proofs.TypedOccurrences.{HasTypes, occurrences_typed}
+pub use Rattle.lb_check.proofs.programs.AcceptedNumbers.{number_of, numbers_below, numbers_width}
+pub use Rattle.lb_check.proofs.programs.AcceptedRules.{all_typed, clocked, statements_typed}
+pub use Rattle.lb_check.proofs.lists.ApartLists.{Every-at, Every-from, in_either, in_first}
+pub use Rattle.lb_check.proofs.lists.ApartLists.{in_second}
+pub use Rattle.lb_check.proofs.lists.ApartLists.{of_pieces, to_pieces}
+pub use Rattle.lb_check.proofs.definitions.CallNumbers.{call_of, own_right}
+pub use Rattle.lb_check.proofs.programs.CalledInstances.{IsInstanceOf, instance_there}
+pub use Rattle.lb_check.proofs.definitions.Checks.{instantiation_kept, kept, names_kept}
+pub use Rattle.lb_check.proofs.definitions.Checks.{second_none}
+pub use Rattle.lb_check.proofs.clocking.ClockTests.{clock_same, declared_within}
+pub use Rattle.lb_check.proofs.clocking.ClockedNodes.{get_name}
+pub use Rattle.lb_check.proofs.clocking.DeclaredClocks.{IsOwn, declared_own}
+pub use Rattle.lb_check.proofs.clocking.DeterminedClocks.{OfCalled, count_of}
+pub use Rattle.lb_check.proofs.lists.DistinctNames.{distinct_at, held_at}
+pub use Rattle.lb_check.proofs.programs.ElementKinds.{kinds_at_numbers, length_kinds}
+pub use Rattle.lb_check.proofs.programs.ElementValues.{element_values, pieces_count}
+pub use Rattle.lb_check.proofs.programs.ElementValues.{values_at_numbers}
+pub use Rattle.lb_check.proofs.lists.Every.{Every-all, Every-append, Every-both, Every-first}
+pub use Rattle.lb_check.proofs.lists.Every.{Every-map}
+pub use Rattle.lb_check.proofs.lists.Every.{Every-second, Every-tested}
+pub use Rattle.lb_check.proofs.typing.FittedCalls.{specialized_instance, values_at}
+pub use Rattle.lb_check.proofs.typing.FittedTypes.{unfound}
+pub use Rattle.lb_check.proofs.clocking.GivenParameters.{called_runs, found_in}
+pub use Rattle.lb_check.proofs.programs.InstanceNames.{callee_node, find_in, variables_distinct}
+pub use Rattle.lb_check.proofs.programs.InstancePaths.{at_path, called, in_instances}
+pub use Rattle.lb_check.proofs.programs.InstancePaths.{instances_apart}
+pub use Rattle.lb_check.proofs.programs.InstancePaths.{path_is, same_instance, same_path}
+pub use Rattle.lb_check.proofs.lists.ListPairs.{get_mapped}
+pub use Rattle.lb_check.proofs.programs.LongStreams.{length-both}
+pub use Rattle.lb_check.proofs.clocking.NamedClocks.{IsOver, declared_over}
+pub use Rattle.lb_check.proofs.programs.Numbers.{found_at, found_some, length_elements}
+pub use Rattle.lb_check.proofs.clocking.OccurrenceClocks.{IsVariable, occurrence_fits}
+pub use Rattle.lb_check.proofs.clocking.OccurrenceClocks.{own_variables}
+pub use Rattle.lb_check.proofs.programs.OccurrenceSites.{call_of_site, node_calls, numbered_append}
+pub use Rattle.lb_check.proofs.programs.OccurrenceSites.{own_site}
+pub use Rattle.lb_check.proofs.typing.OperandTypes.{bound, first_of_all, truly}
+pub use Rattle.lb_check.proofs.programs.SameInstances.{IsEntered, all_called, all_children}
+pub use Rattle.lb_check.proofs.programs.SameInstances.{all_entered}
+pub use Rattle.lb_check.proofs.programs.SameSolutions.{solves_same}
+pub use Rattle.lb_check.proofs.programs.ServedNumbers.{zip_first}
+pub use Rattle.lb_check.proofs.programs.ServedValues.{IsCallOf, IsRightOf, serving_same}
+pub use Rattle.lb_check.proofs.programs.SiteOccurrences.{site_occurs}
+pub use Rattle.lb_check.proofs.typing.TypeRows.{row_in}
+pub use Rattle.lb_check.proofs.typing.TypedCalls.{call_typed, found_name, left_types, named_there}
+pub use Rattle.lb_check.proofs.typing.TypedCalls.{ungrouped_types}
+pub use Rattle.lb_check.proofs.programs.TypedOccurrences.{HasTypes, occurrences_typed}
 pub use Rattle.lb_check.specs.Acceptance.{check_refusal}
 pub use Rattle.lb_check.specs.ClockRules.{are_declared_clocks, are_on_results, is_clock}
 pub use Rattle.lb_check.specs.ClockRules.{is_occurrence_clocked, is_statement_clocked, left_clocks}
@@ -219,7 +227,7 @@ pub use Rattle.lb_static.specs.Signature.{Elements, kinds_of}
 pub use Rattle.lb_static.specs.Specialized.{times_sizes}
 pub use Rattle.lb_static.specs.StaticValues.{named}
 pub use Rattle.lb_static.specs.TermForms.{IsPair, IsRow, IsSingle}
-pub use Rattle.lb_static.specs.declared.reach.Reached.{Reached}
+pub use Rattle.lb_static.specs.declared.reachable.Reached.{Reached}
 pub use Rattle.lb_static.specs.declared.resolved.CallId.{CallId}
 pub use Rattle.lb_static.specs.declared.resolved.ResolvedNode.{ResolvedNode}
 pub use Rattle.lb_static.specs.declared.resolved.ResolvedStatement.{ResolvedStatement}

@@ -2,7 +2,7 @@
 -- This file mirrors code (src/expansion/frame.rt); no definition of the language stands on it.
 use Rattle.std.specs.Prelude.{ℕ, ℤ, Bool, List, slice_get, option_map}
 use Rattle.lb_syntax.specs.Lists.{either_or}
-use Rattle.lb_static.specs.declared.reach.Reached.{Reached}
+use Rattle.lb_static.specs.declared.reachable.Reached.{Reached}
 use Rattle.lb_static.specs.declared.resolved.ResolvedNode.{ResolvedNode}
 use Rattle.lb_static.specs.declared.table.Specialization.{Specialization}
 use Rattle.lb_static.specs.declared.table.Table.{Table}

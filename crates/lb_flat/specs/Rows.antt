@@ -9,7 +9,7 @@ use Rattle.std.specs.HashMap.{HashMap, get}
 use Rattle.std.specs.List.{range_with_len}
 use Rattle.lb_syntax.specs.Lists.{either_or, listed}
 use Rattle.lb_static.specs.DataTypes.{element_count}
-use Rattle.lb_static.specs.declared.reach.Reached.{Reached}
+use Rattle.lb_static.specs.declared.reachable.Reached.{Reached}
 use Rattle.lb_static.specs.declared.resolved.Variable.{Variable as Declared}
 use Rattle.lb_static.specs.declared.resolved.VariableId.{VariableId}
 use Rattle.lb_static.specs.declared.table.Instance as row

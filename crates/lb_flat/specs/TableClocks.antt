@@ -6,7 +6,7 @@ use Rattle.std.specs.Prelude.{Some, None, option_map, List, [], ◌∷◌, ◌++
 use Rattle.std.specs.Prelude.{length, slice_get, find, ◌≤◌}
 use Rattle.std.specs.List.{range_with_len}
 use Rattle.lb_syntax.specs.Lists.{◌>>=◌, either_or, listed}
-use Rattle.lb_static.specs.declared.reach.Reached.{Reached}
+use Rattle.lb_static.specs.declared.reachable.Reached.{Reached}
 use Rattle.lb_static.specs.declared.resolved.ResolvedNode.{ResolvedNode}
 use Rattle.lb_static.specs.declared.resolved.VariableId.{VariableId}
 use Rattle.lb_static.specs.declared.table.Instance as row

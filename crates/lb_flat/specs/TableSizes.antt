@@ -6,7 +6,7 @@ use Rattle.lb_syntax.specs.Lists.{either_or, ◌>>=◌}
 use Rattle.lb_static.specs.Instances.{Program, Instance, Path}
 use Rattle.lb_static.specs.InstanceTable.{specialized_at}
 use Rattle.lb_static.specs.Parts.{node_parts}
-use Rattle.lb_static.specs.declared.reach.Reached.{Reached}
+use Rattle.lb_static.specs.declared.reachable.Reached.{Reached}
 use Rattle.lb_static.specs.declared.table.Instance as row
 use Rattle.lb_static.specs.declared.table.Specialization.{Specialization}
 use Rattle.lb_static.specs.declared.table.Table.{Table}

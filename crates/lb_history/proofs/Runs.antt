@@ -11,9 +11,9 @@ use Rattle.lb_check.specs.Needs.{Element}
 use Rattle.lb_check.specs.Scalars.{Stream}
 use Rattle.lb_check.specs.Solutions.{Inputs, Solves, AgreeAt, AreSame}
 use Rattle.lb_check.specs.Streams.{History}
-use Rattle.lb_check.proofs.AcceptedNumbers.{number_is}
-use Rattle.lb_check.proofs.ApartLists.{Every-at}
-use Rattle.lb_check.proofs.ElementValues.{value_of_element}
+use Rattle.lb_check.proofs.programs.AcceptedNumbers.{number_is}
+use Rattle.lb_check.proofs.lists.ApartLists.{Every-at}
+use Rattle.lb_check.proofs.programs.ElementValues.{value_of_element}
 use Rattle.lb_flat.specs.Flat.{FlatEquation, column, FlatSolves}
 use Rattle.lb_flat.specs.FlatPrograms.{IsFlatOf}
 use Rattle.lb_flat.specs.FlatSolutions.{IsFlatSolution}

@@ -34,19 +34,20 @@ use Rattle.lb_check.specs.Streams.{previous, gathered, iterated, number, part_co
 use Rattle.lb_check.specs.Types.{data_types, all_types, from_one, from_truths, unary_type}
 use Rattle.lb_check.specs.Types.{binary_type, common_type, array_of, index_type, slice_type}
 use Rattle.lb_check.specs.Types.{join_type, operator_types}
-use Rattle.lb_check.proofs.AcceptedRules.{clocked}
-use Rattle.lb_check.proofs.ApartLists.{Every-at, Every-from, in_first, in_second}
-use Rattle.lb_check.proofs.ClockTests.{clock_same}
-use Rattle.lb_check.proofs.DeterminedClocks.{OfCalled, Sited, sited_first, sited_second}
-use Rattle.lb_check.proofs.Every.{Every-first, Every-second, Every-append, Every-tested}
-use Rattle.lb_check.proofs.Every.{Every-of_pieces, Every-of_range}
-use Rattle.lb_check.proofs.InstanceNames.{find_in}
-use Rattle.lb_check.proofs.InstancePaths.{at_path}
-use Rattle.lb_check.proofs.NamedClocks.{IsOver, declared_over}
-use Rattle.lb_check.proofs.OccurrenceClocks.{IsVariable, own_variables, occurrence_fits}
-use Rattle.lb_check.proofs.OperandTypes.{bound, one, two, from_true, first_of_all, called, placed}
-use Rattle.lb_check.proofs.OperandTypes.{one_output}
-use Rattle.lb_check.proofs.TypedCalls.{found_name}
+use Rattle.lb_check.proofs.programs.AcceptedRules.{clocked}
+use Rattle.lb_check.proofs.lists.ApartLists.{Every-at, Every-from, in_first, in_second}
+use Rattle.lb_check.proofs.clocking.ClockTests.{clock_same}
+use Rattle.lb_check.proofs.clocking.DeterminedClocks.{OfCalled, Sited, sited_first, sited_second}
+use Rattle.lb_check.proofs.lists.Every.{Every-first, Every-second, Every-append, Every-tested}
+use Rattle.lb_check.proofs.lists.Every.{Every-of_pieces, Every-of_range}
+use Rattle.lb_check.proofs.programs.InstanceNames.{find_in}
+use Rattle.lb_check.proofs.programs.InstancePaths.{at_path}
+use Rattle.lb_check.proofs.clocking.NamedClocks.{IsOver, declared_over}
+use Rattle.lb_check.proofs.clocking.OccurrenceClocks.{IsVariable, own_variables, occurrence_fits}
+use Rattle.lb_check.proofs.typing.OperandTypes.{bound, one, two, from_true, first_of_all, called}
+use Rattle.lb_check.proofs.typing.OperandTypes.{placed}
+use Rattle.lb_check.proofs.typing.OperandTypes.{one_output}
+use Rattle.lb_check.proofs.typing.TypedCalls.{found_name}
 use Rattle.lb_flat.specs.Flat.{instants}
 use Rattle.lb_flat.specs.Layouts.{flat_clock}
 use Rattle.lb_flat.specs.NumberedLayouts.{layout}

@@ -14,14 +14,14 @@ use Rattle.lb_check.specs.Scalars.{Scalar, Nil, Stream}
 use Rattle.lb_check.specs.Solutions.{Inputs, Solves}
 use Rattle.lb_check.specs.Streams.{History, presence, streams}
 use Rattle.lb_check.specs.Types.{data_types, common_type}
-use Rattle.lb_check.proofs.AcceptedRules.{clocked, typed, all_declared}
-use Rattle.lb_check.proofs.ApartLists.{Every-at, Every-from}
-use Rattle.lb_check.proofs.CalledProperties.{calls_have}
-use Rattle.lb_check.proofs.DeterminedClocks.{OfCalled, Sited, sited_first, sited_second}
-use Rattle.lb_check.proofs.OccurrenceClocks.{IsVariable, own_variables}
-use Rattle.lb_check.proofs.OperandOccurrences.{OperandsHave, OperandHas, operands_have}
-use Rattle.lb_check.proofs.OperandTypes.{one, two}
-use Rattle.lb_check.proofs.StandingParts.{Stands, node_stands}
+use Rattle.lb_check.proofs.programs.AcceptedRules.{clocked, typed, all_declared}
+use Rattle.lb_check.proofs.lists.ApartLists.{Every-at, Every-from}
+use Rattle.lb_check.proofs.programs.CalledProperties.{calls_have}
+use Rattle.lb_check.proofs.clocking.DeterminedClocks.{OfCalled, Sited, sited_first, sited_second}
+use Rattle.lb_check.proofs.clocking.OccurrenceClocks.{IsVariable, own_variables}
+use Rattle.lb_check.proofs.programs.OperandOccurrences.{OperandsHave, OperandHas, operands_have}
+use Rattle.lb_check.proofs.typing.OperandTypes.{one, two}
+use Rattle.lb_check.proofs.programs.StandingParts.{Stands, node_stands}
 use Rattle.lb_flat.specs.Flat.{FlatClock, Operation, FirstThen, Previous, Latest, FlatEquation}
 use Rattle.lb_flat.specs.Flat.{column}
 use Rattle.lb_flat.specs.FlatPrograms.{IsFlatOf}

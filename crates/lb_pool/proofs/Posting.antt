@@ -47,7 +47,7 @@ module _ (n : ℕ) (right : List Verdict) (s : State ℕ FollowView) (k : IsLawf
         known = λ x h. All-contains (IsHeld s.words) v.known (t, x) (k.each id v here).known h;
       }
 
--- two traces are the same where the numbers of their words are
+-- two numbers are equal if their successors are: word `a + 1` is that of trace `a`
 one_less : (a b : ℕ) → a + 1 ≡ b + 1 → a ≡ b
 one_less a b e = omega (arith, e)
 

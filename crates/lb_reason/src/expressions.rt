@@ -66,7 +66,7 @@ fn static_end(text: &[u8], written: &Static, brackets: usize) -> Ending {
                 return Ending { at, brackets };
             }
             Static::Named(name) => {
-                let at = word_end(text, name.offset() as usize);
+                let at = word_end(text, name.offset as usize);
                 return Ending { at, brackets };
             }
             Static::Negated(e, _) | Static::Combined(_, _, e, _) => inner = e,
@@ -109,7 +109,7 @@ fn last_form<'e>(
             (Err(Ending { at, brackets }), brackets)
         }
         Expr::Variable(name) | Expr::When(_, name, _, _) => {
-            let at = word_end(text, name.offset() as usize);
+            let at = word_end(text, name.offset as usize);
             (Err(Ending { at, brackets }), brackets)
         }
         Expr::Unary(_, e, _) | Expr::Pre(e, _) | Expr::Current(e, _) => (Ok(&**e), brackets),
@@ -121,7 +121,7 @@ fn last_form<'e>(
         Expr::Array(list, at) | Expr::AtMostOne(list, at) | Expr::Nor(list, at) => {
             (last_of(text, list, *at, more), more)
         }
-        Expr::Call(name, _, list) => (last_of(text, list, name.offset(), more), more),
+        Expr::Call(name, _, list) => (last_of(text, list, name.offset, more), more),
         Expr::Iterate(_, _, _, list, at) => (last_of(text, list, *at, more), more),
     }
 }

@@ -163,7 +163,7 @@ fn name_in(groups: &[Declarations], place: usize) -> Result<u32, usize> {
     for group in groups {
         for name in &group.names {
             if before == place {
-                return Ok(name.offset());
+                return Ok(name.offset);
             }
             before = before.saturating_add(1);
         }

@@ -11,7 +11,7 @@ use Rattle.lb_syntax.proofs.SameNames.{name_same, same_name, same_number}
 use Rattle.lb_syntax.proofs.TruthValues.{and_first, and_second, contrary}
 use Rattle.lb_static.specs.Instances.{Program, Path, is_path}
 use Rattle.lb_check.specs.Needs.{Element, Definition, definitions, Needs, Reaches, at_once, through}
-use Rattle.lb_check.proofs.InstancePaths.{is_path-same, same_path}
+use Rattle.lb_check.proofs.programs.InstancePaths.{is_path-same, same_path}
 use Rattle.lb_report.specs.Causality.{is_element, is_left, waiting, left_after, is_none, is_causal}
 use Rattle.lb_report.specs.Causality.{IsDecidedBy}
 

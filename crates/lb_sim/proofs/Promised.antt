@@ -14,7 +14,7 @@ use Rattle.lb_check.specs.Solutions.{Inputs, HasOneHistory}
 use Rattle.lb_check.specs.Streams.{History}
 use Rattle.lb_check.specs.Verdicts.{HasVerdict}
 use Rattle.lb_check.specs.declared.verdict.Verdict.{Verdict}
-use Rattle.lb_check.proofs.OnlyVerdict.{only_verdict}
+use Rattle.lb_check.proofs.programs.OnlyVerdict.{only_verdict}
 use Rattle.lb_flat.specs.Fitting.{IsFitting}
 use Rattle.lb_flat.specs.Flat.{Previous, Latest}
 use Rattle.lb_flat.specs.FlatPrograms.{IsFlatOf}

@@ -9,7 +9,7 @@ use Rattle.std.proofs.Math.Bool.{or-false}
 use Rattle.lb_syntax.specs.Lists.{zip2}
 use Rattle.lb_check.specs.Scalars.{Cell, Stream}
 use Rattle.lb_check.specs.Solutions.{Inputs}
-use Rattle.lb_check.proofs.LongStreams.{length-both as length-zips}
+use Rattle.lb_check.proofs.programs.LongStreams.{length-both as length-zips}
 use Rattle.lb_flat.specs.Flat.{Operation, Input, Constant, Copy, ApplyUnary, ApplyBinary}
 use Rattle.lb_flat.specs.Flat.{Choose, FirstThen, Previous, Latest, Sample, FlatEquation, column}
 use Rattle.lb_flat.specs.MemoryPlaces.{after_rows, cells_in, remembers}

@@ -25,8 +25,8 @@ use Rattle.lb_static.specs.Specialized.{size_of}
 use Rattle.lb_static.specs.StaticValues.{natural}
 use Rattle.lb_static.specs.Instantiated.{IsInstantiable, values_at, times_of}
 use Rattle.lb_static.specs.declared.constants.Constants.{Constants}
-use Rattle.lb_static.specs.declared.reach.NodeId.{NodeId}
-use Rattle.lb_static.specs.declared.reach.Reached.{Reached}
+use Rattle.lb_static.specs.declared.reachable.NodeId.{NodeId}
+use Rattle.lb_static.specs.declared.reachable.Reached.{Reached}
 use Rattle.lb_static.specs.declared.resolved.CallSite.{CallSite}
 use Rattle.lb_static.specs.declared.resolved.ResolvedNode.{ResolvedNode}
 use Rattle.lb_static.specs.declared.resolved.StaticId.{StaticId}
@@ -41,7 +41,7 @@ no_match x (j ∷ js) zero k e h =
     let same : j ≡ k = cc in subst (λ l. bytes_eq x l.name ≡ false) same (or_first _ _ h)
 no_match x (j ∷ js) (suc i) k e h = no_match x js i k e (or_second (bytes_eq x j.name) _ h)
 
--- of nodes with distinct names each is found by its name
+-- a node of a list with distinct names is found by its name
 found_by_name : (ks : List Node) (i : ℕ) (k : Node) → are_distinct (map (λ n. n.name) ks) ≡ true
     → slice_get ks i ≡ Some k
     → find (λ n. bytes_eq n.name k.name) ks ≡ Some k
@@ -88,7 +88,7 @@ module _ (P : Program) (r : Reached) (c : Constants) (w : IsInstantiable P r c) 
   abbrev sites : CallSite → Site
   sites s = site_of (source_names P) (statics_of n) s
 
-  -- the instance of a call at an index
+  -- the instance of call `call` at an index
   abbrev pub called_at : ℕ → ResolvedNode → List ℤ → ℕ → Instance
   called_at call m arguments index = instance_of (Child p call index) (node_of m) arguments
 
@@ -145,7 +145,7 @@ module _ (P : Program) (r : Reached) (c : Constants) (w : IsInstantiable P r c) 
       (and_first (are_distinct (global_names P)) _ w.names) in
       ap (node_named P) name ∙ found_by_name P.source.nodes s.callee.0 (node_of m) distinct source
 
-  -- what the definitions say that a call calls at an index
+  -- `callee_of` of the definitions for a call at an index: the instance of its callee there
   pub callee_read : (call : ℕ) (s : CallSite) (id : NodeId) (m : ResolvedNode)
       → id_at r s.callee ≡ Some id → slice_get r.nodes.items id.0 ≡ Some m → (index : ℕ)
       → callee_of P here (sites s) call index
@@ -168,7 +168,7 @@ module _ (P : Program) (r : Reached) (c : Constants) (w : IsInstantiable P r c) 
       (range_with_len 0 (times_of statics s.count))
       (callee_read call s id m at is)
 
-  -- the site of a call of the node, where its calls stand in a list that is read at a place
+  -- the site of call `call` of the node, and its instances, where the call is read from a list
   pub call_read : (items : List CallSite) (call : ℕ) (d : CallSite) (id : NodeId) (m : ResolvedNode)
       (arguments : List ℤ) (times : ℕ)
       → IsResolved (source_names P) n → items ≡ n.calls.items → call < length items

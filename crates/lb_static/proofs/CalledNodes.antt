@@ -1,4 +1,4 @@
--- The walk over the nodes that are reached by name: one more node, and a fault of one.
+-- The walk over the nodes that are reached by name: one more node, and a fault of a node.
 use Rattle.std.proofs.Common.{◌≡◌, ℕ, zero, suc, ◌+◌, ◌<◌, ◌≤◌, Bool, true, false, cond, List, []}
 use Rattle.std.proofs.Common.{◌∷◌, ◌++◌, length, map, drop, get_or, Option, Some, option_map, refl}
 use Rattle.std.proofs.Common.{ap, sym, subst, ◌∙◌, arith, length-append}
@@ -39,7 +39,7 @@ use Rattle.lb_static.proofs.Growth.{all_on}
 
 -- ## Look-ups
 
--- the node that is found at a place
+-- the node at a place, whose name is `x`, is the node that is found by `x`
 pub found_here : (x : Name) (ns : List written.Node) (i : ℕ) (d : written.Node) (o : Option Node)
     → i < length ns → o ≡ named (λ n. n.name) x (map view_node (drop i ns))
     → bytes_eq (get_or ns i d).name x ≡ true → slice_get (map view_node ns) i ≡ o
@@ -51,7 +51,7 @@ found_here x ns i d o below e same =
 
 -- ## Calls
 
--- one more call is visited
+-- a visit of call `i`, and then of those behind it, is the visit of all calls from `i` on
 pub visit_next : (order : List ℕ) (sites : List CallSite) (i : ℕ) (d : CallSite) → i < length sites
     → visited_after_all (visited_after order (get_or sites i d).callee.0)
     (callees (drop (i + 1) sites)) ≡ visited_after_all order (callees (drop i sites))
@@ -65,13 +65,13 @@ pub sites_within : (nodes : ℕ) (n : Counts) (sites : List CallSite)
 sites_within nodes n sites e =
     all_on _ _ sites (λ s h. and_first (nat_lt s.callee.0 nodes) _ h) e
 
--- the name at the place of a node
+-- the name at the place of a node is the name of the node
 name_there : (ns : List Node) (p : ℕ) (a : Node) → slice_get ns p ≡ Some a
     → either_or (slice_get (map (λ n. n.name) ns) p) [] ≡ a.name
 name_there ns p a e = ap (λ o. either_or o [])
     (slice_get-map (λ n. n.name) ns p ∙ ap (option_map (λ n. n.name)) e)
 
--- the node at the place of a call is called
+-- a node calls the node at the place of its call
 called_there : (s : Source) (r : ResolvedNode) → IsResolved (map (λ n. n.name) s.nodes) r
     → (j : ℕ) (c : CallSite) (a : Node) → slice_get r.calls.items j ≡ Some c
     → slice_get s.nodes c.callee.0 ≡ Some a → calls (node_of r) a ≡ true
@@ -146,7 +146,7 @@ module _ (s : Source) (before order : List ℕ) (nodes : List ResolvedNode) (r :
           ∙ ap (option_map node_of) (get_last nodes r) ∙ sym at
           ∙ ap (slice_get s.nodes) (sym here)
 
-  -- what stands at the place is had
+  -- the node at the place of the next turn is reachable
   pub is_reachable_there : (start : Node → Bool) → AreReachable s.nodes start calls before
       → is_reachable s.nodes start calls (length order) (node_of r) ≡ true
   is_reachable_there start e =
@@ -199,7 +199,7 @@ pub refuted : (a b : Bool) → (b ≡ true → a ≡ true) → a ≡ false → b
 refuted a true f e = let t = f refl in absurd cc
 refuted a false f e = refl
 
--- what all of a filtered list passes, an item passes that is kept
+-- an item that the filter keeps passes `f`, if each item of the filtered list does
 pub kept_passes : {A : Type 0} (f p : A → Bool) (xs : List A) (i : ℕ) (x : A)
     → slice_get xs i ≡ Some x → p x ≡ true → list_all f (filter p xs) ≡ true → f x ≡ true
 kept_passes f p [] i x at is all = absurd cc
@@ -218,7 +218,8 @@ kept_passes f p (y ∷ ys) (suc i) x at is all = kept_passes f p ys i x at is (b
     by true all = and_second (f y) _ all
     by false all = all
 
--- what is had in so many steps is one of those that are had in more
+-- an item that is reachable in `k` steps passes `f`, if all that are reached within `m ≥ k` steps
+-- do
 pub reachable_passes : {A : Type 0} (items : List A) (start : A → Bool) (step : A → A → Bool)
     (f : A → Bool) (k m p : ℕ) (a : A) → slice_get items p ≡ Some a
     → k ≤ m → is_reachable items start step k a ≡ true

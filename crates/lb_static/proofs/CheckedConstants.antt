@@ -1,4 +1,5 @@
--- The walk over the constants that are reached by name: one more constant, and a fault of one.
+-- The walk over the constants that are reached by name: one more constant, and a fault of a
+-- constant.
 use Rattle.std.proofs.Common.{◌≡◌, ℕ, zero, suc, ◌<◌, ◌≤◌, Bool, true, false, List, [], ◌∷◌, length}
 use Rattle.std.proofs.Common.{map, Option, Some, None, is_some, option_map, refl, ap, sym, subst}
 use Rattle.std.proofs.Common.{◌∙◌, arith}
@@ -38,11 +39,11 @@ use Rattle.lb_static.proofs.WorkLists.{any_at, at_visited, grows_all, grows_both
 use Rattle.lb_static.proofs.WorkLists.{visited_at}
 use Rattle.lb_static.proofs.Growth.{all_on}
 
--- the value of the first constant names the second
+-- the value of the first constant has the name of the second
 abbrev pub names_constant : Constant → Constant → Bool
 names_constant d c = among c.name (static_names d.value)
 
--- each of the first constants that came up is judged, and what it names came up too
+-- the first `done` constants that came up are judged, and the constants that they name came up too
 pub record AreJudged (s : Source) (g : Globals) (before after : List ℕ) (done : ℕ) : Type 0 where
   pub few : done ≤ length after
   pub grows : Grows before after
@@ -58,7 +59,7 @@ pub record AreJudged (s : Source) (g : Globals) (before after : List ℕ) (done 
 module _ (s : Source) (g : Globals) (names : g.names ≡ names_in_source s)
     (count : g.constants ≡ length s.constants) (once : are_distinct (names_in_source s) ≡ true)
   where
-    -- the constant of a name stands at its place
+    -- the constant at the place of a name has that name
     pub name_of_place : (x : Name) (p : ℕ) (c : Constant)
         → constant_place g.names g.constants x ≡ Some p → slice_get s.constants p ≡ Some c
         → c.name ≡ x
@@ -84,7 +85,7 @@ module _ (s : Source) (g : Globals) (names : g.names ≡ names_in_source s)
         ∙ get_before (constants_in s) (map (λ n. n.name) s.nodes) p below
         ∙ slice_get-map (λ k. k.name) s.constants p ∙ ap (option_map (λ k. k.name)) at)
 
-    -- a name is that of a constant where its place is found
+    -- a name that has the place of a constant is the name of a constant
     known_is : (x : Name) → is_some (constant_place g.names g.constants x) ≡ true
         → is_constant (alone s) x ≡ true
     known_is x e = by (constant_place g.names g.constants x) refl e
@@ -127,7 +128,7 @@ module _ (s : Source) (g : Globals) (names : g.names ≡ names_in_source s)
       had_there start p = holds (is_reachable s.constants start names_constant (suc (length order)))
           (slice_get s.constants p)
 
-      -- what the value names is had by one step more
+      -- the constants that the value names are reachable in one step more
       named_reachable : (start : Constant → Bool)
           → AreReachable s.constants start names_constant before
           → list_all (λ p. holds (is_reachable s.constants start names_constant
@@ -202,7 +203,7 @@ module _ (s : Source) (g : Globals) (names : g.names ≡ names_in_source s)
             (omega arith) (h.reachable start e) (named_reachable start e);
       }
 
-    -- ## All of them
+    -- ## All constants
 
     abbrev begins : List Name → Constant → Bool
     begins xs c = among c.name xs
@@ -268,7 +269,8 @@ module _ (s : Source) (g : Globals) (names : g.names ≡ names_in_source s)
             and_first (is_visited after p) true
             (ap (λ o. list_all (is_visited after) (listed (λ i. i ∷ []) o)) (sym here) ∙ linked)
 
-    -- a name that is told and is that of no constant fails the test of what names it
+    -- a name that an error holds, and that is not the name of a constant, fails the test of the
+    -- names
     unknown_fails : (e : StaticError) (xs : List Name) (x : Name) → IsUnknown g xs x
         → is_told e Statics x ≡ true
         → list_all (counted (is_told e Statics) (is_constant (alone s))) xs ≡ false
@@ -283,7 +285,7 @@ module _ (s : Source) (g : Globals) (names : g.names ≡ names_in_source s)
         (all_at test xs f.place f.item all f.at))
         (counted_fails (is_told e Statics) (is_constant (alone s)) x told no)
 
-    -- a constant that names what is no constant
+    -- a name in the value of a constant, which is not the name of a constant, is a fault
     pub fault_judged : (e : StaticError) (before order : List ℕ) (done place : ℕ) (c : Constant)
         (xs : List Name) (x : Name) → AreJudged s g before order done
         → slice_get order done ≡ Some place

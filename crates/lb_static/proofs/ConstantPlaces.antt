@@ -135,7 +135,7 @@ parameters_end x names all ys i past inv =
     sym (or-false (among x names))
     ∙ ap (λ l. among x names || among x l) (sym (drop_of_length-le ys past)) ∙ inv
 
--- what is hidden decides alone
+-- `places_named` depends only on which names are hidden
 pub hidden_alike : (g : Globals) (xs ys : List Name) → ((x : Name) → among x xs ≡ among x ys)
     → (names : List Name) → places_named g xs names ≡ places_named g ys names
 hidden_alike g xs ys same [] = refl

@@ -1,4 +1,4 @@
--- The values of constants: what more steps keep, and when a table of values is complete.
+-- The values of constants: values stay where more steps are allowed, and when a table is complete.
 use Rattle.std.proofs.Common.{◌≡◌, ◌≢◌, ℕ, zero, suc, ◌+◌, ◌-◌, ◌<◌, ◌≤◌, ℤ, Bool, true, false}
 use Rattle.std.proofs.Common.{cond, List, [], ◌∷◌, ◌++◌, length, map, drop, set, get_or}
 use Rattle.std.proofs.Common.{Option, Some, None, is_some, option_map, refl, ap, sym, ◌∙◌, arith}
@@ -29,7 +29,7 @@ use Rattle.lb_static.specs.Tasks.{waiting}
 use Rattle.lb_static.proofs.Lists.{map_next}
 use Rattle.lb_static.proofs.Scopes.{bytes_eq-symmetric}
 
--- ## What has a value keeps it where more names have one
+-- ## A value stays where more names have one
 
 abbrev pub Keeps : (Name → Option ℤ) → (Name → Option ℤ) → Type 0
 Keeps f g = (x : Name) (v : ℤ) → f x ≡ Some v → g x ≡ Some v
@@ -39,7 +39,7 @@ then_more : {A : Type 0} (o p : Option A) (k : A → Option ℤ) (v : ℤ)
 then_more None p k v more e = absurd cc
 then_more (Some a) p k v more e = ap (λ q. q >>= k) (more a refl) ∙ e
 
--- two operands
+-- the result of two operands stays where more operands have a value
 both_more : (o p o' p' : Option ℤ) (k : ℤ → ℤ → Option ℤ) (v : ℤ)
     → ((a : ℤ) → o ≡ Some a → p ≡ Some a) → ((a : ℤ) → o' ≡ Some a → p' ≡ Some a)
     → (o >>= λ a. o' >>= λ b. k a b) ≡ Some v → (p >>= λ a. p' >>= λ b. k a b) ≡ Some v
@@ -64,7 +64,7 @@ defined_more : (f g : Name → Option ℤ) → Keeps f g → (o : Option Constan
 defined_more f g keeps None v e = e
 defined_more f g keeps (Some c) v e = under_more f g keeps c.value v e
 
--- one step more
+-- a constant with a value within `n` steps has it within `n + 1` steps
 once_more : (cs : List Constant) (n : ℕ) → Keeps (constant_value cs n) (constant_value cs (suc n))
 once_more cs zero x v e = absurd cc
 once_more cs (suc n) x v e = defined_more (constant_value cs n) (constant_value cs (suc n))
@@ -85,7 +85,7 @@ steps_keep cs n m le x v e =
     let same : m - n + n ≡ m = omega arith in
     ap (λ k. constant_value cs k x) (sym same) ∙ more_steps cs n (m - n) x v e
 
--- ## What a name stands for
+-- ## The constant of a name
 
 place_is : (x : Name) (cs : List Constant)
     → position_or_len (bytes_eq x) (names_of cs) ≡ position_or_len (λ c. bytes_eq c.name x) cs
@@ -95,7 +95,7 @@ place_is x (c ∷ cs) =
     (bytes_eq-symmetric x c.name)
     ∙ ap (λ n. cond (not (bytes_eq c.name x)) (1 + n) 0) (place_is x cs)
 
--- the first constant of a name is the one at its place
+-- the first constant of a name is the one at the place of the name
 pub named_at : (x : Name) (cs : List Constant)
     → named (λ c. c.name) x cs ≡ (position (bytes_eq x) (names_of cs) >>= slice_get cs)
 named_at x cs =
@@ -111,7 +111,7 @@ named_at x cs =
         let past : length cs ≤ n = grind (arith, nat_tests) in
         slice_get_past cs n past
 
--- what a constant is worth that stands at the place of a name
+-- the value of a name in `n + 1` steps is the value of its constant with names of `n` steps
 pub value_at : (cs : List Constant) (n : ℕ) (x : Name) (i : ℕ) (c : Constant)
     → position (bytes_eq x) (names_of cs) ≡ Some i → slice_get cs i ≡ Some c
     → constant_value cs (suc n) x ≡ value_under (constant_value cs n) c.value
@@ -147,7 +147,7 @@ known-set vs i v e =
     sum_by-set tally vs i (Some v) None below in
     omega arith
 
--- a value that is had under those that are held is one
+-- a table stays sound with the value that a constant has under the values that are held
 pub sound_more : (cs : List Constant) (vs : List (Option ℤ)) (i : ℕ) (c : Constant) (v : ℤ)
     → IsSound cs vs
     → slice_get cs i ≡ Some c → slice_get vs i ≡ Some None
@@ -189,7 +189,7 @@ sound_more cs vs i c v sound is none has = record {
     by x w None at held = absurd cc
     by x w (Some j) at held = decided x w j (nat_eq j i) refl at held
 
--- ## When all values are held
+-- ## A table with all values
 
 complete_more : (cs : List Constant) (vs : List (Option ℤ)) (n : ℕ) → IsSound cs vs
     → AreStable cs vs
@@ -239,7 +239,7 @@ complete cs vs sound stable zero x v e = absurd cc
 complete cs vs sound stable (suc n) x v e =
     complete_more cs vs n sound stable (complete cs vs sound stable n) x v e
 
--- what is held is the value of each constant
+-- a sound and stable table holds the value of each constant
 pub all_held : (cs : List Constant) (vs : List (Option ℤ)) (n : ℕ) → length cs ≤ n → IsSound cs vs
     → AreStable cs vs
     → (x : Name) → value_held (names_of cs) vs x ≡ constant_value cs n x
@@ -259,7 +259,7 @@ not_some : {A : Type 0} (o : Option A) → is_some o ≡ false → o ≡ None
 not_some None e = refl
 not_some (Some x) e = absurd cc
 
--- the constant that stands at a place
+-- the constant at place `i` of the references
 pub constant_at : (ks : List (Bor written.Constant)) (i : ℕ) (d : Bor written.Constant)
     → i < length ks
     → slice_get (read_constants ks) i ≡ Some (view_constant (get_or ks i d).now)
@@ -267,20 +267,20 @@ constant_at ks i d below =
     slice_get-map (λ k. view_constant k.now) ks i
     ∙ ap (option_map (λ k. view_constant k.now)) (slice_get-get_or ks i d below)
 
--- the value at a place that has none
+-- a place without a value holds none
 pub none_at : (vs : List (Option ℤ)) (n i : ℕ) (d : Option ℤ) → length vs ≡ n → i < n
     → is_some (get_or vs i d) ≡ false → slice_get vs i ≡ Some None
 none_at vs n i d as_many below none =
     let within : i < length vs = omega arith in
     slice_get-get_or vs i d within ∙ ap Some (not_some (get_or vs i d) none)
 
--- what is had under the values of the names is had under those of the constants
+-- the value of a static expression is the same under two equal lists of names
 pub value_had : (names other : List Name) (vs : List (Option ℤ)) (s : Static) (o : Option ℤ)
     → names ≡ other
     → o ≡ value_under (value_held names vs) s → value_under (value_held other vs) s ≡ o
 value_had names other vs s o same e = ap (λ ns. value_under (value_held ns vs) s) (sym same) ∙ sym e
 
--- a constant at a place is evaluated where it has no value
+-- a constant without a value under those that are held leaves the table stable at its place
 pub stable_at : (cs : List Constant) (vs : List (Option ℤ)) (i : ℕ) (c : Constant)
     → slice_get cs i ≡ Some c
     → value_under (value_held (names_of cs) vs) c.value ≡ None → IsStable cs vs i
@@ -314,7 +314,7 @@ pub names_length : (names : List Name) (ks : List (Bor written.Constant))
 names_length names ks e = ap length e ∙ length-map (read_constants ks) (λ c. c.name)
     ∙ length-map ks (λ k. view_constant k.now)
 
--- a visit takes one task away and puts no more than the seen constant had waiting
+-- a visit of an unseen constant leaves fewer tasks, with those that may still come up counted in
 pub fewer : (seen : List Bool) (ks : List (Bor written.Constant)) (i : ℕ) (d : Bor written.Constant)
     (e : Bool) (left before after : ℕ)
     → length seen ≡ length ks → i < length ks → get_or seen i e ≡ false → before ≡ left + 1
@@ -335,7 +335,7 @@ named_other x [] rest c e = ap (λ b. cond b (Some c) (named (λ k. k.name) x re
 named_other x (b ∷ before) rest c e =
     ap (cond (bytes_eq b.name x) (Some b)) (named_other x before rest c e)
 
--- a constant whose name stands before is that of no name
+-- a constant whose name stands before it changes no search for a name
 pub named_again : (x : Name) (before rest : List Constant) (c : Constant)
     → among c.name (names_of before) ≡ true
     → named (λ k. k.name) x (before ++ c ∷ rest) ≡ named (λ k. k.name) x (before ++ rest)
@@ -397,7 +397,7 @@ next_are fs ks i k below is =
     ap (λ l. fs ++ l) (map_next view_constant ks i k below)
     ∙ ap (λ d. fs ++ view_constant d ∷ map view_constant (drop (i + 1) ks)) (sym is)
 
--- a constant whose name is new
+-- a constant whose name is new is taken
 pub first_taken : (fs gs : List (Bor written.Constant)) (r : Bor written.Constant)
     (ks : List written.Constant) (i : ℕ) (names after : List Name)
     → i < length ks → r.now ≡ get_or ks i r.now → names ≡ names_of (read_constants fs)
@@ -432,7 +432,7 @@ first_taken fs gs r ks i names after below is same first declared fresh taken = 
         (map view_constant (drop (i + 1) ks))
         ∙ sym (next_are (read_constants fs) ks i r.now below is)
 
--- one whose name is not
+-- a constant whose name is not new is left
 pub first_left : (fs gs : List (Bor written.Constant)) (k : written.Constant)
     (ks : List written.Constant) (i : ℕ) (names after : List Name)
     → i < length ks → k ≡ get_or ks i k → names ≡ names_of (read_constants fs)

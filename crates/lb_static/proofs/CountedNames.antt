@@ -1,4 +1,4 @@
--- Where a program keeps the rule of names, it does where only some names count.
+-- A program that keeps the rule of names keeps it where only some names count.
 use Rattle.std.proofs.Common.{◌≡◌, Bool, true, false, List, [], ◌∷◌, refl, sym, ◌∙◌}
 use Rattle.std.specs.Prelude.{not, is_some}
 use Rattle.std.specs.List.{list_all}
@@ -75,6 +75,6 @@ module _ (counts : NameUse → Name → Bool) where
       (λ c. all_counted (counts Statics) (is_constant P) (static_names c.value))
       (and_second (list_all (is_named P) (reached_nodes P)) _ more))))
 
-  -- a name that counts and that breaks the rule of names: the program breaks it
+  -- a program in which a name that counts breaks the rule of names breaks the rule
   pub rule_broken : (P : Program) → keeps_names_where counts P ≡ false → keeps_names P ≡ false
   rule_broken P e = refuted (keeps_names_where counts P) (keeps_names P) (kept_true P) e

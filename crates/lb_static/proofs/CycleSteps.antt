@@ -16,7 +16,7 @@ use Rattle.lb_static.specs.declared.cycle.Visit.{Visit}
 use Rattle.lb_static.specs.declared.cycle.Progress.{Progress}
 use Rattle.lb_static.specs.declared.cycle.Progress.TheVariants.{Unseen, Open, Done}
 
--- ## One node goes on
+-- ## The progress of one node
 
 at_set : (ps : List Progress) (i : ℕ) (p : Progress) → i < length ps → IsAt (set ps i p) i p
 at_set ps i p below =
@@ -31,7 +31,7 @@ elsewhere (q ∷ ps) zero (suc j) p other = refl
 elsewhere (q ∷ ps) (suc i) zero p other = refl
 elsewhere (q ∷ ps) (suc i) (suc j) p other = elsewhere ps i j p (λ e. other (ap suc e))
 
--- what stands at a place after one node went on: that node, or another as before
+-- the progress at place `j` after that of `i` is set: the new one at `i`, the old one elsewhere
 after_set : (ps : List Progress) (i j : ℕ) (p q : Progress) → i < length ps → IsAt (set ps i p) j q
     → ((j ≡ i) × (q ≡ p)) ⊎ IsAt ps j q
 after_set ps i j p q below at = by (nat_eq j i) refl
@@ -46,7 +46,7 @@ after_set ps i j p q below at = by (nat_eq j i) refl
         let other : j ≢ i = grind (arith, nat_tests) in
         inr (sym (elsewhere ps i j p other) ∙ at)
 
--- a node that is not done goes on: those that are done stay so
+-- a node that is not done gets another progress: nodes that are done stay done
 done_stays : (ps : List Progress) (i : ℕ) (p q : Progress) → IsAt ps i q → q ≢ Done
     → Keeps ps (set ps i p)
 done_stays ps i p q at not_done j done = by (nat_eq j i) refl
@@ -60,7 +60,7 @@ done_stays ps i p q at not_done j done = by (nat_eq j i) refl
         let other : j ≢ i = grind (arith, nat_tests) in
         elsewhere ps i j p other ∙ done
 
--- a node becomes done: those that are done stay so
+-- a node becomes done: nodes that are done stay done
 done_more : (ps : List Progress) (i : ℕ) → i < length ps → Keeps ps (set ps i Done)
 done_more ps i below j done = by (nat_eq j i) refl
   where
@@ -100,7 +100,7 @@ path_kept g before after next (f ∷ fs) keeps h = (
       h.1,
 )
 
--- the next node on the path is done: the one before it is the end
+-- the node before one that is done is the end of the path
 visit_ends : (g : List (List ℕ)) (ps : List Progress) (i : ℕ) (f : Visit) → IsAt ps i Done
     → IsVisit g ps (Some i) f → IsVisit g ps None f
 visit_ends g ps i f done h = record {
@@ -121,7 +121,7 @@ path_ends : (g : List (List ℕ)) (ps : List Progress) (i : ℕ) (fs : List Visi
 path_ends g ps i [] done h = h
 path_ends g ps i (f ∷ fs) done h = (visit_ends g ps i f done h.0, h.1)
 
--- the nodes of a path, its end first, before others
+-- the nodes of a path, its end first, in forward order before the list `after`
 abbrev forward : List Visit → List ℕ → List ℕ
 forward [] after = after
 forward (f ∷ fs) after = forward fs (f.node ∷ after)
@@ -135,7 +135,7 @@ forward_is (f ∷ fs) after =
     ∙ append_assoc (map (λ h. h.node) (reverse fs)) (f.node ∷ []) after
     ∙ forward_is fs (f.node ∷ after)
 
--- each of some nodes calls the next one, and the last another node
+-- each node of a list calls the next one, and the last calls `c`
 abbrev LeadsOn : List (List ℕ) → List ℕ → ℕ → Type 0
 LeadsOn g [] c = ⊥
 LeadsOn g (i ∷ is) c = Leads g i is c
@@ -154,7 +154,7 @@ on_forward (f ∷ fs) after c (inl (inl is)) = on_forward fs (f.node ∷ after) 
 on_forward (f ∷ fs) after c (inl (inr on)) = on_forward fs (f.node ∷ after) c (inl on)
 on_forward (f ∷ fs) after c (inr on) = on_forward fs (f.node ∷ after) c (inr (inr on))
 
--- nodes that lead to one of them: from that one on they are a cycle
+-- a chain of calls that leads from `i` to a node on it is a cycle from that node on
 closed_from : (g : List (List ℕ)) (c i : ℕ) (is : List ℕ) → c < length g → Leads g i is c
     → In c (i ∷ is) → IsCycle g (from_first c (i ∷ is))
 closed_from g c i [] below leads on = by (nat_eq i c) refl on
@@ -185,7 +185,7 @@ closed_on : (g : List (List ℕ)) (c : ℕ) (is : List ℕ) → c < length g →
 closed_on g c [] below leads on = absurd on
 closed_on g c (i ∷ is) below leads on = closed_from g c i is below leads on
 
--- a call of the node at the end of the path leads onto the path: from there on it is a cycle
+-- the path is a cycle from the node `c` on, where the node at its end calls the open node `c`
 closes : (g : List (List ℕ)) (ps : List Progress) (f : Visit) (fs : List Visit) (c : ℕ)
     → IsSearch g ps (f ∷ fs) → In c f.left.now → IsAt ps c Open → c < length g
     → IsCycle g (from_first c (map (λ h. h.node) (reverse fs) ++ f.node ∷ []))
@@ -200,9 +200,9 @@ closes g ps f fs c searched left is_open below =
     by (inl is) = inr (inl is)
     by (inr on) = inl on
 
--- ## The steps of a search
+-- ## Steps of a search
 
--- a node whose calls are all followed is done
+-- step: a node with all its calls followed becomes done
 finished : (g : List (List ℕ)) (ps : List Progress) (f : Visit) (fs : List Visit)
     → IsSearch g ps (f ∷ fs) → f.left.now ≡ []
     → IsSearch g (set ps f.node Done) fs
@@ -247,7 +247,7 @@ finished g ps f fs searched ends = record {
     on_path_still i at (inl is) = absurd cc
     on_path_still i at (inr was) = still i at (searched.open_on_path i was)
 
--- one call of a node is followed, to a node that is done or that is next on the path
+-- a visit stays lawful where one call is followed, to a node that is done or is next on the path
 followed : (g : List (List ℕ)) (ps : List Progress) (f h : Visit) (next : Option ℕ) (c : ℕ)
     → h.node ≡ f.node → f.left.now ≡ c ∷ h.left.now
     → (IsAt ps c Done ⊎ (next ≡ Some c)) → ((j : ℕ) → next ≡ Some j → c ≡ j) → IsVisit g ps None f
@@ -272,7 +272,7 @@ followed g ps f h next c same left meets only visit = record {
     by j (inr (inl done)) = inr (inl done)
     by j (inr (inr is)) = absurd cc
 
--- a call leads to a node that is done
+-- step: a call leads to a node that is done
 passed : (g : List (List ℕ)) (ps : List Progress) (f h : Visit) (fs : List Visit) (c : ℕ)
     → IsSearch g ps (f ∷ fs)
     → h.node ≡ f.node → f.left.now ≡ c ∷ h.left.now → IsAt ps c Done → IsSearch g ps (h ∷ fs)
@@ -292,7 +292,7 @@ passed g ps f h fs c searched same left done = record {
     by i (inl is) = inl (same ∙ is)
     by i (inr on) = inr on
 
--- nothing of a node's calls is followed yet
+-- a visit of a node with none of its calls followed is lawful
 fresh : (g : List (List ℕ)) (ps : List Progress) (h : Visit) → h.node < length g
     → h.left.now ≡ called g h.node → IsVisit g ps None h
 fresh g ps h within left = record {
@@ -302,7 +302,7 @@ fresh g ps h within left = record {
   calls_next = λ j is. absurd cc;
 }
 
--- a call leads to a node that was not begun
+-- step: a call leads to a node that was not begun
 entered : (g : List (List ℕ)) (ps : List Progress) (f h k : Visit) (fs : List Visit)
     → IsSearch g ps (f ∷ fs)
     → h.node ≡ f.node → f.left.now ≡ k.node ∷ h.left.now → k.node < length g
@@ -353,7 +353,7 @@ entered g ps f h k fs searched same left within all at_first = record {
 
 -- ## The search from a node, with its path as the program holds it
 
--- the end of the path
+-- the last item of a list is the first of the reversed list
 last_first : {A : Type 0} (all front : List A) (x : A) → all ≡ front ++ x ∷ []
     → reverse all ≡ x ∷ reverse front
 last_first all front x e = ap reverse e ∙ reverse-append front (x ∷ [])
@@ -400,7 +400,7 @@ begins g before start f path between at_first is left alone = record {
     here i (inl same) = same.0
     here i (inr at) = absurd (between.none_open i at)
 
--- a node that was begun is still so when one goes on
+-- a node that was begun stays begun where node `i` becomes done
 begun_still : (ps : List Progress) (start i : ℕ) → i < length ps
     → IsAt ps start Open ⊎ IsAt ps start Done
     → IsAt (set ps i Done) start Open ⊎ IsAt (set ps i Done) start Done
@@ -433,7 +433,7 @@ begun_before ps start i at_first (inl is_open) = by (nat_eq start i) refl
         let other : start ≢ i = grind (arith, nat_tests) in
         inl (elsewhere ps i start Open other ∙ is_open)
 
--- the node at the end of the path is one of the graph
+-- the node at the end of the path is a node of the graph
 pub last_within : (g : List (List ℕ)) (before ps : List Progress) (start : ℕ) (old new : List Visit)
     (f : Visit)
     → IsSearchFrom g before start ps (reverse old) → old ≡ new ++ f ∷ [] → f.node < length ps
@@ -500,7 +500,7 @@ enters g before ps start c old front mid new f h k from popped pushed entered_la
     → IsAt ps i Unseen → IsSearchFrom g before start (set ps i Open) (reverse new)) is
     (enters_next g before ps start old front mid new f h k from popped pushed entered_last same)
 
--- what a node on the path calls is a node
+-- the next callee of the node at the end of the path is a node of the graph
 pub calls_node : (g : List (List ℕ)) (before ps : List Progress) (start c : ℕ) (cs : List ℕ)
     (old front : List Visit) (f : Visit) → AreWithin g
     → IsSearchFrom g before start ps (reverse old) → old ≡ front ++ f ∷ [] → f.left.now ≡ c ∷ cs
@@ -511,7 +511,7 @@ calls_node g before ps start c cs old front f within from popped left =
     within f.node c (searched.is_path.0.left c (subst (λ l. In c l) (sym left) (inl refl))) in
     (node, omega (arith, searched.as_many))
 
--- what is known of a node whose progress is read
+-- the progress that is read at place `i` is that of `i`
 pub read_at : (ps : List Progress) (i : ℕ) (p d : Progress) → i < length ps → get_or ps i d ≡ p
     → IsAt ps i p
 read_at ps i p d below is = slice_get-get_or ps i d below ∙ ap Some is

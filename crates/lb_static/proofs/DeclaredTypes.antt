@@ -1,5 +1,5 @@
--- The types of the variables of a node, by the values of its static expressions, against the
--- definitions.
+-- The types of the variables of a node by the values of its static expressions: they are those of
+-- the definitions.
 use Rattle.std.proofs.Common.{◌≡◌, ℕ, ℤ, List, [], ◌∷◌, length, take, drop, map, Option, Some, None}
 use Rattle.std.proofs.Common.{option_map, refl, ap, sym, ◌∙◌, arith}
 use Rattle.std.specs.Prelude.{reverse}
@@ -15,7 +15,7 @@ use Rattle.lb_static.specs.StoredTypes.{declared_type, naturals}
 use Rattle.lb_static.specs.declared.resolved.Variable.{Variable}
 use Rattle.lb_static.proofs.Options.{all_some-map-reverse}
 
--- values that are those of some texts
+-- a function `h` after `g` on texts is `h` on the values that `g` gives them
 each_value : {A B C : Type 0} (g : A → Option B) (h : B → Option C) (ts : List A) (vs : List B)
     → map Some vs ≡ map g ts → map (λ s. g s >>= h) ts ≡ map h vs
 each_value g h [] [] e = refl
@@ -40,7 +40,7 @@ type_with k ns = record { kind = k; sizes = ns }
 
 module _ (P : Program) (here : Instance) (texts : List Static) (values : List ℤ)
     (valued : map Some values ≡ map (static_value P here) texts) where
-  -- the type of a variable
+  -- the type of a variable by the values is that of the definitions
   pub declared_is : (names : List Name) (x : Name) (v : Variable)
       → variable_type P here (declaration_of names texts x v) ≡ declared_type values v
   declared_is names x v =
@@ -57,7 +57,7 @@ module _ (P : Program) (here : Instance) (texts : List Static) (values : List �
       by None = refl
       by (Some ns) = refl
 
-  -- the types of variables
+  -- the types of variables by the values are those of the definitions
   pub types_are : (all names : List Name) (vs : List Variable) → length names ≡ length vs
       → map (declared_type values) vs
       ≡ map (variable_type P here) (zip2 (declaration_of all texts) names vs)

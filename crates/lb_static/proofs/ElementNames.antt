@@ -1,4 +1,4 @@
--- The names of the scalar elements of an array: how many there are, and those of one index more.
+-- The names of the scalar elements of an array: their number, and the names for one index more.
 use Rattle.std.proofs.Common.{◌≡◌, ℕ, zero, suc, ◌+◌, ◌*◌, List, [], ◌∷◌, ◌++◌, length, map, refl}
 use Rattle.std.proofs.Common.{ap, sym, ◌∙◌, arith, length-append}
 use Rattle.std.specs.List.{flat_map, range_with_len}
@@ -25,7 +25,7 @@ use Rattle.lb_static.specs.DataTypes.{DataType, element_count, element_names, pr
 use Rattle.lb_static.specs.DataTypes.{total}
 use Rattle.lb_static.specs.Signature.{Elements}
 
--- parts of one length
+-- the length of a list of parts that all have length `n`
 length-parts : {A B : Type 0} (f : A → List B) (n : ℕ) → ((a : A) → length (f a) ≡ n)
     → (xs : List A) → length (flat_map f xs) ≡ length xs * n
 length-parts f n each [] = sym (zero-mul n)
@@ -34,7 +34,7 @@ length-parts f n each (x ∷ xs) =
     ∙ ap (λ k. n + k) (length-parts f n each xs)
     ∙ add_comm n (length xs * n) ∙ sym (suc-mul (length xs) n)
 
--- there are as many names as the product of the sizes
+-- a variable has as many element names as the product of its sizes
 pub length-element_names : (x : Name) (ns : List ℕ) → length (element_names x ns) ≡ product ns
 length-element_names x [] = refl
 length-element_names x (n ∷ ns) =
@@ -47,11 +47,11 @@ range_more a zero = ap (λ k. k ∷ []) (omega arith)
 range_more a (suc n) = ap (λ l. a ∷ l)
     (range_more (a + 1) n ∙ ap (λ k. range_with_len (a + 1) n ++ k ∷ []) (omega arith))
 
--- the elements of these names
+-- scalar elements with these names, all of one kind
 abbrev pub all_of : Kind → List Name → Elements
 all_of kind = map (λ x. (x, kind))
 
--- the elements of one index more
+-- the elements of `i` indexes, with those of index `i` added, are the elements of `i + 1` indexes
 pub one_index : (name : Name) (kind : Kind) (inner : List ℕ) (first before after : Elements) (i : ℕ)
     (element : Name)
     → before ≡ first ++ all_of kind
@@ -84,9 +84,9 @@ count_more kind inner first before after i element so_far pushed =
     ap (λ k. k * product inner) (sym (suc-eq-add-one i)) ∙ suc-mul i (product inner) in
     omega arith
 
--- ## Variables with names and types
+-- ## Variables by their names and types
 
--- the variables from a place on
+-- the elements of the variables from place `k` on
 abbrev pub named_from : List (Bor Name) → List stored.DataType → ℕ → Elements
 named_from names data_types k =
     elements_named (map (λ x. x.now) (drop k names)) (map view_type (drop k data_types))
@@ -105,7 +105,7 @@ first_of names data_types k name data_type below within is same =
     ∙ ap (λ l. elements_named (name.now ∷ map (λ x. x.now) (drop (k + 1) names)) (map view_type l))
     (drop_more data_types k data_type within ∙ ap (λ x. x ∷ drop (k + 1) data_types) (sym same))
 
--- one variable more
+-- the elements of variable `k`, with those of the variables behind it, are the elements from `k` on
 pub one_variable : (names : List (Bor Name)) (data_types : List stored.DataType) (k : ℕ)
     (name : Bor Name)
     (data_type : stored.DataType) (before after all : Elements)
@@ -120,7 +120,7 @@ one_variable names data_types k name data_type before after all below within is 
     ∙ ap (λ l. before ++ l) (sym (first_of names data_types k name data_type below within is same))
     ∙ so_far
 
--- there is room for the variables after one more
+-- the elements of the variables behind one that was added still fit into the 1,023
 pub has_room_after : (data_types : List stored.DataType) (k : ℕ) (name : Bor Name)
     (data_type : stored.DataType)
     (before after : Elements) → k < length data_types → data_type ≡ get_or data_types k data_type
@@ -137,7 +137,7 @@ has_room_after data_types k name data_type before after within same room pushed 
     (λ x. (x, data_type.kind)) ∙ length-element_names name.now (view_type data_type).sizes in
     omega arith
 
--- all variables
+-- behind the last variable all elements are there
 pub all_variables : (names : List (Bor Name)) (data_types : List stored.DataType) (k : ℕ)
     (before all : Elements) → k ≡ min (length names) (length data_types)
     → before ++ named_from names data_types k ≡ all → before ≡ all
@@ -176,7 +176,7 @@ names_of_group g = map_map
           view_clock g.clock;
     }) name_of g.names.items ∙ map-id g.names.items
 
--- the names from a group on, its own first
+-- the names of group `i`, with those of the groups behind it, are the names from group `i` on
 pub group_names : (before : List Name) (groups : List Declarations) (i : ℕ) (group : Declarations)
     (own all : List Name) → i < length groups → group ≡ get_or groups i group
     → own ≡ group.names.items → before ++ map name_of (declared (view_groups (drop i groups))) ≡ all

@@ -1,4 +1,5 @@
--- What the values of the static expressions of a node say of an instance of it.
+-- The values of the static expressions of a node, and the rules of values and ranges of its
+-- instance.
 use Rattle.std.proofs.Common.{◌≡◌, ℕ, ℤ, Bool, true, false, List, [], ◌∷◌, ◌++◌, map, reverse}
 use Rattle.std.proofs.Common.{length, take, drop, Option, Some, None, option_map, refl, ap, ap₂}
 use Rattle.std.proofs.Common.{sym, ◌∙◌, arith}

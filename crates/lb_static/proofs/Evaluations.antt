@@ -82,7 +82,7 @@ as_many_values given ps vs e =
     sym (length-map vs (λ v. Some v)) ∙ ap length (some_each (map (part_value given) ps) vs e)
     ∙ length-map ps (part_value given)
 
--- the sizes of each variable stand among the static expressions
+-- the sizes of each variable are within the static expressions
 pub sizes_stand : (n : ResolvedNode) (count : ℕ) → count ≡ length n.statics.items
     → list_all (is_declared_within (counts_of n)) n.variables.items ≡ true
     → list_all (λ v. nat_le (v.first_size.0 + v.sizes) count) n.variables.items ≡ true

@@ -1,4 +1,4 @@
--- A fault of a part is one of the whole; a name that is told fails the test that it fails.
+-- Faults: a fault of a part is a fault of the whole, and a name that an error holds fails its test.
 use Rattle.std.proofs.Common.{◌≡◌, Bool, true, false, refl, ap, ◌∙◌}
 use Rattle.std.specs.Prelude.{not, ◌||◌, string_bytes}
 use Rattle.std.proofs.lemmas.Slice.Eq.{bytes_eq-Decides}
@@ -24,7 +24,7 @@ fault_within (Value x) b all h f = h
 fault_within (Range x) b all h f = h
 fault_within (Instances x) b all h f = h
 
--- a fault, from what is known of a name that is told
+-- an error with a name is a fault of the test `all`, if that fails where the name counts
 pub told_fault : (e : StaticError) (purpose : NameUse) (x : tree.Name) (all : Bool)
     → TellsName x purpose e → (is_told e purpose x ≡ true → all ≡ false) → IsNameFault e all
 told_fault Memory purpose x all t f = tt
@@ -36,7 +36,7 @@ told_fault (Value y) purpose x all t f = absurd t
 told_fault (Range y) purpose x all t f = absurd t
 told_fault (Instances y) purpose x all t f = absurd t
 
--- a name that breaks a rule is there for what the rule is for
+-- an error with a rule that a purpose can break is an error with a name of that purpose
 pub tells_use : (e : StaticError) (purpose : NameUse) (x : tree.Name) (broken : NameRule)
     → TellsRule x broken e → is_broken_by purpose broken ≡ true → TellsName x purpose e
 tells_use Memory purpose x broken t b = tt
@@ -47,7 +47,7 @@ tells_use (Value y) purpose x broken t b = absurd t
 tells_use (Range y) purpose x broken t b = absurd t
 tells_use (Instances y) purpose x broken t b = absurd t
 
--- what is sought is what the name is there for
+-- an unknown name breaks the rule of the purpose for which it is sought
 pub sought_use : (s : Sought) → is_broken_by (use_of s) (rule.Unknown s) ≡ true
 sought_use sought.Node = refl
 sought_use sought.Variable = refl
@@ -55,12 +55,12 @@ sought_use sought.Clock = refl
 sought_use sought.Value = refl
 sought_use sought.Constant = refl
 
--- a name that counts fails a test where it fails the rule
+-- a name that counts and fails a test fails the counted test
 pub counted_fails : (counts test : tree.Name → Bool) (x : tree.Name) → counts x ≡ true
     → test x ≡ false → counted counts test x ≡ false
 counted_fails counts test x c e = ap (λ b. not b || test x) c ∙ e
 
--- the name that is told fails a test
+-- an error with a name that fails a test is a fault of the counted test
 pub told_fails : (e : StaticError) (purpose : NameUse) (test : tree.Name → Bool) (x : tree.Name)
     → TellsName x purpose e → test x ≡ false → IsNameFault e (counted (is_told e purpose) test x)
 told_fails e purpose test x t fails =

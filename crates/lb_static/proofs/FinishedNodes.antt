@@ -1,4 +1,4 @@
--- A node of which all is resolved stands for its tree.
+-- A node that is resolved as a whole stands for its tree.
 use Rattle.std.proofs.Common.{◌≡◌, ℕ, ◌+◌, true, List, [], ◌∷◌, ◌++◌, length, map, refl, ap, sym}
 use Rattle.std.proofs.Common.{subst, ◌∙◌, length-append}
 use Rattle.std.specs.Prelude.{flat_map, Vec}
@@ -40,14 +40,14 @@ use Rattle.lb_static.specs.declared.resolved.Variable.{Variable}
 use Rattle.lb_static.proofs.Lists.{map_map}
 use Rattle.lb_static.proofs.SharedParts.{kept_twice}
 
--- ## What is found of a node
+-- ## The progress of a node
 
--- nothing yet
+-- the progress at the start: nothing is resolved
 abbrev pub at_start : Source → written.Node → Progress
 at_start source n = record
     { source = source; node = view_node n; declared = []; parts = []; calls = [] }
 
--- all of it
+-- the progress at the end: all of the node is resolved
 abbrev pub at_end : Source → written.Node → Progress
 at_end source n = record {
   source = source;
@@ -57,7 +57,7 @@ at_end source n = record {
   calls = node_sites (view_node n);
 }
 
--- a step from what is known to be so far, over groups that are known
+-- the progress of a builder with nothing resolved is `at_start` of its source and its node
 pub started : (node_scope : NodeScope) (s : Progress) (source : written_source.Source)
     (n : written.Node)
     → s ≡ record {
@@ -107,7 +107,7 @@ body_refused f s t xs ys a b h =
     λ j. list_all (statement_told f (a j)) (b j) in
     subst (IsNameFault f) same h
 
--- so many variables as there are inputs and outputs, where there was none before
+-- the number of variables after the inputs and after the outputs, where there was none before
 module _ (n : written.Node) (s t : Progress) (none : s.declared ≡ []) where
   abbrev inputs : List Declaration
   inputs = map nameless (declared (view_groups n.inputs.items))
@@ -196,7 +196,7 @@ module _ (source : Source) (n : written.Node) where
 
 -- ## A node that is resolved
 
--- declarations with their names put back
+-- the declarations from variables, with the names put back
 with_names : (names : List Name) (statics : List Static) (vs : List Variable)
     (ds : List Declaration) → map (declaration_of names statics []) vs ≡ map nameless ds
     → zip2 (declaration_of names statics) (map (λ d. d.name) ds) vs ≡ ds
@@ -287,7 +287,7 @@ module _ (f : NodeBuilder) (source : written_source.Source) (n : written.Node) (
           calls = length (sym done.calls j);
         }
 
-    -- the numbers of steps
+    -- the numbers of variables, static expressions and calls
     same_counts_in : counts_in (texts (progress f)) ≡ counts_of r
     same_counts_in =
         let statics = length-map (map part_of f.statics.parts.items) (λ p. p.1)

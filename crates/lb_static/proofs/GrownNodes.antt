@@ -1,4 +1,4 @@
--- What stands for a part of a node stands for it where the node has more.
+-- The meaning of a part of a node stays where the node has more static expressions and calls.
 use Rattle.std.proofs.Common.{◌≡◌, ℕ, ◌+◌, ◌<◌, true, List, [], ◌∷◌, ◌++◌, length, take, get_or}
 use Rattle.std.proofs.Common.{map, Option, Some, None, refl, ap, sym, subst, ◌∙◌, length-append}
 use Rattle.std.proofs.lemmas.Bool.{and_from}
@@ -108,7 +108,7 @@ module _ (s : Progress) (P : List Part) (C : List Site) where
 
 -- ## Static expressions one after another
 
--- what is found with one more of them
+-- the progress with one more static expression of a list
 pub next_static : (start here after : Progress) (role : Purpose) (xs : List Static') (i : ℕ)
     (x : Static') → i < length xs → x ≡ get_or xs i x
     → here ≡ grown start (map (λ s. (role, s)) (view_statics (take i xs))) []

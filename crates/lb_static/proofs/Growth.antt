@@ -1,4 +1,4 @@
--- What stands for a part of a node stands for it when more is found.
+-- The meaning of a part of a node stays when more of the node is resolved.
 use Rattle.std.proofs.Common.{◌≡◌, ℕ, ◌+◌, ◌<◌, ◌≤◌, Bool, true, false, cond, List, [], ◌∷◌, ◌++◌}
 use Rattle.std.proofs.Common.{length, take, drop, map, Option, Some, None, option_map, refl, ap}
 use Rattle.std.proofs.Common.{sym, subst, ◌∙◌, arith, length-append, length-drop, ◌-◌}
@@ -64,7 +64,7 @@ all_on p q [] h e = refl
 all_on p q (x ∷ xs) h e =
     and_from _ _ (h x (and_first _ (list_all p xs) e)) (all_on p q xs h (and_second (p x) _ e))
 
--- the same, where a second test holds too
+-- a list whose items pass `p` and `u` passes `q`, if each item that passes both does
 pub both_on : {A : Type 0} (p u q : A → Bool) (xs : List A)
     → ((x : A) → p x ≡ true → u x ≡ true → q x ≡ true) → list_all p xs ≡ true → list_all u xs ≡ true
     → list_all q xs ≡ true
@@ -269,7 +269,7 @@ module _ (t : Texts) (X : List Static) (Y : List Site) where
     row_stays (more_of-Term a rest) e =
         same_when tree.Cons _ _ _ _ _ _ (expr_stays a) (row_stays rest) e
 
-  -- after a number of a static expression that stands before a term
+  -- the term behind the number of a static expression is within range
   after_static : (i : StaticId) (a : Term)
       → (nat_lt i.0 (length t.statics) && is_within (counts_in t) a) ≡ true
       → is_within (counts_in t) a ≡ true
@@ -319,9 +319,9 @@ module _ (t : Texts) (X : List Static) (Y : List Site) where
     row_unhidden_stays (more_of-Term a rest) e =
         same_when (λ x y. x && y) _ _ _ _ _ _ (unhidden_stays a) (row_unhidden_stays rest) e
 
--- ## What is kept of a node
+-- ## The progress that is kept
 
--- what is kept with one more static expression
+-- the progress that is kept with one more static expression
 module _ (n : NodeScope) (parts more : List StaticPart) (calls : List CallSite)
     (variables : List Declared) (x : StaticPart)
     (kept_now : IsKept n parts calls variables) (added : more ≡ parts ++ x ∷ []) where
@@ -375,7 +375,7 @@ module _ (n : NodeScope) (parts more : List StaticPart) (calls : List CallSite)
         calls = called i;
       }
 
--- the same where one that stands for it is kept
+-- the progress that is kept where a static expression is equal to one that is there
 grown_same : (n : NodeScope) (parts more : List StaticPart) (calls : List CallSite)
     (variables : List Declared) (x : StaticPart) → more ≡ parts
     → map part_of more ≡ with_part (map part_of parts) (part_of x)
@@ -418,7 +418,7 @@ kept_static n parts more calls variables x h e =
     by true same = subst (λ l. IsKept n l calls variables) (sym same) h
     by false added = kept_longer n parts more calls variables x h added
 
--- the texts of the static expressions
+-- the texts of the static expressions of `parts`
 pub texts_are : (parts : List StaticPart) → map (λ p. p.1) (map part_of parts) ≡ texts_in parts
 texts_are parts = map_map part_of (λ p. p.1) parts
 
@@ -466,7 +466,7 @@ one_more_variable n parts calls variables more x added =
       calls = map (site_of nodes (texts_in parts)) calls;
     }
 
--- what is kept after a push that may fail
+-- the kept state stays lawful after a push that may fail
 pub kept_pushed : {A B : Type 0} (n : NodeScope) (parts more : List StaticPart)
     (calls : List CallSite) (variables : List Declared) (x : StaticPart) (r : Result A B)
     → IsKept n parts calls variables → IfOk r (λ _. more ≡ with_static parts x)

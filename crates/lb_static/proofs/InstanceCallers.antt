@@ -1,4 +1,4 @@
--- Each row that instantiation adds to its table stands behind that of its caller.
+-- Each row that instantiation adds to its table stands after the row of its caller.
 use Rattle.std.proofs.Common.{◌≡◌, ℕ, suc, zero, List, [], ◌∷◌, ◌++◌, length, Some, refl, ap, sym}
 use Rattle.std.proofs.Common.{◌∙◌, subst}
 use Rattle.std.specs.Prelude.{slice_get}
@@ -10,7 +10,7 @@ use Rattle.lb_static.specs.declared.table.Origin.{Origin}
 use Rattle.lb_static.specs.declared.table.Specialization.{Specialization}
 use Rattle.lb_static.specs.declared.table.SpecializationId.{SpecializationId}
 
--- ## What is said of the place and the origin of each row
+-- ## A statement on the place and the origin of each row
 
 abbrev Each : (ℕ → Origin → Type 0) → List row.Instance → Type 0
 Each R rows = (place : ℕ) (i : row.Instance) → slice_get rows place ≡ Some i → R place i.origin
@@ -24,7 +24,7 @@ each_pushed R (y ∷ rows) x all last zero i e = all zero i e
 each_pushed R (y ∷ rows) x all last (suc place) i e =
     each_pushed (λ k. R (suc k)) rows x (λ k j h. all (suc k) j h) last place i e
 
--- a row is another one of the same origin
+-- a row is replaced by one with the same origin
 each_changed : (R : ℕ → Origin → Type 0) (front back : List row.Instance) (x y : row.Instance)
     → x.origin ≡ y.origin → Each R (front ++ x ∷ back) → Each R (front ++ y ∷ back)
 each_changed R [] back x y same all zero i e =
@@ -40,7 +40,7 @@ each_changed R (z ∷ front) back x y same all (suc place) i e =
 pub callers_none : CallersStandBefore []
 callers_none place i e = absurd cc
 
--- the row of an instance, before those of the instances below it
+-- callers stand before their instances, with the row of an instance that is added at the end
 pub callers_begun : (before after : List row.Instance) (from : Origin)
     → after ≡ before ++ begun_row from ∷ [] → CallerStandsBefore (length before) from
     → CallersStandBefore before → CallersStandBefore after
@@ -48,7 +48,7 @@ callers_begun before after from e here all =
     subst CallersStandBefore (sym e)
     (each_pushed CallerStandsBefore before (begun_row from) all here)
 
--- the row of an instance has its specialization
+-- callers stand before their instances, where a row has got its specialization
 pub callers_specialized : (first last : List Specialization) (before now after : List row.Instance)
     (from : Origin) (place : ℕ) (id : SpecializationId) → place ≡ length before
     → HasUsed first last (before ++ begun_row from ∷ []) now → IsSpecializedRow place id now after

@@ -19,7 +19,7 @@ use Rattle.lb_static.specs.declared.error.StaticError.{StaticError}
 use Rattle.lb_static.specs.declared.error.StaticError.TheVariants as error
 use Rattle.lb_static.specs.declared.resolved.ResolvedNode.{ResolvedNode}
 
--- ## Refusals of instances, one after another
+-- ## Refusals of instances one after another
 
 pub refusal_first : (o q : Option Refusal) (e : StaticError) → IsRefusal o e
     → IsRefusal (or_else o q) e
@@ -70,7 +70,7 @@ module _ (P : Program) where
         omega arith;
   }
 
-  -- what is refused after some that are entered is refused
+  -- a refusal of `ys`, entered after `xs`, is the refusal of the whole list
   pub refused_later : (k : ℕ) (xs ys zs : List Instance) (m : ℕ) (e : StaticError)
       → AreEntered P k xs m → IsRefusal (instantiation_refusal P m ys) e
       → IsRefusal (instantiation_refusal P k (xs ++ (ys ++ zs))) e
@@ -97,7 +97,7 @@ take_past [] (suc i) h = refl
 take_past (x ∷ xs) zero h = absurd (omega arith)
 take_past (x ∷ xs) (suc i) h = ap (λ l. x ∷ l) (take_past xs i (omega arith))
 
--- the calls of a node with their numbers
+-- a node has as many numbered calls as calls
 numbered_length : (n : ℕ) (ss : List Site) → length (numbered_sites n ss) ≡ length ss
 numbered_length n [] = refl
 numbered_length n (s ∷ ss) = ap suc (numbered_length (suc n) ss)
@@ -133,7 +133,7 @@ ranged h n i l =
     let r = ranged_from h 0 n i l in
     (r.0, r.1 ∙ ap (λ (k : ℕ). map h (range_with_len 0 i) ++ h k ∷ r.0) e)
 
--- ## Below an instance
+-- ## The instances below an instance
 
 module _ (P : Program) (p : Path) (n : ResolvedNode) (values : List ℤ) (level : ℕ) where
   abbrev pub entry : Instance
@@ -142,12 +142,12 @@ module _ (P : Program) (p : Path) (n : ResolvedNode) (values : List ℤ) (level 
   abbrev pub below : List Instance → List Instance
   below xs = flat_map (instances_from P (65 - level)) xs
 
-  -- those of the first calls
+  -- the instances below, of the first `c` calls
   abbrev pub of_calls : ℕ → List Instance
   of_calls c = below (flat_map (site_instances P entry)
       (take c (numbered_sites 0 (node_sites (node_of n)))))
 
-  -- those of the first indexes of a call
+  -- the instances below, of the first `i` indexes of a call
   abbrev pub of_indexes : ℕ → ResolvedNode → List ℤ → ℕ → List Instance
   of_indexes call m arguments i = below
       (map (λ index. instance_of (Child p call index) (node_of m) arguments) (range_with_len 0 i))
@@ -199,7 +199,7 @@ module _ (P : Program) (p : Path) (n : ResolvedNode) (values : List ℤ) (level 
       let past : length ns ≤ c = omega (arith, numbered_length 0 ss) in
       ap (λ l. below (flat_map (site_instances P entry) l)) (take_past ns c past)
 
-  -- all those below: those of the first calls, those of a call, and those after it
+  -- the instances below: of the first `c` calls, of call `c`, and of the later calls
   calls_split : (c : ℕ) (s : Site) → c < length ss → s ≡ get_or ss c s
       → (rest : List Instance)
       × (below (children P entry) ≡ of_calls c ++ (below (site_instances P entry (c, s)) ++ rest))

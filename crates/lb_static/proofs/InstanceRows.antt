@@ -18,8 +18,8 @@ use Rattle.lb_static.specs.ResolvedNodes.{node_of}
 use Rattle.lb_static.specs.Instantiated.{HasGrown, IsKnown}
 use Rattle.lb_static.specs.InstanceRows.{begun_row, stood, stood_after, places_of, HasUsed, HasRows}
 use Rattle.lb_static.specs.InstanceRows.{IsSpecializedRow, IsOneMore, AreInstances}
-use Rattle.lb_static.specs.declared.reach.NodeId.{NodeId}
-use Rattle.lb_static.specs.declared.reach.Reached.{Reached}
+use Rattle.lb_static.specs.declared.reachable.NodeId.{NodeId}
+use Rattle.lb_static.specs.declared.reachable.Reached.{Reached}
 use Rattle.lb_static.specs.declared.resolved.CallId.{CallId}
 use Rattle.lb_static.specs.declared.resolved.ResolvedNode.{ResolvedNode}
 use Rattle.lb_static.specs.declared.table.Instance as row
@@ -58,7 +58,7 @@ paths_kept before (x ∷ xs) i p e =
     paths_kept (before ++ path_from before x.origin ∷ []) xs i p
     (get_first before (path_from before x.origin ∷ []) i p e)
 
--- the paths of the rows that are added
+-- the paths of rows that are added after rows with the paths `before`
 paths_added : List Path → List row.Instance → List Path
 paths_added before [] = []
 paths_added before (x ∷ xs) =
@@ -73,7 +73,7 @@ paths_split before (x ∷ xs) =
     paths_split (before ++ here ∷ []) xs
     ∙ append_assoc before (here ∷ []) (paths_added (before ++ here ∷ []) xs)
 
--- ## Rows that stand
+-- ## Rows that stand for instances
 
 module _ (r : Reached) where
   stood_append : (s : List Specialization) (before : List Path) (xs ys : List row.Instance)
@@ -139,7 +139,7 @@ module _ (r : Reached) where
         ∙ sym (map-append Some xs ys);
   }
 
-  -- the row of an instance, and then those of the instances below it
+  -- the row of an instance, and then the rows of the instances below it, stand for these instances
   pub rows_specialized : (s : List Specialization) (before middle after : List row.Instance)
       (from : Origin) (p : Path) (place : ℕ) (id : SpecializationId)
       (here : Instance) (below : List Instance) → place ≡ length before
@@ -161,7 +161,7 @@ module _ (r : Reached) where
             (sym (paths_append [] before (begun_row from ∷ []))) ∙ h.stand);
       }
 
-  -- a known specialization stands for its node with its values
+  -- a row with a known specialization stands for the instance of its node with its values
   pub known_stands : (s : List Specialization) (node : NodeId) (n : ResolvedNode) (values : List ℤ)
       (id : SpecializationId) (from : Origin) (p : Path)
       → tree_at r node ≡ Some (node_of n) → IsKnown s node values id
@@ -172,7 +172,7 @@ module _ (r : Reached) where
       ∙ ap (option_map (λ m. instance_of p m k.0.values.items)) (ap (tree_at r) k.2 ∙ tree)
       ∙ ap (λ vs. Some (instance_of p (node_of n) vs)) k.3
 
-  -- where the row of an instance stands, an instance that it calls stands below it
+  -- the path of an instance that is called is below the path of its caller
   pub path_below : (s : List Specialization) (before now : List row.Instance) (from : Origin)
       (p : Path) (place : ℕ) (entered : List Instance) (call : CallId)
       (index : ℕ) → place ≡ length before → path_from (paths_after [] before) from ≡ p
@@ -204,7 +204,7 @@ module _ (r : Reached) where
       let p = path_from before i.origin in
       ap (λ l. row_at r t p i ∷ l) (zipped t (before ++ p ∷ []) rest)
 
-  -- the rows of a whole table
+  -- the rows of a whole table stand for the instances that were entered
   pub rows_whole : (t : Table) (entered : List Instance)
       → HasRows r t.specializations.items [] t.instances.items entered
       → rows_of r t ≡ map Some entered

@@ -29,10 +29,10 @@ use Rattle.lb_static.specs.Instantiated.{times_of}
 use Rattle.lb_static.specs.declared.constants.Constants.{Constants}
 use Rattle.lb_static.specs.declared.error.StaticError.{StaticError}
 use Rattle.lb_static.specs.declared.error.StaticError.TheVariants as error
-use Rattle.lb_static.specs.declared.reach.NodeId.{NodeId}
+use Rattle.lb_static.specs.declared.reachable.NodeId.{NodeId}
 use Rattle.lb_static.specs.declared.table.Specialization.{Specialization}
 use Rattle.lb_static.specs.declared.table.SpecializationId.{SpecializationId}
-use Rattle.lb_static.specs.declared.reach.Reached.{Reached}
+use Rattle.lb_static.specs.declared.reachable.Reached.{Reached}
 use Rattle.lb_static.specs.declared.resolved.CallSite.{CallSite}
 use Rattle.lb_static.specs.declared.resolved.ResolvedNode.{ResolvedNode}
 use Rattle.lb_static.specs.declared.resolved.StaticId.{StaticId}
@@ -42,7 +42,7 @@ use Rattle.lb_static.proofs.Evaluations.{as_many_values}
 use Rattle.lb_static.proofs.Evaluated.{values_had, in_range_had, values_held}
 use Rattle.lb_static.proofs.ReachedPlaces.{all_item}
 
--- ## What the evaluation of a node says of an instance
+-- ## The evaluation of a node, and the rules of its instance
 
 module _ (P : Program) (p : Path) (n : ResolvedNode) (values : List ℤ) where
   abbrev here : Instance
@@ -129,7 +129,7 @@ module _ (P : Program) (k : ℕ) (here : Instance) where
 
 -- ## A specialization that is found
 
--- it is that of the node with these values
+-- a specialization that is found is that of the node with these values, and its values are judged
 pub known_with : (P : Program) (r : Reached) (specializations : List Specialization) (node : NodeId)
     (values : List ℤ) (o : Option (SpecializationId × Bor Specialization))
     → AreJudged P r specializations → IsFound specializations node values (option_map (λ f. f.0) o)
@@ -141,7 +141,7 @@ known_with P r specializations node values (Some f) judged k there =
     subst (λ t. IsJudgedAt P r t × (t.node ≡ node) × (t.values.items ≡ values)) same
     ((judged f.0.0 k.0 k.1).1, k.2, k.3)
 
--- the values of its static expressions are judged
+-- an instance with the values of a specialization that is found is judged
 pub known_judged : (P : Program) (r : Reached) (o : Option (SpecializationId × Bor Specialization))
     (f : SpecializationId × Bor Specialization) (node : NodeId) (values statics : List ℤ)
     → IsKnownWith P r o node values → o ≡ Some f → statics ≡ f.1.now.statics.items
@@ -154,7 +154,7 @@ known_judged P r o f node values statics k is same p n at =
     (subst (λ vs. IsJudged P n (instance_of p (node_of n) vs) f.1.now.statics.items) known.2
     (known.0 p n there))
 
--- its place is that of the node with these values
+-- the place of a specialization that is found is that of the node with these values
 pub known_place : (specializations : List Specialization) (node : NodeId) (values : List ℤ)
     (o : Option SpecializationId) (result : Result Begun StaticError)
     → IsFound specializations node values o → IfOk result (λ b. IfSome b.known (λ id. o ≡ Some id))
@@ -167,7 +167,7 @@ known_place specializations node values o (Ok b) found h = by b.known h
     by (Some id) e = subst (IsFound specializations node values) e found
 known_place specializations node values o (Err e) found h = tt
 
--- ## The specializations that are there
+-- ## Known specializations
 
 got_pushed : {A : Type 0} (xs : List A) (y : A) (i : ℕ) (t : A)
     → slice_get (xs ++ y ∷ []) i ≡ Some t → (slice_get xs i ≡ Some t) ⊎ (y ≡ t)
@@ -221,7 +221,7 @@ some_known_later before after node values None grown k = tt
 
 -- ## Calls
 
--- how often a call is entered, by the value at the place of its count
+-- a call is entered as often as the value at the place of its count says
 pub times_read : (nodes : ℕ) (statics : List ℤ) (s : CallSite) (id : StaticId) (x : ℤ)
     → is_site_within nodes (record { variables = 0; statics = length statics; calls = 0 }) s ≡ true
     → s.count ≡ Some id → x ≡ get_or statics id.0 x
@@ -237,14 +237,14 @@ times_read nodes statics s id x site is read =
     ∙ ap (λ o. size_of (either_or o (pos 0)))
     (slice_get_read statics (length statics) id.0 x refl within read)
 
--- ## What the whole function promises
+-- ## The promise of the whole function
 
 pub memory_alone : {A : Type 0} (r : Result A StaticError) (T : StaticError → Type 0)
     → T error.Memory → IfErr r (λ e. e ≡ error.Memory) → IfErr r T
 memory_alone (Ok x) T given h = tt
 memory_alone (Err e) T given h = subst T (sym h) given
 
--- an instance stands at any path with the same values
+-- an instance that is judged at one path is judged at each path
 pub elsewhere : (P : Program) (p q : Path) (n : ResolvedNode) (values statics : List ℤ)
     → IsJudged P n (instance_of p (node_of n) values) statics
     → IsJudged P n (instance_of q (node_of n) values) statics

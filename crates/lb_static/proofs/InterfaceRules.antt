@@ -24,7 +24,7 @@ use Rattle.lb_static.specs.DataTypes.{input_types, output_types, scalar_elements
 use Rattle.lb_static.specs.DataTypes.{is_type, signature, total, truth}
 use Rattle.lb_static.specs.Instantiation.{are_same, fits_observer, has_plain_clocks, has_property}
 use Rattle.lb_static.specs.Instantiation.{is_one_truth, is_root, instantiation_refusal}
-use Rattle.lb_static.specs.declared.reach.Reached.{Reached}
+use Rattle.lb_static.specs.declared.reachable.Reached.{Reached}
 use Rattle.lb_static.specs.declared.resolved.ResolvedNode.{ResolvedNode}
 use Rattle.lb_static.specs.declared.table.SpecializationId.{SpecializationId}
 use Rattle.lb_static.specs.declared.table.Table.{Table}
@@ -43,7 +43,7 @@ joined None p xs e = absurd cc
 joined (Some a) None xs e = absurd cc
 joined (Some a) (Some b) xs e = let f : (a ++ b) ≡ xs = cc in (a, b, refl, refl, f)
 
--- two lists of which each has all
+-- if the items of two lists together are all there, so are those of each list
 pub both_there : {A : Type 0} (os ps : List (Option A)) (xs : List A)
     → all_some (os ++ ps) ≡ Some xs
     → (all_some os ≡ Some (take (length os) xs)) × (all_some ps ≡ Some (drop (length os) xs))
@@ -54,7 +54,7 @@ both_there os ps xs e =
       j.3 ∙ ap Some (sym (drop_at j.0 j.1 (length os) long) ∙ ap (drop (length os)) j.4),
     )
 
--- what is known of the inputs and outputs of an instance with types
+-- the relation of the types of an instance to its interface
 record Typed (P : Program) (here : Instance) (f : InterfaceView) : Type 0 where
   node : here.node ≡ f.node
   plain : has_plain_clocks P here ≡ f.is_plain
@@ -63,7 +63,7 @@ record Typed (P : Program) (here : Instance) (f : InterfaceView) : Type 0 where
   inputs : input_types P here ≡ Some (inputs_of f)
   outputs : output_types P here ≡ Some (outputs_of f)
 
--- from the parts of a face
+-- an instance with types has the relation `Typed` to the interface of its parts
 parts : (P : Program) (here : Instance) (ss : List DataType)
     → all_some (map (variable_type P here) (here.node.inputs ++ here.node.outputs)) ≡ Some ss
     → Typed P here (record {
@@ -111,7 +111,7 @@ typed P here f e = by (all_some
     by None made g = absurd cc
     by (Some ss) made g = subst (Typed P here) (same_Some _ f g) (made ss refl)
 
--- without types
+-- an instance without an interface lacks the type of some input or output
 untyped : (P : Program) (here : Instance) → face_of P here ≡ None
     → all_some (map (variable_type P here) (here.node.inputs ++ here.node.outputs)) ≡ None
 untyped P here e = by (all_some
@@ -189,7 +189,7 @@ one_truth_is P (s ∷ (t ∷ ss)) = by (is_type s truth)
     by true = refl
     by false = refl
 
--- with an observer that has types
+-- the property of an instance with an observer that has types
 observed : (P : Program) (here other : Instance) (f o : InterfaceView) → Typed P here f
     → Typed P other o
     → has_property P here (Some other) ≡ observes o f
@@ -204,7 +204,7 @@ observed P here other f o t u =
     ∙ ap (λ b. o.is_plain && (are_types (inputs_of o) f.data_types && b))
     (one_truth_is P (outputs_of o))
 
--- with an observer that has none
+-- an observer without types gives no property
 unobserved : (P : Program) (here other : Instance)
     → all_some (map (variable_type P other) (other.node.inputs ++ other.node.outputs)) ≡ None
     → has_property P here (Some other) ≡ false
@@ -226,7 +226,7 @@ unobserved P here other e =
         ∙ and-false b
     by b (Some a) (Some c) g = absurd cc
 
--- a test that is known to pass
+-- a test that is there and passes
 abbrev pub is_so : Option Bool → Bool
 is_so o = either_or o false
 
@@ -261,7 +261,7 @@ property_is P r t here f reached table root =
 
 -- ## The node under test
 
--- the node under test has types
+-- the interface of the node under test is there where instantiation refuses nothing
 pub root_has_face : (P : Program) (r : Reached) (t : Table) (n : ResolvedNode) (statics : List ℤ)
     → IsReached P r → HasStarts P r t → instantiation_refusal P 0 (instances P) ≡ None
     → valued_node_in r t t.root ≡ Some (n, statics) → interface_under n statics ≡ None → ⊥
@@ -274,7 +274,7 @@ root_has_face P r t n statics reached table instantiated found none =
     let types = root_has_types P here is instantiated in
     false≢true (sym (ap is_some no_types) ∙ types)
 
--- what is judged, where it is seen so
+-- the rule of the node under test, in terms of its interface
 pub root_is : (P : Program) (r : Reached) (t : Table) (n : ResolvedNode) (statics : List ℤ)
     (f : InterfaceView) → IsReached P r → HasStarts P r t
     → valued_node_in r t t.root ≡ Some (n, statics) → interface_under n statics ≡ Some f
@@ -297,7 +297,7 @@ root_is P r t n statics f reached table found there_is =
       signature_is P here f is root,
     )
 
--- ## How many scalar inputs
+-- ## The number of scalar inputs
 
 pub too_many : (n counted : ℕ) → counted ≡ min n 65537 → 1023 < counted → nat_le n 1023 ≡ false
 too_many n counted e over = let more : 1023 < n = omega arith in grind (arith, nat_tests)

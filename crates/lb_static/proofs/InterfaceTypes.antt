@@ -1,4 +1,4 @@
--- The types of the inputs and outputs of an instance, against the definitions.
+-- The types of the inputs and outputs of an instance are those of the definitions.
 use Rattle.std.proofs.Common.{◌≡◌, ℕ, ◌+◌, ◌≤◌, ℤ, Bool, true, false, List, [], ◌∷◌, ◌++◌, length}
 use Rattle.std.proofs.Common.{take, map, Option, Some, None, option_map, refl, ap, sym, ◌∙◌}
 use Rattle.std.proofs.Common.{arith, length-append}
@@ -26,7 +26,7 @@ use Rattle.lb_static.specs.declared.data_type.DataType as stored
 use Rattle.lb_static.proofs.DeclaredTypes.{types_are}
 use Rattle.lb_static.proofs.Options.{length-all_some}
 
--- the types of the inputs are among those of inputs and outputs
+-- there are at least as many types as inputs
 pub inputs_fit : (n : ResolvedNode) (statics : List ℤ) (vs : List Variable)
     (data_types : List stored.DataType) → Some vs ≡ interface_variables n
     → declared_types statics vs ≡ Some (map view_type data_types) → n.inputs ≤ length data_types
@@ -67,7 +67,7 @@ clocks_are P texts all (x ∷ xs) (v ∷ vs) same =
 
 -- ## The inputs and outputs of a node with values
 
--- an instance has this node and these values of static expressions
+-- an instance has the node `n` and the values `statics` of its static expressions
 pub record Stands (P : Program) (names : List Name) (here : Instance) (n : ResolvedNode)
     (statics : List ℤ) : Type 0 where
   pub node : node_of n ≡ here.node
@@ -78,7 +78,7 @@ abbrev pub face_by : Node → ℕ → Bool → Option (List DataType) → Option
 face_by node inputs plain o =
     option_map (λ ss. record { node = node; inputs = inputs; data_types = ss; is_plain = plain }) o
 
--- those of the definitions
+-- the interface of an instance by the definitions
 abbrev pub face_of : Program → Instance → Option InterfaceView
 face_of P here = face_by here.node (length here.node.inputs) (has_plain_clocks P here)
     (all_some (map (variable_type P here) (here.node.inputs ++ here.node.outputs)))
@@ -86,7 +86,7 @@ face_of P here = face_by here.node (length here.node.inputs) (has_plain_clocks P
 abbrev interface_of : Node → List Declaration
 interface_of n = n.inputs ++ n.outputs
 
--- the first of the variables
+-- the inputs and outputs of a node are the first of its variables
 interface_is : (n : Node) → take (length n.inputs + length n.outputs) (variables n) ≡ interface_of n
 interface_is n =
     ap (take (length n.inputs + length n.outputs)) (sym (append_assoc n.inputs n.outputs n.locals))

@@ -1,4 +1,4 @@
--- That a program keeps the rules of names, from what is judged of its parts.
+-- A program keeps the rule of names where the judged parts of it do.
 use Rattle.std.proofs.Common.{◌≡◌, ℕ, zero, suc, Bool, true, List, length, refl, ap, sym, ◌∙◌}
 use Rattle.std.specs.Prelude.{◌||◌, filter, flat_map, is_some}
 use Rattle.std.specs.List.{list_all, list_any, Contains}
@@ -22,7 +22,7 @@ use Rattle.lb_static.specs.Parts.{among, static_names}
 use Rattle.lb_static.specs.ReachedNodes.{IsReached, trees}
 use Rattle.lb_static.specs.ResolvedNodes.{node_of}
 use Rattle.lb_static.specs.declared.error.StaticError.{StaticError}
-use Rattle.lb_static.specs.declared.reach.Reached.{Reached}
+use Rattle.lb_static.specs.declared.reachable.Reached.{Reached}
 use Rattle.lb_static.proofs.Faults.{fault_within}
 use Rattle.lb_static.proofs.CalledNodes.{all_map}
 use Rattle.lb_static.proofs.Mentions.{any_flat}
@@ -30,7 +30,7 @@ use Rattle.lb_static.proofs.ReachedPlaces.{contained, place_of}
 use Rattle.lb_static.proofs.TestedItems.{filter_same}
 use Rattle.lb_static.proofs.WorkLists.{any_at}
 
--- two lists with the same items have some item that passes alike
+-- a list with all items of another has an item that passes, if the other has
 any_alike : {A : Type 0} (p : A → Bool) (xs ys : List A) → ((x : A) → Contains xs x → Contains ys x)
     → list_any p xs ≡ true → list_any p ys ≡ true
 any_alike p xs ys same e =

@@ -1,4 +1,4 @@
--- Specializations under keys: what is found at a key, and one more key.
+-- Specializations under keys: the search by a key, and one more key.
 use Rattle.std.proofs.Common.{◌≡◌, ◌∙◌, ℕ, zero, suc, Bool, true, false, cond, ◌&&◌, ◌==◌, List, []}
 use Rattle.std.proofs.Common.{◌∷◌, ◌++◌, map, Option, Some, None, refl, ap, sym, int_eq}
 use Rattle.std.specs.Prelude.{slice_get, option_map, position, find, if◌then◌else◌}
@@ -12,14 +12,14 @@ use Rattle.lb_syntax.proofs.ListPlaces.{mapped_from}
 use Rattle.lb_syntax.proofs.TruthValues.{and_first, and_second}
 use Rattle.lb_static.specs.KeyedSpecializations.{AreKeyed, IsUnknown}
 use Rattle.lb_static.specs.Instantiated.{IsKnown}
-use Rattle.lb_static.specs.declared.reach.NodeId.{NodeId}
+use Rattle.lb_static.specs.declared.reachable.NodeId.{NodeId}
 use Rattle.lb_static.specs.declared.specializations.Key.{Key}
 use Rattle.lb_static.specs.declared.table.Specialization.{Specialization}
 use Rattle.lb_static.proofs.NodeScopes.{find_placed, find_none, position_within}
 use Rattle.lb_static.proofs.TestedItems.{found_passes}
 use Rattle.lb_static.proofs.ReachedPlaces.{all_item}
 
--- ## What is found
+-- ## The search
 
 others_fail : {A : Type 0} (p : A → Bool) (xs : List A) (i : ℕ) (x : A) → find p xs ≡ None
     → slice_get xs i ≡ Some x → p x ≡ false

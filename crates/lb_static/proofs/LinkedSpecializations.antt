@@ -1,4 +1,4 @@
--- The specializations that instantiation adds have what the call sites of their nodes call.
+-- The specializations that instantiation adds have the callees of the call sites of their nodes.
 use Rattle.std.proofs.Common.{◌≡◌, ℕ, zero, suc, ◌+◌, ◌<◌, ◌≤◌, ℤ, List, [], ◌∷◌, ◌++◌, length}
 use Rattle.std.proofs.Common.{take, Option, Some, None, option_map, refl, ap, sym, ◌∙◌, subst, inl}
 use Rattle.std.proofs.Common.{inr, ◌⊎◌}
@@ -17,8 +17,8 @@ use Rattle.lb_static.specs.LinkedSpecializations.{IsCalled, AreCalled, IsLinked,
 use Rattle.lb_static.specs.LinkedSpecializations.{AreSpecialized}
 use Rattle.lb_static.specs.Instantiated.{IsInstantiable, AreJudged, IsKnown, HasGrown, values_at}
 use Rattle.lb_static.specs.declared.constants.Constants.{Constants}
-use Rattle.lb_static.specs.declared.reach.NodeId.{NodeId}
-use Rattle.lb_static.specs.declared.reach.Reached.{Reached}
+use Rattle.lb_static.specs.declared.reachable.NodeId.{NodeId}
+use Rattle.lb_static.specs.declared.reachable.Reached.{Reached}
 use Rattle.lb_static.specs.declared.resolved.CallSite.{CallSite}
 use Rattle.lb_static.specs.declared.resolved.ResolvedNode.{ResolvedNode}
 use Rattle.lb_static.specs.declared.table.Specialization.{Specialization}
@@ -30,9 +30,9 @@ use Rattle.lb_static.proofs.InstanceSteps.{grown_more}
 use Rattle.lb_static.proofs.WholeInstantiation.{statics_had, tree_is}
 use Rattle.lb_static.proofs.ReachedPlaces.{all_item}
 
--- ## What the calls of an instance call
+-- ## The callees of an instance
 
--- a specialization that is known for what a call site calls
+-- a specialization that is known by the node and values of a call site is its callee
 pub called_known : (r : Reached) (specializations : List Specialization) (statics : List ℤ)
     (site : CallSite) (node : NodeId) (values : List ℤ) (id : SpecializationId)
     → id_at r site.callee ≡ Some node
@@ -71,7 +71,7 @@ module _ (r : Reached) (statics : List ℤ) where
     called_as_many (s ∷ ss) [] called = absurd called
     called_as_many (s ∷ ss) (id ∷ ids) called = ap suc (called_as_many ss ids called.1)
 
-    -- call after call
+    -- the specializations so far are the callees of the first call sites: none, and one more
     pub none_called : (sites : List CallSite) (ids : List SpecializationId) → ids ≡ []
         → AreCalled r specializations statics (take 0 sites) ids
     none_called [] ids e = subst (AreCalled r specializations statics []) (sym e) tt
@@ -120,7 +120,7 @@ module _ (r : Reached) (statics : List ℤ) where
         (slice_get_within specializations i.0 called.0.0 called.0.1)
     called_before (s ∷ ss) (i ∷ ids) id called (inr on) = called_before ss ids id called.1 on
 
--- ## The specializations that are there
+-- ## The specializations so far
 
 pub none_linked : (r : Reached) (l : List Specialization) → l ≡ [] → AreLinked r l
 none_linked r l e i s at =
@@ -137,7 +137,7 @@ pushed_at (x ∷ xs) y (suc i) t e =
       | inr h ↦ inr (ap suc h.0, h.1)
     ]
 
--- one that is added after those that its calls call
+-- a specialization that is added after its callees is linked
 pub linked_more : (r : Reached) (before after : List Specialization) (s : Specialization)
     (n : ResolvedNode) → AreLinked r before → slice_get r.nodes.items s.node.0 ≡ Some n
     → AreCalled r before s.statics.items n.calls.items s.callees.items → after ≡ before ++ s ∷ []
@@ -171,7 +171,7 @@ linked_more r before after s n linked_calls there called e i t at =
 module _ (P : Program) (r : Reached) (c : Constants) (w : IsInstantiable P r c) (t : Table)
     (judged : AreJudged P r t.specializations.items)
     (linked_calls : AreLinked r t.specializations.items) where
-  -- the instance that a specialization is
+  -- the instance of a specialization at a path
   stands_at : (p : Path) (s : Specialization) (n : ResolvedNode)
       → slice_get r.nodes.items s.node.0 ≡ Some n
       → specialized_at r p s ≡ Some (instance_of p (node_of n) s.values.items)

@@ -20,7 +20,7 @@ and_none : (a : Bool) → false ≡ (a && false)
 and_none true = refl
 and_none false = refl
 
--- some item of a front passes where the first that passes stands in it
+-- some of the first `k` items passes exactly if the first that passes is among them
 any_take : {A : Type 0} (p : A → Bool) (k : ℕ) (xs : List A)
     → list_any p (take k xs)
     ≡ (nat_lt (position_or_len p xs) k && nat_lt (position_or_len p xs) (length xs))
@@ -67,7 +67,7 @@ position_none p k xs e =
     by n true h = absurd cc
     by n false h = and_none (nat_lt n k)
 
--- what stands before, the item at a place and what stands after are all
+-- the items before, item `i` and the items behind it are the whole list
 pub at_place : {A C : Type 0} (f : A → C) (before : List C) (xs : List A) (i : ℕ) (x : A)
     (all : List C) → i < length xs → x ≡ get_or xs i x
     → before ++ map f (drop i xs) ≡ all → before ++ f x ∷ map f (drop (i + 1) xs) ≡ all

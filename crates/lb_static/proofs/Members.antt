@@ -1,4 +1,4 @@
--- What stands in a list, and in what is made of it.
+-- The items of a list, and of lists that are made of it.
 use Rattle.std.proofs.Common.{◌≡◌, ℕ, zero, suc, Bool, true, false, cond, List, [], ◌∷◌, map}
 use Rattle.std.proofs.Common.{Option, Some, None, refl, ap, sym, ◌∙◌, inl, inr}
 use Rattle.std.specs.Prelude.{◌&&◌, ◌||◌, filter, slice_get}
@@ -6,7 +6,7 @@ use Rattle.std.specs.List.{list_all, list_any, cons_option, filter_map, Contains
 use Rattle.std.proofs.lemmas.Option.{slice_get-get_or, slice_get_within, get_or_from_slice_get}
 use Rattle.lb_syntax.specs.Lists.{In}
 
--- ## What stands in a list
+-- ## The items of a list
 
 pub in_at : {A : Type 0} (xs : List A) (i : ℕ) (x : A) → slice_get xs i ≡ Some x → In x xs
 in_at [] i x e = absurd cc

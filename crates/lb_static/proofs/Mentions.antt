@@ -1,5 +1,5 @@
--- The names that stand in a node: in its static expressions as the code finds them, and as the
--- definitions list them.
+-- The names in the static expressions of a node: the code finds the names that the definitions
+-- list.
 use Rattle.std.proofs.Common.{◌≡◌, Bool, true, false, cond, List, [], ◌∷◌, ◌++◌, map, refl, ap, sym}
 use Rattle.std.proofs.Common.{◌∙◌}
 use Rattle.std.specs.Prelude.{◌&&◌, ◌||◌, not, flat_map}
@@ -64,14 +64,14 @@ any_and p k [] = refl
 any_and p k (x ∷ xs) = ap (λ b. (p x && k) || b) (any_and p k xs) ∙ and_or (p x) (list_any p xs) k
 
 module _ (x : Name) (variable : Name → Bool) where
-  -- the name stands in a static expression
+  -- a static expression has the name
   abbrev pub in_static : Static → Bool
   in_static s = among x (static_names s)
 
   abbrev pub in_part : Part → Bool
   in_part p = in_static p.1
 
-  -- the name stands in the expression itself, its parts apart
+  -- an expression itself, without its parts, has the name
   abbrev pub stands : Expr → Bool
   stands e =
       (among x (own_names e) && not (variable x))
@@ -183,7 +183,7 @@ module _ (x : Name) (variable : Name → Bool) where
     row_stands (Cons e es) = two (parts_of variable e) (parts_in variable es) (parts e)
         (exprs_in es) (expression_stands e) (row_stands es)
 
-  -- some part of a list of expressions has it
+  -- some part of a list of expressions has the name
   pub any_stands : (es : List Expr) → list_any stands es
       ≡ ((among x (flat_map own_names es) && not (variable x))
       || (list_any in_static (flat_map own_sizes es)
@@ -270,7 +270,7 @@ declared_append [] hs = refl
 declared_append (g ∷ gs) hs = ap (λ l. declarations g ++ l) (declared_append gs hs)
     ∙ sym (append_assoc (declarations g) (declared gs) (declared hs))
 
--- the declarations of a node, from its groups
+-- the declarations of the groups of a node are its variables
 pub variables_are : (n : written.Node)
     → declared (view_groups (n.inputs.items ++ (n.outputs.items ++ n.locals.items)))
     ≡ variables (view_node n)

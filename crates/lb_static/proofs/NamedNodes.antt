@@ -32,7 +32,7 @@ use Rattle.lb_static.proofs.TestedItems.{all_flat}
 
 -- ## Tests
 
--- the parts of the rule of names, as the rule has them and as the code finds them
+-- the parts of the rule of names, in the order of the rule and in that of the code
 arranged : (c k s t d e l : Bool)
     → (c && (k && ((s && t) && ((d && e) && l)))) ≡ ((s && d) && (l && ((k && (e && t)) && c)))
 arranged c k s t d e l =
@@ -151,7 +151,7 @@ module _ (counts : NameUse → Name → Bool) (here : Progress) where
   abbrev passing : List Static → Bool
   passing = statics_pass_where counts P n
 
-  -- what stands in the expressions
+  -- the names in the expressions themselves
   own_is : list_all (own counts P n) (node_parts n)
       ≡ (in_parts (λ e. list_all known (own_names e))
       && (in_parts (λ e. list_all left (own_clock_names e))
@@ -172,7 +172,7 @@ module _ (counts : NameUse → Name → Bool) (here : Progress) where
       ∙ ap (λ b. in_parts (λ e. passing (own_sizes e)) && b)
       (all_and (λ e. passing (own_indexes e)) (λ e. passing (own_arguments e)) (node_parts n))))
 
-  -- the static expressions
+  -- the names in static expressions
   statics_are : list_all (counted (counts Statics) (is_static_name P n)) (node_static_names n)
       ≡ (list_all (λ d. passing d.sizes) (variables n)
       && (in_parts (λ e. passing (own_sizes e))

@@ -49,7 +49,7 @@ any_same p q [] e = refl
 any_same p q (x ∷ xs) e =
     ap (λ b. b || list_any p xs) (e x) ∙ ap (λ b. q x || b) (any_same p q xs e)
 
--- a name stands in the static expressions that the code finds
+-- a name is in the static expressions that the code finds
 abbrev pub is_mentioned : Name → ResolvedNode → Bool
 is_mentioned x r = list_any (λ p. among x (static_names (static_of p.text))) r.statics.items
 
@@ -115,7 +115,7 @@ module _ (x : Name) (r : ResolvedNode) (nodes : List Name) (is : IsResolved node
       (list_any P (flat_map own_arguments (node_parts n)))
       ∙ ap (λ b. (among x (node_names n) && not (variable x)) || b) (sym static_is)
 
--- ## The places of their constants
+-- ## The places of the constants
 
 abbrev in_source : Source → ℕ → Bool
 in_source s p = nat_lt p (length s.constants)
@@ -264,7 +264,7 @@ module _ (s : Source) (g : Globals) (names : g.names ≡ names_in_source s)
                 ∙ ap (λ z. not (among z (declared_names n))) (sym ((bytes_eq-Decides x y).0 h))
             by false h = and-false (not (among y (declared_names n)))
 
-    -- a variable stands in no static expression
+    -- a variable is in no static expression
     no_variable : (x : Name) (n : Node) → named_in s n ≡ true → among x (variable_names n) ≡ true
         → among x (node_static_names n) ≡ false
     no_variable x n named v = by (among x (node_static_names n)) refl

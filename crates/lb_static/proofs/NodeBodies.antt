@@ -70,7 +70,7 @@ module _ (s : Progress) (P : List Part) (C : List Site) where
         (is_statement_unhidden (texts (grown s P C))) statements unhidden h.1 h.2,
   )
 
--- what a loop over statements keeps
+-- the invariant of a loop over statements
 abbrev pub StatementsSoFar : (start here : Progress) → List tree.Statement → List ResolvedStatement
     → Type 0
 StatementsSoFar start here xs statements =
@@ -134,7 +134,7 @@ next_step start before after statements xs i x statement below is d g =
     statement
     d g)
 
--- a statement that is refused
+-- a statement that is refused makes the whole body refused
 pub fault_of_statement : (start here : Progress) (f : StaticError) (xs : List Statement) (i : ℕ)
     (x : Statement) → i < length xs → x ≡ get_or xs i x
     → here ≡ after_statements start (map view_statement (take i xs))

@@ -82,7 +82,7 @@ module _ (counts : NameUse → Name → Bool) (P : Program) (n : Node) where
   abbrev pub callable : Site → Bool
   callable = is_callable_where counts P
 
-  -- what stands in an expression itself
+  -- the names in an expression itself pass
   abbrev pub own : Expr → Bool
   own e =
       list_all known (own_names e)

@@ -14,7 +14,7 @@ use Rattle.lb_static.specs.Names.{are_distinct}
 use Rattle.lb_static.specs.Parts.{among}
 use Rattle.lb_static.proofs.Lists.{any_is}
 
--- the place among those from one on
+-- the place counted from `k` on, if it is not before `k`
 abbrev pub later : ℕ → Option ℕ → Option ℕ
 later k None = None
 later k (Some i) = cond (nat_le k i) (Some (i - k)) None

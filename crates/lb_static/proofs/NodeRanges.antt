@@ -28,7 +28,7 @@ module _ (given : Name → Option ℤ) where
   abbrev pub passes : Part → Bool
   passes p = part_passes given p.0 (value p.1)
 
-  -- what the code computes from the values
+  -- the test of the code on the values is that of the definitions on the static expressions
   pub ranges_are : (ps : List StaticPart) (vs : List ℤ)
       → map (λ v. Some v) vs ≡ map (part_value given) ps
       → are_in_range given ps vs ≡ list_all passes (map part_of ps)
@@ -76,7 +76,7 @@ module _ (given : Name → Option ℤ) where
       ∙ ap₂ (λ a b. a && b) (group_passes g) (groups_pass gs)
       ∙ sym (list_all-append size_passes (group_parts g) (flat_map group_parts gs))
 
-  -- what stands in an expression itself is in range
+  -- the sizes, indexes and slices in an expression itself are in range
   abbrev pub own_passes : Expr → Bool
   own_passes e = list_all is_size (own_sizes e)
       && (list_all is_index (own_indexes e) && list_all is_slice (own_slices e))
@@ -126,7 +126,7 @@ module _ (given : Name → Option ℤ) where
         ap (λ c. is_size n && c) (arguments_pass statics) ∙ one (is_size n)
     own_is (Iterate it (Symbol op) n es) = one (is_size n)
 
-    -- all the expressions of a node
+    -- the sizes, indexes and slices in some expressions are in range
     abbrev pub body_passes : List Expr → Bool
     body_passes es =
         list_all is_size (flat_map own_sizes es)

@@ -1,4 +1,4 @@
--- What the names of a node stand for: variables stand before static parameters.
+-- The scope of a node: variables stand before static parameters.
 use Rattle.std.proofs.Common.{◌≡◌, ℕ, zero, suc, ◌+◌, ◌<◌, ◌≤◌, Bool, true, false, cond, List, []}
 use Rattle.std.proofs.Common.{◌∷◌, ◌++◌, length, take, drop, get_or, map, Option, Some, None}
 use Rattle.std.proofs.Common.{option_map, refl, ap, sym, subst, ◌∙◌, arith}
@@ -37,7 +37,7 @@ use Rattle.lb_static.proofs.Scopes.{name_at_place}
 
 -- ## Refused names
 
--- a name that is doubled in a front is so in all
+-- a name that is doubled in a front of a list is doubled in the list
 pub front_fault : (e : StaticError) (front rest all : List Name) → front ++ rest ≡ all
     → IsNameFault e (are_once (is_told e Declares) front)
     → IsNameFault e (are_once (is_told e Declares) all)
@@ -64,7 +64,7 @@ groups_names_next gs i g below is =
     (declared (view_groups (drop (i + 1) gs)))
     ∙ ap (λ l. l ++ names_in (declared (view_groups (drop (i + 1) gs)))) (group_names g)
 
--- one more group of a loop
+-- the names before, the names of group `i` and the names of the groups behind it are all names
 pub group_names_join : (before all : List Name) (gs : List Declarations) (i : ℕ) (g : Declarations)
     (names : List Name) → i < length gs → g ≡ get_or gs i g
     → names ≡ g.names.items → before ++ names_in (declared (view_groups (drop i gs))) ≡ all
@@ -74,7 +74,7 @@ group_names_join before all gs i g names below is same e =
     ∙ ap (λ l. before ++ (l ++ names_in (declared (view_groups (drop (i + 1) gs))))) same
     ∙ ap (λ l. before ++ l) (sym (groups_names_next gs i g below is)) ∙ e
 
--- the names of inputs, outputs, locals and static parameters
+-- the names of inputs, outputs and locals, list by list, are the names of the three lists together
 pub names_split : (ins outs locals : List Declaration)
     → (names_in ins ++ names_in outs) ++ names_in locals ≡ names_in (ins ++ (outs ++ locals))
 names_split ins outs locals =
@@ -147,7 +147,7 @@ module _ (here : NodeScope) where
       ap (among x) (ap (take here.globals.now.constants) here.globals_are
       ∙ ap (λ m. take m (names_in_source source)) count ∙ take-append_seam (constants_in source) _)
 
-  -- the place of a node by its name
+  -- the place of a name among the names of nodes is the place of the node with this name
   pub nodes_placed : (y : Name)
       → position (bytes_eq y) (drop here.globals.now.constants here.globals.now.names)
       ≡ position (λ (m : written.Node). bytes_eq m.name y) here.source.now.nodes.items
@@ -214,7 +214,7 @@ module _ (here : NodeScope) where
 
 -- ## Nodes by name
 
--- the first item that passes stands at the first place
+-- the item at the first place that passes is the item that is found
 found_at : {A : Type 0} (p : A → Bool) (xs : List A)
     → slice_get xs (position_or_len p xs) ≡ find p xs
 found_at p [] = refl

@@ -52,8 +52,8 @@ some_all {A = A} (Some x ∷ os) = by (all_some os) ∙ some_all os
 abbrev pub sizes_in : List tree.Declaration → List Static
 sizes_in ds = flat_map (λ d. d.sizes) ds
 
--- a test of the sizes of some variables of a group passes where that of its sizes does, if there
--- is a variable
+-- a test of the sizes of each variable of a group is the test of the sizes of the group, if it has
+-- a variable
 twice : (b c : Bool) → c ≡ b → (b && c) ≡ b
 twice true c e = e
 twice false c e = refl
@@ -148,7 +148,7 @@ module _ (variable : Name → Bool) (given : Name → Option ℤ) where
       ∙ size_and (has n) (list_all has statics)
   own_is (Iterate it (Symbol op) n es) = size_and (has n) true
 
-  -- all the expressions of a node
+  -- the static expressions in some expressions have values
   abbrev pub body_has : List Expr → Bool
   body_has es =
       (list_all has (flat_map own_sizes es)

@@ -40,7 +40,7 @@ none_alike s v = λ j. record {
   calls = s.calls;
 }
 
--- one more of them
+-- the progress with one more variable of a group
 pub one_more_alike : (start here after : Progress) (names : List Name) (i : ℕ) (x : Name)
     (v : Variable) → i < length names → here ≡ with_alike start (take i names) v
     → after ≡ with_variable here

@@ -1,12 +1,12 @@
--- All things of a list, if each is there: item by item, in the other order, and two lists one
--- after the other.
+-- The items of a list of options, if each is there: item by item, in the other order, and for two
+-- lists one after the other.
 use Rattle.std.proofs.Common.{◌≡◌, ℕ, suc, List, [], ◌∷◌, ◌++◌, length, drop, map}
 use Rattle.std.proofs.Common.{Option, Some, None, option_map, refl, ap, sym, ◌∙◌}
 use Rattle.std.specs.Prelude.{reverse}
 use Rattle.std.proofs.lemmas.List.{reverse-append, map-append}
 use Rattle.lb_syntax.specs.Lists.{◌>>=◌, all_some}
 
--- so far, and what is left
+-- the items that are done, and then the items from `i` on, are the whole list
 abbrev pub IsSoFar : {A B : Type 0} → (A → Option B) → List B → List A → ℕ → Type 0
 IsSoFar f done xs i = option_map (λ l. done ++ l) (all_some (map f (drop i xs)))
     ≡ all_some (map f xs)
@@ -31,7 +31,7 @@ all_some-append {A = A} (Some x ∷ xs) ys =
     by (Some a) None = refl
     by (Some a) (Some b) = refl
 
--- ## The other order
+-- ## The items in the other order
 
 pub all_some-reverse : {A : Type 0} (xs : List (Option A))
     → all_some (reverse xs) ≡ option_map reverse (all_some xs)
@@ -65,7 +65,7 @@ pub all_some-map-reverse : {A B : Type 0} (f : A → Option B) (xs : List A)
     → all_some (map f (reverse xs)) ≡ option_map reverse (all_some (map f xs))
 all_some-map-reverse f xs = ap all_some (map_reverse f xs) ∙ all_some-reverse (map f xs)
 
--- ## How many
+-- ## The number of items
 
 pub length-all_some : {A : Type 0} (xs : List (Option A)) (ys : List A) → all_some xs ≡ Some ys
     → length ys ≡ length xs

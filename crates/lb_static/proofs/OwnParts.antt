@@ -1,5 +1,5 @@
--- The static expressions of a node are those that stand in its declarations and in each part of
--- its statements.
+-- The static expressions of a node are those of its declarations and those of each part of its
+-- statements.
 use Rattle.std.proofs.Common.{◌≡◌, Bool, cond, List, [], ◌∷◌, ◌++◌, refl, ap, ap₂, sym, ◌∙◌}
 use Rattle.std.specs.Prelude.{flat_map}
 use Rattle.std.proofs.lemmas.Grind.{flat_map-append}
@@ -14,7 +14,7 @@ use Rattle.lb_static.specs.Parts.{parts, right_side}
 use Rattle.lb_static.specs.StaticParts.{Part, Size, Index, SliceStart, SliceEnd, Value}
 use Rattle.lb_static.specs.StaticParts.{arguments_of, parts_of, parts_in}
 
--- those that stand in an expression itself
+-- the static expressions of an expression itself, without its parts
 abbrev pub own_parts : (Name → Bool) → Expr → List Part
 own_parts variable (Variable x) = cond (variable x) [] ((Value, tree.Named x) ∷ [])
 own_parts variable (Replicate a n) = (Size, n) ∷ []

@@ -1,4 +1,4 @@
--- The first static parameter of a name, and its value.
+-- The first static parameter with a name, and its value.
 use Rattle.std.proofs.Common.{◌≡◌, ℕ, zero, suc, ◌+◌, ◌<◌, ◌≤◌, ℤ, false, cond, List, [], ◌∷◌}
 use Rattle.std.proofs.Common.{length, drop, get_or, Option, Some, None, refl, ap, sym, ◌∙◌, subst}
 use Rattle.std.proofs.Common.{arith, add-one}
@@ -8,7 +8,7 @@ use Rattle.std.specs.Str.{bytes_eq}
 use Rattle.std.proofs.Math.ListN.{drop_of_length-le}
 use Rattle.lb_syntax.specs.Tree.{Name}
 
--- the value of a name among those that are left
+-- the value of a name among the parameters that are left
 abbrev pub value_among : Name → List Name → List ℤ → Option ℤ
 value_among x names values = option_map (λ v. v.1) (find (λ v. bytes_eq v.0 x) (zip names values))
 

@@ -1,5 +1,5 @@
--- What is had from some items by steps: more steps have more, and what is closed under steps has
--- all of it.
+-- Items that are reached by steps: more steps reach more, and a set that is closed under steps has
+-- all of them.
 use Rattle.std.proofs.Common.{◌≡◌, ℕ, zero, suc, ◌+◌, ◌-◌, ◌≤◌, Bool, true, false, cond, List, []}
 use Rattle.std.proofs.Common.{◌∷◌, ◌++◌, length, Option, Some, None, refl, ap, sym, ◌∙◌, arith}
 use Rattle.std.proofs.Common.{length-append}
@@ -44,7 +44,7 @@ module _ {A : Type 0} (items : List A) (start : A → Bool) (step : A → A → 
   stepped k a = ap (list_any (λ b. step b a)) (within_is k)
       ∙ any_filter (λ b. step b a) (is_reachable items start step k) items
 
-  -- one step more
+  -- an item one step behind an item that is reached in `k` steps is reached in `k + 1`
   pub reachable_next : (k q : ℕ) (a b : A) → slice_get items q ≡ Some b
       → is_reachable items start step k b ≡ true → step b a ≡ true
       → is_reachable items start step (suc k) a ≡ true
@@ -83,7 +83,7 @@ module _ {A : Type 0} (items : List A) (start : A → Bool) (step : A → A → 
       omega arith in ap (λ n. is_reachable items start step n a) (sym same)
       ∙ reachable_more k (m - k) a e
 
-  -- one more place, whose item is had by one step more from what came up before
+  -- places stay reachable with one more, whose item is reached in one step from those before
   pub reachable_visit : (k place : ℕ) (order : List ℕ) → k ≤ length order
       → AreReachable items start step order
       → holds (is_reachable items start step (suc k)) (slice_get items place) ≡ true
@@ -120,7 +120,7 @@ module _ {A : Type 0} (items : List A) (start : A → Bool) (step : A → A → 
       (reachable_visit k p order le reachable (and_first _ _ e))
       (and_second (holds (is_reachable items start step (suc k)) (slice_get items p)) _ e)
 
-  -- places that are closed under steps have all that is had
+  -- places that are closed under steps have each item that is reached
   pub closed_has : (order : List ℕ)
       → ((p : ℕ) (a : A) → slice_get items p ≡ Some a → start a ≡ true → is_visited order p ≡ true)
       → ((p q : ℕ) (a b : A) → slice_get items q ≡ Some b → slice_get items p ≡ Some a

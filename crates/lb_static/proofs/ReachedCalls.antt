@@ -1,4 +1,4 @@
--- A node reaches itself where its place lies on a cycle of calls, and there alone.
+-- A node reaches itself exactly where its place lies on a cycle of calls.
 use Rattle.std.proofs.Common.{◌≡◌, ℕ, zero, suc, ◌<◌, Bool, true, false, cond, List, [], ◌∷◌}
 use Rattle.std.proofs.Common.{length, map, Option, Some, None, refl, ap, sym, subst, ◌∙◌, ◌⊎◌, inl}
 use Rattle.std.proofs.Common.{inr, arith}
@@ -27,8 +27,8 @@ use Rattle.lb_static.specs.ReachedNodes.{IsReached, are_linked, id_at, is_linked
 use Rattle.lb_static.specs.ReachedNodes.{trees}
 use Rattle.lb_static.specs.ResolvedNodes.{IsResolved, node_of, statics_of}
 use Rattle.lb_static.specs.ResolvedTerms.{site_of}
-use Rattle.lb_static.specs.declared.reach.NodeId.{NodeId}
-use Rattle.lb_static.specs.declared.reach.Reached.{Reached}
+use Rattle.lb_static.specs.declared.reachable.NodeId.{NodeId}
+use Rattle.lb_static.specs.declared.reachable.Reached.{Reached}
 use Rattle.lb_static.specs.declared.resolved.CallSite.{CallSite}
 use Rattle.lb_static.specs.declared.resolved.ResolvedNode.{ResolvedNode}
 use Rattle.lb_static.proofs.Members.{in_at, place_in, in_contains, contains_in, in_map, map_in}
@@ -37,7 +37,7 @@ use Rattle.lb_static.proofs.Members.{in_any, from_all}
 use Rattle.lb_static.proofs.Saturation.{enough_calls}
 use Rattle.lb_static.proofs.ReachedPlaces.{distinct_last}
 
--- all of some numbers are below another
+-- numbers that are each below `n` are all below `n`
 all_below : (n : ℕ) (xs : List ℕ) → ((i : ℕ) → In i xs → i < n) → All (λ i. i < n) xs
 all_below n [] h k d below = absurd (omega arith)
 all_below n (x ∷ xs) h zero d below = h x (inl refl)
@@ -45,7 +45,7 @@ all_below n (x ∷ xs) h (suc k) d below = all_below n xs (λ i on. h i (inr on)
 
 -- ## Names that are distinct
 
--- of nodes with distinct names two of one name are one
+-- two nodes of a list with distinct names are equal if their names are
 same_named : (ns : List Node) (a b : Node) → are_distinct (map (λ n. n.name) ns) ≡ true → In a ns
     → In b ns → a.name ≡ b.name → a ≡ b
 same_named [] a b e on other same = absurd on
@@ -75,7 +75,7 @@ names_distinct : (P : Program) → keeps_names P ≡ true → are_distinct (sour
 names_distinct P e = distinct_last (map (λ c. c.name) P.source.constants) (source_names P)
     (and_first (are_distinct (global_names P)) _ e)
 
--- ## A call, and the arrow that stands for it
+-- ## Calls, and the arrows of the graph that stand for them
 
 node_at : (r : Reached) (i : ℕ) (n : Node) → slice_get (trees r) i ≡ Some n
     → (rn : ResolvedNode) × (slice_get r.nodes.items i ≡ Some rn) × (node_of rn ≡ n)
@@ -94,7 +94,7 @@ calls_at r i rn e =
     (slice_get-map (λ n. callees_of r n.calls.items) r.nodes.items i
     ∙ ap (option_map (λ n. callees_of r n.calls.items)) e)
 
--- what an arrow leads to
+-- the callee of an arrow: the reached node at the end of the arrow
 id_found : (r : Reached) (s : CallSite) (j : ℕ) → callee_of r s ≡ Some j
     → (id : NodeId) × (id_at r s.callee ≡ Some id) × (id.0 ≡ j) × (j < length r.nodes.items)
 id_found r s j e = by (id_at r s.callee) refl e
@@ -147,7 +147,7 @@ module _ (P : Program) (r : Reached) (is : IsReached P r) where
   resolved_at i rn e = All-contains (IsResolved (source_names P)) r.nodes.items rn is.resolved
       (in_contains r.nodes.items rn (in_at r.nodes.items i rn e))
 
-  -- the node that an arrow leads to is the callee in the source
+  -- the node at the end of an arrow is the callee in the source
   leads_to : (s : CallSite) (j : ℕ) → callee_of r s ≡ Some j
       → (m : Node) × (slice_get (trees r) j ≡ Some m)
       × (slice_get P.source.nodes s.callee.0 ≡ Some m)
@@ -164,7 +164,7 @@ module _ (P : Program) (r : Reached) (is : IsReached P r) where
   site_name s statics m e = ap (λ o. either_or o [])
       (slice_get-map (λ n. n.name) P.source.nodes s.callee.0 ∙ ap (option_map (λ n. n.name)) e)
 
-  -- an arrow is a call
+  -- a node calls the node at the end of each of its arrows
   arrow_calls : (i j : ℕ) (n : Node) → slice_get (trees r) i ≡ Some n → In j (called (graph_of r) i)
       → (m : Node) × (slice_get (trees r) j ≡ Some m) × In m P.source.nodes × (calls n m ≡ true)
   arrow_calls i j n at on =
@@ -206,7 +206,7 @@ module _ (P : Program) (r : Reached) (is : IsReached P r) where
   linked_at i rn s at on = all_in (is_linked r) rn.calls.items s
       (all_in (are_linked r) r.nodes.items rn is.linked (in_at r.nodes.items i rn at)) on
 
-  -- a call has its arrow
+  -- a node that calls another has an arrow to it
   call_arrow : keeps_names P ≡ true → (i : ℕ) (n m : Node) → slice_get (trees r) i ≡ Some n
       → In m P.source.nodes → calls n m ≡ true
       → (j : ℕ) × In j (called (graph_of r) i) × (slice_get (trees r) j ≡ Some m)
@@ -240,7 +240,7 @@ module _ (P : Program) (r : Reached) (is : IsReached P r) where
 
   -- ## A cycle
 
-  -- where a node is reached in some calls, so is each that its place leads to
+  -- a node that a chain of calls leads to is reached, if the first node of the chain is
   reached_along : (ks : List ℕ) (i j : ℕ) (n m : Node) → Leads (graph_of r) i ks j
       → slice_get (trees r) i ≡ Some n → slice_get (trees r) j ≡ Some m
       → (start : Node → Bool) (k : ℕ) → In n (reached_within P start k)
@@ -270,7 +270,7 @@ module _ (P : Program) (r : Reached) (is : IsReached P r) where
       (any_in (λ m. bytes_eq m.name n.name) (reached_within P (calls n) k) n on
       (same_name n.name n.name refl))
 
-  -- a node whose place is on a cycle reaches itself
+  -- a node with its place on a cycle reaches itself
   cycle_recursive : (i : ℕ) (n : Node) → IsOnCycle (graph_of r) i → slice_get (trees r) i ≡ Some n
       → is_recursive P n ≡ true
   cycle_recursive i n cycle at = by cycle.0 cycle.1
@@ -290,7 +290,7 @@ module _ (P : Program) (r : Reached) (is : IsReached P r) where
 
   -- ## An order
 
-  -- a node has a place among some
+  -- a node has its place in a list of places
   abbrev StandsIn : List ℕ → Node → Type 0
   StandsIn places m = (j : ℕ) × In j places × (slice_get (trees r) j ≡ Some m)
 
@@ -302,7 +302,7 @@ module _ (P : Program) (r : Reached) (is : IsReached P r) where
   ordered_closed (k ∷ order) i j ordered (inr on) calls =
       inr (ordered_closed order i j ordered.1 on calls)
 
-  -- from nodes in an order no others are reached
+  -- from nodes with places in an order, only nodes with places in it are reached
   stays_in : keeps_names P ≡ true → (order : List ℕ) → IsOrder (graph_of r) order
       → (start : Node → Bool)
       → ((m : Node) → In m P.source.nodes → start m ≡ true → StandsIn order m) → (k : ℕ) (m : Node)
@@ -343,7 +343,7 @@ module _ (P : Program) (r : Reached) (is : IsReached P r) where
       (length P.source.nodes) m.0 m.1 in
       not_recursive keeps order ordered.1 again.0 n again.1 (again.2 ∙ ap Some one) e
 
-  -- where all places stand in an order, no node that is reached reaches itself
+  -- where all places stand in an order, no reached node reaches itself
   pub ordered_founded : keeps_names P ≡ true → IsOrdered (graph_of r) → is_well_founded P ≡ true
   ordered_founded keeps ordered = from_all (λ n. not (is_recursive P n)) (reached_nodes P)
       (λ n on. by n on (is_recursive P n) refl)
@@ -374,7 +374,7 @@ module _ (P : Program) (r : Reached) (is : IsReached P r) where
           let both : not true ≡ true = ap not (sym (cycle_recursive i n cycle at)) ∙ founded in
           absurd cc
 
-  -- ## A cycle that is told
+  -- ## The cycle of a refusal
 
   reached_with : (h : Node) (hs : List Node) → In h (reached_nodes P)
       → ((l : Node) → In l hs → In l (reached_nodes P)) → (l : Node) → In l (h ∷ hs)
@@ -382,7 +382,7 @@ module _ (P : Program) (r : Reached) (is : IsReached P r) where
   reached_with h hs first rest l (inl is) = subst (λ q. In q (reached_nodes P)) is first
   reached_with h hs first rest l (inr on) = rest l on
 
-  -- the nodes at the places on a way from one to another
+  -- the nodes along a chain of places are a chain of calls
   nodes_along : (ks : List ℕ) (i j : ℕ) (n m : Node) → Leads (graph_of r) i ks j
       → slice_get (trees r) i ≡ Some n → slice_get (trees r) j ≡ Some m
       → (ns : List Node) × (map (λ h. h.name) ns ≡ names_at r ks)
@@ -403,7 +403,7 @@ module _ (P : Program) (r : Reached) (is : IsReached P r) where
         (next.3, rest.3),
       )
 
-  -- the nodes at the places of a cycle are one of calls
+  -- the nodes at the places of a cycle are a cycle of calls
   pub cycle_told : (cycle : List ℕ) → IsCycle (graph_of r) cycle
       → IsCallCycle P (names_at r cycle)
   cycle_told [] c = absurd c
@@ -431,7 +431,7 @@ module _ (P : Program) (r : Reached) (is : IsReached P r) where
       let n = item_at (trees r) i (omega (arith, c.0, long, many)) in
       place_unfounded i n.0 (ks, c.1) n.1
 
--- each place of a cycle is that of a node
+-- each place of a cycle is the place of a node
 pub cycle_within : (r : Reached) (cycle : List ℕ) → IsCycle (graph_of r) cycle
     → All (λ i. i < length r.nodes.items) cycle
 cycle_within r [] c = absurd c

@@ -28,8 +28,8 @@ use Rattle.lb_static.specs.ReachedNodes.{IsReached, are_linked, id_at, is_linked
 use Rattle.lb_static.specs.ResolvedNodes.{IsResolved, counts_of, node_of, statics_of}
 use Rattle.lb_static.specs.ResolvedTerms.{is_site_within, site_of}
 use Rattle.lb_static.specs.WorkLists.{AreReachable, HasTurns, is_reachable, is_visited, within}
-use Rattle.lb_static.specs.declared.reach.NodeId.{NodeId}
-use Rattle.lb_static.specs.declared.reach.Reached.{Reached}
+use Rattle.lb_static.specs.declared.reachable.NodeId.{NodeId}
+use Rattle.lb_static.specs.declared.reachable.Reached.{Reached}
 use Rattle.lb_static.specs.declared.resolved.CallSite.{CallSite}
 use Rattle.lb_static.specs.declared.resolved.NodePlace.{NodePlace}
 use Rattle.lb_static.specs.declared.resolved.ResolvedNode.{ResolvedNode}
@@ -49,7 +49,7 @@ one_place x xs i e at = by (among x xs) e
     by true e f = absurd cc
     by false e f = absurd cc
 
--- a name stands at one place of distinct names
+-- a name has only one place in a list of distinct names
 pub distinct_places : (xs : List Name) (i j : ℕ) (x : Name) → are_distinct xs ≡ true
     → slice_get xs i ≡ Some x → slice_get xs j ≡ Some x → i ≡ j
 distinct_places [] i j x d e f = absurd cc
@@ -67,7 +67,7 @@ pub distinct_last : (xs ys : List Name) → are_distinct (xs ++ ys) ≡ true →
 distinct_last [] ys d = d
 distinct_last (x ∷ xs) ys d = distinct_last xs ys (and_second (not (among x (xs ++ ys))) _ d)
 
--- a node of a name stands at one place
+-- two nodes with one name have one place, in a source with distinct names
 pub node_places : (s : Source) (i j : ℕ) (m n : Node) → are_distinct (names_in_source s) ≡ true
     → slice_get s.nodes i ≡ Some m → slice_get s.nodes j ≡ Some n → m.name ≡ n.name → i ≡ j
 node_places s i j m n d e f same =
@@ -75,7 +75,7 @@ node_places s i j m n d e f same =
     (slice_get-map (λ k. k.name) s.nodes i ∙ ap (option_map (λ k. k.name)) e ∙ ap Some same)
     (slice_get-map (λ k. k.name) s.nodes j ∙ ap (option_map (λ k. k.name)) f)
 
--- ## What the walk begins with
+-- ## The starts of the walk
 
 pub is_name : (P : Program) (x : Name) (n : Node) → node_named P x ≡ Some n → n.name ≡ x
 is_name P x n e = (bytes_eq-Decides n.name x).0
@@ -111,7 +111,7 @@ begun s x before after id h = by (slice_get s.nodes h.place) refl
     by (Some n) e = let found = sym h.found
         ∙ e in record { node = n; at = e; found = found; name = is_name (alone s) x n found }
 
--- one more start is had, if its name is one of the starts
+-- places stay reachable with the node of a start
 start_reachable : (P : Program) (x : Name) (before after : List ℕ) (id : NodeId)
     → IsStart P.source x before after id → among x (start_names P) ≡ true
     → AreReachable P.source.nodes (begins P) calls before
@@ -124,7 +124,7 @@ start_reachable P x before after id h is reachable =
     (ap (holds (is_reachable P.source.nodes (begins P) calls 1)) b.at
     ∙ reachable_by P.source.nodes (begins P) calls 0 1 b.node (omega arith) first))
 
--- each node of the name came up
+-- each node with the name of a start came up
 start_visited : (P : Program) (x : Name) (before after : List ℕ) (id : NodeId)
     → IsStart P.source x before after id → are_distinct (names_in_source P.source) ≡ true
     → (place : ℕ) (n : Node) → slice_get P.source.nodes place ≡ Some n → bytes_eq n.name x ≡ true
@@ -205,7 +205,7 @@ two_starts s x y o none middle after root observer there empty d h k =
     root_kept = ap (λ l. slice_get l root.0) k.visited
         ∙ (grows_once middle k.place).kept root.0 h.place h.at
 
--- the place of a call is that of the node that has the name
+-- the place of a call is the place of the node with that name
 called_place : (s : Source) (i p : ℕ) (a : Node) → are_distinct (names_in_source s) ≡ true
     → nat_lt i (length (map (λ n. n.name) s.nodes)) ≡ true
     → either_or (slice_get (map (λ n. n.name) s.nodes) i) [] ≡ a.name → slice_get s.nodes p ≡ Some a
@@ -218,7 +218,7 @@ called_place s i p a d below name at =
     (there ∙ ap Some (ap (λ o. either_or o []) (sym there) ∙ name))
     (slice_get-map (λ n. n.name) s.nodes p ∙ ap (option_map (λ n. n.name)) at)
 
--- ## What is reached
+-- ## Reached nodes as reached items
 
 pub reached_is : (P : Program) (start : Node → Bool) (k : ℕ)
     → reached_within P start k ≡ within P.source.nodes start calls k
@@ -237,7 +237,7 @@ pub record Place {A : Type 0} (xs : List A) (x : A) : Type 0 where
 pub place_of : {A : Type 0} (xs : List A) (x : A) → Contains xs x → Place xs x
 place_of xs x c = record { place = c.0; at = slice_get-get_or xs c.0 x c.1 ∙ ap Some c.2 }
 
--- an item that is kept stands in the filtered list
+-- an item that passes the filter has a place in the filtered list
 filtered_at : {A : Type 0} (p : A → Bool) (xs : List A) (i : ℕ) (x : A) → slice_get xs i ≡ Some x
     → p x ≡ true → Place (filter p xs) x
 filtered_at p [] i x e h = absurd cc
@@ -260,7 +260,7 @@ pub record Kept {A : Type 0} (p : A → Bool) (xs : List A) (x : A) : Type 0 whe
   pub at : slice_get xs place ≡ Some x
   pub passes : p x ≡ true
 
--- an item of the filtered list stands in the list and passes
+-- an item of the filtered list is an item of the list that passes
 pub filtered_from : {A : Type 0} (p : A → Bool) (xs : List A) (i : ℕ) (x : A)
     → slice_get (filter p xs) i ≡ Some x → Kept p xs x
 filtered_from p [] i x e = absurd cc
@@ -301,7 +301,7 @@ module _ (P : Program) (before order : List ℕ) (nodes : List ResolvedNode) (ro
     (begun : AreStarts P before root observer)
     (h : AreResolved P.source before order nodes) (all : length nodes ≡ length order)
     (few : length order ≤ length P.source.nodes) where
-  -- what stands at a turn
+  -- the node that is resolved at a turn is the node of the source at the place of that turn
   stands : (turn place : ℕ) → slice_get order turn ≡ Some place
       → slice_get (map node_of nodes) turn ≡ slice_get P.source.nodes place
   stands turn place at =
@@ -311,7 +311,7 @@ module _ (P : Program) (before order : List ℕ) (nodes : List ResolvedNode) (ro
   reachable : AreReachable P.source.nodes (begins P) calls order
   reachable = h.reachable (begins P) begun.reachable
 
-  -- a node that is called came up
+  -- a node that a node that came up calls came up too
   closed : (p q : ℕ) (a b : Node) → slice_get P.source.nodes q ≡ Some b
       → slice_get P.source.nodes p ≡ Some a → is_visited order q ≡ true → calls b a ≡ true
       → is_visited order p ≡ true
@@ -401,7 +401,7 @@ module _ (P : Program) (before order : List ℕ) (r : Reached) (turns : List (Op
     (h : AreResolved P.source before order r.nodes.items)
     (all : length r.nodes.items ≡ length order) (has : HasTurns order turns)
     (ids : r.ids.items ≡ ids_of turns) where
-  -- what stands at a turn
+  -- the tree of the reached node at a turn is the node of the source at the place of that turn
   tree_is : (turn place : ℕ) → slice_get order turn ≡ Some place
       → slice_get (trees r) turn ≡ slice_get P.source.nodes place
   tree_is turn place at =
@@ -445,7 +445,7 @@ module _ (P : Program) (before order : List ℕ) (r : Reached) (turns : List (Op
   observer_is None same e = e
   observer_is (Some id) same e = is_tree id (begun.came id same) ∙ e
 
-  -- the number of a place
+  -- the id of a node is the turn of its place
   id_of_turn : (place : NodePlace) (o : Option (Option ℕ)) → slice_get turns place.0 ≡ o
       → id_at r place ≡ (o >>= λ t. option_map number t)
   id_of_turn place o e =

@@ -1,4 +1,4 @@
--- Resolved parts one after another, and what stands for a whole expression.
+-- Resolved parts one after another, and whole expressions.
 use Rattle.std.proofs.Common.{◌≡◌, ℕ, zero, suc, ◌+◌, ◌<◌, Bool, true, false, List, [], ◌∷◌, ◌++◌}
 use Rattle.std.proofs.Common.{length, take, drop, get_or, map, arith, Ok, Err, Vec, Global, refl}
 use Rattle.std.proofs.Common.{ap, sym, subst, ◌∙◌, length-append}
@@ -73,7 +73,7 @@ use Rattle.lb_static.proofs.SharedParts.{own_kept, place_stands}
 abbrev pub Done : (before after : Progress) → Expr → Term → Type 0
 Done before after e t = ResolvesTerm before after e (Ok t)
 
--- two expressions, one after the other
+-- two expressions that are resolved one after the other
 abbrev pub Two : (before after : Progress) (e f : Expr) (t u : Term) → Type 0
 Two before after e f t u =
     (after ≡ grown before (parts_of (is_variable_of before) e ++ parts_of (is_variable_of before) f)
@@ -122,7 +122,7 @@ three_done before mid after c e f s t u d g =
           (expr_passes before e && expr_passes before f) d.2 h.3,
     )
 
--- a static expression, and an expression after it
+-- a static expression that is resolved, and then an expression
 abbrev pub WithStatic : (before after : Progress) (role : Purpose) (x : Static) (e : Expr)
     (id : StaticId) (t : Term) → Type 0
 WithStatic before after role x e id t =
@@ -167,7 +167,7 @@ statics_done before mid after r q x y e i j t d g =
       and_from (static_fits before x) (static_fits before y && expr_passes before e) d.2 h.3,
     )
 
--- expressions after a call, or after a static expression
+-- a list of expressions that is resolved
 abbrev pub AllDone : (before after : Progress) → List Expr → Vec Term Global → Type 0
 AllDone before after es ts = ResolvesTerms before after es (Ok ts)
 
@@ -282,7 +282,7 @@ view_call f args es =
     ap (λ (z : Exprs). tree.Call f (view_statics args.items) z)
     (view_row-items row.0 row.1 ∙ ap (λ z. exprs (map view z)) (items_hidden-the_row-Expr-0 es))
 
--- the operator stands in a box
+-- the operator of an iteration that is in a box
 pub view_iterate : (it : ArrayIterator) (o : Box Operator Global) (w : Operator) → o.value ≡ w
     → (n : Static') (es : Vec source.Expr Global) (at : ℕ)
     → view (source.Iterate it o n es at)
@@ -320,7 +320,7 @@ unhidden_row : (t : Texts) (n : _) (row : Row_of-Term n)
 unhidden_row t n end_of-Term = refl
 unhidden_row t n (more_of-Term e rest) = ap (λ b. is_unhidden t e && b) (unhidden_row t _ rest)
 
--- what is found in the expressions of a list
+-- the static expressions of a list of expressions are those of its items
 pub parts_exprs : (variable : Name → Bool) (es : List Expr)
     → parts_in variable (exprs es) ≡ flat_map (parts_of variable) es
 parts_exprs variable [] = refl
@@ -340,7 +340,7 @@ told_exprs : (f : StaticError) (s : Progress) (es : List Expr)
 told_exprs f s [] = refl
 told_exprs f s (e ∷ es) = ap (λ b. expr_told f s e && b) (told_exprs f s es)
 
--- what holds of the rows of a term
+-- the relation of the operands of a term to a list of expressions
 pub record RowStands (s : Progress) (es : List Expr) {n : Count} (row : Row_of-Term n) : Type 0
   where
     pub stands : row_of (texts s) row ≡ exprs es
@@ -400,7 +400,7 @@ module _ (before after : Progress) (es : Vec source.Expr Global) (at : ℕ) (ts 
         pass_exprs before (map view es.items) ∙ h.2,
       )
 
--- an expression that is refused among those of a list
+-- an expression of a list that is refused: so is the list
 module _ (s : Progress) (f : StaticError) (es : Vec source.Expr Global) (at : ℕ)
     (h : IsNameFault f (exprs_told f s (map view es.items))) where
   abbrev Refuses : Expr → Type 0
@@ -544,7 +544,7 @@ fault_after_symbol s m f it o op same n es at P C is h =
 
 -- ## Loops
 
--- what a loop over expressions keeps
+-- the invariant of a loop over expressions
 abbrev pub SoFar : (start here : Progress) → List Expr → List Term → Type 0
 SoFar start here es ts =
     (here ≡ after_exprs start es) × StandAll here es ts × (exprs_pass start es ≡ true)
@@ -593,7 +593,7 @@ next_done start before after ts es i e t below is d g =
     subst (λ l. SoFar start after l (ts ++ t ∷ [])) same
     (one_more_done start before after (map view (take i es)) ts (view e) t d g)
 
--- an item that fails is one of the list
+-- an item that fails makes the whole list fail
 pub one_fails : {A B : Type 0} (p : B → Bool) (f : A → B) (xs : List A) (i : ℕ) (x : A)
     → i < length xs → x ≡ get_or xs i x → p (f x) ≡ false → list_all p (map f xs) ≡ false
 one_fails p f [] i x below is e = absurd (omega arith)
@@ -656,7 +656,7 @@ statics_placed start here role xs first count own is at long =
 
 -- ## Names and calls
 
--- the numbers of a call are in range behind its static arguments
+-- the numbers of a call are in range once its static arguments are there
 pub site_placed : (before mid : Progress) (P : List Part) (args : List Static)
     (place : StaticId × ℕ) (s : CallSite) → mid ≡ grown before P []
     → StaticsStand mid args place → s.first_argument ≡ place.0 → s.arguments ≡ place.1
@@ -692,7 +692,7 @@ static_placed s p id e =
     let within : nat_lt id.0 (length (map (λ q. q.1) more)) ≡ true = grind (arith, nat_tests) in
     (ap (λ o. either_or o (tree.Whole 0)) at, within)
 
--- a static parameter or a constant in an expression
+-- the term of a static parameter or a constant in an expression
 pub named_done : (s after : Progress) (x : Name) (id : StaticId) → is_variable_of s x ≡ false
     → is_static_name (program_of s) s.node x ≡ true
     → after ≡ grown s ((Value_role, tree.Named x) ∷ []) [] → StaticStands after (tree.Named x) id

@@ -10,18 +10,18 @@ use Rattle.lb_static.specs.InstanceTable.{HasStarts, instance_of, specialized_at
 use Rattle.lb_static.specs.InstanceTable.{specialized_instance_at}
 use Rattle.lb_static.specs.ReachedNodes.{IsReached, source_names}
 use Rattle.lb_static.specs.ResolvedNodes.{IsResolved, node_of, statics_of}
-use Rattle.lb_static.specs.declared.reach.Reached.{Reached}
+use Rattle.lb_static.specs.declared.reachable.Reached.{Reached}
 use Rattle.lb_static.specs.declared.resolved.ResolvedNode.{ResolvedNode}
 use Rattle.lb_static.specs.declared.table.Specialization.{Specialization}
 use Rattle.lb_static.specs.declared.table.SpecializationId.{SpecializationId}
 use Rattle.lb_static.specs.declared.table.Table.{Table}
 use Rattle.lb_static.proofs.InterfaceTypes.{Stands}
 
--- the node of a specialization with its values, where there is one
+-- the node of a specialization with its values, if the node is there
 abbrev with_values : Specialization → Option ResolvedNode → Option (ResolvedNode × List ℤ)
 with_values s o = option_map (λ n. (n, s.statics.items)) o
 
--- the instance of a specialization, where its node is there
+-- the instance of a specialization, if its node is there
 abbrev with_path : Path → Specialization → Option ResolvedNode → Option Instance
 with_path path s o = option_map (λ n. instance_of path n s.values.items) (option_map node_of o)
 
@@ -30,7 +30,7 @@ specialized_is : (r : Reached) (path : Path) (s : Specialization)
 specialized_is r path s = ap (option_map (λ n. instance_of path n s.values.items))
     (slice_get-map node_of r.nodes.items s.node.0)
 
--- where nothing is found nothing stands
+-- a specialization whose node is not found has no instance
 pub nothing_stands : (r : Reached) (t : Table) (path : Path) (id : SpecializationId)
     → valued_node_in r t id ≡ None → specialized_instance_at r t path id ≡ None
 nothing_stands r t path id e = by (slice_get t.specializations.items id.0) e
@@ -52,7 +52,7 @@ resolved_at P r reached k n e =
     subst (IsResolved (source_names P)) (get_or_from_slice_get r.nodes.items k n n e)
     (reached.resolved k n (slice_get_within r.nodes.items k n e))
 
--- the values that the table holds
+-- the values that a specialization holds are those of the definitions
 abbrev Values : Program → Reached → Specialization → Type 0
 Values P r s = (here : Instance) → specialized_at r Root s ≡ Some here → (m : ResolvedNode)
     → slice_get r.nodes.items s.node.0 ≡ Some m
@@ -88,7 +88,7 @@ node_stands P r path s n statics reached values e = by (slice_get r.nodes.items 
           },
         )
 
--- what is found stands
+-- a specialization whose node is found has an instance of this node with these values
 pub stands : (P : Program) (r : Reached) (t : Table) (path : Path) (id : SpecializationId)
     (n : ResolvedNode) (statics : List ℤ) → IsReached P r → HasStarts P r t
     → valued_node_in r t id ≡ Some (n, statics)

@@ -1,4 +1,4 @@
--- What is reached in any number of calls is reached in as many as there are nodes.
+-- The nodes reached in any number of calls are reached in as many calls as there are nodes.
 use Rattle.std.proofs.Common.{◌≡◌, ℕ, zero, suc, ◌+◌, ◌<◌, ◌≤◌, Bool, true, false, cond, List, []}
 use Rattle.std.proofs.Common.{◌∷◌, length, refl, ap, sym, subst, ◌∙◌, ◌⊎◌, inl, inr, arith}
 use Rattle.std.specs.Prelude.{◌||◌, filter}
@@ -8,7 +8,7 @@ use Rattle.lb_syntax.specs.Tree.{Node}
 use Rattle.lb_static.specs.Instances.{Program}
 use Rattle.lb_static.specs.Names.{calls, reached_within}
 
--- what passes one test passes another
+-- each item that passes `p` passes `q`
 abbrev Implies : {A : Type 0} → (A → Bool) → (A → Bool) → Type 0
 Implies p q = (x : _) → p x ≡ true → q x ≡ true
 
@@ -60,7 +60,7 @@ filter_few p (x ∷ xs) = by (p x) (filter_few p xs)
     by false h = omega arith
 
 module _ (P : Program) (start : Node → Bool) where
-  -- the test by which a node is reached in so many calls
+  -- the test by which a node is reached in at most `k` calls
   abbrev reaches : ℕ → Node → Bool
   reaches zero m = start m
   reaches (suc k) m = start m || list_any (λ n. calls n m) (reached_within P start k)
@@ -81,7 +81,7 @@ module _ (P : Program) (start : Node → Bool) where
       (λ h. any_more (λ n. calls n m) (reaches k) (reaches (suc k)) (one_more k) P.source.nodes
       (subst (λ l. list_any (λ n. calls n m) l ≡ true) (reached_is k) h)) e
 
-  -- one call more reaches more nodes, or the same ones
+  -- one more call reaches more nodes, or the same nodes
   grows : (k : ℕ) → (length (reached_within P start k) < length (reached_within P start (suc k)))
       ⊎ (reached_within P start k ≡ reached_within P start (suc k))
   grows k =
@@ -93,7 +93,7 @@ module _ (P : Program) (start : Node → Bool) where
       → reached_within P start (suc k) ≡ reached_within P start (suc (suc k))
   same_after k e = ap (λ l. filter (λ m. start m || list_any (λ n. calls n m) l) P.source.nodes) e
 
-  -- so many calls reach so many nodes, or no more than one call less
+  -- at most `k + 1` calls reach more than `k` nodes, or the same nodes as `k` calls
   many_or_same : (k : ℕ) → (k < length (reached_within P start (suc k)))
       ⊎ (reached_within P start k ≡ reached_within P start (suc k))
   many_or_same zero = by (grows zero)
@@ -143,7 +143,7 @@ module _ (P : Program) (start : Node → Bool) where
       subst (λ n. reached_within P start n ≡ reached_within P start (suc n)) (sym same)
       (same_after (k + length P.source.nodes) (ever_after k))
 
-  -- no more calls reach more
+  -- more calls than there are nodes reach no further nodes
   at_last : (k : ℕ) → reached_within P start (k + length P.source.nodes)
       ≡ reached_within P start (length P.source.nodes)
   at_last zero = let same : 0 + length P.source.nodes ≡ length P.source.nodes =
@@ -164,7 +164,7 @@ module _ (P : Program) (start : Node → Bool) where
       (any_more f (reaches (n + k)) (reaches (suc (n + k))) (one_more (n + k)) P.source.nodes
       before)
 
-  -- what some calls reach is reached by as many as there are nodes
+  -- a test that some reached node passes is passed by a node reached in as many calls as nodes
   pub enough_calls : (f : Node → Bool) (k : ℕ) → list_any f (reached_within P start k) ≡ true
       → list_any f (reached_within P start (length P.source.nodes)) ≡ true
   enough_calls f k e =

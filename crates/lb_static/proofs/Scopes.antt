@@ -1,4 +1,4 @@
--- Names that are declared once each: one more declaration, and the place of a name.
+-- Declared names, each of them once: one more declaration, and the place of a name.
 use Rattle.std.proofs.Common.{◌≡◌, ℕ, suc, ◌+◌, Bool, true, false, cond, List, [], ◌∷◌, ◌++◌}
 use Rattle.std.proofs.Common.{length, map, Option, Some, None, refl, ap, sym, ◌∙◌}
 use Rattle.std.proofs.Common.{subst, arith}
@@ -19,7 +19,7 @@ use Rattle.lb_static.specs.CountedNames.{are_once, counted}
 use Rattle.lb_static.specs.Names.{are_distinct}
 use Rattle.lb_static.specs.Scopes.{ArePlaced}
 
--- ## A list under a view
+-- ## Lists that are mapped
 
 prefix_map : {A B : Type 0} (p : B → Bool) (g : A → B) (xs : List A)
     → prefix_len (λ x. p (g x)) xs ≡ prefix_len p (map g xs)
@@ -60,7 +60,7 @@ distinct_step false b true d = by d
     by false = refl
 distinct_step false b false d = refl
 
--- names are distinct with one more at the end, if they were and it is none of them
+-- names with `x` at the end are distinct exactly if they are distinct and `x` is not among them
 pub distinct_more : (xs : List Name) (x : Name)
     → are_distinct (xs ++ x ∷ []) ≡ (are_distinct xs && not (among x xs))
 distinct_more [] x = refl
@@ -71,9 +71,9 @@ distinct_more (y ∷ xs) x =
     ∙ ap (λ b. not (among y xs || bytes_eq x y) && b) (distinct_more xs x)
     ∙ distinct_step (among y xs) (among x xs) (bytes_eq x y) (are_distinct xs)
 
--- ## Where names are found
+-- ## The places of names
 
--- the first place in a list that has one more item before the others
+-- the first place in a list with one more item in front
 position_longer : {A : Type 0} (p : A → Bool) (y : A) (ys : List A)
     → position p (y ∷ ys) ≡ cond (p y) (Some 0) (option_map (λ i. 1 + i) (position p ys))
 position_longer p y ys = by (p y) (position_or_len p ys)
@@ -97,7 +97,7 @@ position_longer p y ys = by (p y) (position_or_len p ys)
 same_as : (x y : Name) → bytes_eq x y ≡ true → x ≡ y
 same_as x y = (bytes_eq-Decides x y).0
 
--- the place of each name, where one that is new is declared after the others
+-- the place of each name, where a new name is declared after the others
 pub placed_more : (ns : List Name) (x q : Name) → among x ns ≡ false
     → cond (bytes_eq x q) (Some (length ns)) (position (bytes_eq q) ns)
     ≡ position (bytes_eq q) (ns ++ x ∷ [])
@@ -135,7 +135,7 @@ placed_more (y ∷ ns) x q a =
     by apart false c there here next =
         rw there (mapped (bytes_eq x q) (position (bytes_eq q) ns) ∙ ap (option_map later) next)
 
--- one more name has its place in the map
+-- the map has the place of each name, with one more name
 pub placed_after : {A : Type 0} (before after : BTreeMap (String A) ℕ) (ns ns' : List Name)
     (key x : Name) (place : ℕ) → ArePlaced ns before → among x ns ≡ false → key ≡ x
     → place ≡ length ns → ns' ≡ ns ++ x ∷ []
@@ -153,7 +153,7 @@ placed_after before after ns ns' key x place h fresh is last more set = (
       ∙ placed_more ns x q fresh ∙ sym (ap (position (bytes_eq q)) more),
 )
 
--- ## A name that stands twice, and counts
+-- ## A name that is doubled, and counts
 
 once_longer : (counts : Name → Bool) (xs ys : List Name) → are_once counts xs ≡ false
     → are_once counts (xs ++ ys) ≡ false
@@ -170,7 +170,7 @@ once_longer counts (x ∷ xs) ys e =
     by true false true c more e next = refl
     by true false false c more e next = next e
 
--- where a name that counts stands twice among some, it does so in a longer list
+-- a doubled name that counts in a front of a list is doubled in the list
 pub once_before : (counts : Name → Bool) (xs ys all : List Name) → xs ++ ys ≡ all
     → are_once counts xs ≡ false → are_once counts all ≡ false
 once_before counts xs ys all e d =
@@ -200,7 +200,7 @@ stands_twice counts x (z ∷ xs) ys c a =
     by false e a later =
         and_right (counted counts (λ y. not (among y (xs ++ x ∷ ys))) z) rest (later a)
 
--- a name that counts and that stands before stands twice
+-- a name that counts and that stands before is doubled
 pub once_here : (counts : Name → Bool) (xs ys all : List Name) (x : Name) → xs ++ x ∷ ys ≡ all
     → counted counts (λ y. not (among y xs)) x ≡ false → are_once counts all ≡ false
 once_here counts xs ys all x e d =
@@ -212,7 +212,7 @@ once_here counts xs ys all x e d =
     two_of true false e = absurd cc
     two_of false b e = absurd cc
 
--- the name at the place that is found
+-- the name at the place that is found for `x` is `x`
 pub name_at_place : (x : Name) (ns : List Name) (i : ℕ) → position (bytes_eq x) ns ≡ Some i
     → slice_get ns i ≡ Some x
 name_at_place x ns i e = by ns i e

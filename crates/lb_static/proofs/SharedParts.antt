@@ -1,4 +1,4 @@
--- What is kept of static expressions of which some stand for the same.
+-- The list of static expressions where equal ones are kept once.
 use denote.Enum.Bare.{sameb, same_true}
 use Rattle.std.proofs.Common.{◌≡◌, ℕ, suc, Bool, true, false, cond, List, [], ◌∷◌, ◌++◌, length}
 use Rattle.std.proofs.Common.{map}
@@ -30,7 +30,7 @@ use Rattle.lb_static.specs.declared.resolved.StaticId.{StaticId}
 use Rattle.lb_static.specs.declared.resolved.StaticPart.{StaticPart}
 use Rattle.lb_static.proofs.Scopes.{bytes_eq-symmetric}
 
--- ## The same
+-- ## Equality
 
 same_static : (s t : Static) → is_same_static s t ≡ true → s ≡ t
 same_static (Whole m) (Whole n) e = let same : m ≡ n = grind (arith, nat_tests) in ap Whole same
@@ -61,9 +61,9 @@ same_part p q e =
     let static = same_static p.1 q.1 (and_second (is_same_purpose p.0 q.0) _ e) in
     λ j. (purpose j, static j)
 
--- ## One more
+-- ## One more static expression
 
--- what stands for the same is this static expression
+-- the static expression that is found for `q` is `q` itself
 held_stands : (ps : List Part) (q : Part) (i : ℕ) → held ps q ≡ Some i → slice_get ps i ≡ Some q
 held_stands ps q i e = of_key (key_of q) e
   where
@@ -90,7 +90,7 @@ held_stands ps q i e = of_key (key_of q) e
     of_key None e = absurd cc
     of_key (Some k) e = of_place (first_with (has_key k) ps) e
 
--- each static expression has its place
+-- the static expression at `place_of ps q` is `q`, once `q` is kept
 pub place_stands : (ps : List Part) (q : Part) → slice_get (with_part ps q) (place_of ps q) ≡ Some q
 unfolding with_part place_of
 place_stands ps q = by (held ps q) refl
@@ -100,7 +100,7 @@ place_stands ps q = by (held ps q) refl
     by None e = get_last ps q
     by (Some i) e = held_stands ps q i e
 
--- those that are added
+-- the static expressions that are added for `q`: none, or `q`
 added : List Part → Part → List Part
 added ps q = cond (is_some (held ps q)) [] (q ∷ [])
 
@@ -112,7 +112,7 @@ one_added ps q = by (is_some (held ps q))
     by true = sym (append-nil ps)
     by false = refl
 
--- one that is never kept once
+-- a static expression of a purpose that is never kept once is added
 own_added : (ps : List Part) (q : Part) → letter_of q.0 ≡ None → with_part ps q ≡ ps ++ q ∷ []
 unfolding with_part
 own_added ps q e = by (letter_of q.0) e
@@ -158,7 +158,7 @@ any_part f ps q = by (held ps q) refl
     by (Some i) e = there (list_any f ps) (f q) refl refl
         (λ a. any_passes_from_place f ps i q (held_stands ps q i e) a)
 
--- a test passes of all that is kept where it does of all that was found
+-- a test passes for all that are kept exactly if it passes for all that were given
 pub all_kept : (f : Part → Bool) (ps qs : List Part)
     → list_all f (with_parts ps qs) ≡ (list_all f ps && list_all f qs)
 all_kept f ps [] = sym (and-true (list_all f ps))
@@ -173,13 +173,13 @@ any_kept f ps (q ∷ qs) =
     any_kept f (with_part ps q) qs ∙ ap (λ b. b || list_any f qs) (any_part f ps q)
     ∙ or_assoc (list_any f ps) (f q) (list_any f qs)
 
--- ## More, one after another
+-- ## More static expressions, one after another
 
 pub kept_twice : (ps P Q : List Part) → with_parts (with_parts ps P) Q ≡ with_parts ps (P ++ Q)
 kept_twice ps [] Q = refl
 kept_twice ps (p ∷ P) Q = kept_twice (with_part ps p) P Q
 
--- those that are added of more
+-- the static expressions that are added for a list
 pub all_added : List Part → List Part → List Part
 all_added ps [] = []
 all_added ps (q ∷ qs) = added ps q ++ all_added (with_part ps q) qs
@@ -192,7 +192,7 @@ kept_longer ps (q ∷ qs) =
     ∙ ap (λ l. l ++ all_added (with_part ps q) qs) (one_added ps q)
     ∙ append_assoc ps (added ps q) (all_added (with_part ps q) qs)
 
--- those of a purpose of which each is kept
+-- static expressions of a purpose that is never kept once are all added
 pub own_kept : (purpose : Purpose) (ps : List Part) (ss : List Static) → letter_of purpose ≡ None
     → with_parts ps (map (λ s. (purpose, s)) ss) ≡ ps ++ map (λ s. (purpose, s)) ss
 own_kept purpose ps [] e = sym (append-nil ps)
@@ -202,7 +202,7 @@ own_kept purpose ps (s ∷ ss) e =
     ∙ own_kept purpose (ps ++ (purpose, s) ∷ []) ss e
     ∙ append_assoc ps ((purpose, s) ∷ []) tagged
 
--- ## As the code keeps them
+-- ## The static expressions as the code keeps them
 
 pub statics_kept : (ps : List StaticPart) (q : StaticPart)
     → map part_of (with_static ps q) ≡ with_part (map part_of ps) (part_of q)
@@ -237,7 +237,7 @@ first_more f (x ∷ xs) y =
     by false None c = last c
     by false (Some i) c = refl
 
--- one more without a new key
+-- the map of places stays right with one more static expression without a new key
 pub still_placed : {A : Type 0} (places : BTreeMap (String A) ℕ) (ps qs : List Part) (q : Part)
     → ArePartsPlaced ps places → HasNoNewKey ps q → qs ≡ ps ++ q ∷ []
     → ArePartsPlaced qs places
@@ -251,7 +251,7 @@ still_placed places ps qs q h none more k =
     by None e false g = refl
     by None e true g = let there = sym (ap is_some e) ∙ none k g in absurd cc
 
--- one more with a new key
+-- the map of places stays right with one more static expression with a new key
 pub newly_placed : {A : Type 0} (before after : BTreeMap (String A) ℕ) (ps qs : List Part)
     (q : Part) (key : List ℕ) (place : ℕ) → ArePartsPlaced ps before → key_of q ≡ Some key
     → first_with (has_key key) ps ≡ None → place ≡ length ps → qs ≡ ps ++ q ∷ []
@@ -287,7 +287,7 @@ newly_placed before after ps qs q key place h is fresh last more set k =
         nothing None = refl
         nothing (Some i) = refl
 
--- one more without a new key, where the push may fail
+-- the map of places stays right after a push of one without a new key, which may fail
 pub pushed_placed : {A : Type 0} (places : BTreeMap (String A) ℕ) (ps qs : List StaticPart)
     (q : StaticPart) (added : Bool) → ArePartsPlaced (map part_of ps) places
     → HasNoNewKey (map part_of ps) (part_of q) → qs ≡ cond added (ps ++ q ∷ []) ps
@@ -298,7 +298,7 @@ pushed_placed places ps qs q true h none more =
 pushed_placed places ps qs q false h none same =
     subst (λ l. ArePartsPlaced (map part_of l) places) (sym same) h
 
--- ## What is found
+-- ## The search
 
 module _ (ps : List Part) (q : Part) where
   of_place : Option ℕ → Option ℕ
@@ -333,7 +333,7 @@ module _ (ps : List Part) (q : Part) where
   another_there k i e at here =
       held_by ∙ ap of_key e ∙ ap of_place at ∙ ap (λ b. cond b (Some i) None) here
 
--- the place of one that is added is behind the others
+-- the place of a static expression that is added is the last one
 pub last_place : {A : Type 0} (r : Result StaticId A) (ps : List StaticPart) (q : StaticPart)
     → held (map part_of ps) (part_of q) ≡ None → IfOk r (λ id. id.0 ≡ length ps)
     → IfOk r (λ id. id.0 ≡ place_of (map part_of ps) (part_of q))

@@ -28,7 +28,7 @@ use Rattle.lb_static.specs.StaticValues.{natural}
 use Rattle.lb_static.specs.Instantiation.{is_between}
 use Rattle.lb_static.specs.Instantiated.{IsInstantiable, IsJudged, times_of}
 use Rattle.lb_static.specs.declared.constants.Constants.{Constants}
-use Rattle.lb_static.specs.declared.reach.Reached.{Reached}
+use Rattle.lb_static.specs.declared.reachable.Reached.{Reached}
 use Rattle.lb_static.specs.declared.resolved.CallSite.{CallSite}
 use Rattle.lb_static.specs.declared.resolved.ResolvedNode.{ResolvedNode}
 use Rattle.lb_static.specs.declared.resolved.StaticId.{StaticId}

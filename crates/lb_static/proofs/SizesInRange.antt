@@ -53,7 +53,7 @@ pub all_some-cons : {A : Type 0} (o : Option A) (os : List (Option A))
 all_some-cons None os = refl
 all_some-cons (Some x) os = refl
 
--- each of a list
+-- if `f` has a value where `p` passes, it has one on each item of a list whose items all pass
 pub all_present : {A B : Type 0} (f : A → Option B) (p : A → Bool)
     → ((a : A) → p a ≡ true → is_some (f a) ≡ true) → (xs : List A) → list_all p xs ≡ true
     → is_some (all_some (map f xs)) ≡ true

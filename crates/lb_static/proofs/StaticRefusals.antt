@@ -1,4 +1,4 @@
--- Which refusal of a program the faults of its parts are.
+-- The refusal of a program, from the faults of its parts.
 use Rattle.std.proofs.Common.{◌≡◌, Bool, true, false, Option, Some, None, Result, Ok, Err, refl}
 use Rattle.std.specs.Prelude.{IfOk}
 use Rattle.lb_syntax.specs.Lists.{or_else, holds}
@@ -16,7 +16,7 @@ use Rattle.lb_static.specs.TableAnswers.{IsTableAnswer}
 use Rattle.lb_static.specs.InstanceTable.{HasStarts, IsTable}
 use Rattle.lb_static.specs.LinkedSpecializations.{AreSpecialized}
 use Rattle.lb_static.specs.InstanceRows.{AreInstances}
-use Rattle.lb_static.specs.declared.reach.Reached.{Reached}
+use Rattle.lb_static.specs.declared.reachable.Reached.{Reached}
 use Rattle.lb_static.specs.declared.table.Table.{Table}
 use Rattle.lb_static.specs.Instances.{Program, Root, instance_at, instances}
 use Rattle.lb_static.specs.Names.{is_well_founded, keeps_names}
@@ -25,7 +25,7 @@ use Rattle.lb_static.specs.Instantiation.{has_no_parameters, is_root, static_ref
 use Rattle.lb_static.specs.Instantiation.{instantiation_refusal}
 use Rattle.lb_static.specs.Instantiated.{IsRefusal, IsInstantiationAnswer}
 
--- ## The first of five
+-- ## The first of five refusals
 
 abbrev first_of_five : (a b c d : Bool) (o : Option Refusal) → Option Refusal
 first_of_five a b c d o =
@@ -75,7 +75,7 @@ at_none true true false d o e f g h k = absurd cc
 at_none true false c d o e f g h k = absurd cc
 at_none false b c d o e f g h k = absurd cc
 
--- whether the node under test has its interface
+-- the node under test has a lawful interface
 abbrev has_data_type : Program → Bool
 has_data_type P = holds (is_root P) (instance_at P Root)
 

@@ -1,4 +1,4 @@
--- Tests of the items of a list, and what a search finds.
+-- Tests of the items of a list, and the result of a search.
 use Rattle.std.proofs.Common.{◌≡◌, Bool, true, false, cond, List, [], ◌∷◌, Option, Some, refl, ap}
 use Rattle.std.proofs.Common.{subst, ◌∙◌}
 use Rattle.std.specs.Prelude.{◌&&◌, find, filter, flat_map}

@@ -20,7 +20,7 @@ use denote.Enum.Bare.{sameb}
 use Rattle.std.proofs.Math.Bool.{and-false}
 use Rattle.lb_syntax.proofs.TruthValues.{both_ways}
 
--- ## The same sizes
+-- ## Equality of sizes
 
 itself : (ns : List ℕ) → pointwise eqb ns ns ≡ true
 itself [] = refl
@@ -43,7 +43,7 @@ sizes_are [] (m ∷ ms) = refl
 sizes_are (n ∷ ns) [] = refl
 sizes_are (n ∷ ns) (m ∷ ms) = ap (λ b. eqb n m && b) (sizes_are ns ms)
 
--- ## The same types
+-- ## Equality of types
 
 kinds_are : (k l : Kind) → sameb the_type k l ≡ is_kind k l
 kinds_are Int_kind Int_kind = refl
@@ -69,7 +69,7 @@ same_types_are E each (s ∷ ss) [] = refl
 same_types_are E each (s ∷ ss) (t ∷ ts) = ap (λ b. b && pointwise E ss ts) (each s t)
     ∙ ap (λ b. is_type (view_type s) (view_type t) && b) (same_types_are E each ss ts)
 
--- a type of this kind is a scalar where it has no size
+-- a type is the scalar of its kind exactly if it has no sizes
 pub scalar_is : (k l : Kind) (ns : List ℕ) (n : ℕ) → n ≡ length ns → sameb the_type k l ≡ true
     → (n == 0) ≡ is_type (record { kind = k; sizes = reverse ns })
     (record { kind = l; sizes = [] })
@@ -81,7 +81,7 @@ scalar_is k l ns n long e =
     by [] = refl
     by (m ∷ ms) = eqb-suc-zero (length ms)
 
--- several types are not one
+-- a list of two types or more is not a list of one
 pub several : (xs : List stored.DataType) (t : DataType) → 2 ≤ length xs
     → are_types (map view_type xs) (t ∷ []) ≡ false
 several [] t many = absurd (omega arith)
@@ -90,7 +90,7 @@ several (x ∷ (y ∷ ys)) t many = and-false (is_type (view_type x) t)
 
 -- ## Counts that stop at a limit
 
--- a product above the limit stays there, where it is not 0
+-- a product that reached the limit stays at the limit, unless a factor is 0
 over : (limit a b : ℕ) → limit ≤ a → min (limit * b) limit ≡ min (a * b) limit
 over limit a zero above = rw (mul-zero limit, mul-zero a) refl
 over limit a (suc b) above =
@@ -107,14 +107,14 @@ capped limit a b = ⊎_elim within above (cases_lt a limit)
     above : limit ≤ a → min (min a limit * b) limit ≡ min (a * b) limit
     above h = let e : min a limit ≡ limit = omega arith in rw e (over limit a b h)
 
--- one factor more
+-- a capped product with one more factor
 pub one_factor : (limit count next n : ℕ) (rest : List ℕ) → next ≡ min (count * n) limit
     → min (next * product rest) limit ≡ min (count * product (n ∷ rest)) limit
 one_factor limit count next n rest e =
     ap (λ k. min (k * product rest) limit) e ∙ capped limit (count * n) (product rest)
     ∙ ap (λ k. min k limit) (mul_assoc count n (product rest))
 
--- one type more
+-- a total with one more type
 pub total_from : (data_types : List stored.DataType) (k : ℕ) (data_type : stored.DataType)
     → k < length data_types
     → data_type ≡ get_or data_types k data_type
@@ -125,7 +125,7 @@ total_from data_types k data_type within same =
     (drop_more data_types k data_type within ∙ ap (λ x. x ∷ drop (k + 1) data_types) (sym same))
     ∙ sum_by-cons element_count (view_type data_type) (map view_type (drop (k + 1) data_types))
 
--- ## The other order
+-- ## The product in the other order
 
 product_append : (ns ms : List ℕ) → product (ns ++ ms) ≡ product ns * product ms
 product_append [] ms = omega arith

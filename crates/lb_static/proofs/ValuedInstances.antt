@@ -1,5 +1,5 @@
--- An instance has values, and they are in range, where those of the static expressions of its
--- node are.
+-- An instance has values, and they are in range, where this holds of the static expressions of its
+-- node.
 use Rattle.std.proofs.Common.{◌≡◌, ℤ, Bool, true, false, List, ◌++◌, Option, refl, ap, ap₂, sym}
 use Rattle.std.proofs.Common.{◌∙◌}
 use Rattle.std.specs.Prelude.{◌&&◌, flat_map, is_some}

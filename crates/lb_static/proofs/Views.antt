@@ -1,4 +1,4 @@
--- What stands at a place of a list that two functions made of another, one after the other.
+-- The item at a place of a list that is mapped by two functions, one after the other.
 use Rattle.std.proofs.Common.{ℕ, ◌≡◌, ◌<◌, List, length, map, Some, get_or, option_map, refl, ap}
 use Rattle.std.proofs.Common.{◌∙◌}
 use Rattle.std.proofs.lemmas.Option.{slice_get-map, slice_get_read}

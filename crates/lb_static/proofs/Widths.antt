@@ -10,7 +10,7 @@ use Rattle.lb_static.specs.DataTypes.{product}
 use Rattle.lb_static.specs.Specialized.{size_of, times_sizes}
 use Rattle.lb_static.specs.StaticValues.{natural}
 
--- the product of sizes that all are there, and else 0
+-- the product of sizes that are all there, or 0
 abbrev pub product_of : List (Option ℕ) → ℕ
 product_of [] = 1
 product_of (None ∷ os) = 0
@@ -43,7 +43,7 @@ product_reverse (o ∷ os) =
     ap product_of (reverse-append (o ∷ []) os) ∙ product_append (reverse os) (o ∷ [])
     ∙ ap (λ m. m * product_of (o ∷ [])) (product_reverse os) ∙ product_front o os
 
--- the product of sizes
+-- the product of sizes, where a negative size counts as 0
 abbrev pub sizes_product : List ℤ → ℕ
 sizes_product [] = 1
 sizes_product (v ∷ vs) = size_of v * sizes_product vs
@@ -53,7 +53,7 @@ product_naturals [] = refl
 product_naturals (pos n ∷ vs) = ap (λ m. n * m) (product_naturals vs)
 product_naturals (negsuc n ∷ vs) = omega arith
 
--- as far as 65,537
+-- a number above a bound stays above it when it is multiplied by a positive number
 above : (m e k : ℕ) → m ≤ e → m ≤ e * suc k
 above m e k h = let f : e * suc k ≡ e * k + e = grind arith in omega arith
 

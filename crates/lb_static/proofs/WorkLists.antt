@@ -1,4 +1,4 @@
--- Places that came up in a walk: one more visit, and more of them.
+-- Places that came up in a walk: one more visit, and more visits.
 use Rattle.std.proofs.Common.{◌≡◌, ◌≢◌, ℕ, zero, suc, ◌+◌, ◌<◌, ◌≤◌, Bool, true, false, cond, List}
 use Rattle.std.proofs.Common.{[], ◌∷◌, ◌++◌, length, set, get_or, replicate, Bor, Option, Some}
 use Rattle.std.proofs.Common.{None, is_some, refl, ap, sym, subst, ◌∙◌, arith, length-append}
@@ -38,7 +38,7 @@ any_at {A = A} p (y ∷ ys) e = by (p y) refl e (any_at p ys)
     by true h e next = record { place = 0; item = y; at = refl; passes = h }
     by false h e next = later (next e)
 
--- nothing stands past the end
+-- a list has no item at a place past its end
 pub past_end : {A : Type 0} (xs : List A) (i : ℕ) → slice_get xs i ≡ None → length xs ≤ i
 past_end [] i e = omega arith
 past_end (x ∷ xs) zero e = absurd cc
@@ -133,7 +133,7 @@ none_found : (n place turn : ℕ)
 none_found n place turn e =
     let some = ap (holds is_some) e in let no = none_held n place in absurd cc
 
--- no place has a turn at first
+-- at the start no place has a turn
 pub turns_none : (n : ℕ) (turns : List (Option ℕ)) → turns ≡ replicate n None → HasTurns [] turns
 turns_none n turns e =
     subst (HasTurns []) (sym e)
@@ -152,7 +152,7 @@ set_elsewhere (y ∷ ys) zero (suc j) x other = refl
 set_elsewhere (y ∷ ys) (suc i) zero x other = refl
 set_elsewhere (y ∷ ys) (suc i) (suc j) x other = set_elsewhere ys i j x (λ e. other (ap suc e))
 
--- one more place has its turn
+-- one more place gets the next turn
 pub turns_more : (order : List ℕ) (turns : List (Option ℕ)) (place : ℕ) → HasTurns order turns
     → slice_get turns place ≡ Some None
     → HasTurns (order ++ place ∷ []) (set turns place (Some (length order)))
@@ -208,7 +208,7 @@ turns_more order turns place has none = record {
         (sym (set_elsewhere turns place p (Some (length order)) other) ∙ h) in
         get_before order (place ∷ []) turn (slice_get_within order turn p before) ∙ before
 
--- a place that came up is one of those that there are
+-- a place that came up is a place of the list
 pub visited_within : (order : List ℕ) (turns : List (Option ℕ)) (turn place : ℕ)
     → HasTurns order turns → slice_get order turn ≡ Some place → place < length turns
 visited_within order turns turn place has e =
@@ -223,7 +223,7 @@ pub as_few : (order : List ℕ) (turns : List (Option ℕ)) → HasTurns order t
     → length order ≤ length turns
 as_few order turns has = omega (arith, has.counted, count_by-le-length is_some turns)
 
--- where a place has no turn yet
+-- a visit of a place without a turn adds it at the end
 pub after_new : (order : List ℕ) (turns : List (Option ℕ)) (place : ℕ) → HasTurns order turns
     → slice_get turns place ≡ Some None
     → order ++ place ∷ [] ≡ visited_after order place
@@ -231,7 +231,7 @@ after_new order turns place has none =
     sym (ap (λ b. if b then order else order ++ place ∷ [])
     (has.seen place ∙ ap (holds is_some) none))
 
--- the place that came up at a turn, where one is read
+-- the place that is read at a turn is the place that came up there
 pub looked_up : (order read : List ℕ) (turns : List (Option ℕ)) (count turn : ℕ)
     (o : Option (Bor ℕ)) (p : Option ℕ) → HasTurns order turns → read ≡ order → length turns ≡ count
     → MatchOption o (length read ≤ turn)

@@ -19,7 +19,7 @@ greatest_int = pos 2147483647
 abbrev pub is_int : ℤ → Bool
 is_int z = int_le least_int z && int_le z greatest_int
 
--- an exact result, where it is in the range of `int`
+-- an exact result `z`, or none where it is outside the range of `int`
 abbrev pub lawful : ℤ → Option ℤ
 lawful z = where_true (is_int z) z
 

@@ -1,4 +1,4 @@
--- The calls between the nodes that are reached, where each node is its place among them.
+-- The calls between the reached nodes. A node is known by its place in the list of them.
 -- This file says what data of the program mean; no definition of the language stands on it.
 use Rattle.std.specs.Prelude.{◌≡◌, ◌<◌, ℕ, true, false, Option, Some, None, Result, Ok, Err, List}
 use Rattle.std.specs.Prelude.{[], ◌∷◌, map, length, slice_get, nat_lt, if◌then◌else◌, string_bytes}
@@ -13,7 +13,7 @@ use Rattle.lb_static.specs.ReachedNodes.{id_at, trees}
 use Rattle.lb_static.specs.declared.error.StaticError.{StaticError}
 use Rattle.lb_static.specs.declared.error.StaticError.TheVariants as error
 use Rattle.lb_static.specs.declared.causes.CallCycle.{CallCycle}
-use Rattle.lb_static.specs.declared.reach.Reached.{Reached}
+use Rattle.lb_static.specs.declared.reachable.Reached.{Reached}
 use Rattle.lb_static.specs.declared.resolved.CallSite.{CallSite}
 
 -- ## Graphs of calls: for each node, in order, the nodes that it calls
@@ -25,39 +25,39 @@ called graph i = either_or (slice_get graph i) []
 abbrev pub AreWithin : List (List ℕ) → Type 0
 AreWithin graph = (i j : ℕ) → In j (called graph i) → j < length graph
 
--- a node calls the first of some, each of them the next, and the last another node
+-- a chain of calls from `i` to `j`: each of `i`, the nodes of the list and `j` calls the next one
 abbrev pub Leads : List (List ℕ) → ℕ → List ℕ → ℕ → Type 0
 Leads graph i [] j = In j (called graph i)
 Leads graph i (k ∷ ks) j = In k (called graph i) × Leads graph k ks j
 
--- a node reaches itself by one call or more
+-- node `i` reaches itself by one call or more
 abbrev pub IsOnCycle : List (List ℕ) → ℕ → Type 0
 IsOnCycle graph i = (ks : List ℕ) × Leads graph i ks i
 
--- each of some nodes calls only such as stand behind it
+-- a list of nodes in which each node calls only nodes that stand after it
 abbrev pub IsOrder : List (List ℕ) → List ℕ → Type 0
 IsOrder graph [] = Unit {0}
 IsOrder graph (i ∷ rest) =
     ((j : ℕ) → In j (called graph i) → In j rest) × IsOrder graph rest
 
--- all nodes stand in such an order; so none reaches itself
+-- all nodes stand in an order (`IsOrder`); so no node reaches itself
 abbrev pub IsOrdered : List (List ℕ) → Type 0
 IsOrdered graph =
     (order : List ℕ) × IsOrder graph order × ((i : ℕ) → i < length graph → In i order)
 
--- nodes each of which calls the next one, and the last of which calls the first
+-- a list of nodes in which each node calls the next one, and the last calls the first
 abbrev pub IsCycle : List (List ℕ) → List ℕ → Type 0
 IsCycle graph [] = ⊥
 IsCycle graph (i ∷ ks) = (i < length graph) × Leads graph i ks i
 
--- a cycle of calls, or none if there is none
+-- an answer of the search: a cycle of calls, or none, and then the nodes stand in an order
 abbrev pub IsCycleAnswer : List (List ℕ) → Option (Vec ℕ Global) → Type 0
 IsCycleAnswer graph None = IsOrdered graph
 IsCycleAnswer graph (Some cycle) = IsCycle graph cycle.items
 
 -- ## The graph of the nodes that are reached
 
--- the place of what a call calls
+-- the place of the callee of a call, if it is a reached node
 abbrev pub callee_of : Reached → CallSite → Option ℕ
 callee_of r s =
     id_at r s.callee >>= λ id.
@@ -81,25 +81,25 @@ IsCallsAnswer P (Err (error.Value x)) = ⊥
 IsCallsAnswer P (Err (error.Range x)) = ⊥
 IsCallsAnswer P (Err (error.Instances x)) = ⊥
 
--- ## The cycle that is told
+-- ## The cycle of a refusal
 
 -- the names on a cycle of calls
 abbrev pub names_on : CallCycle → List Name
 names_on c = map (λ call. string_bytes call.node) c.calls.items
 
--- the names of the nodes at some places
+-- the name of the node at a place
 abbrev pub name_in : Reached → ℕ → Name
 name_in r i = either_or (option_map (λ n. n.name) (slice_get (trees r) i)) []
 
 abbrev pub names_at : Reached → List ℕ → List Name
 names_at r places = map (name_in r) places
 
--- a node calls the first of some, each of them the next, and the last another node
+-- a chain of calls from `n` to `m`: each of `n`, the nodes of the list and `m` calls the next one
 abbrev pub CallsAlong : Node → List Node → Node → Type 0
 CallsAlong n [] m = calls n m ≡ true
 CallsAlong n (k ∷ ks) m = (calls n k ≡ true) × CallsAlong k ks m
 
--- nodes of these names, which are reached: each calls the next one, and the last calls the first
+-- a cycle of reached nodes with these names: each node calls the next one, and the last the first
 pub record IsCallCycle (P : Program) (names : List Name) : Type 0 where
   pub first : Node
   pub rest : List Node
@@ -107,7 +107,7 @@ pub record IsCallCycle (P : Program) (names : List Name) : Type 0 where
   pub reached : (n : Node) → In n (first ∷ rest) → In n (reached_nodes P)
   pub calls_along : CallsAlong first rest first
 
--- a refusal for recursion tells a cycle of calls
+-- a refusal for recursion holds a cycle of calls
 abbrev pub IsCycleTold : Program → Result (Unit {0}) StaticError → Type 0
 IsCycleTold P (Ok done) = Unit {0}
 IsCycleTold P (Err error.Memory) = Unit {0}

@@ -1,4 +1,4 @@
--- The nodes that come up in the walk over what is reached by name.
+-- The nodes that the walk along the calls visits, in the order in which they come up.
 -- This file says what data of the program mean; no definition of the language stands on it.
 use Rattle.std.specs.Prelude.{◌≡◌, ◌<◌, ◌≤◌, ℕ, Bool, true, ◌&&◌, Option, Some, is_some}
 use Rattle.std.specs.Prelude.{option_map, List, map, length, slice_get, All, Result, Ok, Err}
@@ -14,8 +14,8 @@ use Rattle.lb_static.specs.ReachedNodes.{IsReached}
 use Rattle.lb_static.specs.ResolvedNodes.{IsResolved, node_of}
 use Rattle.lb_static.specs.WorkLists.{AreReachable, Grows, is_visited, visited_after}
 use Rattle.lb_static.specs.declared.error.StaticError.{StaticError}
-use Rattle.lb_static.specs.declared.reach.NodeId.{NodeId}
-use Rattle.lb_static.specs.declared.reach.Reached.{Reached}
+use Rattle.lb_static.specs.declared.reachable.NodeId.{NodeId}
+use Rattle.lb_static.specs.declared.reachable.Reached.{Reached}
 use Rattle.lb_static.specs.declared.resolved.CallSite.{CallSite}
 use Rattle.lb_static.specs.declared.resolved.ResolvedNode.{ResolvedNode}
 
@@ -23,12 +23,13 @@ use Rattle.lb_static.specs.declared.resolved.ResolvedNode.{ResolvedNode}
 abbrev pub callees : List CallSite → List ℕ
 callees sites = map (λ s. s.callee.0) sites
 
--- each call of a node calls one that came up
+-- each call of a node calls a node that came up
 abbrev pub are_called : List ℕ → ResolvedNode → Bool
 are_called order r = list_all (λ s. is_visited order s.callee.0) r.calls.items
 
--- These nodes, in the order in which they came up, have their names resolved, and what they call
--- came up too. Whatever the walk began with, all is had from that by calls.
+-- The nodes that came up, with their names resolved, in the order in which they came up; their
+-- callees came up too. Each node that came up is reached by calls from a start, if that holds of
+-- those before.
 pub record AreResolved (s : Source) (before after : List ℕ) (nodes : List ResolvedNode)
     : Type 0 where
   pub resolved : All (IsResolved (map (λ n. n.name) s.nodes)) nodes
@@ -41,9 +42,9 @@ pub record AreResolved (s : Source) (before after : List ℕ) (nodes : List Reso
   pub reachable : (start : Node → Bool) → AreReachable s.nodes start calls before
       → AreReachable s.nodes start calls after
 
--- ## What the walk begins with
+-- ## The starts of the walk
 
--- The node of a name came up at a turn.
+-- The node with the name `name` came up, at turn `id`.
 pub record IsStart (s : Source) (name : Name) (before after : List ℕ) (id : NodeId) : Type 0 where
   pub place : ℕ
   pub visited : after ≡ visited_after before place
@@ -51,12 +52,12 @@ pub record IsStart (s : Source) (name : Name) (before after : List ℕ) (id : No
   pub within : place < length s.nodes
   pub found : slice_get s.nodes place ≡ node_named (alone s) name
 
--- what stands at the place that came up at a turn
+-- the node whose place came up at a turn
 abbrev pub node_at : Source → List ℕ → NodeId → Option Node
 node_at s order id = slice_get order id.0 >>= slice_get s.nodes
 
--- The node under test and the observer, if there is one, came up, and all that came up is had from
--- them by calls.
+-- The node under test and the observer, if there is one, came up, and calls lead from these two to
+-- each node that came up.
 pub record AreStarts (P : Program) (order : List ℕ) (root : NodeId)
     (observer : Option NodeId) : Type 0 where
   pub there : list_all is_some (starts P) ≡ true
@@ -67,18 +68,18 @@ pub record AreStarts (P : Program) (order : List ℕ) (root : NodeId)
   pub came : (id : NodeId) → observer ≡ Some id → is_some (node_at P.source order id) ≡ true
   pub at_observer : (observer >>= node_at P.source order) ≡ (P.observer >>= node_named P)
 
--- the starts are there, and each name of a node that is reached has a meaning
+-- the starts are there, and each name of a reached node has a meaning
 abbrev pub are_named : Program → Bool
 are_named P = list_all is_some (starts P) && list_all (is_named P) (reached_nodes P)
 
--- The nodes that a program reaches, with their names resolved, where its names pass a test; or a
--- name that does not, where it alone counts.
+-- An answer of the walk: the reached nodes with their names resolved, and then the program passes
+-- `test`; or an error with a name that fails `test_where`, where that name alone counts.
 abbrev pub Reaches :
     (Program → Bool) → ((NameUse → Name → Bool) → Program → Bool) → Program
     → Result Reached StaticError → Type 0
 Reaches test test_where P (Ok r) = (test P ≡ true) × IsReached P r
 Reaches test test_where P (Err e) = IsNameFault e (test_where (is_told e) P)
 
--- for each place the number of the node that came up
+-- for each place the id of its node, which is the turn at which it came up
 abbrev pub ids_of : List (Option ℕ) → List (Option NodeId)
 ids_of turns = map (option_map (λ turn. record { 0 = turn })) turns

@@ -1,4 +1,4 @@
--- What `elaborate` promises of a source.
+-- The promise of `elaborate` on a source.
 -- This file says what data of the program mean; no definition of the language stands on it.
 use Rattle.std.specs.Prelude.{◌≡◌, false, Some, Result, Ok, Err, string_bytes}
 use Rattle.lb_syntax.specs.Refusals.{E4, E5, E6, E7, E8, E12}
@@ -12,7 +12,7 @@ use Rattle.lb_static.specs.declared.error.StaticError.{StaticError}
 use Rattle.lb_static.specs.declared.error.StaticError.TheVariants as error
 
 -- An error stands for the first rule of names, static values and instances that is broken, unless
--- memory ran out. The name that E4 holds breaks the rule of names, and in the way that it says. E7
+-- memory ran out. The name in an E4 breaks the rule of names, in the way that the error says. An E7
 -- holds a cycle of calls.
 abbrev pub IsStaticFault : Program → StaticError → Type 0
 IsStaticFault P error.Memory = Unit {0}
@@ -25,7 +25,7 @@ IsStaticFault P (error.Value x) = static_refusal P ≡ Some E5
 IsStaticFault P (error.Range x) = static_refusal P ≡ Some E6
 IsStaticFault P (error.Instances x) = static_refusal P ≡ Some E12
 
--- the program itself, elaborated, or the first rule that it breaks
+-- an answer: the program itself, elaborated, or the first rule that it breaks
 abbrev pub Elaborates : Program → Result Elab StaticError → Type 0
 Elaborates P (Ok e) = elaborated_program e ≡ P
 Elaborates P (Err e) = IsStaticFault P e

@@ -18,7 +18,7 @@ use Rattle.lb_static.specs.declared.causes.NameRule.TheVariants as rule
 use Rattle.lb_static.specs.declared.causes.Sought.{Sought}
 use Rattle.lb_static.specs.declared.causes.Sought.TheVariants as sought
 
--- what a name is there for
+-- the purpose of a name
 pub data NameUse : Type 0 where
   Declares : NameUse
   Calls : NameUse
@@ -30,21 +30,21 @@ pub data NameUse : Type 0 where
 abbrev pub every : NameUse → Name → Bool
 every purpose x = true
 
--- a test of a name, if it counts
+-- a test of a name, passed by each name that does not count
 abbrev pub counted : (Name → Bool) → (Name → Bool) → Name → Bool
 counted counts test x = not (counts x) || test x
 
--- no name that counts stands twice
+-- no name that counts is there twice
 abbrev pub are_once : (Name → Bool) → List Name → Bool
 are_once counts [] = true
 are_once counts (x ∷ xs) = counted counts (λ y. not (among y xs)) x && are_once counts xs
 
 module _ (counts : NameUse → Name → Bool) (P : Program) where
-  -- a called or iterated name
+  -- a called or iterated name, if it counts, is that of a node with as many static parameters
   abbrev pub is_callable_where : Site → Bool
   is_callable_where s = not (counts Calls s.callee) || is_callable P s
 
-  -- every name in the declarations and statements of a node has a meaning
+  -- every name that counts in the declarations and statements of a node has a meaning
   abbrev pub means_where : Node → Bool
   means_where n =
       list_all is_callable_where (node_sites n)
@@ -56,14 +56,14 @@ module _ (counts : NameUse → Name → Bool) (P : Program) where
   abbrev pub is_named_where : Node → Bool
   is_named_where n = are_once (counts Declares) (declared_names n) && means_where n
 
-  -- the node under test and the observer are there
+  -- the node under test and the observer are there, if their names count
   abbrev pub starts_where : Bool
   starts_where = list_all (counted (counts Calls) (λ x. is_some (node_named P x))) (start_names P)
 
   abbrev pub are_named_where : Bool
   are_named_where = starts_where && list_all is_named_where (reached_nodes P)
 
-  -- each name in the values of some constants is that of a constant
+  -- each name that counts in the values of some constants is the name of a constant
   abbrev pub constants_where : List Name → Bool
   constants_where xs =
       list_all (λ c. list_all (counted (counts Statics) (is_constant P)) (static_names c.value))
@@ -77,7 +77,7 @@ module _ (counts : NameUse → Name → Bool) (P : Program) where
       && list_all (λ c. list_all (counted (counts Statics) (is_constant P)) (static_names c.value))
       (reached_constants P)))
 
--- what a name is there for that is sought so
+-- the purpose of a name that is sought as one of these
 abbrev pub use_of : Sought → NameUse
 use_of sought.Node = Calls
 use_of sought.Variable = Variables
@@ -85,7 +85,7 @@ use_of sought.Clock = Variables
 use_of sought.Value = Values
 use_of sought.Constant = Statics
 
--- a name that breaks this rule is there for this
+-- whether a name of this purpose can break this rule
 abbrev pub is_broken_by : NameUse → NameRule → Bool
 is_broken_by Declares (rule.Doubled first) = true
 is_broken_by Calls (rule.Arguments wanted given) = true
@@ -96,7 +96,7 @@ is_broken_by Variables (rule.Unknown sought.Variable) = true
 is_broken_by Variables (rule.Unknown sought.Clock) = true
 is_broken_by _ _ = false
 
--- the rule of names, where this name alone counts, and only where this rule is for it
+-- the rule of names, where only this name counts, and only with purposes that can break `broken`
 abbrev pub keeps_name : Program → Name → NameRule → Bool
 keeps_name P x broken =
     keeps_names_where (λ purpose y. bytes_eq x y && is_broken_by purpose broken) P

@@ -1,4 +1,4 @@
--- What the search for a cycle knows while it runs.
+-- The state of the search for a cycle while it runs.
 -- This file says what data of the program mean; no definition of the language stands on it.
 use Rattle.std.specs.Prelude.{◌≡◌, ◌<◌, ◌⊎◌, ◌+◌, ℕ, Option, Some, None, List, [], ◌∷◌, map, length}
 use Rattle.std.specs.Prelude.{slice_get, nat_eq, if◌then◌else◌, Vec}
@@ -13,16 +13,16 @@ use Rattle.lb_static.specs.declared.cycle.Progress.TheVariants.{Unseen, Open, Do
 abbrev pub IsAt : List Progress → ℕ → Progress → Type 0
 IsAt progress i p = slice_get progress i ≡ Some p
 
--- the nodes that are done stand in an order, each before those that it calls
+-- the nodes that are done stand in an order (`IsOrder`)
 abbrev pub AreDone : List (List ℕ) → List Progress → Type 0
 AreDone graph progress =
     (order : List ℕ) × IsOrder graph order × ((i : ℕ) → IsAt progress i Done → In i order)
 
--- each node that was begun is done
+-- no node is open: each node that was begun is done
 abbrev pub IsNoneOpen : List Progress → Type 0
 IsNoneOpen progress = (i : ℕ) → IsAt progress i Open → ⊥
 
--- what was done is done
+-- each node that was done stays done
 abbrev pub Keeps : List Progress → List Progress → Type 0
 Keeps before after = (i : ℕ) → IsAt before i Done → IsAt after i Done
 
@@ -32,7 +32,7 @@ pub record IsBetween (graph : List (List ℕ)) (progress : List Progress) : Type
   pub done : AreDone graph progress
   pub none_open : IsNoneOpen progress
 
--- a node on the path: what it calls is left to be followed, done, or the next node on the path
+-- a node on the path: each callee of it is left to be followed, done, or the next node on the path
 pub record IsVisit (graph : List (List ℕ)) (progress : List Progress) (next : Option ℕ)
     (f : Visit) : Type 0 where
   pub within : f.node < length graph
@@ -41,13 +41,13 @@ pub record IsVisit (graph : List (List ℕ)) (progress : List Progress) (next : 
   pub left : (j : ℕ) → In j f.left.now → In j (called graph f.node)
   pub calls_next : (j : ℕ) → next ≡ Some j → In j (called graph f.node)
 
--- the path, its end first
+-- the path of a search, its end first
 abbrev pub IsPath : List (List ℕ) → List Progress → Option ℕ → List Visit → Type 0
 IsPath graph progress next [] = Unit {0}
 IsPath graph progress next (f ∷ fs) =
     IsVisit graph progress next f × IsPath graph progress (Some f.node) fs
 
--- in a search, with the path, its end first: the nodes that are begun and not done stand on it
+-- in a search, with the path, its end first: each open node stands on the path
 pub record IsSearch (graph : List (List ℕ)) (progress : List Progress) (path : List Visit)
     : Type 0 where
   pub as_many : length progress ≡ length graph
@@ -55,14 +55,14 @@ pub record IsSearch (graph : List (List ℕ)) (progress : List Progress) (path :
   pub open_on_path : (i : ℕ) → IsAt progress i Open → In i (map (λ f. f.node) path)
   pub is_path : IsPath graph progress None path
 
--- in a search from a node: what was done before it is done, and this node was begun
+-- in a search from a node: what was done before stays done, and this node was begun
 pub record IsSearchFrom (graph : List (List ℕ)) (before : List Progress) (start : ℕ)
     (progress : List Progress) (path : List Visit) : Type 0 where
   pub searched : IsSearch graph progress path
   pub kept : Keeps before progress
   pub begun : IsAt progress start Open ⊎ IsAt progress start Done
 
--- how much may still come up at the nodes that are not seen yet
+-- a bound of the steps at the nodes that are not seen yet: for each node one, and one for each call
 abbrev pub unseen : List Progress → List (List ℕ) → ℕ
 unseen [] graph = 0
 unseen (p ∷ progress) [] = 0
@@ -70,17 +70,17 @@ unseen (Unseen ∷ progress) (calls ∷ graph) = 1 + length calls + unseen progr
 unseen (Open ∷ progress) (calls ∷ graph) = unseen progress graph
 unseen (Done ∷ progress) (calls ∷ graph) = unseen progress graph
 
--- how much is left on the path
+-- a bound of the steps left on the path: for each visit one, and one for each callee that is left
 abbrev pub on_path : List Visit → ℕ
 on_path path = sum_by (λ f. 1 + length f.left.now) path
 
--- some places from the first that is this one on
+-- the part of a list of places from the first that is `i` on
 abbrev pub from_first : ℕ → List ℕ → List ℕ
 from_first i [] = []
 from_first i (k ∷ ks) = if nat_eq k i then k ∷ ks else from_first i ks
 
--- what a search from a node answers: a cycle of calls; or none, and the node is done, with all that
--- were done before
+-- an answer of a search from a node: a cycle of calls; or none, and then the node is done, and what
+-- was done before stays done
 abbrev pub IsSearchAnswer :
     List (List ℕ) → List Progress → ℕ → List Progress → Option (Vec ℕ Global) → Type 0
 IsSearchAnswer graph before start after (Some cycle) = IsCycle graph cycle.items

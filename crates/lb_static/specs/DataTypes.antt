@@ -49,11 +49,11 @@ abbrev pub product : List ℕ → ℕ
 product [] = 1
 product (n ∷ ns) = n * product ns
 
--- how many scalar elements a type has
+-- the number of scalar elements of a type
 abbrev pub element_count : DataType → ℕ
 element_count t = product t.sizes
 
--- how many some types have together
+-- the number of scalar elements of some types together
 abbrev pub total : List DataType → ℕ
 total ts = sum_by element_count ts
 
@@ -78,7 +78,7 @@ variable_type P here d =
     let sizes = all_some (map (static_count P here) (reverse d.sizes)) in
     option_map (λ ns. record { kind = d.kind; sizes = ns }) sizes
 
--- how many scalar elements a variable has
+-- the number of scalar elements of a variable
 abbrev pub width : Program → Instance → Declaration → ℕ
 width P here d = either_or (option_map element_count (variable_type P here d)) 0
 

@@ -1,4 +1,4 @@
--- What an elaborated program promises to the layer above.
+-- The promise of an elaborated program to the layer above.
 -- This file says what data of the program mean; no definition of the language stands on it.
 use Rattle.std.specs.Prelude.{◌≡◌, Option, None, option_map}
 use Rattle.lb_syntax.specs.SourceView.{view_source}
@@ -16,7 +16,7 @@ abbrev pub program_of : Source → Name → Option Name → Program
 program_of source node observer =
     record { source = view_source source; root = node; observer = observer }
 
--- the program that is elaborated
+-- the program that was elaborated
 abbrev pub elaborated_program : Elaboration → Program
 elaborated_program e = program_of e.source.now e.node.now (option_map (λ o. o.now) e.observer)
 
@@ -28,6 +28,6 @@ pub record IsElaborated (P : Program) (e : Elaboration) : Type 0 where
   pub table : IsTable P e.reached e.table
   pub inputs : signature P ≡ e.signature
 
--- what is found is true of the program that is elaborated
+-- all that an elaboration holds is true of its program
 abbrev pub IsLawful : Elaboration → Type 0
 IsLawful e = IsElaborated (elaborated_program e) e

@@ -5,6 +5,6 @@ use Rattle.lb_syntax.specs.Tree.{Name}
 use Rattle.lb_static.specs.ConstantValues.{value_held}
 use Rattle.lb_static.specs.declared.constants.Constants.{Constants}
 
--- the value of a name
+-- the value that is held for a name
 abbrev pub value_of : Constants → Name → Option ℤ
 value_of c = value_held c.names c.values.items

@@ -1,4 +1,4 @@
--- What the instantiation of a program promises of the rows of its table.
+-- The promise of instantiation about the rows of its table.
 -- This file says what data of the program mean; no definition of the language stands on it.
 use Rattle.std.specs.Prelude.{◌≡◌, ◌<◌, ◌≤◌, ℕ, Option, Some, None, option_map, List, [], ◌∷◌, ◌++◌}
 use Rattle.std.specs.Prelude.{map, length, slice_get}
@@ -7,7 +7,7 @@ use Rattle.lb_syntax.specs.Lists.{either_or}
 use Rattle.lb_static.specs.Instances.{Program, Instance, Path, instances}
 use Rattle.lb_static.specs.InstanceTable.{specialized_at, path_from, paths_after, rows_of}
 use Rattle.lb_static.specs.InstanceTable.{CallersStandBefore}
-use Rattle.lb_static.specs.declared.reach.Reached.{Reached}
+use Rattle.lb_static.specs.declared.reachable.Reached.{Reached}
 use Rattle.lb_static.specs.declared.table.Instance as row
 use Rattle.lb_static.specs.declared.table.Origin.{Origin}
 use Rattle.lb_static.specs.declared.table.Specialization.{Specialization}
@@ -16,16 +16,16 @@ use Rattle.lb_static.specs.declared.table.Table.{Table}
 
 -- ## Rows that are added
 
--- a row where its instance stands, before it has its specialization
+-- a row with its origin, before its specialization is known
 abbrev pub begun_row : Origin → row.Instance
 begun_row origin = record { specialization = record { 0 = 0 }; origin = origin }
 
--- the instance that a row stands for at a path, where these are the specializations
+-- the instance that a row stands for at path `p`, in a table with these specializations
 abbrev pub stood : Reached → List Specialization → Path → row.Instance → Option Instance
 stood r specializations p i =
     either_or (option_map (specialized_at r p) (slice_get specializations i.specialization.0)) None
 
--- the instances that rows stand for, where the rows before them have these paths
+-- the instances that rows stand for, where `before` are the paths of the rows before them
 abbrev pub stood_after :
     Reached → List Specialization → List Path → List row.Instance → List (Option Instance)
 stood_after r specializations before [] = []
@@ -33,25 +33,25 @@ stood_after r specializations before (i ∷ rest) =
     stood r specializations (path_from before i.origin) i
     ∷ stood_after r specializations (before ++ path_from before i.origin ∷ []) rest
 
--- the specializations of rows
+-- the places of the specializations of rows
 abbrev pub places_of : List row.Instance → List ℕ
 places_of rows = map (λ i. i.specialization.0) rows
 
--- Rows were added at the end, and each specialization that is new has one of them.
+-- Rows were added at the end, and each new specialization has a row among them.
 pub record HasUsed (first last : List Specialization) (before after : List row.Instance) :
     Type 0 where
   pub added : List row.Instance
   pub whole : after ≡ before ++ added
   pub used : (i : ℕ) → length first ≤ i → i < length last → Contains (places_of added) i
 
--- Rows were added at the end, and they stand for the instances that were entered.
+-- Rows were added at the end, and they stand for the instances `entered`.
 pub record HasRows (r : Reached) (specializations : List Specialization)
     (before after : List row.Instance) (entered : List Instance) : Type 0 where
   pub added : List row.Instance
   pub whole : after ≡ before ++ added
   pub stand : stood_after r specializations (paths_after [] before) added ≡ map Some entered
 
--- a row has this specialization now, and all other rows are those that were there
+-- the row at `place` has the specialization `id` now, and all other rows are as before
 abbrev pub IsSpecializedRow :
     ℕ → SpecializationId → (before after : List row.Instance) → Type 0
 IsSpecializedRow place id before after =
@@ -59,14 +59,14 @@ IsSpecializedRow place id before after =
     → before ≡ front ++ i ∷ back
     → after ≡ front ++ record { specialization = id; origin = i.origin } ∷ back
 
--- each specialization that is new has this place
+-- each new specialization is at `place`, so there is at most one
 abbrev pub IsOneMore : ℕ → (first last : List Specialization) → Type 0
 IsOneMore place first last = (i : ℕ) → length first ≤ i → i < length last → i ≡ place
 
 -- ## The whole table
 
--- The rows of a table are the instances of the program, each behind its caller, and each
--- specialization has one.
+-- The rows of a table stand for the instances of the program, each row after that of its caller,
+-- and each specialization has a row.
 pub record AreInstances (P : Program) (r : Reached) (t : Table) : Type 0 where
   pub instances : rows_of r t ≡ map Some (instances P)
   -- each specialization has an instance

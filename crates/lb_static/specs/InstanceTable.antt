@@ -1,4 +1,4 @@
--- What the table of instances promises to the steps above.
+-- The promise of the table of instances to the steps above.
 -- This file says what data of the program mean; no definition of the language stands on it.
 use Rattle.std.specs.Prelude.{◌≡◌, ◌<◌, ◌≤◌, ℕ, ℤ, Option, Some, None, option_map, List, [], ◌∷◌}
 use Rattle.std.specs.Prelude.{◌++◌, map, length, slice_get}
@@ -9,7 +9,7 @@ use Rattle.lb_static.specs.Instances.{Program, Instance, Path, Root, Observer, C
 use Rattle.lb_static.specs.Instances.{static_value, callee_of, node_sites, instance_at, instances}
 use Rattle.lb_static.specs.ReachedNodes.{tree_at}
 use Rattle.lb_static.specs.ResolvedNodes.{statics_of}
-use Rattle.lb_static.specs.declared.reach.Reached.{Reached}
+use Rattle.lb_static.specs.declared.reachable.Reached.{Reached}
 use Rattle.lb_static.specs.declared.table.Instance as row
 use Rattle.lb_static.specs.declared.table.Origin.{Origin}
 use Rattle.lb_static.specs.declared.table.Origin.TheVariants as origin
@@ -27,18 +27,18 @@ instance_of p n values = record { path = p; node = n; values = zip n.parameters 
 abbrev pub specialized_at : Reached → Path → Specialization → Option Instance
 specialized_at r p s = option_map (λ n. instance_of p n s.values.items) (tree_at r s.node)
 
--- the instance at a path that a specialization of the table is
+-- the instance at a path of the specialization `id` of the table
 abbrev pub specialized_instance_at : Reached → Table → Path → SpecializationId → Option Instance
 specialized_instance_at r t p id = slice_get t.specializations.items id.0 >>= specialized_at r p
 
--- the values of its static expressions are those of the definitions
+-- the static expressions of a specialization have the values that the definitions give them
 abbrev pub HasStatics : Program → Reached → Specialization → Type 0
 HasStatics P r s =
     (here : Instance) → specialized_at r Root s ≡ Some here →
     (n : _) → slice_get r.nodes.items s.node.0 ≡ Some n →
     map Some s.statics.items ≡ map (static_value P here) (statics_of n)
 
--- what it calls are those of the definitions
+-- the callees of a specialization are those that the definitions give it
 abbrev pub HasCallees : Program → Reached → Table → Specialization → Type 0
 HasCallees P r t s =
     (here : Instance) → specialized_at r Root s ≡ Some here →
@@ -55,13 +55,13 @@ pub record IsSpecialized (P : Program) (r : Reached) (t : Table) (s : Specializa
   pub as_many : (here : Instance) → specialized_at r Root s ≡ Some here →
       length s.callees.items ≡ length (node_sites here.node)
 
--- each of them calls such as stand before it
+-- the specialization at place `i` calls only specializations that stand before it
 abbrev pub CallsBefore : ℕ → Specialization → Type 0
 CallsBefore i s = (id : SpecializationId) → Contains s.callees.items id → id.0 < i
 
 -- ## Instances
 
--- the path of an instance, where those before it have these
+-- the path of an instance, where `before` are the paths of the rows before it
 abbrev pub path_from : List Path → Origin → Path
 path_from before origin.UnderTest = Root
 path_from before origin.Observer = Observer
@@ -82,7 +82,7 @@ row_at r t p i =
     (option_map (specialized_at r p) (slice_get t.specializations.items i.specialization.0))
     None
 
--- the instances that a table stands for
+-- the instances that the rows of a table stand for
 abbrev pub rows_of : Reached → Table → List (Option Instance)
 rows_of r t = zip2 (row_at r t) (paths_of t) t.instances.items
 
@@ -91,13 +91,13 @@ abbrev pub CallerStandsBefore : ℕ → Origin → Type 0
 CallerStandsBefore place (origin.Called caller call index) = caller.0 < place
 CallerStandsBefore place _ = Unit {0}
 
--- each row stands behind that of its caller
+-- each row stands after the row of its caller
 abbrev pub CallersStandBefore : List row.Instance → Type 0
 CallersStandBefore rows =
     (place : ℕ) (i : row.Instance) → slice_get rows place ≡ Some i
     → CallerStandsBefore place i.origin
 
--- what is known of the specializations of a table, and which of them instantiation starts with
+-- a table whose static values are right, with the specializations of the starts of the program
 pub record HasStarts (P : Program) (r : Reached) (t : Table) : Type 0 where
   pub statics : (i : ℕ) (s : Specialization) →
       slice_get t.specializations.items i ≡ Some s →
@@ -115,5 +115,5 @@ pub record IsTable (P : Program) (r : Reached) (t : Table) : Type 0 where
   pub used : (i : ℕ) → i < length t.specializations.items →
       Contains (map (λ row. row.specialization.0) t.instances.items) i
   pub few : length t.instances.items ≤ 4096
-  -- each instance stands behind its caller
+  -- each row stands after the row of its caller
   pub before : CallersStandBefore t.instances.items

@@ -14,10 +14,10 @@ use Rattle.lb_syntax.specs.Tree.{Iterate, Exprs, Nil, Cons, Node, Source, Statem
 use Rattle.lb_syntax.specs.Tree.{Assertion}
 use Rattle.lb_static.specs.StaticValues.{named, value_under, constant_value, natural}
 
--- ## Where an instance stands
+-- ## The place of an instance
 
--- the node under test, the observer, or the call of this number in the text of the node at a path,
--- at an index of its iterator (0 for a call)
+-- a path: the node under test, the observer, or the call of a number in the text of the node at a
+-- path, at an index of its iterator (0 for a call); `Child Root 2 0` is call 2 of `Root`
 pub data Path : Type 0 where
   Root : Path
   Observer : Path
@@ -30,7 +30,7 @@ is_path Observer Observer = true
 is_path (Child p c i) (Child q d j) = nat_eq c d && (nat_eq i j && is_path p q)
 is_path _ _ = false
 
--- a node where it stands, with the values of its static parameters
+-- a node at its path, with the values of its static parameters
 pub record Instance : Type 0 where
   pub path : Path
   pub node : Node
@@ -87,7 +87,7 @@ statement_sites (Assertion e) = sites e
 abbrev pub node_sites : Node → List Site
 node_sites n = flat_map statement_sites n.body
 
--- call by call, counted from n
+-- the calls with their numbers, counted from `n`
 abbrev pub numbered_sites : ℕ → List Site → List (ℕ × Site)
 numbered_sites n [] = []
 numbered_sites n (s ∷ ss) = (n, s) ∷ numbered_sites (suc n) ss
@@ -106,7 +106,7 @@ given_or_constant (Some v) o = Some v.1
 given_or_constant None o = o
 
 module _ (P : Program) where
-  -- what a name in a static expression of an instance stands for
+  -- the value of a name in a static expression of an instance
   abbrev pub name_value : Instance → Name → Option ℤ
   name_value here x =
       given_or_constant (named (λ v. v.0) x here.values)
@@ -122,12 +122,12 @@ module _ (P : Program) where
   abbrev pub node_named : Name → Option Node
   node_named f = named (λ n. n.name) f P.source.nodes
 
-  -- how many instances a call has
+  -- the number of instances of a call
   abbrev pub instance_count : Instance → Option Static → Option ℕ
   instance_count here None = Some 1
   instance_count here (Some s) = static_count here s
 
-  -- the instance of a call number and an index below an instance
+  -- the instance of call `call` at index `index` below an instance
   abbrev pub callee_of : Instance → Site → (call index : ℕ) → Option Instance
   callee_of here site call index =
       node_named site.callee >>= λ n.
@@ -160,7 +160,7 @@ module _ (P : Program) where
   abbrev pub children : Instance → List Instance
   children here = flat_map (site_instances here) (numbered_sites 0 (node_sites here.node))
 
-  -- an instance and those below it, at most n levels, each before those below it
+  -- an instance and those below it, at most `n` levels, each before those below it
   abbrev pub instances_from : ℕ → Instance → List Instance
   instances_from zero here = []
   instances_from (suc n) here = here ∷ flat_map (instances_from n) (children here)

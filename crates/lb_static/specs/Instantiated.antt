@@ -1,4 +1,4 @@
--- What the instantiation of a program promises.
+-- The promise of instantiation.
 -- This file says what data of the program mean; no definition of the language stands on it.
 use Rattle.std.specs.Prelude.{◌≡◌, ◌<◌, ◌+◌, ℕ, ℤ, pos, true, false, Option, Some, None, List, map}
 use Rattle.std.specs.Prelude.{take, drop, length, slice_get, Result, Ok, Err, Vec, All}
@@ -21,8 +21,8 @@ use Rattle.lb_static.specs.Instantiation.{instantiation_refusal}
 use Rattle.lb_static.specs.declared.constants.Constants.{Constants}
 use Rattle.lb_static.specs.declared.error.StaticError.{StaticError}
 use Rattle.lb_static.specs.declared.error.StaticError.TheVariants as error
-use Rattle.lb_static.specs.declared.reach.NodeId.{NodeId}
-use Rattle.lb_static.specs.declared.reach.Reached.{Reached}
+use Rattle.lb_static.specs.declared.reachable.NodeId.{NodeId}
+use Rattle.lb_static.specs.declared.reachable.Reached.{Reached}
 use Rattle.lb_static.specs.declared.resolved.ResolvedNode.{ResolvedNode}
 use Rattle.lb_static.specs.declared.resolved.StaticId.{StaticId}
 use Rattle.lb_static.specs.declared.static_value.StaticInt.{StaticInt}
@@ -31,9 +31,9 @@ use Rattle.lb_static.specs.declared.table.SpecializationId.{SpecializationId}
 use Rattle.lb_static.specs.declared.table.Table.{Table}
 use Rattle.lb_static.specs.declared.instantiate.Begun.{Begun}
 
--- ## What is instantiated
+-- ## The input of instantiation
 
--- the numbers of a node are within range, and what it calls is reached
+-- the numbers of a node are within range, and its callees are reached
 pub record IsSoundNode (r : Reached) (n : ResolvedNode) : Type 0 where
   pub declared : list_all (is_declared_within (counts_of n)) n.variables.items ≡ true
   pub calls :
@@ -43,7 +43,7 @@ pub record IsSoundNode (r : Reached) (n : ResolvedNode) : Type 0 where
 abbrev pub AreSound : Reached → Type 0
 AreSound r = All (IsSoundNode r) r.nodes.items
 
--- the reached nodes and the values of the constants are those of a program that keeps its names
+-- the reached nodes and the constants' values are those of a program that keeps the rule of names
 pub record IsInstantiable (P : Program) (r : Reached) (c : Constants) : Type 0 where
   pub names : keeps_names P ≡ true
   pub reached : IsReached P r
@@ -52,37 +52,37 @@ pub record IsInstantiable (P : Program) (r : Reached) (c : Constants) : Type 0 w
 
 -- ## Instances that are judged
 
--- these are the values of the static expressions of an instance, in range
+-- `statics` are the values of the static expressions of an instance, and they are in range
 pub record IsJudged (P : Program) (n : ResolvedNode) (here : Instance) (statics : List ℤ) :
     Type 0 where
   pub values : has_values P here ≡ true
   pub in_range : is_in_range P here ≡ true
   pub evaluated_as : map Some statics ≡ map (static_value P here) (statics_of n)
 
--- the values of a specialization are judged, wherever it stands
+-- the values of a specialization are judged, at whatever path
 abbrev pub IsJudgedAt : Program → Reached → Specialization → Type 0
 IsJudgedAt P r s =
     (p : Path) (n : ResolvedNode) → slice_get r.nodes.items s.node.0 ≡ Some n
     → IsJudged P n (instance_of p (node_of n) s.values.items) s.statics.items
 
--- the specializations are of reached nodes, and their values are judged
+-- each specialization is of a reached node, and its values are judged
 abbrev pub AreJudged : Program → Reached → List Specialization → Type 0
 AreJudged P r specializations =
     (i : ℕ) (s : Specialization) → slice_get specializations i ≡ Some s
     → (s.node.0 < length r.nodes.items) × IsJudgedAt P r s
 
--- those that were there before still stand where they stood
+-- each specialization that was there before has the place that it had
 abbrev pub HasGrown : (before after : List Specialization) → Type 0
 HasGrown before after =
     (i : ℕ) (s : Specialization) → slice_get before i ≡ Some s → slice_get after i ≡ Some s
 
--- a specialization that is there is of this node with these values
+-- the specialization `id` is there; it is of this node with these values
 abbrev pub IsKnown : List Specialization → NodeId → List ℤ → SpecializationId → Type 0
 IsKnown specializations node values id =
     (s : Specialization) × (slice_get specializations id.0 ≡ Some s) × (s.node ≡ node)
     × (s.values.items ≡ values)
 
--- a specialization that is taken for a node with these values, if one is: its values are judged
+-- a specialization that was found, if any: it is of this node with these values, which are judged
 abbrev pub IsKnownWith :
     Program → Reached → Option (SpecializationId × Bor Specialization) → NodeId → List ℤ → Type 0
 IsKnownWith P r None node values = Unit {0}
@@ -91,7 +91,7 @@ IsKnownWith P r (Some f) node values =
 
 -- ## Refusals
 
--- an error other than of memory is this refusal
+-- an error, unless of memory, is this refusal
 abbrev pub IsRefusal : Option Refusal → StaticError → Type 0
 IsRefusal o error.Memory = Unit {0}
 IsRefusal o (error.Value x) = o ≡ Some E5
@@ -99,7 +99,7 @@ IsRefusal o (error.Range x) = o ≡ Some E6
 IsRefusal o (error.Instances x) = o ≡ Some E12
 IsRefusal o _ = ⊥
 
--- the values of the static expressions of an instance, or the rule that these break
+-- an answer: the values of the static expressions of an instance, or the rule that these break
 abbrev pub IsJudgement :
     Program → ResolvedNode → Instance → Result (Vec StaticInt Global) StaticError → Type 0
 IsJudgement P n here (Ok statics) = IsJudged P n here statics.items
@@ -109,15 +109,15 @@ IsJudgement P n here (Err (error.Range x)) =
     (has_values P here ≡ true) × (is_in_range P here ≡ false)
 IsJudgement P n here (Err _) = ⊥
 
--- an instance that is entered after so many others breaks no rule, and these are its values; or
--- it breaks one
+-- an answer for an instance that is entered after `before` others: its values, and then it breaks
+-- no rule; or the rule that it breaks
 abbrev pub IsBegun :
     Program → ℕ → ResolvedNode → Instance → Result Begun StaticError → Type 0
 IsBegun P before n here (Ok b) =
     IsJudged P n here b.statics.items × (instance_refusal P before here ≡ None)
 IsBegun P before n here (Err e) = IsRefusal (instance_refusal P before here) e
 
--- after so many instances, these were entered, and then there are so many
+-- the instances `entered` were entered after `before` others, and so there are `after` of them
 pub record AreEntered (P : Program) (before : ℕ) (entered : List Instance) (after : ℕ) :
     Type 0 where
   pub kept : instantiation_refusal P before entered ≡ None
@@ -125,19 +125,19 @@ pub record AreEntered (P : Program) (before : ℕ) (entered : List Instance) (af
 
 -- ## Calls
 
--- the values of so many static expressions, from one on
+-- the values of `count` static expressions from `first` on
 abbrev pub values_at : List ℤ → StaticId → ℕ → List ℤ
 values_at statics first count = take count (drop first.0 statics)
 
--- how often a call is entered
+-- the number of times that a call is entered: once, or the value of its count
 abbrev pub times_of : List ℤ → Option StaticId → ℕ
 times_of statics None = 1
 times_of statics (Some i) = size_of (either_or (slice_get statics i.0) (pos 0))
 
 -- ## The whole instantiation
 
--- The table of the instances of a program, or the rule that the first instance with a fault
--- breaks, unless memory ran out.
+-- An answer: the table of the instances of a program, or the rule that the first instance with a
+-- fault breaks, unless memory ran out.
 abbrev pub IsInstantiationAnswer : Program → Reached → Result Table StaticError → Type 0
 IsInstantiationAnswer P r (Ok t) =
     (instantiation_refusal P 0 (instances P) ≡ None) × HasStarts P r t

@@ -55,20 +55,19 @@ module _ (P : Program) where
   level Observer = 1
   level (Child p call index) = suc (level p)
 
-  -- an instance may be entered after so many others: there are at most 4,096 instances and 64
-  -- levels
+  -- an instance may be entered after `n` others: there are at most 4,096 instances and 64 levels
   abbrev pub may_enter : ℕ → Instance → Bool
   may_enter n here = nat_lt n 4096 && nat_le (level here.path) 64
 
   -- ## The walk
 
-  -- what an instance that is entered after so many others breaks first
+  -- the first rule that an instance breaks that is entered after `n` others
   abbrev pub instance_refusal : ℕ → Instance → Option Refusal
   instance_refusal n here =
       or_else (unless (may_enter n here) E12)
       (or_else (unless (has_values here) E5) (unless (is_in_range here) E6))
 
-  -- the first instance with a fault decides
+  -- the rule that the first instance with a fault breaks, of instances entered after `n` others
   abbrev pub instantiation_refusal : ℕ → List Instance → Option Refusal
   instantiation_refusal n [] = None
   instantiation_refusal n (here ∷ rest) =

@@ -14,27 +14,27 @@ use Rattle.lb_static.specs.StoredTypes.{view_types, declared_types}
 use Rattle.lb_static.specs.declared.error.StaticError.{StaticError}
 use Rattle.lb_static.specs.declared.error.StaticError.TheVariants as error
 use Rattle.lb_static.specs.declared.interface.Interface.{Interface}
-use Rattle.lb_static.specs.declared.reach.Reached.{Reached}
+use Rattle.lb_static.specs.declared.reachable.Reached.{Reached}
 use Rattle.lb_static.specs.declared.resolved.ResolvedNode.{ResolvedNode}
 use Rattle.lb_static.specs.declared.resolved.Variable.{Variable}
 use Rattle.lb_static.specs.declared.table.SpecializationId.{SpecializationId}
 use Rattle.lb_static.specs.declared.table.Table.{Table}
 
--- memory ran out, or the interface of the node under test or the observer is wrong, for this reason
+-- an error of memory, or of the interface of the node under test or the observer, for this reason
 abbrev pub IsRootFault : Type 0 → StaticError → Type 0
 IsRootFault Reason error.Memory = Unit {0}
 IsRootFault Reason (error.Root x) = Reason
 IsRootFault Reason _ = ⊥
 
--- a value that stands for what there is, or a fault where there is none
+-- an answer for `o`: a value that `seen_as` maps to that of `o`, or an error where `o` has none
 abbrev pub Answers : {A B : Type 0} → (A → B) → Option B → Result A StaticError → Type 0
 Answers seen_as o (Ok a) = o ≡ Some (seen_as a)
 Answers seen_as o (Err e) = IsRootFault (o ≡ None) e
 
 -- ## The inputs and outputs of an instance
 
--- the inputs and outputs of a node with values: how many of the types are those of inputs, and
--- whether all are on the base clock
+-- the inputs and outputs of a node with values: `inputs` is the number of the inputs among the
+-- types, and `is_plain` says whether all are on the base clock
 pub record InterfaceView : Type 0 where
   pub node : Node
   pub inputs : ℕ
@@ -58,7 +58,7 @@ interface_variables n =
     where_true (nat_le (n.inputs + n.outputs) (length n.variables.items))
     (take (n.inputs + n.outputs) n.variables.items)
 
--- those of a node, by the values of its static expressions
+-- the inputs and outputs of a node, by the values of its static expressions
 abbrev pub interface_under : ResolvedNode → List ℤ → Option InterfaceView
 interface_under n statics =
     interface_variables n >>= λ vs.
@@ -71,7 +71,7 @@ interface_under n statics =
     })
     (declared_types statics vs)
 
--- the types of the inputs, and those of the outputs
+-- the types of the inputs
 abbrev pub inputs_of : InterfaceView → List DataType
 inputs_of f = take f.inputs f.data_types
 
@@ -84,7 +84,7 @@ valued_node_in r t id =
     slice_get t.specializations.items id.0 >>= λ s.
     option_map (λ n. (n, s.statics.items)) (slice_get r.nodes.items s.node.0)
 
--- the property of one that observes another, and of one alone
+-- whether the outputs are one scalar `bool`
 abbrev pub is_one_truth_in : List DataType → Bool
 is_one_truth_in ts = are_types ts (truth ∷ [])
 
@@ -103,6 +103,6 @@ elements_named (x ∷ xs) (s ∷ ss) =
     map (λ n. (n, s.kind)) (element_names x s.sizes) ++ elements_named xs ss
 elements_named _ _ = []
 
--- the property of a program, where its node under test is seen so
+-- whether a program has its property, where `root` is the interface of its node under test
 abbrev pub property_in : Reached → Table → InterfaceView → Option Bool
 property_in r t root = property_by root (t.observer >>= valued_node_in r t)

@@ -1,4 +1,4 @@
--- When a step that resolves names may refuse, and which name it may hold.
+-- The answers of steps that resolve names: when they may refuse, and which name the error may hold.
 -- This file says what data of the program mean; no definition of the language stands on it.
 use Rattle.std.specs.Prelude.{◌≡◌, Bool, true, false, ◌&&◌, [], None, string_bytes}
 use Rattle.std.specs.Str.{bytes_eq}
@@ -10,35 +10,34 @@ use Rattle.lb_static.specs.declared.causes.NameRule.{NameRule}
 use Rattle.lb_static.specs.declared.error.StaticError.{StaticError}
 use Rattle.lb_static.specs.declared.error.StaticError.TheVariants as error
 
--- an error holds this name, which is there for this
+-- whether an error holds the name `x`, and with a rule that this purpose can break
 abbrev pub is_told : StaticError → NameUse → Name → Bool
 is_told (error.Name fault) purpose x =
     bytes_eq (string_bytes fault.value.name) x && is_broken_by purpose fault.value.rule
 is_told _ purpose x = false
 
--- an error holds this name, and that it breaks this rule, unless memory ran out
+-- an error holds the name `x` and the rule `broken`, unless memory ran out
 abbrev pub TellsRule : Name → NameRule → StaticError → Type 0
 TellsRule x broken error.Memory = Unit {0}
 TellsRule x broken (error.Name fault) =
     (string_bytes fault.value.name ≡ x) × (fault.value.rule ≡ broken)
 TellsRule x broken _ = ⊥
 
--- an error holds this name, which is there for this, unless memory ran out
+-- an error holds the name `x`, and a rule that this purpose can break, unless memory ran out
 abbrev pub TellsName : Name → NameUse → StaticError → Type 0
 TellsName x purpose error.Memory = Unit {0}
 TellsName x purpose (error.Name fault) =
     (string_bytes fault.value.name ≡ x) × (is_broken_by purpose fault.value.rule ≡ true)
 TellsName x purpose _ = ⊥
 
--- A refused name breaks a rule of names, by this test. Where only the name that the error holds
--- counts for the test, it is that name.
+-- A refused name fails the test `b` of the rule of names. If `b` counts only the name of the error
+-- (`is_told`), it is that name that breaks the rule.
 abbrev pub IsNameFault : StaticError → Bool → Type 0
 IsNameFault error.Memory b = Unit {0}
 IsNameFault (error.Name fault) b = b ≡ false
 IsNameFault _ b = ⊥
 
--- the program of a source in which no node is under test: the names of one node are judged by the
--- source alone
+-- the program of a source without a node under test, by which the names of one node are judged
 abbrev pub alone : Source → Program
 alone s = record { source = s; root = []; observer = None }
 
@@ -46,6 +45,6 @@ alone s = record { source = s; root = []; observer = None }
 abbrev pub named_in : Source → Node → Bool
 named_in s n = is_named (alone s) n
 
--- the name that an error holds, if it stands there, has a meaning in a node
+-- the name that an error holds has a meaning wherever it stands in a node
 abbrev pub told_in : StaticError → Source → Node → Bool
 told_in e s n = is_named_where (is_told e) (alone s) n

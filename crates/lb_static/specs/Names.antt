@@ -66,7 +66,7 @@ module _ (P : Program) where
   abbrev pub starts : List (Option Node)
   starts = map (node_named P) start_names
 
-  -- the nodes had from some in at most so many calls
+  -- the nodes reached from the starts by at most `k` calls
   abbrev pub reached_within : (Node → Bool) → ℕ → List Node
   reached_within start zero = filter start P.source.nodes
   reached_within start (suc k) =
@@ -76,12 +76,13 @@ module _ (P : Program) where
   abbrev pub reached_nodes : List Node
   reached_nodes = reached_within (λ n. among n.name start_names) (length P.source.nodes)
 
-  -- the constants that a node names; those that it hides are not among them
+  -- the names of constants in a node, except those that it hides
   abbrev pub named_constants : Node → List Name
   named_constants n =
       filter (λ x. not (among x (declared_names n))) (node_names n ++ node_static_names n)
 
-  -- the constants had from some names in at most so many steps
+  -- the constants reached from the names `xs` by at most `k` steps from a constant to one in its
+  -- value
   abbrev pub constants_within : List Name → ℕ → List Constant
   constants_within xs zero = filter (λ c. among c.name xs) P.source.constants
   constants_within xs (suc k) =

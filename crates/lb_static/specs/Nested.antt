@@ -1,4 +1,4 @@
--- What stands around the last operand of an expression, or before its list of operands.
+-- The part of an expression around its last operand, or before its list of operands.
 -- This file mirrors code (src/resolving_terms.rt); no definition of the language stands on it.
 use Rattle.std.specs.Prelude.{◌≡◌, List, Result, Ok, Err, Box, Vec}
 use Rattle.std.specs.declared.alloc.Global.{Global}
@@ -18,7 +18,7 @@ use Rattle.lb_static.specs.declared.resolving_terms.Head.{Head}
 use Rattle.lb_static.specs.declared.resolving_terms.Head.TheVariants.{Array, AtMostOne, Nor, Call}
 use Rattle.lb_static.specs.declared.resolving_terms.Head.TheVariants.{IterateNode, IterateSymbol}
 
--- the term with this last operand
+-- the term with the outer part `outer` and the last operand `a`
 abbrev pub around : Outer → Box Term Global → Term
 around Group a = term.Group a
 around (Unary op) a = term.Unary op a
@@ -34,7 +34,7 @@ around (Index index) a = term.Index a index
 around (Slice start end) a = term.Slice a start end
 around (Join first) a = term.Join first a
 
--- the term with these operands
+-- the term with the head `head` and the operands `all`
 abbrev pub before_row : Head → Vec Term Global → Term
 before_row Array all = term.Array all
 before_row AtMostOne all = term.AtMostOne all
@@ -43,14 +43,14 @@ before_row (Call site) all = term.Call site all
 before_row (IterateNode iterator site) all = term.IterateNode iterator site all
 before_row (IterateSymbol iterator op size) all = term.IterateSymbol iterator op size all
 
--- the term whose last operand stands for an expression, or why there is none
+-- an answer: the term whose last operand stands for an expression, or why there is none
 abbrev pub ResolvesNested :
     (before after : Progress) → Outer → Expr → Result Term StaticError → Type 0
 ResolvesNested before after outer e (Ok t) =
     (a : Box Term Global) × (t ≡ around outer a) × ResolvesTerm before after e (Ok a.value)
 ResolvesNested before after outer e (Err f) = IsNameFault f (expr_told f before e)
 
--- the term whose operands stand for some expressions, or why there is none
+-- an answer: the term whose operands stand for some expressions, or why there is none
 abbrev pub ResolvesRow :
     (before after : Progress) → Head → List Expr → Result Term StaticError → Type 0
 ResolvesRow before after head es (Ok t) =

@@ -1,4 +1,4 @@
--- What the names of a node may stand for, and whether each name of an expression has a meaning.
+-- The names of a node: their places, and whether each of them has a meaning.
 -- The tests mirror the recursion of the code; no definition of the language stands on them.
 use Rattle.std.specs.Prelude.{◌≡◌, ℕ, Bool, true, ◌&&◌, List, [], nat_eq, Some, None, length}
 use Rattle.std.specs.Prelude.{slice_get, nat_lt}
@@ -29,17 +29,17 @@ node_in n = view_node n.tree.now
 abbrev pub program_in : NodeScope → Program
 program_in n = alone (view_source n.source.now)
 
--- the place of the variable of a name
+-- `place` is the place of the variable with the name `x`
 abbrev pub IsVariableAt : Node → Name → VariableId → Type 0
 IsVariableAt n x place =
     (name_at (variable_names n) place ≡ x)
     × (nat_lt place.0 (length (variable_names n)) ≡ true)
 
--- a node or function of this name has so many static parameters
+-- a node or function of this name has `count` static parameters
 abbrev pub takes : Program → Name → ℕ → Bool
 takes P f count = holds (λ callee. nat_eq count (length callee.parameters)) (node_named P f)
 
--- the place of the node that is called by a name with so many static arguments
+-- `place` is the place of the node that is called by a name with `count` static arguments
 abbrev pub IsCallee : Program → Name → ℕ → NodePlace → Type 0
 IsCallee P f count place =
     (either_or (slice_get (source_names P) place.0) [] ≡ f)
@@ -55,12 +55,12 @@ module _ (counts : NameUse → Name → Bool) (P : Program) (n : Node) where
   abbrev pub statics_pass_where : List Static → Bool
   statics_pass_where = list_all static_passes_where
 
-  -- a call, with the name of what it calls and its static arguments
+  -- a call: each name that counts in its callee and its static arguments
   abbrev pub call_passes_where : Site → Bool
   call_passes_where s = is_callable_where counts P s && statics_pass_where s.arguments
 
   abbrev mutual
-    -- each name of an expression
+    -- each name that counts in an expression has a meaning
     pub passes_where : Expr → Bool
     passes_where (Literal m) = true
     passes_where (Truth b) = true
@@ -95,7 +95,7 @@ module _ (counts : NameUse → Name → Bool) (P : Program) (n : Node) where
     all_pass_where Nil = true
     all_pass_where (Cons e es) = passes_where e && all_pass_where es
 
-  -- each name of a statement; its left names are variables
+  -- each name that counts in a statement has a meaning; its left names are variables
   abbrev pub statement_passes_where : Statement → Bool
   statement_passes_where (Equation lefts e) =
       list_all (counted (counts Variables) (is_variable P n)) lefts && passes_where e

@@ -1,4 +1,4 @@
--- What is resolved of a node so far, and what one more resolved part adds.
+-- The part of a node that is resolved so far, and the effect of one more resolved part.
 -- This file says what data of the program mean; no definition of the language stands on it.
 use Rattle.std.specs.Prelude.{◌≡◌, ℕ, Bool, true, ◌&&◌, Option, None, Some, option_map, List, []}
 use Rattle.std.specs.Prelude.{◌∷◌, ◌++◌, map, flat_map, length, Result, Ok, Err, Box, Vec}
@@ -37,8 +37,8 @@ use Rattle.lb_static.specs.declared.resolved.ResolvedStatement.{ResolvedStatemen
 use Rattle.lb_static.specs.declared.resolved.Term.{Term}
 use Rattle.lb_static.specs.declared.resolved.Variable.{Variable}
 
--- a node of a source, and what is found of it so far: its variables, without their names, its
--- static expressions and its calls
+-- a node of a source, and the part of it that is resolved so far: its variables, without their
+-- names, its static expressions and its calls
 pub record Progress : Type 0 where
   pub source : Source
   pub node : Node
@@ -46,7 +46,7 @@ pub record Progress : Type 0 where
   pub parts : List Part
   pub calls : List Site
 
--- ## What the numbers stand for so far
+-- ## The meaning of the numbers so far
 
 abbrev pub texts : Progress → Texts
 texts s = record {
@@ -72,9 +72,9 @@ program_of s = alone s.source
 abbrev pub callees : Progress → List Name
 callees s = map (λ n. n.name) s.source.nodes
 
--- ## What is added
+-- ## Additions
 
--- with more static expressions and calls
+-- `s` with more static expressions and calls
 abbrev pub grown : Progress → List Part → List Site → Progress
 grown s parts calls = record {
   source = s.source;
@@ -84,7 +84,7 @@ grown s parts calls = record {
   calls = s.calls ++ calls;
 }
 
--- with one more variable
+-- `s` with one more variable
 abbrev pub with_variable : Progress → Declaration → Progress
 with_variable s d = record {
   source = s.source;
@@ -94,7 +94,7 @@ with_variable s d = record {
   calls = s.calls;
 }
 
--- ## How it is kept
+-- ## The progress that the code keeps
 
 abbrev pub texts_in : List StaticPart → List Static
 texts_in parts = map (λ p. static_of p.text) parts
@@ -128,7 +128,7 @@ pub record IsKept (n : NodeScope) (parts : List StaticPart) (calls : List CallSi
 
 -- ## Static expressions and calls
 
--- a number stands for a static expression
+-- the number `id` stands for the static expression `x`
 abbrev pub StaticStands : Progress → Static → StaticId → Type 0
 StaticStands s x id =
     (static_at (texts s).statics id ≡ x) × (is_static (counts_in (texts s)) id ≡ true)
@@ -139,7 +139,7 @@ static_fits s x = static_passes (program_of s) s.node x
 abbrev pub static_told : StaticError → Progress → Static → Bool
 static_told f s x = static_passes_where (is_told f) (program_of s) s.node x
 
--- the number that stands for a static expression, or why there is none
+-- an answer: the number that stands for a static expression, or why there is none
 abbrev pub ResolvesStatic :
     (before after : Progress) → Purpose → Static → Result StaticId StaticError → Type 0
 ResolvesStatic before after role x (Ok id) =
@@ -153,7 +153,7 @@ statics_fit s xs = statics_pass (program_of s) s.node xs
 abbrev pub statics_told : StaticError → Progress → List Static → Bool
 statics_told f s xs = statics_pass_where (is_told f) (program_of s) s.node xs
 
--- static expressions that stand one after another: the first of them, and how many there are
+-- `place` stands for static expressions that stand one after another: the first, and their count
 abbrev pub StaticsStand : Progress → List Static → StaticId × ℕ → Type 0
 StaticsStand s xs place =
     (statics_at (texts s).statics place.0 place.1 ≡ xs)
@@ -166,7 +166,7 @@ ResolvesStatics before after role xs (Ok place) =
     × (statics_fit before xs ≡ true)
 ResolvesStatics before after role xs (Err f) = IsNameFault f (statics_told f before xs)
 
--- a number stands for a call
+-- the number `id` stands for the call `site`
 abbrev pub CallStands : Progress → Site → CallId → Type 0
 CallStands s site id = (site_at s.calls id ≡ site) × (is_call (counts_in (texts s)) id ≡ true)
 
@@ -176,7 +176,7 @@ call_fits s site = call_passes (program_of s) s.node site
 abbrev pub call_told : StaticError → Progress → Site → Bool
 call_told f s site = call_passes_where (is_told f) (program_of s) s.node site
 
--- the number of a call, or why there is none
+-- an answer: the number of a call, or why there is none
 abbrev pub ResolvesCall :
     (before after : Progress) → Site → Result CallId StaticError → Type 0
 ResolvesCall before after site (Ok id) =
@@ -186,7 +186,7 @@ ResolvesCall before after site (Err f) = IsNameFault f (call_told f before site)
 
 -- ## Expressions
 
--- with what is found in an expression
+-- `s` with the static expressions and calls of an expression
 abbrev pub after_expr : Progress → Expr → Progress
 after_expr s e = grown s (parts_of (is_variable_of s) e) (sites e)
 
@@ -202,20 +202,20 @@ expr_passes s e = passes (program_of s) s.node e
 abbrev pub expr_told : StaticError → Progress → Expr → Bool
 expr_told f s e = passes_where (is_told f) (program_of s) s.node e
 
--- the term that stands for an expression, or why there is none
+-- an answer: the term that stands for an expression, or why there is none
 abbrev pub ResolvesTerm :
     (before after : Progress) → Expr → Result Term StaticError → Type 0
 ResolvesTerm before after e (Ok t) =
     (after ≡ after_expr before e) × Stands after e t × (expr_passes before e ≡ true)
 ResolvesTerm before after e (Err f) = IsNameFault f (expr_told f before e)
 
--- the same in a box
+-- `ResolvesTerm` for a term in a box
 abbrev pub ResolvesBox :
     (before after : Progress) → Expr → Result (Box Term Global) StaticError → Type 0
 ResolvesBox before after e (Ok t) = ResolvesTerm before after e (Ok t.value)
 ResolvesBox before after e (Err f) = ResolvesTerm before after e (Err f)
 
--- terms that stand for some expressions
+-- the terms `ts` stand for the expressions `es`
 abbrev pub StandAll : Progress → List Expr → List Term → Type 0
 StandAll s es ts =
     (map (expr_of (texts s)) ts ≡ es)
@@ -228,7 +228,7 @@ exprs_pass s es = list_all (expr_passes s) es
 abbrev pub exprs_told : StaticError → Progress → List Expr → Bool
 exprs_told f s es = list_all (expr_told f s) es
 
--- with what is found in some expressions
+-- `s` with the static expressions and calls of some expressions
 abbrev pub after_exprs : Progress → List Expr → Progress
 after_exprs s es = grown s (flat_map (parts_of (is_variable_of s)) es) (flat_map sites es)
 
@@ -260,7 +260,7 @@ after_statements s xs =
     grown s (flat_map (λ x. parts_of (is_variable_of s) (right_side x)) xs)
     (flat_map statement_sites xs)
 
--- the statement that a statement with resolved names stands for, or why there is none
+-- an answer: the resolved statement that stands for a statement, or why there is none
 abbrev pub ResolvesStatement :
     (before after : Progress) → Statement → Result ResolvedStatement StaticError → Type 0
 ResolvesStatement before after x (Ok statement) =
@@ -268,7 +268,7 @@ ResolvesStatement before after x (Ok statement) =
     × (statement_fits before x ≡ true)
 ResolvesStatement before after x (Err f) = IsNameFault f (statement_told f before x)
 
--- statements that stand for some of a body
+-- resolved statements stand for some statements of a body
 abbrev pub StatementsStand : Progress → List Statement → List ResolvedStatement → Type 0
 StatementsStand s xs statements =
     (map (statement_of (texts s)) statements ≡ xs)
@@ -311,7 +311,7 @@ declaration_fits = declaration_fits_where every
 abbrev pub declaration_told : StaticError → Progress → Declaration → Bool
 declaration_told f = declaration_fits_where (is_told f)
 
--- with these declarations, whose sizes are these static expressions
+-- `s` with these declarations, and `parts` as the static expressions of their sizes
 abbrev pub declared_more : Progress → List Declaration → List Part → Progress
 declared_more s ds parts = record {
   source = s.source;
@@ -321,7 +321,7 @@ declared_more s ds parts = record {
   calls = s.calls;
 }
 
--- with as many variables as names, all of them alike
+-- `s` with one more variable `v` for each name
 abbrev pub with_alike : Progress → List Name → Variable → Progress
 with_alike s names v = record {
   source = s.source;
@@ -339,7 +339,7 @@ after_group s g = declared_more s (declarations g) (group_parts g)
 abbrev pub after_groups : Progress → List Group → Progress
 after_groups s gs = declared_more s (declared gs) (flat_map group_parts gs)
 
--- a clock that stands for a clock of the text
+-- a resolved clock stands for a clock of the text
 abbrev pub ClockStands : Progress → Option Sampling → Option resolved.Sampling → Type 0
 ClockStands s c clock =
     (option_map (sampling_of (variable_names s.node)) clock ≡ c)
@@ -347,7 +347,7 @@ ClockStands s c clock =
 
 -- ## A node
 
--- with all that is found in a node
+-- `s` with the declarations and statements of a whole node
 abbrev pub after_node : Progress → written.Node → Progress
 after_node s n =
     let inputs = after_groups s (view_groups n.inputs.items) in

@@ -1,4 +1,4 @@
--- What a static expression is found by, and when two of them stand for the same.
+-- The keys by which static expressions are found, and when two of them are equal.
 -- This file mirrors code (src/part_keys.rt); no definition of the language stands on it.
 use denote.Enum.Bare.{sameb}
 use Rattle.std.specs.Prelude.{ℕ, ◌/◌, ◌%◌, nat_eq, Bool, true, false, ◌&&◌, Option, Some, None}
@@ -13,9 +13,9 @@ use Rattle.lb_syntax.specs.declared.tree.BinaryOperator.TheVariants.{Modulo}
 use Rattle.lb_static.specs.StaticParts.{Part, Purpose, Size, Index, SliceStart, SliceEnd, Value}
 use Rattle.lb_static.specs.StaticParts.{Dimension, Argument}
 
--- ## The same
+-- ## Equality
 
--- written alike
+-- whether two static expressions are written alike
 abbrev pub is_same_static : Static → Static → Bool
 is_same_static (Whole m) (Whole n) = nat_eq m n
 is_same_static (Named x) (Named y) = bytes_eq x y
@@ -38,7 +38,7 @@ is_same_part p q = is_same_purpose p.0 q.0 && is_same_static p.1 q.1
 
 -- ## Keys
 
--- the letter of what static expressions are kept once for
+-- the letter of a purpose whose static expressions are kept once
 abbrev pub letter_of : Purpose → Option ℕ
 letter_of Size = Some 115
 letter_of Index = Some 105
@@ -74,7 +74,8 @@ abbrev pub start_key : Purpose → List ℕ
 start_key (SliceEnd s) = static_key s
 start_key _ = []
 
--- what a static expression is found by, if it may be kept once
+-- the key of a static expression, if it may be kept once; the size `a + 1` has the key `s+naw`, and
+-- then the two digits of 1 to the base 128
 abbrev pub key_of : Part → Option (List ℕ)
 key_of p = option_map (λ c. ((c ∷ []) ++ static_key p.1) ++ start_key p.0) (letter_of p.0)
 

@@ -1,4 +1,4 @@
--- What stands in the text of a node.
+-- The parts of the text of a node.
 -- Source: Lustre V6 reference manual, expressions. That parentheses are no part is this project's
 -- rule.
 use Rattle.std.specs.Prelude.{Bool, option_map, List, [], ◌∷◌, ◌++◌, map, flat_map}
@@ -59,9 +59,9 @@ left_names (Assertion e) = []
 abbrev pub node_parts : Node → List Expr
 node_parts n = flat_map (λ s. parts (right_side s)) n.body
 
--- ## What stands in an expression itself, its parts apart
+-- ## The contents of an expression itself, without its parts
 
--- the name of a variable, static parameter or constant
+-- the name of a variable, static parameter or constant that an expression is
 abbrev pub own_names : Expr → List Name
 own_names (Variable x) = x ∷ []
 own_names _ = []
@@ -94,7 +94,7 @@ own_arguments (Call f statics es) = statics
 own_arguments (Iterate it (Node_named f statics) n es) = statics
 own_arguments _ = []
 
--- ## What stands in a node
+-- ## The contents of a node
 
 -- the names of variables, static parameters and constants in expressions
 abbrev pub node_names : Node → List Name
@@ -127,7 +127,7 @@ static_names (Grouped s) = static_names s
 abbrev pub node_static_names : Node → List Name
 node_static_names n = flat_map static_names (node_statics n)
 
--- the names that stand where a clock does, of a declaration or an expression
+-- the names at the place of a clock, in declarations and in expressions
 abbrev pub clock_names : Node → List Name
 clock_names n =
     some_of (map (λ d. option_map (λ s. s.variable) d.clock) (variables n))

@@ -1,4 +1,4 @@
--- What is resolved of a node so far, as the code keeps it.
+-- The part of a node that is resolved so far, as the code keeps it.
 -- This file says what data of the program mean; no definition of the language stands on it.
 use Rattle.std.specs.Prelude.{◌≡◌, ℕ, Vec}
 use Rattle.std.specs.declared.alloc.Global.{Global}
@@ -11,7 +11,7 @@ use Rattle.lb_static.specs.declared.resolved.ResolvedStatement.{ResolvedStatemen
 abbrev pub progress : NodeBuilder → Progress
 progress f = kept f.node_scope f.statics.parts.items f.calls.items f.variables.items
 
--- the node of a tree with what was found of it
+-- the resolved node that a finished builder gives for the node `tree`
 pub record IsFinished (f : NodeBuilder) (tree : Node) (inputs outputs : ℕ)
     (body : Vec ResolvedStatement Global)
     (r : ResolvedNode) : Type 0 where

@@ -1,4 +1,4 @@
--- When a node with resolved names stands for its tree.
+-- The relation of a node with resolved names to its tree.
 -- This file says what data of the program mean; no definition of the language stands on it.
 use Rattle.std.specs.Prelude.{◌≡◌, true, List, [], length, map}
 use Rattle.std.specs.List.{list_all}
@@ -19,11 +19,11 @@ use Rattle.lb_static.specs.declared.resolved.ResolvedNode.{ResolvedNode}
 abbrev pub node_of : ResolvedNode → Node
 node_of r = view_node r.tree.now
 
--- its static expressions
+-- the static expressions of a node
 abbrev pub statics_of : ResolvedNode → List Static
 statics_of r = map (λ p. static_of p.text) r.statics.items
 
--- what its numbers stand for
+-- the names and texts that the numbers of a node stand for
 abbrev pub texts_of : ResolvedNode → Texts
 texts_of r = record {
   variables = variable_names (node_of r);
@@ -31,7 +31,7 @@ texts_of r = record {
   calls = node_sites (node_of r);
 }
 
--- how many there are of each
+-- the numbers of variables, static expressions and calls of a node
 abbrev pub counts_of : ResolvedNode → Counts
 counts_of r = record {
   variables = length r.variables.items;
@@ -39,7 +39,7 @@ counts_of r = record {
   calls = length r.calls.items;
 }
 
--- A node stands for its tree, where the nodes of the source have these names.
+-- A node stands for its tree, where `nodes` are the names of the nodes of the source.
 pub record IsResolved (nodes : List Name) (r : ResolvedNode) : Type 0 where
   pub inputs : r.inputs ≡ length (node_of r).inputs
   pub outputs : r.outputs ≡ length (node_of r).outputs
@@ -51,7 +51,7 @@ pub record IsResolved (nodes : List Name) (r : ResolvedNode) : Type 0 where
   pub body : map (statement_of (texts_of r)) r.body.items ≡ (node_of r).body
   pub calls : map (site_of nodes (statics_of r)) r.calls.items ≡ node_sites (node_of r)
   pub statics : map part_of r.statics.items ≡ with_parts [] (node_static_parts r.tree.now)
-  -- where it names a static parameter or a constant, no variable of its own hides it
+  -- where the node names a static parameter or a constant, no variable of its own hides it
   pub unhidden : list_all (is_statement_unhidden (texts_of r)) r.body.items ≡ true
   -- each number is within range
   pub declared_within : list_all (is_declared_within (counts_of r)) r.variables.items ≡ true

@@ -1,4 +1,4 @@
--- What a node with resolved names stands for: its tree with the names put back.
+-- The tree that a node with resolved names stands for, with the names put back.
 -- This file says what data of the program mean; no definition of the language stands on it.
 use Rattle.std.specs.Prelude.{ℕ, ◌+◌, Bool, true, false, ◌&&◌, not, nat_le, nat_lt, Option, None}
 use Rattle.std.specs.Prelude.{Some, option_map, List, [], ◌∷◌, map, take, drop, slice_get}
@@ -28,9 +28,9 @@ use Rattle.lb_static.specs.declared.resolved.Term.{Join', Array', AtMostOne', No
 use Rattle.lb_static.specs.declared.resolved.Term.{IterateNode', IterateSymbol', Row_of-Term}
 use Rattle.lb_static.specs.declared.resolved.Term.{end_of-Term, more_of-Term}
 
--- ## What the numbers of a node stand for
+-- ## The meaning of the numbers of a node
 
--- the names of its variables, its static expressions, and its calls
+-- the names of a node's variables, its static expressions, and its calls
 pub record Texts : Type 0 where
   pub variables : List Name
   pub statics : List Static
@@ -46,11 +46,11 @@ name_at names x = either_or (slice_get names x.0) []
 abbrev pub static_at : List Static → StaticId → Static
 static_at statics i = either_or (slice_get statics i.0) (Whole 0)
 
--- so many, from one on
+-- the static expressions from `first` on, at most `count`
 abbrev pub statics_at : List Static → StaticId → ℕ → List Static
 statics_at statics first count = take count (drop first.0 statics)
 
--- a call that is not there
+-- a place holder for a call that is not there
 abbrev pub no_site : Site
 no_site = record { callee = []; arguments = []; count = None }
 
@@ -59,7 +59,7 @@ site_at calls c = either_or (slice_get calls c.0) no_site
 
 -- ## Expressions
 
--- the expression that a static parameter or a constant is: its name
+-- the expression that names a static parameter or a constant
 abbrev pub named_value : Static → Expr
 named_value (tree.Named x) = tree.Variable x
 named_value s = tree.Literal 0
@@ -104,7 +104,7 @@ abbrev mutual
   row_of t end_of-Term = Nil
   row_of t (more_of-Term e rest) = Cons (expr_of t e) (row_of t rest)
 
--- those that a list of terms stands for
+-- the expressions that a list of terms stands for
 abbrev pub exprs_of : Texts → List Term → Exprs
 exprs_of t [] = Nil
 exprs_of t (e ∷ es) = Cons (expr_of t e) (exprs_of t es)
@@ -127,7 +127,7 @@ declaration_of names statics x v = record {
   clock = option_map (sampling_of names) v.clock;
 }
 
--- the call that a call site stands for, where the nodes of the source have these names
+-- the call that a call site stands for, where `nodes` are the names of the nodes of the source
 abbrev pub site_of : List Name → List Static → CallSite → Site
 site_of nodes statics s = record {
   callee = either_or (slice_get nodes s.callee.0) [];
@@ -137,7 +137,7 @@ site_of nodes statics s = record {
 
 -- ## Numbers within range
 
--- how many variables, static expressions and calls a node has
+-- the numbers of variables, static expressions and calls of a node
 pub record Counts : Type 0 where
   pub variables : ℕ
   pub statics : ℕ
@@ -152,7 +152,7 @@ is_static n i = nat_lt i.0 n.statics
 abbrev pub is_call : Counts → CallId → Bool
 is_call n c = nat_lt c.0 n.calls
 
--- so many static expressions, from one on
+-- `count` static expressions from `first` on are there
 abbrev pub are_statics : Counts → StaticId → ℕ → Bool
 are_statics n first count = nat_le (first.0 + count) n.statics
 
@@ -203,7 +203,7 @@ abbrev pub is_count_within : Counts → Option StaticId → Bool
 is_count_within n None = true
 is_count_within n (Some i) = is_static n i
 
--- a static expression that stands for an expression is a name, and no variable's
+-- a static expression is a name, and not the name of a variable
 abbrev pub is_no_variable : List Name → Static → Bool
 is_no_variable names (tree.Named x) = not (among x names)
 is_no_variable names s = false
@@ -243,7 +243,7 @@ abbrev pub is_statement_unhidden : Texts → ResolvedStatement → Bool
 is_statement_unhidden t (statement.Equation lefts e) = is_unhidden t e
 is_statement_unhidden t (statement.Assertion e) = is_unhidden t e
 
--- a call site, where the source has so many nodes
+-- each number of a call site is within range, where the source has `nodes` nodes
 abbrev pub is_site_within : (nodes : ℕ) → Counts → CallSite → Bool
 is_site_within nodes n s =
     nat_lt s.callee.0 nodes

@@ -1,4 +1,4 @@
--- What is declared after one more declaration, and where names that are declared are found.
+-- The declared names after one more declaration, and the places of names.
 -- This file says what data of the program mean; no definition of the language stands on it.
 use Rattle.std.specs.Prelude.{◌≡◌, ℕ, true, List, [], ◌∷◌, ◌++◌, if◌then◌else◌, position, String}
 use Rattle.std.specs.BTreeMap.{BTreeMap, get_by_text}
@@ -11,7 +11,7 @@ use Rattle.lb_static.specs.Parts.{among}
 abbrev pub declared_after : List Name → Name → List Name
 declared_after names x = if among x names then names else names ++ x ∷ []
 
--- names stand once each, and a map has the place of each of them
+-- the names are distinct, and a map has the place of each of them
 abbrev pub ArePlaced : {A : Type 0} → List Name → BTreeMap (String A) ℕ → Type 0
 ArePlaced names places =
     (are_distinct names ≡ true)

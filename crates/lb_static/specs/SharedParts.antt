@@ -1,5 +1,4 @@
--- The static expressions of a node, of which some that stand for the same are kept once.
--- This file mirrors code (src/static_parts.rt); no definition of the language stands on it.
+-- The static expressions of a node, where equal ones of some purposes are kept once.
 use Rattle.std.specs.Prelude.{◌≡◌, ℕ, suc, Bool, true, cond, Option, Some, None, option_map}
 use Rattle.std.specs.Prelude.{is_some, List, [], ◌∷◌, ◌++◌, map, length, slice_get, String}
 use Rattle.std.specs.BTreeMap.{BTreeMap, get_by_text}
@@ -8,34 +7,34 @@ use Rattle.lb_static.specs.PartKeys.{key_of, has_key, is_same_part}
 use Rattle.lb_static.specs.StaticParts.{Part, part_of}
 use Rattle.lb_static.specs.declared.resolved.StaticPart.{StaticPart}
 
--- where the first item stands that passes a test
+-- the place of the first item that passes a test
 abbrev pub first_with : {A : Type 0} → (A → Bool) → List A → Option ℕ
 first_with f [] = None
 first_with f (x ∷ xs) = cond (f x) (Some 0) (option_map suc (first_with f xs))
 
--- a static expression that stands for the same is kept at a place
+-- the static expression at place `i` is equal to `q`
 abbrev pub is_held_at : List Part → Part → ℕ → Bool
 is_held_at ps q i = holds (λ p. is_same_part p q) (slice_get ps i)
 
--- the place of one that stands for the same, if one is found
+-- the place of a static expression that is equal to `q`, if one is found
 abbrev pub held : List Part → Part → Option ℕ
 held ps q =
     key_of q >>= λ k. first_with (has_key k) ps >>= λ i. cond (is_held_at ps q i) (Some i) None
 
--- the place of one more
+-- the place of `q` once it is kept: that of an equal one, or the next place
 unfoldable pub place_of : List Part → Part → ℕ
 place_of ps q = either_or (held ps q) (length ps)
 
--- what is kept with one more
+-- the list that is kept with `q`
 unfoldable pub with_part : List Part → Part → List Part
 with_part ps q = cond (is_some (held ps q)) ps (ps ++ q ∷ [])
 
--- what is kept with more, one after another
+-- the list that is kept with more static expressions, one after another
 abbrev pub with_parts : List Part → List Part → List Part
 with_parts ps [] = ps
 with_parts ps (q ∷ qs) = with_parts (with_part ps q) qs
 
--- the same as the code keeps it
+-- `with_part`, for static expressions as the code keeps them
 abbrev pub with_static : List StaticPart → StaticPart → List StaticPart
 with_static ps q = cond (is_some (held (map part_of ps) (part_of q))) ps (ps ++ q ∷ [])
 
@@ -43,7 +42,7 @@ with_static ps q = cond (is_some (held (map part_of ps) (part_of q))) ps (ps ++ 
 abbrev pub ArePartsPlaced : {A : Type 0} → List Part → BTreeMap (String A) ℕ → Type 0
 ArePartsPlaced ps places = (k : List ℕ) → get_by_text places k ≡ first_with (has_key k) ps
 
--- a static expression has no key that none of these has
+-- each key of `q` is the key of a static expression in `ps`
 abbrev pub HasNoNewKey : List Part → Part → Type 0
 HasNoNewKey ps q =
     (k : List ℕ) → has_key k q ≡ true → is_some (first_with (has_key k) ps) ≡ true

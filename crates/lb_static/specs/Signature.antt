@@ -3,7 +3,7 @@
 use Rattle.std.specs.Prelude.{ℕ, List, map}
 use Rattle.lb_syntax.specs.declared.tree.Kind.{Kind}
 
--- a scalar input element: its name, as `x` or `m[1][2]`, and what it holds
+-- a scalar input element: its name, as `x` or `m[1][2]`, and its kind
 abbrev pub Element : Type 0
 Element = List ℕ × Kind
 

@@ -10,13 +10,13 @@ use Rattle.lb_static.specs.StaticValues.{named}
 abbrev pub names_in : List Declaration → List Name
 names_in ds = map (λ d. d.name) ds
 
--- the names of the constants of a source, and of its constants and nodes
+-- the names of the constants of a source
 abbrev pub constants_in : Source → List Name
 constants_in s = map (λ c. c.name) s.constants
 
 abbrev pub names_in_source : Source → List Name
 names_in_source s = constants_in s ++ map (λ n. n.name) s.nodes
 
--- the node of a name
+-- the node with the name `x`
 abbrev pub node_in_source : written.Source → Name → Option Node
 node_in_source s x = named (λ n. n.name) x (view_source s).nodes

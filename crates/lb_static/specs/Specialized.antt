@@ -23,7 +23,7 @@ use Rattle.lb_static.specs.declared.static_value.StaticInt.{StaticInt}
 
 -- ## Values
 
--- what a name stands for where static parameters of these names have these values
+-- the value of a name, where the static parameters `names` have the values `values`
 abbrev pub value_given : (Name → Option ℤ) → List Name → List ℤ → Name → Option ℤ
 value_given constants names values x =
     given_or_constant (named (λ v. v.0) x (zip names values)) (constants x)
@@ -48,7 +48,7 @@ count_between low high v = holds (λ n. nat_le low n && nat_le n high) (v >>= na
 abbrev pub runs_forward : Option ℤ → Option ℤ → Bool
 runs_forward v w = holds (λ i. holds (nat_le i) (w >>= natural)) (v >>= natural)
 
--- a value is within the range of what it is there for
+-- a value is within the range that its purpose allows
 abbrev pub part_passes : (Name → Option ℤ) → Purpose → Option ℤ → Bool
 part_passes given Size v = count_between 1 4096 v
 part_passes given Index v = count_between 0 4095 v
@@ -66,17 +66,17 @@ are_in_range given (p ∷ ps) (v ∷ vs) =
 
 -- ## Widths
 
--- a size as a number; one below 0 counts as 0
+-- a size as a number; a negative size counts as 0
 abbrev pub size_of : ℤ → ℕ
 size_of (pos n) = n
 size_of (negsuc n) = 0
 
--- so many elements times the sizes, as far as 65,537, which stands for all that are more
+-- `elements` times the sizes, and 65,537 for each product that is greater
 abbrev pub times_sizes : ℕ → List ℤ → ℕ
 times_sizes elements [] = elements
 times_sizes elements (v ∷ vs) = times_sizes (min (elements * size_of v) 65537) vs
 
--- a variable has at most 65,536 elements, where the static expressions have these values
+-- a variable has at most 65,536 elements, where `values` are those of the static expressions
 abbrev pub is_narrow : List ℤ → Declared → Bool
 is_narrow values v =
     nat_le (times_sizes 1 (take v.sizes (drop v.first_size.0 values))) 65536
@@ -88,7 +88,8 @@ node_in_range given n values =
     are_in_range given n.statics.items values
     && list_all (is_narrow values) n.variables.items
 
--- The values of the static expressions of a node, in range; or some have none, or are not.
+-- The values of the static expressions of a node, in range; or an error, where some expression has
+-- no value (E5), or a value is out of range (E6).
 abbrev pub IsEvaluated : (Name → Option ℤ) → ResolvedNode
     → Result (Vec StaticInt Global) StaticError → Type 0
 IsEvaluated given n (Ok statics) =

@@ -1,5 +1,4 @@
--- The static expressions of a node and what each is there for, in the order in which the code
--- finds them.
+-- The static expressions of a node with their purposes, in the order in which the code finds them.
 -- This file mirrors code (src/resolved.rt); no definition of the language stands on it.
 use Rattle.std.specs.Prelude.{Bool, cond, List, [], ◌∷◌, ◌++◌, map, flat_map}
 use Rattle.lb_syntax.specs.Grammar.{Group}
@@ -17,7 +16,7 @@ use Rattle.lb_static.specs.declared.resolved.Role.{Role}
 use Rattle.lb_static.specs.declared.resolved.Role.TheVariants as role
 use Rattle.lb_static.specs.declared.resolved.StaticPart.{StaticPart}
 
--- what a static expression is there for
+-- the purpose of a static expression
 pub data Purpose : Type 0 where
   -- a size of `e ^ n` or of an iterator
   Size : Purpose
@@ -40,7 +39,7 @@ purpose_of role.Dimension = Dimension
 purpose_of role.Argument = Argument
 purpose_of role.Value = Value
 
--- a static expression and what it is there for
+-- a static expression with its purpose
 abbrev pub Part : Type 0
 Part = Purpose × Static
 
@@ -51,8 +50,8 @@ abbrev pub arguments_of : List Static → List Part
 arguments_of = map (λ s. (Argument, s))
 
 abbrev mutual
-  -- those of an expression, in text order, each before those of its parts; what is a variable is
-  -- given
+  -- the static expressions of an expression, in text order, each before those of its parts;
+  -- `variable` tests whether a name is a variable
   pub parts_of : (Name → Bool) → Expr → List Part
   parts_of variable (Literal n) = []
   parts_of variable (Truth b) = []
@@ -83,7 +82,7 @@ abbrev mutual
   parts_in variable Nil = []
   parts_in variable (Cons e es) = parts_of variable e ++ parts_in variable es
 
--- those of a group of declarations, once for all its variables
+-- the static expressions of a group of declarations, once for all its variables
 abbrev pub if_named : List Name → List Part → List Part
 if_named [] parts = []
 if_named (x ∷ xs) parts = parts
@@ -91,7 +90,7 @@ if_named (x ∷ xs) parts = parts
 abbrev pub group_parts : Group → List Part
 group_parts g = if_named g.names (map (λ s. (Dimension, s)) g.sizes)
 
--- those of a node: of its declarations, and then of its statements
+-- the static expressions of a node: those of its declarations, and then those of its statements
 abbrev pub node_static_parts : written.Node → List Part
 node_static_parts n =
     let here = view_node n in

@@ -7,7 +7,7 @@ use Rattle.lb_syntax.specs.Lists.{◌>>=◌}
 use Rattle.lb_syntax.specs.Tree.{Name, Static, Whole, Named, Negated, Combined, Grouped, Constant}
 use Rattle.lb_static.specs.Arithmetic.{arithmetic, negated}
 
--- the first of this name
+-- the first item with the name `x`
 abbrev pub named : {A : Type 0} → (A → Name) → Name → List A → Option A
 named name_of x xs = find (λ a. bytes_eq (name_of a) x) xs
 
@@ -20,8 +20,8 @@ value_under given (Negated s) = value_under given s >>= negated
 value_under given (Combined op s t) =
     value_under given s >>= λ a. value_under given t >>= λ b. arithmetic op a b
 
--- the value of a named constant that may name others at most n deep; a constant that needs itself
--- has none, however great n is
+-- the value of a named constant, where a chain of constants that name one another is at most `n`
+-- long; a constant that needs itself has none, however great `n` is
 abbrev pub constant_value : List Constant → ℕ → Name → Option ℤ
 constant_value constants zero x = None
 constant_value constants (suc n) x =

@@ -1,5 +1,5 @@
--- The types that types of the code stand for, and those of variables by the values of the static
--- expressions of their node.
+-- The types that types of the code stand for, and the types of variables by the values of the
+-- static expressions of their node.
 -- This file says what data of the program mean; no definition of the language stands on it.
 use Rattle.std.specs.Prelude.{ℕ, ℤ, Option, option_map, List, Vec, map, reverse, take, drop}
 use Rattle.std.specs.Global.{Global}
@@ -10,18 +10,18 @@ use Rattle.lb_static.specs.declared.data_type.DataType as stored
 use Rattle.lb_static.specs.declared.resolved.StaticId.{StaticId}
 use Rattle.lb_static.specs.declared.resolved.Variable.{Variable}
 
--- its sizes stand the other way round: the outermost last
+-- the type that a type of the code stands for; the code keeps the outermost size last
 abbrev pub view_type : stored.DataType → DataType
 view_type t = record { kind = t.kind; sizes = reverse t.sizes.items }
 
 abbrev pub view_types : Vec stored.DataType Global → List DataType
 view_types ts = map view_type ts.items
 
--- values as numbers, where all are without a sign
+-- values as natural numbers, if none is negative
 abbrev pub naturals : List ℤ → Option (List ℕ)
 naturals values = all_some (map natural values)
 
--- the sizes that stand from one on, so many, the innermost first
+-- the `count` sizes from `first` on, the innermost first
 abbrev pub sizes_at : List ℤ → StaticId → ℕ → Option (List ℕ)
 sizes_at statics first count = naturals (take count (drop first.0 statics))
 

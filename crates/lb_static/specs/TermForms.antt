@@ -13,7 +13,7 @@ use Rattle.lb_static.specs.declared.resolved.Term.{Term, Unary, Binary, Arrow, F
 use Rattle.lb_static.specs.declared.resolved.Term.{When, Replicate, Index, Slice, Join, Array}
 use Rattle.lb_static.specs.declared.resolved.Term.{AtMostOne, Nor, Call, IterateNode, IterateSymbol}
 
--- a term with this one operand
+-- the term `t` has one operand, `e`
 abbrev pub IsSingle : Term → Box Term Global → Type 0
 IsSingle t e =
     ((op : UnaryOperator) × (t ≡ Unary op e)) ⊎ ((t ≡ Pre e) ⊎ ((t ≡ Current e)
@@ -22,13 +22,13 @@ IsSingle t e =
     ⊎ (((i : StaticId) × (t ≡ Index e i))
     ⊎ ((i : StaticId) × (j : StaticId) × (t ≡ Slice e i j)))))))
 
--- a term with these two operands
+-- the term `t` has two operands, `a` and `b`
 abbrev pub IsPair : Term → Box Term Global → Box Term Global → Type 0
 IsPair t a b =
     ((op : BinaryOperator) × (t ≡ Binary op a b)) ⊎ ((t ≡ Arrow a b) ⊎ ((t ≡ Fby a b)
     ⊎ (t ≡ Join a b)))
 
--- a term with the operands of this row
+-- the term `t` has a row of operands, `es`
 abbrev pub IsRow : Term → Vec Term Global → Type 0
 IsRow t es =
     (t ≡ Array es) ⊎ ((t ≡ AtMostOne es) ⊎ ((t ≡ Nor es) ⊎ (((c : CallId) × (t ≡ Call c es))
@@ -36,7 +36,7 @@ IsRow t es =
     ⊎ ((it : ArrayIterator) × (op : BinaryOperator) × (n : StaticId)
     × (t ≡ IterateSymbol it op n es))))))
 
--- a term with one operand, with two, with a row of them
+-- the term `t` has one operand; below: two operands, a row of operands
 abbrev pub HasOne : Term → Type 0
 HasOne t = (e : Box Term Global) × IsSingle t e
 

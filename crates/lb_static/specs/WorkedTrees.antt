@@ -14,12 +14,12 @@ use Rattle.lb_static.specs.Instances.{Program}
 
 -- ## Texts
 
--- a character more before the pieces of a text, or the mark that ends a piece
+-- the pieces of a text with one more character `c` before them; a mark begins a new piece
 abbrev before : ℕ → ℕ → List (List ℕ) → List (List ℕ)
 before mark c [] = (c ∷ []) ∷ []
 before mark c (p ∷ ps) = if nat_eq c mark then [] ∷ (p ∷ ps) else (c ∷ p) ∷ ps
 
--- the pieces of a text, parted by a mark
+-- the pieces of a text between the marks
 abbrev pub pieces : ℕ → List ℕ → List (List ℕ)
 pieces mark [] = [] ∷ []
 pieces mark (c ∷ cs) = before mark c (pieces mark cs)
@@ -28,7 +28,7 @@ abbrev is_word : List ℕ → Bool
 is_word [] = false
 is_word (c ∷ cs) = true
 
--- the words of a text, parted by spaces
+-- the words of a text between spaces
 abbrev pub words : List ℕ → List (List ℕ)
 words text = filter is_word (pieces 32 text)
 

@@ -1,13 +1,13 @@
-//! What breaks a rule of names, static values and instances, and where.
+//! The causes of refusals: which rule of names, static values and instances is broken, and where.
 //!
 //! Each place is a byte offset in the text of the source.
 
 use lb_syntax::BinaryOperator;
 
-/// What a name that is unknown was to be.
+/// The sort of thing that an unknown name had to be.
 #[derive(Clone, Copy, PartialEq, Eq, Debug)]
 pub enum Sought {
-    /// A node or function: the node under test, the observer, or what is called or iterated.
+    /// A node or function: the node under test, the observer, or one that is called or iterated.
     Node,
     /// A variable, on a left side.
     Variable,
@@ -19,14 +19,14 @@ pub enum Sought {
     Constant,
 }
 
-/// Which rule of names a name breaks.
+/// The rule of names that a name breaks.
 #[derive(Clone, Copy, PartialEq, Eq, Debug)]
 pub enum NameRule {
     /// Nothing of this sort has the name.
     Unknown(Sought),
     /// It was declared before, at this offset.
     Doubled { first: u32 },
-    /// It is that of a node with another number of static parameters than it is given.
+    /// The name is that of a node with `wanted` static parameters, called with `given` arguments.
     Arguments { wanted: usize, given: usize },
 }
 
@@ -35,15 +35,15 @@ pub enum NameRule {
 pub struct NameFault {
     pub name: String,
     pub rule: NameRule,
-    /// Where the name stands; nowhere for a node under test or an observer, which are no part of
-    /// the source.
+    /// The offset of the name, or none for the name of the node under test or of the observer,
+    /// which is not part of the source.
     pub offset: Option<u32>,
     /// The node in which the name stands; none for a global name, a name in the value of a
     /// constant, the node under test and the observer.
     pub node: Option<String>,
 }
 
-/// What a program is run by.
+/// A start of a program: the node under test or the observer.
 #[derive(Clone, Copy, PartialEq, Eq, Debug)]
 pub enum Start {
     /// The node under test.
@@ -55,34 +55,34 @@ pub enum Start {
 /// A call on the way to an instance.
 #[derive(Debug, Drop)]
 pub struct CallStep {
-    /// The node that is called.
+    /// The name of the called node.
     pub node: String,
-    /// Where the name of the node stands in the call.
+    /// The offset of the name of the node in the call.
     pub offset: u32,
-    /// Which call of an iterated node it is, from 0; none for a plain call.
+    /// The index of the call of an iterated node, from 0; none for a plain call.
     pub index: Option<u32>,
 }
 
-/// The way to an instance.
+/// The path to an instance.
 #[derive(Debug, Drop)]
 pub struct CallPath {
     pub start: Start,
     /// The name of the node under test or of the observer.
     pub node: String,
-    /// The calls, the outermost first; none for the start itself.
+    /// The calls, the outermost first; an empty list for the start itself.
     pub steps: Vec<CallStep>,
 }
 
-/// Why a static expression has no value.
+/// The rule of values that a static expression breaks.
 #[derive(Drop)]
 pub enum ValueRule {
-    /// What the operator gives is out of the range of `int`, or its divisor is 0.
+    /// The result of the operator is outside the range of `int`, or its divisor is 0.
     Operator {
         operator: BinaryOperator,
         left: i64,
         right: i64,
     },
-    /// What `-` gives is out of the range of `int`.
+    /// The result of `-` is outside the range of `int`.
     Negation {
         operand: i64,
     },
@@ -96,16 +96,16 @@ pub enum ValueRule {
 #[derive(Drop)]
 pub struct ValueFault {
     pub rule: ValueRule,
-    /// Where the sign of the operator stands, or the name of the constant in its declaration. It
-    /// may be in the value of a constant that the node names.
+    /// The offset of the sign of the operator, or of the name of the constant in its declaration.
+    /// It may be in the value of a constant that the node names.
     pub offset: u32,
     /// The node in which the static expression stands, or from which the constant is named.
     pub node: String,
-    /// The way to the instance.
+    /// The path to the instance.
     pub path: CallPath,
 }
 
-/// What a value out of its range is there for.
+/// The purpose of a value that is out of its range.
 #[derive(Clone, Copy, PartialEq, Eq, Debug)]
 pub enum RangeRole {
     /// The size of a declared type, of `e ^ n` or of an iterator: from 1 to 4096.
@@ -116,7 +116,7 @@ pub enum RangeRole {
     SliceStart,
     /// The last end of a slice: from the first end to 4095.
     SliceEnd,
-    /// How many elements a variable has: at most 65,536.
+    /// The number of elements of a variable: at most 65,536.
     Elements,
 }
 
@@ -124,30 +124,30 @@ pub enum RangeRole {
 #[derive(Debug, Drop)]
 pub struct RangeFault {
     pub role: RangeRole,
-    /// Where the static expression stands, or the name of the variable with too many elements.
+    /// The offset of the static expression, or of the name of the variable with too many elements.
     pub offset: u32,
-    /// The value. Of elements that are too many it is 65,537.
+    /// The value; a number of elements above 2 ^ 63 - 1 is given as 2 ^ 63 - 1.
     pub value: i64,
     /// The least value that is in range.
     pub least: i64,
-    /// The greatest.
+    /// The greatest value that is in range.
     pub most: i64,
-    /// The node in which it stands.
+    /// The node in which the static expression or the variable stands.
     pub node: String,
-    /// The way to the instance.
+    /// The path to the instance.
     pub path: CallPath,
 }
 
 /// A call on a cycle of calls.
 #[derive(Debug, Drop)]
 pub struct CycleCall {
-    /// The node that calls the next one of the cycle, or the last one, which calls the first.
+    /// The name of the node that calls the next one of the cycle; the last one calls the first.
     pub node: String,
-    /// Where the name of the called node stands in the call.
+    /// The offset of the name of the called node in the call.
     pub offset: u32,
 }
 
-/// Nodes each of which calls the next one, and the last of which calls the first (E7).
+/// A cycle of calls: each node calls the next one, and the last one calls the first (E7).
 #[derive(Debug, Drop)]
 pub struct CallCycle {
     pub calls: Vec<CycleCall>,
@@ -163,7 +163,7 @@ impl CallCycle {
     }
 }
 
-/// Which rule the node under test or the observer breaks.
+/// The rule that the node under test or the observer breaks. A variant states what ought to hold.
 #[derive(Clone, Copy, PartialEq, Eq, Debug)]
 pub enum RootRule {
     /// It has no static parameters.
@@ -184,7 +184,7 @@ pub enum RootRule {
     SameType,
 }
 
-/// The node under test or an observer with an interface that it may not have (E8).
+/// The node under test or an observer whose interface is not lawful (E8).
 #[derive(Debug, Drop)]
 pub struct RootFault {
     pub rule: RootRule,
@@ -193,7 +193,7 @@ pub struct RootFault {
     pub node: String,
     /// The parameter, input or output that breaks the rule; the node itself where none does.
     pub name: String,
-    /// Where that name is declared.
+    /// The offset of the declaration of that name.
     pub offset: u32,
 }
 
@@ -210,6 +210,6 @@ pub enum Limit {
 #[derive(Debug, Drop)]
 pub struct LimitFault {
     pub limit: Limit,
-    /// The way to the instance.
+    /// The path to the instance.
     pub path: CallPath,
 }

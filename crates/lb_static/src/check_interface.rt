@@ -14,14 +14,14 @@ ghost use Rattle.lb_static.specs.Instantiation.{has_no_parameters, instantiation
 use crate::causes::Start;
 use crate::error::StaticError;
 use crate::interface::Interface;
-use crate::reach::{NodeId, Reached};
+use crate::reachable::{NodeId, Reached};
 use crate::root_faults::{input_fault, observer_fault, output_fault, start_fault};
 use crate::signature::Signature;
 use crate::table::Table;
 use crate::valued_node::valued_node;
 use std::alloc::Global;
 
-/// Whether a node that is reached has no static parameters.
+/// Whether a reached node has no static parameters.
 fn has_no_parameters(reached: &Reached, id: NodeId) -> bool
     ensures { result ≡ has_no_parameters_at reached.now id }
 {
@@ -42,8 +42,8 @@ pub fn have_no_parameters(reached: &Reached) -> bool
         }
 }
 
-/// Judges that the property is one output: that of the observer, which has to fit the node under
-/// test, or else that of the node under test.
+/// Judges that the property is one output: the output of the observer, if there is one, and then
+/// the observer has to fit the node under test; or else the output of the node under test.
 fn check_property(
     alloc: Global,
     reached: &Reached,
@@ -73,8 +73,8 @@ fn check_property(
     }
 }
 
-/// The scalar inputs of the node under test, by its inputs and outputs, where these and the
-/// observer are as they may be.
+/// The scalar inputs of the node under test. It is refused unless its interface, and that of the
+/// observer, are lawful.
 fn interface_signature(
     alloc: Global,
     reached: &Reached,
@@ -91,13 +91,12 @@ fn interface_signature(
     Ok(root.signature(alloc)?)
 }
 
-/// The scalar inputs of the node under test, where it and the observer have the interface that they
-/// may have.
+/// The scalar inputs of the node under test, if it and the observer have lawful interfaces.
 ///
 /// All inputs and outputs of both are on the base clock, and there are at most 1,023 scalar
-/// inputs. The property is the one output of the node under test, a `bool`; an observer's inputs
-/// have the types of that node's inputs and then of its outputs, and its one output, a `bool`, is
-/// the property.
+/// inputs. The property is the one output of the node under test, a `bool`. With an observer, its
+/// inputs have the types of that node's inputs and then of its outputs, and its one output, a
+/// `bool`, is the property.
 pub fn check_interface(
     alloc: Global,
     reached: &Reached,

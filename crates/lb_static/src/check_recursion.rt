@@ -1,4 +1,4 @@
-//! Recursion: no node that is reached may reach itself by its calls.
+//! Recursion: no reached node may reach itself by its calls.
 
 ghost use Rattle.std.specs.Prelude.{◌≡◌, ◌<◌, true, map, length, string_bytes, All, IfOk};
 ghost use Rattle.lb_static.specs.CallGraphs.{IsCallsAnswer, IsCycleTold, names_at, names_on};
@@ -10,11 +10,11 @@ ghost use Rattle.lb_static.specs.ReachedNodes.{IsReached};
 use crate::causes::{CallCycle, CycleCall};
 use crate::cycle::find_cycle;
 use crate::error::StaticError;
-use crate::reach::Reached;
+use crate::reachable::Reached;
 use crate::resolved::{CallSite, ResolvedNode};
 use std::alloc::{AllocError, Global};
 
-/// The place of what a call calls among the nodes that are reached.
+/// The place of the callee of a call, if it is a reached node.
 fn callee(reached: &Reached, call: &CallSite) -> Option<usize>
     ensures { result ≡ callee_of reached.now call.now }
 {
@@ -26,7 +26,7 @@ fn callee(reached: &Reached, call: &CallSite) -> Option<usize>
     }
 }
 
-/// The places of what some calls call.
+/// The places of the callees of some calls.
 fn callees(alloc: Global, reached: &Reached, calls: &[CallSite]) -> Result<Vec<usize>, AllocError>
     ensures { IfOk result (λ v. v.items ≡ callees_of reached.now calls.now) }
 {
@@ -39,7 +39,7 @@ fn callees(alloc: Global, reached: &Reached, calls: &[CallSite]) -> Result<Vec<u
     Ok(places)
 }
 
-/// For each node that is reached, the places of those that it calls.
+/// The graph of calls: for each reached node, the places of its callees.
 fn call_graph(alloc: Global, reached: &Reached) -> Result<Vec<Vec<usize>>, AllocError>
     ensures { IfOk result (λ g. map (λ v. v.items) g.items ≡ graph_of reached.now) }
 {
@@ -50,18 +50,19 @@ fn call_graph(alloc: Global, reached: &Reached) -> Result<Vec<Vec<usize>>, Alloc
     Ok(graph)
 }
 
-/// Where a node first calls another one.
+/// The offset of the first call of one node to another.
 fn call_offset(reached: &Reached, node: &ResolvedNode, called: usize) -> u32 {
     for call in &node.calls {
         if callee(reached, call) == Some(called) {
             return call.offset;
         }
     }
-    node.tree.name.offset()
+    let name = &node.tree.name;
+    name.offset
 }
 
-/// The calls on a cycle of nodes that are reached: each node calls the next one, and the last one
-/// the first.
+/// The calls on a cycle of reached nodes: each node calls the next one, and the last one calls the
+/// first.
 fn cycle_calls(
     alloc: Global,
     reached: &Reached,
@@ -87,7 +88,7 @@ fn cycle_calls(
     Ok(calls)
 }
 
-/// A cycle of calls through nodes that are reached.
+/// A cycle of calls through reached nodes, in a box.
 fn call_cycle(
     alloc: Global,
     reached: &Reached,
@@ -101,7 +102,7 @@ fn call_cycle(
     Ok(Box::new(alloc, CallCycle { calls })?)
 }
 
-/// Judges that no node that is reached reaches itself by its calls.
+/// Judges that no reached node reaches itself by its calls.
 pub fn check_recursion(alloc: Global, reached: &Reached) -> Result<(), StaticError>
     ensures answer { (P : Program) → keeps_names P ≡ true → IsReached P reached.now →
         IsCallsAnswer P result }

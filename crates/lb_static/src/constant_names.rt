@@ -1,5 +1,5 @@
-//! The constants that are reached by name from the nodes that are: each name in the value of one
-//! of them is to be that of a constant.
+//! The constants that are reached by name from the reached nodes. Each name in the value of such a
+//! constant has to be the name of a constant.
 
 ghost use Rattle.std.specs.Prelude.{◌≡◌, ℕ, [], true, false, flat_map, length, map, List, OnOk};
 ghost use Rattle.std.specs.Prelude.{IfOk, IfErr, MatchOption, All};
@@ -28,7 +28,7 @@ use crate::work_list::WorkList;
 use lb_syntax::{Name, Source, Static};
 use std::alloc::{AllocError, Global};
 
-/// Visits the constant of a name, if it is one and is not hidden.
+/// Visits the constant with this name, if there is one and the name is not hidden.
 fn visit_name(
     name: &Name,
     globals: &Globals,
@@ -49,7 +49,7 @@ fn visit_name(
     Ok(())
 }
 
-/// Visits the constants that a static expression names, beside those that are hidden.
+/// Visits the constants that a static expression names, except by hidden names.
 fn visit_names(
     expression: &Static,
     globals: &Globals,
@@ -74,7 +74,7 @@ fn visit_names(
     }
 }
 
-/// The first name in a static expression that is not that of a constant.
+/// The first name in a static expression that is not the name of a constant.
 fn first_unknown<'s>(expression: &'s Static, globals: &Globals) -> Option<&'s Name>
     ensures { MatchOption result
         (is_judged globals.now (static_names (view_static expression.now)) ≡ true)
@@ -94,7 +94,7 @@ fn first_unknown<'s>(expression: &'s Static, globals: &Globals) -> Option<&'s Na
     }
 }
 
-/// The static parameters of a node.
+/// The names of the static parameters of a node.
 fn parameters_of(alloc: Global, parameters: &[Name]) -> Result<Scope, AllocError>
     ensures { IfOk result (λ names. (x : TreeName) → among x names ≡ among x parameters.now) }
 {
@@ -105,7 +105,7 @@ fn parameters_of(alloc: Global, parameters: &[Name]) -> Result<Scope, AllocError
     Ok(names)
 }
 
-/// Visits the constants that some static expressions name, beside those that are hidden.
+/// Visits the constants that some static expressions name, except by hidden names.
 fn visit_parts(
     parts: &[StaticPart],
     globals: &Globals,
@@ -160,7 +160,8 @@ fn visit_nodes(
     Ok(())
 }
 
-/// Judges the names in the value of each constant that came up, and visits what they stand for.
+/// Judges the names in the value of each constant that came up, and visits the constants with these
+/// names.
 fn check_visited(
     alloc: Global,
     globals: &Globals,
@@ -192,8 +193,8 @@ fn check_visited(
     Ok(())
 }
 
-/// Judges the constants that some nodes name, and those that these name in turn; none of them came
-/// up before.
+/// Judges the constants that some nodes name, and those that these name in turn. At the start no
+/// constant came up.
 fn check_named(
     alloc: Global,
     globals: &Globals,
@@ -219,8 +220,8 @@ fn check_named(
     check_visited(alloc, globals, source, &nothing, work_list)
 }
 
-/// Judges the constants that reached nodes name, and those that these name in turn: an unknown
-/// name in the value of one of them is refused.
+/// Judges the constants that reached nodes name, and those that these name in turn. An unknown name
+/// in the value of such a constant is refused.
 pub fn check_constants(
     alloc: Global,
     globals: &Globals,

@@ -6,9 +6,9 @@
 //! then `a`. A constant that needs itself is evaluated while a value that it needs is not known,
 //! and gets none.
 //!
-//! The order of the walk saves time, and no value depends on it: a value that is had from values
-//! that are known is right, and where no constant gets a value any more, all values are known.
-//! After the walk one pass over the constants finds that none does.
+//! The order of the walk saves time, and no value depends on it: a value that follows from known
+//! values is right, and where no further constant gets a value, all values are known. After the
+//! walk one pass over the constants confirms that no further constant gets one.
 
 ghost use Rattle.std.specs.Prelude.{◌≡◌, ◌<◌, ◌≤◌, ◌+◌, ℕ, [], true, false, map, length, IfOk};
 ghost use Rattle.std.specs.Prelude.{OnOk, All};
@@ -27,7 +27,7 @@ use std::alloc::{AllocError, Global};
 
 /// The values of the constants of a source.
 ///
-/// In contracts `value_of` is the value that a name has, if it has one.
+/// In contracts `value_of` is the value of a name, if it has one.
 #[derive(Drop)]
 pub struct Constants<'s> {
     trees: &'s [Constant],
@@ -49,7 +49,7 @@ impl Values for Constants<'_> {
     }
 }
 
-/// The values that are known by now, each at the place of its name.
+/// The values that are known so far, each at the place of its name.
 #[derive(Clone, Copy)]
 struct Known<'a> {
     names: &'a Scope,
@@ -67,8 +67,8 @@ impl Values for Known<'_> {
     }
 }
 
-/// Evaluates the constant at a place: its value is known from now on, if it was not and is had from
-/// those that were. Answers whether it is known anew.
+/// Evaluates the constant at a place, unless its value is known. Returns whether it got a value,
+/// which is so if its value follows from known ones.
 fn evaluate(
     constants: &[&Constant],
     names: &Scope,
@@ -96,8 +96,8 @@ fn evaluate(
     }
 }
 
-/// Evaluates each constant in the order of the source. Answers whether a value is known anew; if
-/// none is, each constant has a value that is known, or none.
+/// Evaluates each constant in the order of the source. Returns whether any got a value. If none
+/// did, each constant whose value is not known has none.
 fn evaluate_all(constants: &[&Constant], names: &Scope, values: &mut [Option<StaticInt>]) -> bool
     requires same_names { names.now ≡ names_of (read_constants constants.now) }
     requires sound { IsSound (read_constants constants.now) values.old }
@@ -115,16 +115,16 @@ fn evaluate_all(constants: &[&Constant], names: &Scope, values: &mut [Option<Sta
     is_more
 }
 
-/// What is left to do in the walk.
+/// A task that is left in the walk.
 #[derive(Clone, Copy)]
 enum Task {
-    /// The constant at this place and those that it names, unless that began before.
+    /// The constant at this place and those that it names, unless it was visited before.
     Visit(usize),
     /// The constant at this place, after those that it names.
     Evaluate(usize),
 }
 
-/// Puts a visit of each constant that an expression names onto the tasks.
+/// Adds a visit of each constant that an expression names to the tasks.
 fn visit_names(expression: &Static, names: &Scope, tasks: &mut Vec<Task>) -> Result<(), AllocError>
     requires within { All (λ t. place_of t < length names.now) tasks.old.items }
     ensures within { OnOk result (All (λ t. place_of t < length names.now) tasks.new.items) }
@@ -147,8 +147,8 @@ fn visit_names(expression: &Static, names: &Scope, tasks: &mut Vec<Task>) -> Res
     }
 }
 
-/// Visits each constant that was not seen, and evaluates it after those that it names, as far as
-/// they do not need it. There is no task yet.
+/// Visits each constant that was not seen, and evaluates it after those that it names, except those
+/// that need it themselves. At the start there is no task.
 fn visit_each(
     constants: &[&Constant],
     names: &Scope,
@@ -182,7 +182,7 @@ fn visit_each(
     Ok(())
 }
 
-/// Evaluates each constant after those that it names, as far as they do not need it.
+/// Evaluates each constant after those that it names, except those that need it themselves.
 fn evaluate_in_order(
     alloc: Global,
     constants: &[&Constant],
@@ -198,7 +198,7 @@ fn evaluate_in_order(
     visit_each(constants, names, values, &mut seen, &mut tasks)
 }
 
-/// Takes the first constant of each name, in the order of the source.
+/// Collects the first constant of each name, in the order of the source.
 fn first_of_each<'a>(
     alloc: Global,
     constants: &'a [Constant],
@@ -220,7 +220,7 @@ fn first_of_each<'a>(
     Ok(())
 }
 
-/// The value of each of these constants, where each name is that of one.
+/// The value of each of these constants, whose names are distinct.
 fn values_of(
     alloc: Global,
     constants: &[&Constant],
@@ -236,7 +236,7 @@ fn values_of(
     Ok(values)
 }
 
-/// The value of each name of a source, where each name is taken once.
+/// The values of the constants of a source, with one place for each name.
 fn known_values(
     alloc: Global,
     constants: &[Constant],
@@ -254,7 +254,7 @@ fn known_values(
 impl<'s> Constants<'s> {
     ghost use Rattle.lb_static.specs.HeldValues.{value_of};
 
-    /// The values of the constants of a source; of two with one name the first counts.
+    /// The values of the constants of a source; of two constants with one name the first counts.
     pub fn new(alloc: Global, constants: &'s [Constant]) -> Result<Constants<'s>, AllocError>
         ensures { IfOk result (λ c.
             value_of c ≡ constant_value (map view_constant constants.now) (length constants.now)) }

@@ -10,14 +10,14 @@ ghost use Rattle.lb_static.specs.declared.cycle.Progress.TheVariants.{Unseen};
 
 use std::alloc::{AllocError, Global};
 
-/// How far the search has come with a node.
+/// The progress of the search at a node.
 #[derive(Clone, Copy)]
 enum Progress {
-    /// It was not begun.
+    /// The node was not begun.
     Unseen,
-    /// It is on the path.
+    /// The node is on the path.
     Open,
-    /// All that it calls is done.
+    /// All callees of the node are done.
     Done,
 }
 
@@ -25,7 +25,7 @@ enum Progress {
 #[derive(Clone, Copy)]
 struct Visit<'g> {
     node: usize,
-    /// Those of its calls that are still to be followed.
+    /// The calls that are still to be followed.
     left: &'g [usize],
 }
 
@@ -33,7 +33,7 @@ impl<'g> Visit<'g> {
     ghost use Rattle.std.specs.Prelude.{◌≡◌, ◌<◌, map, length};
     ghost use Rattle.lb_static.specs.CallGraphs.{called};
 
-    /// A node none of whose calls is followed yet.
+    /// A visit of a node with none of its calls followed yet.
     fn new(node: usize, graph: &'g [Vec<usize>]) -> Visit<'g>
         requires { node < length graph.now }
         ensures node { result.node ≡ node }
@@ -44,7 +44,7 @@ impl<'g> Visit<'g> {
     }
 }
 
-/// The nodes on a path from the first one of these on, where it is on the path.
+/// The nodes on a path from the node `first` on; none if it is not on the path.
 fn path_from(alloc: Global, path: &[Visit], first: usize) -> Result<Vec<usize>, AllocError>
     ensures { IfOk result (λ v. v.items ≡ from_first first (map (λ f. f.node) path.now)) }
 {
@@ -55,9 +55,8 @@ fn path_from(alloc: Global, path: &[Visit], first: usize) -> Result<Vec<usize>, 
     path[start..].iter().map(|visit| visit.node).collect(alloc)
 }
 
-/// Follows the calls of a node that was not begun; there is nothing on the path. Answers a cycle of
-/// calls, if it meets one; if not, the node is done, with all that it reaches, and there is nothing
-/// on the path again.
+/// Follows the calls of a node that was not begun, from an empty path. Returns a cycle of calls, if
+/// it meets one. If not, the node is done, with all that it reaches, and the path is empty again.
 fn search_from<'g>(
     alloc: Global,
     graph: &'g [Vec<usize>],
@@ -95,8 +94,8 @@ fn search_from<'g>(
     Ok(None)
 }
 
-/// Searches from each node that is not begun by then. Nothing is begun yet, and there is nothing on
-/// the path.
+/// Searches from each node that is still not begun. At the start no node is begun, and the path is
+/// empty.
 fn search_from_each<'g>(
     alloc: Global,
     graph: &'g [Vec<usize>],
@@ -118,8 +117,8 @@ fn search_from_each<'g>(
     Ok(None)
 }
 
-/// A cycle of calls, or none if there is none: nodes each of which calls the next one, and the last
-/// of which calls the first. The graph has, for each node, the nodes that it calls.
+/// A cycle of calls, or none if there is none: each node calls the next one, and the last one calls
+/// the first. The graph has, for each node, the nodes that it calls.
 pub fn find_cycle(alloc: Global, graph: &[Vec<usize>]) -> Result<Option<Vec<usize>>, AllocError>
     requires { AreWithin (map (λ v. v.items) graph.now) }
     ensures { IfOk result (IsCycleAnswer (map (λ v. v.items) graph.now)) }

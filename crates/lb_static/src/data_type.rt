@@ -12,7 +12,7 @@ use crate::static_value::StaticInt;
 use lb_syntax::Kind;
 use std::alloc::{AllocError, Global};
 
-/// More scalar elements than a program may have: so many and more are counted as these.
+/// The count of scalar elements that stands for every count above 65,536.
 const TOO_MANY: u32 = 65_537;
 
 /// A type: a kind and the sizes of an array of it, the outermost last; a scalar has none.
@@ -22,7 +22,7 @@ pub struct DataType {
     pub sizes: Vec<u64>,
 }
 
-/// Values as numbers, in their order, if all are without a sign.
+/// Values as natural numbers, in their order, if none is negative.
 fn naturals(alloc: Global, values: &[StaticInt]) -> Result<Option<Vec<u64>>, AllocError>
     ensures { IfOk result (λ o. option_map (λ numbers. numbers.items) o ≡ naturals values.now) }
 {
@@ -36,7 +36,7 @@ fn naturals(alloc: Global, values: &[StaticInt]) -> Result<Option<Vec<u64>>, All
     Ok(Some(numbers))
 }
 
-/// How many scalar elements an array of these sizes has, or 65,537 for more than 65,536.
+/// The number of scalar elements of an array of these sizes, or 65,537 for more than 65,536.
 pub fn size_product(sizes: &[u64]) -> u32
     ensures { result ≡ min (product sizes.now) 65537 }
 {
@@ -59,7 +59,7 @@ impl DataType {
     }
 
     /// The type of a variable, by the values of the static expressions of its node, or none where a
-    /// size has a sign.
+    /// size is negative.
     pub fn of(
         alloc: Global,
         variable: &Variable,
@@ -100,14 +100,14 @@ impl DataType {
         self.kind == Kind::Bool && self.sizes.is_empty()
     }
 
-    /// How many scalar elements it has, or 65,537 for more than 65,536.
+    /// The number of its scalar elements, or 65,537 for more than 65,536.
     pub fn element_count(&self) -> u32
         ensures { result ≡ min (element_count (view_type self.now)) 65537 }
     {
         size_product(&self.sizes)
     }
 
-    /// The same type again.
+    /// A copy of the type.
     pub fn copy(&self) -> Result<DataType, AllocError>
         ensures { IfOk result (λ again. view_type again ≡ view_type self.now) }
     {
@@ -119,7 +119,7 @@ impl DataType {
 }
 
 /// The types of some variables of a node, by the values of its static expressions, or none where a
-/// size has a sign.
+/// size is negative.
 pub fn data_types(
     alloc: Global,
     variables: &[Variable],
@@ -138,7 +138,7 @@ pub fn data_types(
     Ok(Some(found))
 }
 
-/// Whether these are the same types in the same order.
+/// Whether two lists hold the same types in the same order.
 pub fn are_same(data_types: &[DataType], others: &[DataType]) -> bool
     ensures { result ≡ are_types (map view_type data_types.now) (map view_type others.now) }
 {
@@ -155,7 +155,7 @@ pub fn is_one_truth(data_types: &[DataType]) -> bool
     }
 }
 
-/// How many scalar elements some types have together, or 65,537 for more than 65,536.
+/// The number of scalar elements of some types together, or 65,537 for more than 65,536.
 pub fn element_count(data_types: &[DataType]) -> u32
     ensures { result ≡ min (total (map view_type data_types.now)) 65537 }
 {

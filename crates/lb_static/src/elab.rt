@@ -1,16 +1,16 @@
-//! An elaborated program: what the layer above reads of it.
+//! An elaborated program, as the layer above reads it.
 
 ghost use Rattle.std.specs.Prelude.{◌≡◌};
 ghost use Rattle.lb_static.specs.Elaborated.{IsLawful};
 
-use crate::reach::Reached;
+use crate::reachable::Reached;
 use crate::signature::Signature;
 use crate::table::Table;
 use lb_syntax::Source;
 use std::marker::Model;
 
-/// A program, by its source and the names of its node under test and its observer, and what is
-/// found of it.
+/// A program, by its source and the names of its node under test and its observer, and the results
+/// of its elaboration.
 #[derive(Drop)]
 pub struct Elaboration<'s> {
     pub source: &'s Source,
@@ -27,10 +27,10 @@ pub struct Elaboration<'s> {
 }
 
 /// A program whose names, static values and instances are judged: it breaks no rule of these, and
-/// what is found of it is true.
+/// the results of its elaboration are true of it.
 ///
-/// Contracts see the elaboration, which names the program. That it is true of this program is known
-/// of every `Elab`; the read calls say it.
+/// Contracts see the elaboration, which names the program. Each `Elab` is true of its program; the
+/// contracts of the functions that read it state that.
 #[derive(Drop)]
 pub struct Elab<'s> {
     elaboration: Elaboration<'s>,
@@ -85,7 +85,7 @@ impl<'s> Elab<'s> {
         &self.elaboration.signature
     }
 
-    /// The scalar input elements of the node under test, with nothing else kept.
+    /// The scalar input elements of the node under test; the rest is dropped.
     pub fn into_signature(self) -> Signature
         ensures value { result ≡ self.entry.signature }
         ensures lawful { IsLawful self.entry }

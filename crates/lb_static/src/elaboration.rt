@@ -16,14 +16,14 @@ use crate::constants::Constants;
 use crate::elab::{Elab, Elaboration};
 use crate::error::StaticError;
 use crate::instantiate::instantiate;
-use crate::reach::Reached;
+use crate::reachable::Reached;
 use crate::resolve_names::resolve_names;
 use crate::root_faults::parameters_fault;
 use crate::table::Table;
 use lb_syntax::Source;
 use std::alloc::Global;
 
-/// The instances of a program whose names are judged, with their static values.
+/// The instances of a program, with their static values. Its names were judged before.
 fn instances_of_program(
     alloc: Global,
     source: &Source,
@@ -41,12 +41,12 @@ fn instances_of_program(
     instantiate(alloc, reached, &constants)
 }
 
-/// The program of a node under test, and of its observer if there is one: the nodes that are
-/// reached, the instances with their static values, and the signature.
+/// The elaborated program of a node under test and its observer, if there is one: the reached
+/// nodes, the instances with their static values, and the signature.
 ///
-/// A refusal is by the first rule that is broken: of names (E4), recursion (E7), static parameters
-/// of the node under test (E8), instances and static values (E12, E5, E6), and the interface of the
-/// node under test and of the observer (E8).
+/// A refusal is by the first rule that is broken, in this order: names (E4), recursion (E7), static
+/// parameters of the node under test or the observer (E8), instances and static values (E12, E5,
+/// E6), and the interface of the node under test and of the observer (E8).
 pub fn elaborate<'s>(
     alloc: Global,
     source: &'s Source,

@@ -18,8 +18,8 @@ fn name_at(alloc: Global, name: &str, index: u64) -> Result<String, AllocError>
     format!(in alloc; "{name}[{index}]")
 }
 
-/// Adds the scalar elements of a variable of this name, kind and sizes, the outermost last: `x`
-/// alone for a scalar, and else `x[0]`, `x[1]` ..., the first index slowest.
+/// Adds the scalar elements of a variable of this name, kind and sizes, where the outermost size is
+/// the last: `x` for a scalar, and `x[0]`, `x[1]` ... for an array, the first index slowest.
 pub fn push_elements(
     alloc: Global,
     signature: &mut Signature,

@@ -1,10 +1,10 @@
-//! Why a program is refused here.
+//! The refusals of this crate.
 
 use crate::causes::{CallCycle, LimitFault, NameFault, RangeFault, RootFault, ValueFault};
 use std::alloc::{AllocError, AllocFailed};
 use std::fmt;
 
-/// Which rule of names, static values and instances a program breaks first, and what breaks it.
+/// The first rule of names, static values and instances that a program breaks, and what breaks it.
 ///
 /// The text was judged before, by `lb_syntax`. Types, clocks and definitions are judged later, by
 /// `lb_check`.

@@ -24,7 +24,7 @@ pub struct Globals {
     constants: usize,
 }
 
-/// Declares a name, which is to be new.
+/// Declares a name, which has to be new.
 pub fn declare_new(
     alloc: Global,
     names: &mut Scope,
@@ -76,14 +76,14 @@ impl Globals {
         Ok(Globals { names, constants })
     }
 
-    /// Whether a name is that of a constant.
+    /// Whether a name is the name of a constant.
     pub fn is_constant(&self, name: &str) -> bool
         ensures { result ≡ among name.now (take self.now.constants self.now.names) }
     {
         self.constant_place(name).is_some()
     }
 
-    /// The place of the constant of a name.
+    /// The place of the constant with this name.
     pub fn constant_place(&self, name: &str) -> Option<usize>
         ensures value { result ≡ constant_place self.now.names self.now.constants name.now }
         ensures within { IfSome result (λ place. place < self.now.constants) }
@@ -96,7 +96,7 @@ impl Globals {
         }
     }
 
-    /// The place of the node or function of a name among those of the source.
+    /// The place of the node or function with this name among those of the source.
     pub fn node_place(&self, name: &str) -> Option<usize>
         ensures { result ≡ position (bytes_eq name.now) (drop self.now.constants self.now.names) }
     {

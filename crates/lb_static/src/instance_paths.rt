@@ -1,12 +1,12 @@
-//! The way to an instance: the calls by which it is reached.
+//! Paths to instances: the calls that lead to an instance.
 
 use crate::causes::{CallPath, CallStep, Start};
-use crate::reach::{NodeId, Reached};
+use crate::reachable::{NodeId, Reached};
 use crate::resolved::{CallId, CallSite};
 use crate::table::{Instance, Origin};
 use std::alloc::{AllocError, Global};
 
-/// Where an instance stands, whose callers stand among some instances.
+/// The place of an instance among the calls, whose callers are among `instances`.
 #[derive(Clone, Copy)]
 pub struct InstancePlace<'a, 's> {
     pub reached: &'a Reached<'s>,
@@ -15,7 +15,7 @@ pub struct InstancePlace<'a, 's> {
 }
 
 impl InstancePlace<'_, '_> {
-    /// The way to it.
+    /// The path to the instance.
     pub fn path(&self, alloc: Global) -> Result<CallPath, AllocError> {
         call_path(alloc, self.reached, self.instances, self.origin)
     }
@@ -28,8 +28,8 @@ struct Call {
     index: u32,
 }
 
-/// Puts the calls that lead to an instance behind one another, the innermost first; answers where
-/// the outermost of its callers stands.
+/// Adds the calls that lead to an instance to `calls`, the innermost first, and returns the origin
+/// of its outermost caller.
 fn climb(
     instances: &[Instance],
     origin: Origin,
@@ -54,13 +54,13 @@ fn climb(
     Ok(above)
 }
 
-/// What a call of a node calls.
+/// The call site of a call of a node.
 fn called_site(reached: &Reached, node: NodeId, call: CallId) -> Option<CallSite> {
     let node = reached.nodes.get(node.0)?;
     Some(*node.calls.get(call.0)?)
 }
 
-/// The name of a node that is reached.
+/// The name of a reached node.
 fn name_of(alloc: Global, reached: &Reached, node: NodeId) -> Result<String, AllocError> {
     match reached.nodes.get(node.0) {
         Some(node) => String::from_str(alloc, node.tree.name.as_str()),
@@ -68,7 +68,7 @@ fn name_of(alloc: Global, reached: &Reached, node: NodeId) -> Result<String, All
     }
 }
 
-/// Follows calls from a node, the last one first.
+/// Follows `calls` from a node, the last one first.
 fn follow(
     alloc: Global,
     reached: &Reached,
@@ -103,7 +103,7 @@ fn start_id(reached: &Reached, start: Start) -> NodeId {
     }
 }
 
-/// The way to an instance that stands at a place, where its callers stand among these instances.
+/// The path to the instance with this origin, whose callers are among `instances`.
 pub fn call_path(
     alloc: Global,
     reached: &Reached,

@@ -1,4 +1,4 @@
-//! What names stand for in an instance: its static parameters, then the constants.
+//! The values of names in an instance: those of its static parameters, then those of the constants.
 
 ghost use Rattle.std.specs.Prelude.{◌≡◌, option_map, find};
 ghost use Rattle.std.specs.Str.{bytes_eq};
@@ -13,12 +13,12 @@ use lb_syntax::Name;
 pub struct InstanceValues<'a> {
     /// The static parameters of the node; one hides a constant of its name.
     pub parameters: &'a [Name],
-    /// Their values.
+    /// The values of the static parameters, in the same order.
     pub values: &'a [StaticInt],
     pub constants: &'a Constants<'a>,
 }
 
-/// The value of the first static parameter of a name.
+/// The value of the first static parameter with this name.
 fn parameter_value(parameters: &[Name], values: &[StaticInt], name: &str) -> Option<StaticInt>
     ensures { result ≡ option_map (λ v. v.1)
         (find (λ v. bytes_eq v.0 name.now) (zip parameters.now values.now)) }

@@ -4,8 +4,9 @@
 //! calls. An instance is refused where there are too many before it or above it, where a static
 //! expression has no value, and where a value is out of its range, in this order.
 //!
-//! A node with values of its parameters is evaluated once. Where it comes up again, its values are
-//! taken from the table; the instances below it are instantiated again, since each has its row.
+//! A node with values of its parameters is evaluated once. Where it is called again with equal
+//! values, the values of its static expressions are taken from the table. The instances below it
+//! are instantiated again, since each has its own row.
 
 ghost use Rattle.std.specs.Prelude.{◌≡◌, ◌≤◌, ◌<◌, ◌+◌, ◌-◌, ◌^◌, ◌++◌, ◌∷◌, [], ℕ, true, length};
 ghost use Rattle.std.specs.Prelude.{option_map, slice_get, IfSome, IfOk, IfErr, OnOk};
@@ -34,7 +35,7 @@ use crate::constants::Constants;
 use crate::error::StaticError;
 use crate::instance_paths::InstancePlace;
 use crate::instance_values::InstanceValues;
-use crate::reach::{NodeId, Reached};
+use crate::reachable::{NodeId, Reached};
 use crate::resolved::{CallId, CallSite};
 use crate::specializations::Specializations;
 use crate::specialize::{size_of, specialize};
@@ -45,11 +46,11 @@ use std::alloc::{AllocError, Global};
 /// The most instances that a program may have.
 const MOST_INSTANCES: usize = 4096;
 
-/// The most levels that instances may stand on.
+/// The most levels of instances.
 const MOST_LEVELS: u32 = 64;
 
-/// What a call site of an instance calls: a node, the values of its static parameters, and how
-/// often.
+/// The callee of a call site of an instance: a node, the values of its static parameters, and how
+/// often it is called.
 #[derive(Clone, Copy)]
 struct Callee<'a> {
     node: NodeId,
@@ -57,7 +58,7 @@ struct Callee<'a> {
     count: u32,
 }
 
-/// What a call site calls, where the static expressions of its node have these values.
+/// The callee of a call site, where `statics` are the values of the static expressions of its node.
 fn callee_of<'a>(reached: &Reached, site: &CallSite, statics: &'a [StaticInt]) -> Callee<'a>
     requires linked { is_linked reached.now site.now ≡ true }
     requires within { is_site_within (length reached.now.ids.items)
@@ -81,14 +82,14 @@ fn callee_of<'a>(reached: &Reached, site: &CallSite, statics: &'a [StaticInt]) -
     }
 }
 
-/// What was entered so far.
+/// The specializations and instances that were entered so far.
 #[derive(Drop)]
 struct Entered {
     specializations: Specializations,
     instances: Vec<Instance>,
 }
 
-/// Where an instance is entered: its node, where it stands, and its level.
+/// An instance to enter: its node, its origin, and its level.
 #[derive(Clone, Copy)]
 struct Entry {
     node: NodeId,
@@ -99,14 +100,14 @@ struct Entry {
 /// An instance whose calls are not entered yet.
 #[derive(Drop)]
 struct Begun {
-    /// Its specialization, if it is there already.
+    /// The specialization of the instance, if it was entered before.
     known: Option<SpecializationId>,
-    /// The values of its static expressions.
+    /// The values of the static expressions of the instance.
     statics: Vec<StaticInt>,
 }
 
-/// What an instance of a node with values of its static parameters begins with. Where its
-/// specialization was found, the values of its static expressions are taken from there.
+/// The begun instance of a node with values of its static parameters. If its specialization was
+/// found, the values of its static expressions are copied from there.
 fn begun_from(
     alloc: Global,
     place: &InstancePlace,
@@ -161,7 +162,7 @@ fn limit_fault(
     Ok(Box::new(alloc, LimitFault { limit, path })?)
 }
 
-/// Enters an instance, and leaves its calls and its specialization to be entered.
+/// Enters an instance; its calls and its specialization are left to be entered.
 fn begin(
     alloc: Global,
     reached: &Reached,
@@ -218,7 +219,7 @@ fn begin(
     begun_from(alloc, &place, constants, found, entry.node, values)
 }
 
-/// Gives an instance that was begun its specialization, which is added if it was not there.
+/// Gives an instance that was begun its specialization, which is added if it is new.
 fn add_specialization(
     alloc: Global,
     entered: &mut Entered,
@@ -274,7 +275,7 @@ fn add_specialization(
     Ok(id)
 }
 
-/// Enters an instance and all that it calls, and answers its specialization.
+/// Enters an instance and all instances below it, and returns its specialization.
 fn enter(
     alloc: Global,
     reached: &Reached,
@@ -361,7 +362,7 @@ fn enter(
 }
 
 /// The table of the instances of a program: those of the node under test, then those of the
-/// observer. A refusal is that of the first instance with a fault.
+/// observer. A refusal is by the first instance with a fault.
 pub fn instantiate(
     alloc: Global,
     reached: &Reached,

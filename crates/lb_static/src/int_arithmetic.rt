@@ -5,15 +5,15 @@ ghost use Rattle.lb_static.specs.Arithmetic.{arithmetic, is_divisible, negated};
 
 use lb_syntax::BinaryOperator;
 
-/// Whether there is a quotient.
+/// Whether `a` has a quotient by `b`.
 fn is_divisible(a: i32, b: i32) -> bool
     ensures { result ≡ is_divisible a b }
 {
     b != 0 && !(a == i32::MIN && b == -1)
 }
 
-/// The exact result of an operator of arithmetic, where it is in the range of `int`; a quotient is
-/// cut off toward zero, and no other operator has a result.
+/// The exact result of an operator of arithmetic, or none where it is outside the range of `int`. A
+/// quotient is cut off toward zero. No other operator has a result.
 pub fn arithmetic(op: BinaryOperator, a: i32, b: i32) -> Option<i32>
     ensures { result ≡ arithmetic op a b }
 {
@@ -27,7 +27,7 @@ pub fn arithmetic(op: BinaryOperator, a: i32, b: i32) -> Option<i32>
     }
 }
 
-/// The exact result of unary minus, where it is in the range of `int`.
+/// The exact result of unary minus, or none where it is outside the range of `int`.
 pub fn negated(a: i32) -> Option<i32>
     ensures { result ≡ negated a }
 {

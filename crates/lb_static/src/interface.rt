@@ -16,7 +16,7 @@ use crate::valued_node::interface_variables;
 use lb_syntax::{Name, Node};
 use std::alloc::{AllocError, Global};
 
-/// Whether none of these variables has a clock of its own.
+/// Whether none of these variables is declared on a clock.
 fn have_no_clocks(variables: &[Variable]) -> bool
     ensures { result ≡ list_all (λ v. not (is_some v.clock)) variables.now }
 {
@@ -28,7 +28,7 @@ fn have_no_clocks(variables: &[Variable]) -> bool
 pub struct Interface<'s> {
     /// The node.
     pub tree: &'s Node,
-    /// How many of the types are those of inputs.
+    /// The number of inputs, whose types come first.
     pub inputs: usize,
     /// The types of the inputs, then those of the outputs.
     pub data_types: Vec<DataType>,
@@ -52,7 +52,7 @@ impl<'s> Interface<'s> {
     ghost use Rattle.lb_static.specs.StoredTypes.{view_type};
 
     /// The inputs and outputs of the node under test or the observer. Where a size is no number
-    /// there are no types: `Root`.
+    /// there are no types, and the error is `Root`.
     pub fn new(
         alloc: Global,
         start: Start,
@@ -90,22 +90,22 @@ impl<'s> Interface<'s> {
         &self.data_types[self.inputs..]
     }
 
-    /// Whether the one output is a scalar `bool`.
+    /// Whether there is one output, a scalar `bool`.
     pub fn has_property(&self) -> bool
         ensures { result ≡ is_one_truth_in (outputs_of (view_interface self.now)) }
     {
         is_one_truth(self.outputs())
     }
 
-    /// Whether it may observe another node: its inputs have the types of that node's inputs and
-    /// outputs, its one output is a scalar `bool`, and all are on the base clock.
+    /// Whether the instance may observe another node: its inputs have the types of that node's
+    /// inputs and outputs, its one output is a scalar `bool`, and all are on the base clock.
     pub fn observes(&self, root: &Interface) -> bool
         ensures { result ≡ observes (view_interface self.now) (view_interface root.now) }
     {
         self.is_plain && are_same(self.inputs(), &root.data_types) && self.has_property()
     }
 
-    /// How many scalar inputs there are, or 65,537 for more than 65,536.
+    /// The number of scalar inputs, or 65,537 for more than 65,536.
     pub fn scalar_inputs(&self) -> u32
         ensures { result ≡ min (total (inputs_of (view_interface self.now))) 65537 }
     {

@@ -1,4 +1,4 @@
-//! Names, static values and instances: what a source stands for before any type is looked at.
+//! Names, static values and instances: the part of a source that is judged before any type.
 #![tactic(auto)]
 
 mod causes;
@@ -23,9 +23,9 @@ mod node_builder;
 mod node_scope;
 mod part_keys;
 mod range_faults;
-mod reach;
-mod reaching;
+mod reachable;
 mod resolve_names;
+mod resolve_reachable;
 mod resolved;
 mod resolving_nodes;
 mod resolving_parts;
@@ -55,7 +55,7 @@ pub use elaboration::elaborate;
 pub use error::StaticError;
 pub use instance_paths::call_path;
 pub use int_arithmetic::{arithmetic, negated};
-pub use reach::{NodeId, Reached};
+pub use reachable::{NodeId, Reached};
 pub use resolved::{
     CallId, CallSite, ResolvedNode, ResolvedStatement, Sampling, StaticId, Term, Variable,
     VariableId,

@@ -1,6 +1,6 @@
-//! What breaks a rule of names.
+//! The errors for names that break a rule.
 //!
-//! Nothing here runs before the refusal is certain. Where memory is refused, that is the refusal.
+//! Nothing here runs before the refusal is certain. Where memory is refused, the error is `Memory`.
 
 ghost use Rattle.std.specs.Prelude.{◌≡◌, string_bytes, IfOk};
 ghost use Rattle.lb_static.specs.CountedNames.{Calls, Declares, use_of};
@@ -11,7 +11,7 @@ use crate::error::StaticError;
 use lb_syntax::{Declarations, Name, Node, Source};
 use std::alloc::{AllocError, Global};
 
-/// Where names are declared, each of which is to be new.
+/// The scope of a declared name that has to be new there.
 #[derive(Clone, Copy)]
 pub enum Declaring<'a> {
     /// The constants, nodes and functions of a source.
@@ -20,14 +20,14 @@ pub enum Declaring<'a> {
     Node(&'a Node),
 }
 
-/// Where a name stands: in a node, among the globals, or nowhere in the source.
+/// The place of a name: in a node, among the globals, or nowhere in the source.
 #[derive(Clone, Copy)]
 struct Standing<'a> {
     offset: Option<u32>,
     node: Option<&'a Node>,
 }
 
-/// The name of a node again.
+/// A copy of the name of a node, if there is a node.
 fn name_of(alloc: Global, node: Option<&Node>) -> Result<Option<String>, AllocError> {
     match node {
         Some(node) => Ok(Some(String::from_str(alloc, node.name.as_str())?)),
@@ -58,7 +58,7 @@ fn boxed_fault(
     )?)
 }
 
-/// That a name breaks a rule.
+/// The error for a name that breaks a rule.
 fn name_fault(alloc: Global, name: &str, rule: NameRule, standing: Standing) -> StaticError
     ensures { TellsRule name.now rule result }
 {
@@ -68,7 +68,7 @@ fn name_fault(alloc: Global, name: &str, rule: NameRule, standing: Standing) -> 
     }
 }
 
-/// That there is no node under test, or no observer, of this name.
+/// The error for a node under test or an observer that is not in the source.
 pub fn unknown_start(alloc: Global, name: &str) -> StaticError
     ensures { TellsName name.now Calls result }
 {
@@ -79,18 +79,20 @@ pub fn unknown_start(alloc: Global, name: &str) -> StaticError
     name_fault(alloc, name, NameRule::Unknown(Sought::Node), standing)
 }
 
-/// That nothing of this sort has a name, which stands in a node or in the value of a constant.
+/// The error for a name that nothing of the sort `sought` has. It stands in `node`, or else in the
+/// value of a constant.
 pub fn unknown_name(alloc: Global, name: &Name, sought: Sought, node: Option<&Node>) -> StaticError
     ensures { TellsName name.now (use_of sought) result }
 {
     let standing = Standing {
-        offset: Some(name.offset()),
+        offset: Some(name.offset),
         node,
     };
     name_fault(alloc, name.as_str(), NameRule::Unknown(sought), standing)
 }
 
-/// That a node which is called in another has so many static parameters, and is given others.
+/// The error for a call of `name` in `node` with `given` static arguments, where `wanted` are
+/// needed.
 pub fn other_arguments(
     alloc: Global,
     name: &Name,
@@ -101,19 +103,19 @@ pub fn other_arguments(
     ensures { TellsName name.now Calls result }
 {
     let standing = Standing {
-        offset: Some(name.offset()),
+        offset: Some(name.offset),
         node: Some(node),
     };
     let rule = NameRule::Arguments { wanted, given };
     name_fault(alloc, name.as_str(), rule, standing)
 }
 
-/// The first of some names that is this one.
+/// The first of some names that is equal to `name`.
 fn first_named<'a>(names: &'a [Name], name: &Name) -> Option<&'a Name> {
     names.iter().find(|other| other.as_str() == name.as_str())
 }
 
-/// The first of some variables that has a name.
+/// The first of some variables with this name.
 fn first_declared<'a>(groups: &'a [Declarations], name: &Name) -> Option<&'a Name> {
     for group in groups {
         if let Some(first) = first_named(&group.names, name) {
@@ -123,7 +125,7 @@ fn first_declared<'a>(groups: &'a [Declarations], name: &Name) -> Option<&'a Nam
     None
 }
 
-/// The first variable of a node that has a name, or its static parameter.
+/// The first variable of a node with this name, or else its static parameter.
 fn first_in_node<'a>(node: &'a Node, name: &Name) -> Option<&'a Name> {
     first_declared(&node.inputs, name)
         .or_else(|| first_declared(&node.outputs, name))
@@ -131,7 +133,7 @@ fn first_in_node<'a>(node: &'a Node, name: &Name) -> Option<&'a Name> {
         .or_else(|| first_named(&node.parameters, name))
 }
 
-/// The first constant of a source that has a name, or its first node.
+/// The first constant of a source with this name, or else its first node.
 fn first_in_source<'a>(source: &'a Source, name: &Name) -> Option<&'a Name> {
     for constant in &source.constants {
         if constant.name.as_str() == name.as_str() {
@@ -146,7 +148,7 @@ fn first_in_source<'a>(source: &'a Source, name: &Name) -> Option<&'a Name> {
     None
 }
 
-/// That a name is declared again. Of its two places the fault is at the later one.
+/// The error for a name that is declared twice. Its place is the later one of the two.
 pub fn doubled_name(alloc: Global, name: &Name, declaring: Declaring) -> StaticError
     ensures { TellsName name.now Declares result }
 {
@@ -154,9 +156,9 @@ pub fn doubled_name(alloc: Global, name: &Name, declaring: Declaring) -> StaticE
         Declaring::Globals(source) => (first_in_source(source, name), None),
         Declaring::Node(node) => (first_in_node(node, name), Some(node)),
     };
-    let here = name.offset();
+    let here = name.offset;
     let other = match first {
-        Some(first) => first.offset(),
+        Some(first) => first.offset,
         None => here,
     };
     let standing = Standing {

@@ -1,4 +1,4 @@
-//! What is resolved of a node so far.
+//! The resolved part of a node while it grows.
 
 ghost use Rattle.std.specs.Prelude.{◌≡◌, ◌∷◌, ◌<◌, [], true, length, IfOk, IfErr};
 ghost use Rattle.lb_syntax.specs.SourceView.{view_source};
@@ -19,9 +19,9 @@ use crate::static_parts::StaticParts;
 use lb_syntax::Node;
 use std::alloc::Global;
 
-/// What is resolved of a node so far: its static expressions, its calls and its variables.
+/// The resolved part of a node so far: its static expressions, its calls and its variables.
 ///
-/// Contracts see what they stand for in the text, by `progress`.
+/// Contracts see by `progress` the texts that these stand for.
 #[derive(Drop)]
 pub struct NodeBuilder<'a, 's> {
     node_scope: NodeScope<'a, 's>,
@@ -36,7 +36,7 @@ impl<'a, 's> NodeBuilder<'a, 's> {
     ghost use Rattle.lb_static.specs.NodeProgress.{program_of, StaticStands};
     ghost use Rattle.lb_static.specs.Progressed.{progress, IsFinished};
 
-    /// Nothing is resolved yet.
+    /// A builder for the node of `node_scope`; nothing is resolved yet.
     pub fn new(alloc: Global, node_scope: NodeScope<'a, 's>) -> NodeBuilder<'a, 's>
         ensures { progress result ≡ record {
           source = view_source node_scope.entry.source.now;
@@ -54,7 +54,7 @@ impl<'a, 's> NodeBuilder<'a, 's> {
         }
     }
 
-    /// What the names of the node stand for.
+    /// The scope of the names of the node.
     pub fn node_scope(&self) -> &NodeScope<'a, 's>
         ensures node { node_in result.now ≡ (progress self.now).node }
         ensures source { program_in result.now ≡ program_of (progress self.now) }
@@ -69,8 +69,8 @@ impl<'a, 's> NodeBuilder<'a, 's> {
         StaticId(self.statics.len())
     }
 
-    /// The number of a static expression: of one that stands for the same, if it is kept once, or
-    /// the next.
+    /// Keeps a static expression and returns its number: that of an equal one, if equal ones are
+    /// kept once, or else the next number.
     pub fn push_static(
         &mut self,
         alloc: Global,
@@ -84,7 +84,7 @@ impl<'a, 's> NodeBuilder<'a, 's> {
         Ok(self.statics.push(alloc, part)?)
     }
 
-    /// One more call, and its number.
+    /// Adds a call and returns its number.
     pub fn push_call(&mut self, site: CallSite) -> Result<CallId, StaticError>
         requires { is_site_within (length (callees (progress self.old)))
             (counts_in (texts (progress self.old))) site ≡ true }
@@ -98,7 +98,7 @@ impl<'a, 's> NodeBuilder<'a, 's> {
         Ok(id)
     }
 
-    /// One more variable.
+    /// Adds a variable.
     pub fn push_variable(&mut self, variable: Variable) -> Result<(), StaticError>
         requires { is_declared_within (counts_in (texts (progress self.old))) variable ≡ true }
         ensures after { IfOk result (λ _. progress self.new ≡ with_variable (progress self.old)
@@ -110,14 +110,14 @@ impl<'a, 's> NodeBuilder<'a, 's> {
         Ok(())
     }
 
-    /// How many variables there are.
+    /// The number of variables so far.
     pub fn variable_count(&self) -> usize
         ensures { result ≡ length (progress self.now).declared }
     {
         self.variables.len()
     }
 
-    /// The node of a tree with its body resolved, and with so many inputs and outputs.
+    /// The resolved node of `tree`, with this body and with `inputs` inputs and `outputs` outputs.
     pub fn finish(
         self,
         tree: &'s Node,

@@ -1,4 +1,4 @@
-//! What the names of a node stand for.
+//! The scope of the names of a node.
 
 ghost use Rattle.std.specs.Prelude.{◌≡◌, ◌++◌, [], length, OnOk, IfOk, IfErr};
 ghost use Rattle.lb_syntax.specs.Grammar.{declared as declarations_in};
@@ -19,7 +19,7 @@ use crate::scope::Scope;
 use lb_syntax::{Declarations, Name, Node, Source, Static};
 use std::alloc::Global;
 
-/// What the names of a node stand for.
+/// The scope of the names of a node: its variables, its static parameters, and the global names.
 ///
 /// A static parameter hides a constant of its name; a variable hides both.
 #[derive(Drop)]
@@ -29,7 +29,7 @@ pub struct NodeScope<'a, 's> {
     globals: &'a Globals,
     /// The variables, in their order, and then the static parameters.
     declared: Scope,
-    /// How many of the names are variables.
+    /// The number of variables among the names.
     variables: usize,
     pub ghost names_are: { declared ≡ declared_names (view_node tree.now) },
     pub ghost variables_are: { variables ≡ length (variable_names (view_node tree.now)) },
@@ -72,8 +72,8 @@ fn declare_groups(
     Ok(())
 }
 
-/// Declares the variables of a node, in their order, and then its static parameters. Answers how
-/// many variables there are.
+/// Declares the variables of a node, in their order, and then its static parameters. Returns the
+/// number of variables.
 fn declare_all(alloc: Global, declared: &mut Scope, tree: &Node) -> Result<usize, StaticError>
     requires { declared.old ≡ [] }
     ensures ok { OnOk result (declared.new ≡ declared_names (view_node tree.now)) }
@@ -97,7 +97,7 @@ impl<'a, 's> NodeScope<'a, 's> {
     ghost use Rattle.lb_static.specs.CountedNames.{Calls, counted};
     ghost use Rattle.lb_static.specs.NodeNames.{IsVariableAt, IsCallee};
 
-    /// The names of a node. A variable or a static parameter that is declared twice is refused.
+    /// The scope of a node. A variable or a static parameter that is declared twice is refused.
     pub fn new(
         alloc: Global,
         globals: &'a Globals,
@@ -124,7 +124,7 @@ impl<'a, 's> NodeScope<'a, 's> {
         })
     }
 
-    /// The place of the variable of a name.
+    /// The place of the variable with this name.
     pub fn place(&self, name: &Name) -> Option<VariableId>
         ensures found { IfSome result (IsVariableAt (node_in self.now) name.now) }
         ensures is_declared { is_some result
@@ -136,7 +136,7 @@ impl<'a, 's> NodeScope<'a, 's> {
         }
     }
 
-    /// Whether a name is that of a static parameter or of a constant, and of no variable.
+    /// Whether a name is that of a static parameter or a constant, and not that of a variable.
     pub fn is_static(&self, name: &Name) -> bool
         ensures { result ≡ is_static_name (program_in self.now) (node_in self.now) name.now }
     {
@@ -146,7 +146,7 @@ impl<'a, 's> NodeScope<'a, 's> {
         }
     }
 
-    /// Judges the names in a static expression: each is to be a static parameter or a constant.
+    /// Judges the names in a static expression: each has to be a static parameter or a constant.
     pub fn check_static(&self, alloc: Global, text: &Static) -> Result<(), StaticError>
         ensures ok { OnOk result
             (static_passes (program_in self.now) (node_in self.now) (view_static text.now) ≡ true) }
@@ -170,7 +170,8 @@ impl<'a, 's> NodeScope<'a, 's> {
         }
     }
 
-    /// The place of the node or function of a name, which is to have so many static parameters.
+    /// The place of the node or function with this name, which has to have `arguments` static
+    /// parameters.
     pub fn callee(
         &self,
         alloc: Global,

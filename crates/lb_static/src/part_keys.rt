@@ -1,4 +1,4 @@
-//! What a static expression is found by, and when two of them stand for the same.
+//! The keys by which static expressions are found, and when two of them are equal.
 
 ghost use Rattle.std.specs.Prelude.{◌≡◌, ◌++◌, ◌∷◌, [], ◌+◌, ◌<◌, ◌%◌, ◌/◌, OnOk, IfOk, option_map};
 ghost use Rattle.std.specs.Prelude.{string_bytes};
@@ -51,7 +51,7 @@ fn is_name_of(name: &Name, text: &Static) -> bool
     }
 }
 
-/// Whether two static expressions, each as it is written or a name, are alike.
+/// Whether two static expressions, each as it is written or a name, are written alike.
 fn is_same_text(one: StaticText, other: StaticText) -> bool
     ensures { result ≡ is_same_static (static_of one.entry) (static_of other.entry) }
 {
@@ -67,7 +67,7 @@ fn is_same_text(one: StaticText, other: StaticText) -> bool
     }
 }
 
-/// Whether static expressions of these roles, if they are written alike, stand for the same.
+/// Whether two roles are equal and are such that equal static expressions are kept once.
 fn is_same_role(one: Role, other: Role) -> bool
     ensures { result ≡ is_same_purpose (purpose_of one.entry) (purpose_of other.entry) }
 {
@@ -81,14 +81,14 @@ fn is_same_role(one: Role, other: Role) -> bool
     }
 }
 
-/// Whether two static expressions stand for the same.
+/// Whether two static expressions have equal roles and are written alike.
 pub fn is_same_part(one: StaticPart, other: StaticPart) -> bool
     ensures { result ≡ is_same_part (part_of one.entry) (part_of other.entry) }
 {
     is_same_role(one.role, other.role) && is_same_text(one.text, other.text)
 }
 
-/// The letter of a role whose static expressions are kept once, if it is one.
+/// The letter of a role whose static expressions are kept once; none for other roles.
 fn letter_of(role: Role) -> Option<char>
     ensures { result ≡ letter_of (purpose_of role.entry) }
 {
@@ -110,7 +110,7 @@ fn push_name(key: &mut String, name: &Name) -> Result<(), AllocError>
     key.push_str(name.as_str())
 }
 
-/// Adds a number to a key, by two signs; numbers from 16,384 on share those of others.
+/// Adds a number to a key, by two characters; 16,384 and all above share those of a smaller number.
 fn push_number(key: &mut String, number: u32) -> Result<(), AllocError>
     ensures { OnOk result (string_bytes key.new ≡ string_bytes key.old ++ number_key number) }
 {
@@ -169,7 +169,7 @@ fn push_text(key: &mut String, text: StaticText) -> Result<(), AllocError>
     }
 }
 
-/// Adds the first end of a slice, of which this is the role of the last end, to a key.
+/// Adds the first end of a slice to a key, where `role` is that of its last end; else adds nothing.
 fn push_start(key: &mut String, role: Role) -> Result<(), AllocError>
     ensures { OnOk result
         (string_bytes key.new ≡ string_bytes key.old ++ start_key (purpose_of role.entry)) }
@@ -180,8 +180,8 @@ fn push_start(key: &mut String, role: Role) -> Result<(), AllocError>
     }
 }
 
-/// What a static expression is found by, if it may be kept once. Those that stand for the same have
-/// the same key; others may have it too.
+/// The key of a static expression, if it may be kept once. Equal ones have the same key; others may
+/// have it too. Example: the size `a + 1` has the key `s+naw` and then the two characters of 1.
 pub fn key_of(alloc: Global, part: StaticPart) -> Result<Option<String>, AllocError>
     ensures { IfOk result (λ key. option_map string_bytes key ≡ key_of (part_of part.entry)) }
 {

@@ -1,4 +1,4 @@
-//! Which value of an instance is out of its range.
+//! The value of an instance that is out of its range.
 //!
 //! Nothing here runs before the refusal is certain.
 
@@ -12,7 +12,7 @@ use crate::static_value::{StaticInt, static_value};
 use lb_syntax::{Declarations, Name, Node, Static};
 use std::alloc::{AllocError, Global};
 
-/// A value, and the range in which it is to be.
+/// A value, and the range in which it has to be.
 #[derive(Clone, Copy)]
 struct Ranged {
     role: RangeRole,
@@ -29,15 +29,15 @@ impl Ranged {
     }
 }
 
-/// Where a static expression stands.
+/// The offset of a static expression.
 fn part_offset(part: &StaticPart) -> u32 {
     match part.text {
         StaticText::Written(expression) => expression.offset(),
-        StaticText::Named(name) => name.offset(),
+        StaticText::Named(name) => name.offset,
     }
 }
 
-/// The least last end of a slice that begins there.
+/// The least last end of a slice whose first end is `start`.
 fn least_end(start: &Static, values: &InstanceValues) -> i64 {
     match static_value(start, values) {
         Some(start) => start.get().max(0),
@@ -45,8 +45,8 @@ fn least_end(start: &Static, values: &InstanceValues) -> i64 {
     }
 }
 
-/// The value of a static expression with its range, under the values of names; none where any value
-/// will do.
+/// The value of a static expression with its range, under the values of names; none where each
+/// value is in range.
 fn range_of(part: &StaticPart, value: StaticInt, values: &InstanceValues) -> Option<Ranged> {
     let longest = i64::from(LONGEST);
     let (role, least, most) = match part.role {
@@ -81,7 +81,7 @@ fn part_fault(
     None
 }
 
-/// How many elements an array of these sizes has, as far as 64 bits count.
+/// The number of elements of an array of these sizes, or 2 ^ 63 - 1 if there are more.
 fn all_elements(sizes: &[StaticInt]) -> i64 {
     let mut elements: u64 = 1;
     for size in sizes {
@@ -90,7 +90,7 @@ fn all_elements(sizes: &[StaticInt]) -> i64 {
     i64::try_from(elements).unwrap_or(i64::MAX)
 }
 
-/// The names that some variables have, behind others.
+/// Adds the names of some variables at the end.
 fn push_names<'t>(names: &mut Vec<&'t Name>, groups: &'t [Declarations]) -> Result<(), AllocError> {
     for group in groups {
         for name in &group.names {
@@ -109,12 +109,12 @@ fn variable_names(alloc: Global, tree: &Node) -> Result<Vec<&Name>, AllocError> 
     Ok(names)
 }
 
-/// How many elements a variable has, and how many it may have.
+/// The number of elements of a variable, with the range of this number.
 fn width(name: &Name, variable: &Variable, statics: &[StaticInt]) -> Ranged {
     let sizes = part_of(statics, variable.first_size.0, variable.sizes);
     Ranged {
         role: RangeRole::Elements,
-        offset: name.offset(),
+        offset: name.offset,
         value: all_elements(sizes),
         least: 0,
         most: WIDEST as i64,
@@ -137,7 +137,7 @@ fn width_fault(
     Ok(None)
 }
 
-/// What is out of its range in a node whose static expressions have these values.
+/// The value that is out of its range in a node whose static expressions have these values.
 fn node_fault(
     alloc: Global,
     node: &ResolvedNode,
@@ -150,17 +150,17 @@ fn node_fault(
     if let Some(found) = width_fault(alloc, node, statics)? {
         return Ok(found);
     }
+    let name = &node.tree.name;
     Ok(Ranged {
         role: RangeRole::Elements,
-        offset: node.tree.name.offset(),
+        offset: name.offset,
         value: 0,
         least: 0,
         most: WIDEST as i64,
     })
 }
 
-/// The first value of a node that is out of its range, where an instance of the node stands at a
-/// place.
+/// The first value of a node that is out of its range, and the path to the instance at `place`.
 pub fn range_fault(
     alloc: Global,
     node: &ResolvedNode,

@@ -1,5 +1,5 @@
-//! The names of a program: what is reached from the node under test and the observer, and that
-//! each name there has a meaning.
+//! The names of a program: the nodes that are reached from the node under test and the observer,
+//! and a check that each name in them has a meaning.
 
 ghost use Rattle.std.specs.Prelude.{◌≡◌, true, length, option_map};
 ghost use Rattle.lb_syntax.specs.SourceView.{view_source};
@@ -12,13 +12,13 @@ ghost use Rattle.lb_static.specs.SourceNames.{names_in_source};
 use crate::constant_names::check_constants;
 use crate::error::StaticError;
 use crate::globals::Globals;
-use crate::reach::Reached;
-use crate::reaching::reach;
+use crate::reachable::Reached;
+use crate::resolve_reachable::reach;
 use lb_syntax::Source;
 use std::alloc::Global;
 
-/// The nodes that are reached by name, with their names resolved, where the names of the source are
-/// known.
+/// The nodes that are reached by name, with their names resolved. The global names of the source
+/// are given.
 fn resolve_reached<'s>(
     alloc: Global,
     globals: &Globals,
@@ -39,9 +39,8 @@ fn resolve_reached<'s>(
 
 /// The nodes that are reached by name, with their names resolved.
 ///
-/// A doubled name of a constant, node or function is refused wherever it stands. Of other names
-/// only those are judged that stand in a reached node, or in the value of a constant that is
-/// reached from one.
+/// A doubled name of a constant, node or function is refused wherever it stands. Any other name is
+/// judged only in a reached node, or in the value of a constant that is reached from such a node.
 pub fn resolve_names<'s>(
     alloc: Global,
     source: &'s Source,

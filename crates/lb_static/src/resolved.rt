@@ -3,7 +3,7 @@
 //! A variable, a call and a static expression are numbers here, so that no layer above compares
 //! names: a variable is its place among the inputs, outputs and locals of its node, a call its
 //! place among the calls and iterated nodes in the text of its node, and a static expression its
-//! place among those of its node. What the numbers stand for is kept beside the node's body, and
+//! place among those of its node. The lists behind the numbers are kept beside the node's body, and
 //! its tree stays at hand.
 
 use lb_syntax::{ArrayIterator, BinaryOperator, Kind, Name, Node, Static, UnaryOperator};
@@ -84,7 +84,7 @@ pub enum ResolvedStatement {
     Assertion(Term),
 }
 
-/// A clock as it is declared: the variable that is waited for, and whether for true or for false.
+/// A clock as it is declared: a variable, and the value of it (`sign`) at which the clock ticks.
 #[derive(Clone, Copy)]
 pub struct Sampling {
     pub variable: VariableId,
@@ -97,7 +97,7 @@ pub struct Variable {
     pub kind: Kind,
     /// The first of its sizes, which stand one after another, the innermost first.
     pub first_size: StaticId,
-    /// How many sizes it has.
+    /// The number of its sizes.
     pub sizes: usize,
     pub clock: Option<Sampling>,
 }
@@ -110,13 +110,13 @@ pub struct CallSite {
     pub offset: u32,
     /// The first of its static arguments, which stand one after another.
     pub first_argument: StaticId,
-    /// How many static arguments it has.
+    /// The number of its static arguments.
     pub arguments: usize,
-    /// How often an iterated node is called.
+    /// The number of times that an iterated node is called; none for a call.
     pub count: Option<StaticId>,
 }
 
-/// What a static expression stands for in the text.
+/// The purpose of a static expression.
 #[derive(Clone, Copy)]
 pub enum Role<'s> {
     /// The size of `e ^ n` or of an iterator.
@@ -135,14 +135,14 @@ pub enum Role<'s> {
     Value,
 }
 
-/// A static expression as it is written, or a name that stands in an expression.
+/// A static expression as it is written, or a name that is an expression by itself.
 #[derive(Clone, Copy)]
 pub enum StaticText<'s> {
     Written(&'s Static),
     Named(&'s Name),
 }
 
-/// A static expression of a node, and what it is there for.
+/// A static expression of a node, and its purpose.
 #[derive(Clone, Copy)]
 pub struct StaticPart<'s> {
     pub role: Role<'s>,
@@ -155,15 +155,15 @@ pub struct ResolvedNode<'s> {
     pub tree: &'s Node,
     /// The inputs, then the outputs, then the locals.
     pub variables: Vec<Variable>,
-    /// How many of the variables are inputs.
+    /// The number of inputs among the variables.
     pub inputs: usize,
-    /// How many of them, after the inputs, are outputs.
+    /// The number of outputs among the variables.
     pub outputs: usize,
     /// The statements, in text order.
     pub body: Vec<ResolvedStatement>,
     /// The calls and iterated nodes, in text order, each before those in its arguments.
     pub calls: Vec<CallSite>,
     /// The static expressions: those of declarations first, then those of the body in text order.
-    /// What stands in expressions for the same has one place.
+    /// Of equal ones in expressions only the first is kept.
     pub statics: Vec<StaticPart<'s>>,
 }

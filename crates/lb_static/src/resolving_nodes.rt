@@ -18,18 +18,18 @@ use crate::resolving_variables::resolve_groups;
 use lb_syntax::{Node, Source};
 use std::alloc::Global;
 
-/// The parts of a node with their names resolved.
+/// The resolved parts of a node that the builder does not hold.
 #[derive(Drop)]
 struct NodeParts {
-    /// How many of the variables are inputs.
+    /// The number of inputs among the variables.
     inputs: usize,
-    /// How many of them are outputs.
+    /// The number of outputs among the variables.
     outputs: usize,
     /// The statements, in text order.
     body: Vec<ResolvedStatement>,
 }
 
-/// Resolves the parts of a node, of which nothing is resolved yet.
+/// Resolves the parts of a node. Nothing of it is resolved yet.
 fn resolve_parts<'s>(
     alloc: Global,
     here: &mut NodeBuilder<'_, 's>,
@@ -59,7 +59,7 @@ fn resolve_parts<'s>(
     })
 }
 
-/// A node with its names resolved; one with a name that has no meaning is refused.
+/// A node with its names resolved. A name that has no meaning is refused.
 pub fn resolve_node<'s>(
     alloc: Global,
     globals: &Globals,

@@ -1,4 +1,4 @@
-//! Names, static expressions and calls of a node, resolved.
+//! Resolving names, static expressions and calls of a node.
 
 ghost use Rattle.std.specs.Prelude.{◌≡◌, true, map, option_map, None, IfOk, IfErr};
 ghost use Rattle.lb_syntax.specs.Tree as tree;
@@ -22,14 +22,15 @@ use crate::resolved::{CallId, CallSite, Role, StaticId, StaticPart, StaticText, 
 use lb_syntax::{Name, Static};
 use std::alloc::Global;
 
-/// That nothing of this sort has a name of the node.
+/// The error for a name in the node that nothing of the sort `sought` has.
 fn unknown_here(alloc: Global, here: &NodeBuilder, name: &Name, sought: Sought) -> StaticError
     ensures { TellsName name.now (use_of sought) result }
 {
     unknown_name(alloc, name, sought, Some(here.node_scope().tree))
 }
 
-/// The place of the variable of a name, which stands where a variable of this sort is sought.
+/// The place of the variable with this name. `sought` says where the name stands: on a left side or
+/// as a clock.
 pub fn variable(
     alloc: Global,
     here: &NodeBuilder,
@@ -48,7 +49,7 @@ pub fn variable(
     }
 }
 
-/// What a name in an expression stands for: a variable, a static parameter or a constant.
+/// The term of a name in an expression: a variable, a static parameter or a constant.
 #[inline(always)]
 pub fn named<'s>(
     alloc: Global,
@@ -70,7 +71,7 @@ pub fn named<'s>(
     Ok(Term::Value(here.push_static(alloc, part)?))
 }
 
-/// The number of a static expression.
+/// The number of a static expression, with its names judged.
 #[inline(always)]
 pub fn one_static<'s>(
     alloc: Global,
@@ -89,8 +90,8 @@ pub fn one_static<'s>(
     here.push_static(alloc, part)
 }
 
-/// The first of some static expressions that stand one after another, and how many there are. Their
-/// role is one of which each is kept.
+/// The number of the first of some static expressions that stand one after another, and their
+/// count. The role has to be one of which each static expression is kept.
 pub fn all_statics<'s>(
     alloc: Global,
     here: &mut NodeBuilder<'_, 's>,
@@ -108,7 +109,7 @@ pub fn all_statics<'s>(
     Ok((first, here.next_static().0 - first.0))
 }
 
-/// The number of a call or of an iterated node, which is called so often.
+/// The number of a call (`count` is none), or of an iterated node that is called `count` times.
 #[inline(always)]
 pub fn call<'s>(
     alloc: Global,
@@ -128,7 +129,7 @@ pub fn call<'s>(
     let (first_argument, arguments) = all_statics(alloc, here, Role::Argument, arguments)?;
     here.push_call(CallSite {
         callee,
-        offset: name.offset(),
+        offset: name.offset,
         first_argument,
         arguments,
         count,

@@ -21,7 +21,7 @@ use crate::resolving_terms::term;
 use lb_syntax::{Name, Statement};
 use std::alloc::Global;
 
-/// The places of the variables on a left side.
+/// The places of the variables on a left side, each by its name.
 fn places(alloc: Global, here: &NodeBuilder, lefts: &[Name]) -> Result<Vec<VariableId>, StaticError>
     ensures named { IfOk result (λ places.
         map (name_at (variable_names (progress here.now).node)) places.items ≡ lefts.now) }

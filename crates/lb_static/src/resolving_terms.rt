@@ -1,6 +1,7 @@
 //! Expressions whose names are resolved.
 //!
-//! What `term` calls is inlined, so that a level of nesting has one frame on the stack.
+//! The functions that `term` calls are inlined, so that a level of nesting has one frame on the
+//! stack.
 
 ghost use Rattle.std.specs.Prelude.{map};
 ghost use Rattle.lb_syntax.specs.View.{view};
@@ -16,7 +17,7 @@ use crate::resolving_parts::{call, named, one_static, variable};
 use lb_syntax::{ArrayIterator, BinaryOperator, Expr, Operator, UnaryOperator};
 use std::alloc::Global;
 
-/// What stands before the last operand of an expression, and after it.
+/// The parts of an expression before its last operand, and after it.
 #[derive(Drop)]
 enum Outer {
     Group,
@@ -34,7 +35,7 @@ enum Outer {
     Join(Box<Term>),
 }
 
-/// What stands before a list of operands.
+/// The part of an expression before its list of operands.
 #[derive(Clone, Copy)]
 enum Head {
     Array,
@@ -75,7 +76,7 @@ fn terms<'s>(
     Ok(all)
 }
 
-/// The term of an expression with what stands around it.
+/// The term of an expression `e` in its outer part.
 #[inline(always)]
 #[cycle(resolving)]
 fn nested<'s>(
@@ -104,7 +105,7 @@ fn nested<'s>(
     }
 }
 
-/// The term of a list of operands with what stands before it.
+/// The term of a list of operands with its head.
 #[inline(always)]
 #[cycle(resolving)]
 fn row<'s>(

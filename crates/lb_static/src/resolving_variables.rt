@@ -19,7 +19,7 @@ use crate::resolving_parts::{all_statics, variable};
 use lb_syntax::{Declarations, Name};
 use std::alloc::Global;
 
-/// The clock of some variables.
+/// The clock that a group of variables declares, if it declares one.
 fn sampling(
     alloc: Global,
     here: &NodeBuilder,
@@ -39,7 +39,7 @@ fn sampling(
     }
 }
 
-/// One more variable for each of these names, all of them alike.
+/// Adds one variable for each of these names, all of them alike.
 fn push_variables(
     here: &mut NodeBuilder,
     names: &[Name],

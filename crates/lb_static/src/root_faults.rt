@@ -1,11 +1,11 @@
-//! What is wrong with the interface of the node under test or of the observer.
+//! The faults of the interface of the node under test or of the observer.
 //!
 //! Nothing here runs before the refusal is certain.
 
 use crate::causes::{RootFault, RootRule, Start};
 use crate::data_type::DataType;
 use crate::interface::Interface;
-use crate::reach::{NodeId, Reached};
+use crate::reachable::{NodeId, Reached};
 use crate::signature::Signature;
 use lb_syntax::{Declarations, Name, Node};
 use std::alloc::{AllocError, Global};
@@ -17,7 +17,8 @@ struct Broken<'t> {
     name: Option<&'t Name>,
 }
 
-/// That a node which is run breaks a rule.
+/// The fault of a start that breaks a rule. Its place is that of the parameter, input or output
+/// that breaks it, or else that of the node.
 fn root_fault(
     alloc: Global,
     start: Start,
@@ -32,12 +33,12 @@ fn root_fault(
             start,
             node: String::from_str(alloc, tree.name.as_str())?,
             name: String::from_str(alloc, name.as_str())?,
-            offset: name.offset(),
+            offset: name.offset,
         },
     )?)
 }
 
-/// That a node which is run is none of those that are reached.
+/// The fault of a start that is not among the reached nodes.
 fn missing_fault(alloc: Global, start: Start) -> Result<Box<RootFault>, AllocError> {
     Ok(Box::new(
         alloc,
@@ -51,7 +52,7 @@ fn missing_fault(alloc: Global, start: Start) -> Result<Box<RootFault>, AllocErr
     )?)
 }
 
-/// That the node under test, or else the observer, has static parameters.
+/// The fault of the node under test, or else of the observer, that it has static parameters.
 pub fn parameters_fault(alloc: Global, reached: &Reached) -> Result<Box<RootFault>, AllocError> {
     if let Some(fault) = parameter_fault(alloc, reached, reached.root, Start::UnderTest)? {
         return Ok(fault);
@@ -63,7 +64,7 @@ pub fn parameters_fault(alloc: Global, reached: &Reached) -> Result<Box<RootFaul
     }
 }
 
-/// That a node which is run has static parameters, if it has.
+/// The fault of a start that it has static parameters, if it has some.
 fn parameter_fault(
     alloc: Global,
     reached: &Reached,
@@ -85,7 +86,7 @@ fn parameter_fault(
     }
 }
 
-/// That a type of a node which is run has a size that is no number.
+/// The fault of a start that a size in its types is no number.
 pub fn type_fault(alloc: Global, start: Start, tree: &Node) -> Result<Box<RootFault>, AllocError> {
     let broken = Broken {
         rule: RootRule::SizedTypes,
@@ -94,7 +95,7 @@ pub fn type_fault(alloc: Global, start: Start, tree: &Node) -> Result<Box<RootFa
     root_fault(alloc, start, tree, broken)
 }
 
-/// That the node under test has no values.
+/// The fault of a node under test without values.
 pub fn start_fault(alloc: Global, reached: &Reached) -> Result<Box<RootFault>, AllocError> {
     match reached.nodes.get(reached.root.0) {
         Some(node) => type_fault(alloc, Start::UnderTest, node.tree),
@@ -102,7 +103,7 @@ pub fn start_fault(alloc: Global, reached: &Reached) -> Result<Box<RootFault>, A
     }
 }
 
-/// The first of some variables with a clock of its own.
+/// The first of some variables that is declared on a clock.
 fn clocked(groups: &[Declarations]) -> Option<&Name> {
     for group in groups {
         if group.clock.is_some() {
@@ -114,7 +115,7 @@ fn clocked(groups: &[Declarations]) -> Option<&Name> {
     None
 }
 
-/// The name of a variable at a place among some.
+/// The name of the variable at a place among some.
 fn name_at(groups: &[Declarations], place: usize) -> Option<&Name> {
     let mut left = place;
     for group in groups {
@@ -126,7 +127,7 @@ fn name_at(groups: &[Declarations], place: usize) -> Option<&Name> {
     None
 }
 
-/// The input with which there are too many scalar inputs.
+/// The first input that makes the scalar inputs too many.
 fn surplus_input<'t>(interface: &Interface<'t>) -> Option<&'t Name> {
     let mut room = Signature::MOST;
     for (place, data_type) in interface.inputs().iter().enumerate() {
@@ -139,7 +140,7 @@ fn surplus_input<'t>(interface: &Interface<'t>) -> Option<&'t Name> {
     None
 }
 
-/// What is wrong with the outputs, which are not one `bool`.
+/// The rule that the outputs break, which are not one `bool`.
 fn output_rule<'t>(interface: &Interface<'t>) -> Broken<'t> {
     let outputs = &interface.tree.outputs;
     let (rule, place) = if interface.outputs().len() == 1 {
@@ -153,7 +154,7 @@ fn output_rule<'t>(interface: &Interface<'t>) -> Broken<'t> {
     }
 }
 
-/// The first input or output with a clock of its own, if one has.
+/// The rule that an input or output on a clock breaks, if there is one.
 fn clock_rule<'t>(interface: &Interface<'t>) -> Option<Broken<'t>> {
     if interface.is_plain {
         return None;
@@ -165,7 +166,7 @@ fn clock_rule<'t>(interface: &Interface<'t>) -> Option<Broken<'t>> {
     })
 }
 
-/// The first input of an observer that does not fit what it observes, if one does not.
+/// The rule that the first input of an observer breaks that does not fit what it observes, if any.
 fn input_rule<'t>(observer: &Interface<'t>, observed: &[DataType]) -> Option<Broken<'t>> {
     let inputs = observer.inputs();
     for (place, (input, data_type)) in inputs.iter().zip(observed).enumerate() {
@@ -185,7 +186,7 @@ fn input_rule<'t>(observer: &Interface<'t>, observed: &[DataType]) -> Option<Bro
     })
 }
 
-/// What is wrong with a node under test that has too many inputs, or one with a clock.
+/// The fault of a node under test with an input or output on a clock, or else with too many inputs.
 pub fn input_fault(alloc: Global, root: &Interface) -> Result<Box<RootFault>, AllocError> {
     let broken = match clock_rule(root) {
         Some(broken) => broken,
@@ -197,12 +198,12 @@ pub fn input_fault(alloc: Global, root: &Interface) -> Result<Box<RootFault>, Al
     root_fault(alloc, Start::UnderTest, root.tree, broken)
 }
 
-/// What is wrong with the outputs of a node under test, which are not one `bool`.
+/// The fault of a node under test whose outputs are not one `bool`.
 pub fn output_fault(alloc: Global, root: &Interface) -> Result<Box<RootFault>, AllocError> {
     root_fault(alloc, Start::UnderTest, root.tree, output_rule(root))
 }
 
-/// What is wrong with an observer that does not fit the node under test.
+/// The fault of an observer that does not fit the node under test.
 pub fn observer_fault(
     alloc: Global,
     observer: &Interface,

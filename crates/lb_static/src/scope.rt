@@ -1,4 +1,4 @@
-//! Names that are declared once each, in order.
+//! Declared names, each of them once, in order.
 
 ghost use Rattle.std.specs.Prelude.{◌≡◌, ◌++◌, ◌∷◌, [], not, true, position, length, OnErr, IfOk};
 ghost use Rattle.std.specs.Prelude.{IfSome, ◌<◌};
@@ -13,8 +13,8 @@ use std::marker::Model;
 
 /// Names in the order of their declarations, each of them once.
 ///
-/// They are found in an ordered map: whoever writes a source picks its names, and a search in such
-/// a map takes no longer for any of them.
+/// An ordered map finds them. Its search is fast for any names, even if the writer of a source
+/// picks them to make it slow.
 ///
 /// Contracts see a list of names (as bytes).
 #[derive(Drop)]
@@ -47,8 +47,8 @@ impl Scope {
         }
     }
 
-    /// Declares a name after the others, unless it is declared already; answers whether it was not.
-    /// Where memory is refused the scope stays as it was.
+    /// Declares a name after the others, unless it is declared already, and returns whether it is
+    /// new. Where memory is refused the scope stays as it was.
     pub fn declare(&mut self, alloc: Global, name: &str) -> Result<bool, AllocError>
         ensures fresh { IfOk result (λ fresh. fresh ≡ not (among name.now self.old)) }
         ensures after { IfOk result (λ _. self.new ≡ declared_after self.old name.now) }
@@ -76,7 +76,7 @@ impl Scope {
         self.places.get(name).copied()
     }
 
-    /// Each name is declared once.
+    /// The number of declared names.
     pub fn len(&self) -> usize
         ensures count { result ≡ length self.now }
         ensures once { are_distinct self.now ≡ true }

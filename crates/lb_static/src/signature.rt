@@ -8,7 +8,7 @@ pub use lb_syntax::Kind;
 use std::alloc::{AllocError, Global};
 use std::marker::Model;
 
-/// A scalar input element: its name, as `x` or `m[1][2]`, and what it holds.
+/// A scalar input element: its name, as `x` or `m[1][2]`, and its kind.
 #[derive(Drop)]
 struct Element {
     name: String,
@@ -57,7 +57,7 @@ impl Signature {
         Ok(())
     }
 
-    /// A signature of its own with the same elements.
+    /// A copy of the signature.
     pub fn copy(&self, alloc: Global) -> Result<Signature, AllocError>
         ensures { IfOk result (λ copied. copied ≡ self.now) }
     {
@@ -69,7 +69,7 @@ impl Signature {
         Ok(copied)
     }
 
-    /// How many elements there are.
+    /// The number of elements.
     pub fn len(&self) -> u32
         ensures count { result ≡ length self.now }
         ensures limit { result ≤ 1023 }
@@ -84,7 +84,7 @@ impl Signature {
         self.elements.is_empty()
     }
 
-    /// What the element at this place holds.
+    /// The kind of the element at place `i`.
     pub fn kind(&self, i: u32) -> Kind
         requires { i < length self.now }
         ensures { slice_get (kinds_of self.now) i ≡ Some result }
@@ -92,7 +92,7 @@ impl Signature {
         self.elements[i as usize].kind
     }
 
-    /// The name of the element at this place, as `x` or `m[1][2]`.
+    /// The name of the element at place `i`, as `x` or `m[1][2]`.
     pub fn name(&self, i: u32) -> &str
         requires { i < length self.now }
         ensures { slice_get (names_of self.now) i ≡ Some result.now }

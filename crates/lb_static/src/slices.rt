@@ -2,7 +2,7 @@
 
 ghost use Rattle.std.specs.Prelude.{◌≡◌, take, drop};
 
-/// So many items, from one on: as many of these as there are.
+/// The items from place `first` on, at most `count`.
 pub fn part_of<T>(items: &[T], first: usize, count: usize) -> &[T]
     ensures { result.now ≡ take count (drop first items.now) }
 {

@@ -4,21 +4,21 @@ ghost use Rattle.std.specs.Prelude.{◌≡◌, ◌<◌, ◌^◌, [], length, opt
 ghost use Rattle.std.specs.Prelude.{IfSome, OnErr};
 ghost use Rattle.lb_static.specs.KeyedSpecializations.{IsFound, IsAdded};
 
-use crate::reach::NodeId;
+use crate::reachable::NodeId;
 use crate::static_value::StaticInt;
 use crate::table::{Specialization, SpecializationId};
 use indexmap::IndexMap;
 use std::alloc::{AllocError, Global};
 use std::marker::Model;
 
-/// What tells a specialization from all others: a node and the values of its static parameters.
+/// The key of a specialization: its node and the values of its static parameters.
 #[derive(Drop, PartialEq, Eq, Hash)]
 struct Key {
     node: NodeId,
     values: Vec<i64>,
 }
 
-/// The key of a node with these values.
+/// The key of a node with values of its static parameters.
 fn key_of(alloc: Global, node: NodeId, values: &[StaticInt]) -> Result<Key, AllocError>
     ensures { IfOk result (λ k. (k.node ≡ node) × (k.values.items ≡ values.now)) }
 {
@@ -28,7 +28,7 @@ fn key_of(alloc: Global, node: NodeId, values: &[StaticInt]) -> Result<Key, Allo
 
 /// Specializations in the order in which they were entered, each of them once.
 ///
-/// Contracts see a list of them.
+/// Contracts see the list of specializations.
 #[derive(Drop)]
 pub struct Specializations {
     keyed: IndexMap<Key, Specialization>,
@@ -47,7 +47,7 @@ impl Model for Specializations {
 }
 
 impl Specializations {
-    /// No specialization yet.
+    /// A table with no specialization yet.
     pub fn new(alloc: Global) -> Specializations
         ensures { result ≡ [] }
     {
@@ -79,8 +79,9 @@ impl Specializations {
         }
     }
 
-    /// Adds a specialization after the others, unless that of its node with its values is there,
-    /// which stays; answers its place. Where memory is refused nothing is added.
+    /// Adds a specialization after the others and returns its place. If its node was entered with
+    /// equal values, that specialization stays, and its place is returned. Where memory is refused
+    /// nothing is added.
     pub fn add(
         &mut self,
         alloc: Global,

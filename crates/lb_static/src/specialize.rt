@@ -1,7 +1,7 @@
-//! A node with values of its static parameters: what its static expressions stand for.
+//! A node with values of its static parameters: the values of its static expressions.
 //!
 //! Each static expression of the node is evaluated once, and its value is held at its place. Sizes,
-//! indexes and slices are judged by what stands at their places alone.
+//! indexes and slices are judged by these values alone.
 
 ghost use Rattle.std.specs.Prelude.{◌≡◌, ◌≤◌, ◌<◌, ◌+◌, ◌^◌, nat_le, true, IfOk, option_map};
 ghost use Rattle.std.specs.Prelude.{length, pos};
@@ -41,7 +41,7 @@ fn part_value(part: &StaticPart, values: &InstanceValues) -> Option<StaticInt>
     }
 }
 
-/// The values of static expressions, if all have one.
+/// The values of static expressions, if each of them has one.
 fn part_values(
     alloc: Global,
     parts: &[StaticPart],
@@ -74,8 +74,7 @@ fn runs_forward(start: StaticInt, end: StaticInt) -> bool
     0 <= start.get() && start.get() <= end.get()
 }
 
-/// Whether a slice from the value of a static expression, if it has one, to this end does not run
-/// backwards.
+/// Whether a slice does not run backwards, from the value of `start`, if it has one, to `end`.
 fn ends_after(start: &Static, end: StaticInt, values: &InstanceValues) -> bool
     ensures { result
         ≡ runs_forward (value_under (given_by values.now) (view_static start.now)) (Some end) }
@@ -86,7 +85,7 @@ fn ends_after(start: &Static, end: StaticInt, values: &InstanceValues) -> bool
     }
 }
 
-/// Whether a value is within the range of what it is there for, under the values of names.
+/// Whether a value is within the range that its role allows, under the values of names.
 fn part_passes(role: Role, value: StaticInt, values: &InstanceValues) -> bool
     ensures { result ≡ part_passes (given_by values.now) (purpose_of role.entry) (Some value) }
 {
@@ -99,7 +98,7 @@ fn part_passes(role: Role, value: StaticInt, values: &InstanceValues) -> bool
     }
 }
 
-/// Whether the values of static expressions are within the ranges of what these are there for.
+/// Whether each value is within the range that the role of its static expression allows.
 fn are_in_range(parts: &[StaticPart], statics: &[StaticInt], values: &InstanceValues) -> bool
     requires { length statics.now ≡ length parts.now }
     ensures { result ≡ are_in_range (given_by values.now) parts.now statics.now }
@@ -112,7 +111,7 @@ fn are_in_range(parts: &[StaticPart], statics: &[StaticInt], values: &InstanceVa
     true
 }
 
-/// A size as a number; one below 0 counts as 0.
+/// A size as a number; a negative size counts as 0.
 pub fn size_of(value: StaticInt) -> u64
     ensures value { result ≡ size_of value }
     ensures within { result < 2 ^ 32 }
@@ -121,7 +120,7 @@ pub fn size_of(value: StaticInt) -> u64
     if number < 0 { 0 } else { number as u64 }
 }
 
-/// So many elements as the sizes make, or 65,537 for all that are more than 65,536.
+/// The product of the sizes of an array, or 65,537 for all that are more than 65,536.
 pub fn elements_of(sizes: &[StaticInt]) -> u64
     ensures value { result ≡ times_sizes 1 sizes.now }
     ensures within { result ≤ 65537 }
@@ -148,8 +147,8 @@ fn are_narrow(variables: &[Variable], values: &[StaticInt]) -> bool
     true
 }
 
-/// The values of the static expressions of a node under values of names, in the order of the node;
-/// each has one, and each is within its range. The instance of the node stands at a place.
+/// The values of the static expressions of a node under values of names, in the order of the node.
+/// Each has a value in its range, or the node is refused. `place` is the place of the instance.
 pub fn specialize(
     alloc: Global,
     node: &ResolvedNode,

@@ -1,9 +1,9 @@
 //! The static expressions of a node, in order.
 //!
-//! What stands in expressions for the same is kept once: a node is specialized as often as it is
-//! called with other values, and each specialization has a value of each static expression that is
-//! kept. The sizes of a declaration, and the static arguments of a call, stand one after another,
-//! so each of them is kept.
+//! Equal static expressions, which have the same role and are written alike, are kept once where
+//! they stand in expressions. That saves values: each specialization of a node holds one value for
+//! each static expression that is kept. The sizes of a declaration, and the static arguments of a
+//! call, stand one after another, so each of them is kept.
 //!
 //! ```text
 //! a ^ n ^ n, b[0], c[0], d[n - 1]      kept: n, a size; 0, an index; n - 1, an index
@@ -31,7 +31,7 @@ pub struct StaticParts<'s> {
 }
 
 impl<'s> StaticParts<'s> {
-    /// None yet.
+    /// A list with no static expression yet.
     pub fn new(alloc: Global) -> StaticParts<'s>
         ensures { result.parts.items ≡ [] }
     {
@@ -41,14 +41,14 @@ impl<'s> StaticParts<'s> {
         }
     }
 
-    /// How many there are.
+    /// The number of static expressions.
     pub fn len(&self) -> usize
         ensures { result ≡ length self.now.parts.items }
     {
         self.parts.len()
     }
 
-    /// Whether a static expression that stands for the same as this one is kept at a place.
+    /// Whether the static expression at `place` is equal to `part`.
     fn is_held_at(&self, place: usize, part: StaticPart<'s>) -> bool
         ensures { result
             ≡ is_held_at (map part_of self.now.parts.items) (part_of part.entry) place }
@@ -59,7 +59,7 @@ impl<'s> StaticParts<'s> {
         }
     }
 
-    /// One more at the end, which is found by no key that none before it has.
+    /// Adds a static expression at the end, whose key, if it has one, is there already.
     fn append(&mut self, part: StaticPart<'s>) -> Result<StaticId, AllocError>
         requires { HasNoNewKey (map part_of self.old.parts.items) (part_of part) }
         ensures after { OnOk result
@@ -72,7 +72,7 @@ impl<'s> StaticParts<'s> {
         Ok(StaticId(place))
     }
 
-    /// One more at the end, which is found by a key that none before it has.
+    /// Adds a static expression at the end, whose key is new.
     fn add(&mut self, key: String, part: StaticPart<'s>) -> Result<StaticId, AllocError>
         requires key { key_of (part_of part) ≡ Some (string_bytes key) }
         requires fresh { first_with (has_key (string_bytes key)) (map part_of self.old.parts.items)
@@ -91,8 +91,8 @@ impl<'s> StaticParts<'s> {
         Ok(StaticId(place))
     }
 
-    /// The place of a static expression: where one that stands for the same is kept, or else behind
-    /// the others. Where memory is refused they stay as they were.
+    /// Keeps a static expression and returns its place: that of an equal one, if one is found, or
+    /// else a new place at the end. Where memory is refused nothing is added.
     pub fn push(&mut self, alloc: Global, part: StaticPart<'s>) -> Result<StaticId, AllocError>
         ensures after { IfOk result (λ _.
             self.new.parts.items ≡ with_static self.old.parts.items part.entry) }

@@ -1,7 +1,8 @@
 //! The value of a static expression under the values of names.
 //!
 //! A number token of a tree has 32 bits and no sign, so a value may be past the range of `int`: it
-//! is held in 64 bits. What an operator of arithmetic gives is an `int`, or a part of its operand.
+//! is held in 64 bits. The result of an operator of arithmetic is an `int`, or a quotient or
+//! remainder of a value that is past the range.
 
 ghost use Rattle.std.specs.Prelude.{◌≡◌, pos, IfOk, OnErr};
 ghost use Rattle.lb_syntax.specs.View.{view_static};
@@ -12,10 +13,10 @@ ghost use Rattle.lb_static.specs.StaticValues.{value_under, natural};
 use lb_syntax::{BinaryOperator, Name, Static};
 use std::marker::Model;
 
-/// A whole number that a static expression stands for.
+/// The whole number that is the value of a static expression.
 ///
 /// It is an `int`, or a number token that is past the range of `int`, or a quotient or remainder of
-/// one. Contracts see the number.
+/// such a number. Contracts see the number.
 #[derive(Clone, Copy)]
 pub struct StaticInt {
     value: i64,
@@ -59,7 +60,7 @@ impl StaticInt {
         self.value
     }
 
-    /// The number, if it is without a sign.
+    /// The number, if it is not negative.
     pub fn natural(self) -> Option<u64>
         ensures { result ≡ natural self }
     {
@@ -67,7 +68,7 @@ impl StaticInt {
     }
 }
 
-/// What names stand for before the run.
+/// Values of names that are known before the run.
 pub trait Values {
     ghost use Rattle.std.specs.Prelude.{ℤ, Option};
     ghost use Rattle.lb_syntax.specs.Tree.{Name};
@@ -80,7 +81,7 @@ pub trait Values {
         ensures { result ≡ given self.now name.now };
 }
 
-/// An exact result, where it is in the range of `int`.
+/// An exact result, or none where it is outside the range of `int`.
 fn lawful(exact: i64) -> Option<StaticInt>
     ensures { result ≡ lawful exact }
 {
@@ -91,14 +92,14 @@ fn lawful(exact: i64) -> Option<StaticInt>
     }
 }
 
-/// Whether there is a quotient.
+/// Whether `a` has a quotient by `b`.
 fn is_divisible(a: i64, b: i64) -> bool
     ensures { result ≡ is_divisible a b }
 {
     b != 0 && !(a == i64::from(i32::MIN) && b == -1)
 }
 
-/// An operator of arithmetic.
+/// The result of an operator of arithmetic, or none where it faults.
 fn combined(op: BinaryOperator, a: StaticInt, b: StaticInt) -> Option<StaticInt>
     ensures { result ≡ arithmetic op a b }
 {
@@ -114,17 +115,17 @@ fn combined(op: BinaryOperator, a: StaticInt, b: StaticInt) -> Option<StaticInt>
     }
 }
 
-/// What leaves a static expression without a value.
+/// The reason why a static expression has no value.
 #[derive(Clone, Copy)]
 pub enum NoValue<'s> {
-    /// A name that has none.
+    /// A name without a value.
     Name(&'s Name),
-    /// A `-` at this offset, whose result is no `int`.
+    /// A `-` at this offset, whose result is outside the range of `int`.
     Negation {
         operand: i64,
         offset: u32,
     },
-    /// An operator at this offset, which has no result.
+    /// An operator at this offset, which faults on these operands.
     Operator {
         operator: BinaryOperator,
         left: i64,
@@ -133,8 +134,8 @@ pub enum NoValue<'s> {
     },
 }
 
-/// The value of a static expression under the values of names, or the first part in it that has
-/// none, operands before their operator.
+/// The value of a static expression under the values of names, or its first name or operator
+/// without a value. Operands come before their operator.
 pub fn value_or_fault<'s, V: Values>(
     expression: &'s Static,
     values: &V,
@@ -170,8 +171,8 @@ pub fn value_or_fault<'s, V: Values>(
     }
 }
 
-/// The value of a static expression under the values of names; none where a name has none, or an
-/// operator faults.
+/// The value of a static expression under the values of names, or none where a name has no value or
+/// an operator faults.
 pub fn static_value<V: Values>(expression: &Static, values: &V) -> Option<StaticInt>
     ensures { result ≡ value_under (V.given values.now) (view_static expression.now) }
 {

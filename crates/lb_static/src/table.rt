@@ -1,7 +1,7 @@
 //! The instances of a program as a flat table.
 //!
-//! A node that is called with the same static values in many places is one specialization, judged
-//! once; the instances only point to it.
+//! A node that is called with the same static values in many places is one specialization. It is
+//! judged once, and the instances only point to it.
 //!
 //! ```text
 //! node two(x: int) ..          specializations   0: count   1: two, calls 0, 0   2: main, calls 1
@@ -14,7 +14,7 @@
 ghost use Rattle.std.specs.Prelude.{◌≡◌, option_map};
 ghost use Rattle.lb_static.specs.CalledSpecializations.{called_by};
 
-use crate::reach::NodeId;
+use crate::reachable::NodeId;
 use crate::resolved::CallId;
 use crate::static_value::StaticInt;
 
@@ -34,11 +34,11 @@ pub struct Specialization {
     pub values: Vec<StaticInt>,
     /// The value of each static expression of the node.
     pub statics: Vec<StaticInt>,
-    /// What each call and each iterated node of the node calls.
+    /// The callee of each call and of each iterated node of the node.
     pub callees: Vec<SpecializationId>,
 }
 
-/// Where an instance stands.
+/// The place of an instance among the calls of the program.
 #[derive(Clone, Copy)]
 pub enum Origin {
     /// The node under test.
@@ -53,7 +53,7 @@ pub enum Origin {
     },
 }
 
-/// An instance: what it is an instance of, and where it stands.
+/// An instance: its specialization and its place among the calls.
 #[derive(Clone, Copy)]
 pub struct Instance {
     pub specialization: SpecializationId,
@@ -73,7 +73,7 @@ pub struct Table {
 }
 
 impl Table {
-    /// The specialization that a call of a specialization calls.
+    /// The callee of a call of a specialization.
     pub fn called(&self, specialization: &Specialization, call: CallId) -> Option<&Specialization>
         ensures { option_map (λ s. s.now) result ≡ called_by self.now specialization.now call }
     {

@@ -1,4 +1,4 @@
-//! What leaves a static expression of an instance without a value.
+//! The reason why a static expression of an instance has no value.
 //!
 //! Nothing here runs before the refusal is certain.
 
@@ -11,14 +11,14 @@ use crate::static_value::{NoValue, Values, value_or_fault};
 use lb_syntax::{Constant, Name};
 use std::alloc::{AllocError, Global};
 
-/// What breaks a rule of values, and where.
+/// A rule of values that is broken, and the place where.
 #[derive(Drop)]
 struct Broken {
     rule: ValueRule,
     offset: u32,
 }
 
-/// What an operator breaks, or else the name that has no value.
+/// The rule that an operator breaks, or else the name that has no value.
 fn operator_fault(fault: NoValue) -> Result<Broken, &Name> {
     match fault {
         NoValue::Name(name) => Err(name),
@@ -42,25 +42,25 @@ fn operator_fault(fault: NoValue) -> Result<Broken, &Name> {
     }
 }
 
-/// The place of the constant of a name in a source.
+/// The place of the constant with this name in a source.
 fn constant_place(trees: &[Constant], name: &Name) -> Option<usize> {
     trees
         .iter()
         .position(|tree| tree.name.as_str() == name.as_str())
 }
 
-/// That a constant needs itself.
+/// The fault of a constant that needs itself.
 fn needs_itself(alloc: Global, name: &Name) -> Result<Broken, AllocError> {
     Ok(Broken {
         rule: ValueRule::Constant {
             name: String::from_str(alloc, name.as_str())?,
         },
-        offset: name.offset(),
+        offset: name.offset,
     })
 }
 
-/// Why a constant of this name has no value: an operator in a value that it needs, or the first
-/// constant that it comes to again.
+/// The reason why the constant `name` has no value: an operator in a value that it needs, or else
+/// the first constant that the search meets a second time.
 fn constant_fault(alloc: Global, constants: &Constants, name: &Name) -> Result<Broken, AllocError> {
     let trees = constants.trees();
     let mut seen = vec![in alloc; false; trees.len()]?;
@@ -88,7 +88,7 @@ fn constant_fault(alloc: Global, constants: &Constants, name: &Name) -> Result<B
     needs_itself(alloc, needed)
 }
 
-/// What leaves a static expression of a node without a value.
+/// The reason why a static expression of a node has no value, if it has none.
 fn part_fault<'s>(part: &StaticPart<'s>, values: &InstanceValues) -> Option<NoValue<'s>> {
     match part.text {
         StaticText::Written(expression) => value_or_fault(expression, values).err(),
@@ -99,7 +99,7 @@ fn part_fault<'s>(part: &StaticPart<'s>, values: &InstanceValues) -> Option<NoVa
     }
 }
 
-/// What breaks a rule of values in the first static expression of a node that has none.
+/// The rule that is broken in the first static expression of a node that has no value.
 fn node_fault(
     alloc: Global,
     node: &ResolvedNode,
@@ -116,8 +116,8 @@ fn node_fault(
     needs_itself(alloc, &node.tree.name)
 }
 
-/// The first static expression of a node that has no value, where an instance of the node stands
-/// at a place.
+/// The first static expression of a node that has no value, and the path to the instance at
+/// `place`.
 pub fn value_fault(
     alloc: Global,
     node: &ResolvedNode,

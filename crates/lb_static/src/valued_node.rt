@@ -3,7 +3,7 @@
 ghost use Rattle.std.specs.Prelude.{◌≡◌, option_map};
 ghost use Rattle.lb_static.specs.Interfaces.{interface_variables, valued_node_in};
 
-use crate::reach::Reached;
+use crate::reachable::Reached;
 use crate::resolved::{ResolvedNode, Variable};
 use crate::static_value::StaticInt;
 use crate::table::{SpecializationId, Table};

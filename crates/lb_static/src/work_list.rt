@@ -1,4 +1,4 @@
-//! Places that come up in a walk, each of them once: a list of what is left to do that grows.
+//! Places that come up in a walk, each of them once. The walk goes along the list while it grows.
 
 ghost use Rattle.std.specs.Prelude.{◌≡◌, ◌<◌, ◌≤◌, [], OnOk, IfOk, IfSome, length, slice_get};
 ghost use Rattle.lb_static.specs.WorkLists.{HasTurns, visited_after};
@@ -6,11 +6,11 @@ ghost use Rattle.lb_static.specs.WorkLists.{HasTurns, visited_after};
 use std::alloc::{AllocError, Global};
 use std::marker::Model;
 
-/// Places of a list of so many, in the order in which they came up.
+/// Places of a list of `count` items, in the order in which they came up.
 #[derive(Drop)]
 pub struct WorkList {
     order: Vec<usize>,
-    /// For each place the turn at which it came up.
+    /// For each place the turn at which it came up, if it did.
     turns: Vec<Option<usize>>,
 }
 
@@ -26,7 +26,7 @@ impl Model for WorkList {
 }
 
 impl WorkList {
-    /// No place has come up yet, of so many.
+    /// A work list for the places of a list of `count` items; no place has come up yet.
     pub fn new(alloc: Global, count: usize) -> Result<WorkList, AllocError>
         ensures order { IfOk result (λ v. v.order ≡ []) }
         ensures count { IfOk result (λ v. v.count ≡ count) }
@@ -36,7 +36,7 @@ impl WorkList {
         Ok(WorkList { order, turns })
     }
 
-    /// Visits a place; answers the turn at which it came up first.
+    /// Visits a place and returns the turn at which it first came up.
     pub fn visit(&mut self, place: usize) -> Result<usize, AllocError>
         requires { place < self.old.count }
         ensures order { OnOk result (self.new.order ≡ visited_after self.old.order place) }
@@ -52,7 +52,7 @@ impl WorkList {
         Ok(turn)
     }
 
-    /// The place that came up at a turn.
+    /// The place that came up at a turn, or none if no place did.
     pub fn place(&self, turn: usize) -> Option<usize>
         ensures value { result ≡ slice_get self.now.order turn }
         ensures within { IfSome result (λ place. place < self.now.count) }
@@ -62,7 +62,7 @@ impl WorkList {
         self.order.get(turn).copied()
     }
 
-    /// For each place the turn at which it came up.
+    /// For each place the turn at which it came up, if it did.
     pub fn turns(&self) -> &[Option<usize>]
         ensures turns { HasTurns self.now.order result.now }
         ensures count { length result.now ≡ self.now.count }

@@ -1,10 +1,10 @@
--- What a text begins with, from its first two bytes.
+-- The search for the first place of two bytes in a text.
 use Rattle.std.proofs.Common.{◌≡◌, ℕ, ◌+◌, ◌<◌, false, [], ◌∷◌, length, drop, get_or, drop-cons}
 use Rattle.std.proofs.Common.{add-one, Option, Some, None, refl, ap, subst, ◌∙◌, arith}
 use Rattle.std.specs.Option.{option_map}
 use Rattle.lb_syntax.specs.Tokens.{Text, begins, through}
 
--- what a search that began earlier makes of an answer from a place on
+-- the answer `rest` of a search from offset `at` on, counted from the front of the text
 abbrev pub counted_on : ℕ → Option ℕ → Option ℕ
 counted_on at rest = option_map (λ n. at + n) rest
 
@@ -21,7 +21,7 @@ through_cons : (first second b at : ℕ) (rest : Text) (o : Option ℕ) →
 through_cons first second b at rest o other e =
     (rw other at e) ∙ counted_on-next at (through (first ∷ second ∷ []) rest)
 
--- a pair that does not stand here stands further on
+-- the search for two bytes that do not stand at `at` has the same answer from `at + 1` on
 pub through_steps : (text : Text) (first second at : ℕ) (o : Option ℕ) →
     at < length text → begins (drop at text) (first ∷ second ∷ []) ≡ false →
     o ≡ counted_on at (through (first ∷ second ∷ []) (drop at text)) →

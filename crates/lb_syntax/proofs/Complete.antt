@@ -1,4 +1,4 @@
--- What is spelled of expressions is read.
+-- Expressions: what is spelled is read.
 use Rattle.std.proofs.Common.{◌≡◌, ℕ, zero, suc, ◌+◌, ◌-◌, ◌≤◌, ◌<◌, max, true, false, List, []}
 use Rattle.std.proofs.Common.{◌∷◌, length, Option, Some, None, refl, ap, sym, ◌∙◌, subst, arith}
 use Rattle.std.specs.Prelude.{◌≢◌}
@@ -17,7 +17,7 @@ use Rattle.lb_syntax.specs.Spelling.{◌▸◌, IsMark, IsName, IsList, IsStatic
 use Rattle.lb_syntax.specs.Spelling.{iterator_name, MayBeCalled, IsApplied, IsForm, IsSpelled}
 use Rattle.lb_syntax.specs.Spelling.{AreSpelled, MayBeSpelled}
 use Rattle.lb_syntax.specs.Readers.{◌>>=◌, Reader, expect}
-use Rattle.lb_syntax.specs.Reading.{Stop, climb, form_at, joined, element_at, infix_at, longer}
+use Rattle.lb_syntax.specs.Reading.{Stop, climb, form_at, infix_tree, element_at, infix_at, longer}
 use Rattle.lb_syntax.specs.Reading.{by_form, step, until, choice, prefixed, list_until, items}
 use Rattle.lb_syntax.specs.Reading.{operands, iterate, static_call, named, marked, first, level_at}
 use Rattle.lb_syntax.specs.Reading.{tree_at, expression_at}
@@ -42,7 +42,7 @@ Complete n inner =
     next_level rest < least → IsClear rest → inner least ts ≡ Some (e, rest)
 
 module _ (n : ℕ) (inner : ℕ → Reader Expr) (complete : Complete n inner) where
-  -- where every expression may stand, and nothing goes on with it
+  -- a spelled expression is read at the least level, where nothing goes on with it
   whole : (e : Expr) (ts rest : List Token) → depth e ≤ n → IsSpelled e ts rest → Ends rest →
       inner 1 ts ≡ Some (e, rest)
   whole e ts rest deep s ends =
@@ -179,7 +179,7 @@ module _ (n : ℕ) (inner : ℕ → Reader Expr) (complete : Complete n inner) w
       IsSpelled e ts rest → IsLast least e → IsBelow (next_level rest) e → IsClear rest →
       Start q least ts ≡ climb (step inner least) p e rest
 
-  -- a form whose left operand is read, and what follows its mark
+  -- where the left operand of a form is read, and the rest of the form too, the climb reaches `z`
   grows : (f : Form) (a z : Expr) → Reads a → (least : ℕ) (ts us vs rest : List Token) (q p : ℕ) →
       q ≡ suc (spine a) + p → depth a ≤ suc n → IsSpelled a ts us → IsForm f us vs →
       IsLeft (row_of f) a →
@@ -196,7 +196,7 @@ module _ (n : ℕ) (inner : ℕ → Reader Expr) (complete : Complete n inner) w
   infix_reads : (f : Form) (a b : Expr) (ts rest : List Token) → depth b ≤ n → IsSpelled b ts rest →
       IsLast (row_of f).right b → IsBelow (next_level rest) b → next_level rest < (row_of f).right →
       IsClear rest →
-      infix_at inner a f ts ≡ Some (joined f a b, rest)
+      infix_at inner a f ts ≡ Some (infix_tree f a b, rest)
   unfolding infix_at
   infix_reads f a b ts rest deep s last below lt clear =
       rw (complete b (row_of f).right ts rest deep s last below lt clear) refl
@@ -289,13 +289,13 @@ module _ (n : ℕ) (inner : ℕ → Reader Expr) (complete : Complete n inner) w
       ≡ Last least p e rest
   none_left least q p e rest fuel = ap (λ z. Last least z e rest) (omega arith)
 
-  -- what a name begins
+  -- an expression that `named` reads is the first operand of the climb
   named_start : (x : Name) (e : Expr) (least q : ℕ) (ts next rest : List Token) → IsName x ts next →
       named inner x next ≡ Some (e, rest) → Start q least ts ≡ Last least q e rest
   unfolding first
   named_start x e least q ts next rest is reads = ap (Start q least) is ∙ rw reads refl
 
-  -- what a mark begins
+  -- an expression that `marked` reads is the first operand of the climb
   marked_start : (mark : Mark) (e : Expr) (least q : ℕ) (ts next rest : List Token) →
       IsMark mark ts next → marked inner mark next ≡ Some (e, rest) → Start q least ts
       ≡ Last least q e rest
@@ -444,7 +444,7 @@ tree_complete zero e least ts rest deep s last below lt clear = absurd (omega (a
 tree_complete (suc n) e least ts rest deep s last below lt clear =
     level_reads n (tree_at n) (tree_complete n) e least ts rest deep s last below lt clear
 
--- a tree that the front of the tokens spells, where nothing goes on with it, is read
+-- an expression that the front of the tokens spells is read, where nothing goes on with it
 pub expression_reads : (e : Expr) (ts rest : List Token) → IsSpelled e ts rest → Ends rest →
     expression_at ts ≡ Some (e, rest)
 unfolding expression_at

@@ -1,4 +1,4 @@
--- What is read of declarations is spelled, what is spelled is read.
+-- Declarations: what is read is spelled, and what is spelled is read.
 use Rattle.std.proofs.Common.{◌≡◌, ◌⊎◌, inl, inr, Bool, true, false, List, [], ◌∷◌, Option, Some}
 use Rattle.std.proofs.Common.{None, refl, ap, sym, ◌∙◌, subst, arith}
 use Rattle.std.proofs.lemmas.Option.{cond_some}
@@ -27,7 +27,7 @@ use Rattle.lb_syntax.proofs.Sound.{static_read, clock_read}
 use Rattle.lb_syntax.proofs.Ends.{EndsStatic}
 use Rattle.lb_syntax.proofs.StaticComplete.{static_reads, static_shorter, clock_reads}
 
--- where nothing has to follow
+-- the condition on the tokens after a thing that is read whatever follows it
 abbrev pub Anywhere : List Token → Type 0
 Anywhere ts = Unit {0}
 
@@ -39,7 +39,7 @@ name_laws = record {
   next_is = λ ts start h. expect_is m.Comma ts start h;
   item_is = name_read;
   goes_on = λ x ts start rest s i. mark_reads m.Comma ts start s;
-  closed = λ x ts start rest s i. tt;
+  terminated = λ x ts start rest s i. tt;
   reads = λ x ts rest s c. name_reads x ts rest s;
   shorter = λ x ts start rest s i.
       let a = (takes_mark m.Comma).takes ts start s in
@@ -51,7 +51,7 @@ pub names_read : (ts : List Token) (r : List Name × List Token) → names_at ts
     AreNames r.0 ts r.1
 names_read ts r h = list_read name_laws ts r h
 
--- another mark than a comma ends a list of names
+-- a spelled list of names is read, where no comma follows it
 pub names_reads : (xs : List Name) (ts rest : List Token) → AreNames xs ts rest →
     expect m.Comma rest ≡ None → names_at ts ≡ Some (xs, rest)
 names_reads xs ts rest s stop = list_reads name_laws xs ts rest s tt stop
@@ -99,7 +99,7 @@ takes_clock : (x : Name) (sign : Bool) → Takes 0 (IsClock x sign)
 takes_clock x true = takes_any (takes_clock_name x)
 takes_clock x false = takes_any (takes_then (takes_mark m.Not) (takes_clock_name x))
 
--- ---- what may follow a declaration
+-- ---- the tokens after a declaration
 
 -- `;` or `)` comes next
 abbrev pub IsGroupEnd : List Token → Type 0
@@ -131,7 +131,7 @@ no_comma_colon : (ts rest : List Token) → IsMark m.Colon ts rest → expect m.
 unfolding at_next_group at_next_local expect
 no_comma_colon ts rest s = rw s refl
 
--- ---- what begins with a name
+-- ---- groups begin with a name
 
 abbrev pub IsNamed : List Token → Type 0
 IsNamed ts = (x : Name) × (after : List Token) × IsName x ts after
@@ -196,7 +196,7 @@ takes_when None = takes_nothing
 takes_when (Some c) =
     takes_any (takes_then (takes_mark m.When) (takes_clock c.variable c.sign))
 
--- a clock or the end of its group ends a static expression
+-- a static expression ends before a clock, and before the end of a group
 when_end : (c : Option Sampling) (ts rest : List Token) → IsSampling c ts rest →
     IsGroupEnd rest → EndsStatic ts
 when_end None ts rest s end = subst EndsStatic (sym s) (static_end rest end)
@@ -213,7 +213,7 @@ size_laws = record {
   next_is = λ ts start h. expect_is m.Caret ts start h;
   item_is = static_read;
   goes_on = λ x ts start rest s i. mark_reads m.Caret ts start s;
-  closed = λ x ts start rest s i. mark_end m.Caret ts start refl s;
+  terminated = λ x ts start rest s i. mark_end m.Caret ts start refl s;
   reads = static_reads;
   shorter = λ x ts start rest s i.
       let a = (takes_mark m.Caret).takes ts start s in
@@ -294,7 +294,7 @@ group_laws = record {
       let a = mark_reads m.Semicolon ts start s in
       let b = named_at start (group_begins x start rest i) in
       rw (a, b) refl;
-  closed = λ x ts start rest s i. (start, inl s);
+  terminated = λ x ts start rest s i. (start, inl s);
   reads = group_reads;
   shorter = λ x ts start rest s i.
       let a = (takes_mark m.Semicolon).takes ts start s in
@@ -326,7 +326,7 @@ no_semicolon : (ts rest : List Token) → IsMark m.Close ts rest → expect m.Se
 unfolding expect
 no_semicolon ts rest s = rw s refl
 
--- groups are read where a parenthesis closes them
+-- spelled groups are read, where `)` follows them
 pub groups_reads : (gs : List Group) (ts rest after : List Token) → AreGroups gs ts rest →
     IsMark m.Close rest after →
     groups_at ts ≡ Some (gs, rest)
@@ -405,7 +405,7 @@ closed_laws = record {
   next_is = λ ts start h. local_is ts start (expect m.Var ts) refl h;
   item_is = closed_read;
   goes_on = λ x ts start rest s i. var_next ts start s (group_begins x start i.0 i.1);
-  closed = λ x ts start rest s i. tt;
+  terminated = λ x ts start rest s i. tt;
   reads = λ x ts rest s c. closed_reads x ts rest s;
   shorter = λ x ts start rest s i.
       let a = (takes_may (takes_mark m.Var)).takes ts start s in
@@ -435,7 +435,7 @@ no_local : (ts rest : List Token) → IsMark m.Let ts rest → at_next_local ts 
 unfolding at_next_group at_next_local expect
 no_local ts rest s = rw s refl
 
--- locals are read where `let` follows them
+-- spelled locals are read, where `let` follows them
 pub locals_reads : (ds : List Declaration) (ts rest after : List Token) → AreLocals ds ts rest →
     IsMark m.Let rest after →
     (gs : List Group) × (locals_at ts ≡ Some (gs, rest)) × (ds ≡ declared gs)
@@ -448,7 +448,7 @@ locals_reads ds ts rest after (inr s) body =
     let b = list_reads closed_laws s.0 s.1.0 rest s.1.2 tt (no_local rest after body) in
     (s.0, rw a b, s.2)
 
--- ---- how many tokens they take
+-- ---- the numbers of tokens of declarations
 
 takes_groups : (gs : List Group) → Takes 0 (AreGroups gs)
 takes_groups gs =

@@ -1,4 +1,4 @@
--- What may follow a tree, so that nothing goes on with it.
+-- Ends of a tree: tokens after it that do not go on with it.
 use Rattle.std.proofs.Common.{◌≡◌, ℕ, Bool, true, false, List, [], ◌∷◌, Option, Some, None, inl}
 use Rattle.std.proofs.Common.{inr, refl, ap, sym, subst, ◌∙◌, rules}
 use Rattle.std.specs.Prelude.{◌≢◌}
@@ -15,7 +15,7 @@ use Rattle.lb_syntax.specs.Spelling.{IsMark, IsForm, IsSeparator, IsArithmetic}
 use Rattle.lb_syntax.specs.Readers.{expect}
 use Rattle.lb_syntax.specs.Reading.{form_at, arithmetic_at}
 
--- the level of a form at the front, or 0
+-- the level of a form, or 0 where there is none
 abbrev pub form_level : Option Form → ℕ
 form_level (Some f) = (row_of f).level
 form_level None = 0
@@ -24,7 +24,7 @@ abbrev pub next_level : List Token → ℕ
 next_level [] = 0
 next_level (t ∷ ts) = form_level (form_at t)
 
--- the same of the operators of static expressions
+-- the level of an operator of static expressions, or 0 where there is none
 abbrev pub arithmetic_level : Option BinaryOperator → ℕ
 arithmetic_level (Some op) = (row_of (form.Data op)).level
 arithmetic_level None = 0
@@ -33,17 +33,17 @@ abbrev pub static_next : List Token → ℕ
 static_next [] = 0
 static_next (t ∷ ts) = arithmetic_level (arithmetic_at t)
 
--- no bracket that would make a call or an iterator of a name
+-- no bracket comes next that would make a call or an iterator of a name
 pub record IsClear (rest : List Token) : Type 0 where
   pub no_call : expect m.Open rest ≡ None
   pub no_statics : expect m.OpenStatic rest ≡ None
 
--- nothing that goes on with an expression
+-- nothing comes next that goes on with an expression
 pub record Ends (rest : List Token) : Type 0 where
   pub none : next_level rest ≡ 0
   pub clear : IsClear rest
 
--- nothing that goes on with a static expression
+-- nothing comes next that goes on with a static expression
 abbrev pub EndsStatic : List Token → Type 0
 EndsStatic rest = static_next rest ≡ 0
 
@@ -63,7 +63,7 @@ pub expect_other : (k mark : Mark) (ts : List Token) → mark ≢ k → expect k
     ≡ None
 expect_other k mark ts other = by_same k mark ts other (sameb the_type mark k) refl
 
--- a mark that is no form's and no bracket of a call ends every expression
+-- a mark that belongs to no form, and is no `(` and no `<<`, ends every expression
 pub ends_at : (mark : Mark) (ts : List Token) → form_of mark ≡ None → mark ≢ m.Open →
     mark ≢ m.OpenStatic → Ends (token.Mark mark ∷ ts)
 ends_at mark ts none a b = record {

@@ -1,4 +1,4 @@
--- A list after some items.
+-- Lists that are read behind items that were read before.
 use Rattle.std.proofs.Common.{◌≡◌, ℕ, suc, List, [], ◌∷◌, ◌++◌, length, Option, Some, None, refl}
 use Rattle.std.proofs.Common.{ap, ◌∙◌}
 use Rattle.std.proofs.lemmas.List.{append-nil}
@@ -8,7 +8,7 @@ use Rattle.lb_syntax.specs.ListReading.{pushed}
 use Rattle.lb_syntax.specs.Reading.{list_at, with_front, tail_at}
 use Rattle.lb_syntax.proofs.Readers.{some_is}
 
--- nothing more
+-- no items behind `front`: the list is `front`
 pub front_end : {A : Type 0} (front : List A) (rest : List Token) →
     with_front front (Some ([], rest)) ≡ Some (front, rest)
 front_end front rest = ap (λ z. Some (z, rest)) (append-nil front)
@@ -18,13 +18,13 @@ front-push : {A : Type 0} (front : List A) (x : A) (xs : List A) →
 front-push [] x xs = refl
 front-push (y ∷ front) x xs = ap (λ z. y ∷ z) (front-push front x xs)
 
--- one more item at the front
+-- the first item behind `front` may as well be the last item of `front`
 front_more : {A : Type 0} (front : List A) (x : A) (o : Option (List A × List Token)) →
     with_front front (o >>= λ xs. Some (x ∷ xs.0, xs.1)) ≡ with_front (front ++ x ∷ []) o
 front_more front x (Some r) = ap (λ z. Some (z, r.1)) (front-push front x r.0)
 front_more front x None = refl
 
--- one more item, and then others
+-- an item that is read is put behind `front`, and the items that `next` reads behind that
 pub front_pushed : {A : Type 0} (front longer : List A) (after : List Token)
     (o : Option (A × List Token)) (next : List Token → Option (List A × List Token)) →
     pushed front o ≡ Some (longer, after) →
@@ -36,14 +36,14 @@ front_pushed front longer after (Some r) next h =
     front_more front r.0 (next r.1)
     ∙ ap (λ z. with_front z.0 (next z.1)) same
 
--- one more item that is not read
+-- where the next item is not read, no list is read
 pub front_fails : {A : Type 0} (front : List A) (o : Option (A × List Token))
     (next : List Token → Option (List A × List Token)) → pushed front o ≡ None →
     with_front front (o >>= λ x. next x.1 >>= λ xs. Some (x.0 ∷ xs.0, xs.1)) ≡ None
 front_fails front None next h = refl
 front_fails front (Some r) next h = absurd cc
 
--- a turn of the loop over the items
+-- one turn of `tail_at`: after a separator, an item is put behind `front`
 pub tail_turn : {A : Type 0} (separates : List Token → Option (List Token))
     (item : Reader A) (n : ℕ) (front longer : List A) (rest next after : List Token) →
     separates rest ≡ Some next → pushed front (item next) ≡ Some (longer, after) →
@@ -61,7 +61,7 @@ unfolding tail_at
 tail_fails separates item n front rest next p q =
     rw p (front_fails front (item next) (tail_at separates item n) q)
 
--- a list after some items, from its first on
+-- `list_at` puts the first item behind `front`, and goes on as `tail_at`
 pub list_turn : {A : Type 0} (separates : List Token → Option (List Token))
     (item : Reader A) (front longer : List A) (ts after : List Token) →
     pushed front (item ts) ≡ Some (longer, after) →
@@ -78,7 +78,7 @@ unfolding list_at
 list_fails separates item front ts q =
     front_fails front (item ts) (λ r. tail_at separates item (length r) r) q
 
--- a list after none: the same list
+-- a list behind no items is the list itself
 pub id : {A : Type 0} (o : Option (List A × List Token)) → with_front [] o ≡ o
 id (Some r) = refl
 id None = refl

@@ -1,4 +1,4 @@
--- The walk over the tokens finds where a limit is broken first.
+-- The walk over the tokens finds the first token that breaks a limit.
 use Rattle.std.proofs.Common.{◌≡◌, ℕ, suc, ◌+◌, ◌<◌, ◌≤◌, Bool, true, false, not, ◌&&◌, List, []}
 use Rattle.std.proofs.Common.{◌∷◌, length, take, drop, get_or, drop-cons, Option, Some, None, refl}
 use Rattle.std.proofs.Common.{ap, subst, sym, inl, inr, ◌∙◌, ◌↔◌, ◌⊎◌, zero-add, add-zero, add-one}
@@ -21,7 +21,7 @@ use Rattle.lb_syntax.specs.TokenCounts.{opens, weight_of, counted_after, here_or
 
 -- ---- the marks that are counted
 
--- those that open, and those that go on with an operand
+-- a mark is counted if `opens` holds of it, or if it is the mark of an infix or postfix form
 pub counted_mark : (mark : Mark)
     → is_counted (token.Mark mark) ≡ (opens mark || is_some (form_of mark))
 counted_mark m.And = refl
@@ -38,7 +38,7 @@ keeps_from depth counted [] = true
 keeps_from depth counted (t ∷ ts) =
     keeps_by (λ more. keeps_from (depth_after depth t) more ts) (counted_after depth counted t)
 
--- ---- they are the limits
+-- ---- these limits are the limits of a text
 
 abbrev small_from : ℕ → List (List Token) → Bool
 small_from counted [] = true
@@ -118,7 +118,7 @@ limits_are_kept depth counted (t ∷ ts) few =
       ])
     ]
 
--- ---- the walk finds the first
+-- ---- the walk finds the first token that breaks a limit
 
 record IsOver (depth counted : ℕ) (ts : List Token) (index : ℕ) : Type 0 where
   within : index < length ts
@@ -144,13 +144,13 @@ none_is_over depth counted (t ∷ ts) =
           (none_is_over (depth_after depth t) more ts)
     ]
 
--- the first token of the list is the first that breaks a limit
+-- a token `t` that breaks a limit is the first one in `t ∷ ts` to do so
 over_here : (depth counted : ℕ) (t : Token) (ts : List Token) →
     counted_after depth counted t ≡ None → IsOver depth counted (t ∷ ts) 0
 over_here depth counted t ts over =
     record { within = omega arith; kept_before = refl; broken_with_it = rw over refl }
 
--- or one that comes later
+-- where `t` breaks no limit, the first token of `ts` that does is the first one in `t ∷ ts`
 over_later : (depth counted more : ℕ) (t : Token) (ts : List Token) (index : ℕ) →
     counted_after depth counted t ≡ Some more → IsOver (depth_after depth t) more ts index →
     IsOver depth counted (t ∷ ts) (suc index)
@@ -185,7 +185,7 @@ over_is_first depth counted (t ∷ ts) index e =
           ]
     ]
 
--- ---- what the walk answers of a whole list
+-- ---- the answer of the walk on a whole list
 
 limits_decided : (ts : List Token) → keeps_limits ts ≡ keeps_from 0 0 ts
 limits_decided ts =
@@ -197,7 +197,7 @@ kept_by_answer : (ts : List Token) (answer : Option ℕ) → over_from 0 0 ts �
     keeps_limits ts ≡ not (is_some answer)
 kept_by_answer ts answer e = limits_decided ts ∙ none_is_over 0 0 ts ∙ ap (λ o. not (is_some o)) e
 
--- an answer says whether the limits are kept, and where one is broken first
+-- `answer` is none if the limits are kept, else the index of the first token that breaks one
 pub record IsFirstOverOrNone (ts : List Token) (answer : Option ℕ) : Type 0 where
   pub kept : IsNone answer ↔ IsTrue (keeps_limits ts)
   pub first : IfSome answer (IsFirstOver ts)
@@ -224,7 +224,7 @@ counts_find_first ts (Some index) e =
 
 -- ---- the walk, step by step
 
--- what an answer is to the walk over the tokens from a place on
+-- `whole`, the answer of the walk, is the answer `rest` of the walk from `index` on, plus `index`
 abbrev pub IsAnswer : Option ℕ → ℕ → Option ℕ → Type 0
 IsAnswer whole index rest = whole ≡ option_map (λ n. index + n) rest
 

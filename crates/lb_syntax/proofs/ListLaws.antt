@@ -1,4 +1,4 @@
--- What a reader of lists reads is spelled, what is spelled it reads.
+-- Lists of any items: what is read is spelled, and what is spelled is read.
 use Rattle.std.proofs.Common.{◌≡◌, ℕ, zero, suc, ◌<◌, ◌≤◌, List, [], ◌∷◌, length, Option, Some}
 use Rattle.std.proofs.Common.{None, refl, ap, sym, ◌∙◌, subst, arith}
 use Rattle.lb_syntax.specs.declared.token.Token.{Token}
@@ -9,15 +9,16 @@ use Rattle.lb_syntax.specs.Reading.{tail_at, list_at}
 use Rattle.lb_syntax.proofs.Lists as lists
 use Rattle.lb_syntax.proofs.Lists.{tail_read}
 
--- The reader of a thing goes with its spelling, and the test for one more with what stands between.
--- A thing is read where it is closed: where nothing follows that would belong to it.
+-- The reader `read` of an item agrees with its spelling `item`, and the test `next` for a further
+-- item agrees with the separator `between`. An item is read where it is closed: where nothing
+-- follows that would belong to it.
 pub record GoWith {A : Type 0} (between : Span) (item : A → Span) (Closed : List Token → Type 0)
     (next : List Token → Option (List Token)) (read : Reader A) : Type 0 where
   pub next_is : (ts start : List Token) → next ts ≡ Some start → between ts start
   pub item_is : (ts : List Token) (r : A × List Token) → read ts ≡ Some r → item r.0 ts r.1
   pub goes_on : (x : A) (ts start rest : List Token) → between ts start → item x start rest →
       next ts ≡ Some start
-  pub closed : (x : A) (ts start rest : List Token) → between ts start → item x start rest →
+  pub terminated : (x : A) (ts start rest : List Token) → between ts start → item x start rest →
       Closed ts
   pub reads : (x : A) (ts rest : List Token) → item x ts rest → Closed rest →
       read ts ≡ Some (x, rest)
@@ -36,11 +37,11 @@ module _ {A : Type 0} {between : Span} {item : A → Span} {Closed : List Token 
       IsList between item r.0 ts r.1
   list_read ts r h = lists.list_read between item next read laws.next_is laws.item_is ts r h
 
-  -- what stands after a thing closes it
+  -- the rest of a list closes the item before it
   more_closed : (xs : List A) (ts rest : List Token) → IsTail between item xs ts rest →
       Closed rest → Closed ts
   more_closed [] ts rest s c = subst Closed (sym s) c
-  more_closed (x ∷ xs) ts rest s c = laws.closed x ts s.0 s.2.0 s.1 s.2.1
+  more_closed (x ∷ xs) ts rest s c = laws.terminated x ts s.0 s.2.0 s.1 s.2.1
 
   tail_reads : (n : ℕ) (xs : List A) (ts rest : List Token) → length ts ≤ n →
       IsTail between item xs ts rest →

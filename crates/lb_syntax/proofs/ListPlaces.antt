@@ -1,4 +1,4 @@
--- Lists place by place: in two put together, mapped, written and tested.
+-- Items at the places of lists that are joined, mapped, written and tested.
 use Rattle.std.proofs.Common.{◌≡◌, ℕ, zero, suc, ◌+◌, ◌<◌, Bool, true, List, [], ◌∷◌, ◌++◌, length}
 use Rattle.std.proofs.Common.{map, set, Some, inl, inr, refl, ap, sym, ◌∙◌, subst, arith}
 use Rattle.std.specs.Prelude.{slice_get}

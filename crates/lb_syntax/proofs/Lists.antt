@@ -123,7 +123,7 @@ module _ {A : Type 0} (Separates : Span) (Is : A → Span)
             (omega (arith, tail_room xs s.0 rest s.2)),
       ) refl
 
--- ---- lists of expressions, backwards
+-- ---- lists of expressions, from the tree back to the list
 
 abbrev pub list_of : Exprs → List Expr
 list_of Nil = []

@@ -1,4 +1,4 @@
--- Names are seen as they are.
+-- The view of a name is the name itself.
 use Rattle.std.proofs.Common.{◌≡◌, List, map}
 use Rattle.std.proofs.lemmas.List.{map-id}
 use Rattle.lb_syntax.specs.Tree.{Name}

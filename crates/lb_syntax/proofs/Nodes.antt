@@ -1,4 +1,4 @@
--- What is read of a node is spelled, what is spelled is read.
+-- Nodes: what is read is spelled, and what is spelled is read.
 use Rattle.std.proofs.Common.{◌≡◌, ◌⊎◌, inl, inr, Bool, List, [], ◌∷◌, Option, Some, None, refl, ap}
 use Rattle.std.proofs.Common.{sym, ◌∙◌, arith}
 use Rattle.lb_syntax.specs.declared.token.Mark.TheVariants as m
@@ -78,7 +78,7 @@ parameter_laws = record {
       either_is ts start (expect m.Comma ts) (expect m.Semicolon ts) refl refl h;
   item_is = parameter_read;
   goes_on = λ x ts start rest s i. separator_reads ts start s;
-  closed = λ x ts start rest s i. tt;
+  terminated = λ x ts start rest s i. tt;
   reads = λ x ts rest s c. parameter_reads x ts rest s;
   shorter = λ x ts start rest s i.
       let a = takes_separator.takes ts start s in
@@ -217,7 +217,7 @@ end_is ts None None is not = rw not (inl refl)
 end_read : (ts : List Token) → IsEnd ts (end_at ts)
 end_read ts = end_is ts (expect m.Semicolon ts) (expect m.Dot ts) refl refl
 
--- nothing comes next that would end a node
+-- no `;` or `.` comes next, which would belong to the end of a node
 pub record IsAfterNode (rest : List Token) : Type 0 where
   pub no_semicolon : expect m.Semicolon rest ≡ None
   pub no_dot : expect m.Dot rest ≡ None
@@ -282,7 +282,7 @@ statement_read : (ts : List Token) (r : Statement × List Token) → statement_a
 unfolding statement_at
 statement_read ts r h = statement_by_read ts r (expect m.Assert ts) refl h
 
--- an expression is read where `;` follows it
+-- a spelled expression is read, where `;` follows it
 read_claim : (e : Expr) (ts start rest : List Token) → IsSpelled e ts start →
     IsMark m.Semicolon start rest → expression_at ts ≡ Some (e, start)
 read_claim e ts start rest s end =
@@ -336,7 +336,7 @@ statement_laws = record {
   next_is = λ ts start h. unless_is (expect m.Tel ts) ts start h;
   item_is = statement_read;
   goes_on = λ x ts start rest s i. until_reads ts start s (statement_no_tel x start rest i);
-  closed = λ x ts start rest s i. tt;
+  terminated = λ x ts start rest s i. tt;
   reads = λ x ts rest s c. statement_reads x ts rest s;
   shorter = λ x ts start rest s i.
       let a = takes_nothing.takes ts start s in
@@ -443,7 +443,7 @@ heading_of n inputs outputs = record {
   outputs = outputs;
 }
 
--- the heading that is read of a node
+-- the heading of the node `n` is read, with groups that declare its inputs and outputs
 record Headed (n : Node) (ts rest : List Token) : Type 0 where
   inputs : List Group
   outputs : List Group
@@ -494,7 +494,7 @@ takes_heading n =
 
 -- ---- nodes
 
--- a node after its first word
+-- the spelling of a node after its first word
 abbrev pub IsRest : Node → Span
 IsRest n = IsHeading n ▸ MayBe (IsMark m.Semicolon) ▸ AreLocals n.locals ▸ IsBody n.body
 

@@ -1,4 +1,4 @@
--- What is read of the tokens of a text, as a promise on the text.
+-- The promise of `parse` on a text, from what is read of its tokens.
 use Rattle.std.proofs.Common.{◌≡◌, List, Some, None, subst}
 use Rattle.lb_syntax.specs.declared.token.Token.{Token}
 use Rattle.lb_syntax.specs.Correct.{SpellsText, IsOnlyProgram, IsSyntaxFault}
@@ -9,7 +9,7 @@ use Rattle.lb_syntax.specs.Tokens.{Text, tokens}
 use Rattle.lb_syntax.specs.Tree.{Source}
 use Rattle.lb_syntax.proofs.Sources.{source_read, source_unique, source_none}
 
--- a text has its tokens alone
+-- a text has at most one list of tokens
 same_tokens : (text : Text) (ts us : List Token) → tokens text ≡ Some ts → tokens text ≡ Some us →
     us ≡ ts
 same_tokens text ts us p q = cc

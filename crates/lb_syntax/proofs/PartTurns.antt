@@ -1,4 +1,4 @@
--- A program that a loop reads, after what it has read so far.
+-- The turns of the loop that reads a program part by part.
 use Rattle.std.proofs.Common.{◌≡◌, ℕ, zero, suc, ◌+◌, ◌-◌, ◌<◌, ◌≤◌, List, [], ◌∷◌, ◌++◌, length}
 use Rattle.std.proofs.Common.{Option, Some, None, refl, ap, sym, ◌∙◌, append_assoc, arith}
 use Rattle.std.proofs.lemmas.List.{append-nil}
@@ -23,7 +23,7 @@ from_nothing : (parts : Option (List Part)) →
 from_nothing (Some ps) = refl
 from_nothing None = refl
 
--- the loop begins
+-- the program of the tokens is the empty program, followed by the parts that are read from them
 pub source_begins : (ts : List Token) →
     source_at ts ≡ followed nothing (parts_at (length ts - 0) ts)
 unfolding source_at
@@ -46,7 +46,7 @@ followed_more s (Single n) (Some ps) =
     (sym (append_assoc s.nodes (n ∷ []) (source_of ps).nodes))
 followed_more s p None = refl
 
--- what is read, after some parts, in some more turns
+-- the program `s`, followed by the parts that `n` turns read from `rest`
 abbrev pub left : Source → List Token → ℕ → Option Source
 left s rest n = followed s (parts_at n rest)
 
@@ -76,11 +76,11 @@ none_out s (t ∷ ts) lt = refl
 
 module _ (whole : Option Source) (n at : ℕ) (s : Source) (rest : List Token)
     (here : whole ≡ left s rest (n - at)) where
-  -- the loop has read all tokens
+  -- where no tokens are left, the program is `s`
   pub part_ends : length rest ≡ 0 → whole ≡ Some s
   part_ends e = here ∙ all_read s (n - at) rest e
 
-  -- it reads one more part
+  -- a part that is read is put at the end of `s`
   pub part_grows : at < n → 0 < length rest → (p : Part) (after : List Token) →
       part_at rest ≡ Some (p, after) →
       whole ≡ left (added s p) after (n - (at + 1))
@@ -88,7 +88,7 @@ module _ (whole : Option Source) (n at : ℕ) (s : Source) (rest : List Token)
       one_more (left s rest) n at lt here
       ∙ grows s (n - (at + 1)) rest after p some found
 
-  -- no part stands next
+  -- where no part is read, no program is read
   pub part_fails : (e : ReadError) → at < n → 0 < length rest → Fails e (part_at rest) →
       Fails e whole
   part_fails error.Memory lt some none = tt
@@ -96,6 +96,6 @@ module _ (whole : Option Source) (n at : ℕ) (s : Source) (rest : List Token)
       one_more (left s rest) n at lt here
       ∙ fails s (n - (at + 1)) rest some none
 
-  -- it has no turn left
+  -- where tokens are left and no turns, no program is read
   pub part_stops : n ≤ at → 0 < length rest → whole ≡ None
   part_stops le some = no_more (left s rest) n at le here ∙ none_out s rest some

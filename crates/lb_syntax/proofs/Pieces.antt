@@ -43,11 +43,11 @@ pieces-drop text at front below e some =
 
 -- ---- the walk over a text
 
--- tokens in front of those that are to come
+-- the tokens `front` and then the tokens `rest`, or none where `rest` is none
 abbrev in_front : List Token → Option (List Token) → Option (List Token)
 in_front front rest = option_map (λ ts. front ++ ts) rest
 
--- what is found of a text up to an offset, where the next piece begins
+-- `found` are the tokens before offset `at` and `places` their offsets; at `at` a piece begins
 pub record IsFound (text : Text) (at : ℕ) (found : List Token) (places : List ℕ) : Type 0 where
   pub tokens_are : tokens text ≡ in_front found (tokens_of (pieces (drop at text)))
   pub starts_are : starts_from 0 (pieces text) ≡ places ++ starts_from at (pieces (drop at text))

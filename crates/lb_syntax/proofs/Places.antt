@@ -1,4 +1,4 @@
--- Where an expression stands, as seen from the form that follows it.
+-- An expression and the form that follows it: the form belongs to no operand of the expression.
 use Rattle.std.proofs.Common.{ℕ, ◌≤◌, ◌<◌, min, List, arith}
 use Rattle.std.specs.Prelude.{◌≢◌}
 use Rattle.lb_syntax.specs.declared.level.Form.TheVariants as form
@@ -9,7 +9,7 @@ use Rattle.lb_syntax.specs.Levels.{Form, row_of, unary_level, level, edge, IsLef
 use Rattle.lb_syntax.specs.Spelling.{IsSpelled}
 use Rattle.lb_syntax.proofs.Rows.{is_row, suits}
 
--- a form of level k belongs to no operand on the right edge
+-- a form of level `k` after an expression belongs to no operand on its right edge
 abbrev pub IsBelow : ℕ → Expr → Type 0
 IsBelow k (Binary op a b) = (k < (row_of (form.Data op)).right) × IsBelow k b
 IsBelow k (Arrow a b) = (k < (row_of form.Arrow).right) × IsBelow k b
@@ -21,7 +21,7 @@ IsBelow k (Current a) = (k < 12) × IsBelow k a
 IsBelow k (If c a b) = (k < 2) × IsBelow k b
 IsBelow k _ = Unit {0}
 
--- the level of no prefix form
+-- `k` is the level of no prefix form
 record IsInfixLevel (k : ℕ) : Type 0 where
   pub no_choice : k ≢ 2
   pub no_not : k ≢ 8
@@ -113,7 +113,7 @@ last_one (Current a) = tt
 last_one (If c a b) = tt
 last_one _ = omega arith
 
--- what is no form's mark ends every tree
+-- a token that is no mark of a form belongs to no operand of the expression before it
 pub below_none : (e : Expr) (ts rest : List Token) → IsSpelled e ts rest → IsBelow 0 e
 below_none e ts rest s =
     below_last 1 0 e ts rest

@@ -1,4 +1,4 @@
--- What a reader that did not fail has read.
+-- The results of readers that did not fail.
 use Rattle.std.proofs.Common.{◌≡◌, List, [], ◌∷◌, Option, Some, None, refl, ap, rules}
 use denote.Enum.Bare.{sameb, same_true, true_same}
 use Rattle.std.proofs.lemmas.Option.{cond_some}

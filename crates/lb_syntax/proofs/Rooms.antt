@@ -1,4 +1,4 @@
--- How much room an expression takes among the tokens.
+-- The room of an expression: it has at least as many tokens as its depth, and as its spine.
 use Rattle.std.proofs.Common.{ℕ, suc, ◌+◌, ◌≤◌, ◌<◌, max, inl, inr, Bool, true, false, List, []}
 use Rattle.std.proofs.Common.{◌∷◌, length, arith}
 use Rattle.lb_syntax.specs.declared.level.Form.TheVariants as form
@@ -15,7 +15,7 @@ use Rattle.lb_syntax.specs.Spelling.{IsClockName, IsClock, IsOperator, IsForm, I
 use Rattle.lb_syntax.specs.Spelling.{AreSpelled, AreMore, MayBeSpelled}
 use Rattle.lb_syntax.proofs.StaticComplete.{len, static_shorter, separator_room, Applied}
 
--- how deep the reader goes for a tree
+-- the depth to which the reader nests for a tree
 abbrev mutual
   pub depth : Expr → ℕ
   depth (Group e) = suc (depth e)
@@ -49,7 +49,7 @@ depth_one (Index e i) = depth_one e
 depth_one (Slice e i j) = depth_one e
 depth_one _ = omega arith
 
--- how often a form makes the tree longer
+-- the number of forms that take the tree so far as their left operand: 2 for `a - b - c`
 abbrev pub spine : Expr → ℕ
 spine (Binary op a b) = suc (spine a)
 spine (Arrow a b) = suc (spine a)

@@ -1,4 +1,4 @@
--- What holds of every row of the table of levels.
+-- Laws of every row of the table of levels.
 use Rattle.std.proofs.Common.{◌≡◌, ℕ, ◌≤◌, ◌<◌, arith}
 use Rattle.std.specs.Prelude.{◌≢◌}
 use Rattle.lb_syntax.specs.declared.level.Form.TheVariants as form
@@ -20,7 +20,7 @@ pub record IsRow (row : Row) : Type 0 where
   pub no_not : row.level ≢ 8
   pub no_memory : row.level ≢ 12
 
--- a level of infix and postfix forms
+-- `k` may be the level of an infix or postfix form
 record IsLevel (k : ℕ) : Type 0 where
   pub one : 1 ≤ k
   pub no_choice : k ≢ 2
@@ -123,7 +123,8 @@ is_row form.When = left_row 11 eleven (omega arith) (omega arith)
 is_row form.Replicate = left_row 13 thirteen (omega arith) (omega arith)
 is_row form.Element = left_row 13 thirteen (omega arith) (omega arith)
 
--- a form that takes another one as its left operand belongs to no operand of that one
+-- the form of `row`, where it may have a form of `other` on its left, has too low a level to stand
+-- in the right operand of `other`
 pub suits : (row other : Row) → IsRow row → IsRow other → row.left ≤ other.level →
     row.level < other.right
 suits row other p q le =

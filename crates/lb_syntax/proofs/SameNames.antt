@@ -1,4 +1,4 @@
--- Names and numbers that a test tells the same.
+-- Names and numbers that a test finds equal.
 use Rattle.std.proofs.Common.{◌≡◌, ℕ, true, refl}
 use Rattle.std.specs.Prelude.{bytes_eq, nat_eq}
 use Rattle.std.proofs.lemmas.Bool.{eq-eqb}

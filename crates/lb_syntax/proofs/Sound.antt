@@ -1,4 +1,4 @@
--- What is read of expressions is spelled.
+-- Expressions: what is read is spelled.
 use Rattle.std.proofs.Common.{◌≡◌, ℕ, zero, suc, ◌≤◌, List, [], ◌∷◌, Option, Some, None, refl, ap}
 use Rattle.std.proofs.Common.{sym, subst, length, arith}
 use Rattle.std.specs.Prelude.{◌≢◌}
@@ -14,7 +14,7 @@ use Rattle.lb_syntax.specs.Spelling.{◌▸◌, IsMark, IsList, IsStatic, iterat
 use Rattle.lb_syntax.specs.Spelling.{IsForm, IsSpelled, AreSpelled, MayBeSpelled}
 use Rattle.lb_syntax.specs.Readers.{Reader, expect}
 use Rattle.lb_syntax.specs.Reading.{More, list_at, static_at, statics_at, size_at, clock_at}
-use Rattle.lb_syntax.specs.Reading.{iterator_of, applied_at, exprs, form_at, takes, joined}
+use Rattle.lb_syntax.specs.Reading.{iterator_of, applied_at, exprs, form_at, takes, infix_tree}
 use Rattle.lb_syntax.specs.Reading.{element_by, element_at, infix_at, longer, by_form, step, until}
 use Rattle.lb_syntax.specs.Reading.{choice, list_until, items, operands_by, operands, plain_by}
 use Rattle.lb_syntax.specs.Reading.{iterate, static_call, static_call_by, named_by, named, marked}
@@ -93,10 +93,10 @@ element_read least e whole ts us r s f left le h =
     (expect m.DotDot i.0.1) refl i.2
 
 module _ (inner : ℕ → Reader Expr) (sound : Sound inner) where
-  -- the operand on the right of an infix form
+  -- `infix_at` reads an infix form whose right operand is read
   right_read : (f : Form) (e : Expr) (ts : List Token) (r : Expr × List Token) →
       infix_at inner e f ts ≡ Some r →
-      (b : Expr) × (joined f e b ≡ r.0) × IsRead (row_of f).right ts b r.1
+      (b : Expr) × (infix_tree f e b ≡ r.0) × IsRead (row_of f).right ts b r.1
   unfolding infix_at
   right_read f e ts r h =
       let b = bind_some (inner (row_of f).right ts) _ r h in
@@ -194,7 +194,7 @@ module _ (inner : ℕ → Reader Expr) (sound : Sound inner) where
       subst (λ z. (IsList (IsMark m.Comma) IsSpelled z.0 ▸ IsMark mark) ts z.1) (some_is c.2)
       (es.0.1, all, expect_is mark es.0.1 c.0 c.1)
 
-  -- `(a, b)`
+  -- a list in parentheses that is read, `(a, b)`, is spelled
   in_parentheses : (ts : List Token) (r : List Expr × List Token) → items inner ts ≡ Some r →
       (IsMark m.Open ▸ AreSpelled (exprs r.0) ▸ IsMark m.Close) ts r.1
   unfolding items

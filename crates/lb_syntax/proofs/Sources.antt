@@ -1,4 +1,4 @@
--- What is read of a program is spelled, what is spelled is read, and nothing else is.
+-- Programs: what is read is spelled, and what is spelled is read; tokens spell at most one program.
 use Rattle.std.proofs.Common.{◌≡◌, ℕ, zero, suc, ◌≤◌, inl, inr, Bool, true, false, List, [], ◌∷◌}
 use Rattle.std.proofs.Common.{length, Option, Some, None, refl, ap, sym, ◌∙◌, subst, arith}
 use Rattle.lb_syntax.specs.declared.token.Mark.TheVariants as m
@@ -47,7 +47,7 @@ type_reads ts rest after (inr s) equal =
 
 -- ---- parts
 
--- what may follow a part: no name that would go on with constants, no end of a node
+-- after a part: no name comes next that would go on with constants, and no end of a node
 record IsFresh (rest : List Token) : Type 0 where
   no_constant : at_name rest ≡ None
   after : IsAfterNode rest
@@ -142,7 +142,7 @@ constant_laws = record {
   next_is = λ ts start h. at_name_is ts start h;
   item_is = constant_read;
   goes_on = λ c ts start rest s i. rw s (named_at start (c.name, i.0, i.1));
-  closed = λ c ts start rest s i. tt;
+  terminated = λ c ts start rest s i. tt;
   reads = λ c ts rest s end. constant_reads c ts rest s;
   shorter = λ c ts start rest s i.
       let a = takes_nothing.takes ts start s in
@@ -246,10 +246,10 @@ source_reads s ts spelled =
     let a = parts_reads (length ts) spelled.0 ts (omega arith) spelled.1 in
     rw a (ap some (sym spelled.2))
 
--- tokens spell one program at the most
+-- tokens spell at most one program
 pub source_unique : (s t : Source) (ts : List Token) → Spells s ts → Spells t ts → s ≡ t
 source_unique s t ts p q = some_is (sym (source_reads s ts p) ∙ source_reads t ts q)
 
--- where nothing is read, nothing is spelled
+-- where no program is read, none is spelled
 pub source_none : (ts : List Token) → source_at ts ≡ None → (s : Source) → Spells s ts → ⊥
 source_none ts h s spelled = let a = source_reads s ts spelled in absurd cc

@@ -1,4 +1,4 @@
--- Spans of tokens: how they are read, and that they take tokens away.
+-- Spans of tokens: their readers, and the least number of tokens that they take.
 use Rattle.std.proofs.Common.{◌≡◌, ℕ, ◌+◌, ◌≤◌, inl, inr, List, [], ◌∷◌, length, Some, refl, ap}
 use Rattle.std.proofs.Common.{sym, subst, arith}
 use Rattle.lb_syntax.specs.declared.token.Mark.{Mark}
@@ -16,13 +16,13 @@ pub name_reads : (x : Name) (ts rest : List Token) → IsName x ts rest → name
 unfolding name_at
 name_reads x ts rest s = rw s refl
 
--- what stands for a thing that a reader made stands for the thing that it gave
+-- the tokens that spell the result `made` spell the result `given`, where the two are equal
 pub made_is : {A : Type 0} (Is : A → Span) (ts : List Token) (made given : A × List Token) →
     some made ≡ Some given →
     Is made.0 ts made.1 → Is given.0 ts given.1
 made_is Is ts made given same stands = subst (λ z. Is z.0 ts z.1) (some_is same) stands
 
--- ---- a span of at least so many tokens
+-- ---- spans of at least `n` tokens
 
 pub record Takes (n : ℕ) (Is : Span) : Type 0 where
   pub takes : (ts rest : List Token) → Is ts rest → n + length rest ≤ length ts
@@ -51,11 +51,11 @@ takes_either f g = record {
   takes = λ ts rest s. elim s [ inl a ↦ f.takes ts rest a | inr b ↦ g.takes ts rest b ];
 }
 
--- at least fewer
+-- a span of at least `n` tokens has at least `k` tokens, where `k` is at most `n`
 pub takes_less : {Is : Span} (n k : ℕ) → k ≤ n → Takes n Is → Takes k Is
 takes_less n k le f = record { takes = λ ts rest s. let x = f.takes ts rest s in omega arith }
 
--- at least none
+-- a span of at least `n` tokens has at least 0 tokens
 pub takes_any : {n : ℕ} {Is : Span} → Takes n Is → Takes 0 Is
 takes_any f = record { takes = λ ts rest s. let x = f.takes ts rest s in omega arith }
 

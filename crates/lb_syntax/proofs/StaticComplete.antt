@@ -1,4 +1,4 @@
--- What is spelled of static expressions, clocks and static arguments is read.
+-- Static expressions, clocks and static arguments: what is spelled is read.
 use Rattle.std.proofs.Common.{◌≡◌, ℕ, zero, suc, ◌+◌, ◌-◌, ◌≤◌, ◌<◌, max, inl, inr, Bool, true}
 use Rattle.std.proofs.Common.{false, List, [], ◌∷◌, length, Option, Some, None, refl, ap, sym, ◌∙◌}
 use Rattle.std.proofs.Common.{subst, arith}
@@ -30,7 +30,7 @@ len ts us e = ap length e
 
 -- ---- static expressions
 
--- an operator of level k belongs to no operand on the right edge
+-- an operator of level `k` after a static expression belongs to no operand on its right edge
 abbrev StaticBelow : ℕ → Static → Type 0
 StaticBelow k (Combined op s t) = (k < (row_of (form.Data op)).right) × StaticBelow k t
 StaticBelow k (Negated s) = (k < 12) × StaticBelow k s
@@ -292,7 +292,7 @@ clock_reads c true ts rest is =
 clock_reads c false ts rest is =
     ap clock_at is.1 ∙ rw (expect_same m.Not is.0, clock_name_reads c is.0 rest is.2) refl
 
--- ---- what calls and iterators name
+-- ---- static arguments of calls, and operators and sizes of iterators
 
 close_static_last : (ts : List Token) → separator (token.Mark m.CloseStatic ∷ ts) ≡ None
 unfolding separator expect
@@ -335,7 +335,7 @@ unfolding expect
 separator_no_statics ts rest (inl e) = ap (expect m.OpenStatic) e
 separator_no_statics ts rest (inr e) = ap (expect m.OpenStatic) e
 
--- after `<<`
+-- the operator and the size of an iterator, after `<<`
 abbrev pub Applied : Operator → Static → Span
 Applied f n = IsOperator f ▸ IsSeparator ▸ IsStatic n ▸ IsMark m.CloseStatic
 

@@ -1,4 +1,4 @@
--- What is read of static expressions, clocks and static arguments is spelled.
+-- Static expressions, clocks and static arguments: what is read is spelled.
 use Rattle.std.proofs.Common.{◌≡◌, ℕ, zero, suc, ◌≤◌, Bool, inl, inr, List, [], ◌∷◌, Option, Some}
 use Rattle.std.proofs.Common.{None, refl, subst, length, arith}
 use Rattle.lb_syntax.specs.declared.level.Form.TheVariants as form
@@ -24,7 +24,7 @@ use Rattle.lb_syntax.proofs.Lists.{list_read}
 
 -- ---- static expressions
 
--- what is read is spelled, and stands where this level is wanted
+-- `s` is spelled, and may stand where at least level `least` is wanted
 pub record IsStaticRead (least : ℕ) (ts : List Token) (s : Static) (rest : List Token) : Type 0
   where
     pub spelled : IsStatic s ts rest
@@ -189,7 +189,7 @@ symbol_read m.Or op ts h = subst (λ z. IsSymbol z (token.Mark m.Or ∷ ts) ts) 
 symbol_read m.Xor op ts h = subst (λ z. IsSymbol z (token.Mark m.Xor ∷ ts) ts) (some_is h) refl
 symbol_read _ op ts h = absurd cc
 
--- a list of static expressions that was read is not empty
+-- static expressions in `<<` and `>>` are static arguments, as their list is not empty
 pub brackets : (ts next rest after : List Token) (ss : List Static) → IsMark m.OpenStatic ts next →
     AreStatics ss next after → IsMark m.CloseStatic after rest → AreArguments ss ts rest
 brackets ts next rest after [] begins all close = absurd all

@@ -27,7 +27,7 @@ grown_if true (Some r) e ts h =
 grown_if true None e ts h = absurd cc
 grown_if false o e ts h = absurd cc
 
--- what a step keeps, where the rest of the climb keeps it
+-- `P` holds of the result of a climb, where the first step keeps it and the rest of the climb too
 after_step : {T : Type 0} (P : T → List Token → Type 0) (e : T) (ts : List Token)
     (r : T × List Token) (next : T → Reader T) → P e ts →
     ((z : T) (zs : List Token) → P z zs → next z zs ≡ Some r → P r.0 r.1) →
@@ -37,7 +37,7 @@ after_step P e ts r next p ih Stop keeps h = subst (λ z. P z.0 z.1) (some_is h)
 after_step P e ts r next p ih (More z zs) keeps h = ih z zs (keeps z zs refl) h
 after_step P e ts r next p ih Fault keeps h = absurd cc
 
--- what each step of a climb keeps holds of what it reads
+-- `P` holds of the result of a climb, where it holds at the start and each step keeps it
 pub climb_keeps : {T : Type 0} (step : T → List Token → Step T) (P : T → List Token → Type 0) →
     ((e : T) (ts : List Token) (z : T) (zs : List Token) → P e ts → step e ts ≡ More z zs →
     P z zs) →

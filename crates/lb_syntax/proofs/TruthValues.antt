@@ -1,4 +1,4 @@
--- Truth values: what two of them are together, and each alone.
+-- Laws of truth values.
 use Rattle.std.proofs.Common.{◌≡◌, Bool, true, false, refl, sym}
 use Rattle.std.specs.Prelude.{◌&&◌, ◌||◌, not}
 

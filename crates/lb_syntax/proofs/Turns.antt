@@ -1,4 +1,4 @@
--- A recursion on a count of turns, beside a loop that counts up.
+-- A recursion that counts turns down, beside a loop that counts them up.
 use Rattle.std.proofs.Common.{◌≡◌, ℕ, suc, ◌+◌, ◌-◌, ◌<◌, ◌≤◌, ap, ◌∙◌, arith}
 
 pub one_more : {X : Type 0} {x : X} (f : ℕ → X) (n at : ℕ) → at < n → x ≡ f (n - at) →

@@ -1,4 +1,4 @@
--- A list of expressions in a tree is the list in the vector.
+-- The expressions in a plain tree are the views of those in the vector of the tree.
 use Rattle.std.proofs.Common.{◌≡◌, ℕ, List, map, Box, Vec, Global, refl, ap, ◌∙◌}
 use mathlib.Core.Former.{Count}
 use Rattle.lb_syntax.specs.declared.tree.ArrayIterator.{ArrayIterator}

@@ -1,4 +1,4 @@
--- Words that are looked up among those of their length, symbols, and the values of literals.
+-- Words, looked up among the reserved words of their length; symbols; and values of literals.
 use Rattle.std.proofs.Common.{◌≡◌, ℕ, ◌+◌, ◌-◌, ◌*◌, ◌<◌, ◌≤◌, min, ◌==◌, Bool, true, List, [], ◌∷◌}
 use Rattle.std.proofs.Common.{◌++◌, filter, fold, length, take, get_or, slice_index, Option, Some}
 use Rattle.std.proofs.Common.{None, bytes_eq, refl, ap, sym, ◌∙◌, inl, inr, arith}
@@ -28,7 +28,7 @@ lookup_of_length (entry ∷ table) text =
       ]
     ]
 
--- what a search of the words of a text's length makes of it
+-- the token of a word, from a search of the reserved words of its length
 pub word_by_length : (text : Text) (found : List (Text × Mark)) (mark : Option Mark) →
     found ≡ filter (λ entry. length entry.0 == length text) words → mark ≡ lookup found text →
     word text ≡ word_by text mark
@@ -47,7 +47,7 @@ found_or n None other = other
 abbrev are_long : ℕ → List (Text × Mark) → Bool
 are_long n table = list_all (λ entry. length entry.0 == n) table
 
--- in a table of symbols of one length, the symbol at the front is the one of the first bytes
+-- symbols of length `n` at the front of a table are found by the first `n` bytes of a text
 symbol_by_lookup : (n : ℕ) (table later : List (Text × Mark)) (text : Text) →
     are_long n table ≡ true →
     symbol_of (table ++ later) text ≡ found_or n (lookup table (take n text)) (symbol_of later text)
@@ -62,7 +62,7 @@ symbol_by_lookup n (entry ∷ table) later text all =
           (and_parts (length entry.0 == n) (are_long n table) all).1)
     ]
 
--- no symbol of two bytes ends in 0, and none has one byte
+-- no symbol in `pairs` has the byte 0 at its end, and none has one byte
 no_pair : (b : ℕ) → lookup pairs (b ∷ []) ≡ lookup pairs (b ∷ 0 ∷ [])
 no_pair b = simp and-false
 
@@ -76,7 +76,7 @@ first_one : (text : Text) → 0 < length text → take 1 text ≡ slice_index te
 first_one [] some = absurd (omega arith)
 first_one (b ∷ rest) some = refl
 
--- a symbol of two bytes, or else one of one byte
+-- the symbol at the front of a text is that of its first two bytes, or else of its first byte
 pub symbol_is : (text : Text) (first second : ℕ) (two one : Option Mark) → 0 < length text →
     first ≡ slice_index text 0 → second ≡ slice_index text 1 →
     two ≡ lookup pairs (first ∷ second ∷ []) → one ≡ lookup singles (first ∷ []) →

@@ -1,4 +1,4 @@
--- What `parse` promises of a text.
+-- The promise of `parse` on a text.
 -- Source: the order of the refusals and the limits are this project's rule.
 use Rattle.std.specs.Prelude.{◌≡◌, ℕ, ◌⊎◌, Contains, List, Some, Result, Ok, Err, length}
 use Rattle.lb_syntax.specs.declared.error.SyntaxError.{SyntaxError}
@@ -12,7 +12,7 @@ use Rattle.lb_syntax.specs.Texts.{HasTokens, IsCharacterFault, IsSizeFault}
 use Rattle.lb_syntax.specs.Tokens.{Text, tokens}
 use Rattle.lb_syntax.specs.Tree as tree
 
--- the text has tokens, and they spell the program
+-- `text` has tokens, and they spell the program `s`
 abbrev pub SpellsText : tree.Source → Text → Type 0
 SpellsText s text = (ts : List Token) × (tokens text ≡ Some ts) × Spells s ts
 
@@ -36,12 +36,12 @@ abbrev pub IsTokenPlace : (text : Text) (line column : ℕ) → Type 0
 IsTokenPlace text line column = (offset : ℕ)
     × (Contains (starts text) offset ⊎ (offset ≡ length text)) × IsPlace text offset line column
 
--- refused as E2 at this place; at which of the tokens is not said
+-- refused as E2 at this place, that of a token or of the end; at which token is not promised
 pub record IsSyntaxFaultAt (text : Text) (line column : ℕ) : Type 0 where
   pub fault : IsSyntaxFault text
   pub place : IsTokenPlace text line column
 
--- what `parse` answers; nothing is said where memory ran out
+-- the promise of `parse` on its result; it says nothing where memory ran out
 abbrev pub Parses : Text → Result Source SyntaxError → Type 0
 Parses text (Ok s) = IsOnlyProgram (view_source s) text
 Parses text (Err error.Memory) = Unit {0}

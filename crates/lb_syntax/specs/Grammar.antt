@@ -1,4 +1,4 @@
--- Which tokens spell a program, above its expressions.
+-- The spelling of programs, above their expressions.
 -- Source: the syntax of the Lustre V6 reference manual (constants, nodes and functions,
 -- declarations, equations and assertions, static parameters), narrowed to this project's profile.
 use Rattle.std.specs.Prelude.{◌≡◌, Bool, true, false, ◌⊎◌, List, [], ◌∷◌, ◌++◌, map, Option, Some}
@@ -14,11 +14,11 @@ use Rattle.lb_syntax.specs.Spelling.{IsStatic, IsClock, IsSpelled}
 abbrev pub IsNothing : Span
 IsNothing ts rest = ts ≡ rest
 
--- one or the other
+-- `First` or `Second`
 abbrev pub IsEither : Span → Span → Span
 IsEither First Second ts rest = First ts rest ⊎ Second ts rest
 
--- what may be left out
+-- `First`, which may be left out
 abbrev pub MayBe : Span → Span
 MayBe First = IsEither IsNothing First
 
@@ -72,7 +72,7 @@ IsGroup g =
 abbrev pub AreGroups : List Group → Span
 AreGroups gs = IsList (IsMark m.Semicolon) IsGroup gs ▸ MayBe (IsMark m.Semicolon)
 
--- these declarations, by some groups of the text
+-- the declarations `ds`, spelled as some groups
 abbrev pub AreDeclared : List Declaration → Span
 AreDeclared ds ts rest = (gs : List Group) × AreGroups gs ts rest × (ds ≡ declared gs)
 
@@ -114,7 +114,7 @@ abbrev pub IsStatement : Statement → Span
 IsStatement (Equation xs e) = AreLeft xs ▸ IsMark m.Equal ▸ IsSpelled e ▸ IsMark m.Semicolon
 IsStatement (Assertion e) = IsMark m.Assert ▸ IsSpelled e ▸ IsMark m.Semicolon
 
--- after `tel`: nothing, `;` or `.`
+-- the end of a node, after `tel`: nothing, `;` or `.`
 abbrev pub IsEnd : Span
 IsEnd = MayBe (IsEither (IsMark m.Semicolon) (IsMark m.Dot))
 
@@ -171,6 +171,6 @@ nodes_of (Single n ∷ parts) = n ∷ nodes_of parts
 abbrev pub source_of : List Part → Source
 source_of parts = record { constants = constants_of parts; nodes = nodes_of parts }
 
--- these tokens, all of them, spell the program: any number of parts in any order
+-- all of `tokens` spell the program `s`: any number of parts in any order
 abbrev pub Spells : Source → List Token → Type 0
 Spells s tokens = (parts : List Part) × AreAny IsPart parts tokens [] × (s ≡ source_of parts)

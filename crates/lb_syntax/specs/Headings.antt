@@ -1,4 +1,4 @@
--- The plain heading that the heading of a node stands for.
+-- The plain heading that a `Heading` of the code stands for.
 -- This file mirrors code (src/node.rt); no definition of the language stands on it.
 use Rattle.lb_syntax.specs.declared.node.Heading.{Heading}
 use Rattle.lb_syntax.specs.Programs as reading

@@ -1,4 +1,4 @@
--- The levels of the forms, from which it follows where a tree may stand as an operand.
+-- The levels of the forms, which decide where a tree may stand as an operand.
 -- Source: the operators are those of the Lustre V6 reference manual (expressions). The levels,
 -- `->` and `fby` on one of them, and the rule of the right edge are this project's rule.
 use Rattle.std.specs.Prelude.{ℕ, ◌+◌, ◌≤◌, min, Option, Some, None}
@@ -15,8 +15,8 @@ use Rattle.lb_syntax.specs.Tree.{Index, Slice, Join}
 
 -- ---- the table
 
--- forms that group to the left, `a - b - c` as `(a - b) - c`, to the right, and to no side: the
--- operand on the side to which a form groups may have the level of the form itself
+-- The rows of forms that group to the left (`a - b - c` is `(a - b) - c`), to the right, and to no
+-- side. The operand on the side to which a form groups may have the level of the form itself.
 abbrev pub to_left : ℕ → Row
 to_left k = record { level = k; left = k; right = k + 1 }
 
@@ -26,7 +26,7 @@ to_right k = record { level = k; left = k + 1; right = k }
 abbrev pub to_none : ℕ → Row
 to_none k = record { level = k; left = k + 1; right = k + 1 }
 
--- the infix and postfix forms
+-- the rows of the infix and postfix forms
 abbrev pub row_of : Form → Row
 row_of form.Join = to_left 1
 row_of form.Arrow = to_right 3
@@ -50,7 +50,7 @@ row_of form.When = to_left 11
 row_of form.Replicate = to_left 13
 row_of form.Element = to_left 13
 
--- the prefix forms
+-- the levels of the prefix forms: `if`, the operators with one operand, `pre` and `current`
 abbrev pub choice_level : ℕ
 choice_level = 2
 
@@ -61,13 +61,13 @@ unary_level Negate = 12
 abbrev pub memory_level : ℕ
 memory_level = 12
 
--- what is none of these
+-- the level of a tree that is none of these forms: `17`, `x`, `(e)`, `f(e)`
 abbrev pub atom_level : ℕ
 atom_level = 14
 
 -- ---- the marks of the table
 
--- the operators of static expressions
+-- the operator of static expressions that a mark stands for
 abbrev pub arithmetic_of : Mark → Option BinaryOperator
 arithmetic_of m.Plus = Some Plus
 arithmetic_of m.Minus = Some Minus
@@ -81,7 +81,7 @@ abbrev pub data_form : Option BinaryOperator → Option Form
 data_form (Some op) = Some (form.Data op)
 data_form None = None
 
--- the form that goes on with an operand where this mark follows it
+-- the infix or postfix form that a mark stands for, where it follows an operand
 abbrev pub form_of : Mark → Option Form
 form_of m.Bar = Some form.Join
 form_of m.Arrow = Some form.Arrow
@@ -119,7 +119,8 @@ level (Current a) = memory_level
 level _ = atom_level
 
 -- The right edge of a tree is the tree itself and, where it is an infix or prefix form, the right
--- edge of its last operand. This is the least level of a prefix form there, and 14 without one.
+-- edge of its last operand. `edge` is the least level of a prefix form there, and 14 without one:
+-- 8 of `a + not b`, the level of `not`.
 abbrev pub edge : Expr → ℕ
 edge (Binary op a b) = edge b
 edge (Arrow a b) = edge b
@@ -131,13 +132,14 @@ edge (Pre a) = min memory_level (edge a)
 edge (Current a) = min memory_level (edge a)
 edge _ = atom_level
 
--- the left operand of a form: no prefix form of a lower level than the form's ends it, as that
--- would take the form into its own operand
+-- `e` may be the left operand of a form: its level is high enough, and no prefix form of a lower
+-- level than the form's stands on its right edge, since that would take the form into its own
+-- operand: `a + not b + c` is `a + not (b + c)`
 pub record IsLeft (row : Row) (e : Expr) : Type 0 where
   pub high : row.left ≤ level e
   pub clear : row.level ≤ edge e
 
--- the last operand of a form: of this level at least, or any prefix form
+-- `e` may be the last operand of a form: it has at least level `least`, or is a prefix form
 abbrev pub IsLast : ℕ → Expr → Type 0
 IsLast least (If c a b) = Unit {0}
 IsLast least (Unary op a) = Unit {0}
@@ -145,8 +147,8 @@ IsLast least (Pre a) = Unit {0}
 IsLast least (Current a) = Unit {0}
 IsLast least e = least ≤ level e
 
--- the same of static expressions, whose one prefix form `- s` has a level above those of their
--- infix forms, so that it stands wherever one of them may
+-- the level of a static expression; its one prefix form, `- s`, has a level above its infix forms,
+-- so it may stand wherever one of them may
 abbrev pub static_level : Static → ℕ
 static_level (Combined op a b) = (row_of (form.Data op)).level
 static_level (Negated s) = unary_level Negate

@@ -1,4 +1,4 @@
--- What the functions that cut a text into tokens ensure.
+-- The promises of the functions that cut a text into tokens.
 use Rattle.std.specs.Prelude.{◌≡◌, ℕ, ◌<◌, ◌≤◌, All, AllPairs, Bool, not, length, Some, None}
 use Rattle.std.specs.Prelude.{Result, Ok, Err}
 use Rattle.std.specs.Char.{is_ascii_digit}
@@ -13,7 +13,7 @@ use Rattle.lb_syntax.specs.Tokens.{Text, Piece, Blank, Lexeme, Wrong, is_newline
 use Rattle.lb_syntax.specs.Tokens.{tokens}
 use Rattle.lb_syntax.specs.Places.{starts, wrong_at}
 
--- the text has these tokens, and each starts where it stands
+-- `text` has the tokens `found`, with the offset at which each starts
 pub record IsLexed (text : Text) (found : Tokens) : Type 0 where
   pub tokens_are : tokens text ≡ Some found.tokens.items
   pub starts_are : found.starts.items ≡ starts text
@@ -21,18 +21,18 @@ pub record IsLexed (text : Text) (found : Tokens) : Type 0 where
   pub starts_within : All (λ start. start < length text) found.starts.items
   pub starts_increase : AllPairs (λ earlier later. earlier < later) found.starts.items
 
--- the text has no tokens, and this is the first place where none begins
+-- `text` has no tokens, and its first wrong piece stands at offset `at`
 pub record IsWrongAt (text : Text) (at : ℕ) : Type 0 where
   pub has_none : tokens text ≡ None
   pub place : wrong_at text ≡ Some at
 
--- what `lex` answers of a text; nothing is said where memory ran out
+-- the promise of `lex` on its result; it says nothing where memory ran out
 abbrev pub Lexes : Text → Result Tokens LexError → Type 0
 Lexes text (Ok found) = IsLexed text found
 Lexes text (Err error.Memory) = Unit {0}
 Lexes text (Err (error.Character at)) = IsWrongAt text at
 
--- ---- words of the lexer's own functions
+-- ---- definitions for the lexer's own functions
 
 -- whether a byte is of a class
 abbrev pub passes : Class → ℕ → Bool
@@ -40,13 +40,13 @@ passes class.Line = λ b. not (is_newline b)
 passes class.Name = continues_name
 passes class.Digit = is_ascii_digit
 
--- the piece of the definition that is meant
+-- the plain piece that a `Front` stands for
 abbrev pub piece_of : Front → Piece
 piece_of (front.Blank n) = Blank n
 piece_of (front.Lexeme t n) = Lexeme t n
 piece_of front.Wrong = Wrong
 
--- a piece has a byte at least, and lies within the text
+-- a piece has at least one byte, and lies within `text`
 abbrev pub IsWithin : Text → Front → Type 0
 IsWithin text (front.Blank n) = (1 ≤ n) × (n ≤ length text)
 IsWithin text (front.Lexeme t n) = (1 ≤ n) × (n ≤ length text)

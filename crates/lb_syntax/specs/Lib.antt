@@ -6,6 +6,7 @@ pub mod Levels
 pub mod Spelling
 pub mod Reading
 pub mod View
+pub mod Offsets
 pub mod Nests
 pub mod Growths
 pub mod Tokens

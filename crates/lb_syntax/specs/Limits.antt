@@ -21,8 +21,8 @@ is_small_literal t = true
 
 -- ---- statements
 
--- the static brackets that are open after a token; `let` and `tel` close them all, and a `>>` too
--- many closes none
+-- the number of static brackets that are open after a token; `let` and `tel` close them all, and a
+-- `>>` where none is open closes none
 abbrev pub depth_after : ℕ → Token → ℕ
 depth_after depth (token.Mark m.Let) = 0
 depth_after depth (token.Mark m.Tel) = 0
@@ -30,30 +30,31 @@ depth_after depth (token.Mark m.OpenStatic) = depth + 1
 depth_after depth (token.Mark m.CloseStatic) = depth - 1
 depth_after depth t = depth
 
--- `let`, `tel`, and a `;` that stands in no static brackets
+-- whether a token separates statements: `let`, `tel`, and a `;` in no static brackets
 abbrev pub is_separator : ℕ → Token → Bool
 is_separator depth (token.Mark m.Let) = true
 is_separator depth (token.Mark m.Tel) = true
 is_separator depth (token.Mark m.Semicolon) = depth == 0
 is_separator depth t = false
 
--- a token more at the front of the first of some runs
+-- some runs, with `t` at the front of the first
 abbrev pub in_first : Token → List (List Token) → List (List Token)
 in_first t [] = (t ∷ []) ∷ []
 in_first t (run ∷ rest) = (t ∷ run) ∷ rest
 
--- the longest runs of tokens without a separator, from a place in so many static brackets on
+-- the longest runs of tokens without a separator, from a place inside `depth` static brackets on:
+-- of `x = 1; y = 2` the runs `x = 1` and `y = 2`
 unfoldable pub runs : ℕ → List Token → List (List Token)
 runs depth [] = [] ∷ []
 runs depth (t ∷ ts) =
     if is_separator depth t then [] ∷ runs (depth_after depth t) ts
     else in_first t (runs (depth_after depth t) ts)
 
--- the statements of a text, with what stands before, between and after them
+-- the statements of a text, and the runs before, between and after them
 abbrev pub statements : List Token → List (List Token)
 statements = runs 0
 
--- the tokens that are counted: operators, and the brackets that nest
+-- whether a token is counted: the operators, and the brackets that nest
 abbrev pub is_counted : Token → Bool
 is_counted (token.Mark m.Bar) = true
 is_counted (token.Mark m.If) = true
@@ -99,7 +100,7 @@ keeps_limits ts =
     list_all is_short_name ts && list_all is_small_literal ts &&
     list_all is_small_statement (statements ts)
 
--- a token at which the tokens so far break a limit first: a name, a literal, or the 501st counted
+-- the token at `index` is the first that breaks a limit: a name, a literal, or the 501st counted
 -- token of a statement
 pub record IsFirstOver (ts : List Token) (index : ℕ) : Type 0 where
   pub within : index < length ts

@@ -12,14 +12,14 @@ use Rattle.lb_syntax.specs.Readers.{Gives, Reader}
 use Rattle.lb_syntax.specs.Reading.{tree_at, static_tree}
 use Rattle.lb_syntax.specs.View.{view_box, view_static}
 
--- when the function may be called, at a depth and a least level, and what it ensures
+-- the precondition of the function, on a depth, a least level and tokens; below, its postcondition
 abbrev pub Pre : Type 1
 Pre = Global → ℕ → ℕ → Bor (List Token) → Type 0
 
 abbrev pub Post : Type 0 → Type 1
 Post X = Global → ℕ → ℕ → Bor (List Token) → Result (X × Bor (List Token)) ReadError → Type 0
 
--- it may be called at this depth, and what it gives, seen by view, is what the mirror reads
+-- the function may be called at `depth`, and its result, seen by `view`, is what `mirror` reads
 pub record NestsBy {X Y : Type 0} (view : X → Y) (mirror : ℕ → ℕ → Reader Y) (depth : ℕ)
     (pre : Pre) (post : Post X) : Type 0 where
   pub callable : (alloc : Global) (least : ℕ) (ts : Bor (List Token)) → pre alloc depth least ts

@@ -16,7 +16,7 @@ abbrev pub added : Source → grammar.Part → Source
 added s (grammar.Constants cs) = record { constants = s.constants ++ cs; nodes = s.nodes }
 added s (grammar.Single n) = record { constants = s.constants; nodes = s.nodes ++ n ∷ [] }
 
--- a program and then some parts
+-- the program `s` with some more parts at its end
 abbrev pub followed : Source → Option (List grammar.Part) → Option Source
 followed s parts = parts >>= λ ps. Some (record {
   constants = s.constants ++ grammar.constants_of ps;

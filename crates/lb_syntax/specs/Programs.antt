@@ -25,7 +25,7 @@ left_by (Some inner) ts = do
   rest ← expect m.Close xs.1
   Some (xs.0, rest)
 
--- a left side
+-- the left side of an equation
 unfoldable pub left_at : Reader (List Name)
 left_at ts = left_by (expect m.Open ts) ts
 
@@ -47,7 +47,7 @@ when_by (Some clock) ts = do
 unfoldable pub when_at : Reader (Option Sampling)
 when_at ts = when_by (expect m.When ts) ts
 
--- the type and clock after some names and `:`
+-- the group of `names`, read from its type on, after its `:`
 abbrev pub with_type : List Name → Reader Group
 with_type names ts = do
   kind ← kind_at ts
@@ -71,7 +71,7 @@ abbrev pub inputs_by : Option (List Token) → Reader (List Group)
 inputs_by (Some after) ts = Some ([], ts)
 inputs_by None ts = groups_at ts
 
--- nothing, or groups
+-- the groups of the inputs, if there are any
 unfoldable pub inputs_at : Reader (List Group)
 inputs_at ts = inputs_by (expect m.Close ts) ts
 
@@ -128,7 +128,7 @@ abbrev pub end_by : Option (List Token) → List Token → List Token
 end_by (Some rest) ts = rest
 end_by None ts = skip m.Dot ts
 
--- the tokens after the end of a node
+-- the tokens after the end of a node, which is `;`, `.` or nothing
 abbrev pub end_at : List Token → List Token
 end_at ts = end_by (expect m.Semicolon ts) ts
 
@@ -167,7 +167,7 @@ heading_at ts = do
   ts ← expect m.Open parameters.1
   with_inputs name.0 parameters.0 ts
 
--- the statements between `let` and `tel`, and the end
+-- the statements between `let` and `tel`, and the end of the node
 unfoldable pub body_at : Reader (List Statement)
 body_at ts = do
   ts ← expect m.Let ts
@@ -186,7 +186,7 @@ node_of is_function h locals body = record {
   body = body;
 }
 
--- a node after its first word, a function if so
+-- a node, or a function if `is_function`, read after its first word
 unfoldable pub node_at : Bool → Reader Node
 node_at is_function ts = do
   h ← heading_at ts
@@ -200,7 +200,7 @@ abbrev pub type_by : Option (List Token) → List Token → Option (List Token)
 type_by None ts = Some ts
 type_by (Some type) ts = expect m.Int type
 
--- the tokens after `: int`, if it stands there
+-- the tokens after `: int`, or `ts` if no `:` comes next
 abbrev pub type_at : List Token → Option (List Token)
 type_at ts = type_by (expect m.Colon ts) ts
 
@@ -238,7 +238,7 @@ part_by None None None = None
 unfoldable pub part_at : Reader Part
 part_at ts = part_by (expect m.Const ts) (expect m.Node ts) (expect m.Function ts)
 
--- one more part and those after it, or none
+-- no part where no token is left, else one part and those that `later` reads
 abbrev pub parts_by : (List Token → Option (List Part)) → List Token → Option (List Part)
 parts_by later [] = Some []
 parts_by later (t ∷ ts) = do
@@ -246,12 +246,12 @@ parts_by later (t ∷ ts) = do
   ps ← later p.1
   Some (p.0 ∷ ps)
 
--- parts of all the tokens, at most so many
+-- the parts that are read from all the tokens, at most `n`
 unfoldable pub parts_at : ℕ → List Token → Option (List Part)
 parts_at zero [] = Some []
 parts_at zero (t ∷ ts) = None
 parts_at (suc n) ts = parts_by (parts_at n) ts
 
--- the program of all the tokens
+-- the program that is read from all the tokens
 unfoldable pub source_at : List Token → Option Source
 source_at ts = parts_at (length ts) ts >>= λ parts. Some (source_of parts)

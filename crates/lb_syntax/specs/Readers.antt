@@ -12,21 +12,22 @@ use Rattle.lb_syntax.specs.declared.token.Token.TheVariants as token
 use Rattle.lb_syntax.specs.Tree.{Name}
 pub use Rattle.lb_syntax.specs.Lists.{◌>>=◌}
 
--- a thing from the front of the tokens, and the tokens after it; none where none stands there
+-- a reader: gives the thing at the front of the tokens and the tokens after it, or none
 abbrev pub Reader : Type 0 → Type 0
 Reader A = List Token → Option (A × List Token)
 
--- a function that failed: for want of memory, or where the mirror reads nothing either
+-- an allowed error of a function: memory ran out, or its mirror reads nothing either
 abbrev pub Fails : {Y : Type 0} → ReadError → Option Y → Type 0
 Fails error.Memory read = Unit {0}
 Fails (error.Syntax left) read = read ≡ None
 
--- what a function returned, seen by view, is what its mirror reads, unless memory ran out
+-- the result of a function, seen by `view`, is what its mirror reads, unless memory ran out
 abbrev pub Gives : {X Y : Type 0} → (X → Y) → Result X ReadError → Option Y → Type 0
 Gives view (Ok x) read = read ≡ Some (view x)
 Gives view (Err e) read = Fails e read
 
--- how a function went on with what was read, as its mirror does; what had failed has failed
+-- A function gets the result of an earlier reading. It goes on with what was read as its mirror
+-- `next` does, and returns an error of that reading as it is.
 abbrev pub GoesOn : {X Y Z : Type 0} → (Z → Y) → Result X ReadError → (X → Option Y) →
     Result Z ReadError → Type 0
 GoesOn view (Ok x) next result = Gives view result (next x)
@@ -36,12 +37,12 @@ abbrev pub is_mark : Mark → Token → Bool
 is_mark m (token.Mark k) = sameb the_type k m
 is_mark m _ = false
 
--- the tokens after this mark
+-- the tokens after the mark `m`, if it comes next
 unfoldable pub expect : Mark → List Token → Option (List Token)
 expect m [] = None
 expect m (t ∷ ts) = if is_mark m t then Some ts else None
 
--- a thing before this mark
+-- `x`, which was read, and the tokens after the mark `m`, if it comes next
 abbrev pub before : {A : Type 0} → Mark → A → Reader A
 before m x ts = do
   rest ← expect m ts

@@ -26,7 +26,7 @@ use Rattle.lb_syntax.specs.Readers.{◌>>=◌, Reader, expect, name_at}
 
 -- ---- growing a tree
 
--- what the next tokens do to a tree on their left: nothing, a longer tree, or a fault
+-- the outcome of a step on a tree: it stops, a longer tree with the tokens after it, or a fault
 pub data Step (T : Type 0) : Type 0 where
   Stop : Step T
   More : T → List Token → Step T
@@ -42,7 +42,7 @@ goes_on Stop e ts next = Some (e, ts)
 goes_on (More longer rest) e ts next = next longer rest
 goes_on Fault e ts next = None
 
--- a tree that grows by some steps at the most
+-- the tree that grows from `e` by at most `n` steps, and the tokens after it
 unfoldable pub climb : {T : Type 0} → (T → List Token → Step T) → ℕ → T → Reader T
 climb step zero e ts = Some (e, ts)
 climb step (suc n) e ts = goes_on (step e ts) e ts (climb step n)
@@ -53,7 +53,7 @@ abbrev pub by_first : Option (List Token) → Option (List Token) → Option (Li
 by_first (Some rest) other = Some rest
 by_first None other = other
 
--- `,` or `;`
+-- the tokens after `,` or `;`, if one comes next
 unfoldable pub separator : List Token → Option (List Token)
 separator ts = by_first (expect m.Comma ts) (expect m.Semicolon ts)
 
@@ -65,7 +65,7 @@ next_item item tail (Some after) ts = do
   xs ← tail x.1
   Some (x.0 ∷ xs.0, xs.1)
 
--- what follows an item, of some items at the most
+-- the rest of a list after an item: at most `n` items, each after a separator
 unfoldable pub tail_at : {A : Type 0} → (List Token → Option (List Token)) → Reader A → ℕ →
     Reader (List A)
 tail_at separates item zero ts = Some ([], ts)
@@ -78,7 +78,7 @@ list_at separates item ts = do
   xs ← tail_at separates item (length x.1) x.1
   Some (x.0 ∷ xs.0, xs.1)
 
--- a list after some items
+-- the items `front` and behind them the list that was read
 abbrev pub with_front : {A : Type 0} → List A → Option (List A × List Token) →
     Option (List A × List Token)
 with_front front read = read >>= λ xs. Some (front ++ xs.0, xs.1)
@@ -89,17 +89,17 @@ abbrev pub arithmetic_at : Token → Option BinaryOperator
 arithmetic_at (token.Mark mark) = arithmetic_of mark
 arithmetic_at _ = None
 
--- whether a form takes a static expression on its left, where the least level is wanted
+-- whether a form takes `s` as its left operand, where at least level `least` is wanted
 unfoldable pub static_takes : ℕ → Row → Static → Bool
 static_takes least row s = nat_le least row.level && nat_le row.left (static_level s)
 
--- the end of a static expression in parentheses
+-- the static expression `(s)`, read from its `)` on
 abbrev pub grouped : Static → Reader Static
 grouped s ts = do
   rest ← expect m.Close ts
   Some (Grouped s, rest)
 
--- inner reads a static expression of at least a level, to one depth less
+-- `inner` reads a nested static expression of at least a level, which may nest one less deep
 module _ (inner : ℕ → Reader Static) where
   abbrev pub static_group : Reader Static
   static_group ts = do
@@ -135,7 +135,7 @@ module _ (inner : ℕ → Reader Static) where
     s ← static_first ts
     climb (static_step least) (length ts) s.0 s.1
 
--- a static expression of at least a level, nested no deeper than the first number
+-- a static expression of at least level `least`, nested no deeper than the first argument
 unfoldable pub static_tree : ℕ → ℕ → Reader Static
 static_tree zero least ts = None
 static_tree (suc n) least ts = static_level_at (static_tree n) least ts
@@ -203,11 +203,11 @@ arguments_by (Some after) ts = do
   rest ← expect m.CloseStatic ss.1
   Some (ss.0, rest)
 
--- static arguments
+-- static arguments, `<<s, t>>`, or none and no brackets
 unfoldable pub arguments_at : Reader (List Static)
 arguments_at ts = arguments_by (expect m.OpenStatic ts) ts
 
--- after `f<<`, static arguments up to the operands of a call
+-- after `f<<`, the static arguments of a call, up to and with `>>(`
 abbrev pub static_arguments_at : Reader (List Static)
 static_arguments_at ts = do
   ss ← statics_at ts
@@ -226,7 +226,7 @@ operator_at (token.Name f ∷ ts) = do
 operator_at (token.Mark mark ∷ ts) = symbol_by (symbol_of mark) ts
 operator_at _ = None
 
--- after `<<`, what an iterator applies and how often
+-- after `<<`, the node or operator that an iterator applies, and its size
 unfoldable pub applied_at : Reader (Operator × Static)
 applied_at ts = do
   f ← operator_at ts
@@ -245,7 +245,7 @@ abbrev pub form_at : Token → Option Form
 form_at (token.Mark mark) = form_of mark
 form_at _ = None
 
--- whether a form takes a tree on its left, where the least level is wanted
+-- whether a form takes `e` as its left operand, where at least level `least` is wanted
 unfoldable pub takes : ℕ → Row → Expr → Bool
 takes least row e =
     nat_le least row.level && (nat_le row.left (level e) && nat_le row.level (edge e))
@@ -259,18 +259,18 @@ element_by e i (Some after) ts = do
   rest ← expect m.CloseBracket j.1
   Some (Slice e i j.0, rest)
 
--- after `e[`
+-- after `e[`, an index or a slice of `e`
 unfoldable pub element_at : Expr → Reader Expr
 element_at e ts = do
   i ← static_at ts
   element_by e i.0 (expect m.DotDot i.1) i.1
 
 -- the tree of an infix form and its two operands
-abbrev pub joined : Form → Expr → Expr → Expr
-joined (form.Data op) a b = Binary op a b
-joined form.Arrow a b = Arrow a b
-joined form.Fby a b = Fby a b
-joined _ a b = Join a b
+abbrev pub infix_tree : Form → Expr → Expr → Expr
+infix_tree (form.Data op) a b = Binary op a b
+infix_tree form.Arrow a b = Arrow a b
+infix_tree form.Fby a b = Fby a b
+infix_tree _ a b = Join a b
 
 -- the tree of a form with one tree inside
 abbrev pub single : Single → Expr → Expr
@@ -285,12 +285,12 @@ listed many.Array es = Array es
 listed many.AtMostOne es = AtMostOne es
 listed many.Nor es = Nor es
 
--- inner reads a tree of at least a level, to one depth less
+-- `inner` reads a nested tree of at least a level, which may nest one less deep
 module _ (inner : ℕ → Reader Expr) where
   unfoldable pub infix_at : Expr → Form → Reader Expr
   infix_at e form ts = do
     b ← inner (row_of form).right ts
-    Some (joined form e b.0, b.1)
+    Some (infix_tree form e b.0, b.1)
 
   -- the tree that a form makes with its left operand and what follows its mark
   abbrev pub longer : Expr → Form → Reader Expr
@@ -346,7 +346,7 @@ module _ (inner : ℕ → Reader Expr) where
   operands_by (Some after) ts = Some ([], after)
   operands_by None ts = list_until m.Close ts
 
-  -- after `f(`
+  -- after `f(`, the operands of a call
   unfoldable pub operands : Reader (List Expr)
   operands ts = operands_by (expect m.Close ts) ts
 
@@ -356,14 +356,14 @@ module _ (inner : ℕ → Reader Expr) where
     es ← operands after
     Some (Call x [] (exprs es.0), es.1)
 
-  -- after `map<<`
+  -- after `map<<`, the rest of an iterator
   unfoldable pub iterate : ArrayIterator → Reader Expr
   iterate i ts = do
     f ← applied_at ts
     es ← items f.1
     Some (Iterate i f.0.0 f.0.1 (exprs es.0), es.1)
 
-  -- after `f<<`
+  -- after `f<<`, the rest of a call
   unfoldable pub static_call : Name → Reader Expr
   static_call x ts = do
     ss ← statics_at ts
@@ -380,11 +380,11 @@ module _ (inner : ℕ → Reader Expr) where
   named_by x None ts = plain_by x (expect m.Open ts) ts
   named_by x (Some after) ts = static_call_by x (iterator_of x) after
 
-  -- what a name begins
+  -- the expression that begins with the name `x`
   unfoldable pub named : Name → Reader Expr
   named x ts = named_by x (expect m.OpenStatic ts) ts
 
-  -- what a mark begins
+  -- the expression that begins with a mark
   unfoldable pub marked : Mark → Reader Expr
   marked m.True ts = Some (Truth true, ts)
   marked m.False ts = Some (Truth false, ts)
@@ -418,7 +418,7 @@ module _ (inner : ℕ → Reader Expr) where
     e ← first ts
     climb (step least) (length ts) e.0 e.1
 
--- a tree of at least a level, nested no deeper than the first number
+-- a tree of at least level `least`, nested no deeper than the first argument
 unfoldable pub tree_at : ℕ → ℕ → Reader Expr
 tree_at zero least ts = None
 tree_at (suc n) least ts = level_at (tree_at n) least ts

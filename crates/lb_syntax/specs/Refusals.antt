@@ -1,4 +1,4 @@
--- Why a text is refused.
+-- The refusals: the reasons for which a text is refused.
 -- Source: this project's rule; the numbers are part of the product.
 use Rattle.std.specs.Prelude.{ℕ, Bool, true, false, Option, Some, None}
 
@@ -22,7 +22,7 @@ pub data Refusal : Type 0 where
   E17 : Refusal
   E18 : Refusal
 
--- no refusal where the rule is kept
+-- no refusal where a rule is kept, else `r`
 abbrev pub unless : Bool → Refusal → Option Refusal
 unless true r = None
 unless false r = Some r

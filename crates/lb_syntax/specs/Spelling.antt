@@ -1,4 +1,4 @@
--- Which tokens spell an expression: from some tokens down to the rest stands the tree.
+-- The spelling of expressions: the tokens from `ts` down to `rest` spell a tree.
 -- Source: the syntax of the Lustre V6 reference manual (expressions, static parameters, arrays),
 -- narrowed to this project's profile; the levels are this project's rule.
 use Rattle.std.specs.Prelude.{◌≡◌, ◌≢◌, ◌≤◌, ◌⊎◌, ℕ, Bool, true, false, List, [], ◌∷◌, Some, codes}
@@ -17,11 +17,11 @@ use Rattle.lb_syntax.specs.Tree.{AtMostOne, Nor, Call, Iterate, Nil, Cons}
 use Rattle.lb_syntax.specs.Levels.{Form, row_of, choice_level, unary_level, memory_level}
 use Rattle.lb_syntax.specs.Levels.{arithmetic_of, form_of, IsLeft, IsLast, static_level}
 
--- what the tokens are, from a place down to a later one
+-- a statement on the tokens from one place down to a later one, from `ts` down to `rest`
 abbrev pub Span : Type 1
 Span = List Token → List Token → Type 0
 
--- one thing and then another
+-- `First` and then `Second`
 infixr 5 ◌▸◌
 abbrev pub ◌▸◌ : Span → Span → Span
 ◌▸◌ First Second ts rest = (next : List Token) × First ts next × Second next rest
@@ -41,7 +41,7 @@ IsMark mark ts rest = ts ≡ token.Mark mark ∷ rest
 abbrev pub IsSeparator : Span
 IsSeparator ts rest = IsMark m.Comma ts rest ⊎ IsMark m.Semicolon ts rest
 
--- what follows the first item of a list
+-- the items behind the first of a list, each after a separator
 abbrev pub IsTail : {A : Type 0} → Span → (A → Span) → List A → Span
 IsTail Separates Is [] ts rest = ts ≡ rest
 IsTail Separates Is (x ∷ xs) ts rest = (Separates ▸ Is x ▸ IsTail Separates Is xs) ts rest
@@ -118,7 +118,7 @@ IsSymbol Or ts rest = IsMark m.Or ts rest
 IsSymbol Xor ts rest = IsMark m.Xor ts rest
 IsSymbol _ ts rest = ⊥
 
--- what an iterator applies, `f`, `f<<s, t>>` or an operator
+-- the node or operator that an iterator applies: `f`, `f<<s, t>>` or `+`
 abbrev pub IsOperator : Operator → Span
 IsOperator (Node_named f args) ts rest = (IsName f ▸ AreArguments args) ts rest
 IsOperator (Symbol op) ts rest = IsSymbol op ts rest
@@ -134,18 +134,18 @@ IsApplied f n =
 abbrev pub IsForm : Form → Span
 IsForm form ts rest = (mark : Mark) × (form_of mark ≡ Some form) × IsMark mark ts rest
 
--- a form with an operand a on its left, and then what follows its mark
+-- a form with the operand `a` on its left, and `IsMore` after its mark
 abbrev pub Postfix : Form → Expr → Span → Span → Span
 Postfix form a IsOperand IsMore ts rest =
     (IsOperand ▸ IsForm form ▸ IsMore) ts rest × IsLeft (row_of form) a
 
--- a form with an operand a on its left and an operand b on its right
+-- a form with the operand `a` on its left and the operand `b` on its right
 abbrev pub Infix : Form → Expr → Expr → Span → Span → Span
 Infix form a b IsFirst IsSecond ts rest =
     (IsFirst ▸ IsForm form ▸ IsSecond) ts rest
     × IsLeft (row_of form) a × IsLast (row_of form).right b
 
--- a form of level k that ends with the operand a
+-- a form of level `k` that ends with the operand `a`
 abbrev pub Prefix : ℕ → Expr → Span → Span
 Prefix k a Is ts rest = Is ts rest × IsLast k a
 
@@ -195,16 +195,16 @@ abbrev mutual
   AreSpelled Nil ts rest = ⊥
   AreSpelled (Cons e es) ts rest = (IsSpelled e ▸ AreMore es) ts rest
 
-  -- what follows the first of them
+  -- the expressions behind the first, each after `,`
   pub AreMore : Exprs → Span
   AreMore Nil ts rest = ts ≡ rest
   AreMore (Cons e es) ts rest = (IsMark m.Comma ▸ IsSpelled e ▸ AreMore es) ts rest
 
-  -- the arguments of a call, of which there may be none
+  -- the operands of a call, if there are any
   pub MayBeSpelled : Exprs → Span
   MayBeSpelled Nil ts rest = ts ≡ rest
   MayBeSpelled (Cons e es) ts rest = (IsSpelled e ▸ AreMore es) ts rest
 
--- these tokens spell the expression, all of them
+-- all of `tokens` spell the expression `e`
 abbrev pub Spells : Expr → List Token → Type 0
 Spells e tokens = IsSpelled e tokens []

@@ -9,7 +9,7 @@ use Rattle.lb_syntax.specs.declared.token.Token.{Token}
 use Rattle.lb_syntax.specs.Limits.{is_short_name, is_small_literal, is_separator, depth_after}
 use Rattle.lb_syntax.specs.Limits.{is_counted}
 
--- a prefix operator, or a bracket that nests in front of an operand
+-- whether a mark is a prefix operator, or a bracket that nests in front of an operand
 abbrev pub opens : Mark → Bool
 opens m.If = true
 opens m.Not = true
@@ -21,11 +21,11 @@ opens m.Open = true
 opens m.OpenStatic = true
 opens mark = false
 
--- how many a token counts for
+-- the weight of a token: 1 if it is counted, else 0
 abbrev pub weight_of : Token → ℕ
 weight_of t = if is_counted t then 1 else 0
 
--- how many tokens of the statement are counted after a token, or none where it breaks a limit
+-- the number of counted tokens of the statement once `t` is read, or none where `t` breaks a limit
 abbrev pub counted_after : ℕ → ℕ → Token → Option ℕ
 counted_after depth counted t =
     let more = counted + weight_of t in
@@ -33,12 +33,13 @@ counted_after depth counted t =
     then (if is_separator depth t then Some 0 else (if nat_le more 500 then Some more else None))
     else None
 
--- this token, or one that comes later
+-- index 0 where the token at hand breaks a limit, else the index that `later` finds, plus 1
 abbrev pub here_or : (ℕ → Option ℕ) → Option ℕ → Option ℕ
 here_or later None = Some 0
 here_or later (Some counted) = option_map (λ n. suc n) (later counted)
 
--- the first token that breaks a limit, from a place in its statement on
+-- The index of the first token that breaks a limit. The list begins inside `depth` static brackets
+-- of a statement, and `counted` tokens of this statement are counted already.
 abbrev pub over_from : ℕ → ℕ → List Token → Option ℕ
 over_from depth counted [] = None
 over_from depth counted (t ∷ ts) =

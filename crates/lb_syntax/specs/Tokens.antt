@@ -22,7 +22,7 @@ Text = List ℕ
 abbrev pub is_space : ℕ → Bool
 is_space b = b == 32 || b == 9 || b == 13 || b == 10 || b == 12
 
--- what alone ends a line
+-- the newline, which alone ends a line
 abbrev pub is_newline : ℕ → Bool
 is_newline b = b == 10
 
@@ -34,7 +34,7 @@ begins_name b = is_ascii_alphabetic b || b == 95
 abbrev pub continues_name : ℕ → Bool
 continues_name b = is_ascii_alphanumeric b || b == 95
 
--- the text begins with these bytes
+-- whether `text` begins with `bytes`
 abbrev pub begins : Text → Text → Bool
 begins text bytes = starts_with nat_eq text bytes
 
@@ -69,16 +69,16 @@ singles =
     (codes ">", m.Greater) ∷ (codes "+", m.Plus) ∷ (codes "-", m.Minus) ∷ (codes "*", m.Star) ∷
     (codes "/", m.Slash) ∷ (codes "^", m.Caret) ∷ (codes "|", m.Bar) ∷ (codes "#", m.Hash) ∷ []
 
--- those of two bytes first, so that the first with which a text begins is the longest
+-- all symbols; those of two bytes stand first, so the first that fits is the longest: `<=`, not `<`
 abbrev pub symbols : List (Text × Mark)
 symbols = pairs ++ singles
 
--- the mark of a whole word in a table
+-- the mark that a table has for a whole word, if there is one
 abbrev pub lookup : List (Text × Mark) → Text → Option Mark
 lookup [] text = None
 lookup (entry ∷ table) text = if bytes_eq entry.0 text then Some entry.1 else lookup table text
 
--- a word that is not reserved is a name
+-- the token of a word: its mark if it is reserved, else a name
 abbrev pub word_by : Text → Option Mark → Token
 word_by text None = token.Name text
 word_by text (Some mark) = token.Mark mark
@@ -87,15 +87,14 @@ word_by text (Some mark) = token.Mark mark
 unfoldable pub word : Text → Token
 word text = word_by text (lookup words text)
 
--- the value of some decimal digits; all that are above the greatest literal, 2147483647, are held
--- as one more than that
+-- the value of decimal digits; each value above the greatest literal, 2147483647, is 2147483648
 unfoldable pub value_of : Text → ℕ
 value_of digits = min (fold (λ value digit. 10 * value + (digit - 48)) 0 digits) 2147483648
 
 -- ---- pieces
 
--- What stands at the front of a text, with its length in bytes: white space or a comment, a token,
--- or one byte that begins none of them.
+-- A piece at the front of a text, with its length in bytes: white space or a comment, a token, or
+-- one byte that begins none of these.
 pub data Piece : Type 0 where
   Blank : ℕ → Piece
   Lexeme : Token → ℕ → Piece
@@ -107,14 +106,16 @@ size (Blank n) = n
 size (Lexeme t n) = n
 size Wrong = 1
 
--- the bytes from the front through the first place at which these bytes stand, if there is one
+-- the number of bytes of a text through the end of the first `bytes` in it, if there is one: 4 for
+-- `*)` in `ab*)c`
 abbrev pub through : Text → Text → Option ℕ
 through bytes [] = None
 through bytes (b ∷ rest) =
     if begins (b ∷ rest) bytes then Some (length bytes)
     else option_map (λ n. n + 1) (through bytes rest)
 
--- a comment of two opening bytes and, after them, the bytes through its end; it does not nest
+-- the comment of two opening bytes and `n` bytes through its end, or a wrong piece without an end;
+-- comments do not nest
 abbrev pub comment : Option ℕ → Piece
 comment None = Wrong
 comment (Some n) = Blank (n + 2)
@@ -126,7 +127,8 @@ symbol_of (entry ∷ table) text =
     if begins text entry.0 then Lexeme (token.Mark entry.1) (length entry.0)
     else symbol_of table text
 
--- what stands at the front: a comment before any symbol, and a word or a literal as long as it goes
+-- the piece at the front of a text: a comment is tried before any symbol, and a word or a literal
+-- is as long as it goes
 unfoldable pub piece : Text → Piece
 piece text =
     let first = slice_index text 0 in
@@ -140,7 +142,7 @@ piece text =
     else (if is_ascii_digit first then Lexeme (token.Literal (value_of digits)) (length digits)
     else symbol_of symbols text)))))
 
--- the pieces that a text is cut into, after some bytes that belong to the piece before
+-- the pieces of a text after its first `n` bytes, which belong to the piece before
 unfoldable pub pieces_after : ℕ → Text → List Piece
 pieces_after n [] = []
 pieces_after (suc n) (b ∷ rest) = pieces_after n rest

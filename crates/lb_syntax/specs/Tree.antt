@@ -18,7 +18,7 @@ pub use Rattle.lb_syntax.specs.declared.tree.ArrayIterator.TheVariants.{Map, Red
 abbrev pub Name : Type 0
 Name = List ℕ
 
--- what stands for a whole number before the run: `17`, `n`, `- s`, `s + t`, `(s)`
+-- a static expression, a whole number known before the run: `17`, `n`, `- s`, `s + t`, `(s)`
 pub data Static : Type 0 where
   Whole : ℕ → Static
   Named : Name → Static
@@ -26,7 +26,7 @@ pub data Static : Type 0 where
   Combined : BinaryOperator → Static → Static → Static
   Grouped : Static → Static
 
--- what an iterator applies: `f<<s, t>>`, or one of `+ - * and or xor`
+-- the node or operator that an iterator applies: `f<<s, t>>`, or one of `+ - * and or xor`
 pub data Operator : Type 0 where
   Node_named : Name → List Static → Operator
   Symbol : BinaryOperator → Operator
@@ -59,8 +59,7 @@ mutual
     Nil : Exprs
     Cons : Expr → Exprs → Exprs
 
--- a clock as it is written, `when c` or `when not c`: the variable, and whether true or false is
--- waited for
+-- a clock as it is written, `when c` or `when not c`: the variable, and the value it waits for
 pub record Sampling : Type 0 where
   pub variable : Name
   pub sign : Bool

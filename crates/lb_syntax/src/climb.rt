@@ -1,4 +1,4 @@
-//! Trees that grow to the left: an operand, and then whatever takes it as its left operand.
+//! Trees that grow: an operand, and then each form that takes the tree so far as its left operand.
 
 ghost use Rattle.std.specs.Prelude.{◌≡◌, ℕ, List};
 ghost use Rattle.lb_syntax.specs.declared.token.Token.{Token as AToken};
@@ -9,21 +9,21 @@ ghost use Rattle.lb_syntax.specs.Readers.{Gives};
 use crate::reader::ReadError;
 use crate::token::PlacedToken;
 
-/// What the next tokens do to a tree on their left.
+/// The outcome of a step on a tree.
 #[derive(Drop)]
 pub enum Growth<'t, T> {
-    /// Nothing: the tree is whole.
+    /// The tree is whole.
     Stop(T),
-    /// They make a longer tree, with these tokens after it.
+    /// A longer tree, and the tokens after it.
     More(T, &'t [PlacedToken]),
 }
 
-/// A reader of what may follow a tree.
+/// A reader of the forms that may follow a tree.
 pub trait Grower {
     /// A tree as it is stored.
     type Tree: Drop;
 
-    // The plain tree, and the one that a tree stands for.
+    // The plain tree, and the plain tree that a stored tree stands for.
     ghost Plain: { Type 0 };
 
     ghost view: { Self.Tree → Plain };
@@ -31,10 +31,10 @@ pub trait Grower {
     // Whether the reader may be called.
     ghost can_grow: { Self → Type 0 };
 
-    // What follows a tree does to it, where a least level is wanted.
+    // The outcome of a step on a plain tree, where at least a level is wanted.
     ghost step_at: { Self → ℕ → Plain → List AToken → Step Plain };
 
-    /// One step.
+    /// One step on the tree `left`, where at least level `least` is wanted.
     fn step<'t>(
         &self,
         least: u8,
@@ -45,8 +45,8 @@ pub trait Grower {
         ensures { Grows view (view left) result (step_at self.now least (view left) tokens.now) };
 }
 
-/// The tree that grows from the first one by so many steps at the most, with the tokens after it:
-/// of `1` before `- 2 - 3`, the tree of `(1 - 2) - 3`.
+/// The tree that grows from `first` by at most `turns` steps, and the tokens after it: from `1`
+/// before `- 2 - 3`, the tree of `(1 - 2) - 3`.
 ///
 /// Errors: those of a step.
 #[tactic(auto, unfolding(crate::specs::Reading::climb))]

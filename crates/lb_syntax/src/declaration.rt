@@ -14,7 +14,7 @@ ghost use Rattle.lb_syntax.specs.declared.token.Mark.TheVariants as mark;
 
 use crate::list::{Items, any, list};
 use crate::lookahead::{at_name, skip};
-use crate::reader::{ReadError, after, closed, name_at};
+use crate::reader::{ReadError, after, name_at, terminated};
 use crate::statics::{clock, static_expression};
 use crate::token::{Mark, PlacedToken};
 use crate::tree::{Declarations, Kind, Name, Sampling, Static};
@@ -104,7 +104,7 @@ impl Items for SizeItems {
     }
 }
 
-/// `when` and a clock, if they stand here.
+/// The clock after `when`, if one is written.
 #[tactic(auto, unfolding(crate::specs::Programs::when_at))]
 fn sampling(
     alloc: Global,
@@ -126,11 +126,11 @@ fn sampling(
 fn group(alloc: Global, tokens: &[PlacedToken]) -> Result<(Declarations, &[PlacedToken]), ReadError>
     ensures { Gives (λ x. (view_group x.0, x.1.now)) result (reading.group_at tokens.now) }
 {
-    let (names, rest) = closed(names(alloc, tokens), Mark::Colon)?;
+    let (names, rest) = terminated(names(alloc, tokens), Mark::Colon)?;
     with_type(alloc, names, rest)
 }
 
-/// The type and clock of some names, after the `:`.
+/// The group of `names`, read from its type on, after the `:`.
 fn with_type(
     alloc: Global,
     names: Vec<Name>,
@@ -235,7 +235,7 @@ impl Items for LocalItems {
         &self,
         tokens: &'t [PlacedToken],
     ) -> Result<(Declarations, &'t [PlacedToken]), ReadError> {
-        closed(group(self.alloc, tokens), Mark::Semicolon)
+        terminated(group(self.alloc, tokens), Mark::Semicolon)
     }
 
     #[tactic(auto, unfolding(crate::specs::ListReading::at_next_local))]

@@ -1,8 +1,8 @@
-//! Why a source text is refused.
+//! The refusals of a source text.
 
 use thiserror::Error;
 
-/// Why a source text is refused.
+/// The reason why a source text is refused, and the place.
 ///
 /// This layer judges the shape of a text alone. An unknown name, a constant without a value, a type
 /// that does not fit and a program without a node under test all pass: later layers refuse them.
@@ -22,8 +22,8 @@ pub enum SyntaxError {
         /// In bytes, from 1.
         column: u32,
     },
-    /// E2: no tree spells the tokens. Here stands the first token with which the tokens so far
-    /// begin no accepted text, or the end of the text.
+    /// E2: no tree spells the tokens. The place is that of the first token such that no accepted
+    /// text begins with the tokens up to it, or the end of the text.
     #[error("no tree fits the tokens up to {line}:{column}")]
     Syntax {
         /// From 1.

@@ -1,11 +1,11 @@
 //! Expressions, by one climb over the table of levels.
 //!
-//! An operand is read first, and then whatever goes on with it: each form whose level is high
-//! enough takes the tree so far as its left operand, and reads its right operand to a least level
-//! of its own. Every token is read once. What is looked at again is the right edge of a left
-//! operand, and that only as far as the first prefix form that rules the form out.
+//! An operand is read first. Then each form whose level is high enough takes the tree so far as its
+//! left operand, and reads its right operand to a least level of its own: in `a + b * c` the `+`
+//! takes `b * c`. Every token is read once. Only the right edge of a left operand is looked at
+//! again, and no further than the first prefix form that rules the form out.
 //!
-//! The functions hand on a `Box`, which keeps each level of nesting small on the stack.
+//! The functions return a `Box`, so that each level of nesting takes little stack.
 
 ghost use Rattle.std.specs.Prelude.{◌≡◌, ℕ, Option, List, Some, None, map, nat_le, ◌≤◌};
 ghost use Rattle.lb_syntax.specs.Levels as levels;
@@ -20,14 +20,14 @@ ghost use Rattle.lb_syntax.specs.declared.token.Token.{Token as AToken};
 
 use crate::climb::{Grower, Growth, climb};
 use crate::forms::{
-    Listed, Single, call, chosen, element, followed, iterate, joined, literal, push_tree,
+    Listed, Single, call, chosen, element, followed, infix_tree, iterate, literal, push_tree,
     replicated, sampled, truth, variable, with_list, with_one,
 };
 use crate::level::{
     ANY_LEVEL, ATOM_LEVEL, CHOICE_LEVEL, Form, MEMORY_LEVEL, Row, form_of, row_of, unary_level,
 };
-use crate::list::{Items, list_onto, whole};
-use crate::reader::{ReadError, after, closed, expect, past};
+use crate::list::{Items, finish_list, list_onto};
+use crate::reader::{ReadError, after, expect, terminated, then_expect};
 use crate::statics::{separator, static_expression, statics};
 use crate::token::{Mark, PlacedToken, Token};
 use crate::tree::{
@@ -63,7 +63,8 @@ fn level(e: &Expr) -> u8
     }
 }
 
-/// Whether no prefix form of a level below k ends a tree. It looks no further than the first.
+/// Whether the right edge of `e` has no prefix form of a level below `k`. The search ends at the
+/// first one.
 fn is_clear(k: u8, e: &Expr) -> bool
     requires { k ≤ 14 }
     ensures { result ≡ nat_le k (levels.edge (view e.now)) }
@@ -78,7 +79,7 @@ fn is_clear(k: u8, e: &Expr) -> bool
     }
 }
 
-/// Whether a form takes a tree on its left, where the least level is wanted.
+/// Whether a form takes `e` as its left operand, where at least level `least` is wanted.
 #[inline(never)]
 #[tactic(auto, unfolding(crate::specs::Reading::takes))]
 fn takes(least: u8, row: Row, e: &Expr) -> bool
@@ -120,7 +121,7 @@ fn symbol_of(mark: Mark) -> Option<BinaryOperator>
     }
 }
 
-/// Static arguments in `<<` and `>>`, of which there may be none.
+/// Static arguments in `<<` and `>>`, if there are any.
 #[tactic(auto, unfolding(crate::specs::Reading::arguments_at))]
 fn arguments(
     alloc: Global,
@@ -131,7 +132,7 @@ fn arguments(
 {
     match after(Mark::OpenStatic, tokens) {
         None => Ok((Vec::new(alloc), tokens)),
-        Some(next) => closed(statics(alloc, next), Mark::CloseStatic),
+        Some(next) => terminated(statics(alloc, next), Mark::CloseStatic),
     }
 }
 
@@ -144,11 +145,11 @@ fn static_arguments(
     ensures { Gives (λ x. (view_statics x.0.items, x.1.now)) result
         (reading.static_arguments_at tokens.now) }
 {
-    let found = closed(statics(alloc, tokens), Mark::CloseStatic);
-    closed(found, Mark::Open)
+    let found = terminated(statics(alloc, tokens), Mark::CloseStatic);
+    terminated(found, Mark::Open)
 }
 
-/// What an iterator applies.
+/// The node or operator that an iterator applies.
 #[tactic(auto, unfolding(crate::specs::Reading::operator_at))]
 fn operator(alloc: Global, tokens: &[PlacedToken]) -> Result<(Operator, &[PlacedToken]), ReadError>
     ensures { Gives (λ x. (view_operator x.0, x.1.now)) result (reading.operator_at tokens.now) }
@@ -179,7 +180,7 @@ fn expect_separator(tokens: &[PlacedToken]) -> Result<&[PlacedToken], ReadError>
     }
 }
 
-/// After `<<`, what an iterator applies and how often.
+/// After `<<`, the node or operator that an iterator applies, and its size.
 #[inline(always)]
 #[tactic(auto, unfolding(crate::specs::Reading::applied_at))]
 fn applied(
@@ -191,16 +192,16 @@ fn applied(
 {
     let (f, rest) = operator(alloc, tokens)?;
     let rest = expect_separator(rest)?;
-    let (n, rest) = closed(static_expression(alloc, rest), Mark::CloseStatic)?;
+    let (n, rest) = terminated(static_expression(alloc, rest), Mark::CloseStatic)?;
     Ok((f, n, rest))
 }
 
-/// The reader of what stands inside an expression, to one depth less, is handed in, so that each
-/// function is proved by itself.
+/// A reader of expressions. The reader `inner` of nested ones, which may nest one less deep, is a
+/// parameter, so that each function is proved by itself.
 #[derive(Copy)]
 pub struct Grammar<F> {
     alloc: Global,
-    /// How deep trees may still nest.
+    /// The depth to which trees may still nest.
     depth: usize,
     inner: F,
 }
@@ -259,7 +260,8 @@ impl<
         }
     }
 
-    /// What a mark begins that stands at an offset. From the mark on, `left` tokens are left.
+    /// The expression that begins with `mark`, read after it. The mark stands at the offset `at`;
+    /// from it on, `left` tokens are left.
     #[tactic(auto, unfolding(crate::specs::Reading::marked))]
     fn marked<'t>(
         &self,
@@ -289,7 +291,7 @@ impl<
         }
     }
 
-    /// What `(` begins.
+    /// An expression in parentheses, read after its `(`.
     #[inline(always)]
     fn group<'t>(
         &self,
@@ -309,7 +311,7 @@ impl<
         )
     }
 
-    /// What `pre` or `current` begins.
+    /// A `pre e` or `current e`, read after its word.
     #[inline(always)]
     fn memory<'t>(
         &self,
@@ -325,7 +327,7 @@ impl<
         with_one(self.alloc, form, at, self.inner(MEMORY_LEVEL, tokens))
     }
 
-    /// What `[` begins where an operand is wanted.
+    /// An array, read after its `[`.
     #[inline(always)]
     fn array<'t>(
         &self,
@@ -345,7 +347,7 @@ impl<
         )
     }
 
-    /// What `#` or `nor` begins.
+    /// A `#(a, b)` or `nor(a, b)`, read after its `#` or `nor`.
     #[inline(always)]
     fn tuple<'t>(
         &self,
@@ -393,7 +395,7 @@ impl<
         ensures { Gives (λ x. (view_box x.0, x.1.now)) result
             (reading.until (reading.tree_at self.now.depth) mark tokens.now) }
     {
-        closed(self.inner(ANY_LEVEL, tokens), mark)
+        terminated(self.inner(ANY_LEVEL, tokens), mark)
     }
 
     #[inline(always)]
@@ -412,7 +414,7 @@ impl<
         chosen(self.alloc, c, a, at, self.inner(CHOICE_LEVEL, rest))
     }
 
-    /// What a name begins.
+    /// The expression that begins with `name`, read after it.
     #[tactic(auto, unfolding(crate::specs::Reading::named))]
     fn named<'t>(
         &self,
@@ -426,7 +428,7 @@ impl<
         match after(Mark::OpenStatic, tokens) {
             None => self.plain(name, tokens),
             Some(next) => match iterator_of(name) {
-                Some(i) => self.iterate(i, name.offset(), next),
+                Some(i) => self.iterate(i, name.offset, next),
                 None => self.static_call(name, next),
             },
         }
@@ -449,7 +451,7 @@ impl<
         }
     }
 
-    /// After `map<<`, `red<<` or `fill<<`.
+    /// An iterator, read after `map<<`, `red<<` or `fill<<`.
     #[tactic(auto, unfolding(crate::specs::Reading::iterate))]
     fn iterate<'t>(
         &self,
@@ -465,7 +467,7 @@ impl<
         iterate(self.alloc, i, f, n, at, self.items(rest))
     }
 
-    /// After `f<<`.
+    /// A call with static arguments, read after `f<<`.
     #[inline(never)]
     #[tactic(auto, unfolding(crate::specs::Reading::static_call))]
     fn static_call<'t>(
@@ -481,7 +483,7 @@ impl<
         call(self.alloc, name, found, self.operands(rest))
     }
 
-    /// After `f(`, operands of which there may be none.
+    /// The operands of a call, if there are any, and its `)`, read after `f(`.
     #[inline(always)]
     #[tactic(auto, unfolding(crate::specs::Reading::operands))]
     fn operands<'t>(
@@ -527,11 +529,11 @@ impl<
     {
         let mut found = Vec::new(self.alloc);
         let end = list_onto(self, &mut found, tokens);
-        whole(found, past(end, mark))
+        finish_list(found, then_expect(end, mark))
     }
 
-    /// The tree that a form makes of its left operand and what follows its mark, which stands at an
-    /// offset.
+    /// The tree of a form with the left operand `left`, read after the mark of the form. The mark
+    /// stands at the offset `at`.
     fn longer<'t>(
         &self,
         left: Box<Expr>,
@@ -552,7 +554,7 @@ impl<
         }
     }
 
-    /// The tree that an infix form makes of its left operand and what follows its mark.
+    /// The tree of an infix form with the left operand `left`, read after the mark of the form.
     #[tactic(auto, unfolding(crate::specs::Reading::infix_at))]
     fn infix<'t>(
         &self,
@@ -565,7 +567,7 @@ impl<
         ensures { Gives (λ x. (view_box x.0, x.1.now)) result
             (reading.infix_at (reading.tree_at self.now.depth) (view_box left) form tokens.now) }
     {
-        joined(
+        infix_tree(
             self.alloc,
             form,
             left,

@@ -1,8 +1,8 @@
 //! The tree of each form, made of the parts that were read.
 //!
-//! The functions take what came of the last part, and so see to its error. Most stay out of line,
-//! so that what they hold takes no stack while an expression nests. An offset `at` is that of the
-//! mark with which a form begins, or which follows its left operand.
+//! Many functions take the result `read` of reading the last part, and return its error. Most stay
+//! out of line, so that their variables take no stack while an expression nests. An offset `at` is
+//! that of the token with which a form begins, or of the mark after its left operand.
 
 ghost use Rattle.std.specs.Prelude.{◌≡◌, List, Some, map, ◌++◌, ◌∷◌, []};
 ghost use Rattle.lb_syntax.specs.Reading as reading;
@@ -13,13 +13,13 @@ ghost use Rattle.lb_syntax.specs.View.{view, view_box, view_static, view_statics
 ghost use Rattle.lb_syntax.specs.declared.token.Token.{Token as AToken};
 
 use crate::level::Form;
-use crate::reader::{ReadError, after, closed, expect};
+use crate::reader::{ReadError, after, expect, terminated};
 use crate::statics::{clock, size, static_expression};
 use crate::token::{Mark, PlacedToken};
 use crate::tree::{ArrayIterator, Expr, Name, Offset, Operator, Static, UnaryOperator};
 use std::alloc::Global;
 
-/// After `e[`, an index or a slice of it.
+/// After `e[`, an index or a slice of `e`, and the tokens after it.
 #[inline(never)]
 #[tactic(auto, unfolding(crate::specs::Reading::element_at))]
 pub fn element(
@@ -38,7 +38,7 @@ pub fn element(
             boxed_before(alloc, Expr::Index(e, i, at), rest)
         }
         Some(next) => {
-            let (j, rest) = closed(static_expression(alloc, next), Mark::CloseBracket)?;
+            let (j, rest) = terminated(static_expression(alloc, next), Mark::CloseBracket)?;
             boxed_before(alloc, Expr::Slice(e, i, j, at), rest)
         }
     }
@@ -97,7 +97,7 @@ pub fn variable<'t>(
     boxed_before(alloc, Expr::Variable(name.copy(alloc)?), rest)
 }
 
-/// After `e when`, the clock and the tokens after it.
+/// After `e when`, the tree of `e when c`, and the tokens after it.
 #[inline(never)]
 pub fn sampled(
     alloc: Global,
@@ -113,7 +113,7 @@ pub fn sampled(
     boxed_before(alloc, Expr::When(e, c.variable, c.sign, at), rest)
 }
 
-/// After `e ^`, the size and the tokens after it.
+/// After `e ^`, the tree of `e ^ n`, and the tokens after it.
 #[inline(never)]
 pub fn replicated(
     alloc: Global,
@@ -153,7 +153,7 @@ pub enum Listed {
     Nor,
 }
 
-/// The tree of a form and of what was read inside, and the tokens after it.
+/// The tree of a form with the tree that was read inside, and the tokens after it.
 #[inline(never)]
 pub fn with_one<'t>(
     alloc: Global,
@@ -174,7 +174,7 @@ pub fn with_one<'t>(
     boxed_before(alloc, tree, rest)
 }
 
-/// The tree of a form and of the list that was read inside, and the tokens after it.
+/// The tree of a form with the list that was read inside, and the tokens after it.
 #[inline(never)]
 pub fn with_list<'t>(
     alloc: Global,
@@ -193,10 +193,10 @@ pub fn with_list<'t>(
     }
 }
 
-/// The tree of an infix form, its left operand and the right one that was read, and the tokens
-/// after it.
+/// The tree of an infix form with the left operand `a` and the right one that was read, and the
+/// tokens after it.
 #[inline(never)]
-pub fn joined<'t>(
+pub fn infix_tree<'t>(
     alloc: Global,
     form: Form,
     a: Box<Expr>,
@@ -204,7 +204,7 @@ pub fn joined<'t>(
     read: Result<(Box<Expr>, &'t [PlacedToken]), ReadError>,
 ) -> Result<(Box<Expr>, &'t [PlacedToken]), ReadError>
     ensures { GoesOn {Y = tree.Expr × List AToken} (λ y. (view_box y.0, y.1.now)) read.entry
-        (λ x. Some (reading.joined form (view_box a) (view_box x.0), x.1.now)) result }
+        (λ x. Some (reading.infix_tree form (view_box a) (view_box x.0), x.1.now)) result }
 {
     let (b, rest) = read?;
     let e = match form {
@@ -216,7 +216,7 @@ pub fn joined<'t>(
     boxed_before(alloc, e, rest)
 }
 
-/// A tree, the one that was read after it, and the tokens after both.
+/// The tree `c`, the tree that was read after it, and the tokens after both.
 #[inline(never)]
 pub fn followed<'t>(
     c: Box<Expr>,
@@ -230,8 +230,7 @@ pub fn followed<'t>(
     Ok((c, a, rest))
 }
 
-/// The tree of a choice, its condition, its first branch and the last one that was read, and the
-/// tokens after it.
+/// The tree of `if c then a else b`, whose last branch `b` was read, and the tokens after it.
 #[inline(never)]
 pub fn chosen<'t>(
     alloc: Global,
@@ -267,7 +266,7 @@ pub fn call<'t>(
     boxed_before(alloc, Expr::Call(name, statics, operands), rest)
 }
 
-/// What an iterator makes of the arrays that were read, and the tokens after it.
+/// An iterator with the operands that were read, and the tokens after it.
 #[inline(always)]
 pub fn iterate<'t>(
     alloc: Global,
@@ -293,7 +292,7 @@ pub fn iterate<'t>(
     )
 }
 
-/// Puts the tree that was read behind those that were found, and gives the tokens after it.
+/// Pushes the tree that was read onto `found`, and returns the tokens after it.
 #[inline(never)]
 pub fn push_tree<'t>(
     found: &mut Vec<Expr>,

@@ -1,8 +1,8 @@
 //! The levels of the forms, in one table, and the marks of the table.
 //!
-//! A form of a higher level binds more tightly. A form with an operand on its left takes there what
-//! has at least its row's `left` level, and on its right what has at least its `right` level or is
-//! a prefix form: `1 + 2 * 3` is `1 + (2 * 3)`, and `1 - 2 - 3` is `(1 - 2) - 3`.
+//! A form of a higher level binds more tightly. A form with an operand on its left takes there a
+//! tree of at least the level `left` of its row, and on its right a tree of at least the level
+//! `right`, or a prefix form: `1 + 2 * 3` is `1 + (2 * 3)`, and `1 - 2 - 3` is `(1 - 2) - 3`.
 
 ghost use Rattle.std.specs.Prelude.{◌≡◌, ◌<◌};
 ghost use Rattle.lb_syntax.specs.Levels as levels;
@@ -11,7 +11,7 @@ ghost use Rattle.lb_syntax.specs.declared.level.Form.TheVariants.{Data};
 use crate::token::Mark;
 use crate::tree::{BinaryOperator, UnaryOperator};
 
-/// The level from which on every form may stand.
+/// The least level: where it is wanted, every form may stand.
 pub const ANY_LEVEL: u8 = 1;
 
 /// The level of `if c then a else b`.
@@ -20,13 +20,13 @@ pub const CHOICE_LEVEL: u8 = 2;
 /// The level of `pre e` and `current e`.
 pub const MEMORY_LEVEL: u8 = 12;
 
-/// The level of what is neither infix, prefix nor postfix.
+/// The level of a tree that is no infix, prefix or postfix form.
 pub const ATOM_LEVEL: u8 = 14;
 
-/// A form with an operand on its left, by the mark that follows the operand.
+/// An infix or postfix form, which is known by the mark after its left operand.
 #[derive(Clone, Copy)]
 pub enum Form {
-    /// `a + b` and the other operators that are tables of values
+    /// `a + b` and the other data operators with two operands
     Data(BinaryOperator),
     /// `a -> b`
     Arrow,
@@ -53,7 +53,7 @@ pub struct Row {
     pub right: u8,
 }
 
-/// A form that groups to the left, as `a - b - c` is `(a - b) - c`.
+/// The row of a form that groups to the left, as `a - b - c` is `(a - b) - c`.
 const fn to_left(level: u8) -> Row
     requires { level < 255 }
     ensures { result ≡ levels.to_left level }
@@ -65,7 +65,7 @@ const fn to_left(level: u8) -> Row
     }
 }
 
-/// A form that groups to the right.
+/// The row of a form that groups to the right.
 const fn to_right(level: u8) -> Row
     requires { level < 255 }
     ensures { result ≡ levels.to_right level }
@@ -77,7 +77,7 @@ const fn to_right(level: u8) -> Row
     }
 }
 
-/// A form that groups to no side.
+/// The row of a form that groups to no side.
 const fn to_none(level: u8) -> Row
     requires { level < 255 }
     ensures { result ≡ levels.to_none level }
@@ -141,7 +141,7 @@ pub fn arithmetic_of(mark: Mark) -> Option<BinaryOperator>
     }
 }
 
-/// The form that goes on with an operand where this mark follows it.
+/// The infix or postfix form that a mark stands for, where it follows an operand.
 pub fn form_of(mark: Mark) -> Option<Form>
     ensures { result ≡ levels.form_of mark }
 {

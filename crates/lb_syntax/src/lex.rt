@@ -1,9 +1,9 @@
 //! Cuts a text into tokens.
 //!
-//! At each place `cut` decides from two bytes what stands there, and finds its end; `lex` goes from
-//! one such piece to the next, so the time is proportional to the text. A word is looked up among
-//! the reserved words of its length alone. A new word or symbol has to be added here and in the
-//! tables of the definition.
+//! At each place `cut` decides from two bytes which piece stands there, and finds its end. `lex`
+//! goes from piece to piece, so the time is proportional to the text. A word is looked up among the
+//! reserved words of its length alone. A new word or symbol has to be added here and in the tables
+//! of the definition.
 
 ghost use Rattle.std.specs.Str.{IsUtf8};
 ghost use Rattle.std.specs.Prelude.{◌≡◌, ◌<◌, ◌≤◌, ◌≢◌, ◌+◌, ◌^◌, ◌==◌, [], ◌∷◌, length, map};
@@ -24,8 +24,8 @@ pub struct Tokens {
     pub starts: Vec<Offset>,
 }
 
-/// Why a text was not cut into tokens. Nothing else is judged here: a name or a literal of any
-/// length passes, and so do tokens in any order.
+/// The reason why a text was not cut into tokens. Nothing else is judged here: a name or a literal
+/// of any length passes, and so do tokens in any order.
 #[derive(Drop)]
 pub enum LexError {
     /// Memory ran out.
@@ -56,7 +56,7 @@ impl<T: Drop> From<AllocFailed<T>> for LexError {
     }
 }
 
-/// What a run of bytes consists of.
+/// A class of bytes.
 #[derive(Clone, Copy)]
 enum Class {
     /// All but the newline.
@@ -101,7 +101,7 @@ fn byte_at(text: &[u8], at: usize) -> u8
     if at < text.len() { text[at] } else { 0 }
 }
 
-/// The bytes from the front that are of the class.
+/// The longest run of bytes of the class at the front of a text.
 fn run(class: Class, text: &[u8]) -> &[u8]
     ensures value { result.now ≡ take_while (passes class) text.now }
     ensures within { length result.now ≤ length text.now }
@@ -123,7 +123,7 @@ fn begins(text: &[u8], first: u8, second: u8) -> bool
     text.len() >= 2 && text[0] == first && text[1] == second
 }
 
-/// How many bytes a text has through the first place at which `first` and `second` stand.
+/// The number of bytes of a text through the first place where `first` and `second` stand.
 fn through(first: u8, second: u8, text: &[u8]) -> Option<usize>
     ensures value { result ≡ spec.through (first ∷ second ∷ []) text.now }
     ensures within { IfSome result (λ n. n ≤ length text.now) }
@@ -136,7 +136,7 @@ fn through(first: u8, second: u8, text: &[u8]) -> Option<usize>
     None
 }
 
-/// The value of some digits, or one more than the greatest that a literal may have.
+/// The value of some digits, or one more than the greatest value of a literal where it is greater.
 #[tactic(auto, using(crate::proofs::Words::value_laws))]
 fn value_of(digits: &[u8]) -> u32
     ensures { result ≡ spec.value_of digits.now }
@@ -214,7 +214,7 @@ fn lookup(mut table: &[(&[u8], Mark)], text: &[u8]) -> Option<Mark>
     None
 }
 
-/// The token of a whole word that stands at an offset.
+/// The token of the whole word `text`, which stands at the offset `at`.
 fn word(alloc: Global, text: &[u8], at: Offset) -> Result<Token, AllocError>
     requires { IsUtf8 text.now }
     ensures { IfOk result (λ t. t ≡ spec.word text.now) }
@@ -269,7 +269,7 @@ fn single(b: u8) -> Option<Mark>
     }
 }
 
-/// What stands at the front of a text, with its length in bytes.
+/// A piece at the front of a text, with its length in bytes.
 #[derive(Drop)]
 enum Front {
     /// White space or a comment.
@@ -308,7 +308,7 @@ fn comment(first: u8, second: u8, text: &[u8]) -> Front
     }
 }
 
-/// What stands at the front of a text that itself stands at an offset.
+/// The piece at the front of `text`, which itself stands at the offset `at`.
 #[tactic(auto, unfolding(crate::specs::Tokens::piece))]
 fn cut(alloc: Global, text: &[u8], at: Offset) -> Result<Front, AllocError>
     requires { 0 < length text.now }

@@ -1,7 +1,7 @@
 //! The limits of names, literals and statements.
 //!
-//! A statement is limited in its tokens that nest or join, so that its tree is not too deep for the
-//! layers that walk over it.
+//! The number of tokens of a statement that nest or join is limited, so that its tree is not too
+//! deep for the layers that walk over it.
 
 ghost use Rattle.std.specs.Prelude.{◌≡◌, ◌<◌, ◌≤◌, ◌+◌, ◌&&◌, ◌↔◌, length, IsNone, IfSome, IsTrue};
 ghost use Rattle.lb_syntax.specs.Limits as spec;
@@ -33,7 +33,7 @@ fn fits(token: &Token) -> bool
     }
 }
 
-/// How many static brackets are open after a token.
+/// The number of static brackets that are open after a token.
 fn depth_after(depth: usize, token: &Token) -> usize
     requires { depth < usize.MAX }
     ensures { result ≡ spec.depth_after depth token.now }
@@ -79,7 +79,8 @@ fn is_counted(token: &Token) -> bool
     }
 }
 
-/// How many tokens of its statement are counted up to a token, or none where it breaks a limit.
+/// The number of counted tokens of the statement once `token` is read, or none where it breaks a
+/// limit.
 fn counted_after(depth: usize, counted: usize, token: &Token) -> Option<usize>
     requires { counted ≤ 500 }
     ensures value { result ≡ token_counts.counted_after depth counted token.now }

@@ -24,7 +24,7 @@ pub trait Items {
     // Whether the reader may be called.
     ghost can_read: { Self → Type 0 };
 
-    // How an item is read, and a separator.
+    // The plain readers of an item and of a separator.
     ghost item_at: { Self → Reader Plain };
 
     ghost separator_at: { Self → List AToken → Option (List AToken) };
@@ -37,7 +37,7 @@ pub trait Items {
         requires { can_read self.now }
         ensures { Gives (λ x. (view x.0, x.1.now)) result (item_at self.now tokens.now) };
 
-    /// Puts an item behind those that were found, and gives the tokens after it.
+    /// Reads an item, pushes it onto `found`, and returns the tokens after it.
     fn push_item<'t>(
         &self,
         found: &mut Vec<Self::Item>,
@@ -74,13 +74,13 @@ pub fn list<'t, I: Items>(
 {
     let mut found = Vec::new(alloc);
     let end = list_onto(items, &mut found, tokens);
-    whole(found, end)
+    finish_list(found, end)
 }
 
-/// A list and the tokens after it, where its end was read. It stays out of line, so that what
-/// becomes of the items otherwise takes no stack while they are read.
+/// The list `found` and the tokens after it, or the error that was met before its end. It stays out
+/// of line, so that dropping the items after an error takes no stack while they are read.
 #[inline(never)]
-pub fn whole<'t, T: Drop>(
+pub fn finish_list<'t, T: Drop>(
     found: Vec<T>,
     end: Result<&'t [PlacedToken], ReadError>,
 ) -> Result<(Vec<T>, &'t [PlacedToken]), ReadError>
@@ -91,7 +91,7 @@ pub fn whole<'t, T: Drop>(
     Ok((found, rest))
 }
 
-/// Puts one item or more, with a separator between two, behind those that were found, and gives the
+/// Reads one item or more, with a separator between two, pushes them onto `found`, and returns the
 /// tokens after them.
 ///
 /// Errors: those of the reader of an item, and `Memory`.
@@ -110,7 +110,8 @@ pub fn list_onto<'t, I: Items>(
     tail(items, found, rest)
 }
 
-/// Puts what follows the items of a list behind them, and gives the tokens after the list.
+/// Reads further items, each after a separator, pushes them onto `found`, and returns the tokens
+/// after them.
 #[inline(always)]
 fn tail<'t, I: Items>(
     items: &I,
@@ -145,5 +146,5 @@ pub fn any<'t, I: Items>(
 {
     let mut found = Vec::new(alloc);
     let end = tail(items, &mut found, tokens);
-    whole(found, end)
+    finish_list(found, end)
 }

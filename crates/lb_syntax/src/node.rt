@@ -10,7 +10,7 @@ ghost use Rattle.lb_syntax.specs.SourceView.{view_groups, view_node};
 use crate::declaration::{groups, inputs, locals};
 use crate::list::{Items, list};
 use crate::lookahead::skip;
-use crate::reader::{ReadError, after, closed, expect, name_at};
+use crate::reader::{ReadError, after, expect, name_at, terminated};
 use crate::statement::body;
 use crate::statics::separator;
 use crate::token::{Mark, PlacedToken};
@@ -23,7 +23,7 @@ fn parameter(alloc: Global, tokens: &[PlacedToken]) -> Result<(Name, &[PlacedTok
     ensures { Gives (λ x. (x.0, x.1.now)) result (reading.parameter_at tokens.now) }
 {
     let rest = expect(Mark::Const, tokens)?;
-    closed(closed(name_at(alloc, rest), Mark::Colon), Mark::Int)
+    terminated(terminated(name_at(alloc, rest), Mark::Colon), Mark::Int)
 }
 
 /// A reader of static parameters with `,` or `;` between.
@@ -64,7 +64,7 @@ fn parameters(
 {
     match after(Mark::OpenStatic, tokens) {
         None => Ok((Vec::new(alloc), tokens)),
-        Some(inner) => closed(
+        Some(inner) => terminated(
             list(alloc, &ParameterItems { alloc }, inner),
             Mark::CloseStatic,
         ),
@@ -86,7 +86,7 @@ fn heading_at(alloc: Global, tokens: &[PlacedToken]) -> Result<(Heading, &[Place
     ensures { Gives (λ x. (view_heading x.0, x.1.now)) result (reading.heading_at tokens.now) }
 {
     let (name, rest) = name_at(alloc, tokens)?;
-    let (parameters, rest) = closed(parameters(alloc, rest), Mark::Open)?;
+    let (parameters, rest) = terminated(parameters(alloc, rest), Mark::Open)?;
     with_inputs(alloc, name, parameters, rest)
 }
 
@@ -100,8 +100,8 @@ fn with_inputs(
     ensures { Gives (λ x. (view_heading x.0, x.1.now)) result
         (reading.with_inputs name parameters.items tokens.now) }
 {
-    let read = closed(inputs(alloc, tokens), Mark::Close);
-    let (inputs, rest) = closed(closed(read, Mark::Returns), Mark::Open)?;
+    let read = terminated(inputs(alloc, tokens), Mark::Close);
+    let (inputs, rest) = terminated(terminated(read, Mark::Returns), Mark::Open)?;
     with_outputs(alloc, name, parameters, inputs, rest)
 }
 
@@ -116,7 +116,7 @@ fn with_outputs(
     ensures { Gives (λ x. (view_heading x.0, x.1.now)) result
         (reading.with_outputs name parameters.items (view_groups inputs.items) tokens.now) }
 {
-    let (outputs, rest) = closed(groups(alloc, tokens), Mark::Close)?;
+    let (outputs, rest) = terminated(groups(alloc, tokens), Mark::Close)?;
     Ok((
         Heading {
             name,
@@ -128,8 +128,7 @@ fn with_outputs(
     ))
 }
 
-/// A node after the word `node`, or a function after the word `function`, which stands at an
-/// offset.
+/// A node or a function, read after its word `node` or `function`, which stands at `offset`.
 #[tactic(auto, unfolding(crate::specs::Programs::node_at))]
 pub fn node_at(
     alloc: Global,

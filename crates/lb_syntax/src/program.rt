@@ -11,7 +11,7 @@ ghost use Rattle.lb_syntax.specs.Tree as tree;
 use crate::list::{Items, list};
 use crate::lookahead::at_name;
 use crate::node::node_at;
-use crate::reader::{ReadError, after, closed, expect, name_at, start_of};
+use crate::reader::{ReadError, after, expect, name_at, start_of, terminated};
 use crate::statics::static_expression;
 use crate::token::{Mark, PlacedToken};
 use crate::tree::{Constant, Name, Node, Offset, Source};
@@ -50,7 +50,7 @@ fn with_value(
         (reading.with_value name tokens.now) }
 {
     let rest = expect(Mark::Equal, tokens)?;
-    let (value, rest) = closed(static_expression(alloc, rest), Mark::Semicolon)?;
+    let (value, rest) = terminated(static_expression(alloc, rest), Mark::Semicolon)?;
     Ok((Constant { name, value }, rest))
 }
 
@@ -105,8 +105,7 @@ fn constants_part(
     Ok((Part::Constants(constants), rest))
 }
 
-/// A node after the word `node`, or a function after the word `function`, which stands at an
-/// offset.
+/// A node or a function, read after its word `node` or `function`, which stands at the offset `at`.
 fn node_part(
     alloc: Global,
     is_function: bool,
@@ -137,7 +136,7 @@ fn part_at(alloc: Global, tokens: &[PlacedToken]) -> Result<(Part, &[PlacedToken
     }
 }
 
-/// A part more at the end of a program.
+/// Adds `part` at the end of the program `source`.
 fn add(source: &mut Source, part: Part) -> Result<(), AllocError>
     ensures { IfOk result (λ _.
         view_source source.new ≡ added (view_source source.old) (view_part part)) }
@@ -149,7 +148,7 @@ fn add(source: &mut Source, part: Part) -> Result<(), AllocError>
     Ok(())
 }
 
-/// The program that the tokens spell, all of them.
+/// The program that all of the tokens spell.
 pub fn program(alloc: Global, tokens: &[PlacedToken]) -> Result<Source, ReadError>
     ensures { Gives view_source result (reading.source_at tokens.now) }
 {

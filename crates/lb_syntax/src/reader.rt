@@ -8,12 +8,12 @@ use crate::token::{Mark, PlacedToken, Token};
 use crate::tree::{Name, Offset};
 use std::alloc::{AllocError, AllocFailed, Global};
 
-/// Why nothing was read.
+/// The reason why nothing was read.
 #[derive(Drop)]
 pub enum ReadError {
     /// Memory ran out.
     Memory,
-    /// How many tokens are left from the first that fits nothing.
+    /// The tokens fit no form; the number of tokens from the first that does not fit to the end.
     Syntax(usize),
 }
 
@@ -49,7 +49,7 @@ pub fn is_mark(mark: Mark, token: &Token) -> bool
     }
 }
 
-/// Where the first token begins; 0 where there is none.
+/// The offset of the first token, or 0 where there is none.
 pub fn start_of(tokens: &[PlacedToken]) -> Offset {
     match tokens {
         [first, ..] => first.start(),
@@ -81,9 +81,9 @@ pub fn expect(mark: Mark, tokens: &[PlacedToken]) -> Result<&[PlacedToken], Read
 
 /// A thing that was read, where this mark comes next, and the tokens after the mark.
 ///
-/// Errors: the one that was met when it was read, and `Syntax` where the mark does not come next.
+/// Errors: the one in `read`, and `Syntax` where the mark does not come next.
 #[inline(never)]
-pub fn closed<'t, T: Drop>(
+pub fn terminated<'t, T: Drop>(
     read: Result<(T, &'t [PlacedToken]), ReadError>,
     mark: Mark,
 ) -> Result<(T, &'t [PlacedToken]), ReadError>
@@ -97,9 +97,9 @@ pub fn closed<'t, T: Drop>(
 
 /// The tokens after this mark, where it comes next after what was read.
 ///
-/// Errors: as of `closed`.
+/// Errors: those of `terminated`.
 #[inline(never)]
-pub fn past<'t>(
+pub fn then_expect<'t>(
     read: Result<&'t [PlacedToken], ReadError>,
     mark: Mark,
 ) -> Result<&'t [PlacedToken], ReadError>

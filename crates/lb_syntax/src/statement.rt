@@ -11,7 +11,7 @@ use crate::declaration::names;
 use crate::expression::expression;
 use crate::list::{Items, any};
 use crate::lookahead::skip;
-use crate::reader::{ReadError, after, closed, expect, start_of};
+use crate::reader::{ReadError, after, expect, start_of, terminated};
 use crate::token::{Mark, PlacedToken};
 use crate::tree::{Name, Offset, Statement};
 use std::alloc::Global;
@@ -23,11 +23,11 @@ fn left(alloc: Global, tokens: &[PlacedToken]) -> Result<(Vec<Name>, &[PlacedTok
 {
     match after(Mark::Open, tokens) {
         None => names(alloc, tokens),
-        Some(inner) => closed(names(alloc, inner), Mark::Close),
+        Some(inner) => terminated(names(alloc, inner), Mark::Close),
     }
 }
 
-/// An assertion, after its first word, which stands at an offset.
+/// An assertion, read after its first word, which stands at the offset `at`.
 fn assertion(
     alloc: Global,
     at: Offset,
@@ -36,7 +36,7 @@ fn assertion(
     ensures { Gives (λ x. (view_statement x.0, x.1.now)) result
         (reading.statement_by (Some tokens.now) tokens.now) }
 {
-    let (e, rest) = closed(expression(alloc, tokens), Mark::Semicolon)?;
+    let (e, rest) = terminated(expression(alloc, tokens), Mark::Semicolon)?;
     Ok((Statement::Assertion(e, at), rest))
 }
 
@@ -46,8 +46,8 @@ fn equation(alloc: Global, tokens: &[PlacedToken]) -> Result<(Statement, &[Place
         (reading.statement_by None tokens.now) }
 {
     let at = start_of(tokens);
-    let (names, rest) = closed(left(alloc, tokens), Mark::Equal)?;
-    let (e, rest) = closed(expression(alloc, rest), Mark::Semicolon)?;
+    let (names, rest) = terminated(left(alloc, tokens), Mark::Equal)?;
+    let (e, rest) = terminated(expression(alloc, rest), Mark::Semicolon)?;
     Ok((Statement::Equation(names, e, at), rest))
 }
 
@@ -100,7 +100,7 @@ impl Items for StatementItems {
     }
 }
 
-/// The tokens after the end of a node: nothing, `;` or `.`.
+/// The tokens after the end of a node, which is `;`, `.` or nothing.
 fn end(tokens: &[PlacedToken]) -> &[PlacedToken]
     ensures { result.now ≡ reading.end_at tokens.now }
 {
@@ -110,7 +110,7 @@ fn end(tokens: &[PlacedToken]) -> &[PlacedToken]
     }
 }
 
-/// `let`, any number of statements, and `tel` with the end of the node.
+/// The statements between `let` and `tel`, and the tokens after the end of the node.
 #[tactic(auto, unfolding(crate::specs::Programs::body_at))]
 pub fn body(
     alloc: Global,
@@ -121,6 +121,6 @@ pub fn body(
 {
     let rest = expect(Mark::Let, tokens)?;
     let items = StatementItems { alloc };
-    let (body, rest) = closed(any(alloc, &items, rest), Mark::Tel)?;
+    let (body, rest) = terminated(any(alloc, &items, rest), Mark::Tel)?;
     Ok((body, end(rest)))
 }

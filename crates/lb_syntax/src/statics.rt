@@ -14,7 +14,7 @@ ghost use Rattle.lb_syntax.specs.declared.token.Token.TheVariants as token;
 use crate::climb::{Grower, Growth, climb};
 use crate::level::{ANY_LEVEL, ATOM_LEVEL, Form, Row, arithmetic_of, row_of, unary_level};
 use crate::list::{Items, list};
-use crate::reader::{ReadError, after, closed, name_at};
+use crate::reader::{ReadError, after, name_at, terminated};
 use crate::token::{Mark, PlacedToken, Token};
 use crate::tree::{BinaryOperator, Name, Offset, Sampling, Static, UnaryOperator};
 use std::alloc::{AllocError, Global};
@@ -38,7 +38,7 @@ fn level(s: &Static) -> u8
     }
 }
 
-/// Whether an operator takes a tree on its left, where the least level is wanted.
+/// Whether an operator takes `s` as its left operand, where at least level `least` is wanted.
 #[tactic(auto, unfolding(crate::specs::Reading::static_takes))]
 fn takes(least: u8, row: Row, s: &Static) -> bool
     ensures { result ≡ reading.static_takes least row (view_static s.now) }
@@ -58,7 +58,7 @@ fn named<'t>(
     Ok((Static::Named(x.copy(alloc)?), rest))
 }
 
-/// A static expression that was read, before the `)` of its parentheses, which begin at an offset.
+/// The static expression `(s)`, where `s` was read and `)` comes next; its `(` stands at `at`.
 fn grouped<'t>(
     alloc: Global,
     at: Offset,
@@ -67,16 +67,16 @@ fn grouped<'t>(
     ensures { GoesOn (λ y. (view_static y.0, y.1.now)) read.entry
         (λ x. reading.grouped (view_static x.0) x.1.now) result }
 {
-    let (s, rest) = closed(read, Mark::Close)?;
+    let (s, rest) = terminated(read, Mark::Close)?;
     Ok((Static::Grouped(Box::new(alloc, s)?, at), rest))
 }
 
-/// The reader of what stands inside a static expression, to one depth less, is handed in, so that
-/// each function is proved by itself.
+/// A reader of static expressions. The reader `inner` of nested ones, which may nest one less deep,
+/// is a parameter, so that each function is proved by itself.
 #[derive(Copy)]
 pub struct StaticGrammar<F> {
     alloc: Global,
-    /// How deep trees may still nest.
+    /// The depth to which trees may still nest.
     depth: usize,
     inner: F,
 }
@@ -134,7 +134,7 @@ impl<
         }
     }
 
-    /// What `(` begins, which stands at an offset.
+    /// A static expression in parentheses, read after its `(`, which stands at the offset `at`.
     fn group<'t>(
         &self,
         at: Offset,
@@ -147,7 +147,7 @@ impl<
         grouped(self.alloc, at, self.inner(ANY_LEVEL, tokens))
     }
 
-    /// What `-` begins, which stands at an offset.
+    /// The static expression `- s`, read after its `-`, which stands at the offset `at`.
     #[tactic(auto, unfolding(crate::specs::Reading::static_first))]
     fn negation<'t>(
         &self,
@@ -280,7 +280,7 @@ pub fn separator(tokens: &[PlacedToken]) -> Option<&[PlacedToken]>
 
 /// One static expression or more with `,` or `;` between, as `1, n; 3`, and the tokens after them.
 ///
-/// Errors: as of `static_expression`.
+/// Errors: those of `static_expression`.
 #[tactic(auto, unfolding(crate::specs::Reading::statics_at))]
 pub fn statics(
     alloc: Global,
@@ -295,7 +295,7 @@ pub fn statics(
 /// A size after `^`, a literal, a name or a static expression in parentheses, as `3`, `n` and
 /// `(n + 1)`, and the tokens after it.
 ///
-/// Errors: as of `static_expression`.
+/// Errors: those of `static_expression`.
 #[tactic(auto, unfolding(crate::specs::Reading::size_at))]
 pub fn size(alloc: Global, tokens: &[PlacedToken]) -> Result<(Static, &[PlacedToken]), ReadError>
     ensures { Gives (λ x. (view_static x.0, x.1.now)) result (reading.size_at tokens.now) }
@@ -318,7 +318,7 @@ fn clock_name(alloc: Global, tokens: &[PlacedToken]) -> Result<(Name, &[PlacedTo
 {
     match after(Mark::Open, tokens) {
         None => name_at(alloc, tokens),
-        Some(inner) => closed(name_at(alloc, inner), Mark::Close),
+        Some(inner) => terminated(name_at(alloc, inner), Mark::Close),
     }
 }
 

@@ -125,7 +125,7 @@ pub enum Token {
     Mark(Mark),
 }
 
-/// A token, and where it begins. In contracts it is the token alone.
+/// A token with the offset at which it begins. In contracts it is the token alone.
 #[derive(Drop)]
 pub struct PlacedToken {
     token: Token,
@@ -141,7 +141,7 @@ impl Model for PlacedToken {
 }
 
 impl PlacedToken {
-    /// The token whose first byte stands at the offset.
+    /// The token `token`, whose first byte stands at the offset `start`.
     pub fn new(token: Token, start: Offset) -> PlacedToken
         ensures { result ≡ token }
     {

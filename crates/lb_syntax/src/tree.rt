@@ -1,10 +1,13 @@
-//! Trees of a source text, by shape, names and literals alone, and where each stands.
+//! Trees of a source text: their shape, names and literals alone, and their offsets.
 //!
 //! A tree says what stands in the text and judges nothing: names may be unknown and types may not
-//! fit. Each variant's line shows how it is spelled. Contracts see no offset.
+//! fit. Each variant's line shows how it is spelled. Definitions of the language see no offset, and
+//! a contract sees no offset of a name.
 
-ghost use Rattle.std.specs.Prelude.{◌≡◌, IfOk};
+ghost use Rattle.std.specs.Prelude.{◌≡◌, IfOk, IfSome};
 ghost use Rattle.std.specs.Str.{IsUtf8};
+ghost use Rattle.lb_syntax.specs.Offsets.{expr_offset, expr_sign, static_offset, static_sign};
+ghost use Rattle.lb_syntax.specs.Offsets.{statement_offset};
 
 use std::alloc::{AllocError, Global};
 use std::marker::Model;
@@ -12,11 +15,12 @@ use std::marker::Model;
 /// The place of a byte in the source text: how many bytes stand before it.
 pub type Offset = u32;
 
-/// A name of the source, by its bytes, which are text, and where it stands.
+/// A name of the source: its bytes, which are text, and its offset.
 #[derive(Drop)]
 pub struct Name {
     text: String,
-    offset: Offset,
+    /// The offset of its first byte.
+    pub offset: Offset,
 }
 
 impl Model for Name {
@@ -28,7 +32,7 @@ impl Model for Name {
 }
 
 impl Name {
-    /// The name with these bytes, of which the first stands at the offset.
+    /// The name with the bytes `bytes`, the first of which stands at `offset`.
     pub fn new(alloc: Global, bytes: &[u8], offset: Offset) -> Result<Name, AllocError>
         requires { IsUtf8 bytes.now }
         ensures { IfOk result (λ n. n ≡ bytes.now) }
@@ -37,7 +41,7 @@ impl Name {
         Ok(Name { text, offset })
     }
 
-    /// The same name again, from the same place.
+    /// A copy of the name, with the same offset.
     pub fn copy(&self, alloc: Global) -> Result<Name, AllocError>
         ensures { IfOk result (λ n. n ≡ self.now) }
     {
@@ -61,11 +65,6 @@ impl Name {
     {
         self.text.as_bytes()
     }
-
-    /// The offset of its first byte.
-    pub fn offset(&self) -> Offset {
-        self.offset
-    }
 }
 
 /// An operator with one operand.
@@ -77,7 +76,7 @@ pub enum UnaryOperator {
     Negate,
 }
 
-/// An operator with two operands that is a table of values.
+/// A data operator with two operands.
 #[derive(Clone, Copy, PartialEq, Eq)]
 pub enum BinaryOperator {
     /// `a or b`
@@ -112,7 +111,7 @@ pub enum BinaryOperator {
     Modulo,
 }
 
-/// What a scalar is.
+/// The kind of a scalar.
 #[derive(Clone, Copy, PartialEq, Eq, Debug)]
 pub enum Kind {
     /// `int`
@@ -152,24 +151,29 @@ pub enum Static {
 
 impl Static {
     /// The offset of its first token.
-    pub fn offset(&self) -> Offset {
+    pub fn offset(&self) -> Offset
+        ensures { IfSome (static_offset self.now) (λ at. result ≡ at) }
+    {
         match self {
             Static::Whole(_, at) | Static::Negated(_, at) | Static::Grouped(_, at) => *at,
-            Static::Named(name) => name.offset(),
+            Static::Named(name) => name.offset,
             Static::Combined(_, left, _, _) => left.offset(),
         }
     }
 
     /// The offset of the sign between its two operands, if it has two.
-    pub fn sign_offset(&self) -> Option<Offset> {
+    pub fn sign_offset(&self) -> Option<Offset>
+        ensures { result ≡ static_sign self.now }
+    {
         match self {
             Static::Combined(_, _, _, at) => Some(*at),
-            _ => None,
+            Static::Whole(_, _) | Static::Named(_) => None,
+            Static::Negated(_, _) | Static::Grouped(_, _) => None,
         }
     }
 }
 
-/// What an iterator applies.
+/// The node or operator that an iterator applies.
 #[derive(Drop)]
 pub enum Operator {
     /// `f`, `f<<s, t>>`
@@ -194,7 +198,7 @@ pub enum Expr {
     Group(Box<Expr>, Offset),
     /// `not e`, `- e`
     Unary(UnaryOperator, Box<Expr>, Offset),
-    /// `a + b` and the other infix forms of data
+    /// `a + b` and the other data operators with two operands
     Binary(BinaryOperator, Box<Expr>, Box<Expr>, Offset),
     /// `if c then a else b`
     If(Box<Expr>, Box<Expr>, Box<Expr>, Offset),
@@ -228,16 +232,18 @@ pub enum Expr {
     Iterate(ArrayIterator, Box<Operator>, Static, Vec<Expr>, Offset),
 }
 
-// In a larger one the compiler that is written in Rattle takes eight times the stack for each level
-// of nesting.
+// If `Expr` were larger, the compiler that is written in Rattle would take eight times the stack
+// for each level of nesting.
 const _: () = prove!(size_of::<Expr>() <= 128);
 
 impl Expr {
     /// The offset of its first token.
-    pub fn offset(&self) -> Offset {
+    pub fn offset(&self) -> Offset
+        ensures { IfSome (expr_offset self.now) (λ at. result ≡ at) }
+    {
         match self {
             Expr::Literal(_, at) | Expr::Truth(_, at) => *at,
-            Expr::Variable(name) | Expr::Call(name, _, _) => name.offset(),
+            Expr::Variable(name) | Expr::Call(name, _, _) => name.offset,
             Expr::Group(_, at) | Expr::Unary(_, _, at) | Expr::If(_, _, _, at) => *at,
             Expr::Pre(_, at) | Expr::Current(_, at) => *at,
             Expr::Binary(_, left, _, _) | Expr::Arrow(left, _, _) => left.offset(),
@@ -251,12 +257,18 @@ impl Expr {
 
     /// The offset of the sign that follows its left operand, if it has one: of `a + b` that of `+`,
     /// and of `e[i]` that of `[`.
-    pub fn sign_offset(&self) -> Option<Offset> {
+    pub fn sign_offset(&self) -> Option<Offset>
+        ensures { result ≡ expr_sign self.now }
+    {
         match self {
             Expr::Binary(_, _, _, at) | Expr::Arrow(_, _, at) | Expr::Fby(_, _, at) => Some(*at),
             Expr::When(_, _, _, at) | Expr::Replicate(_, _, at) => Some(*at),
             Expr::Index(_, _, at) | Expr::Slice(_, _, _, at) | Expr::Join(_, _, at) => Some(*at),
-            _ => None,
+            Expr::Literal(_, _) | Expr::Truth(_, _) | Expr::Variable(_) => None,
+            Expr::Group(_, _) | Expr::Unary(_, _, _) | Expr::If(_, _, _, _) => None,
+            Expr::Pre(_, _) | Expr::Current(_, _) | Expr::Array(_, _) => None,
+            Expr::AtMostOne(_, _) | Expr::Nor(_, _) => None,
+            Expr::Call(_, _, _) | Expr::Iterate(_, _, _, _, _) => None,
         }
     }
 }
@@ -280,16 +292,6 @@ pub struct Declarations {
     pub clock: Option<Sampling>,
 }
 
-impl Declarations {
-    /// The offset of its first token, the first of its names; 0 where it has none.
-    pub fn offset(&self) -> Offset {
-        match self.names.first() {
-            Some(name) => name.offset(),
-            None => 0,
-        }
-    }
-}
-
 /// A statement of a node. Each variant ends with the offset of its first token.
 #[derive(Drop)]
 pub enum Statement {
@@ -301,7 +303,9 @@ pub enum Statement {
 
 impl Statement {
     /// The offset of its first token.
-    pub fn offset(&self) -> Offset {
+    pub fn offset(&self) -> Offset
+        ensures { result ≡ statement_offset self.now }
+    {
         match self {
             Statement::Equation(_, _, at) | Statement::Assertion(_, at) => *at,
         }
@@ -329,13 +333,6 @@ pub struct Node {
 pub struct Constant {
     pub name: Name,
     pub value: Static,
-}
-
-impl Constant {
-    /// The offset of its first token, its name.
-    pub fn offset(&self) -> Offset {
-        self.name.offset()
-    }
 }
 
 /// The constants, and the nodes and functions, each in text order.

@@ -32,14 +32,14 @@ fn push_token(text: &[u8], at: Offset, said: &mut String) -> Result<(), AllocErr
 
 /// The bytes of a name, if others stand at its offset.
 fn push_other(text: &[u8], name: &Name, said: &mut String) -> Result<(), AllocError> {
-    if text_from(text, name.offset()).starts_with(name.as_bytes()) {
+    if text_from(text, name.offset).starts_with(name.as_bytes()) {
         return Ok(());
     }
     write!(said, " and not {}", name.as_str())
 }
 
 fn push_name(text: &[u8], name: &Name, said: &mut String) -> Result<(), AllocError> {
-    push_token(text, name.offset(), said)?;
+    push_token(text, name.offset, said)?;
     push_other(text, name, said)
 }
 
@@ -162,7 +162,9 @@ fn push_groups(
 ) -> Result<(), AllocError> {
     for group in groups {
         write!(said, "\n{word}")?;
-        push_token(text, group.offset(), said)?;
+        if let Some(name) = group.names.first() {
+            push_token(text, name.offset, said)?;
+        }
         said.push(':')?;
         push_names(text, &group.names, said)?;
         push_statics(text, &group.sizes, said)?;
@@ -203,7 +205,7 @@ fn push_node(text: &[u8], node: &Node, said: &mut String) -> Result<(), AllocErr
 
 fn push_constant(text: &[u8], constant: &Constant, said: &mut String) -> Result<(), AllocError> {
     said.push('\n')?;
-    push_token(text, constant.offset(), said)?;
+    push_token(text, constant.name.offset, said)?;
     push_other(text, &constant.name, said)?;
     said.push_str(" =")?;
     push_static(text, &constant.value, said)

@@ -134,7 +134,7 @@ after-cell (b ∷ rest) = by (is_comma b) refl (ends_line b) refl (after-cell re
     by false comma true is more = rw (is, comma) refl
     by false comma false is more = rw (is, comma) more
 
--- the records of a text stay the same where one more end of a line is skipped
+-- if `drop i text` has the records of `text` and byte `i` ends a line, `drop (i + 1) text` has them
 pub skipped-more : (text : List ℕ) (i b : ℕ) → i < length text → b ≡ get_or text i 0
     → ends_line b ≡ true
     → plain_records text ≡ plain_records (drop i text)

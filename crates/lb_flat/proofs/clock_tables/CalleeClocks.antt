@@ -19,11 +19,13 @@ use Rattle.lb_check.specs.ClockRules.{are_clocks, are_given_variables, is_call_c
 use Rattle.lb_check.specs.ClockRules.{is_base_clocked_node}
 use Rattle.lb_check.specs.Clocks.{given_inputs, result_clocks}
 use Rattle.lb_check.specs.Needs.{is_clock_parameter, lefts_at, given_parameters}
-use Rattle.lb_check.proofs.CallNumbers.{call_of, own_right, lefts_of, right_in}
-use Rattle.lb_check.proofs.DeterminedClocks.{called_passes}
-use Rattle.lb_check.proofs.GivenParameters.{IsGiven, outer_before, over_before, over_parameters}
-use Rattle.lb_check.proofs.GivenParameters.{on_base, input_given, result_given, parameter_given}
-use Rattle.lb_check.proofs.GivenParameters.{over_served, called_clock}
+use Rattle.lb_check.proofs.definitions.CallNumbers.{call_of, own_right, lefts_of, right_in}
+use Rattle.lb_check.proofs.clocking.DeterminedClocks.{called_passes}
+use Rattle.lb_check.proofs.clocking.GivenParameters.{IsGiven, outer_before, over_before}
+use Rattle.lb_check.proofs.clocking.GivenParameters.{over_parameters}
+use Rattle.lb_check.proofs.clocking.GivenParameters.{on_base, input_given, result_given}
+use Rattle.lb_check.proofs.clocking.GivenParameters.{parameter_given}
+use Rattle.lb_check.proofs.clocking.GivenParameters.{over_served, called_clock}
 use Rattle.lb_flat.proofs.numbering.NumberedPlaces.{flat_is}
 use Rattle.lb_flat.proofs.widths.SoundInstances.{RunAt, RunsAt}
 

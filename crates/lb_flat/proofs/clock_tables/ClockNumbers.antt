@@ -7,7 +7,7 @@ use Rattle.lb_flat.proofs.Words.{runs_on, number_of, at_path, IsOver, IsVariable
 use Rattle.lb_flat.proofs.Words.{flat_clock, where_signed, numbered_clock, layout, clock_reads}
 use Rattle.lb_check.specs.Elements.{numbers_of}
 use Rattle.lb_check.specs.Needs.{Always, Where, clock_elements}
-use Rattle.lb_check.proofs.ServedNumbers.{IsNumbered, whole_numbered, runs_numbered}
+use Rattle.lb_check.proofs.programs.ServedNumbers.{IsNumbered, whole_numbered, runs_numbered}
 use Rattle.lb_flat.proofs.numbering.NumberedPlaces.{flat_is}
 
 -- the numbers are those of the elements, one by one

@@ -13,7 +13,7 @@ use Rattle.lb_flat.proofs.Words.{numbered_clock, layout, clock_from, clock_withi
 use Rattle.lb_check.specs.Clocks.{Clock, Base, On, depth, base_clock}
 use Rattle.lb_check.specs.Needs.{Always as Always_whole, Where as Where_whole}
 use Rattle.lb_check.specs.Elements.{numbers_of}
-use Rattle.lb_check.proofs.DeclaredClocks.{own_deep, base_own}
+use Rattle.lb_check.proofs.clocking.DeclaredClocks.{own_deep, base_own}
 use Rattle.lb_flat.proofs.clock_tables.CalleeClocks.{instance_runs}
 use Rattle.lb_flat.proofs.numbering.NumberedPlaces.{flat_is}
 use Rattle.lb_flat.specs.declared.equation.Clock as table

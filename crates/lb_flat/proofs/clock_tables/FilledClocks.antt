@@ -30,9 +30,9 @@ use Rattle.lb_check.specs.Needs.{call_at, given_to, given_at, serving, serves, s
 use Rattle.lb_check.specs.PlacedClocks.{call_in}
 use Rattle.lb_check.specs.declared.own_clock.Clock.{Clock}
 use Rattle.lb_check.specs.declared.own_clock.Clock.TheVariants.{Base, On}
-use Rattle.lb_check.proofs.ClockTests.{declared_is}
-use Rattle.lb_check.proofs.OwnTermClocks.{term_clocks_own}
-use Rattle.lb_check.proofs.ServedNumbers.{has_first}
+use Rattle.lb_check.proofs.clocking.ClockTests.{declared_is}
+use Rattle.lb_check.proofs.clocking.OwnTermClocks.{term_clocks_own}
+use Rattle.lb_check.proofs.programs.ServedNumbers.{has_first}
 use Rattle.lb_flat.specs.ClockTables.{sign_place, clock_place, IsClockRow, IsClockTable}
 use Rattle.lb_flat.proofs.clock_tables.AddedClocks.{AreCounted, runs_called, runs_first}
 use Rattle.lb_flat.proofs.clock_tables.AddedClocks.{runs_observer}

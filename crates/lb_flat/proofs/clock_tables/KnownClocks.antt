@@ -20,10 +20,10 @@ use Rattle.std.proofs.Common.{List, [], ◌∷◌, ◌++◌, flat_map, refl, sym
 use Rattle.lb_check.specs.ClockRules.{is_on_clock}
 use Rattle.lb_check.specs.Clocks.{given_inputs, clock_of}
 use Rattle.lb_check.specs.Elements.{numbers_of}
-use Rattle.lb_check.proofs.OccurrenceClocks.{IsTypedOver, occurrences_fit}
-use Rattle.lb_check.proofs.OperandOccurrences.{OperandHas, operands_have}
-use Rattle.lb_check.proofs.OperandTypes.{one_output, placed}
-use Rattle.lb_check.proofs.SameInstances.{callee_path}
+use Rattle.lb_check.proofs.clocking.OccurrenceClocks.{IsTypedOver, occurrences_fit}
+use Rattle.lb_check.proofs.programs.OperandOccurrences.{OperandHas, operands_have}
+use Rattle.lb_check.proofs.typing.OperandTypes.{one_output, placed}
+use Rattle.lb_check.proofs.programs.SameInstances.{callee_path}
 use Rattle.lb_flat.proofs.clock_tables.CalleeClocks.{CalleeClocks, ClocksAt, callee_clocks}
 use Rattle.lb_flat.proofs.clock_tables.ClockNumbers.{waits_read, reads_wait}
 use Rattle.lb_flat.proofs.ordering.LinkTerms.{IsAwaited, IsRunning}

@@ -27,8 +27,8 @@ use Rattle.std.specs.Prelude.{◌&&◌}
 use Rattle.lb_check.specs.Clocks.{Clock, Base, On, as_variable, declared_clock, given_inputs}
 use Rattle.lb_check.specs.Clocks.{given_outputs, ungrouped, outer, base_clock}
 use Rattle.lb_check.specs.Solutions.{IsJoinedAt}
-use Rattle.lb_check.proofs.Every.{Every-range}
-use Rattle.lb_check.proofs.ServedNumbers.{output_value, left_variable, site_over}
+use Rattle.lb_check.proofs.lists.Every.{Every-range}
+use Rattle.lb_check.proofs.programs.ServedNumbers.{output_value, left_variable, site_over}
 use Rattle.lb_flat.proofs.solutions.Adding.{columns}
 use Rattle.lb_flat.proofs.clock_tables.CalleeClocks.{instance_runs}
 use Rattle.lb_flat.proofs.solutions.Gathering.{halves}

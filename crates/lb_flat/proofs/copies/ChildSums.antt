@@ -5,8 +5,8 @@ use Rattle.lb_flat.proofs.Words.{flat_map, refl, sym, ap, ap₂, ◌∙◌, arit
 use Rattle.lb_flat.proofs.Words.{Instance, Root, Observer, instance_at, children, instances, level}
 use Rattle.lb_flat.proofs.Words.{Every-map, Every-both, Every-first, Every-second, path_is}
 use Rattle.lb_static.specs.Instances.{instances_from}
-use Rattle.lb_check.proofs.Every.{Every-piece, flat_same}
-use Rattle.lb_check.proofs.SameInstances.{deeper}
+use Rattle.lb_check.proofs.lists.Every.{Every-piece, flat_same}
+use Rattle.lb_check.proofs.programs.SameInstances.{deeper}
 use Rattle.lb_flat.proofs.lists.Totals.{total, total-append, total-plus, total-same, total-pieces}
 
 module _ (P : Program) where

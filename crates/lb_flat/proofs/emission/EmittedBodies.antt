@@ -10,7 +10,7 @@ use Rattle.lb_flat.proofs.Words.{copied, emit, emit_body, joins, targets, Contex
 use Rattle.lb_flat.proofs.Words.{PlacedEmitted, emit_statement, emit_statements, first_place}
 use Rattle.lb_flat.proofs.Words.{left_targets, FlatClock, Layout}
 use Rattle.lb_static.specs.ResolvedTerms.{Counts}
-use Rattle.lb_check.proofs.OccurrenceSites.{body_occurrences}
+use Rattle.lb_check.proofs.programs.OccurrenceSites.{body_occurrences}
 use Rattle.lb_flat.proofs.emission.EmittedTerms.{AreTermsAt, IsTermAt, term_is}
 use Rattle.lb_flat.proofs.frames.TermContexts.{IsContext}
 use Rattle.lb_flat.proofs.frames.TermPlaces.{along_first, along_second, past, past_both, past_none}

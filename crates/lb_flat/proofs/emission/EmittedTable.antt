@@ -13,8 +13,8 @@ use Rattle.lb_flat.proofs.Words.{occurrences_typed, State, emit_body, Context, e
 use Rattle.lb_flat.proofs.Words.{first_place, flat_clock, layout}
 use Rattle.lb_static.specs.ResolvedTerms.{Counts}
 use Rattle.lb_check.specs.Elements.{numbers_of}
-use Rattle.lb_check.proofs.OccurrenceParts.{node_occurrence_parts}
-use Rattle.lb_check.proofs.OccurrenceSites.{site_is}
+use Rattle.lb_check.proofs.programs.OccurrenceParts.{node_occurrence_parts}
+use Rattle.lb_check.proofs.programs.OccurrenceSites.{site_is}
 use Rattle.lb_flat.proofs.emission.EmittedBodies.{body_is, body_place_is}
 use Rattle.lb_flat.proofs.emission.EmittedTerms.{IsSmall, IsTermAt}
 use Rattle.lb_flat.proofs.numbering.NumberedPlaces.{places_width}

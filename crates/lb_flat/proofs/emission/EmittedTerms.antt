@@ -25,7 +25,7 @@ use mathlib.Core.Former.{Count}
 use Rattle.lb_static.specs.ResolvedTerms.{Counts, row_of, is_unhidden, are_unhidden}
 use Rattle.lb_static.specs.declared.resolved.Term.{Literal, Truth, Variable}
 use Rattle.lb_check.specs.Clocks.{Clock, clock_of, clock_or, declared_clock}
-use Rattle.lb_check.proofs.OccurrenceParts.{never_as_many, one_less}
+use Rattle.lb_check.proofs.programs.OccurrenceParts.{never_as_many, one_less}
 use Rattle.lb_flat.proofs.widths.CallWidths.{called_wide, iterated_wide}
 use Rattle.lb_flat.proofs.emission.EmittedSymbols.{symbol_fed, symbol_is}
 use Rattle.lb_flat.proofs.numbering.ReceivedInputs.{call_given, call_received, iterator_given}

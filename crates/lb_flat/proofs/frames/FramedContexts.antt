@@ -9,8 +9,8 @@ use Rattle.lb_flat.proofs.Words.{expanded, whole, layout, row_context, called_ro
 use Rattle.lb_flat.proofs.Words.{IsLayoutOf, all_clocks, all_runs, sources_of, Children, Clocks}
 use Rattle.std.specs.Prelude.{option_map}
 use Rattle.lb_check.specs.PlacedTypes.{found_in, parts_of}
-use Rattle.lb_check.proofs.ExactParts.{parts_lent}
-use Rattle.lb_check.proofs.LentTypes.{none_read, types_read}
+use Rattle.lb_check.proofs.typing.ExactParts.{parts_lent}
+use Rattle.lb_check.proofs.typing.LentTypes.{none_read, types_read}
 use Rattle.lb_flat.specs.RowFrames.{found_types, frame_contexts, held_value, read_clocks, row_read}
 use Rattle.lb_flat.specs.declared.layout.Layout.{Layout}
 use Rattle.lb_flat.proofs.emission.EmittedTable.{IsRowContext}

@@ -21,12 +21,12 @@ use Rattle.lb_flat.proofs.Words.{clock_of, Children, Clocks}
 use Rattle.std.specs.Prelude.{ℤ, nat_le, slice_get, if◌then◌else◌}
 use mathlib.Core.Path.{fun_ext}
 use Rattle.lb_static.specs.ReachedNodes.{IsReached, id_at, source_names, callee_in}
-use Rattle.lb_static.specs.declared.reach.NodeId.{NodeId}
+use Rattle.lb_static.specs.declared.reachable.NodeId.{NodeId}
 use Rattle.lb_static.specs.declared.resolved.CallSite.{CallSite}
 use Rattle.lb_check.specs.declared.own_clock.Clock.{Clock}
 use Rattle.lb_check.specs.declared.own_clock.Clock.TheVariants.{Base, On}
-use Rattle.lb_check.proofs.ClockTests.{declared_is}
-use Rattle.lb_check.proofs.NodeClocks.{resolved_at}
+use Rattle.lb_check.proofs.clocking.ClockTests.{declared_is}
+use Rattle.lb_check.proofs.clocking.NodeClocks.{resolved_at}
 use Rattle.lb_flat.specs.RowFrames.{Read, held_callee, read_clock, read_context, read_id}
 use Rattle.lb_flat.specs.RowFrames.{read_numbers, found_terms, input_id, int_value, no_context}
 use Rattle.lb_flat.specs.RowFrames.{row_found_context}

@@ -13,9 +13,9 @@ use Rattle.lb_flat.proofs.Words.{Every-at, names_kept, values_at, variables_dist
 use Rattle.lb_flat.proofs.Words.{at_path, called, value_at, child_numbers}
 use Rattle.lb_static.specs.ResolvedTerms.{site_of, no_site}
 use Rattle.lb_check.specs.Elements.{numbers_of}
-use Rattle.lb_check.proofs.FittedCalls.{node_at}
-use Rattle.lb_check.proofs.FittedEnvs.{static_is, repeats_is}
-use Rattle.lb_check.proofs.SiteCallees.{callee_found}
+use Rattle.lb_check.proofs.typing.FittedCalls.{node_at}
+use Rattle.lb_check.proofs.typing.FittedEnvs.{static_is, repeats_is}
+use Rattle.lb_check.proofs.programs.SiteCallees.{callee_found}
 use Rattle.lb_flat.specs.RowContexts.{size_at, times_at}
 use Rattle.lb_flat.proofs.numbering.RowChildren.{child_numbers_are}
 use Rattle.lb_flat.proofs.numbering.RowInstances.{IsRow}

@@ -15,7 +15,7 @@ use Rattle.lb_flat.proofs.Words.{node_occurrences, name_in, data_type, part_coun
 use Rattle.lb_flat.proofs.Words.{held_at, unfound, Context, flat_clock, layout, RowClocks}
 use Rattle.lb_flat.proofs.Words.{parameters_of, row_context}
 use Rattle.lb_check.specs.Elements.{numbers_of}
-use Rattle.lb_check.proofs.NamedClocks.{named_every}
+use Rattle.lb_check.proofs.clocking.NamedClocks.{named_every}
 use Rattle.lb_flat.proofs.numbering.NumberedRows.{own_numbers_are}
 use Rattle.lb_flat.proofs.frames.RowContexts.{callee_is, child_are, own_resolved, size_are}
 use Rattle.lb_flat.proofs.frames.RowContexts.{times_are}

@@ -2,9 +2,9 @@
 use Rattle.lb_flat.proofs.Words.{◌≡◌, ℕ, zero, suc, List, [], ◌∷◌, ◌++◌, map, take, drop, flat_map}
 use Rattle.lb_flat.proofs.Words.{inl, inr, refl, sym, ap, ap₂, ◌∙◌, subst, map-append, Every, In}
 use Rattle.lb_flat.proofs.Words.{copies, joined}
-pub use Rattle.lb_check.proofs.Every.{Every-map, Every-both, Every-append, Every-first}
-pub use Rattle.lb_check.proofs.Every.{Every-second, Every-piece, Every-of_pieces, Every-range}
-pub use Rattle.lb_check.proofs.Every.{Every-of_range}
+pub use Rattle.lb_check.proofs.lists.Every.{Every-map, Every-both, Every-append, Every-first}
+pub use Rattle.lb_check.proofs.lists.Every.{Every-second, Every-piece, Every-of_pieces, Every-range}
+pub use Rattle.lb_check.proofs.lists.Every.{Every-of_range}
 
 -- ## `map`
 

@@ -8,7 +8,7 @@ use Rattle.lb_flat.proofs.Words.{IsReached, Reached, Table, in_at, Every-from, s
 use Rattle.lb_flat.proofs.Words.{variables_before, element_total, count_at}
 use Rattle.std.proofs.Common.{◌≡◌, ℕ, zero, suc, ◌+◌, ◌<◌, ◌≤◌, None, Some, List, [], ◌∷◌, ◌++◌}
 use Rattle.std.proofs.Common.{length, map, flat_map, take, get_or, refl, ap, sym, ◌∙◌, subst, arith}
-use Rattle.lb_check.proofs.PositiveWidths.{width_positive}
+use Rattle.lb_check.proofs.typing.PositiveWidths.{width_positive}
 use Rattle.lb_flat.proofs.numbering.NumberedRows.{row_widths_are}
 use Rattle.lb_flat.proofs.numbering.RowInstances.{IsRow, row_shown}
 use Rattle.lb_static.specs.declared.table.Instance as row

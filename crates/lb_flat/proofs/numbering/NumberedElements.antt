@@ -10,8 +10,8 @@ use Rattle.lb_flat.proofs.Words.{named, found_passes, program_elements, numbers_
 use Rattle.lb_flat.proofs.Words.{elements, elements_named, numbers_width, number_of, Every-at}
 use Rattle.lb_flat.proofs.Words.{Every-from, find_in, variables_distinct, length_elements, found_at}
 use Rattle.lb_check.specs.Elements.{numbers_of}
-use Rattle.lb_check.proofs.ElementValues.{same_declaration}
-use Rattle.lb_check.proofs.Numbers.{range_get, numbers_some}
+use Rattle.lb_check.proofs.programs.ElementValues.{same_declaration}
+use Rattle.lb_check.proofs.programs.Numbers.{range_get, numbers_some}
 use Rattle.lb_flat.proofs.ordering.LinkWords.{Pairs}
 
 -- ## Lists

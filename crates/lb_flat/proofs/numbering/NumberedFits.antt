@@ -26,12 +26,12 @@ use Rattle.std.proofs.lemmas.List.{take_at}
 use Rattle.lb_syntax.specs.declared.tree.Kind.TheVariants.{Bool as Truth_kind}
 use Rattle.lb_static.specs.Parts.{declared_sizes, own_sizes}
 use Rattle.lb_check.specs.Elements.{numbers_of}
-use Rattle.lb_check.proofs.AcceptedRules.{valued, typed}
-use Rattle.lb_check.proofs.CalledInstances.{part_of_node}
-use Rattle.lb_check.proofs.ElementValues.{length_values}
-use Rattle.lb_check.proofs.GivenParameters.{on_base}
-use Rattle.lb_check.proofs.InputNumbers.{input_kinds_are}
-use Rattle.lb_check.proofs.ServedNumbers.{serving_first}
+use Rattle.lb_check.proofs.programs.AcceptedRules.{valued, typed}
+use Rattle.lb_check.proofs.programs.CalledInstances.{part_of_node}
+use Rattle.lb_check.proofs.programs.ElementValues.{length_values}
+use Rattle.lb_check.proofs.clocking.GivenParameters.{on_base}
+use Rattle.lb_check.proofs.programs.InputNumbers.{input_kinds_are}
+use Rattle.lb_check.proofs.programs.ServedNumbers.{serving_first}
 use Rattle.lb_flat.proofs.solutions.Bodies.{all_closed}
 use Rattle.lb_flat.proofs.clock_tables.CalleeClocks.{CalleeClocks, ClocksAt, LeftClocks}
 use Rattle.lb_flat.proofs.clock_tables.CalleeClocks.{LeftClocksAt}

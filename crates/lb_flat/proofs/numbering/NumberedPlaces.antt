@@ -8,7 +8,7 @@ use Rattle.lb_flat.proofs.Words.{serving, runs_on, whole_clock, found_at, FlatCl
 use Rattle.lb_flat.proofs.Words.{flat_clock, numbered_clock, signs_of, layout, clock_reads}
 use Rattle.lb_check.specs.Elements.{numbers_of}
 use Rattle.lb_check.specs.Needs.{Always as Always_whole, Where as Where_whole}
-use Rattle.lb_check.proofs.AcceptedNumbers.{numbers_walk, numbers_width, numbers_below}
+use Rattle.lb_check.proofs.programs.AcceptedNumbers.{numbers_walk, numbers_width, numbers_below}
 use Rattle.lb_flat.proofs.solutions.Bodies.{IsLaidOut}
 use Rattle.lb_flat.proofs.solutions.Closing.{Below}
 use Rattle.lb_flat.proofs.runs.Observing.{all_places}

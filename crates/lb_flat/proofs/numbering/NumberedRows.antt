@@ -18,11 +18,11 @@ use Rattle.std.specs.Prelude.{ℤ}
 use Rattle.std.proofs.lemmas.Bool.{false_from_ne_true}
 use Rattle.lb_static.specs.declared.resolved.Variable.{Variable as Declared}
 use Rattle.lb_check.specs.Elements.{numbers_of}
-use Rattle.lb_check.proofs.ApartLists.{AreApart}
-use Rattle.lb_check.proofs.FittedCalls.{node_at}
-use Rattle.lb_check.proofs.InstancePaths.{IsAt, all_at}
-use Rattle.lb_check.proofs.Numbers.{length_elements, numbers_first, numbers_later, others}
-use Rattle.lb_check.proofs.Numbers.{distinct_rest, found_first, found_later, numbers_at}
+use Rattle.lb_check.proofs.lists.ApartLists.{AreApart}
+use Rattle.lb_check.proofs.typing.FittedCalls.{node_at}
+use Rattle.lb_check.proofs.programs.InstancePaths.{IsAt, all_at}
+use Rattle.lb_check.proofs.programs.Numbers.{length_elements, numbers_first, numbers_later, others}
+use Rattle.lb_check.proofs.programs.Numbers.{distinct_rest, found_first, found_later, numbers_at}
 use Rattle.lb_flat.proofs.numbering.RowInstances.{IsRow, rows_many, row_shown}
 use Rattle.lb_static.specs.declared.table.Instance as row
 

@@ -7,7 +7,7 @@ use Rattle.lb_flat.proofs.Words.{Solves, History, in_first, in_second, Every-at,
 use Rattle.lb_flat.proofs.Words.{at_path, IsVariable, given_inputs, observed, before_instances}
 use Rattle.lb_flat.proofs.Words.{emit_instances, expanded, FlatEquation, Holds, instants, IsFlatOf}
 use Rattle.lb_flat.proofs.Words.{IsFlatSolution, layout}
-use Rattle.lb_check.proofs.LongStreams.{presence_long}
+use Rattle.lb_check.proofs.programs.LongStreams.{presence_long}
 use Rattle.lb_flat.proofs.solutions.Adding.{columns}
 use Rattle.lb_flat.proofs.copies.CallCopies.{HasCopies, all_copied}
 use Rattle.lb_flat.proofs.clock_tables.CalleeClocks.{runs_at}

@@ -11,8 +11,8 @@ use Rattle.lb_flat.proofs.Words.{same_instance, instances_apart}
 use Rattle.lb_static.specs.InstanceTable.{CallerStandsBefore, path_from, paths_after, row_at}
 use Rattle.lb_static.specs.ReachedNodes.{tree_at}
 use Rattle.lb_static.proofs.InstanceRows.{paths_kept, paths_length}
-use Rattle.lb_check.proofs.ApartLists.{AreApart}
-use Rattle.lb_check.proofs.TableRows.{row_held}
+use Rattle.lb_check.proofs.lists.ApartLists.{AreApart}
+use Rattle.lb_check.proofs.typing.TableRows.{row_held}
 use Rattle.lb_static.specs.declared.table.Instance as row
 use Rattle.lb_static.specs.declared.table.Origin.TheVariants as origin
 

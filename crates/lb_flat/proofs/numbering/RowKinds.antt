@@ -16,8 +16,8 @@ use Rattle.std.specs.Prelude.{ℤ, nat_le, slice_get}
 use Rattle.lb_syntax.specs.Refusals.{E5, E6, E12}
 use Rattle.lb_static.specs.Instantiation.{instance_refusal, may_enter, has_values, is_in_range}
 use Rattle.lb_static.specs.declared.resolved.Variable.{Variable as Declared}
-use Rattle.lb_check.proofs.Checks.{first_none}
-use Rattle.lb_check.proofs.FittedCalls.{node_at}
+use Rattle.lb_check.proofs.definitions.Checks.{first_none}
+use Rattle.lb_check.proofs.typing.FittedCalls.{node_at}
 use Rattle.lb_flat.specs.RowKinds.{kinds_of}
 use Rattle.lb_flat.proofs.numbering.RowInstances.{IsRow, rows_many, row_shown}
 use Rattle.lb_static.specs.declared.table.Instance as row

@@ -3,7 +3,7 @@ use Rattle.lb_flat.proofs.Words.{◌≡◌, ℕ, true, Some, List, refl, ap, sym
 use Rattle.lb_flat.proofs.Words.{◌==◌, bytes_eq, nat_tests, bytes_eq-Decides, In, either_or, listed}
 use Rattle.lb_flat.proofs.Words.{Name, Program, Instance, is_path, instances, IsTable, are_distinct}
 use Rattle.lb_flat.proofs.Words.{variable_names, Reached, Table, distinct_at, same_path, at_path}
-use Rattle.lb_check.proofs.InstancePaths.{is_path-same}
+use Rattle.lb_check.proofs.programs.InstancePaths.{is_path-same}
 use Rattle.lb_flat.specs.ClockPlaces.{row_number, name_number, variable_place}
 use Rattle.lb_flat.proofs.numbering.RowChildren.{place_holds, place_found}
 use Rattle.lb_flat.proofs.numbering.RowInstances.{IsRow, one_place}

@@ -5,7 +5,7 @@ use Rattle.lb_flat.proofs.Words.{same_Some, Program, static_refusal, program_ele
 use Rattle.lb_flat.proofs.Words.{IsExpansionOf, IsOrderingOf, FlatEquation, FlatProgram, Chain}
 use Rattle.lb_flat.proofs.Words.{one_read, more_reads, IsReadCycle, IsCertificate, Ready}
 use Rattle.lb_check.specs.Needs.{Element, Needs, Reaches, at_once, through, IsCausal}
-use Rattle.lb_check.proofs.AcceptedNumbers.{number_is}
+use Rattle.lb_check.proofs.programs.AcceptedNumbers.{number_is}
 use Rattle.lb_flat.proofs.ordering.Certificates.{certificate_of}
 use Rattle.lb_flat.proofs.ordering.ChainOrders.{no_cycle}
 

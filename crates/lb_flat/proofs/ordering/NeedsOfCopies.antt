@@ -14,7 +14,7 @@ use Rattle.lb_flat.proofs.Words.{to_pieces, declared_over, IsVariable, own_varia
 use Rattle.lb_flat.proofs.Words.{FlatEquation, history_of, FlatProgram, Layout, flat_clock, layout}
 use Rattle.lb_flat.proofs.Words.{Leads, NeedsAt, clock_reads, reads, equation_reads}
 use Rattle.lb_check.specs.Elements.{numbers_of}
-use Rattle.lb_check.proofs.AcceptedNumbers.{number_in}
+use Rattle.lb_check.proofs.programs.AcceptedNumbers.{number_in}
 use Rattle.lb_flat.specs.Emit.{State, Target, from_inputs, input_targets, given_inputs, observed}
 use Rattle.lb_flat.specs.Emit.{before_instances, emit_instances, expanded}
 use Rattle.lb_flat.proofs.solutions.Bodies.{all_closed}

@@ -3,7 +3,7 @@ use Rattle.lb_flat.proofs.Words.{◌≡◌, ◌⊎◌, inl, inr, ℕ, ◌<◌, �
 use Rattle.lb_flat.proofs.Words.{arith, slice_get, slice_get_within, In, Program, program_elements}
 use Rattle.lb_flat.proofs.Words.{Element, Definition, definitions, FlatEquation, IsGiven}
 use Rattle.lb_flat.proofs.Words.{FlatProgram, Leads, reads_it, by_way, NeedsAt, equation_reads}
-use Rattle.lb_check.proofs.ApartLists.{apart_single}
+use Rattle.lb_check.proofs.lists.ApartLists.{apart_single}
 use Rattle.lb_flat.proofs.lists.SomeLists.{SomeOf, some_of_in, in_some}
 
 -- `Q` holds of the number of an element

@@ -3,7 +3,7 @@ use Rattle.lb_flat.proofs.Words.{◌≡◌, ℕ, zero, suc, ◌+◌, ◌<◌, in
 use Rattle.lb_flat.proofs.Words.{sym, subst, arith, Program, History, Ends, judged, or_later}
 use Rattle.lb_flat.proofs.Words.{verdict_from}
 use Rattle.lb_check.specs.Verdicts.{is_fault, is_undefined, is_failed, is_violated, decides}
-use Rattle.lb_check.proofs.OnlyVerdict.{compared}
+use Rattle.lb_check.proofs.programs.OnlyVerdict.{compared}
 
 module _ (P : Program) (H : History) (count : ℕ) where
   -- nothing happens before instant t

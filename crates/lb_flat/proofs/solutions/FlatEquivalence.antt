@@ -4,7 +4,7 @@ use Rattle.lb_flat.proofs.Words.{◌≡◌, true, Option, Some, None, IfSome, le
 use Rattle.lb_flat.proofs.Words.{sym, ◌∙◌, subst, holds, Program, Instance, Root, Observer}
 use Rattle.lb_flat.proofs.Words.{instance_at, static_refusal, is_root, check_refusal, Inputs}
 use Rattle.lb_flat.proofs.Words.{Solves, AgreeAt, AreSame, History, path_is, solves_same}
-use Rattle.lb_check.proofs.SameInstances.{starts_agree}
+use Rattle.lb_check.proofs.programs.SameInstances.{starts_agree}
 use Rattle.lb_flat.proofs.widths.SoundPrograms.{root_kept}
 
 -- an accepted program has a node under test

@@ -7,8 +7,8 @@ use Rattle.lb_flat.proofs.Words.{Declaration, Program, Instance, instances, vari
 use Rattle.lb_flat.proofs.Words.{Stream, History, variable_columns, Inputs, fits, variable_presence}
 use Rattle.lb_flat.proofs.Words.{Fits, SolvesAt, Solves, pieces_count, FlatClock, column, AreLong}
 use Rattle.lb_flat.proofs.Words.{Layout, State, before_instances, emit_instances}
-use Rattle.lb_check.proofs.ListPairs.{cons_same}
-use Rattle.lb_check.proofs.LongStreams.{fits_length}
+use Rattle.lb_check.proofs.lists.ListPairs.{cons_same}
+use Rattle.lb_check.proofs.programs.LongStreams.{fits_length}
 use Rattle.lb_flat.proofs.lists.Lists.{map-pieces, Every-map, Every-of_pieces, Every-range}
 use Rattle.lb_flat.proofs.solutions.Adding.{columns, HasTruths}
 use Rattle.lb_flat.proofs.runs.Filling.{filled_keeps, filled_solves}

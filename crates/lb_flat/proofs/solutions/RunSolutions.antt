@@ -8,7 +8,7 @@ use Rattle.lb_flat.proofs.Words.{history_of, IsTrace, IsWatched, IsFlatSolution,
 use Rattle.lb_flat.proofs.Words.{FlatProgram, flat_verdict, Layout, IsDetermined, Ready, run}
 use Rattle.lb_flat.proofs.Words.{streams_of, Recording, IsRecording}
 use Rattle.lb_check.specs.Solutions.{Inputs, is_row, Solves, AreSame, HasOneHistory}
-use Rattle.lb_check.proofs.OnlyVerdict.{only_verdict}
+use Rattle.lb_check.proofs.programs.OnlyVerdict.{only_verdict}
 use Rattle.lb_flat.specs.Prefixes.{IsPrefix}
 use Rattle.lb_flat.proofs.runs.FilledFits.{cells_fit}
 use Rattle.lb_flat.proofs.runs.Fitting.{IsFitting, solution_fits}

@@ -9,7 +9,7 @@ use Rattle.lb_flat.proofs.Words.{variable_type, element_count, is_type, are_type
 use Rattle.lb_flat.proofs.Words.{call_clocks, occurrences_in, occurrences_each, History, number}
 use Rattle.lb_flat.proofs.Words.{data_types, all_types, array_of, operator_types, iterator_types}
 use Rattle.lb_flat.proofs.Words.{truly, State, emit_all, emit_each, Layout}
-use Rattle.lb_check.proofs.OccurrenceParts.{as_many_clocks}
+use Rattle.lb_check.proofs.programs.OccurrenceParts.{as_many_clocks}
 use Rattle.lb_flat.proofs.widths.FoundWidths.{all_as_many, each_as_many}
 use Rattle.lb_flat.proofs.widths.OutputWidths.{each, width_of}
 use Rattle.lb_flat.proofs.widths.PlacedCalls.{inputs_at}

@@ -29,8 +29,8 @@ use Rattle.lb_flat.proofs.Words.{Latest, Sample, FlatEquation, Layout, flat_cloc
 use Rattle.std.proofs.Common.{length-append}
 use Rattle.lb_static.specs.DataTypes.{total}
 use Rattle.lb_check.specs.Clocks.{clock_of}
-use Rattle.lb_check.proofs.OccurrenceParts.{right_typed}
-use Rattle.lb_check.proofs.OperandTypes.{one, two, from_true}
+use Rattle.lb_check.proofs.programs.OccurrenceParts.{right_typed}
+use Rattle.lb_check.proofs.typing.OperandTypes.{one, two, from_true}
 use Rattle.lb_flat.proofs.solutions.Bodies.{occurrences_of}
 use Rattle.lb_flat.proofs.lists.Lists.{Every-map, Every-both, Every-first, Every-second}
 use Rattle.lb_flat.proofs.widths.TypeFacts.{elements_in, constant}

@@ -8,8 +8,8 @@ use Rattle.lb_flat.proofs.Words.{IsChecked, is_small, Checking, NodeTypes, eleme
 use Rattle.lb_flat.proofs.Words.{HasTermSizes, lent_size, term_total}
 use Rattle.lb_static.proofs.Members.{contains_in}
 use Rattle.lb_check.specs.declared.found_types.TermType.{TermType}
-use Rattle.lb_check.proofs.FoundTypes.{types_lent}
-use Rattle.lb_check.proofs.KeptTypes.{size_found}
+use Rattle.lb_check.proofs.typing.FoundTypes.{types_lent}
+use Rattle.lb_check.proofs.typing.KeptTypes.{size_found}
 use Rattle.lb_flat.proofs.widths.TableSizes.{counted_small, some_left}
 use Rattle.lb_static.specs.declared.table.Instance as row
 

@@ -20,7 +20,7 @@ use Rattle.lb_flat.proofs.Words.{push, chained, twice, negated, emit_nor, emit_a
 use Rattle.lb_flat.proofs.Words.{emit_symbol, emit_name, emit, emit_all, emit_each}
 use Rattle.std.proofs.Common.{length-append}
 use Rattle.lb_check.specs.Clocks.{clock_of}
-use Rattle.lb_check.proofs.ClockedNodes.{same_taken, same_dropped}
+use Rattle.lb_check.proofs.clocking.ClockedNodes.{same_taken, same_dropped}
 use Rattle.lb_flat.proofs.emission.EmittedRooms.{chained_one, twice_one}
 
 -- ## Lists of one length

@@ -12,7 +12,7 @@ use Rattle.lb_flat.proofs.Words.{are_same, is_root, keeps_names, is_well_founded
 use Rattle.lb_flat.proofs.Words.{node_occurrences, Stream, Inputs, columns_at, History, all_typed}
 use Rattle.lb_flat.proofs.Words.{Every-at, Every-from, second_none, kept, instantiation_kept}
 use Rattle.lb_flat.proofs.Words.{in_instances, path_is, column, history_of, Layout}
-use Rattle.lb_check.proofs.NamedClocks.{if_some}
+use Rattle.lb_check.proofs.clocking.NamedClocks.{if_some}
 use Rattle.lb_flat.proofs.solutions.Bodies.{IsSound}
 use Rattle.lb_flat.proofs.lists.Lists.{Every-map, Every-both, Every-append, Every-first}
 use Rattle.lb_flat.proofs.lists.Lists.{Every-second}

@@ -11,8 +11,9 @@ use Rattle.std.proofs.Common.{false, ◌&&◌, ◌||◌, nat_eq, nat_le, nat_lt,
 use Rattle.std.proofs.Common.{◌∷◌, map, refl, sym, ap, ap₂, ◌∙◌, add-mul, if◌then◌else◌}
 use Rattle.lb_static.specs.Arithmetic.{is_int as is_in_range}
 use Rattle.lb_check.specs.Types.{is_equality}
-pub use Rattle.lb_check.proofs.OperandTypes.{Bound, bound, single, Single, alone, One, one, Two}
-pub use Rattle.lb_check.proofs.OperandTypes.{two, Truths, from_true}
+pub use Rattle.lb_check.proofs.typing.OperandTypes.{Bound, bound, single, Single, alone, One, one}
+pub use Rattle.lb_check.proofs.typing.OperandTypes.{Two}
+pub use Rattle.lb_check.proofs.typing.OperandTypes.{two, Truths, from_true}
 
 -- the number of scalar elements of a list of types
 abbrev pub elements_in : List DataType → ℕ

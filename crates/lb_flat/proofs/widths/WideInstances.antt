@@ -7,7 +7,7 @@ use Rattle.lb_flat.proofs.Words.{node_occurrences, History, Every-at, Every-from
 use Rattle.lb_flat.proofs.Words.{instantiation_kept, OfCalled, Every-map, Every-both, own_site}
 use Rattle.lb_flat.proofs.Words.{node_calls, IsEntered, all_entered, all_children, all_called}
 use Rattle.lb_flat.proofs.widths.Widths.{AreVariablesWide, IsWideAt, IsOccurrenceWide}
-pub use Rattle.lb_check.proofs.AcceptedRules.{all_typed}
+pub use Rattle.lb_check.proofs.programs.AcceptedRules.{all_typed}
 
 module _ (P : Program) (H : History) (here : Instance) where
   -- the variables of an instance that `here` calls are as wide as their types

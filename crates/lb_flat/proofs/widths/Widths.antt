@@ -35,7 +35,7 @@ use Rattle.lb_flat.proofs.widths.OutputWidths.{length-index}
 use Rattle.lb_flat.proofs.widths.OutputWidths.{found_in, each, arrays_count, width_of, outputs_wide}
 use Rattle.lb_flat.proofs.widths.OutputWidths.{gathered_wide, last_wide}
 use Rattle.lb_flat.proofs.widths.IteratedTypes.{red_of, fill_of}
-pub use Rattle.lb_check.proofs.OperandTypes.{Called, called, Placed, placed}
+pub use Rattle.lb_check.proofs.typing.OperandTypes.{Called, called, Placed, placed}
 
 module _ (P : Program) (H : History) (here : Instance) where
   -- the variables of an instance are as wide as their types

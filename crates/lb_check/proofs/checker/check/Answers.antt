@@ -1,8 +1,8 @@
--- What is answered is what is found of the rules, and what is found of clocks and types is kept.
+-- The answer is the broken rule that is found; else what is found of clocks and types is kept.
 use Rattle.lb_static.specs.Elaborated.{elaborated_program}
-use Rattle.lb_check.proofs.Checks.{accepted, found, refused}
-use Rattle.lb_check.proofs.FoundClocks.{found_here}
-use Rattle.lb_check.proofs.FoundTypes.{types_found_here}
+use Rattle.lb_check.proofs.definitions.Checks.{accepted, found, refused}
+use Rattle.lb_check.proofs.clocking.FoundClocks.{found_here}
+use Rattle.lb_check.proofs.typing.FoundTypes.{types_found_here}
 use Rattle.lb_check.proofs.checker.check.Goals as goal
 
 pub returns-in-Some-clause-answer : goal.returns-in-Some-clause-answer

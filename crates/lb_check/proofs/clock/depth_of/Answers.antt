@@ -1,6 +1,7 @@
 use Rattle.lb_check.proofs.Words.{◌≡◌, ◌+◌, subst, arith, HasDepth}
-use Rattle.lb_check.proofs.ClockDepths.{awaits, awaits_none, known_depth, step_more, stands_below}
-use Rattle.lb_check.proofs.ClockDepths.{stands_here, no_depth}
+use Rattle.lb_check.proofs.clocking.ClockDepths.{awaits, awaits_none, known_depth, step_more}
+use Rattle.lb_check.proofs.clocking.ClockDepths.{stands_below}
+use Rattle.lb_check.proofs.clocking.ClockDepths.{stands_here, no_depth}
 use Rattle.lb_check.proofs.clock.depth_of.Goals as goal
 
 pub returns-then-depth-variables-clause-circle : goal.returns-then-depth-variables-clause-circle

@@ -1,5 +1,6 @@
 use Rattle.std.proofs.Common.{inl, inr, arith, ◌<◌, ◌+◌, ◌-◌, length}
-use Rattle.lb_check.proofs.ClockDepths.{awaits, first_known, still_known, more_depths, waits_deeper}
+use Rattle.lb_check.proofs.clocking.ClockDepths.{awaits, first_known, still_known, more_depths}
+use Rattle.lb_check.proofs.clocking.ClockDepths.{waits_deeper}
 use Rattle.lb_check.proofs.clock.note_depths.Goals as goal
 
 pub returns-in_default-clause-noted : goal.returns-in_default-clause-noted

@@ -1,13 +1,14 @@
 use Rattle.lb_check.proofs.Words.{ap, ◌∙◌, find, not, NodeId, Specialization, is_clocked}
 use Rattle.lb_check.proofs.Words.{is_part_clocked, IsIllClocked, is_clocked_at}
 use Rattle.std.specs.Prelude.{List, map}
-use Rattle.lb_check.proofs.BrokenRules.{find_mapped, both_found, if_found, not_all, part_named}
-use Rattle.lb_check.proofs.CallClockSets.{call_stands}
-use Rattle.lb_check.proofs.EquationClockSets.{equation_stands}
-use Rattle.lb_check.proofs.SingleCalls.{single_statements}
-use Rattle.lb_check.proofs.StatementClockSets.{node_clocked, statement_broken}
-use Rattle.lb_check.proofs.TermClockSets.{term_stands}
-use Rattle.lb_check.proofs.WholeClocks.{first_broken, first_part, instances_clocked}
+use Rattle.lb_check.proofs.definitions.BrokenRules.{find_mapped, both_found, if_found, not_all}
+use Rattle.lb_check.proofs.definitions.BrokenRules.{part_named}
+use Rattle.lb_check.proofs.clocking.CallClockSets.{call_stands}
+use Rattle.lb_check.proofs.clocking.EquationClockSets.{equation_stands}
+use Rattle.lb_check.proofs.typing.SingleCalls.{single_statements}
+use Rattle.lb_check.proofs.clocking.StatementClockSets.{node_clocked, statement_broken}
+use Rattle.lb_check.proofs.clocking.TermClockSets.{term_stands}
+use Rattle.lb_check.proofs.clocking.WholeClocks.{first_broken, first_part, instances_clocked}
 use Rattle.lb_check.proofs.clock_rules.ill_clocked.Goals as goal
 
 pub returns-clause-judged : goal.returns-clause-judged

@@ -1,5 +1,5 @@
 use Rattle.lb_check.proofs.Words.{ap, sym, ◌∙◌, ◌&&◌, list_all}
-use Rattle.lb_check.proofs.Defining.{memoryless_call, memoryless_row}
+use Rattle.lb_check.proofs.definitions.Defining.{memoryless_call, memoryless_row}
 use Rattle.lb_check.specs.NodeDefinitions as mirror
 use Rattle.lb_check.proofs.definition_rules.+memory.Goals as goal
 

@@ -6,14 +6,18 @@ use Rattle.lb_check.proofs.Words.{infer_clock, operand_of, operands_of, known_am
 use Rattle.lb_check.proofs.Words.{Base}
 use Rattle.lb_check.specs.PlacedClocks.{call_clocks, current_clock, found_in, with_term}
 use Rattle.lb_check.specs.StoredClocks.{context_in}
-use Rattle.lb_check.proofs.BrokenRules.{if_found}
-use Rattle.lb_check.proofs.PlacedRows.{call_placed, choice_placed, current_placed, each_next}
-use Rattle.lb_check.proofs.PlacedRows.{flat_next, group_placed, leaf_placed, left_end, left_more}
-use Rattle.lb_check.proofs.PlacedRows.{left_past, left_start, operand_placed, operands_placed}
-use Rattle.lb_check.proofs.PlacedRows.{placed_as, placed_both, placed_leaf, placed_noted}
-use Rattle.lb_check.proofs.PlacedRows.{row_placed, taken_first}
-use Rattle.lb_check.proofs.WalkedClocks.{call_known, choice_known, current_known, group_known}
-use Rattle.lb_check.proofs.WalkedClocks.{leaf_known, pair_known, plain_known, row_known}
+use Rattle.lb_check.proofs.definitions.BrokenRules.{if_found}
+use Rattle.lb_check.proofs.clocking.PlacedRows.{call_placed, choice_placed, current_placed}
+use Rattle.lb_check.proofs.clocking.PlacedRows.{each_next}
+use Rattle.lb_check.proofs.clocking.PlacedRows.{flat_next, group_placed, leaf_placed, left_end}
+use Rattle.lb_check.proofs.clocking.PlacedRows.{left_more}
+use Rattle.lb_check.proofs.clocking.PlacedRows.{left_past, left_start, operand_placed}
+use Rattle.lb_check.proofs.clocking.PlacedRows.{operands_placed}
+use Rattle.lb_check.proofs.clocking.PlacedRows.{placed_as, placed_both, placed_leaf, placed_noted}
+use Rattle.lb_check.proofs.clocking.PlacedRows.{row_placed, taken_first}
+use Rattle.lb_check.proofs.clocking.WalkedClocks.{call_known, choice_known, current_known}
+use Rattle.lb_check.proofs.clocking.WalkedClocks.{group_known}
+use Rattle.lb_check.proofs.clocking.WalkedClocks.{leaf_known, pair_known, plain_known, row_known}
 use Rattle.lb_check.proofs.placed_clock.+placing.Goals as goal
 
 -- ## Rows

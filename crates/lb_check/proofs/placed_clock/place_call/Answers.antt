@@ -3,7 +3,7 @@ use Rattle.lb_check.proofs.Words.{placed_each, side_call, side_clocks, with_term
 use Rattle.lb_check.proofs.Words.{operand_of, operands_of, known_among}
 use Rattle.lb_check.specs.PlacedClocks.{found_in, with_term}
 use Rattle.lb_check.specs.StoredClocks.{context_in}
-use Rattle.lb_check.proofs.PlacedRows.{left_past, taken_first}
+use Rattle.lb_check.proofs.clocking.PlacedRows.{left_past, taken_first}
 use Rattle.lb_check.proofs.placed_clock.place_call.Goals as goal
 
 pub returns : goal.returns

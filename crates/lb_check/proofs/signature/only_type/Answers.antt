@@ -1,5 +1,5 @@
 use Rattle.lb_check.proofs.Words.{◌≡◌, IfOk, subst, sym, ◌∙◌, option_map, view_type, row_in}
-use Rattle.lb_check.proofs.SignatureRows.{one_given, several_given}
+use Rattle.lb_check.proofs.typing.SignatureRows.{one_given, several_given}
 use Rattle.lb_check.proofs.signature.only_type.Goals as goal
 
 pub returns-then-len-eq1 : goal.returns-then-len-eq1

@@ -1,5 +1,5 @@
 use Rattle.lb_check.proofs.Words.{map, false, true, sym, ◌∙◌, length-map, context_in, row_in}
-use Rattle.lb_check.proofs.SignatureRows.{met_apart, met_end, met_next}
+use Rattle.lb_check.proofs.typing.SignatureRows.{met_apart, met_end, met_next}
 use Rattle.lb_check.proofs.type_rules.have_types.Goals as goal
 
 pub returns-then-variables-len : goal.returns-then-variables-len

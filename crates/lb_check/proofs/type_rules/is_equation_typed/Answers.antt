@@ -2,7 +2,7 @@ use Rattle.lb_check.proofs.Words.{◌≡◌, IfOk, Option, map, ap, subst, sym, 
 use Rattle.lb_check.proofs.Words.{all_some, context_in, row_in, are_equal, left_types}
 use Rattle.lb_check.specs.TermSignatures.{results_in}
 use Rattle.lb_check.specs.declared.signature.TypeRow.{TypeRow}
-use Rattle.lb_check.proofs.TermSignatures.{met}
+use Rattle.lb_check.proofs.typing.TermSignatures.{met}
 use Rattle.lb_check.proofs.type_rules.is_equation_typed.Goals as goal
 
 pub returns-in-Single : goal.returns-in-Single

@@ -1,4 +1,4 @@
--- What is noted for a term, by its forms.
+-- The parts that are noted for a term, by its form.
 use Rattle.lb_check.proofs.Words.{◌≡◌, ◌+◌, ◌++◌, ◌-◌, ◌∷◌, length, map, drop, inl, ap, sym, subst}
 use Rattle.lb_check.proofs.Words.{◌∙◌, arith, ◌&&◌, option_map, length-map, ◌>>=◌, where_true}
 use Rattle.lb_check.proofs.Words.{view_type, IsWalked, kept_in, placed_all_types, placed_types}
@@ -7,15 +7,19 @@ use Rattle.lb_check.proofs.Words.{has_arity, like_later, list_of, outcome, row_i
 use Rattle.lb_check.proofs.Words.{type_at, one_type, type_of, when_both, when_truth, common_type}
 use Rattle.lb_check.specs.PlacedTypes.{IsRowWalked}
 use Rattle.lb_check.specs.TermSignatures.{signature}
-use Rattle.lb_check.proofs.BrokenRules.{if_found}
-use Rattle.lb_check.proofs.DecidedRows.{list_decided, row_decided}
-use Rattle.lb_check.proofs.SignatureRows.{calls_are, fits_end, fits_more, fits_start, like_next}
-use Rattle.lb_check.proofs.TypeParts.{pair_type}
-use Rattle.lb_check.proofs.TypeWalks.{choice_placed, operand_placed, operands_placed, row_placed}
-use Rattle.lb_check.proofs.WalkedTypes.{choice_one, choice_type, further, later, later_all}
-use Rattle.lb_check.proofs.WalkedTypes.{later_length, later_more, later_none, list_from, list_one}
-use Rattle.lb_check.proofs.WalkedTypes.{noted_all, noted_more, noted_none, pair_one, returns_given}
-use Rattle.lb_check.proofs.WalkedTypes.{returns_group, returns_one, single_from, single_one}
+use Rattle.lb_check.proofs.definitions.BrokenRules.{if_found}
+use Rattle.lb_check.proofs.typing.DecidedRows.{list_decided, row_decided}
+use Rattle.lb_check.proofs.typing.SignatureRows.{calls_are, fits_end, fits_more, fits_start}
+use Rattle.lb_check.proofs.typing.SignatureRows.{like_next}
+use Rattle.lb_check.proofs.typing.TypeParts.{pair_type}
+use Rattle.lb_check.proofs.typing.TypeWalks.{choice_placed, operand_placed, operands_placed}
+use Rattle.lb_check.proofs.typing.TypeWalks.{row_placed}
+use Rattle.lb_check.proofs.typing.WalkedTypes.{choice_one, choice_type, further, later, later_all}
+use Rattle.lb_check.proofs.typing.WalkedTypes.{later_length, later_more, later_none, list_from}
+use Rattle.lb_check.proofs.typing.WalkedTypes.{list_one}
+use Rattle.lb_check.proofs.typing.WalkedTypes.{noted_all, noted_more, noted_none, pair_one}
+use Rattle.lb_check.proofs.typing.WalkedTypes.{returns_given}
+use Rattle.lb_check.proofs.typing.WalkedTypes.{returns_group, returns_one, single_from, single_one}
 use Rattle.lb_check.proofs.types.+walking.Goals as goal
 
 -- ## The elements of a list

@@ -1,6 +1,6 @@
 use Rattle.lb_check.proofs.Words.{◌≡◌, ◌-◌, drop, length, ◌&&◌, option_map, view_type, kept_in}
 use Rattle.lb_check.proofs.Words.{context_in, are_met, common, has_arity, signature_in}
-use Rattle.lb_check.proofs.WalkedTypes.{AreNoted, later}
+use Rattle.lb_check.proofs.typing.WalkedTypes.{AreNoted, later}
 use Rattle.lb_check.proofs.types.+walking.Given as goal
 
 abbrev pub invariant-walk_list-loop-seen : goal.invariant-walk_list-loop-seen

@@ -1,4 +1,4 @@
--- One call more, and its callee if it has one.
+-- One more call, and its callee if it has one.
 use Rattle.std.proofs.Common.{arith}
 use Rattle.std.proofs.lemmas.Grind.{common_steps}
 use Rattle.std.proofs.lemmas.List.Elements.{filter_map-append}

@@ -1,4 +1,4 @@
--- What is declared, and what is left, are the parameters.
+-- The declared names, and the parameters that are left, are the parameters.
 use Rattle.std.proofs.Common.{ap, ◌∙◌}
 use Rattle.lb_static.specs.Scopes.{declared_after}
 use Rattle.lb_static.proofs.ConstantPlaces.{parameter_more, parameters_end}

@@ -1,4 +1,4 @@
--- A name that is hidden, and one that is no constant, are passed over.
+-- A hidden name, and a name that is not that of a constant, are skipped.
 use Rattle.std.proofs.Common.{◌≡◌, true, false, ap, sym, ◌∙◌}
 use Rattle.std.specs.Str.{bytes_eq}
 use Rattle.lb_static.specs.NamedConstants.{constant_place}

@@ -1,4 +1,4 @@
--- A value that is had from those that are known.
+-- The value of a constant follows from the known values.
 use Rattle.std.proofs.Common.{◌∙◌, sym, length, get_or, Some, None}
 use Rattle.std.proofs.lemmas.List.{length-map}
 use Rattle.lb_syntax.specs.SourceView.{view_constant}

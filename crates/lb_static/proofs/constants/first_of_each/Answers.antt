@@ -1,4 +1,4 @@
--- Each constant is the first of its name, or one of that name stands before it.
+-- Each constant is the first with its name, or one with that name stands before it.
 use Rattle.std.proofs.Common.{◌≡◌, ◌+◌, ap, sym, ◌∙◌, length, not, arith}
 use Rattle.std.proofs.lemmas.List.{length-append}
 use Rattle.lb_static.specs.Parts.{among}

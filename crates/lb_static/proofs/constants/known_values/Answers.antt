@@ -1,4 +1,4 @@
--- The values of the first constant of each name are those of all names.
+-- The values of the first constant of each name are the values of all names.
 use Rattle.std.proofs.Common.{◌≡◌, map, length, subst}
 use Rattle.std.specs.Prelude.{Result, Ok, Err, IfOk}
 use Rattle.lb_syntax.specs.SourceView.{view_constant}

@@ -1,4 +1,4 @@
--- Where no value is known anew, all are known.
+-- If a pass finds no further value, all values are known.
 use Rattle.std.proofs.Common.{refl, rules, sym, subst}
 use Rattle.std.proofs.lemmas.List.{with_items_is, places}
 use Rattle.lb_static.specs.ConstantValues.{read_constants, AreStable}

@@ -1,4 +1,4 @@
--- The tasks of the walk speak of constants, and each of these is visited once.
+-- Each task of the walk has the place of a constant, and each constant is visited once.
 use Rattle.std.proofs.Common.{rules, ◌<◌, ◌++◌, ◌∷◌, [], All, Some, ap, sym, subst, ◌∙◌, length}
 use Rattle.std.proofs.Common.{arith}
 use Rattle.std.proofs.lemmas.List.{length-append}

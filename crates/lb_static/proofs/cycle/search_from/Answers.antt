@@ -1,4 +1,4 @@
--- Each step of the search keeps what it knows, and leaves less to do.
+-- Each step of the search keeps its invariant, and leaves fewer steps.
 use Rattle.std.proofs.Common.{refl, rules, arith, ap, sym, subst, ◌∙◌, ◌++◌, ◌∷◌, [], map}
 use Rattle.std.proofs.lemmas.List.{length-map, nil_from_length}
 use Rattle.std.proofs.lemmas.Option.{slice_get_within}

@@ -1,4 +1,4 @@
--- The elaborated program, or the first rule that a program breaks, by the parts of its judgement.
+-- The elaborated program, or the first rule that is broken, from the answers of the parts.
 use Rattle.std.proofs.Common.{refl, sym, ap}
 use Rattle.std.specs.Prelude.{option_map}
 use Rattle.std.proofs.lemmas.Result.{err_from_is_err_and}

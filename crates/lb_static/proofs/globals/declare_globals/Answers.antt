@@ -1,4 +1,4 @@
--- A name that is declared already stands twice among the global names.
+-- A global name that is declared already is doubled.
 use Rattle.std.proofs.Common.{refl, ap, sym, ◌∙◌, ◌++◌, drop}
 use Rattle.std.proofs.lemmas.Result.{err_from_is_err_and}
 use Rattle.lb_syntax.specs.SourceView.{view_source, view_constant, view_node}

@@ -1,4 +1,4 @@
--- The names before a place are other ones.
+-- The names before the place that is found differ from the name.
 use Rattle.std.proofs.Common.{◌∙◌, sym, ap}
 use Rattle.std.specs.Str.{bytes_eq}
 use Rattle.lb_static.proofs.Parameters.{value_passed, value_missed}

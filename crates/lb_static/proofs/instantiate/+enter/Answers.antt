@@ -1,4 +1,4 @@
--- An instance is entered, then those that it calls, one after another.
+-- An instance is entered, then the instances that it calls, one after another.
 use Rattle.std.proofs.Common.{◌≡◌, ◌≤◌, ◌+◌, ◌-◌, ◌++◌, [], true, length, take, get_or, Some, None}
 use Rattle.std.proofs.Common.{Vec, ℕ, List, refl, ap, sym, subst, ◌∙◌, arith, ◌∷◌, suc}
 use Rattle.std.specs.Prelude.{slice_get, IfSome, option_map}
@@ -39,7 +39,7 @@ use Rattle.lb_static.proofs.instantiate.+enter.Goals as goal
 use Rattle.lb_static.proofs.instantiate.+enter.Goals.{in-Some+in_ok-push, in_default}
 use Rattle.lb_static.proofs.ReachedPlaces.{all_item as element_all}
 
--- what stands past the calls
+-- a place holder for a call behind the last one
 abbrev no_call : CallSite
 no_call = record {
   callee =
@@ -290,7 +290,7 @@ loop-call-preserved t c =
     let items = c.deref-site-items.result.now in
     let callee = c.callee_of-callee.result in
     let first = c.args.entered.now.specializations in
-    -- the instances of the calls so far are those of the calls before, and those of this one
+    -- the instances of the calls so far: of the calls before, and of this call
     let whole = λ (P : Program) (p : Path) (n m : ResolvedNode)
     (w : IsInstantiable P r c.args.constants.now)
     (at : slice_get nodes c.args.entry.node.0 ≡ Some n)

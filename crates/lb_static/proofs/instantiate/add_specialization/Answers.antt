@@ -1,4 +1,4 @@
--- A specialization that is added is judged, as those before it.
+-- A specialization that is added is judged, as are those before it.
 use Rattle.std.proofs.Common.{◌≡◌, ◌∙◌, Some, ap, sym, subst, length, arith, inl, inr}
 use Rattle.std.specs.Prelude.{IfSome, slice_get}
 use Rattle.std.proofs.lemmas.List.{length-append}

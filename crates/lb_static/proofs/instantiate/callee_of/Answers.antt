@@ -1,4 +1,4 @@
--- How often a call is entered is read at the place of its count.
+-- The number of times that a call is entered is read at the place of its count.
 use Rattle.std.proofs.Common.{◌∙◌, ap, sym, length}
 use Rattle.lb_static.specs.Instantiated.{times_of}
 use Rattle.lb_static.proofs.InstanceSteps.{times_read}

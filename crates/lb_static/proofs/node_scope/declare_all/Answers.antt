@@ -1,4 +1,4 @@
--- A name that is doubled among some of those of a node is doubled.
+-- A name that is doubled among some names of a node is doubled among all of them.
 use Rattle.std.proofs.Common.{◌∙◌, ◌++◌, ap, subst}
 use Rattle.std.proofs.lemmas.Result.{err_from_is_err_and}
 use Rattle.lb_syntax.specs.Grammar.{declared as declarations_in}

@@ -1,4 +1,4 @@
--- The names of a group are a part of all.
+-- The names of a group are a part of all names.
 use Rattle.std.proofs.Common.{◌∙◌, ◌++◌, ◌+◌, ap, drop}
 use Rattle.std.proofs.lemmas.Result.{err_from_is_err_and}
 use Rattle.lb_syntax.specs.Grammar.{declared as declarations_in}

@@ -1,5 +1,6 @@
--- Where static expressions stand that are found one after another.
-use Rattle.std.proofs.Common.{◌≡◌, ◌-◌, List, [], length, map, take, arith, ap, sym, ◌∙◌, length-append}
+-- The places of static expressions that are found one after another.
+use Rattle.std.proofs.Common.{◌≡◌, ◌-◌, List, [], length, map, take, arith, ap, sym, ◌∙◌}
+use Rattle.std.proofs.Common.{length-append}
 use Rattle.std.proofs.lemmas.List.{length-map, take_all}
 use Rattle.std.proofs.lemmas.Result.{err_from_is_err_and}
 use Rattle.lb_syntax.specs.View.{view_statics}

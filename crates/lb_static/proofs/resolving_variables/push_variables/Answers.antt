@@ -1,4 +1,4 @@
--- One more variable that is like the others.
+-- One more variable like the others.
 use Rattle.std.proofs.Common.{take, ap, ◌∙◌}
 use Rattle.std.proofs.lemmas.List.{take_all}
 use Rattle.lb_static.specs.NodeProgress.{with_alike}

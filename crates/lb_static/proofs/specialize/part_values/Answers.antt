@@ -1,4 +1,4 @@
--- The values before a place stand in front of those that are left.
+-- The values that are done stand before those that are left.
 use Rattle.lb_static.specs.Specialized.{given_by, part_values}
 use Rattle.lb_static.proofs.Evaluations.{values_more, values_none, values_all}
 use Rattle.lb_static.proofs.specialize.part_values.Goals as goal

@@ -1,4 +1,4 @@
--- A name is among the first where it has a place among them.
+-- A name is among the first names where it has a place among them.
 use Rattle.std.proofs.Common.{◌≡◌, ℕ, Bool, true, false, List, take, Option, Some, None, refl, ap}
 use Rattle.std.proofs.Common.{◌∙◌}
 use Rattle.std.specs.Prelude.{is_some, nat_lt, position}

@@ -1,4 +1,4 @@
--- A name that stands before the nodes is none of them.
+-- A name with a place before the names of nodes is not the name of a node.
 use Rattle.std.proofs.Common.{◌≡◌, ◌∙◌, true, false, ap, sym, arith}
 use Rattle.std.specs.Prelude.{nat_le}
 use Rattle.std.proofs.lemmas.Bool.Decides.{nat_tests}

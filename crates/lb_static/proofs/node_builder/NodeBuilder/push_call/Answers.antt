@@ -1,4 +1,4 @@
--- What is kept with one more call.
+-- The progress with one more call.
 use Rattle.lb_static.proofs.Growth.{grown_call}
 use Rattle.lb_static.proofs.node_builder.NodeBuilder.push_call.Goals as goal
 

@@ -1,4 +1,4 @@
--- What is kept with one more static expression.
+-- The progress with one more static expression.
 use Rattle.std.proofs.Common.{subst, sym}
 use Rattle.lb_static.specs.NodeProgress.{StaticStands}
 use Rattle.lb_static.specs.Progressed.{progress}

@@ -1,4 +1,4 @@
--- What is kept with one more variable.
+-- The progress with one more variable.
 use Rattle.lb_static.proofs.Growth.{one_more_variable}
 use Rattle.lb_static.proofs.node_builder.NodeBuilder.push_variable.Goals as goal
 

@@ -1,4 +1,4 @@
--- The node at the first place of a name is the node of that name.
+-- The node at the first place of a name is the node with that name.
 use Rattle.std.proofs.Common.{◌≡◌, ◌∙◌, sym, arith, length, false}
 use Rattle.std.specs.Prelude.{nat_eq}
 use Rattle.std.proofs.lemmas.Bool.Decides.{nat_tests}

@@ -1,4 +1,4 @@
--- A name that is found stays where it is; one that is new goes last, and its place into the map.
+-- A name that is found stays where it is; a new one goes to the end, and its place into the map.
 use Rattle.std.proofs.Common.{◌≡◌, ◌∙◌, ◌++◌, ◌∷◌, [], ℕ, true, false, map, ap, sym, refl}
 use Rattle.std.proofs.Common.{Option, Some, None, arith, length, string_bytes}
 use Rattle.std.specs.Borrow.{Bor}
@@ -47,7 +47,7 @@ pushed c =
     ∙ map-append string_bytes c.self.inside.names.items (c.in_ok-from_str.field-0 ∷ [])
     ∙ ap (λ x. map string_bytes c.self.inside.names.items ++ x ∷ []) c.in_ok-from_str.ensures.ok
 
--- the name is none of those before it
+-- the new name is not among those before it
 fresh : (c : goal.In-Ok)
     → among c.args.name.now (map string_bytes c.self.inside.names.items) ≡ false
 fresh c =

@@ -1,4 +1,4 @@
--- The place in the map is that in the names.
+-- The place in the map is the place in the names.
 use Rattle.std.proofs.Common.{◌≡◌, ◌∙◌, ◌<◌, ℕ, Bool, List, Option, Some, None, length, ap, sym}
 use Rattle.std.specs.Prelude.{IfSome, position}
 use Rattle.std.specs.Str.{bytes_eq}

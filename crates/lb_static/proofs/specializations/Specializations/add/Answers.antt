@@ -1,4 +1,4 @@
--- A key that is not there goes last, with its specialization.
+-- A new key goes to the end, with its specialization.
 use Rattle.std.proofs.Common.{◌≡◌, ◌∙◌, sym, ap, refl, subst, ◌∷◌, ◌++◌, [], None, map, length, ◌+◌}
 use Rattle.std.proofs.Common.{◌<◌, arith, inl, inr}
 use Rattle.std.proofs.lemmas.List.{length-map, length-append}

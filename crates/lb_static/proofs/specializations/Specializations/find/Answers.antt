@@ -1,4 +1,4 @@
--- The key that is found is that of the node with the values.
+-- The key that is found is the key of the node with the values.
 use Rattle.std.proofs.Common.{◌∙◌, ap, sym, subst}
 use Rattle.std.specs.Prelude.{option_map, slice_get}
 use Rattle.std.proofs.lemmas.Option.{slice_get-map}

@@ -1,4 +1,4 @@
--- One more with a new key has its place in the map.
+-- One more static expression with a new key has its place in the map.
 use Rattle.std.proofs.Common.{◌≡◌, ◌∷◌, ◌∙◌, [], Some, ap, arith, length, map, string_bytes, sym}
 use Rattle.std.proofs.lemmas.List.{length-map, map-append}
 use Rattle.std.proofs.lemmas.Map.Text.{btree_map_updates_text}

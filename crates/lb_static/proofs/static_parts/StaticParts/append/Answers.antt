@@ -1,4 +1,4 @@
--- One more without a new key leaves each key where it is.
+-- One more static expression without a new key leaves each key at its place.
 use Rattle.std.specs.Result.{is_ok}
 use Rattle.lb_static.proofs.SharedParts.{pushed_placed}
 use Rattle.lb_static.proofs.static_parts.StaticParts.append.Goals as goal

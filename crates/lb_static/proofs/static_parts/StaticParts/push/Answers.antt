@@ -1,4 +1,4 @@
--- The place of a static expression is that of one that stands for the same, or the last.
+-- The place of a static expression is the place of an equal one, or the last place.
 use Rattle.std.proofs.Common.{◌∙◌, ap, map, option_map, string_bytes, sym}
 use Rattle.std.specs.BTreeMap.{get_by_text}
 use Rattle.lb_static.specs.StaticParts.{part_of}

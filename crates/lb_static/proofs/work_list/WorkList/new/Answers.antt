@@ -1,4 +1,4 @@
--- No place has a turn at first.
+-- At the start no place has a turn.
 use Rattle.std.proofs.Common.{◌≡◌, None, subst, sym, rules, replicate}
 use Rattle.lb_static.specs.WorkLists.{HasTurns}
 use Rattle.lb_static.proofs.WorkLists.{turns_none}

@@ -1,4 +1,4 @@
--- What came up is one of the places that there are.
+-- A place that came up is a place of the list.
 use Rattle.std.proofs.Common.{ap}
 use Rattle.lb_static.proofs.WorkLists.{looked_up}
 use Rattle.lb_static.proofs.work_list.WorkList.place.Goals as goal

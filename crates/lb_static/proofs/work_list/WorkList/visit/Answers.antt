@@ -1,4 +1,4 @@
--- One more place has its turn.
+-- One more place gets the next turn.
 use Rattle.std.proofs.Common.{◌≡◌, ◌<◌, ◌++◌, ◌∷◌, [], Some, length, set, refl, ap, ◌∙◌, sym, subst}
 use Rattle.std.proofs.Common.{rules}
 use Rattle.std.specs.Prelude.{slice_get}

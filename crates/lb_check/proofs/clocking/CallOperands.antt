@@ -1,0 +1,349 @@
+-- The operands of a call: the variables that stand for those of the callee, and their clocks.
+use Rattle.lb_check.proofs.Words.{◌≡◌, ℕ, zero, suc, ◌+◌, ◌<◌, ◌≤◌, inl, inr, true, List, [], ◌∷◌}
+use Rattle.lb_check.proofs.Words.{◌++◌, take, drop, length, map, Option, Some, None, refl, ap, sym}
+use Rattle.lb_check.proofs.Words.{◌∙◌, subst, arith, ◌&&◌, ◌||◌, not, is_some, slice_get, nat_lt}
+use Rattle.lb_check.proofs.Words.{list_all, nat_tests, list_all-append, either_or, Expr}
+use Rattle.lb_check.proofs.Words.{Declaration, and_first, and_second, both_ways, all_at}
+use Rattle.lb_check.proofs.Words.{mapped_from, Program, node_of, texts_of, counts_of, expr_of}
+use Rattle.lb_check.proofs.Words.{exprs_of, is_within, is_unhidden, is_variable, ResolvedNode}
+use Rattle.lb_check.proofs.Words.{Sampling, Term, VariableId, is_variable_at, waits_below}
+use Rattle.lb_check.proofs.Words.{is_occurrence_clocked, are_given_variables, is_clocked_by}
+use Rattle.lb_check.proofs.Words.{clock_of, each_clock, given_inputs, outer, declared_clock, depth}
+use Rattle.lb_check.proofs.Words.{call_count, occurrences, occurrences_each, HasClocks, clock_in}
+use Rattle.lb_check.proofs.Words.{IsClockSet, AreClockSets, is_clocked_on, Context, declared_in}
+use Rattle.lb_check.proofs.Words.{infer_clock, operands_of, given_at, clock_sets, is_given}
+use Rattle.lb_check.proofs.Words.{are_given, input_clocks, ClockSet, NoClock, AnyClock, OneClock}
+use Rattle.lb_static.specs.declared.resolved.Variable.{Variable as Declared}
+use Rattle.lb_check.specs.CallClocks.{waits_for_given}
+use Rattle.lb_check.proofs.clocking.CallClocks.{all_given}
+use Rattle.lb_check.proofs.clocking.ClockedNodes.{as_many_names, inputs_clocked, outputs_clocked}
+use Rattle.lb_check.proofs.clocking.FittingClocks.{IsGiven, IsWithin, fits_on}
+use Rattle.lb_check.proofs.clocking.GivenNames.{operand_at, clock_set_at, term_at, variable_stands}
+use Rattle.lb_check.proofs.clocking.GivenNames.{variable_within, input_held, input_at}
+use Rattle.lb_check.proofs.clocking.GivenNames.{variable_held}
+use Rattle.lb_check.proofs.clocking.GivenNames.{given_in}
+use Rattle.lb_check.proofs.lists.ListPairs.{taken, get_taken, get_mapped, each_pair, pair_at}
+use Rattle.lb_check.proofs.lists.ListPairs.{pairs_from}
+use Rattle.lb_check.proofs.lists.ListPairs.{get_dropped}
+use Rattle.lb_check.proofs.clocking.ClockTests.{clock_same}
+use Rattle.lb_check.proofs.clocking.OuterClocks.{stood, place_name, variable_at, seen, expected_on}
+use Rattle.lb_check.proofs.clocking.OuterClocks.{AreGiven}
+use Rattle.lb_check.proofs.clocking.OuterClocks.{StandFor, HaveNames, outer_all}
+use Rattle.lb_check.proofs.clocking.OwnClocks.{clock_of_waiting}
+use Rattle.lb_check.specs.CallClocks as code
+use Rattle.lb_check.specs.Clocks as tree
+
+-- ## The operands that the code finds
+
+operand_is : (ctx : Context) (es : List Term) (i : ℕ) →
+    is_some (given_at (operands_of ctx es) i) ≡ is_variable_at es i
+operand_is ctx [] i = refl
+operand_is ctx (t ∷ es) zero = refl
+operand_is ctx (t ∷ es) (suc i) = operand_is ctx es i
+
+same_given : (ctx : Context) (inputs : ℕ) (es : List Term) (o : Option Sampling) →
+    is_given inputs (operands_of ctx es) o ≡ waits_for_given inputs es o
+same_given ctx inputs es None = refl
+same_given ctx inputs es (Some s) =
+    ap (λ b. not (nat_lt s.variable.0 inputs) || b) (operand_is ctx es s.variable.0)
+
+all_same : (ctx : Context) (inputs : ℕ) (es : List Term) (vs : List Declared)
+    → list_all (λ v. is_given inputs (operands_of ctx es) v.clock) vs ≡ list_all
+    (code.is_given inputs es) vs
+all_same ctx inputs es [] = refl
+all_same ctx inputs es (v ∷ vs) =
+    ap (λ b. b && list_all (λ v. is_given inputs (operands_of ctx es) v.clock) vs)
+    (same_given ctx inputs es v.clock)
+    ∙ ap (λ b. code.is_given inputs es v && b) (all_same ctx inputs es vs)
+
+some_of : {A : Type 0} (o : Option A) → is_some o ≡ true → (x : A) × (o ≡ Some x)
+some_of None e = absurd cc
+some_of (Some x) e = (x, refl)
+
+-- ## The variables that a callee's parameters wait for
+
+module _ (callee : ResolvedNode) (hc : HasClocks callee) where
+  wait_inputs : list_all (waits_below callee.inputs)
+      (take callee.inputs callee.variables.items) ≡ true
+  wait_inputs =
+      sym (inputs_clocked hc.nodes callee hc.resolved hc.distinct)
+      ∙ and_first (list_all (is_clocked_by (node_of callee).inputs) (node_of callee).inputs) _
+      hc.declared
+
+  wait_outputs : list_all (waits_below (callee.inputs + callee.outputs))
+      (take callee.outputs (drop callee.inputs callee.variables.items)) ≡ true
+  wait_outputs =
+      sym (outputs_clocked hc.nodes callee hc.resolved hc.distinct)
+      ∙ and_first (list_all (is_clocked_by ((node_of callee).inputs ++ (node_of callee).outputs))
+      (node_of callee).outputs) _
+      (and_second (list_all (is_clocked_by (node_of callee).inputs) (node_of callee).inputs) _
+      hc.declared)
+
+  below : (n : ℕ) (v : Declared) (s : Sampling) → v.clock ≡ Some s → waits_below n v ≡ true →
+      s.variable.0 < n
+  below n v s is e = let lt : nat_lt s.variable.0 n ≡ true = rw is at e in grind (arith, nat_tests)
+
+  pub input_waits : (i : ℕ) (v : Declared) (s : Sampling) → i < callee.inputs →
+      slice_get callee.variables.items i ≡ Some v → v.clock ≡ Some s → s.variable.0 < callee.inputs
+  input_waits i v s lt at is =
+      below callee.inputs v s is (all_at (waits_below callee.inputs)
+      (take callee.inputs callee.variables.items) i v wait_inputs
+      (taken callee.inputs callee.variables.items i v at lt))
+
+  pub output_waits : (j : ℕ) (v : Declared) (s : Sampling) → j < callee.outputs →
+      slice_get callee.variables.items (callee.inputs + j) ≡ Some v → v.clock ≡ Some s
+      → s.variable.0 < callee.inputs + callee.outputs
+  output_waits j v s lt at is =
+      let here : slice_get (drop callee.inputs callee.variables.items) j ≡ Some v =
+      get_dropped callee.inputs callee.variables.items j ∙ at in
+      below (callee.inputs + callee.outputs) v s is
+      (all_at (waits_below (callee.inputs + callee.outputs))
+      (take callee.outputs (drop callee.inputs callee.variables.items)) j v wait_outputs
+      (taken callee.outputs (drop callee.inputs callee.variables.items) j v here lt))
+
+  -- no variable waits for itself
+  pub not_itself : (x : VariableId) (v : Declared) (s : Sampling) →
+      slice_get callee.variables.items x.0 ≡ Some v → x.0 < length callee.variables.items →
+      v.clock ≡ Some s
+      → s.variable.0 ≡ x.0 → ⊥
+  not_itself x v s at lt is e =
+      let own = λ (i : ℕ). declared_clock (node_of callee) (place_name callee i) in
+      let deeper : suc (depth (own s.variable.0)) ≡ depth (own x.0) =
+      ap depth (clock_of_waiting callee hc x v s at lt is) in
+      let level : depth (own s.variable.0) ≡ depth (own x.0) = ap (λ i. depth (own i)) e in
+      absurd (omega (arith, deeper, level))
+
+-- ## The clocks on which operands stand
+
+module _ (P : Program) (here : ResolvedNode) where
+  pub stood_is : (e : Expr) (s : ClockSet) → IsClockSet P here e s → (k : tree.Clock) (n : ℕ) →
+      is_clocked_on P here k n e ≡ stood here k s
+  stood_is e NoClock p k n = p k n
+  stood_is e AnyClock p k n = p.1 k n
+  stood_is e (OneClock c) p k n = p.2 k n
+
+  -- an expression that may stand on a clock determines no other clock
+  pub stood_clock : (e : Expr) (s : ClockSet) → IsClockSet P here e s → (z k : tree.Clock) →
+      stood here z s ≡ true → clock_of P (node_of here) e ≡ Some k → k ≡ z
+  stood_clock e NoClock p z k t is = absurd cc
+  stood_clock e AnyClock p z k t is = let none : clock_of P (node_of here) e ≡ None = p.0 in
+      absurd cc
+  stood_clock e (OneClock c) p z k t is =
+      let only : clock_of P (node_of here) e ≡ Some (clock_in here c) = p.1 in
+      let same : k ≡ clock_in here c = cc in
+      same ∙ sym (clock_same z (clock_in here c) t)
+
+  pub stands_at : (ctx : Context) (es : List Term) (i : ℕ) (t : Term) → AreClockSets P here ctx es →
+      slice_get es i ≡ Some t
+      → IsClockSet P here (expr_of (texts_of here) t) (infer_clock ctx t)
+  stands_at ctx [] i t all e = absurd cc
+  stands_at ctx (u ∷ es) zero t all e =
+      let same : u ≡ t = cc in subst
+      (λ z. IsClockSet P here (expr_of (texts_of here) z) (infer_clock ctx z)) same all.0
+  stands_at ctx (u ∷ es) (suc i) t all e = stands_at ctx es i t all.1 e
+
+  pub each_stood : (ctx : Context) (es : List Term) → AreClockSets P here ctx es →
+      (ks : List tree.Clock) (n : ℕ)
+      → list_all (is_occurrence_clocked P (node_of here))
+      (occurrences_each P (node_of here) ks n (exprs_of (texts_of here) es))
+      ≡ each_pair (stood here) ks (clock_sets (operands_of ctx es))
+  each_stood ctx [] all [] n = refl
+  each_stood ctx [] all (k ∷ ks) n = refl
+  each_stood ctx (t ∷ es) all [] n = refl
+  each_stood ctx (t ∷ es) all (k ∷ ks) n =
+      let e = expr_of (texts_of here) t in
+      let more = occurrences_each P (node_of here) ks (n + call_count e)
+      (exprs_of (texts_of here) es) in
+      list_all-append (is_occurrence_clocked P (node_of here))
+      (occurrences P (node_of here) k n e) more
+      ∙ ap (λ b. b && list_all (is_occurrence_clocked P (node_of here)) more)
+      (stood_is e (infer_clock ctx t) all.0 k n)
+      ∙ ap (λ b. stood here k (infer_clock ctx t) && b)
+      (each_stood ctx es all.1 ks (n + call_count e))
+
+  -- the clock that each operand determines, at the place of the operand
+  pub clock_there : (es : List Term) (i : ℕ) (t : Term) → slice_get es i ≡ Some t
+      → slice_get (each_clock P (node_of here) (exprs_of (texts_of here) es)) i ≡ Some
+      (clock_of P (node_of here) (expr_of (texts_of here) t))
+  clock_there [] i t e = absurd cc
+  clock_there (u ∷ es) zero t e = let same : u ≡ t = cc in
+      ap (λ z. Some (clock_of P (node_of here) (expr_of (texts_of here) z))) same
+  clock_there (u ∷ es) (suc i) t e = clock_there es i t e
+
+  pub clock_from : (es : List Term) (i : ℕ) (o : Option tree.Clock) →
+      slice_get (each_clock P (node_of here) (exprs_of (texts_of here) es)) i ≡ Some o
+      → (t : Term) × (slice_get es i ≡ Some t)
+      × (clock_of P (node_of here) (expr_of (texts_of here) t) ≡ o)
+  clock_from [] i o e = absurd cc
+  clock_from (u ∷ es) zero o e = (u, refl, cc)
+  clock_from (u ∷ es) (suc i) o e = clock_from es i o e
+
+module _ (P : Program) (here callee : ResolvedNode) (h : HasClocks here) (hc : HasClocks callee)
+    (ctx : Context) (declares : ctx.variable ≡ declared_in here)
+    (es : List Term) (w : list_all (is_within (counts_of here)) es ≡ true)
+    (u : list_all (is_unhidden (texts_of here)) es ≡ true)
+    (stand : AreClockSets P here ctx es) where
+  -- each awaited input is given a variable exactly where the code finds it
+  pub are_given_is : are_given_variables (node_of here) (node_of callee)
+      (exprs_of (texts_of here) es) ≡ are_given callee (operands_of ctx es)
+  are_given_is =
+      all_given here callee hc.nodes hc.resolved hc.distinct
+      (as_many_names h.nodes here h.resolved h.distinct) es w u
+      ∙ sym (all_same ctx callee.inputs es
+      (take (callee.inputs + callee.outputs) callee.variables.items))
+
+  pub operand_within : (i : ℕ) (y : VariableId) → given_at (operands_of ctx es) i ≡ Some y →
+      is_variable (counts_of here) y ≡ true
+  operand_within i y e =
+      let t = operand_at ctx es i y e in
+      variable_within (counts_of here) t.0 y t.2
+      (all_at (is_within (counts_of here)) es i t.0 w t.1)
+
+  pub operand_stands : (i : ℕ) (y : VariableId) → given_at (operands_of ctx es) i ≡ Some y →
+      slice_get (clock_sets (operands_of ctx es)) i ≡ Some (OneClock (declared_in here y))
+  operand_stands i y e =
+      let t = operand_at ctx es i y e in
+      clock_set_at ctx es i t.0 t.1 ∙ ap Some (variable_stands ctx t.0 y t.2)
+      ∙ ap (λ f. Some (OneClock (f y))) declares
+
+  pub clock_set_within : (i : ℕ) (s : ClockSet) →
+      slice_get (clock_sets (operands_of ctx es)) i ≡ Some s → IsWithin here s
+  clock_set_within i s e l only =
+      let t = term_at ctx es i s e in
+      let there = stands_at P here ctx es i t.0 stand t.1 in
+      let stands : IsClockSet P here (expr_of (texts_of here) t.0) (OneClock l) =
+      subst (IsClockSet P here (expr_of (texts_of here) t.0)) (t.2 ∙ only) there in
+      stands.0
+
+  module _ (all : are_given callee (operands_of ctx es) ≡ true) where
+    pub waited_given : (i : ℕ) (v : Declared) (s : Sampling) → i < callee.inputs + callee.outputs →
+        slice_get callee.variables.items i ≡ Some v → v.clock ≡ Some s
+        → s.variable.0 < callee.inputs →
+        (y : VariableId) × (given_at (operands_of ctx es) s.variable.0 ≡ Some y)
+    waited_given i v s lt at is less =
+        let inside = taken (callee.inputs + callee.outputs) callee.variables.items i v at lt in
+        let passes = all_at (λ v. is_given callee.inputs (operands_of ctx es) v.clock)
+        (take (callee.inputs + callee.outputs) callee.variables.items) i v all inside in
+        let small : nat_lt s.variable.0 callee.inputs ≡ true = grind (arith, nat_tests) in
+        let there : is_given callee.inputs (operands_of ctx es) (Some s) ≡ true =
+        subst (λ o. is_given callee.inputs (operands_of ctx es) o ≡ true) is passes in
+        some_of (given_at (operands_of ctx es) s.variable.0) (rw small at there)
+
+  -- ## The inputs of the callee
+
+  abbrev inputs_given : tree.Given
+  inputs_given = given_inputs (node_of callee).inputs (exprs_of (texts_of here) es)
+
+  -- the clocks of the arguments, where the callee runs on clock `b`
+  abbrev pub inputs_seen : tree.Clock → List tree.Clock
+  inputs_seen b =
+      map (λ (d : Declaration). outer b
+      (given_inputs (node_of callee).inputs (exprs_of (texts_of here) es))
+      (declared_clock (node_of callee) d.name)) (node_of callee).inputs
+
+  module _ (Y : ℕ → Option VariableId)
+      (Y_is : (i : ℕ) → i < callee.inputs → Y i ≡ given_at (operands_of ctx es) i) where
+    pub own_inputs : StandFor here callee Y
+        (λ i. slice_get (clock_sets (operands_of ctx es)) i) callee.inputs
+    own_inputs i y lt e = let there = sym (Y_is i lt) ∙ e in
+        (operand_stands i y there, operand_within i y there)
+
+    pub names_inputs : HaveNames here callee Y
+        (given_inputs (node_of callee).inputs (exprs_of (texts_of here) es)) callee.inputs
+    names_inputs i y lt e = ap (λ o. either_or o (place_name callee i))
+        (given_in callee hc here ctx es i y lt (sym (Y_is i lt) ∙ e))
+
+    module _ (m : ℕ) (few : callee.inputs ≤ m) (waits : AreGiven callee Y callee.inputs m) where
+      pub inputs_is_given : (i : ℕ) (c : Option Sampling) →
+          slice_get (input_clocks callee) i ≡ Some c → IsGiven here Y c
+      inputs_is_given i c e s is =
+          let v = mapped_from (λ v. v.clock) (take callee.inputs callee.variables.items) i c e in
+          let t = get_taken callee.inputs callee.variables.items i v.0 v.1 in
+          let less = t.1 in
+          let z = waits i v.0 s (omega arith) t.0 (v.2 ∙ is) in
+          let small = z.0 in
+          (z.1.0, z.1.1, (own_inputs s.variable.0 z.1.0 small z.1.1).1)
+
+      abbrev S : ℕ → Option ClockSet
+      S = λ i. slice_get (clock_sets (operands_of ctx es)) i
+
+      pub outer_stand : (b : tree.Clock) →
+          each_pair (stood here) (inputs_seen b) (clock_sets (operands_of ctx es)) ≡ true
+          → (i : ℕ) (s : ClockSet) → i < callee.inputs → S i ≡ Some s →
+          stood here (seen callee inputs_given b i) s ≡ true
+      outer_stand b fits i s lt e =
+          let d = input_held callee hc i lt in
+          let here_seen = get_mapped (λ (d : Declaration). outer b inputs_given
+          (declared_clock (node_of callee) d.name)) (node_of callee).inputs i d.0 d.1 in
+          let k = outer b inputs_given (declared_clock (node_of callee) d.0.name) in
+          let stands : stood here k s ≡ true =
+          pair_at (stood here) (inputs_seen b)
+          (clock_sets (operands_of ctx es)) i k s fits here_seen e in
+          subst (λ n. stood here (outer b inputs_given (declared_clock (node_of callee) n))
+          s ≡ true) (input_at callee hc i d.0 d.1).0 stands
+
+      pub code_stand : (b : tree.Clock) →
+          fits_on here h Y b (input_clocks callee) (clock_sets (operands_of ctx es)) ≡ true
+          → (i : ℕ) (v : Declared) (s : ClockSet) → i < callee.inputs →
+          slice_get callee.variables.items i ≡ Some v → S i ≡ Some s
+          → stood here (expected_on here Y b v.clock) s ≡ true
+      code_stand b fits i v s lt at e =
+          let c = get_mapped (λ v. v.clock) (take callee.inputs callee.variables.items) i v
+          (taken callee.inputs callee.variables.items i v at lt) in
+          pair_at (λ c s. stood here (expected_on here Y b c) s) (input_clocks callee)
+          (clock_sets (operands_of ctx es)) i v.clock s fits c e
+
+      pub outer_known : (b : tree.Clock) →
+          each_pair (stood here) (inputs_seen b) (clock_sets (operands_of ctx es)) ≡ true
+          → (x : VariableId) (v : Declared) → x.0 < m →
+          slice_get callee.variables.items x.0 ≡ Some v →
+          expected_on here Y b v.clock ≡ seen callee inputs_given b x.0
+      outer_known b fits =
+          outer_all here callee h hc Y S callee.inputs m few waits own_inputs inputs_given
+          names_inputs b
+          (λ i v s lt at e. inl (outer_stand b fits i s lt e))
+
+      pub code_known : (b : tree.Clock) →
+          fits_on here h Y b (input_clocks callee) (clock_sets (operands_of ctx es)) ≡ true
+          → (x : VariableId) (v : Declared) → x.0 < m →
+          slice_get callee.variables.items x.0 ≡ Some v →
+          expected_on here Y b v.clock ≡ seen callee inputs_given b x.0
+      code_known b fits =
+          outer_all here callee h hc Y S callee.inputs m few waits own_inputs inputs_given
+          names_inputs b
+          (λ i v s lt at e. inr (code_stand b fits i v s lt at e))
+
+      pub to_code : (b : tree.Clock) →
+          each_pair (stood here) (inputs_seen b) (clock_sets (operands_of ctx es)) ≡ true
+          → fits_on here h Y b (input_clocks callee) (clock_sets (operands_of ctx es)) ≡ true
+      to_code b fits =
+          pairs_from (λ c s. stood here (expected_on here Y b c) s) (input_clocks callee)
+          (clock_sets (operands_of ctx es)) (λ i c s p q.
+          let v = mapped_from (λ v. v.clock) (take callee.inputs callee.variables.items) i c p in
+          let t = get_taken callee.inputs callee.variables.items i v.0 v.1 in
+          let less = t.1 in
+          let known = outer_known b fits (variable_at i) v.0 (omega arith) t.0 in
+          ap (λ k. stood here k s) (ap (expected_on here Y b) (sym v.2) ∙ known)
+          ∙ outer_stand b fits i s less q)
+
+      pub to_outer : (b : tree.Clock) →
+          fits_on here h Y b (input_clocks callee) (clock_sets (operands_of ctx es)) ≡ true
+          → each_pair (stood here) (inputs_seen b) (clock_sets (operands_of ctx es)) ≡ true
+      to_outer b fits =
+          pairs_from (stood here) (inputs_seen b) (clock_sets (operands_of ctx es)) (λ i k s p q.
+          let d = mapped_from (λ (d : Declaration). outer b inputs_given
+          (declared_clock (node_of callee) d.name)) (node_of callee).inputs i k p in
+          let place = input_at callee hc i d.0 d.1 in
+          let less = place.1 in
+          let v = variable_held callee hc i (omega arith) in
+          let known = code_known b fits (variable_at i) v.0 (omega arith) v.1 in
+          let same : k ≡ seen callee inputs_given b i = sym d.2
+          ∙ ap (λ n. outer b inputs_given (declared_clock (node_of callee) n)) place.0 in
+          ap (λ k. stood here k s) (same ∙ sym known) ∙ code_stand b fits i v.0 s less v.1 q)
+
+      -- operands stand on the clocks that the caller sees exactly where they stand on those that
+      -- the code expects
+      pub same_fits : (b : tree.Clock) →
+          each_pair (stood here) (inputs_seen b) (clock_sets (operands_of ctx es))
+          ≡ fits_on here h Y b (input_clocks callee) (clock_sets (operands_of ctx es))
+      same_fits b = both_ways _ _ (to_code b) (to_outer b)

@@ -1,0 +1,142 @@
+-- Tests of whether two clocks of a node are the same, and the declared clock of a variable.
+use Rattle.lb_check.proofs.Words.{◌≡◌, ◌≢◌, ℕ, zero, suc, ◌<◌, Bool, true, false, List, [], ◌∷◌}
+use Rattle.lb_check.proofs.Words.{◌++◌, length, Option, Some, None, refl, ap, sym, ◌∙◌, subst}
+use Rattle.lb_check.proofs.Words.{arith, ◌&&◌, is_some, slice_get, nat_eq, list_all, bytes_eq}
+use Rattle.lb_check.proofs.Words.{nat_tests, bytes_eq-Decides, ◌>>=◌, either_or, Name, all_at}
+use Rattle.lb_check.proofs.Words.{item_at, and_first, and_second, both_ways, among, variable_names}
+use Rattle.lb_check.proofs.Words.{is_variable, is_declared_within, is_sampling_within, are_statics}
+use Rattle.lb_check.proofs.Words.{node_of, counts_of, ResolvedNode, Sampling, Variable, VariableId}
+use Rattle.lb_check.proofs.Words.{is_clocked_by, is_clock, same, HasClocks, name_in, clock_in}
+use Rattle.lb_check.proofs.Words.{is_clock_within, clock_with, declared_in, is_same}
+use Rattle.std.proofs.Math.Bool.{and_self, or-true}
+use Rattle.lb_check.specs.Clocks.{Clock, Base, On, clock_or, variable_clock, declared_clock}
+use Rattle.lb_check.specs.declared.own_clock.Clock.{Clock as Compared}
+use Rattle.lb_check.proofs.clocking.ClockedNodes.{as_many_names}
+use Rattle.lb_check.proofs.clocking.OwnClocks.{clock_of_free, clock_of_waiting, same_signs}
+use Rattle.lb_check.proofs.clocking.OwnClocks.{other_variable}
+use Rattle.lb_check.proofs.clocking.OwnClocks.{beq_same, clock_itself}
+use Rattle.lb_check.proofs.clocking.ClockSetRows.{same_is as same_one}
+use Rattle.lb_check.specs.declared.own_clock.Clock.TheVariants as code
+
+-- ## Clocks of a text
+
+pub clock_same : (k l : Clock) → is_clock k l ≡ true → k ≡ l
+clock_same Base Base e = refl
+clock_same Base (On l y other) e = absurd cc
+clock_same (On k x sign) Base e = absurd cc
+clock_same (On k x sign) (On l y other) e =
+    let rest = and_second (bytes_eq x y) _ e in
+    let names : x ≡ y = (bytes_eq-Decides x y).0 (and_first (bytes_eq x y) _ e) in
+    let signs : sign ≡ other = same_one sign other (and_first (same sign other) _ rest) in
+    let clocks : k ≡ l = clock_same k l (and_second (same sign other) _ rest) in
+    cc
+
+turned : (k l : Clock) → is_clock k l ≡ true → is_clock l k ≡ true
+turned k l e = subst (λ m. is_clock m k ≡ true) (clock_same k l e) (clock_itself k)
+
+pub clock_turned : (k l : Clock) → is_clock k l ≡ is_clock l k
+clock_turned k l = both_ways (is_clock k l) (is_clock l k) (turned k l) (turned l k)
+
+-- a clock is the same as two equal clocks exactly where it is the same as the first
+pub on_one : (k c d : Clock) → is_clock c d ≡ true → (is_clock k c && is_clock k d) ≡ is_clock k c
+on_one k c d e = subst (λ m. (is_clock k c && is_clock k m) ≡ is_clock k c) (clock_same c d e)
+    (and_self (is_clock k c))
+
+-- no clock is the same as two clocks that differ
+pub on_two : (k c d : Clock) → is_clock c d ≡ false → (is_clock k c && is_clock k d) ≡ false
+on_two k c d e = by (is_clock k c) refl
+  where
+    by : (b : Bool) → is_clock k c ≡ b → (b && is_clock k d) ≡ false
+    by false is = refl
+    by true is = subst (λ m. is_clock m d ≡ false) (sym (clock_same k c is)) e
+
+-- ## Clocks of a node
+
+pub among_at : (xs : List Name) (i : ℕ) (x : Name) → slice_get xs i ≡ Some x → among x xs ≡ true
+among_at [] i x e = absurd cc
+among_at (n ∷ xs) zero x e =
+    let one : n ≡ x = cc in
+    let z : bytes_eq x n ≡ true = (bytes_eq-Decides x n).1 (sym one) in
+    rw z refl
+among_at (n ∷ xs) (suc i) x e = rw (among_at xs i x e) (or-true (bytes_eq x n))
+
+some_is : (o : Option Clock) → is_some o ≡ true → o ≡ Some (clock_or o)
+some_is None e = absurd cc
+some_is (Some k) e = refl
+
+module _ (r : ResolvedNode) (h : HasClocks r) where
+  pub same_is : (c d : Compared) → is_clock_within r c ≡ true → is_clock_within r d ≡ true
+      → is_same c d ≡ is_clock (clock_in r c) (clock_in r d)
+  same_is code.Base code.Base wc wd = refl
+  same_is code.Base (code.On y other) wc wd = refl
+  same_is (code.On x sign) code.Base wc wd = refl
+  same_is (code.On x sign) (code.On y other) wc wd = by (nat_eq x.0 y.0) refl
+    where
+      by : (b : Bool) → nat_eq x.0 y.0 ≡ b
+          → (b && same sign other) ≡ is_clock (clock_in r (code.On x sign))
+          (clock_in r (code.On y other))
+      by true e =
+          let one : x.0 ≡ y.0 = grind (arith, nat_tests) in
+          sym (beq_same sign other) ∙ same_signs r h (code.On x sign)
+          (code.On y other) x y sign other refl refl wc wd one
+      by false e =
+          let two : x.0 ≢ y.0 = grind (arith, nat_tests) in
+          sym e ∙ other_variable r h (code.On x sign)
+          (code.On y other) x y sign other refl refl wc wd two
+
+  module _ (x : VariableId) (w : is_variable (counts_of r) x ≡ true) where
+    below : x.0 < length r.variables.items
+    below = grind (arith, nat_tests)
+
+    variable : (v : Variable) × (slice_get r.variables.items x.0 ≡ Some v)
+    variable = item_at r.variables.items x.0 below
+
+    name_there : slice_get (variable_names (node_of r)) x.0 ≡ Some (name_in r x)
+    name_there =
+        let names = variable_names (node_of r) in
+        let as_many = as_many_names h.nodes r h.resolved h.distinct in
+        let lt = below in
+        let z = item_at names x.0 (omega (arith, as_many, lt)) in
+        z.1 ∙ ap Some (sym (ap (λ o. either_or o []) z.1))
+
+    -- the name of a variable is among the names of the node
+    pub name_among : among (name_in r x) (variable_names (node_of r)) ≡ true
+    name_among = among_at (variable_names (node_of r)) x.0 (name_in r x) name_there
+
+    -- the declared clock of a variable, as the code reads it, is that of the text
+    pub declared_is : clock_in r (declared_in r x) ≡ declared_clock (node_of r) (name_in r x)
+    declared_is =
+        let v = variable in
+        ap (λ o. clock_in r (clock_with (o >>= λ v. v.clock))) v.1 ∙ by v.0 v.1 v.0.clock refl
+      where
+        by : (v : Variable) → slice_get r.variables.items x.0 ≡ Some v → (o : Option Sampling) →
+            v.clock ≡ o
+            → clock_in r (clock_with o) ≡ declared_clock (node_of r) (name_in r x)
+        by v at None is = clock_of_free r h x v at below is
+        by v at (Some s) is = clock_of_waiting r h x v s at below is
+
+    pub declared_within : is_clock_within r (declared_in r x) ≡ true
+    declared_within =
+        let v = variable in
+        ap (λ o. is_clock_within r (clock_with (o >>= λ v. v.clock))) v.1
+        ∙ by v.0 v.1 v.0.clock refl
+      where
+        by : (v : Variable) → slice_get r.variables.items x.0 ≡ Some v → (o : Option Sampling) →
+            v.clock ≡ o
+            → is_clock_within r (clock_with o) ≡ true
+        by v at None is = refl
+        by v at (Some s) is =
+            let within = all_at (is_declared_within (counts_of r)) r.variables.items x.0 v
+            h.resolved.declared_within at in
+            subst (λ o. is_sampling_within (counts_of r) o ≡ true) is
+            (and_second (are_statics (counts_of r) v.first_size v.sizes) _ within)
+
+    pub has_declared : variable_clock (node_of r) (name_in r x) ≡ Some
+        (declared_clock (node_of r) (name_in r x))
+    has_declared =
+        let n = node_of r in
+        let last = and_second (list_all (is_clocked_by (n.inputs ++ n.outputs)) n.outputs) _
+        (and_second (list_all (is_clocked_by n.inputs) n.inputs) _ h.declared) in
+        some_is (variable_clock n (name_in r x))
+        (all_at (λ x. is_some (variable_clock n x)) (variable_names n) x.0
+        (name_in r x) last name_there)

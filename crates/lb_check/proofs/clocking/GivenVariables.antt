@@ -1,0 +1,402 @@
+-- The variables that the code finds to stand for clock parameters of a callee are those that the
+-- text gives.
+use Rattle.lb_check.proofs.Words.{◌≡◌, ℕ, zero, suc, ◌+◌, ◌<◌, Bool, true, false, List, [], ◌∷◌}
+use Rattle.lb_check.proofs.Words.{◌++◌, length, map, take, Option, Some, None, refl, ap, ap₂, sym}
+use Rattle.lb_check.proofs.Words.{◌∙◌, subst, arith, ◌||◌, ◌==◌, filter, not, is_some, option_map}
+use Rattle.lb_check.proofs.Words.{nat_eq, nat_lt, slice_get, if◌then◌else◌, list_all, list_any}
+use Rattle.lb_check.proofs.Words.{bytes_eq, nat_tests, append_assoc, length-append, map-append}
+use Rattle.lb_check.proofs.Words.{length-take-le, slice_get_within, add-sub_cancel_left, lt-ltb}
+use Rattle.lb_check.proofs.Words.{either_or, holds, listed, zip2, Name, Declaration, item_at}
+use Rattle.lb_check.proofs.Words.{and_first, and_second, variable_names, node_of, statics_of}
+use Rattle.lb_check.proofs.Words.{texts_of, declaration_of, expr_of, exprs_of, name_at}
+use Rattle.lb_check.proofs.Words.{ResolvedNode, Sampling, Term, VariableId, variable_of, Given}
+use Rattle.lb_check.proofs.Words.{as_variable, given_inputs, given_outputs, waits_below, pair_names}
+use Rattle.lb_check.proofs.Words.{is_clock_parameter, given_parameters, HasClocks, name_in}
+use Rattle.lb_check.proofs.Words.{given_from, given_variable, given_variables, is_awaited, pair_at}
+use Rattle.lb_check.proofs.Words.{waits_at, Context, are_given, given_at, is_given, operands_of}
+use Rattle.lb_check.proofs.Words.{stands_for, GivenVariable}
+use Rattle.std.specs.Prelude.{cond}
+use Rattle.std.proofs.lemmas.List.Elements.{filter-append}
+use Rattle.lb_static.specs.declared.resolved.Variable.{Variable as Declared}
+use Rattle.lb_check.proofs.clocking.ClockLists.{later_place}
+use Rattle.lb_check.proofs.clocking.ClockedNodes.{as_many_names, same_taken, within_names}
+use Rattle.lb_check.proofs.clocking.ClockedNodes.{all_taken}
+use Rattle.lb_check.proofs.clocking.ClockedNodes.{zip_split}
+use Rattle.lb_check.proofs.lists.DistinctNames.{distinct_at}
+use Rattle.lb_check.proofs.clocking.GivenNames.{all_variables, input_at, output_at, variable_as}
+use Rattle.lb_check.proofs.clocking.GivenNames.{variable_held}
+use Rattle.lb_check.proofs.clocking.OuterClocks.{place_name}
+
+-- ## Lists
+
+abbrev no_pair : Option GivenVariable
+no_pair = None
+
+abbrev one_pair : Name → Name → Given
+one_pair y x = (x, y) ∷ []
+
+abbrev pair_where : Name → Name → Bool → Given
+pair_where x y b = cond b (one_pair y x) []
+
+abbrev listed_pair : Name → Option Name → Given
+listed_pair x o = listed (λ y. one_pair y x) o
+
+-- an item passes both tests, where one passes `f` and all pass `g`
+both_pass : {A : Type 0} (f g : A → Bool) (xs : List A) → list_any f xs ≡ true →
+    list_all g xs ≡ true → (x : A) × (f x ≡ true) × (g x ≡ true)
+both_pass f g [] some all = absurd cc
+both_pass {A = A} f g (x ∷ xs) some all = by (f x) refl (both_pass f g xs)
+  where
+    by : (b : Bool) → f x ≡ b →
+        (list_any f xs ≡ true → list_all g xs ≡ true → (x : A) × (f x ≡ true) × (g x ≡ true)) →
+        (x : A) × (f x ≡ true) × (g x ≡ true)
+    by true is further = (x, is, and_first (g x) (list_all g xs) all)
+    by false is further =
+        further (sym (ap (λ b. b || list_any f xs) is) ∙ some)
+        (and_second (g x) (list_all g xs) all)
+
+-- ## Clock parameters
+
+module _ (callee : ResolvedNode) (hc : HasClocks callee) where
+  abbrev names : List Name
+  names = variable_names (node_of callee)
+
+  abbrev declared_as : Name → Declared → Declaration
+  declared_as x v = declaration_of (variable_names (node_of callee)) (statics_of callee) x v
+
+  -- two names are the same exactly where their places are
+  same_place : (y : VariableId) (i : ℕ) (x : Name) →
+      y.0 < length (variable_names (node_of callee)) →
+      slice_get (variable_names (node_of callee)) i ≡ Some x →
+      bytes_eq (name_at (variable_names (node_of callee)) y) x ≡ nat_eq y.0 i
+  same_place y i x less at = by (nat_eq y.0 i) refl
+    where
+      there : bytes_eq (name_at (variable_names (node_of callee)) y) x ≡ (i == y.0)
+      there =
+          let z = item_at names y.0 less in
+          let own : slice_get names y.0 ≡ Some (name_at names y) =
+          z.1 ∙ ap (λ o. Some (either_or o [])) (sym z.1) in
+          distinct_at names y.0 i (name_at names y) x hc.distinct own at
+
+      by : (b : Bool) → nat_eq y.0 i ≡ b →
+          bytes_eq (name_at (variable_names (node_of callee)) y) x ≡ b
+      by true is = let e : (i == y.0) ≡ true = grind (arith, nat_tests) in there ∙ e
+      by false is = let e : (i == y.0) ≡ false = grind (arith, nat_tests) in there ∙ e
+
+  module _ (i : ℕ) (x : Name) (at : slice_get (variable_names (node_of callee)) i ≡ Some x) where
+    abbrev awaits : Declaration → Bool
+    awaits d = holds (λ s. bytes_eq s.variable x) d.clock
+
+    awaited_one : (z : Name) (v : Declared) (o : Option Sampling) → v.clock ≡ o →
+        waits_below (length (variable_names (node_of callee))) v ≡ true →
+        awaits (declared_as z v) ≡ waits_at i v.clock
+    awaited_one z v None is b = rw is refl
+    awaited_one z v (Some s) is b =
+        let below : nat_lt s.variable.0 (length names) ≡ true = rw is at b in
+        let less : s.variable.0 < length names = grind (arith, nat_tests) in
+        rw is (same_place s.variable i x less at)
+
+    awaited_list : (xs : List Name) (vs : List Declared) → length xs ≡ length vs →
+        list_all (waits_below (length (variable_names (node_of callee)))) vs ≡ true →
+        list_any awaits (zip2 declared_as xs vs) ≡ list_any (λ v. waits_at i v.clock) vs
+    awaited_list [] [] long b = refl
+    awaited_list (z ∷ xs) [] long b = absurd (omega (arith, long))
+    awaited_list [] (v ∷ vs) long b = absurd (omega (arith, long))
+    awaited_list (z ∷ xs) (v ∷ vs) long b =
+        let below = waits_below (length names) in
+        ap₂ (λ b c. b || c)
+        (awaited_one z v v.clock refl (and_first (below v) (list_all below vs) b))
+        (awaited_list xs vs (omega (arith, long)) (and_second (below v) (list_all below vs) b))
+
+    -- a name is that of a clock parameter exactly where the code finds so
+    clock_parameter : is_clock_parameter (node_of callee) x ≡ is_awaited callee i
+    clock_parameter =
+        let allowed = (node_of callee).inputs ++ (node_of callee).outputs in
+        let k = length allowed in
+        let vs = callee.variables.items in
+        let many = as_many_names hc.nodes callee hc.resolved hc.distinct in
+        let split = zip_split declared_as names vs allowed (node_of callee).locals
+        (hc.resolved.declared ∙ sym (append_assoc (node_of callee).inputs (node_of callee).outputs
+        (node_of callee).locals)) in
+        let size : k ≡ callee.inputs + callee.outputs =
+        length-append (node_of callee).inputs (node_of callee).outputs
+        ∙ ap (λ m. m + length (node_of callee).outputs) (sym hc.resolved.inputs)
+        ∙ ap (λ m. callee.inputs + m) (sym hc.resolved.outputs) in
+        ap (list_any awaits) split.0
+        ∙ awaited_list (take k names) (take k vs) (same_taken k names vs (sym many))
+        (all_taken _ k vs (within_names hc.nodes callee hc.resolved hc.distinct))
+        ∙ ap (λ m. list_any (λ (v : Declared). waits_at i v.clock) (take m vs)) size
+
+  -- ## Places
+
+  abbrev IsParameter : Name × Name → Bool
+  IsParameter g = is_clock_parameter (node_of callee) g.0
+
+  -- no pairs are found at `m` places from `a` on, where nothing stands for them
+  none_from : (Y : ℕ → Option VariableId) (a m : ℕ) → ((j : ℕ) → j < m → Y (a + j) ≡ None) →
+      given_from callee Y a m ≡ []
+  none_from Y a zero none = refl
+  none_from Y a (suc m) none =
+      let zeroth : a ≡ a + 0 = omega arith in
+      let here : Y a ≡ None = ap Y zeroth ∙ none 0 (omega arith) in
+      let gone : given_variable callee Y a ≡ no_pair =
+      ap (λ o. if is_awaited callee a then option_map (pair_at a) o else None) here
+      ∙ neither (is_awaited callee a) in
+      ap₂ (λ o l. listed (λ g. g ∷ []) o ++ l) gone
+      (none_from Y (suc a) m (λ j lt.
+      let next : suc a + j ≡ a + suc j = omega arith in
+      ap Y next ∙ none (suc j) (omega (arith, lt))))
+    where
+      neither : (b : Bool) → (if b then no_pair else no_pair) ≡ no_pair
+      neither true = refl
+      neither false = refl
+
+  module _ (here : ResolvedNode) where
+    abbrev named_pairs : List GivenVariable → Given
+    named_pairs gs = map (pair_names (variable_names (node_of callee)) here) gs
+
+    -- the pair of one more parameter is found
+    one_given : (a : ℕ) (x : Name) (o : Option Name) (p : Option VariableId) (b : Bool) →
+        is_clock_parameter (node_of callee) x ≡ b → is_awaited callee a ≡ b →
+        (b ≡ true → o ≡ option_map (name_in here) p) →
+        x ≡ place_name callee a →
+        filter IsParameter (listed_pair x o)
+        ≡ named_pairs (listed (λ g. g ∷ [])
+        (if is_awaited callee a then option_map (pair_at a) p else None))
+    one_given a x None p false is aw same name =
+        ap (λ b. named_pairs (listed (λ g. g ∷ [])
+        (if b then option_map (pair_at a) p else None))) (sym aw)
+    one_given a x (Some y) p false is aw same name =
+        ap (pair_where x y) is
+        ∙ ap (λ b. named_pairs (listed (λ g. g ∷ [])
+        (if b then option_map (pair_at a) p else None))) (sym aw)
+    one_given a x o p true is aw same name =
+        ap (λ o. filter IsParameter (listed_pair x o)) (same refl)
+        ∙ by p
+        ∙ ap (λ b. named_pairs (listed (λ g. g ∷ [])
+        (if b then option_map (pair_at a) p else None))) (sym aw)
+      where
+        by : (p : Option VariableId) →
+            filter IsParameter (listed_pair x (option_map (name_in here) p))
+            ≡ map (pair_names (variable_names (node_of callee)) here)
+            (listed (λ g. g ∷ []) (option_map (pair_at a) p))
+        by None = refl
+        by (Some y) =
+            ap (pair_where x (name_in here y)) is
+            ∙ ap (one_pair (name_in here y)) name
+
+    -- the declarations `ds` are those of the parameters from place `a` on
+    record StandFrom (a : ℕ) (ds : List Declaration) : Type 0 where
+      name : (j : ℕ) (d : Declaration) → slice_get ds j ≡ Some d →
+          d.name ≡ place_name callee (a + j)
+      awaited : (j : ℕ) (d : Declaration) → slice_get ds j ≡ Some d →
+          is_clock_parameter (node_of callee) d.name ≡ is_awaited callee (a + j)
+
+    later : (a : ℕ) (d : Declaration) (ds : List Declaration) → StandFrom a (d ∷ ds) →
+        StandFrom (suc a) ds
+    later a d ds s = record {
+      name = λ j e at.
+          let next : a + suc j ≡ suc a + j = omega arith in
+          s.name (suc j) e at ∙ ap (place_name callee) next;
+      awaited = λ j e at.
+          let next : a + suc j ≡ suc a + j = omega arith in
+          s.awaited (suc j) e at ∙ ap (is_awaited callee) next;
+    }
+
+    first_name : (a : ℕ) (d : Declaration) (ds : List Declaration) → StandFrom a (d ∷ ds) →
+        d.name ≡ place_name callee a
+    first_name a d ds s =
+        let e : a + 0 ≡ a = omega arith in s.name 0 d refl ∙ ap (place_name callee) e
+
+    first_awaited : (a : ℕ) (d : Declaration) (ds : List Declaration) → StandFrom a (d ∷ ds) →
+        is_clock_parameter (node_of callee) d.name ≡ is_awaited callee a
+    first_awaited a d ds s =
+        let e : a + 0 ≡ a = omega arith in s.awaited 0 d refl ∙ ap (is_awaited callee) e
+
+    -- ## Inputs
+
+    variable_text : (t : Term) (p : Option VariableId) → variable_of t ≡ p → is_some p ≡ true →
+        as_variable (expr_of (texts_of here) t) ≡ option_map (name_in here) p
+    variable_text t None is some = absurd cc
+    variable_text t (Some y) is some = variable_as (texts_of here) t y is
+
+    inputs_given : (ctx : Context) (Y : ℕ → Option VariableId) (a : ℕ) (ds : List Declaration)
+        (es : List Term) → StandFrom a ds →
+        ((j : ℕ) → j < length ds → Y (a + j) ≡ given_at (operands_of ctx es) j) →
+        ((j : ℕ) → j < length ds → is_awaited callee (a + j) ≡ true → is_some (Y (a + j)) ≡ true) →
+        filter IsParameter (given_inputs ds (exprs_of (texts_of here) es))
+        ≡ named_pairs (given_from callee Y a (length ds))
+    inputs_given ctx Y a [] es s ys all = refl
+    inputs_given ctx Y a (d ∷ ds) [] s ys all =
+        ap named_pairs (sym (none_from Y a (suc (length ds)) (λ j lt. ys j lt)))
+    inputs_given ctx Y a (d ∷ ds) (t ∷ es) s ys all =
+        let e : a ≡ a + 0 = omega arith in
+        let p : Y a ≡ variable_of t = ap Y e ∙ ys 0 (omega arith) in
+        let some = λ (b : is_awaited callee a ≡ true). sym (ap is_some p)
+        ∙ ap (λ i. is_some (Y i)) e
+        ∙ all 0 (omega arith) (sym (ap (is_awaited callee) e) ∙ b) in
+        let is = first_awaited a d ds s in
+        filter-append IsParameter (listed_pair d.name (as_variable (expr_of (texts_of here) t)))
+        (given_inputs ds (exprs_of (texts_of here) es))
+        ∙ ap₂ (λ l m. l ++ m)
+        (one_given a d.name (as_variable (expr_of (texts_of here) t)) (Y a) (is_awaited callee a) is
+        refl
+        (λ b. variable_text t (variable_of t) refl (some b)
+        ∙ ap (option_map (name_in here)) (sym p))
+        (first_name a d ds s))
+        (inputs_given ctx Y (suc a) ds es (later a d ds s)
+        (λ j lt. let next : suc a + j ≡ a + suc j = omega arith in
+        ap Y next ∙ ys (suc j) (omega (arith, lt)))
+        (λ j lt b. let next : suc a + j ≡ a + suc j = omega arith in
+        ap (λ i. is_some (Y i)) next
+        ∙ all (suc j) (omega (arith, lt)) (sym (ap (is_awaited callee) next) ∙ b)))
+        ∙ sym (map-append (pair_names (variable_names (node_of callee)) here)
+        (listed (λ g. g ∷ []) (given_variable callee Y a))
+        (given_from callee Y (suc a) (length ds)))
+
+    -- ## Outputs
+
+    outputs_given : (Y : ℕ → Option VariableId) (a : ℕ) (ds : List Declaration)
+        (lefts : List VariableId) → StandFrom a ds →
+        ((j : ℕ) → j < length ds → Y (a + j) ≡ slice_get lefts j) →
+        filter IsParameter (given_outputs ds (map (name_in here) lefts))
+        ≡ named_pairs (given_from callee Y a (length ds))
+    outputs_given Y a [] lefts s ys = refl
+    outputs_given Y a (d ∷ ds) [] s ys =
+        ap named_pairs (sym (none_from Y a (suc (length ds)) (λ j lt. ys j lt)))
+    outputs_given Y a (d ∷ ds) (x ∷ lefts) s ys =
+        let e : a ≡ a + 0 = omega arith in
+        let p : Y a ≡ Some x = ap Y e ∙ ys 0 (omega arith) in
+        let is = first_awaited a d ds s in
+        filter-append IsParameter (one_pair (name_in here x) d.name)
+        (given_outputs ds (map (name_in here) lefts))
+        ∙ ap₂ (λ l m. l ++ m)
+        (one_given a d.name (Some (name_in here x)) (Y a) (is_awaited callee a) is refl
+        (λ b. ap (option_map (name_in here)) (sym p)) (first_name a d ds s))
+        (outputs_given Y (suc a) ds lefts (later a d ds s)
+        (λ j lt. let next : suc a + j ≡ a + suc j = omega arith in
+        ap Y next ∙ ys (suc j) (omega (arith, lt))))
+        ∙ sym (map-append (pair_names (variable_names (node_of callee)) here)
+        (listed (λ g. g ∷ []) (given_variable callee Y a))
+        (given_from callee Y (suc a) (length ds)))
+
+    -- ## All parameters
+
+    split_from : (Y : ℕ → Option VariableId) (a m n : ℕ) →
+        given_from callee Y a (m + n)
+        ≡ given_from callee Y a m ++ given_from callee Y (a + m) n
+    split_from Y a zero n =
+        let e : 0 + n ≡ n = omega arith in
+        let f : a ≡ a + 0 = omega arith in
+        ap (given_from callee Y a) e ∙ ap (λ i. given_from callee Y i n) f
+    split_from Y a (suc m) n =
+        let e : suc m + n ≡ suc (m + n) = omega arith in
+        let f : suc a + m ≡ a + suc m = omega arith in
+        let one = listed (λ g. g ∷ []) (given_variable callee Y a) in
+        ap (given_from callee Y a) e
+        ∙ ap (λ l. one ++ l) (split_from Y (suc a) m n
+        ∙ ap (λ i. given_from callee Y (suc a) m ++ given_from callee Y i n) f)
+        ∙ sym (append_assoc one (given_from callee Y (suc a) m) (given_from callee Y (a + suc m) n))
+
+    named_at : (i : ℕ) → i < callee.inputs + callee.outputs →
+        slice_get (variable_names (node_of callee)) i ≡ Some (place_name callee i)
+    named_at i lt =
+        let v = variable_held callee hc i lt in
+        let many = as_many_names hc.nodes callee hc.resolved hc.distinct in
+        let there = slice_get_within callee.variables.items i v.0 v.1 in
+        let z = item_at names i (omega (arith, many, there)) in
+        z.1 ∙ ap (λ o. Some (either_or o [])) (sym z.1)
+
+    inputs_stand : StandFrom 0 (node_of callee).inputs
+    inputs_stand = record {
+      name = λ j d at.
+          let e : j ≡ 0 + j = omega arith in
+          (input_at callee hc j d at).0 ∙ ap (place_name callee) e;
+      awaited = λ j d at.
+          let e : j ≡ 0 + j = omega arith in
+          let i = input_at callee hc j d at in
+          let less = i.1 in
+          ap (is_clock_parameter (node_of callee)) i.0
+          ∙ clock_parameter j (place_name callee j) (named_at j (omega (arith, less)))
+          ∙ ap (is_awaited callee) e;
+    }
+
+    outputs_stand : StandFrom callee.inputs (node_of callee).outputs
+    outputs_stand = record {
+      name = λ j d at. (output_at callee hc j d at).0;
+      awaited = λ j d at.
+          let i = output_at callee hc j d at in
+          let less = i.1 in
+          ap (is_clock_parameter (node_of callee)) i.0
+          ∙ clock_parameter (callee.inputs + j) (place_name callee (callee.inputs + j))
+          (named_at (callee.inputs + j) (omega (arith, less)));
+    }
+
+    module _ (ctx : Context) (es : List Term) (lefts : List VariableId)
+        (all : are_given callee (operands_of ctx es) ≡ true) where
+      abbrev Y : ℕ → Option VariableId
+      Y = stands_for callee.inputs (operands_of ctx es) lefts
+
+      Y_in : (j : ℕ) → j < callee.inputs →
+          stands_for callee.inputs (operands_of ctx es) lefts j ≡ given_at (operands_of ctx es) j
+      Y_in j lt = rw (lt-ltb j callee.inputs lt) refl
+
+      Y_out : (j : ℕ) →
+          stands_for callee.inputs (operands_of ctx es) lefts (callee.inputs + j)
+          ≡ slice_get lefts j
+      Y_out j = rw (later_place callee.inputs j, add-sub_cancel_left callee.inputs j) refl
+
+      -- an awaited input is given a variable
+      waited_some : (i : ℕ) → i < callee.inputs → is_awaited callee i ≡ true →
+          is_some (given_at (operands_of ctx es) i) ≡ true
+      waited_some i lt b =
+          let v = both_pass (λ (v : Declared). waits_at i v.clock)
+          (λ (v : Declared). is_given callee.inputs (operands_of ctx es) v.clock)
+          (take (callee.inputs + callee.outputs) callee.variables.items) b all in
+          by v.0.clock v.1 v.2
+        where
+          by : (o : Option Sampling) → waits_at i o ≡ true →
+              is_given callee.inputs (operands_of ctx es) o ≡ true →
+              is_some (given_at (operands_of ctx es) i) ≡ true
+          by None w g = absurd cc
+          by (Some s) w g =
+              let waits : nat_eq s.variable.0 i ≡ true = w in
+              let same : s.variable.0 ≡ i = grind (arith, nat_tests) in
+              let less : nat_lt i callee.inputs ≡ true = lt-ltb i callee.inputs lt in
+              sym (ap (λ j. not (nat_lt j callee.inputs)
+              || is_some (given_at (operands_of ctx es) j)) same
+              ∙ ap (λ c. not c || is_some (given_at (operands_of ctx es) i)) less) ∙ g
+
+      as_many : length (take (callee.inputs + callee.outputs) callee.variables.items)
+          ≡ callee.inputs + callee.outputs
+      as_many = length-take-le (callee.inputs + callee.outputs) callee.variables.items
+          (all_variables callee hc)
+
+      -- the pairs that the code finds are those that the caller gives
+      pub given_is :
+          given_parameters (node_of callee) (exprs_of (texts_of here) es) (map (name_in here) lefts)
+          ≡ map (pair_names (variable_names (node_of callee)) here)
+          (given_variables callee (operands_of ctx es) lefts)
+      given_is =
+          let ins = given_inputs (node_of callee).inputs (exprs_of (texts_of here) es) in
+          let outs = given_outputs (node_of callee).outputs (map (name_in here) lefts) in
+          let zeroth : 0 + callee.inputs ≡ callee.inputs = omega arith in
+          filter-append IsParameter ins outs
+          ∙ ap₂ (λ l m. l ++ m)
+          (inputs_given ctx Y 0 (node_of callee).inputs es inputs_stand
+          (λ j lt. let e : 0 + j ≡ j = omega arith in
+          ap Y e ∙ Y_in j (subst (λ m. j < m) (sym hc.resolved.inputs) lt))
+          (λ j lt b. let e : 0 + j ≡ j = omega arith in
+          let less = subst (λ m. j < m) (sym hc.resolved.inputs) lt in
+          ap (λ i. is_some (Y i)) e ∙ ap is_some (Y_in j less)
+          ∙ waited_some j less (sym (ap (is_awaited callee) e) ∙ b))
+          ∙ ap (λ m. named_pairs (given_from callee Y 0 m)) (sym hc.resolved.inputs))
+          (outputs_given Y callee.inputs (node_of callee).outputs lefts outputs_stand
+          (λ j lt. Y_out j)
+          ∙ ap (λ m. named_pairs (given_from callee Y callee.inputs m)) (sym hc.resolved.outputs))
+          ∙ sym (map-append (pair_names (variable_names (node_of callee)) here)
+          (given_from callee Y 0 callee.inputs) (given_from callee Y callee.inputs callee.outputs))
+          ∙ ap named_pairs (sym (ap (given_from callee Y 0) as_many
+          ∙ split_from Y 0 callee.inputs callee.outputs
+          ∙ ap (λ i. given_from callee Y 0 callee.inputs ++ given_from callee Y i callee.outputs)
+          zeroth))

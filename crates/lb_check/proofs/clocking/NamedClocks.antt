@@ -1,0 +1,453 @@
+-- The clocks in the text of a node that keeps the rules of clocks wait for its variables alone.
+use Rattle.lb_check.proofs.Words.{◌≡◌, ℕ, zero, suc, Bool, true, false, cond, List, [], ◌∷◌, ◌++◌}
+use Rattle.lb_check.proofs.Words.{length, map, Option, Some, None, refl, ap, sym, ◌∙◌, subst, ◌&&◌}
+use Rattle.lb_check.proofs.Words.{◌||◌, not, IfSome, option_map, list_all, bytes_eq}
+use Rattle.lb_check.proofs.Words.{bytes_eq-Decides, or_right, ◌>>=◌, Every, either_or, holds}
+use Rattle.lb_check.proofs.Words.{listed, or_else, bind_some, and_first, and_second, implied, among}
+use Rattle.lb_check.proofs.Words.{variable_names, variables, named, Clock, On, Given, sampled}
+use Rattle.lb_check.proofs.Words.{clock_within, variable_clock, clock_or, declared_clock, parent}
+use Rattle.lb_check.proofs.Words.{above, own_depth, given_name, outer, given_inputs, base_from}
+use Rattle.lb_check.proofs.Words.{base_clock, first_result_clock, argument_clocks, is_clocked_by}
+use Rattle.lb_check.proofs.Words.{are_declared_clocks, is_given_variable, are_given_variables}
+use Rattle.lb_syntax.specs.Tree.{Name, Exprs, Declaration, Sampling, Node}
+use Rattle.lb_syntax.proofs.SameNames.{name_same}
+use Rattle.lb_check.specs.Clocks.{Base}
+use Rattle.lb_check.specs.ClockRules.{if_clocked}
+use Rattle.lb_check.proofs.lists.Every.{Every-tested, Every-both, Every-first, Every-second}
+
+-- ## Options
+
+pub either :
+    {A : Type 0} (Q : A → Type 0) (o p : Option A) → IfSome o Q → IfSome p Q →
+    IfSome (or_else o p) Q
+either Q (Some a) p h g = h
+either Q None p h g = g
+
+pub if_some :
+    {A : Type 0} (Q : A → Type 0) (o : Option A) → ((a : A) → o ≡ Some a → Q a) → IfSome o Q
+if_some Q None h = tt
+if_some Q (Some a) h = h a refl
+
+-- ## The declaration that is found by a name
+
+-- a statement on all declarations holds of the one that is found by its name
+pub named_every :
+    (E : Declaration → Type 0) (x : Name) (ds : List Declaration) (v : Declaration) →
+    Every E ds → named (λ d. d.name) x ds ≡ Some v → E v × (bytes_eq v.name x ≡ true)
+named_every E x [] v all e = absurd cc
+named_every E x (d ∷ ds) v all e = by (named_every E x ds v all.1) (bytes_eq d.name x) refl e
+  where
+    by : (named (λ d. d.name) x ds ≡ Some v → E v × (bytes_eq v.name x ≡ true)) → (b : Bool) →
+        bytes_eq d.name x ≡ b → cond b (Some d) (named (λ d. d.name) x ds) ≡ Some v →
+        E v × (bytes_eq v.name x ≡ true)
+    by rest true same h =
+        let one : d ≡ v = cc in
+        subst (λ w. E w × (bytes_eq w.name x ≡ true)) one (all.0, same)
+    by rest false other h = rest h
+
+module _ (V : Name → Type 0) where
+  -- a statement on the names of all declarations holds of a name among these names
+  pub among_has :
+      (x : Name) (ds : List Declaration) → Every (λ d. V d.name) ds →
+      among x (map (λ d. d.name) ds) ≡ true → V x
+  among_has x [] all e = absurd cc
+  among_has x (d ∷ ds) all e = by (among_has x ds all.1) (bytes_eq x d.name) refl e
+    where
+      by : (among x (map (λ d. d.name) ds) ≡ true → V x) → (b : Bool) → bytes_eq x d.name ≡ b →
+          (b || among x (map (λ d. d.name) ds)) ≡ true → V x
+      by rest true same h = subst V (sym (name_same x d.name same)) all.0
+      by rest false other h = rest h
+
+  pub named_has :
+      (x : Name) (ds : List Declaration) (v : Declaration) → Every (λ d. V d.name) ds →
+      named (λ d. d.name) x ds ≡ Some v → V x
+  named_has x ds v all e =
+      let found = named_every (λ d. V d.name) x ds v all e in
+      subst V (name_same v.name x found.1) found.0
+
+turned : (x y : Name) → bytes_eq x y ≡ false → bytes_eq y x ≡ true → ⊥
+turned x y e f =
+    let same = (bytes_eq-Decides x y).1 (sym (name_same y x f)) in
+    absurd cc
+
+-- a statement on the first declarations holds of the one that is found by one of their names
+pub found_first :
+    (E : Declaration → Type 0) (x : Name) (ds rest : List Declaration) (v : Declaration) →
+    Every E ds → among x (map (λ d. d.name) ds) ≡ true →
+    named (λ d. d.name) x (ds ++ rest) ≡ Some v → E v
+found_first E x [] rest v all e is = absurd cc
+found_first E x (d ∷ ds) rest v all e is =
+    by (found_first E x ds rest v all.1) (bytes_eq d.name x) refl is
+  where
+    later : (b : Bool) → bytes_eq x d.name ≡ b → bytes_eq d.name x ≡ false →
+        (b || among x (map (λ d. d.name) ds)) ≡ true → among x (map (λ d. d.name) ds) ≡ true
+    later true same other h = absurd (turned d.name x other same)
+    later false same other h = h
+
+    by : (among x (map (λ d. d.name) ds) ≡ true →
+        named (λ d. d.name) x (ds ++ rest) ≡ Some v → E v) → (b : Bool) → bytes_eq d.name x ≡ b →
+        cond b (Some d) (named (λ d. d.name) x (ds ++ rest)) ≡ Some v → E v
+    by next true same h = let one : d ≡ v = cc in subst E one all.0
+    by next false other h = next (later (bytes_eq x d.name) refl other e) h
+
+-- a name among none of the first declarations finds the next one, where that has the name
+found_next :
+    (x : Name) (ds : List Declaration) (d : Declaration) (rest : List Declaration) →
+    among x (map (λ d. d.name) ds) ≡ false → bytes_eq d.name x ≡ true →
+    named (λ d. d.name) x (ds ++ (d ∷ rest)) ≡ Some d
+found_next x [] d rest e is = ap (λ b. cond b (Some d) (named (λ d. d.name) x rest)) is
+found_next x (c ∷ ds) d rest e is =
+    by (λ h. found_next x ds d rest h is) (bytes_eq x c.name) refl e
+  where
+    other : (b : Bool) → bytes_eq c.name x ≡ b → bytes_eq x c.name ≡ false → b ≡ false
+    other true same differs = absurd (turned x c.name differs same)
+    other false same differs = refl
+
+    by : (among x (map (λ d. d.name) ds) ≡ false →
+        named (λ d. d.name) x (ds ++ (d ∷ rest)) ≡ Some d) → (b : Bool) → bytes_eq x c.name ≡ b →
+        (b || among x (map (λ d. d.name) ds)) ≡ false →
+        named (λ d. d.name) x (c ∷ (ds ++ (d ∷ rest))) ≡ Some d
+    by next true same h = absurd cc
+    by next false differs h =
+        ap (λ b. cond b (Some c) (named (λ d. d.name) x (ds ++ (d ∷ rest))))
+        (other (bytes_eq c.name x) refl differs)
+        ∙ next h
+
+same_turned : (x y : Name) → bytes_eq x y ≡ true → bytes_eq y x ≡ true
+same_turned x y e = (bytes_eq-Decides y x).1 (sym (name_same x y e))
+
+-- a name among declarations and one more, and among none of the first, is that of the last
+last_name :
+    (x : Name) (ds : List Declaration) (d : Declaration) →
+    among x (map (λ d. d.name) ds) ≡ false →
+    among x (map (λ d. d.name) (ds ++ (d ∷ []))) ≡ true → bytes_eq x d.name ≡ true
+last_name x [] d none e = by (bytes_eq x d.name) e
+  where
+    by : (b : Bool) → (b || false) ≡ true → b ≡ true
+    by true e = refl
+    by false e = absurd cc
+last_name x (c ∷ ds) d none e = by (last_name x ds d) (bytes_eq x c.name) none e
+  where
+    by : (among x (map (λ d. d.name) ds) ≡ false →
+        among x (map (λ d. d.name) (ds ++ (d ∷ []))) ≡ true → bytes_eq x d.name ≡ true) →
+        (b : Bool) → (b || among x (map (λ d. d.name) ds)) ≡ false →
+        (b || among x (map (λ d. d.name) (ds ++ (d ∷ [])))) ≡ true → bytes_eq x d.name ≡ true
+    by rest true none e = absurd cc
+    by rest false none e = rest none e
+
+-- the name of each declaration is among the names of all
+pub own_names : (ds : List Declaration) → Every (λ d. among d.name (map (λ d. d.name) ds) ≡ true) ds
+own_names ds = from ds (λ x e. e)
+  where
+    from : (cs : List Declaration) →
+        ((x : Name) → among x (map (λ d. d.name) cs) ≡ true →
+        among x (map (λ d. d.name) ds) ≡ true) →
+        Every (λ d. among d.name (map (λ d. d.name) ds) ≡ true) cs
+    from [] h = tt
+    from (c ∷ cs) h = (
+      h c.name (ap (λ b. b || among c.name (map (λ d. d.name) cs))
+          ((bytes_eq-Decides c.name c.name).1 refl)),
+      from cs (λ x e. h x (or_right (bytes_eq x c.name) _ e)),
+    )
+
+-- a declaration that waits for one of `ds` is clocked by `ds`
+only_clock :
+    (ds : List Declaration) (d : Declaration) (s : Sampling) → d.clock ≡ Some s →
+    among s.variable (map (λ v. v.name) ds) ≡ true → is_clocked_by ds d ≡ true
+only_clock ds d s is e =
+    subst
+    (λ o. list_all (λ s. among s.variable (map (λ v. v.name) ds)) (listed (λ s. s ∷ []) o) ≡ true)
+    (sym is) (ap (λ b. b && true) e)
+
+-- ## Clocks over some names
+
+-- `V` holds of each variable of a clock
+abbrev pub IsOver : (Name → Type 0) → Clock → Type 0
+IsOver V Base = Unit {0}
+IsOver V (On k x sign) = IsOver V k × V x
+
+module _ (V : Name → Type 0) where
+  pub above_over : (n : ℕ) (k : Clock) → IsOver V k → IsOver V (above n k)
+  above_over zero k h = h
+  above_over (suc n) Base h = tt
+  above_over (suc n) (On k x sign) h = above_over n k h.0
+
+  pub parent_over : (o : Option Clock) → IfSome o (IsOver V) → IfSome (o >>= parent) (IsOver V)
+  parent_over None h = tt
+  parent_over (Some Base) h = tt
+  parent_over (Some (On k x sign)) h = h.0
+
+  pub clock_or_over : (o : Option Clock) → IfSome o (IsOver V) → IsOver V (clock_or o)
+  clock_or_over None h = tt
+  clock_or_over (Some k) h = h
+
+  pub outer_over :
+      (k : Clock) (given : Given) (own : Clock) → IsOver V k →
+      IsOver (λ x. V (given_name given x)) own → IsOver V (outer k given own)
+  outer_over k given Base h own = h
+  outer_over k given (On b x sign) h own = (outer_over k given b h own.0, own.1)
+
+  pub base_over : (k : Clock) (n : Node) → IsOver V k → IsOver V (base_clock k n)
+  base_over k n h = by n.outputs
+    where
+      by : (ds : List Declaration) → IsOver V (base_from k n ds)
+      by [] = h
+      by (d ∷ ds) = above_over (own_depth n d) k h
+
+-- ## Declared clocks
+
+-- a statement on each variable that a variable waits for holds of all that its clock waits for
+module _ (V : Name → Type 0) (vars : List Declaration) (E : Declaration → Type 0)
+    (waits : (d : Declaration) (s : Sampling) (v : Declaration) → E d → d.clock ≡ Some s →
+    named (λ v. v.name) s.variable vars ≡ Some v → V s.variable × E v) where
+  pub within_over :
+      (n : ℕ) (d : Declaration) (k : Clock) → E d → clock_within n vars d ≡ Some k → IsOver V k
+  within_over zero d k h e = absurd cc
+  within_over (suc n) d k h e = by (within_over n) d.clock refl e
+    where
+      by : ((v : Declaration) (k : Clock) → E v → clock_within n vars v ≡ Some k → IsOver V k) →
+          (o : Option Sampling) → d.clock ≡ o →
+          sampled (clock_within n vars) vars o ≡ Some k → IsOver V k
+      by next None is g = let base : Base ≡ k = cc in subst (IsOver V) base tt
+      by next (Some s) is g =
+          let v = bind_some (named (λ v. v.name) s.variable vars)
+          (λ v. clock_within n vars v >>= λ k. Some (On k s.variable s.sign)) k g in
+          let up = bind_some (clock_within n vars v.0) (λ k. Some (On k s.variable s.sign)) k v.2 in
+          let w = waits d s v.0 h is v.1 in
+          let on : On up.0 s.variable s.sign ≡ k = cc in
+          subst (IsOver V) on (next v.0 up.0 w.1 up.1, w.0)
+
+  pub named_over :
+      (n : ℕ) (x : Name) → ((v : Declaration) → named (λ v. v.name) x vars ≡ Some v → E v) →
+      IfSome (named (λ v. v.name) x vars >>= clock_within n vars) (IsOver V)
+  named_over n x h =
+      if_some (IsOver V) (named (λ v. v.name) x vars >>= clock_within n vars) (λ k e.
+      let v = bind_some (named (λ v. v.name) x vars) (clock_within n vars) k e in
+      within_over n v.0 k (h v.0 v.1) v.2)
+
+module _ (V : Name → Type 0) (n : Node) (all : Every (λ d. V d.name) (variables n)) where
+  -- the clock of a variable is over the variables of its node
+  pub variable_over : (x : Name) → IfSome (variable_clock n x) (IsOver V)
+  variable_over x =
+      named_over V (variables n) (λ d. Unit {0})
+      (λ d s v h is found. (named_has V s.variable (variables n) v all found, tt))
+      (suc (length (variables n))) x (λ v found. tt)
+
+  pub declared_over : (x : Name) → IsOver V (declared_clock n x)
+  declared_over x = clock_or_over V (variable_clock n x) (variable_over x)
+
+  -- the clock of `when` is over the variables of the node
+  pub when_over : (x : Name) (sign : Bool) →
+      IfSome (option_map (λ k. On k x sign) (variable_clock n x)) (IsOver V)
+  when_over x sign = by (variable_clock n x) refl (variable_over x)
+    where
+      by : (o : Option Clock) → variable_clock n x ≡ o → IfSome o (IsOver V) →
+          IfSome (option_map (λ k. On k x sign) o) (IsOver V)
+      by None is h = tt
+      by (Some k) is h =
+          let v = bind_some (named (λ d. d.name) x (variables n))
+          (clock_within (suc (length (variables n))) (variables n)) k is in
+          (h, named_has V x (variables n) v.0 all v.1)
+
+-- ## The variables that a call is given
+
+-- a test on the clock of a declaration holds of the clock that it has
+pub one_clock :
+    (test : Sampling → Bool) (d : Declaration) (s : Sampling) → if_clocked test d ≡ true →
+    d.clock ≡ Some s → test s ≡ true
+one_clock test d s e is =
+    and_first (test s) true
+    (subst (λ o. list_all test (listed (λ s. s ∷ []) o) ≡ true) is e)
+
+-- `Seen` holds of all that the clock of an input waits for, where it holds of each input for which
+-- a variable of the caller is given
+module _ (Seen : Name → Type 0) (here callee : Node) (es : Exprs)
+    (declared : are_declared_clocks callee ≡ true)
+    (is_given : are_given_variables here callee es ≡ true)
+    (seen : (x : Name) (g : Name × Name) →
+    named (λ g. g.0) x (given_inputs callee.inputs es) ≡ Some g →
+    among g.1 (variable_names here) ≡ true → Seen x) where
+  abbrev given : Given
+  given = given_inputs callee.inputs es
+
+  -- a parameter waits for inputs alone, and is given a variable for the one that it waits for
+  abbrev Waits : Declaration → Type 0
+  Waits d =
+      (is_clocked_by callee.inputs d ≡ true) × (is_given_variable here callee given d ≡ true)
+
+  inputs_wait : Every Waits callee.inputs
+  inputs_wait =
+      Every-both (λ d. is_clocked_by callee.inputs d ≡ true)
+      (λ d. is_given_variable here callee given d ≡ true) callee.inputs
+      (Every-tested (is_clocked_by callee.inputs) callee.inputs (and_first _ _ declared))
+      (Every-first (λ d. is_given_variable here callee given d ≡ true) callee.inputs
+      callee.outputs
+      (Every-tested (is_given_variable here callee given) (callee.inputs ++ callee.outputs)
+      is_given))
+
+  -- `Seen` holds of an awaited input that is given a variable of the caller
+  given_there :
+      (x : Name) (o : Option (Name × Name)) → named (λ g. g.0) x given ≡ o →
+      holds (λ g. among g.1 (variable_names here)) o ≡ true → Seen x
+  given_there x None is e = absurd cc
+  given_there x (Some g) is e = seen x g is e
+
+  abbrev input_names : List Name
+  input_names = map (λ d. d.name) callee.inputs
+
+  waited_given : (d : Declaration) (s : Sampling) → is_given_variable here callee given d ≡ true →
+      d.clock ≡ Some s → among s.variable input_names ≡ true → Seen s.variable
+  waited_given d s w is e =
+      let test = one_clock (λ s.
+      not (among s.variable (map (λ i. i.name) callee.inputs))
+      || holds (λ g. among g.1 (variable_names here)) (named (λ g. g.0) s.variable given))
+      d s w is in
+      given_there s.variable (named (λ g. g.0) s.variable given) refl
+      (implied (among s.variable input_names) _ test e)
+
+  waits :
+      (d : Declaration) (s : Sampling) (v : Declaration) → Waits d → d.clock ≡ Some s →
+      named (λ v. v.name) s.variable (variables callee) ≡ Some v → Seen s.variable × Waits v
+  waits d s v w is found =
+      let e = one_clock (λ s. among s.variable (map (λ v. v.name) callee.inputs)) d s w.0 is in (
+        waited_given d s w.1 is e,
+        found_first Waits s.variable callee.inputs (callee.outputs ++ callee.locals) v inputs_wait
+            e found,
+      )
+
+  -- `Seen` holds of each variable of the clock of an input
+  pub input_over : (x : Name) → among x input_names ≡ true → IsOver Seen (declared_clock callee x)
+  input_over x e =
+      clock_or_over Seen (variable_clock callee x)
+      (named_over Seen (variables callee) Waits waits (suc (length (variables callee))) x
+      (λ v found. found_first Waits x callee.inputs (callee.outputs ++ callee.locals) v inputs_wait
+      e found))
+
+  -- ## The clock of the one result
+
+  module _ (d : Declaration) (one : callee.outputs ≡ d ∷ []) where
+    abbrev vars : List Declaration
+    vars = variables callee
+
+    all_are : vars ≡ callee.inputs ++ (d ∷ callee.locals)
+    all_are = ap (λ outs. callee.inputs ++ (outs ++ callee.locals)) one
+
+    output_found : (x : Name) → among x input_names ≡ false → bytes_eq d.name x ≡ true →
+        named (λ d. d.name) x vars ≡ Some d
+    output_found x none is =
+        ap (named (λ d. d.name) x) all_are ∙ found_next x callee.inputs d callee.locals none is
+
+    -- a variable that waits for itself has no clock
+    circle : (s : Sampling) → d.clock ≡ Some s →
+        named (λ v. v.name) s.variable vars ≡ Some d → (m : ℕ) → clock_within m vars d ≡ None
+    circle s is found zero = refl
+    circle s is found (suc m) =
+        ap (sampled (clock_within m vars) vars) is
+        ∙ ap (λ o. o >>= λ v. clock_within m vars v >>= λ k. Some (On k s.variable s.sign)) found
+        ∙ ap (λ o. o >>= λ k. Some (On k s.variable s.sign)) (circle s is found m)
+
+    clocked : is_clocked_by (callee.inputs ++ callee.outputs) d ≡ true
+    clocked =
+        let outs = and_first (list_all (is_clocked_by (callee.inputs ++ callee.outputs))
+        callee.outputs) _ (and_second _ _ declared) in
+        and_first (is_clocked_by (callee.inputs ++ callee.outputs) d) true
+        (subst (λ ds. list_all (is_clocked_by (callee.inputs ++ callee.outputs)) ds ≡ true) one
+        outs)
+
+    is_given_output : is_given_variable here callee given d ≡ true
+    is_given_output =
+        let all_given = Every-second (λ d. is_given_variable here callee given d ≡ true)
+        callee.inputs callee.outputs
+        (Every-tested (is_given_variable here callee given) (callee.inputs ++ callee.outputs)
+        is_given) in
+        (subst (Every (λ d. is_given_variable here callee given d ≡ true)) one all_given).0
+
+    itself : (x : Name) → among x input_names ≡ false →
+        among x (map (λ v. v.name) (callee.inputs ++ (d ∷ []))) ≡ true → bytes_eq d.name x ≡ true
+    itself x none e = same_turned x d.name (last_name x callee.inputs d none e)
+
+    output_within : (m : ℕ) → IfSome (clock_within m vars d) (IsOver Seen)
+    output_within m = by d.clock refl
+      where
+        waiting : (s : Sampling) → d.clock ≡ Some s → (b : Bool) →
+            among s.variable input_names ≡ b → IfSome (clock_within m vars d) (IsOver Seen)
+        waiting s is true e =
+            let own : is_clocked_by callee.inputs d ≡ true = only_clock callee.inputs d s is e in
+            if_some (IsOver Seen) (clock_within m vars d)
+            (λ k. within_over Seen vars Waits waits m d k (own, is_given_output))
+        waiting s is false e =
+            let some = one_clock (λ s. among s.variable
+            (map (λ v. v.name) (callee.inputs ++ callee.outputs))) d s clocked is in
+            let there = subst (λ outs. among s.variable (map (λ v. v.name)
+            (callee.inputs ++ outs)) ≡ true) one some in
+            let found = output_found s.variable e (itself s.variable e there) in
+            subst (λ o. IfSome o (IsOver Seen)) (sym (circle s is found m)) tt
+
+        by : (o : Option Sampling) → d.clock ≡ o → IfSome (clock_within m vars d) (IsOver Seen)
+        by None is = free m
+          where
+            free : (m : ℕ) → IfSome (clock_within m vars d) (IsOver Seen)
+            free zero = tt
+            free (suc m) =
+                subst (λ o. IfSome (sampled (clock_within m vars) vars o) (IsOver Seen)) (sym is)
+                tt
+        by (Some s) is = waiting s is (among s.variable input_names) refl
+
+    -- `Seen` holds of each variable of the clock of the one output
+    pub output_over : IsOver Seen (declared_clock callee d.name)
+    output_over = by (among d.name input_names) refl
+      where
+        by : (b : Bool) → among d.name input_names ≡ b → IsOver Seen (declared_clock callee d.name)
+        by true e = input_over d.name e
+        by false e =
+            let n = suc (length vars) in
+            let found = output_found d.name e ((bytes_eq-Decides d.name d.name).1 refl) in
+            let same : variable_clock callee d.name ≡ clock_within n vars d =
+            ap (λ o. o >>= clock_within n vars) found in
+            clock_or_over Seen (variable_clock callee d.name)
+            (subst (λ o. IfSome o (IsOver Seen)) (sym same) (output_within n))
+
+-- the clocks of a call, as the caller sees them
+module _ (V : Name → Type 0) (here callee : Node) (es : Exprs)
+    (all : Every (λ d. V d.name) (variables here))
+    (declared : are_declared_clocks callee ≡ true)
+    (is_given : are_given_variables here callee es ≡ true) where
+  -- `V` holds of the variable of the caller that stands for variable `x` of the callee
+  abbrev SeenOver : Name → Type 0
+  SeenOver x = V (given_name (given_inputs callee.inputs es) x)
+
+  seen_over :
+      (x : Name) (g : Name × Name) →
+      named (λ g. g.0) x (given_inputs callee.inputs es) ≡ Some g →
+      among g.1 (variable_names here) ≡ true → SeenOver x
+  seen_over x g is e =
+      subst V (sym (ap (λ o. either_or (option_map (λ g. g.1) o) x) is))
+      (among_has V g.1 (variables here) all e)
+
+  -- `V` holds of each variable of the clocks of the arguments
+  pub arguments_over :
+      (k : Clock) → IsOver V k → Every (IsOver V) (argument_clocks k callee es)
+  arguments_over k h = by callee.inputs (own_names callee.inputs)
+    where
+      by : (ds : List Declaration) →
+          Every (λ d. among d.name (map (λ i. i.name) callee.inputs) ≡ true) ds →
+          Every (IsOver V)
+          (map (λ d. outer (base_clock k callee) (given_inputs callee.inputs es)
+          (declared_clock callee d.name)) ds)
+      by [] own = tt
+      by (d ∷ ds) own = (
+        outer_over V (base_clock k callee) (given_inputs callee.inputs es)
+            (declared_clock callee d.name) (base_over V k callee h)
+            (input_over SeenOver here callee es declared is_given seen_over d.name own.0),
+        by ds own.1,
+      )
+
+  -- `V` holds of each variable of the clock of the one result
+  pub result_over :
+      (d : Declaration) → callee.outputs ≡ d ∷ [] → (k : Clock) → IsOver V k →
+      IsOver V (first_result_clock k callee (given_inputs callee.inputs es) callee.outputs)
+  result_over d one k h =
+      subst (λ outs. IsOver V (first_result_clock k callee (given_inputs callee.inputs es) outs))
+      (sym one)
+      (outer_over V k (given_inputs callee.inputs es) (declared_clock callee d.name) h
+      (output_over SeenOver here callee es declared is_given seen_over d one))

@@ -1,0 +1,409 @@
+-- The clocks and calls that the code finds of the parts of a term are those of its occurrences.
+use Rattle.lb_check.proofs.Words.{◌≡◌, ℕ, ◌+◌, Bool, true, false, List, [], ◌∷◌, ◌++◌, map, Option}
+use Rattle.lb_check.proofs.Words.{Some, None, refl, ap, ap₂, sym, ◌∙◌, subst, arith, ◌&&◌, nat_eq}
+use Rattle.lb_check.proofs.Words.{list_all, nat_tests, list_all-append, Count, ◌>>=◌, either_or}
+use Rattle.lb_check.proofs.Words.{holds, listed, Name, Static, Expr, and_first, and_second, Program}
+use Rattle.lb_check.proofs.Words.{node_named, variable_names, node_of, texts_of, counts_of, Texts}
+use Rattle.lb_check.proofs.Words.{expr_of, exprs_of, row_of, named_value, static_at, site_at}
+use Rattle.lb_check.proofs.Words.{is_variable, is_static, is_call, is_within, are_within}
+use Rattle.lb_check.proofs.Words.{is_unhidden, are_unhidden, Reached, CallId, ResolvedNode, Term}
+use Rattle.lb_check.proofs.Words.{Literal, Truth, Value, Group', Unary', Binary', If', Arrow', Fby'}
+use Rattle.lb_check.proofs.Words.{Pre', Current', When', Replicate', Index', Slice', Join', Array'}
+use Rattle.lb_check.proofs.Words.{AtMostOne', Nor', Call', IterateNode', IterateSymbol'}
+use Rattle.lb_check.proofs.Words.{Row_of-Term, end_of-Term, more_of-Term, items-the_row-Term, Given}
+use Rattle.lb_check.proofs.Words.{clock_of, clock_or, declared_clock, given_inputs, outer}
+use Rattle.lb_check.proofs.Words.{is_occurrence_clocked, pair_names, given_parameters, is_site}
+use Rattle.lb_check.proofs.Words.{site_clock, Occurrence, at, call_count, occurrences}
+use Rattle.lb_check.proofs.Words.{occurrences_in, occurrences_each, name_in, clock_in, IsClockSet}
+use Rattle.lb_check.proofs.Words.{SeesClocks, is_clocked_on, is_single, are_single, calls_single}
+use Rattle.lb_check.proofs.Words.{FoundCall, FoundTerm, part, placed_terms, placed_row}
+use Rattle.lb_check.proofs.Words.{placed_arguments, determined_clock, given_variables, nested_call}
+use Rattle.lb_check.proofs.Words.{callee_in, Context, context_of, declared_in, infer_clock}
+use Rattle.lb_check.proofs.Words.{operands_in, operands_of, input_clocks, clock_sets, base_of}
+use Rattle.lb_check.proofs.Words.{given_at, Operand, ClockSet, NoClock, AnyClock, OneClock}
+use Rattle.lb_static.specs.declared.resolved.Term.{Variable}
+use Rattle.lb_check.specs.FoundTerms.{are_parameters, given_names}
+use Rattle.lb_check.specs.PlacedClocks.{argument_clocks, call_clocks}
+use Rattle.lb_check.specs.declared.own_clock.Clock.{Clock}
+use Rattle.lb_check.proofs.clocking.CallClockSets.{call_stands}
+use Rattle.lb_check.proofs.clocking.ClockTests.{declared_is}
+use Rattle.lb_check.proofs.clocking.GivenVariables.{given_is}
+use Rattle.lb_check.proofs.lists.PairedLists.{Pairs, Pairs-append}
+use Rattle.lb_check.proofs.clocking.PlacedArguments.{arguments_placed}
+use Rattle.lb_check.proofs.clocking.PlacedWithin.{are_among, parameters_within}
+use Rattle.lb_check.proofs.programs.SiteCallees.{callee_found}
+use Rattle.lb_check.proofs.clocking.TermClockSets.{row_items, within_items, unhidden_items}
+use Rattle.lb_check.proofs.clocking.TermClockSets.{operands_items}
+use Rattle.lb_check.proofs.clocking.TermClockSets.{term_stands, row_stands}
+use Rattle.lb_syntax.specs.Tree as tree
+use Rattle.lb_check.specs.Clocks as clocks
+use Rattle.lb_check.specs.Occurrences as text
+use Rattle.lb_check.proofs.clocking.CallClockSets as one
+
+-- ## The found term of an occurrence
+
+-- the variables of the caller that stand for clock parameters of a call with left variables `lefts`
+abbrev pub given_by : Program → Expr → List Name → Given
+given_by P (tree.Call f statics es) lefts =
+    listed (λ callee. given_parameters callee es lefts) (node_named P f)
+given_by P e lefts = []
+
+pub record IsCallOf (P : Program) (n : ResolvedNode) (lefts : List Name) (o : Occurrence)
+    (c : FoundCall) : Type 0 where
+  pub runs : site_clock P o.clock o.expr ≡ clock_in n c.runs
+  pub given : given_by P o.expr lefts ≡ given_names P n o.expr c.given
+  pub parameters : are_parameters P o.expr c.given ≡ true
+
+abbrev pub IsCall :
+    Program → ResolvedNode → List Name → Occurrence → Option FoundCall → Type 0
+IsCall P n lefts o None = is_site o.expr ≡ false
+IsCall P n lefts o (Some c) = (is_site o.expr ≡ true) × IsCallOf P n lefts o c
+
+-- a found term has the clock of an occurrence, and is its call, if it is one
+abbrev pub IsTerm : Program → ResolvedNode → List Name → Occurrence → FoundTerm → Type 0
+IsTerm P n lefts o t = (o.clock ≡ clock_in n t.clock) × IsCall P n lefts o t.call
+
+module _ (P : Program) (r : Reached) (here : ResolvedNode) (sees : SeesClocks P r here) where
+  abbrev texts : Texts
+  texts = texts_of here
+
+  abbrev ctx : Context
+  ctx = context_of r here
+
+  abbrev AreLawful : List Occurrence → Type 0
+  AreLawful os = list_all (is_occurrence_clocked P (node_of here)) os ≡ true
+
+  fore : (os os' : List Occurrence) → AreLawful (os ++ os') → AreLawful os
+  fore os os' e =
+      and_first _ (list_all (is_occurrence_clocked P (node_of here)) os')
+      (sym (list_all-append (is_occurrence_clocked P (node_of here)) os os') ∙ e)
+
+  aft : (os os' : List Occurrence) → AreLawful (os ++ os') → AreLawful os'
+  aft os os' e =
+      and_second (list_all (is_occurrence_clocked P (node_of here)) os) _
+      (sym (list_all-append (is_occurrence_clocked P (node_of here)) os os') ∙ e)
+
+  -- the occurrences of an expression on clock `k` of the code
+  abbrev on : Clock → ℕ → Expr → List Occurrence
+  on k n e = occurrences P (node_of here) (clock_in here k) n e
+
+  abbrev Places : List Occurrence → List FoundTerm → Type 0
+  Places os ts = Pairs (IsTerm P here []) os ts
+
+  both_placed :
+      (os os' : List Occurrence) (ts ts' : List FoundTerm) → Places os ts → Places os' ts' →
+      Places (os ++ os') (ts ++ ts')
+  both_placed os os' ts ts' h g = Pairs-append (IsTerm P here []) os os' ts ts' h g
+
+  declares : (context_of r here).variable ≡ declared_in here
+  unfolding context_of
+  declares = refl
+
+  calls : (context_of r here).callee ≡ callee_in r here
+  unfolding context_of
+  calls = refl
+
+  -- the clock that the code determines for the operand of `current` is that of the text
+  pub determined_is :
+      (e : Expr) (s : ClockSet) → IsClockSet P here e s → (k : clocks.Clock) (n : ℕ) →
+      is_clocked_on P here k n e ≡ true →
+      clock_or (clock_of P (node_of here) e) ≡ clock_in here (determined_clock s)
+  determined_is e NoClock st k n kept = absurd (never (st k n) kept)
+    where
+      never : {b : Bool} → b ≡ false → b ≡ true → ⊥
+      never p q = cc
+  determined_is e AnyClock st k n kept = ap clock_or st.0
+  determined_is e (OneClock c) st k n kept = ap clock_or st.1
+
+  -- the found call of a call, with the clock on which its callee runs and the variables given for
+  -- its clock parameters, and the clocks of its arguments
+  call_found :
+      (k : Clock) (n : ℕ) (c : CallId) {m : Count} (row : Row_of-Term m) →
+      is_call (counts_of here) c ≡ true → are_within (counts_of here) row ≡ true →
+      are_unhidden (texts_of here) row ≡ true → calls_single r here c ≡ true →
+      are_single r here row ≡ true →
+      is_clocked_on P here (clock_in here k) n
+      (tree.Call (site_at (texts_of here).calls c).callee
+      (site_at (texts_of here).calls c).arguments (row_of (texts_of here) row)) ≡ true →
+      IsCallOf P here []
+      (at (clock_in here k) n (tree.Call (site_at (texts_of here).calls c).callee
+      (site_at (texts_of here).calls c).arguments (row_of (texts_of here) row)))
+      (nested_call k (operands_in (context_of r here) row) ((context_of r here).callee c))
+      × (text.call_clocks (clock_in here k) (node_named P (site_at (texts_of here).calls c).callee)
+      (row_of (texts_of here) row)
+      ≡ map (clock_in here)
+      (call_clocks (context_of r here) k c (operands_in (context_of r here) row)))
+  call_found k n c {m = m} row wc w u single singles kept =
+      let found = callee_found P r sees.names sees.reached sees.place here sees.at c wc in
+      let callee = found.0 in
+      let hc = sees.callees c callee found.1 in
+      let site = site_at texts.calls c in
+      let es = items-the_row-Term m row in
+      let wi = within_items (counts_of here) m row ∙ w in
+      let ui = unhidden_items texts m row ∙ u in
+      let stand = row_stands P r here sees
+      (λ callee has. call_stands P here callee sees.own has) row w u singles in
+      let one_test : nat_eq callee.outputs 1 ≡ true =
+      sym (ap (holds (λ n. nat_eq n.outputs 1)) found.1) ∙ single in
+      let outputs : callee.outputs ≡ 1 = grind (arith, nat_tests) in
+      let args = row_items texts m row in
+      let on_items : is_clocked_on P here (clock_in here k) n
+      (tree.Call site.callee site.arguments (exprs_of texts es)) ≡ true =
+      subst (λ es. is_clocked_on P here (clock_in here k) n
+      (tree.Call site.callee site.arguments es) ≡ true) args kept in
+      let given = one.runs_given P here callee sees.own hc site found.2 ctx declares es wi ui stand
+      outputs k n on_items in
+      let base = one.runs_base P here callee sees.own hc site found.2 ctx declares es wi ui stand
+      outputs k n on_items in
+      let fits = one.runs_fitting P here callee sees.own hc site found.2 ctx declares es wi ui stand
+      outputs k n on_items in
+      let os = operands_of ctx es in
+      let b = either_or (base_of (input_clocks callee) (clock_sets os)) k in
+      let clocks_of = λ (n : ResolvedNode). argument_clocks
+      (either_or (base_of (input_clocks n) (clock_sets os)) k) (given_at os) n in
+      let same : nested_call k (operands_in ctx row) (ctx.callee c)
+      ≡ nested_call k os (Some callee) =
+      ap₂ (nested_call k) (operands_items ctx m row) (ap (λ f. f c) calls ∙ found.1) in (
+        subst (IsCallOf P here [] (at (clock_in here k) n
+            (tree.Call site.callee site.arguments (row_of texts row)))) (sym same)
+            (record {
+              runs =
+                  ap (λ o. either_or
+                  (o >>= λ callee. Some (clocks.base_clock (clock_in here k) callee))
+                  (clock_in here k)) found.2
+                  ∙ base;
+              given =
+                  ap (listed (λ callee. given_parameters callee (row_of texts row) [])) found.2
+                  ∙ ap (λ es. given_parameters (node_of callee) es []) args
+                  ∙ given_is callee hc here ctx es [] given
+                  ∙ sym (ap (λ o. listed (λ z. map (pair_names (variable_names z) here)
+                  (given_variables callee os [])) o) found.2);
+              parameters =
+                  ap (are_among (given_variables callee os [])) found.2
+                  ∙ parameters_within callee hc os [];
+            }),
+        ap₂ (λ o es. text.call_clocks (clock_in here k) o es) found.2 args
+            ∙ ap (λ z. map (λ (d : tree.Declaration). outer z
+            (given_inputs (node_of callee).inputs (exprs_of texts es))
+            (declared_clock (node_of callee) d.name)) (node_of callee).inputs) base
+            ∙ arguments_placed P here callee sees.own hc ctx declares es wi ui stand (given_at os)
+            (λ i lt. refl) given b fits
+            ∙ sym (ap (λ (l : List Operand). map (clock_in here) (call_clocks ctx k c l))
+            (operands_items ctx m row)
+            ∙ ap (λ f. map (clock_in here) (listed clocks_of (f c))) calls
+            ∙ ap (λ o. map (clock_in here) (listed clocks_of o)) found.1),
+      )
+
+  value_placed : (k : Clock) (n : ℕ) (s : Static) → Places (on k n (named_value s)) (part k ∷ [])
+  value_placed k n (tree.Named x) = ((refl, refl), tt)
+  value_placed k n (tree.Whole m) = ((refl, refl), tt)
+  value_placed k n (tree.Negated s) = ((refl, refl), tt)
+  value_placed k n (tree.Combined op s t) = ((refl, refl), tt)
+  value_placed k n (tree.Grouped s) = ((refl, refl), tt)
+
+  -- the found terms of a term on clock `k` stand for its occurrences
+  abbrev HasPlaces : Clock → ℕ → Term → Type 0
+  HasPlaces k n t =
+      is_within (counts_of here) t ≡ true → is_unhidden texts t ≡ true → is_single r here t ≡ true →
+      AreLawful (on k n (expr_of texts t)) →
+      Places (on k n (expr_of texts t)) (placed_terms ctx k t)
+
+  -- the found terms of two operands stand for their occurrences
+  two_placed :
+      (k : Clock) (n : ℕ) (a b : Term) →
+      (is_within (counts_of here) a && is_within (counts_of here) b) ≡ true →
+      (is_unhidden texts a && is_unhidden texts b) ≡ true →
+      (is_single r here a && is_single r here b) ≡ true →
+      HasPlaces k n a → HasPlaces k (n + call_count (expr_of texts a)) b →
+      AreLawful (on k n (expr_of texts a)
+      ++ on k (n + call_count (expr_of texts a)) (expr_of texts b)) →
+      Places (on k n (expr_of texts a)
+      ++ on k (n + call_count (expr_of texts a)) (expr_of texts b))
+      (placed_terms ctx k a ++ placed_terms ctx k b)
+  two_placed k n a b w u o h g e =
+      let first = on k n (expr_of texts a) in
+      let second = on k (n + call_count (expr_of texts a)) (expr_of texts b) in
+      both_placed first second (placed_terms ctx k a) (placed_terms ctx k b)
+      (h (and_first _ (is_within (counts_of here) b) w) (and_first _ (is_unhidden texts b) u)
+      (and_first _ (is_single r here b) o) (fore first second e))
+      (g (and_second (is_within (counts_of here) a) _ w) (and_second (is_unhidden texts a) _ u)
+      (and_second (is_single r here a) _ o) (aft first second e))
+
+  mutual
+    unfolding placed_terms is_single
+
+    pub term_placed :
+        (k : Clock) (n : ℕ) (t : Term) → is_within (counts_of here) t ≡ true →
+        is_unhidden (texts_of here) t ≡ true → is_single r here t ≡ true →
+        AreLawful (on k n (expr_of (texts_of here) t)) →
+        Places (on k n (expr_of (texts_of here) t)) (placed_terms (context_of r here) k t)
+    term_placed k n (Literal m) w u o e = ((refl, refl), tt)
+    term_placed k n (Truth b) w u o e = ((refl, refl), tt)
+    term_placed k n (Variable x) w u o e = ((refl, refl), tt)
+    term_placed k n (Value i) w u o e = value_placed k n (static_at texts.statics i)
+    term_placed k n (Group' p a) w u o e = term_placed k n a w u o e
+    term_placed k n (Unary' op p a) w u o e = (
+      (refl, refl),
+      term_placed k n a w u o e,
+    )
+    term_placed k n (Binary' op p a q b) w u o e = (
+      (refl, refl),
+      two_placed k n a b w u o (λ w u o e. term_placed k n a w u o e)
+          (λ w u o e. term_placed k (n + call_count (expr_of texts a)) b w u o e) e,
+    )
+    term_placed k n (If' p c q a r' b) w u o e =
+        let wab = and_second (is_within (counts_of here) c) _ w in
+        let uab = and_second (is_unhidden texts c) _ u in
+        let oab = and_second (is_single r here c) _ o in
+        let na = n + call_count (expr_of texts c) in
+        let first = on k n (expr_of texts c) in
+        let others = on k na (expr_of texts a)
+        ++ on k (na + call_count (expr_of texts a)) (expr_of texts b) in (
+          (refl, refl),
+          both_placed first others (placed_terms ctx k c)
+              (placed_terms ctx k a ++ placed_terms ctx k b)
+              (term_placed k n c
+              (and_first _ (is_within (counts_of here) a && is_within (counts_of here) b) w)
+              (and_first _ (is_unhidden texts a && is_unhidden texts b) u)
+              (and_first _ (is_single r here a && is_single r here b) o) (fore first others e))
+              (two_placed k na a b wab uab oab (λ w u o e. term_placed k na a w u o e)
+              (λ w u o e. term_placed k (na + call_count (expr_of texts a)) b w u o e)
+              (aft first others e)),
+        )
+    term_placed k n (Arrow' p a q b) w u o e = (
+      (refl, refl),
+      two_placed k n a b w u o (λ w u o e. term_placed k n a w u o e)
+          (λ w u o e. term_placed k (n + call_count (expr_of texts a)) b w u o e) e,
+    )
+    term_placed k n (Fby' p a q b) w u o e = (
+      (refl, refl),
+      two_placed k n a b w u o (λ w u o e. term_placed k n a w u o e)
+          (λ w u o e. term_placed k (n + call_count (expr_of texts a)) b w u o e) e,
+    )
+    term_placed k n (Pre' p a) w u o e = (
+      (refl, refl),
+      term_placed k n a w u o e,
+    )
+    term_placed k n (Current' p a) w u o e =
+        let x = expr_of texts a in
+        let kept = and_second _ _ e in
+        let stands = term_stands P r here sees
+        (λ callee has. call_stands P here callee sees.own has) a w u o in
+        let is = determined_is x (infer_clock ctx a) stands
+        (clock_or (clock_of P (node_of here) x)) n kept in (
+          (refl, refl),
+          subst (λ l. AreLawful (occurrences P (node_of here) l n x) →
+              Places (occurrences P (node_of here) l n x)
+              (placed_terms ctx (determined_clock (infer_clock ctx a)) a)) (sym is)
+              (λ f. term_placed (determined_clock (infer_clock ctx a)) n a w u o f) kept,
+        )
+    term_placed k n (When' p a x sign) w u o e =
+        let y = expr_of texts a in
+        let kept = and_second _ _ e in
+        let is = declared_is here sees.own x (and_first _ (is_within (counts_of here) a) w) in
+        let same : clock_in here ((context_of r here).variable x)
+        ≡ declared_clock (node_of here) (name_in here x) =
+        ap (λ f. clock_in here (f x)) declares ∙ is in (
+          (refl, refl),
+          subst (λ l. AreLawful (occurrences P (node_of here) l n y) →
+              Places (occurrences P (node_of here) l n y)
+              (placed_terms ctx (ctx.variable x) a)) same
+              (λ f. term_placed ((context_of r here).variable x) n a
+              (and_second (is_variable (counts_of here) x) _ w) u o f) kept,
+        )
+    term_placed k n (Replicate' p a i) w u o e = (
+      (refl, refl),
+      term_placed k n a (and_second (is_static (counts_of here) i) _ w) u o e,
+    )
+    term_placed k n (Index' p a i) w u o e = (
+      (refl, refl),
+      term_placed k n a (and_second (is_static (counts_of here) i) _ w) u o e,
+    )
+    term_placed k n (Slice' p a i j) w u o e = (
+      (refl, refl),
+      term_placed k n a (and_second (is_static (counts_of here) j) _
+          (and_second (is_static (counts_of here) i) _ w)) u o e,
+    )
+    term_placed k n (Join' p a q b) w u o e = (
+      (refl, refl),
+      two_placed k n a b w u o (λ w u o e. term_placed k n a w u o e)
+          (λ w u o e. term_placed k (n + call_count (expr_of texts a)) b w u o e) e,
+    )
+    term_placed k n (Array' arity all) w u o e = (
+      (refl, refl),
+      row_placed k n all w u o e,
+    )
+    term_placed k n (AtMostOne' arity all) w u o e = (
+      (refl, refl),
+      row_placed k n all w u o e,
+    )
+    term_placed k n (Nor' arity all) w u o e = (
+      (refl, refl),
+      row_placed k n all w u o e,
+    )
+    term_placed k n (Call' c arity all) w u o e =
+        let wc = and_first _ (are_within (counts_of here) all) w in
+        let wa = and_second (is_call (counts_of here) c) _ w in
+        let oc = and_first _ (are_single r here all) o in
+        let oa = and_second (calls_single r here c) _ o in
+        let es = row_of texts all in
+        let ks = call_clocks ctx k c (operands_in ctx all) in
+        let found = call_found k n c all wc wa u oc oa e in (
+          (refl, (refl, found.0)),
+          subst (λ ls. AreLawful (occurrences_each P (node_of here) ls (n + 1) es) →
+              Places (occurrences_each P (node_of here) ls (n + 1) es)
+              (placed_arguments ctx ks all))
+              (sym found.1)
+              (λ f. arguments_on ks (n + 1) all wa u oa f) (and_second _ _ e),
+        )
+    term_placed k n (IterateNode' it c arity all) w u o e = (
+      (refl, (refl, record { runs = refl; given = refl; parameters = refl })),
+      row_placed k (n + 1) all (and_second (is_call (counts_of here) c) _ w) u o
+          (and_second _ _ e),
+    )
+    term_placed k n (IterateSymbol' it op i arity all) w u o e = (
+      (refl, refl),
+      row_placed k n all (and_second (is_static (counts_of here) i) _ w) u o e,
+    )
+
+    pub row_placed :
+        {m : Count} (k : Clock) (n : ℕ) (row : Row_of-Term m) →
+        are_within (counts_of here) row ≡ true → are_unhidden (texts_of here) row ≡ true →
+        are_single r here row ≡ true →
+        AreLawful (occurrences_in P (node_of here) (clock_in here k) n (row_of (texts_of here) row))
+        → Places (occurrences_in P (node_of here) (clock_in here k) n (row_of (texts_of here) row))
+        (placed_row (context_of r here) k row)
+    row_placed k n end_of-Term w u o e = tt
+    row_placed k n (more_of-Term a rest) w u o e =
+        let x = expr_of texts a in
+        let later = occurrences_in P (node_of here) (clock_in here k) (n + call_count x)
+        (row_of texts rest) in
+        both_placed (on k n x) later (placed_terms ctx k a) (placed_row ctx k rest)
+        (term_placed k n a (and_first _ (are_within (counts_of here) rest) w)
+        (and_first _ (are_unhidden texts rest) u) (and_first _ (are_single r here rest) o)
+        (fore (on k n x) later e))
+        (row_placed k (n + call_count x) rest (and_second (is_within (counts_of here) a) _ w)
+        (and_second (is_unhidden texts a) _ u) (and_second (is_single r here a) _ o)
+        (aft (on k n x) later e))
+
+    pub arguments_on :
+        {m : Count} (ks : List Clock) (n : ℕ) (row : Row_of-Term m) →
+        are_within (counts_of here) row ≡ true → are_unhidden (texts_of here) row ≡ true →
+        are_single r here row ≡ true →
+        AreLawful (occurrences_each P (node_of here) (map (clock_in here) ks) n
+        (row_of (texts_of here) row)) →
+        Places (occurrences_each P (node_of here) (map (clock_in here) ks) n
+        (row_of (texts_of here) row)) (placed_arguments (context_of r here) ks row)
+    arguments_on ks n end_of-Term w u o e = tt
+    arguments_on [] n (more_of-Term a rest) w u o e = tt
+    arguments_on (k ∷ ks) n (more_of-Term a rest) w u o e =
+        let x = expr_of texts a in
+        let later = occurrences_each P (node_of here) (map (clock_in here) ks) (n + call_count x)
+        (row_of texts rest) in
+        both_placed (on k n x) later (placed_terms ctx k a) (placed_arguments ctx ks rest)
+        (term_placed k n a (and_first _ (are_within (counts_of here) rest) w)
+        (and_first _ (are_unhidden texts rest) u) (and_first _ (are_single r here rest) o)
+        (fore (on k n x) later e))
+        (arguments_on ks (n + call_count x) rest (and_second (is_within (counts_of here) a) _ w)
+        (and_second (is_unhidden texts a) _ u) (and_second (is_single r here a) _ o)
+        (aft (on k n x) later e))

@@ -1,0 +1,555 @@
+-- The clock set that the code infers for a term has the clocks on which its expression may stand.
+use Rattle.lb_check.proofs.Words.{◌≡◌, ℕ, suc, ◌+◌, Bool, true, false, List, [], ◌∷◌, ◌++◌, length}
+use Rattle.lb_check.proofs.Words.{take, Option, Some, None, refl, ap, sym, ◌∙◌, subst, arith, ◌&&◌}
+use Rattle.lb_check.proofs.Words.{◌||◌, not, is_some, option_map, nat_eq, if◌then◌else◌, list_all}
+use Rattle.lb_check.proofs.Words.{append_assoc, list_all-append, nat_tests, Count, and-true}
+use Rattle.lb_check.proofs.Words.{and-false, not-true, ◌>>=◌, either_or, holds, or_else, listed}
+use Rattle.lb_check.proofs.Words.{zip2, Name, Static, Expr, Node, ArrayIterator, and_first}
+use Rattle.lb_check.proofs.Words.{and_second, Reached, CallId, ResolvedNode, Sampling, Term}
+use Rattle.lb_check.proofs.Words.{Literal, Truth, Value, Group', Unary', Binary', If', Arrow', Fby'}
+use Rattle.lb_check.proofs.Words.{Pre', Current', When', Replicate', Index', Slice', Join', Array'}
+use Rattle.lb_check.proofs.Words.{AtMostOne', Nor', Call', IterateNode', IterateSymbol'}
+use Rattle.lb_check.proofs.Words.{Row_of-Term, end_of-Term, more_of-Term, items-the_row-Term}
+use Rattle.lb_check.proofs.Words.{VariableId, Program, Site, node_named, among, variable_names}
+use Rattle.lb_check.proofs.Words.{node_of, statics_of, texts_of, counts_of, Texts, Counts, expr_of}
+use Rattle.lb_check.proofs.Words.{row_of, exprs_of, named_value, static_at, site_at, declaration_of}
+use Rattle.lb_check.proofs.Words.{sampling_of, is_variable, is_static, is_call, is_no_variable}
+use Rattle.lb_check.proofs.Words.{is_within, are_within, is_unhidden, are_unhidden, variables}
+use Rattle.lb_check.proofs.Words.{clock_of, clock_or, clock_within, declared_clock, parent}
+use Rattle.lb_check.proofs.Words.{is_clock, is_occurrence_clocked, is_base_clocked_node, if_node}
+use Rattle.lb_check.proofs.Words.{at, call_count, occurrences, occurrences_in, HasClocks, name_in}
+use Rattle.lb_check.proofs.Words.{clock_in, AreClockSets, IsClockSet, SeesClocks, is_clocked_on}
+use Rattle.lb_check.proofs.Words.{is_single, are_single, calls_single, callee_in, Base, Operand}
+use Rattle.lb_check.proofs.Words.{ClockSet, NoClock, AnyClock, OneClock}
+use Rattle.std.proofs.Common.{length-append}
+use Rattle.lb_static.specs.declared.resolved.Term.{Variable}
+use Rattle.lb_static.specs.declared.resolved.Variable.{Variable as Declared}
+use Rattle.lb_static.specs.ResolvedTerms.{iterate_expr}
+use Rattle.lb_check.specs.ClockRules.{is_just_below}
+use Rattle.lb_check.specs.TermClocks.{Context, context_of, declared_in, is_same, both, together}
+use Rattle.lb_check.specs.TermClocks.{sampled, raised, is_base_clocked, call_clock_set, infer_clock}
+use Rattle.lb_check.specs.TermClocks.{operands_in, operand_of, operands_of}
+use Rattle.lb_check.specs.declared.own_clock.Clock.TheVariants.{On}
+use Rattle.lb_check.proofs.clocking.ClockTests.{clock_turned, on_one, on_two, same_is, name_among}
+use Rattle.lb_check.proofs.clocking.ClockTests.{declared_is, declared_within, has_declared}
+use Rattle.lb_check.proofs.clocking.ClockedNodes.{as_many_names, same_taken, zip_split}
+use Rattle.lb_check.proofs.typing.FittedTypes.{unfound}
+use Rattle.lb_check.proofs.programs.SiteCallees.{callee_found}
+use Rattle.lb_check.proofs.clocking.OwnClocks.{clock_itself}
+use Rattle.lb_syntax.specs.Tree as tree
+use Rattle.lb_check.specs.Clocks as clocks
+
+both_are : (a b c d : Bool) → a ≡ c → b ≡ d → (a && b) ≡ (c && d)
+both_are a b c d e f = ap (λ x. x && b) e ∙ ap (λ x. c && x) f
+
+inner : {A : Type 0} (f : A → Bool) (xs ys : List A) (x : A) → f x ≡ true →
+    list_all f (xs ++ ys) ≡ list_all f (xs ++ (x ∷ ys))
+inner f [] ys x e = sym (ap (λ b. b && list_all f ys) e)
+inner f (z ∷ xs) ys x e = ap (λ b. f z && b) (inner f xs ys x e)
+
+-- the parts of a choice are a condition and two branches that stand together
+if_parts : (P : Program) (here : ResolvedNode) (c a b : Expr) (k : clocks.Clock) (n : ℕ) →
+    is_clocked_on P here k n (tree.If c a b)
+    ≡ list_all (is_occurrence_clocked P (node_of here))
+    (occurrences P (node_of here) k n c
+    ++ occurrences P (node_of here) k (n + call_count c) (tree.Arrow a b))
+if_parts P here c a b k n =
+    let node = node_of here in
+    let first = occurrences P node k (n + call_count c) a in
+    let last = occurrences P node k (n + call_count c + call_count a) b in
+    inner (is_occurrence_clocked P node) (occurrences P node k n c) (first ++ last)
+    (at k (n + call_count c) (tree.Arrow a b)) refl
+
+-- ## The parts of an expression
+
+module _ (P : Program) (here : ResolvedNode) (own : HasClocks here) where
+  abbrev node : Node
+  node = node_of here
+
+  abbrev accepts : tree.Expr → clocks.Clock → ℕ → Bool
+  accepts e k n = is_clocked_on P here k n e
+
+  -- an expression with one part, on its clock, has the clock set of the part
+  one_part : (a d : Expr) (s : ClockSet) → IsClockSet P here a s →
+      clock_of P node d ≡ clock_of P node a
+      → ((k : clocks.Clock) (n : ℕ) → accepts d k n ≡ accepts a k n) → IsClockSet P here d s
+  one_part a d NoClock ha ec ed = λ k n. ed k n ∙ ha k n
+  one_part a d AnyClock ha ec ed = (ec ∙ ha.0, λ k n. ed k n ∙ ha.1 k n)
+  one_part a d (OneClock c) ha ec ed = (ha.0, ec ∙ ha.1, λ k n. ed k n ∙ ha.2 k n)
+
+  -- an expression with one part and a test has the clock set of the part where the test holds, else
+  -- none
+  tested_part : (a d : Expr) (m : ℕ) (b : Bool) (s : ClockSet) → IsClockSet P here a s →
+      clock_of P node d ≡ clock_of P node a
+      → ((k : clocks.Clock) (n : ℕ) → accepts d k n ≡ (b && accepts a k (n + m))) →
+      IsClockSet P here d (if b then s else NoClock)
+  tested_part a d m false s ha ec ed = ed
+  tested_part a d m true NoClock ha ec ed = λ k n. ed k n ∙ ha k (n + m)
+  tested_part a d m true AnyClock ha ec ed = (ec ∙ ha.0, λ k n. ed k n ∙ ha.1 k (n + m))
+  tested_part a d m true (OneClock c) ha ec ed = (ha.0, ec ∙ ha.1, λ k n. ed k n ∙ ha.2 k (n + m))
+
+  -- an expression with two parts, on its clock, has the clock set of both
+  two_parts : (a b d : Expr) (m : ℕ) (s t : ClockSet) → IsClockSet P here a s →
+      IsClockSet P here b t
+      → clock_of P node d ≡ or_else (clock_of P node a) (clock_of P node b)
+      → ((k : clocks.Clock) (n : ℕ) → accepts d k n ≡ (accepts a k n && accepts b k (n + m))) →
+      IsClockSet P here d (both s t)
+  two_parts a b d m NoClock t ha hb ec ed =
+      λ k n. ed k n ∙ ap (λ x. x && accepts b k (n + m)) (ha k n)
+  two_parts a b d m AnyClock NoClock ha hb ec ed =
+      λ k n. ed k n ∙ both_are _ _ true false (ha.1 k n) (hb k (n + m))
+  two_parts a b d m AnyClock AnyClock ha hb ec ed = (
+    ec ∙ ap (λ o. or_else o (clock_of P node b)) ha.0 ∙ hb.0,
+    λ k n. ed k n
+        ∙ both_are _ _ true true (ha.1 k n) (hb.1 k (n + m)),
+  )
+  two_parts a b d m AnyClock (OneClock c) ha hb ec ed = (
+    hb.0,
+    ec ∙ ap (λ o. or_else o (clock_of P node b)) ha.0 ∙ hb.1,
+    λ k n. ed k n ∙ both_are _ _ true (is_clock k (clock_in here c)) (ha.1 k n) (hb.2 k (n + m)),
+  )
+  two_parts a b d m (OneClock c) NoClock ha hb ec ed =
+      λ k n. ed k n ∙ ap (λ x. accepts a k n && x) (hb k (n + m)) ∙ and-false (accepts a k n)
+  two_parts a b d m (OneClock c) AnyClock ha hb ec ed = (
+    ha.0,
+    ec ∙ ap (λ o. or_else o (clock_of P node b)) ha.1,
+    λ k n. ed k n ∙ ap (λ x. accepts a k n && x) (hb.1 k (n + m)) ∙ and-true (accepts a k n)
+        ∙ ha.2 k n,
+  )
+  two_parts a b d m (OneClock c) (OneClock e) ha hb ec ed = by (is_same c e) refl
+    where
+      by : (x : Bool) → is_same c e ≡ x → IsClockSet P here d (if x then OneClock c else NoClock)
+      by true is = (
+        ha.0,
+        ec ∙ ap (λ o. or_else o (clock_of P node b)) ha.1,
+        λ k n. ed k n ∙ both_are _ _ (is_clock k (clock_in here c)) (is_clock k (clock_in here e))
+            (ha.2 k n) (hb.2 k (n + m))
+            ∙ on_one k (clock_in here c) (clock_in here e)
+            (sym (same_is here own c e ha.0 hb.0) ∙ is),
+      )
+      by false is =
+          λ k n. ed k n ∙ both_are _ _ (is_clock k (clock_in here c)) (is_clock k (clock_in here e))
+          (ha.2 k n) (hb.2 k (n + m))
+          ∙ on_two k (clock_in here c) (clock_in here e) (sym (same_is here own c e ha.0 hb.0) ∙ is)
+
+  -- ## Variables, constants and static parameters
+
+  variable_stands : (x : VariableId) → is_variable (counts_of here) x ≡ true →
+      IsClockSet P here (tree.Variable (name_in here x)) (OneClock (declared_in here x))
+  variable_stands x w =
+      let declared = declared_clock node (name_in here x) in
+      let is = declared_is here own x w in
+      let inside = name_among here own x w in (
+        declared_within here own x w,
+        has_declared here own x w ∙ ap Some (sym is),
+        λ k n. ap (λ b. (not b || is_clock k declared) && true) inside
+            ∙ and-true (is_clock k declared) ∙ ap (is_clock k) (sym is),
+      )
+
+  value_stands : (s : Static) → is_no_variable (variable_names node) s ≡ true →
+      IsClockSet P here (named_value s) AnyClock
+  value_stands (tree.Named x) u =
+      let out = not-true (among x (variable_names node)) u in (
+        ap (λ o. o >>= clock_within (suc (length (variables node))) (variables node))
+            (unfound x (variables node) out),
+        λ k n. ap (λ b. (not b || is_clock k (declared_clock node x)) && true) out,
+      )
+  value_stands (tree.Whole m) u = (refl, λ k n. refl)
+  value_stands (tree.Negated s) u = (refl, λ k n. refl)
+  value_stands (tree.Combined op s t) u = (refl, λ k n. refl)
+  value_stands (tree.Grouped s) u = (refl, λ k n. refl)
+
+  -- ## Samples
+
+  module _ (r : Reached) where
+    abbrev env : Context
+    env = record { variable = declared_in here; callee = callee_in r here }
+
+    when_stands : (a : Expr) (x : VariableId) (sign : Bool) (s : ClockSet) →
+        is_variable (counts_of here) x ≡ true → IsClockSet P here a s
+        → IsClockSet P here (tree.When a (name_in here x) sign) (sampled env x sign s)
+    when_stands a x sign NoClock w ha =
+        let declared = declared_clock node (name_in here x) in
+        λ k n. ap (λ b. is_clock k (clocks.On declared (name_in here x) sign) && b) (ha declared n)
+        ∙ and-false _
+    when_stands a x sign AnyClock w ha =
+        let declared = declared_clock node (name_in here x) in (
+          w,
+          ap (option_map (λ k. clocks.On k (name_in here x) sign)) (has_declared here own x w),
+          λ k n. ap (λ b. is_clock k (clocks.On declared (name_in here x) sign) && b)
+              (ha.1 declared n) ∙ and-true _,
+        )
+    when_stands a x sign (OneClock l) w ha = by (is_same l (declared_in here x)) refl
+      where
+        operand : (n : ℕ) → accepts a (declared_clock node (name_in here x)) n ≡ is_same l
+            (declared_in here x)
+        operand n =
+            let is = declared_is here own x w in
+            ha.2 (declared_clock node (name_in here x)) n
+            ∙ clock_turned (declared_clock node (name_in here x)) (clock_in here l)
+            ∙ ap (is_clock (clock_in here l)) (sym is)
+            ∙ sym (same_is here own l (declared_in here x) ha.0 (declared_within here own x w))
+
+        by : (b : Bool) → is_same l (declared_in here x) ≡ b
+            → IsClockSet P here (tree.When a (name_in here x) sign)
+            (if b then OneClock (On x sign) else NoClock)
+        by true is = (
+          w,
+          ap (option_map (λ k. clocks.On k (name_in here x) sign)) (has_declared here own x w),
+          λ k n. ap
+              (λ b. is_clock k (clocks.On (declared_clock node (name_in here x))
+              (name_in here x) sign) && b) (operand n ∙ is) ∙ and-true _,
+        )
+        by false is =
+            λ k n. ap
+            (λ b. is_clock k (clocks.On (declared_clock node (name_in here x))
+            (name_in here x) sign) && b) (operand n ∙ is) ∙ and-false _
+
+    current_stands : (a : Expr) (s : ClockSet) → IsClockSet P here a s →
+        IsClockSet P here (tree.Current a) (raised env s)
+    current_stands a NoClock ha =
+        λ k n. ap (λ b. is_just_below k (clock_of P node a) && b)
+        (ha (clock_or (clock_of P node a)) n) ∙ and-false _
+    current_stands a AnyClock ha =
+        λ k n. ap (λ o. is_just_below k o && accepts a (clock_or (clock_of P node a)) n) ha.0
+    current_stands a (OneClock Base) ha =
+        λ k n. ap (λ o. is_just_below k o && accepts a (clock_or (clock_of P node a)) n) ha.1
+    current_stands a (OneClock (On x sign)) ha =
+        let declared = declared_clock node (name_in here x) in
+        let sampled_clock = clocks.On declared (name_in here x) sign in
+        let is = declared_is here own x ha.0 in (
+          declared_within here own x ha.0,
+          ap (λ o. o >>= parent) ha.1 ∙ ap Some (sym is),
+          λ k n. ap (λ o. is_just_below k o && accepts a (clock_or o) n) ha.1
+              ∙ ap (λ b. is_clock k declared && b)
+              (ha.2 sampled_clock n ∙ clock_itself sampled_clock)
+              ∙ and-true (is_clock k declared) ∙ ap (is_clock k) (sym is),
+        )
+
+-- ## Rows
+
+pub row_items : (t : Texts) (n : _) (row : Row_of-Term n) →
+    row_of t row ≡ exprs_of t (items-the_row-Term n row)
+row_items t n end_of-Term = refl
+row_items t n (more_of-Term e rest) = ap (tree.Cons (expr_of t e)) (row_items t _ rest)
+
+pub within_items : (m : Counts) (n : _) (row : Row_of-Term n) →
+    list_all (is_within m) (items-the_row-Term n row) ≡ are_within m row
+within_items m n end_of-Term = refl
+within_items m n (more_of-Term e rest) = ap (λ b. is_within m e && b) (within_items m _ rest)
+
+pub unhidden_items : (t : Texts) (n : _) (row : Row_of-Term n) →
+    list_all (is_unhidden t) (items-the_row-Term n row) ≡ are_unhidden t row
+unhidden_items t n end_of-Term = refl
+unhidden_items t n (more_of-Term e rest) = ap (λ b. is_unhidden t e && b) (unhidden_items t _ rest)
+
+pub operands_items : (ctx : Context) (n : _) (row : Row_of-Term n) →
+    operands_in ctx row ≡ operands_of ctx (items-the_row-Term n row)
+unfolding infer_clock
+operands_items ctx n end_of-Term = refl
+operands_items ctx n (more_of-Term e rest) =
+    ap (λ (os : List Operand). operand_of ctx e ∷ os) (operands_items ctx _ rest)
+
+module _ (P : Program) (here : ResolvedNode) (own : HasClocks here) (ctx : Context) where
+  -- the clock set of a list is that of its terms together
+  list_stands : (es : List Term) → AreClockSets P here ctx es
+      → IsClockSet P here (tree.Array (exprs_of (texts_of here) es)) (together (operands_of ctx es))
+  list_stands [] all = (refl, λ k n. refl)
+  list_stands (e ∷ es) all =
+      let a = expr_of (texts_of here) e in
+      let rest = exprs_of (texts_of here) es in
+      two_parts P here own a (tree.Array rest) (tree.Array (tree.Cons a rest)) (call_count a)
+      (infer_clock ctx e) (together (operands_of ctx es))
+      all.0 (list_stands es all.1) refl
+      (λ k n. list_all-append (is_occurrence_clocked P (node_of here))
+      (occurrences P (node_of here) k n a)
+      (occurrences_in P (node_of here) k (n + call_count a) rest))
+
+-- ## Iterated nodes
+
+abbrev is_free : tree.Declaration → Bool
+is_free d = not (is_some d.clock)
+
+abbrev stays_free : Declared → Bool
+stays_free v = not (is_some v.clock)
+
+free_list : (all : List Name) (statics : List Static) (xs : List Name) (vs : List Declared) →
+    length xs ≡ length vs
+    → list_all is_free (zip2 (declaration_of all statics) xs vs) ≡ list_all stays_free vs
+free_list all statics [] [] e = refl
+free_list all statics [] (v ∷ vs) e = absurd cc
+free_list all statics (x ∷ xs) [] e = absurd cc
+free_list all statics (x ∷ xs) (v ∷ vs) e =
+    let rest : length xs ≡ length vs = cc in
+    both_are _ _ (stays_free v) (list_all stays_free vs) (by v.clock)
+    (free_list all statics xs vs rest)
+  where
+    by : (o : Option Sampling) → not (is_some (option_map (sampling_of all) o)) ≡ not (is_some o)
+    by None = refl
+    by (Some s) = refl
+
+-- the parameters of an iterated node are on its base clock exactly where the code finds so
+base_clocked_is : (callee : ResolvedNode) → HasClocks callee →
+    is_base_clocked_node (node_of callee) ≡ is_base_clocked callee
+base_clocked_is callee h =
+    let n = node_of callee in
+    let names = variable_names n in
+    let f = declaration_of names (statics_of callee) in
+    let allowed = n.inputs ++ n.outputs in
+    let vs = callee.variables.items in
+    let many = as_many_names h.nodes callee h.resolved h.distinct in
+    let split = zip_split f names vs allowed n.locals
+    (h.resolved.declared ∙ sym (append_assoc n.inputs n.outputs n.locals)) in
+    let size : length allowed ≡ callee.inputs + callee.outputs =
+    length-append n.inputs n.outputs ∙ ap (λ m. m + length n.outputs) (sym h.resolved.inputs)
+    ∙ ap (λ m. callee.inputs + m) (sym h.resolved.outputs) in
+    ap (list_all is_free) split.0
+    ∙ free_list names (statics_of callee) (take (length allowed) names) (take (length allowed) vs)
+    (same_taken (length allowed) names vs (sym many))
+    ∙ ap (λ m. list_all stays_free (take m vs)) size
+
+-- ## Terms
+
+module _ (P : Program) (r : Reached) (here : ResolvedNode) (sees : SeesClocks P r here)
+    (call_stands : (callee : ResolvedNode) → HasClocks callee → (site : Site) →
+    node_named P site.callee ≡ Some (node_of callee) → callee.outputs ≡ 1
+    → (ctx : Context) → ctx.variable ≡ declared_in here
+    → (es : List Term) → list_all (is_within (counts_of here)) es ≡ true →
+    list_all (is_unhidden (texts_of here)) es ≡ true → AreClockSets P here ctx es
+    → IsClockSet P here (tree.Call site.callee site.arguments (exprs_of (texts_of here) es))
+    (call_clock_set callee (operands_of ctx es))) where
+  abbrev texts : Texts
+  texts = texts_of here
+
+  abbrev ctx : Context
+  ctx = env P here sees.own r
+
+  abbrev Finds : Expr → ClockSet → Type 0
+  Finds e s = IsClockSet P here e s
+
+  -- the callee of a call is the node with the name of its site
+  callee_at : (c : CallId) → is_call (counts_of here) c ≡ true
+      → (m : ResolvedNode) × (callee_in r here c ≡ Some m)
+      × (node_named P (site_at texts.calls c).callee ≡ Some (node_of m))
+  callee_at c w =
+      let m = callee_found P r sees.names sees.reached sees.place here sees.at c w in
+      (m.0, m.1, m.2)
+
+  pair_stands : (a b d : Expr) (s t : ClockSet) → Finds a s → Finds b t →
+      clock_of P (node_of here) d ≡ or_else (clock_of P (node_of here) a)
+      (clock_of P (node_of here) b)
+      → ((k : clocks.Clock) (n : ℕ) → is_clocked_on P here k n d
+      ≡ list_all (is_occurrence_clocked P (node_of here))
+      (occurrences P (node_of here) k n a
+      ++ occurrences P (node_of here) k (n + call_count a) b))
+      → Finds d (both s t)
+  pair_stands a b d s t ha hb ec ed =
+      two_parts P here sees.own a b d (call_count a) s t ha hb ec
+      (λ k n. ed k n ∙ list_all-append (is_occurrence_clocked P (node_of here))
+      (occurrences P (node_of here) k n a)
+      (occurrences P (node_of here) k (n + call_count a) b))
+
+  -- the clock set of a row is that of its terms together
+  row_together : {m : Count} (row : Row_of-Term m)
+      → AreClockSets P here ctx (items-the_row-Term m row)
+      → Finds (tree.Array (row_of texts row)) (together (operands_in ctx row))
+  row_together {m = m} row all =
+      subst (λ es. Finds (tree.Array es) (together (operands_in ctx row)))
+      (sym (row_items texts m row))
+      (subst (λ os. Finds (tree.Array (exprs_of texts (items-the_row-Term m row))) (together os))
+      (sym (operands_items ctx m row))
+      (list_stands P here sees.own ctx (items-the_row-Term m row) all))
+
+  -- a term with a row of operands on its clock has the clock set of the operands together
+  together_stands : {m : Count} (row : Row_of-Term m) (d : Expr) →
+      AreClockSets P here ctx (items-the_row-Term m row)
+      → clock_of P (node_of here) d ≡ clock_of P (node_of here) (tree.Array (row_of texts row))
+      → ((k : clocks.Clock) (n : ℕ) →
+      is_clocked_on P here k n d ≡ is_clocked_on P here k n (tree.Array (row_of texts row)))
+      → Finds d (together (operands_in ctx row))
+  together_stands {m = m} row d all ec ed =
+      one_part P here sees.own (tree.Array (row_of texts row)) d (together (operands_in ctx row))
+      (row_together row all) ec ed
+
+  -- a call with one result has the clock set that the code finds
+  call_finds : (c : CallId) {m : Count} (row : Row_of-Term m) → is_call (counts_of here) c ≡ true →
+      are_within (counts_of here) row ≡ true
+      → are_unhidden texts row ≡ true → calls_single r here c ≡ true →
+      AreClockSets P here ctx (items-the_row-Term m row)
+      → Finds (tree.Call (site_at texts.calls c).callee (site_at texts.calls c).arguments
+      (row_of texts row))
+      (either_or (option_map (λ n. call_clock_set n (operands_in ctx row)) (callee_in r here c))
+      NoClock)
+  call_finds c {m = m} row wc w u one all =
+      let callee = callee_at c wc in
+      let site = site_at texts.calls c in
+      let es = items-the_row-Term m row in
+      let single : nat_eq callee.0.outputs 1 ≡ true =
+      sym (ap (holds (λ n. nat_eq n.outputs 1)) callee.1) ∙ one in
+      let outputs : callee.0.outputs ≡ 1 = grind (arith, nat_tests) in
+      let stands = call_stands callee.0
+      (sees.callees c callee.0 callee.1) site callee.2 outputs ctx refl es
+      (within_items (counts_of here) m row ∙ w) (unhidden_items texts m row ∙ u) all in
+      subst (λ o. Finds (tree.Call site.callee site.arguments (row_of texts row))
+      (either_or (option_map (λ n. call_clock_set n (operands_in ctx row)) o) NoClock))
+      (sym callee.1)
+      (subst (λ es. Finds (tree.Call site.callee site.arguments es)
+      (call_clock_set callee.0 (operands_in ctx row))) (sym (row_items texts m row))
+      (subst (λ os. Finds (tree.Call site.callee site.arguments (exprs_of texts es))
+      (call_clock_set callee.0 os)) (sym (operands_items ctx m row)) stands))
+
+  -- an iterated node has the clock set that the code finds
+  iterate_finds : (it : ArrayIterator) (c : CallId) {m : Count} (row : Row_of-Term m) →
+      is_call (counts_of here) c ≡ true
+      → AreClockSets P here ctx (items-the_row-Term m row)
+      → Finds (iterate_expr it (site_at texts.calls c) (row_of texts row))
+      (if holds is_base_clocked (callee_in r here c) then together
+      (operands_in ctx row) else NoClock)
+  iterate_finds it c row wc all =
+      let callee = callee_at c wc in
+      let site = site_at texts.calls c in
+      let test : if_node P is_base_clocked_node site.callee ≡ is_base_clocked callee.0 =
+      ap (λ o. list_all is_base_clocked_node (listed (λ n. n ∷ []) o)) callee.2 ∙ and-true _
+      ∙ base_clocked_is callee.0 (sees.callees c callee.0 callee.1) in
+      let same : if_node P is_base_clocked_node site.callee
+      ≡ holds is_base_clocked (callee_in r here c) =
+      test ∙ sym (ap (holds is_base_clocked) callee.1) in
+      tested_part P here sees.own (tree.Array (row_of texts row))
+      (iterate_expr it site (row_of texts row)) 1 (holds is_base_clocked (callee_in r here c))
+      (together (operands_in ctx row)) (row_together row all) refl
+      (λ k n. ap (λ b. b && list_all (is_occurrence_clocked P (node_of here))
+      (occurrences_in P (node_of here) k (n + 1) (row_of texts row))) same)
+
+  mutual
+    unfolding infer_clock is_single
+
+    term_finds : (t : Term) → is_within (counts_of here) t ≡ true → is_unhidden texts t ≡ true →
+        is_single r here t ≡ true
+        → Finds (expr_of texts t) (infer_clock ctx t)
+    term_finds (Literal n) w u o = (refl, λ k n. refl)
+    term_finds (Truth b) w u o = (refl, λ k n. refl)
+    term_finds (Variable x) w u o = variable_stands P here sees.own x w
+    term_finds (Value i) w u o = value_stands P here sees.own (static_at texts.statics i) u
+    term_finds (Group' p e) w u o =
+        one_part P here sees.own (expr_of texts e) (tree.Group (expr_of texts e))
+        (infer_clock ctx e) (term_finds e w u o) refl (λ k n. refl)
+    term_finds (Unary' op p a) w u o =
+        one_part P here sees.own (expr_of texts a) (tree.Unary op (expr_of texts a))
+        (infer_clock ctx a) (term_finds a w u o) refl (λ k n. refl)
+    term_finds (Binary' op p a q b) w u o =
+        pair_stands (expr_of texts a) (expr_of texts b)
+        (tree.Binary op (expr_of texts a) (expr_of texts b)) (infer_clock ctx a)
+        (infer_clock ctx b)
+        (term_finds a (and_first _ (is_within (counts_of here) b) w)
+        (and_first _ (is_unhidden texts b) u) (and_first _ (is_single r here b) o))
+        (term_finds b (and_second (is_within (counts_of here) a) _ w)
+        (and_second (is_unhidden texts a) _ u) (and_second (is_single r here a) _ o))
+        refl (λ k n. refl)
+    term_finds (If' p c q a r' b) w u o =
+        let wab = and_second (is_within (counts_of here) c) _ w in
+        let uab = and_second (is_unhidden texts c) _ u in
+        let oab = and_second (is_single r here c) _ o in
+        pair_stands (expr_of texts c) (tree.Arrow (expr_of texts a) (expr_of texts b))
+        (tree.If (expr_of texts c) (expr_of texts a) (expr_of texts b))
+        (infer_clock ctx c) (both (infer_clock ctx a) (infer_clock ctx b))
+        (term_finds c (and_first _ (is_within (counts_of here) a && is_within (counts_of here) b) w)
+        (and_first _ (is_unhidden texts a && is_unhidden texts b) u)
+        (and_first _ (is_single r here a && is_single r here b) o))
+        (pair_stands (expr_of texts a) (expr_of texts b)
+        (tree.Arrow (expr_of texts a) (expr_of texts b)) (infer_clock ctx a) (infer_clock ctx b)
+        (term_finds a (and_first _ (is_within (counts_of here) b) wab)
+        (and_first _ (is_unhidden texts b) uab) (and_first _ (is_single r here b) oab))
+        (term_finds b (and_second (is_within (counts_of here) a) _ wab)
+        (and_second (is_unhidden texts a) _ uab) (and_second (is_single r here a) _ oab))
+        refl (λ k n. refl))
+        refl (if_parts P here (expr_of texts c) (expr_of texts a) (expr_of texts b))
+    term_finds (Arrow' p a q b) w u o =
+        pair_stands (expr_of texts a) (expr_of texts b)
+        (tree.Arrow (expr_of texts a) (expr_of texts b)) (infer_clock ctx a) (infer_clock ctx b)
+        (term_finds a (and_first _ (is_within (counts_of here) b) w)
+        (and_first _ (is_unhidden texts b) u) (and_first _ (is_single r here b) o))
+        (term_finds b (and_second (is_within (counts_of here) a) _ w)
+        (and_second (is_unhidden texts a) _ u) (and_second (is_single r here a) _ o))
+        refl (λ k n. refl)
+    term_finds (Fby' p a q b) w u o =
+        pair_stands (expr_of texts a) (expr_of texts b)
+        (tree.Fby (expr_of texts a) (expr_of texts b)) (infer_clock ctx a) (infer_clock ctx b)
+        (term_finds a (and_first _ (is_within (counts_of here) b) w)
+        (and_first _ (is_unhidden texts b) u) (and_first _ (is_single r here b) o))
+        (term_finds b (and_second (is_within (counts_of here) a) _ w)
+        (and_second (is_unhidden texts a) _ u) (and_second (is_single r here a) _ o))
+        refl (λ k n. refl)
+    term_finds (Pre' p e) w u o =
+        one_part P here sees.own (expr_of texts e) (tree.Pre (expr_of texts e)) (infer_clock ctx e)
+        (term_finds e w u o) refl (λ k n. refl)
+    term_finds (Current' p e) w u o =
+        current_stands P here sees.own r (expr_of texts e) (infer_clock ctx e) (term_finds e w u o)
+    term_finds (When' p e x sign) w u o =
+        when_stands P here sees.own r (expr_of texts e) x sign (infer_clock ctx e)
+        (and_first _ (is_within (counts_of here) e) w)
+        (term_finds e (and_second (is_variable (counts_of here) x) _ w) u o)
+    term_finds (Replicate' p e i) w u o =
+        one_part P here sees.own (expr_of texts e)
+        (tree.Replicate (expr_of texts e) (static_at texts.statics i)) (infer_clock ctx e)
+        (term_finds e (and_second (is_static (counts_of here) i) _ w) u o) refl (λ k n. refl)
+    term_finds (Index' p e i) w u o =
+        one_part P here sees.own (expr_of texts e)
+        (tree.Index (expr_of texts e) (static_at texts.statics i)) (infer_clock ctx e)
+        (term_finds e (and_second (is_static (counts_of here) i) _ w) u o) refl (λ k n. refl)
+    term_finds (Slice' p e i j) w u o =
+        one_part P here sees.own (expr_of texts e)
+        (tree.Slice (expr_of texts e) (static_at texts.statics i) (static_at texts.statics j))
+        (infer_clock ctx e)
+        (term_finds e (and_second (is_static (counts_of here) j) _
+        (and_second (is_static (counts_of here) i) _ w)) u o) refl (λ k n. refl)
+    term_finds (Join' p a q b) w u o =
+        pair_stands (expr_of texts a) (expr_of texts b)
+        (tree.Join (expr_of texts a) (expr_of texts b)) (infer_clock ctx a) (infer_clock ctx b)
+        (term_finds a (and_first _ (is_within (counts_of here) b) w)
+        (and_first _ (is_unhidden texts b) u) (and_first _ (is_single r here b) o))
+        (term_finds b (and_second (is_within (counts_of here) a) _ w)
+        (and_second (is_unhidden texts a) _ u) (and_second (is_single r here a) _ o))
+        refl (λ k n. refl)
+    term_finds (Array' arity all) w u o =
+        together_stands all (tree.Array (row_of texts all)) (row_finds all w u o) refl (λ k n. refl)
+    term_finds (AtMostOne' arity all) w u o =
+        together_stands all (tree.AtMostOne (row_of texts all)) (row_finds all w u o) refl
+        (λ k n. refl)
+    term_finds (Nor' arity all) w u o =
+        together_stands all (tree.Nor (row_of texts all)) (row_finds all w u o) refl (λ k n. refl)
+    term_finds (Call' c arity all) w u o =
+        let wc = and_first _ (are_within (counts_of here) all) w in
+        let wa = and_second (is_call (counts_of here) c) _ w in
+        call_finds c all wc wa u (and_first _ (are_single r here all) o)
+        (row_finds all wa u (and_second (calls_single r here c) _ o))
+    term_finds (IterateNode' it c arity all) w u o =
+        iterate_finds it c all (and_first _ (are_within (counts_of here) all) w)
+        (row_finds all (and_second (is_call (counts_of here) c) _ w) u o)
+    term_finds (IterateSymbol' it op i arity all) w u o =
+        together_stands all (tree.Iterate it (tree.Symbol op) (static_at texts.statics i)
+        (row_of texts all))
+        (row_finds all (and_second (is_static (counts_of here) i) _ w) u o) refl (λ k n. refl)
+
+    row_finds : {m : Count} (row : Row_of-Term m) → are_within (counts_of here) row ≡ true →
+        are_unhidden texts row ≡ true → are_single r here row ≡ true
+        → AreClockSets P here ctx (items-the_row-Term m row)
+    row_finds end_of-Term w u o = tt
+    row_finds (more_of-Term e rest) w u o = (
+      term_finds e (and_first _ (are_within (counts_of here) rest) w)
+          (and_first _ (are_unhidden texts rest) u) (and_first _ (are_single r here rest) o),
+      row_finds rest (and_second (is_within (counts_of here) e) _ w)
+          (and_second (is_unhidden texts e) _ u) (and_second (is_single r here e) _ o),
+    )
+
+  -- a term has the clock set that the code infers
+  pub term_stands : (t : Term) → is_within (counts_of here) t ≡ true →
+      is_unhidden (texts_of here) t ≡ true → is_single r here t ≡ true
+      → IsClockSet P here (expr_of (texts_of here) t) (infer_clock (context_of r here) t)
+  unfolding context_of
+  term_stands t w u o = term_finds t w u o
+
+  pub row_stands : {m : Count} (row : Row_of-Term m) → are_within (counts_of here) row ≡ true →
+      are_unhidden (texts_of here) row ≡ true → are_single r here row ≡ true
+      → AreClockSets P here (context_of r here) (items-the_row-Term m row)
+  unfolding context_of
+  row_stands row w u o = row_finds row w u o

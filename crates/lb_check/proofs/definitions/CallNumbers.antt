@@ -1,0 +1,199 @@
+-- The call of a number in the text of a node, and the left variables of the equation whose whole
+-- right side is this call.
+use Rattle.lb_check.proofs.Words.{◌&&◌, nat_eq, find, nat_tests, eqb-true, and_from, same_Some}
+use Rattle.lb_check.proofs.Words.{and-false, Every, In, listed, Node_named, Symbol, Expr, Group}
+use Rattle.lb_check.proofs.Words.{Iterate, Node, Statement, Equation, Assertion, same_number}
+use Rattle.lb_check.proofs.Words.{and_first, and_second, Program, sites, statement_sites}
+use Rattle.lb_check.proofs.Words.{right_side, left_names, Clock, ungrouped, is_site, call_at}
+use Rattle.lb_check.proofs.Words.{is_right_side, lefts_at, Occurrence, at, occurrences}
+use Rattle.lb_check.proofs.Words.{statement_clock, right_sides, statements, node_occurrences}
+use Rattle.std.proofs.Common.{◌≡◌, ◌⊎◌, inl, inr, ℕ, ◌+◌, ◌<◌, ◌≤◌, Bool, true, false, Option, Some}
+use Rattle.std.proofs.Common.{None, List, [], ◌∷◌, length, zip, refl, ap, sym, ◌∙◌, arith}
+use Rattle.lb_check.specs.Clocks.{Base}
+use Rattle.lb_check.proofs.lists.ApartLists.{Every-at, to_pieces}
+use Rattle.lb_check.proofs.lists.Every.{Every-map, Every-both}
+use Rattle.lb_check.proofs.programs.OccurrenceSites.{site_of_call, numbered_below, find_here}
+use Rattle.lb_check.proofs.programs.OccurrenceSites.{find_next}
+use Rattle.lb_check.proofs.programs.OccurrenceSites.{calls_of, node_calls}
+
+-- an item that `find` returns is in the list and passes the test
+pub found_in : {A : Type 0} (test : A → Bool) (xs : List A) (x : A) → find test xs ≡ Some x →
+    In x xs × (test x ≡ true)
+found_in test [] x e = absurd cc
+found_in test (y ∷ ys) x e = by (test y) refl (found_in test ys x)
+  where
+    by : (b : Bool) → test y ≡ b → (find test ys ≡ Some x → In x ys × (test x ≡ true)) →
+        In x (y ∷ ys) × (test x ≡ true)
+    by true is again =
+        let same = same_Some y x (sym (find_here test y ys is) ∙ e) in
+        (inl same, ap test (sym same) ∙ is)
+    by false is again =
+        let later = again (sym (find_next test y ys is) ∙ e) in
+        (inr later.0, later.1)
+
+zip_second : {A B : Type 0} (xs : List A) (ys : List B) (t : A × B) → In t (zip xs ys) →
+    In t.1 ys
+zip_second [] ys t i = absurd i
+zip_second (x ∷ xs) [] t i = absurd i
+zip_second {A = A} {B = B} (x ∷ xs) (y ∷ ys) t (inl e) = inl (ap (λ (u : A × B). u.1) e)
+zip_second (x ∷ xs) (y ∷ ys) t (inr i) = inr (zip_second xs ys t i)
+
+-- ## Expressions in parentheses
+
+module _ (P : Program) (here : Node) where
+  -- an expression is the first of its occurrences
+  pub leads : (k : Clock) (n : ℕ) (e : Expr) →
+      In (at k n (ungrouped e)) (occurrences P here k n e)
+  leads k n (Group a) = leads k n a
+  leads k n (Iterate it (Node_named f statics) m es) = inl refl
+  leads k n (Iterate it (Symbol op) m es) = inl refl
+  leads k n e = inl refl
+
+  -- ## The call of a number
+
+  -- each call is the call of its number
+  pub call_at_is :
+      Every (λ o. is_site o.expr ≡ true → call_at P here o.calls_before ≡ Some o)
+      (node_occurrences P here)
+  call_at_is = (node_calls P here).found
+
+  pub call_of :
+      (o : Occurrence) → In o (node_occurrences P here) → is_site o.expr ≡ true →
+      call_at P here o.calls_before ≡ Some o
+  call_of o i is =
+      Every-at (λ o. is_site o.expr ≡ true → call_at P here o.calls_before ≡ Some o)
+      (node_occurrences P here) o call_at_is i is
+
+  -- ## Right sides that are calls
+
+  abbrev numbered_statements : ℕ → List Statement → List (Statement × Occurrence)
+  numbered_statements n ss = zip ss (right_sides P here n ss)
+
+  -- a statement with its right side, on its clock
+  pub record IsOwnRight (t : Statement × Occurrence) : Type 0 where
+    pub clock : t.1.clock ≡ statement_clock P here t.0
+    pub expr : t.1.expr ≡ right_side t.0
+
+  own_rights : (n : ℕ) (ss : List Statement) → Every IsOwnRight (numbered_statements n ss)
+  own_rights n [] = tt
+  own_rights n (s ∷ ss) =
+      (record { clock = refl; expr = refl }, own_rights (n + length (statement_sites s)) ss)
+
+  -- a statement of the node has its own right side, on its own clock
+  pub own_right :
+      (t : Statement × Occurrence) → In t (statements P here) → IsOwnRight t
+  own_right t i = Every-at IsOwnRight (statements P here) t (own_rights 0 here.body) i
+
+  numbers_from : (n : ℕ) (ss : List Statement) →
+      Every (λ t. n ≤ t.1.calls_before) (numbered_statements n ss)
+  numbers_from n [] = tt
+  numbers_from n (s ∷ ss) = (
+    omega arith,
+    Every-map (λ t. n + length (statement_sites s) ≤ t.1.calls_before)
+        (λ t. n ≤ t.1.calls_before) (λ t le. omega (arith, le))
+        (numbered_statements (n + length (statement_sites s)) ss)
+        (numbers_from (n + length (statement_sites s)) ss),
+  )
+
+  has_site : (e : Expr) → is_site (ungrouped e) ≡ true → 0 < length (sites e)
+  has_site e is =
+      let s = site_of_call (ungrouped e) is in
+      let stands = Every-at _ (occurrences P here Base 0 e) (at Base 0 (ungrouped e))
+      (calls_of P here Base 0 e).stand (leads Base 0 e) s.0 s.1 in
+      let below = numbered_below 0 (sites e) 0 s.0 stands in
+      omega (arith, below)
+
+  pub statement_has_site : (s : Statement) → is_site (ungrouped (right_side s)) ≡ true →
+      0 < length (statement_sites s)
+  statement_has_site (Equation lefts e) is = has_site e is
+  statement_has_site (Assertion e) is = has_site e is
+
+  right_found : (n : ℕ) (ss : List Statement) →
+      Every (λ t. is_site (ungrouped t.1.expr) ≡ true →
+      find (λ u. is_right_side t.1.calls_before u.1) (numbered_statements n ss) ≡ Some t)
+      (numbered_statements n ss)
+  right_found n [] = tt
+  right_found n (s ∷ ss) =
+      let first : Statement × Occurrence =
+      (s, at (statement_clock P here s) n (right_side s)) in
+      let rest = numbered_statements (n + length (statement_sites s)) ss in (
+        λ is. find_here (λ u. is_right_side n u.1) first rest (and_from _ _ (same_number n) is),
+        Every-map _ _
+            (λ t h is. find_next (λ u. is_right_side t.1.calls_before u.1) first rest (other t h.0)
+            ∙ h.1 is) rest
+            (Every-both _ _ rest (numbers_from (n + length (statement_sites s)) ss)
+            (right_found (n + length (statement_sites s)) ss)),
+      )
+    where
+      other : (t : Statement × Occurrence) → n + length (statement_sites s) ≤ t.1.calls_before →
+          is_right_side t.1.calls_before (at (statement_clock P here s) n (right_side s)) ≡ false
+      other t le = by (is_site (ungrouped (right_side s))) refl
+        where
+          by : (b : Bool) → is_site (ungrouped (right_side s)) ≡ b →
+              (nat_eq n t.1.calls_before && is_site (ungrouped (right_side s))) ≡ false
+          by false e =
+              ap (λ b. nat_eq n t.1.calls_before && b) e ∙ and-false (nat_eq n t.1.calls_before)
+          by true e =
+              let some = statement_has_site s e in
+              let differs : nat_eq n t.1.calls_before ≡ false = grind (arith, nat_tests) in
+              ap (λ b. b && is_site (ungrouped (right_side s))) differs
+
+  -- the left variables of a call that is the whole right side of a statement are those of the
+  -- statement
+  pub lefts_of :
+      (t : Statement × Occurrence) → In t (statements P here) →
+      is_site (ungrouped t.1.expr) ≡ true → lefts_at P here t.1.calls_before ≡ left_names t.0
+  lefts_of t i is =
+      ap (listed (λ s. left_names s.0))
+      (Every-at (λ t. is_site (ungrouped t.1.expr) ≡ true →
+      find (λ u. is_right_side t.1.calls_before u.1) (statements P here) ≡ Some t)
+      (statements P here) t (right_found 0 here.body) i is)
+
+  -- the right side of a statement is among the occurrences
+  pub right_in :
+      (t : Statement × Occurrence) → In t (statements P here) →
+      In (at t.1.clock t.1.calls_before (ungrouped t.1.expr)) (node_occurrences P here)
+  right_in t i =
+      to_pieces (λ r. occurrences P here r.clock r.calls_before r.expr)
+      (at t.1.clock t.1.calls_before (ungrouped t.1.expr)) t.1 (right_sides P here 0 here.body)
+      (zip_second here.body (right_sides P here 0 here.body) t i)
+      (leads t.1.clock t.1.calls_before t.1.expr)
+
+  -- a call is the whole right side of a statement
+  pub record IsRightSide (o : Occurrence) : Type 0 where
+    pub statement : Statement × Occurrence
+    pub stands : In statement (statements P here)
+    pub own : IsOwnRight statement
+    pub is : at statement.1.clock statement.1.calls_before (ungrouped statement.1.expr) ≡ o
+
+  -- the left variables of a call are those of the statement whose whole right side it is; a call
+  -- that is no whole right side has none
+  pub lefts_are :
+      (o : Occurrence) → In o (node_occurrences P here) → is_site o.expr ≡ true →
+      ((r : IsRightSide o) × (lefts_at P here o.calls_before ≡ left_names r.statement.0))
+      ⊎ (lefts_at P here o.calls_before ≡ [])
+  lefts_are o i is = by (find (λ s. is_right_side o.calls_before s.1) (statements P here)) refl
+    where
+      by : (f : Option (Statement × Occurrence)) →
+          find (λ s. is_right_side o.calls_before s.1) (statements P here) ≡ f →
+          ((r : IsRightSide o) × (lefts_at P here o.calls_before ≡ left_names r.statement.0))
+          ⊎ (lefts_at P here o.calls_before ≡ [])
+      by None e = inr (ap (listed (λ s. left_names s.0)) e)
+      by (Some t) e =
+          let there = found_in (λ s. is_right_side o.calls_before s.1) (statements P here) t e in
+          let number = eqb-true t.1.calls_before o.calls_before
+          (and_first (nat_eq t.1.calls_before o.calls_before) _ there.1) in
+          let call = and_second (nat_eq t.1.calls_before o.calls_before) _ there.1 in
+          let right = at t.1.clock t.1.calls_before (ungrouped t.1.expr) in
+          let one = call_of right (right_in t there.0) call in
+          let same = same_Some right o
+          (sym one ∙ (ap (call_at P here) number ∙ call_of o i is)) in
+          inl (
+            record {
+              statement = t;
+              stands = there.0;
+              own = own_right t there.0;
+              is = same;
+            },
+            ap (listed (λ s. left_names s.0)) e,
+          )

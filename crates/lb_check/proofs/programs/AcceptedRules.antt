@@ -1,0 +1,75 @@
+-- The rules that each instance of an accepted program keeps.
+use Rattle.lb_check.proofs.Words.{◌≡◌, ℕ, suc, Bool, true, None, List, [], ◌∷◌, list_all, Every, In}
+use Rattle.lb_check.proofs.Words.{E5, E6, E9, E10, E12, unless, and_first, and_second, Program}
+use Rattle.lb_check.proofs.Words.{Instance, instances, static_refusal, has_values, is_in_range}
+use Rattle.lb_check.proofs.Words.{may_enter, instance_refusal, instantiation_refusal, variables}
+use Rattle.lb_check.proofs.Words.{check_refusal, is_clocked, are_declared_clocks, is_typed}
+use Rattle.lb_check.proofs.Words.{is_clock_typed, is_statement_typed}
+use Rattle.lb_check.proofs.lists.ApartLists.{Every-at}
+use Rattle.lb_check.proofs.definitions.Checks.{first_none, second_none, kept, instantiation_kept}
+use Rattle.lb_check.proofs.lists.Every.{Every-map, Every-tested}
+
+-- the static values of an instance are there, and are in range
+pub record IsValued (P : Program) (here : Instance) : Type 0 where
+  pub values : has_values P here ≡ true
+  pub in_range : is_in_range P here ≡ true
+
+all_valued :
+    (P : Program) (n : ℕ) (is : List Instance) → instantiation_refusal P n is ≡ None →
+    Every (IsValued P) is
+all_valued P n [] e = tt
+all_valued P n (c ∷ is) e =
+    let here = first_none (instance_refusal P n c) _ e in
+    let later = second_none (unless (may_enter P n c) E12) _ here in (
+      record {
+        values = kept (has_values P c) E5 (first_none _ _ later);
+        in_range =
+            kept (is_in_range P c) E6 (second_none (unless (has_values P c) E5) _ later);
+      },
+      all_valued P (suc n) is (second_none (instance_refusal P n c) _ e),
+    )
+
+-- the static values of each instance of an accepted program are there, and are in range
+pub valued :
+    (P : Program) → static_refusal P ≡ None → (here : Instance) → In here (instances P) →
+    IsValued P here
+valued P accepted here i =
+    Every-at (IsValued P) (instances P) here
+    (all_valued P 0 (instances P) (instantiation_kept P accepted)) i
+
+module _ (P : Program) (checked : check_refusal P ≡ None) where
+  abbrev clocks : Instance → Bool
+  clocks here = is_clocked P here.node
+
+  -- each instance keeps the rules of types
+  pub all_typed : Every (λ here. is_typed P here ≡ true) (instances P)
+  all_typed =
+      Every-tested (is_typed P) (instances P)
+      (kept (list_all (is_typed P) (instances P)) E9 (first_none _ _ checked))
+
+  -- each node of an instance keeps the rules of clocks
+  pub all_clocked : Every (λ here. is_clocked P here.node ≡ true) (instances P)
+  all_clocked =
+      let later = second_none (unless (list_all (is_typed P) (instances P)) E9) _ checked in
+      Every-tested clocks (instances P)
+      (kept (list_all clocks (instances P)) E10 (first_none _ _ later))
+
+  -- each node of an instance keeps the rules of declared clocks
+  pub all_declared : Every (λ here. are_declared_clocks here.node ≡ true) (instances P)
+  all_declared =
+      Every-map (λ here. is_clocked P here.node ≡ true)
+      (λ here. are_declared_clocks here.node ≡ true)
+      (λ here e. and_first (are_declared_clocks here.node) _ e) (instances P) all_clocked
+
+  pub typed : (here : Instance) → In here (instances P) → is_typed P here ≡ true
+  typed here i = Every-at (λ here. is_typed P here ≡ true) (instances P) here all_typed i
+
+  pub statements_typed :
+      (here : Instance) → In here (instances P) →
+      list_all (is_statement_typed P here) here.node.body ≡ true
+  statements_typed here i =
+      and_second (list_all (is_clock_typed P here) (variables here.node)) _ (typed here i)
+
+  pub clocked : (here : Instance) → In here (instances P) → is_clocked P here.node ≡ true
+  clocked here i =
+      Every-at (λ here. is_clocked P here.node ≡ true) (instances P) here all_clocked i

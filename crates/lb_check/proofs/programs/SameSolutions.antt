@@ -1,0 +1,392 @@
+-- A history with the same streams as a solution of an accepted program, whose starts run at every
+-- instant, solves the program too.
+use Rattle.lb_check.proofs.Words.{◌≡◌, ℕ, zero, suc, ◌+◌, ◌<◌, true, Option, Some, None, List, []}
+use Rattle.lb_check.proofs.Words.{◌∷◌, ◌++◌, length, map, replicate, refl, ap, ap₂, sym, ◌∙◌, subst}
+use Rattle.lb_check.proofs.Words.{arith, IfSome, option_map, ArrayIterator, Map, Red, Fill, Every}
+use Rattle.lb_check.proofs.Words.{Name, Static, Node_named, Symbol, Expr, Call, Iterate, Exprs, Nil}
+use Rattle.lb_check.proofs.Words.{Cons, Declaration, Node, Statement, Equation, Assertion, Program}
+use Rattle.lb_check.proofs.Words.{Instance, Path, Root, Observer, Child, sites, sites_in}
+use Rattle.lb_check.proofs.Words.{node_sites, node_named, static_count, start_at, instance_at}
+use Rattle.lb_check.proofs.Words.{instances, DataType, variables, instantiation_refusal}
+use Rattle.lb_check.proofs.Words.{static_refusal, check_refusal, are_declared_clocks, is_clocked}
+use Rattle.lb_check.proofs.Words.{Clock, declared_clock, base_clock, argument_clocks, Occurrence}
+use Rattle.lb_check.proofs.Words.{at, call_count, call_clocks, occurrences, occurrences_each}
+use Rattle.lb_check.proofs.Words.{statements, node_occurrences, Stream, IsIteratorJoined}
+use Rattle.lb_check.proofs.Words.{IsCallJoined, IsJoinedAt, IsJoined, streams_at, fits, Fits}
+use Rattle.lb_check.proofs.Words.{variable_presence, Inputs, SolvesAt, Solves, AgreeAt, AreSame}
+use Rattle.lb_check.proofs.Words.{is_typed, all_types, operator_types}
+use Rattle.lb_syntax.specs.Lists.{part}
+use Rattle.lb_check.specs.Solutions.{Receives, accumulated, iterator_inputs, AreEqual, columns_at}
+use Rattle.lb_check.specs.Solutions.{IsObserved, IsGiven}
+use Rattle.lb_check.specs.Streams.{History, presence, all_streams, argument_streams, number}
+use Rattle.lb_check.proofs.definitions.Checks.{instantiation_kept}
+use Rattle.lb_check.proofs.clocking.DeterminedClocks.{OfCalled, Sited, AllLawful, AreSited, fore}
+use Rattle.lb_check.proofs.clocking.DeterminedClocks.{aft}
+use Rattle.lb_check.proofs.clocking.DeterminedClocks.{sited_first, sited_second, sited_after}
+use Rattle.lb_check.proofs.lists.Every.{Every-map, Every-both, Every-append, Every-first}
+use Rattle.lb_check.proofs.lists.Every.{Every-second}
+use Rattle.lb_check.proofs.lists.Every.{Every-range, Every-of_range, flat_same}
+use Rattle.lb_check.proofs.clocking.NamedClocks.{IsOver, declared_over, base_over}
+use Rattle.lb_check.proofs.typing.OperandTypes.{bound, first_of_all, called, placed}
+use Rattle.lb_check.proofs.programs.SameInstances.{all_called, typed, clocked, entered, called_same}
+use Rattle.lb_check.proofs.programs.SameInstances.{starts_agree}
+use Rattle.lb_check.proofs.programs.SameStreams.{Same, IsSame, presence_same, same_streams}
+use Rattle.lb_check.proofs.programs.SameStreams.{all_same}
+use Rattle.lb_check.proofs.programs.StandingParts.{Stands, clocks_over, StatementStands}
+use Rattle.lb_check.proofs.programs.StandingParts.{node_stands}
+
+-- ## The inputs of instances
+
+receives_same :
+    (H G : History) (p : Path) (ds : List Declaration) (xss yss : List (List Stream)) →
+    Every (λ d. H.columns p d.name ≡ G.columns p d.name) ds → xss ≡ yss → Receives H p ds xss →
+    Receives G p ds yss
+receives_same H G p ds xss yss agree same h = subst (Receives G p ds) same (by ds xss agree h)
+  where
+    by : (ds : List Declaration) (xss : List (List Stream)) →
+        Every (λ d. H.columns p d.name ≡ G.columns p d.name) ds → Receives H p ds xss →
+        Receives G p ds xss
+    by [] [] a h = tt
+    by [] (xs ∷ xss) a h = absurd h
+    by (d ∷ ds) [] a h = absurd h
+    by (d ∷ ds) (xs ∷ xss) a h = (sym a.0 ∙ h.0, by ds xss a.1 h.1)
+
+module _ {A : Type 0} (f g : ℕ → Name → List A) (n : ℕ) (outs : List Declaration)
+    (same : (i : ℕ) → i < n → Every (λ o. f i o.name ≡ g i o.name) outs) where
+  accumulated_same : (init : List A) (i : ℕ) → i < n →
+      accumulated f outs init i ≡ accumulated g outs init i
+  accumulated_same init i lt = by outs same i lt
+    where
+      by : (outs : List Declaration) →
+          ((i : ℕ) → i < n → Every (λ o. f i o.name ≡ g i o.name) outs) → (i : ℕ) → i < n →
+          accumulated f outs init i ≡ accumulated g outs init i
+      by [] same i lt = refl
+      by (o ∷ outs) same zero lt = refl
+      by (o ∷ outs) same (suc i) lt = (same i (omega arith)).0
+
+  -- the inputs of an instance of an iterator are the same
+  inputs_same : (it : ArrayIterator) (args : List (List A)) (i : ℕ) → i < n →
+      iterator_inputs f n it outs args i ≡ iterator_inputs g n it outs args i
+  inputs_same Map args i lt = refl
+  inputs_same Red [] i lt = refl
+  inputs_same Red (init ∷ args) i lt =
+      ap (λ xs. xs ∷ map (part n i) args) (accumulated_same init i lt)
+  inputs_same Fill [] i lt = refl
+  inputs_same Fill (init ∷ args) i lt = ap (λ xs. xs ∷ []) (accumulated_same init i lt)
+
+-- ## One instance
+
+module _ (P : Program) (H G : History) (here : Instance) (agree : AgreeAt H G here) where
+  abbrev Own : Name → Type 0
+  Own x = Same P H G here agree x
+
+  known : (c : Instance) → IsSame H G c → are_declared_clocks c.node ≡ true
+  known c same = same.declared
+
+  abbrev StandsHere : Occurrence → Type 0
+  StandsHere o = Stands P here Own agree.columns (IsSame H G) known o
+
+  streams_same : (o : Occurrence) → StandsHere o → streams_at P H here o ≡ streams_at P G here o
+  streams_same o s =
+      (same_streams P H G here agree o.clock o.calls_before o.expr s.types s.typed s.over s.lawful
+      s.sited).0
+
+  -- arguments, each on a clock of its own, have the same streams
+  arguments_same :
+      (ks : List Clock) (n : ℕ) (es : Exprs) (ts : List DataType) → all_types P here es ≡ Some ts →
+      Every (IsOver Own) ks → AllLawful P here (IsSame H G) (occurrences_each P here.node ks n es) →
+      AreSited P here (IsSame H G) n (sites_in es) →
+      argument_streams P H here ks n es ≡ argument_streams P G here ks n es
+  arguments_same ks n Nil ts e o h s = refl
+  arguments_same [] n (Cons a es) ts e o h s = refl
+  arguments_same (k ∷ ks) n (Cons a es) ts e o h s =
+      let i = first_of_all P here a es ts e in
+      let oa = occurrences P here.node k n a in
+      let ob = occurrences_each P here.node ks (n + call_count a) es in
+      ap₂ (λ xs xss. xs ∷ xss)
+      (same_streams P H G here agree k n a (i.first ∷ []) i.is o.0
+      (fore P here (IsSame H G) oa ob h)
+      (sited_first (OfCalled P here (IsSame H G)) n (sites a) (sites_in es) s)).0
+      (arguments_same ks (n + call_count a) es i.rest i.others o.1
+      (aft P here (IsSame H G) oa ob h)
+      (sited_second (OfCalled P here (IsSame H G)) n (sites a) (sites_in es) s))
+
+  -- a call stays joined
+  call_stays :
+      (k : Clock) (n : ℕ) (es : Exprs) (c : Instance) → IsOver Own k →
+      IsSame H G (record c { path = Child here.path n 0 }) →
+      argument_streams P H here (argument_clocks k c.node es) (n + 1) es
+      ≡ argument_streams P G here (argument_clocks k c.node es) (n + 1) es →
+      IsCallJoined P H here k n es (Some c.node) → IsCallJoined P G here k n es (Some c.node)
+  call_stays k n es c over own args j =
+      let base = base_clock k c.node in
+      let on = presence_same P H G here agree base (base_over Own k c.node over) in (
+        sym own.agrees.ticks ∙ j.0 ∙ on,
+        receives_same H G (Child here.path n 0) c.node.inputs
+            (argument_streams P H here (argument_clocks k c.node es) (n + 1) es)
+            (argument_streams P G here (argument_clocks k c.node es) (n + 1) es)
+            (Every-first (λ d. H.columns (Child here.path n 0) d.name
+            ≡ G.columns (Child here.path n 0) d.name) c.node.inputs
+            (c.node.outputs ++ c.node.locals) own.agrees.columns)
+            args j.1,
+      )
+
+  call_joined :
+      (k : Clock) (n : ℕ) (f : Name) (statics : List Static) (es : Exprs) →
+      StandsHere (at k n (Call f statics es)) →
+      IsCallJoined P H here k n es (node_named P f) → IsCallJoined P G here k n es (node_named P f)
+  call_joined k n f statics es s j =
+      let t = bound (operator_types P here (Node_named f statics)) _ s.types s.typed in
+      let a = bound (all_types P here es) _ s.types t.gives in
+      let c = called P here f statics t.value t.is in
+      let p = placed P here f statics c.callee c.is in
+      let child = record c.callee { path = Child here.path n 0 } in
+      let own = s.sited.0.1 0 (omega arith) child (p.at n 0) in
+      let overs = clocks_over P here Own agree.columns (IsSame H G) known k n f statics es c.callee
+      p s.sited.0 s.lawful.0 s.over in
+      let args = arguments_same (call_clocks k (node_named P f) es) (n + 1) es a.value a.is overs
+      s.lawful.1 (sited_after (OfCalled P here (IsSame H G)) n (sites_in es) s.sited.1) in
+      subst (λ o.
+      argument_streams P H here (call_clocks k o es) (n + 1) es
+      ≡ argument_streams P G here (call_clocks k o es) (n + 1) es →
+      IsCallJoined P H here k n es o → IsCallJoined P G here k n es o) (sym p.node)
+      (λ same j. call_stays k n es c.callee s.over own same j) args j
+
+  -- an iterator stays joined
+  outputs_agree :
+      (c : Node) (p : Path) → Every (λ d. H.columns p d.name ≡ G.columns p d.name) (variables c) →
+      Every (λ d. H.columns p d.name ≡ G.columns p d.name) c.outputs
+  outputs_agree c p all =
+      let same = λ (d : Declaration). H.columns p d.name ≡ G.columns p d.name in
+      Every-first same c.outputs c.locals (Every-second same c.inputs (c.outputs ++ c.locals) all)
+
+  abbrev IsStepJoined : History → Clock → ℕ → ArrayIterator → ℕ → Exprs → Node → ℕ → Type 0
+  IsStepJoined F k n it m es callee i =
+      (F.ticks (Child here.path n i) ≡ presence F here.path k)
+      × Receives F (Child here.path n i) callee.inputs
+      (iterator_inputs (λ j x. F.columns (Child here.path n j) x) m it callee.outputs
+      (all_streams P F here k (n + 1) es) i)
+
+  step_stays :
+      (k : Clock) (n : ℕ) (it : ArrayIterator) (m : ℕ) (es : Exprs) (c : Instance) →
+      IsOver Own k →
+      ((i : ℕ) → i < m → IsSame H G (record c { path = Child here.path n i })) →
+      all_streams P H here k (n + 1) es ≡ all_streams P G here k (n + 1) es →
+      (i : ℕ) → i < m → IsStepJoined H k n it m es c.node i → IsStepJoined G k n it m es c.node i
+  step_stays k n it m es c over own args i lt j =
+      let same = own i lt in
+      let child = Child here.path n i in
+      let outs : (i : ℕ) → i < m →
+      Every (λ o. H.columns (Child here.path n i) o.name ≡ G.columns (Child here.path n i) o.name)
+      c.node.outputs =
+      λ i lt. outputs_agree c.node (Child here.path n i) (own i lt).agrees.columns in (
+        sym same.agrees.ticks ∙ j.0 ∙ presence_same P H G here agree k over,
+        receives_same H G child c.node.inputs
+            (iterator_inputs (λ j x. H.columns (Child here.path n j) x) m it c.node.outputs
+            (all_streams P H here k (n + 1) es) i)
+            (iterator_inputs (λ j x. G.columns (Child here.path n j) x) m it c.node.outputs
+            (all_streams P G here k (n + 1) es) i)
+            (Every-first (λ d. H.columns child d.name ≡ G.columns child d.name) c.node.inputs
+            (c.node.outputs ++ c.node.locals) same.agrees.columns)
+            (inputs_same (λ j x. H.columns (Child here.path n j) x)
+            (λ j x. G.columns (Child here.path n j) x) m c.node.outputs outs it
+            (all_streams P H here k (n + 1) es) i lt
+            ∙ ap (λ args. iterator_inputs (λ j x. G.columns (Child here.path n j) x) m it
+            c.node.outputs args i) args)
+            j.1,
+      )
+
+  iterator_stays :
+      (k : Clock) (n : ℕ) (it : ArrayIterator) (m : ℕ) (es : Exprs) (c : Instance) →
+      IsOver Own k →
+      ((i : ℕ) → i < m → IsSame H G (record c { path = Child here.path n i })) →
+      all_streams P H here k (n + 1) es ≡ all_streams P G here k (n + 1) es →
+      IsIteratorJoined P H here k n it m es (Some c.node) →
+      IsIteratorJoined P G here k n it m es (Some c.node)
+  iterator_stays k n it m es c over own args j =
+      Every-of_range (IsStepJoined G k n it m es c.node) 0 m (λ i lt.
+      let none : i ≡ 0 + i = omega arith in
+      subst (IsStepJoined G k n it m es c.node) none
+      (step_stays k n it m es c over own args i lt
+      (subst (IsStepJoined H k n it m es c.node) (sym none)
+      (Every-range (IsStepJoined H k n it m es c.node) 0 m i j lt))))
+
+  iterator_joined :
+      (k : Clock) (n : ℕ) (it : ArrayIterator) (f : Name) (statics : List Static) (m : Static)
+      (es : Exprs) → StandsHere (at k n (Iterate it (Node_named f statics) m es)) →
+      IsIteratorJoined P H here k n it (number P here m) es (node_named P f) →
+      IsIteratorJoined P G here k n it (number P here m) es (node_named P f)
+  iterator_joined k n it f statics m es s j =
+      let v = bound (static_count P here m) _ s.types s.typed in
+      let t = bound (operator_types P here (Node_named f statics)) _ s.types v.gives in
+      let a = bound (all_types P here es) _ s.types t.gives in
+      let c = called P here f statics t.value t.is in
+      let p = placed P here f statics c.callee c.is in
+      let args = all_same P H G here agree k (n + 1) es a.value a.is s.over s.lawful.1
+      (sited_after (OfCalled P here (IsSame H G)) n (sites_in es) s.sited.1) in
+      subst (λ o. IsIteratorJoined P H here k n it (number P here m) es o →
+      IsIteratorJoined P G here k n it (number P here m) es o) (sym p.node)
+      (λ j. iterator_stays k n it (number P here m) es c.callee s.over
+      (λ i lt. s.sited.0.1 i lt (record c.callee { path = Child here.path n i }) (p.at n i))
+      args.0 j) j
+
+  joined_at :
+      (k : Clock) (n : ℕ) (e : Expr) → StandsHere (at k n e) → IsJoinedAt P H here k n e →
+      IsJoinedAt P G here k n e
+  joined_at k n (Call f statics es) s j = call_joined k n f statics es s j
+  joined_at k n (Iterate it (Node_named f statics) m es) s j =
+      iterator_joined k n it f statics m es s j
+  joined_at k n (Iterate it (Symbol op) m es) s j = tt
+  joined_at k n e s j = tt
+
+  -- an equation stays equal on both sides
+  equal_stays :
+      (s : Statement) (o : Occurrence) →
+      StatementStands P here Own agree.columns (IsSame H G) known (s, o) →
+      AreEqual P H here s o → AreEqual P G here s o
+  equal_stays (Equation lefts e) o s h =
+      sym (flat_same (H.columns here.path) (G.columns here.path) lefts s.1) ∙ h
+      ∙ streams_same o s.0
+  equal_stays (Assertion e) o s h = tt
+
+  -- a variable still fits
+  fits_stays : (d : Declaration) → H.columns here.path d.name ≡ G.columns here.path d.name →
+      Fits P H here d → Fits P G here d
+  fits_stays d same h =
+      let on = presence_same P H G here agree (declared_clock here.node d.name)
+      (declared_over Own here.node agree.columns d.name) in
+      record {
+        width = ap length (sym same) ∙ h.width;
+        cells =
+            subst (λ xss. Every (λ xs. fits d.kind (variable_presence G here d) xs ≡ true) xss)
+            same
+            (subst (λ bs. Every (λ xs. fits d.kind bs xs ≡ true) (H.columns here.path d.name)) on
+            h.cells);
+      }
+
+  -- a history that agrees with a solution on an instance solves it there
+  pub solves_here :
+      is_typed P here ≡ true → is_clocked P here.node ≡ true →
+      Sited (OfCalled P here (IsSame H G)) 0 (node_sites here.node) → SolvesAt P H here →
+      SolvesAt P G here
+  solves_here typed clocked s h =
+      let stands = node_stands P here Own agree.columns (IsSame H G) known typed clocked s in
+      record {
+        variables =
+            Every-map _ (Fits P G here) (λ d z. fits_stays d z.0 z.1) (variables here.node)
+            (Every-both _ _ (variables here.node) agree.columns h.variables);
+        equations =
+            Every-map _ (λ s. AreEqual P G here s.0 s.1)
+            (λ s z. equal_stays s.0 s.1 z.0 z.1) (statements P here.node)
+            (Every-both (StatementStands P here Own agree.columns (IsSame H G) known)
+            (λ s. AreEqual P H here s.0 s.1) (statements P here.node) stands.1 h.equations);
+        calls =
+            Every-map _ (IsJoined P G here)
+            (λ o z. joined_at o.clock o.calls_before o.expr z.0 z.1) (node_occurrences P here.node)
+            (Every-both StandsHere (IsJoined P H here) (node_occurrences P here.node) stands.0
+            h.calls);
+      }
+
+-- ## The starts
+
+start_path : (P : Program) (p : Path) (f : Name) (c : Instance) → start_at P p f ≡ Some c →
+    c.path ≡ p
+start_path P p f c e = by (node_named P f) e
+  where
+    by : (o : Option Node) →
+        option_map (λ n. record { path = p; node = n; values = [] }) o ≡ Some c → c.path ≡ p
+    by None h = absurd cc
+    by (Some n) h = let same : record { path = p; node = n; values = [] } ≡ c = cc in
+        sym (ap (λ (i : Instance). i.path) same)
+
+root_path : (P : Program) (c : Instance) → instance_at P Root ≡ Some c → c.path ≡ Root
+root_path P c e = start_path P Root P.root c e
+
+observer_path : (P : Program) (c : Instance) → instance_at P Observer ≡ Some c →
+    c.path ≡ Observer
+observer_path P c e =
+    let f = bound P.observer (start_at P Observer) c e in
+    start_path P Observer f.value c f.gives
+
+-- the variables of an instance agree at its path
+agree_there : (H G : History) (c : Instance) (p : Path) → c.path ≡ p → AgreeAt H G c →
+    Every (λ d. H.columns p d.name ≡ G.columns p d.name) (variables c.node)
+agree_there H G c p e a =
+    subst (λ q. Every (λ d. H.columns q d.name ≡ G.columns q d.name) (variables c.node)) e a.columns
+
+given_stays :
+    (P : Program) (X : Inputs) (H G : History) (o : Option Instance) →
+    ((c : Instance) → o ≡ Some c → c.path ≡ Root) → IfSome o (AgreeAt H G) →
+    IfSome o (IsGiven P X H) → IfSome o (IsGiven P X G)
+given_stays P X H G None at a h = tt
+given_stays P X H G (Some c) at a h =
+    let same = λ (d : Declaration). H.columns Root d.name ≡ G.columns Root d.name in
+    sym (flat_same (λ d. H.columns Root d.name) (λ d. G.columns Root d.name) c.node.inputs
+    (Every-first same c.node.inputs (c.node.outputs ++ c.node.locals)
+    (agree_there H G c Root (at c refl) a)))
+    ∙ h
+
+columns_same : (H G : History) (p : Path) (ds : List Declaration) →
+    Every (λ d. H.columns p d.name ≡ G.columns p d.name) ds → columns_at H p ds ≡ columns_at G p ds
+columns_same H G p [] h = refl
+columns_same H G p (d ∷ ds) h = ap₂ (λ xs xss. xs ∷ xss) h.0 (columns_same H G p ds h.1)
+
+observed_stays :
+    (P : Program) (H G : History) (o w : Option Instance) →
+    ((c : Instance) → o ≡ Some c → c.path ≡ Root) →
+    ((c : Instance) → w ≡ Some c → c.path ≡ Observer) →
+    IfSome o (AgreeAt H G) → IfSome w (AgreeAt H G) →
+    IfSome o (λ root. IfSome w (IsObserved H root)) →
+    IfSome o (λ root. IfSome w (IsObserved G root))
+observed_stays P H G None w at there a b h = tt
+observed_stays P H G (Some root) None at there a b h = tt
+observed_stays P H G (Some root) (Some observer) at there a b h =
+    let same = λ (d : Declaration). H.columns Root d.name ≡ G.columns Root d.name in
+    let own = agree_there H G root Root (at root refl) a in
+    let ins = Every-first same root.node.inputs (root.node.outputs ++ root.node.locals) own in
+    let outs = Every-first same root.node.outputs root.node.locals
+    (Every-second same root.node.inputs (root.node.outputs ++ root.node.locals) own) in
+    let seen = agree_there H G observer Observer (there observer refl) b in
+    receives_same H G Observer observer.node.inputs
+    (columns_at H Root (root.node.inputs ++ root.node.outputs))
+    (columns_at G Root (root.node.inputs ++ root.node.outputs))
+    (Every-first (λ d. H.columns Observer d.name ≡ G.columns Observer d.name)
+    observer.node.inputs (observer.node.outputs ++ observer.node.locals) seen)
+    (columns_same H G Root (root.node.inputs ++ root.node.outputs)
+    (Every-append same root.node.inputs root.node.outputs ins outs))
+    h
+
+-- ## All instances
+
+module _ (P : Program) (elaborated : static_refusal P ≡ None) (accepted : check_refusal P ≡ None)
+    (X : Inputs) (H G : History) (same : AreSame P H G)
+    (root_runs : G.ticks Root ≡ replicate (length X) true)
+    (observer_runs : G.ticks Observer ≡ replicate (length X) true) where
+  entered_all : instantiation_refusal P 0 (instances P) ≡ None
+  entered_all = instantiation_kept P elaborated
+
+  -- a history that is the same as a solution on the instances of an accepted program, and whose
+  -- starts run at every instant, is a solution
+  pub solves_same : Solves P X H → Solves P X G
+  solves_same h =
+      let starts = starts_agree P H G same in
+      record {
+        rows = h.rows;
+        root_runs = root_runs;
+        observer_runs = observer_runs;
+        inputs = given_stays P X H G (instance_at P Root) (root_path P) starts.0 h.inputs;
+        observed =
+            observed_stays P H G (instance_at P Root) (instance_at P Observer) (root_path P)
+            (observer_path P) starts.0 starts.1 h.observed;
+        instances =
+            Every-map _ (SolvesAt P G)
+            (λ here z. solves_here P H G here z.0.0 z.0.1 z.1.0.0
+            (all_called P (IsSame H G) here z.1.0.1.1 z.1.0.1.0.1) z.1.1) (instances P)
+            (Every-both _ _ (instances P)
+            (Every-both _ _ (instances P) same (typed P entered_all accepted H G same))
+            (Every-both _ _ (instances P)
+            (Every-both _ _ (instances P) (clocked P entered_all accepted H G same)
+            (Every-both _ _ (instances P) (entered P entered_all accepted H G same)
+            (called_same P entered_all accepted H G same)))
+            h.instances));
+      }

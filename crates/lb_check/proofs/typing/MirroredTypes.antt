@@ -1,0 +1,240 @@
+-- The types that the code finds for a term are those of the expression that it stands for.
+use Rattle.lb_check.proofs.Words.{◌≡◌, ℕ, Bool, true, false, List, [], ◌∷◌, Option, Some, None}
+use Rattle.lb_check.proofs.Words.{refl, ap, sym, ◌∙◌, ◌&&◌, ◌>>=◌, where_true, either_or, Whole}
+use Rattle.lb_check.proofs.Words.{Node_named, and_first, and_second, Term, Literal, Truth, Value}
+use Rattle.lb_check.proofs.Words.{Group', Unary', Binary', If', Arrow', Fby', Pre', Current', When'}
+use Rattle.lb_check.proofs.Words.{Replicate', Index', Slice', Join', Array', AtMostOne', Nor'}
+use Rattle.lb_check.proofs.Words.{Call', IterateNode', IterateSymbol', Row_of-Term, end_of-Term}
+use Rattle.lb_check.proofs.Words.{more_of-Term, Program, Instance, static_count, Texts, Counts}
+use Rattle.lb_check.proofs.Words.{expr_of, row_of, named_value, name_at, static_at, site_at}
+use Rattle.lb_check.proofs.Words.{is_variable, is_static, is_call, is_no_variable, is_within}
+use Rattle.lb_check.proofs.Words.{are_within, is_unhidden, are_unhidden, DataType, truth, is_type}
+use Rattle.lb_check.proofs.Words.{data_types, all_types, name_data_type, operator_types, unary_type}
+use Rattle.lb_check.proofs.Words.{binary_type, common_type, array_of, index_type, slice_type}
+use Rattle.lb_check.proofs.Words.{join_type, list_type, symbol_types, iterator_types, from_one}
+use Rattle.lb_check.proofs.Words.{from_two, from_truths, singly, only}
+use Rattle.lb_static.specs.declared.resolved.Term.{Variable}
+use Rattle.lb_check.specs.TermTypes.{Context, type_of, types_in, results, when_both, when_truth}
+use Rattle.lb_check.proofs.typing.OneType.{type_is_only}
+
+-- ## The results of operands
+
+from_one_is : (ts : Option (List DataType)) (o : Option DataType) (f : DataType → Option DataType) →
+    (ts >>= only) ≡ o
+    → from_one ts f ≡ singly (o >>= f)
+from_one_is ts o f e = ap (λ p. p >>= λ t. singly (f t)) e ∙ by o
+  where
+    by : (o : Option DataType) → (o >>= λ t. singly (f t)) ≡ singly (o >>= f)
+    by None = refl
+    by (Some t) = refl
+
+same_again : (ts : Option (List DataType)) (o : Option DataType) → (ts >>= only) ≡ o →
+    from_one ts Some ≡ singly o
+same_again ts o e = from_one_is ts o Some e ∙ ap singly (by o)
+  where
+    by : (o : Option DataType) → (o >>= Some) ≡ o
+    by None = refl
+    by (Some t) = refl
+
+from_two_is : (ts us : Option (List DataType)) (o p : Option DataType)
+    (f : DataType → DataType → Option DataType)
+    → (ts >>= only) ≡ o → (us >>= only) ≡ p → from_two ts us f ≡ singly (when_both o p f)
+from_two_is ts us o p f eo ep =
+    ap (λ o. o >>= λ t. us >>= only >>= λ u. singly (f t u)) eo
+    ∙ ap (λ p. o >>= λ t. p >>= λ u. singly (f t u)) ep ∙ by o p
+  where
+    by : (o p : Option DataType) → (o >>= λ t. p >>= λ u. singly (f t u)) ≡ singly (when_both o p f)
+    by None p = refl
+    by (Some t) None = refl
+    by (Some t) (Some u) = refl
+
+under_truth : (o p : Option DataType) (us : Option (List DataType)) → us ≡ singly p
+    → (from_truths (singly o) >>= λ _. us) ≡ singly (when_truth o p)
+under_truth None p us e = refl
+under_truth (Some t) p us e = by (is_type truth t)
+  where
+    by : (b : Bool) → (where_true (b && true) (truth ∷ []) >>= λ _. us) ≡ singly
+        (where_true b t >>= λ _. p)
+    by true = e
+    by false = refl
+
+counted : (c d : Option ℕ) (ts : Option (List DataType)) (o : Option DataType)
+    (f : ℕ → DataType → Option DataType)
+    → c ≡ d → (ts >>= only) ≡ o → (c >>= λ n. from_one ts (f n)) ≡ singly (d >>= λ n. o >>= f n)
+counted c d ts o f e one = ap (λ c. c >>= λ n. from_one ts (f n)) e ∙ by d
+  where
+    by : (d : Option ℕ) → (d >>= λ n. from_one ts (f n)) ≡ singly (d >>= λ n. o >>= f n)
+    by None = refl
+    by (Some n) = from_one_is ts o (f n) one
+
+counted_twice : (c d e g : Option ℕ) (ts : Option (List DataType)) (o : Option DataType)
+    (f : ℕ → ℕ → DataType → Option DataType)
+    → c ≡ d → e ≡ g → (ts >>= only) ≡ o
+    → (c >>= λ i. e >>= λ j. from_one ts (f i j)) ≡ singly (d >>= λ i. g >>= λ j. o >>= f i j)
+counted_twice c d e g ts o f first second one =
+    ap (λ c. c >>= λ i. e >>= λ j. from_one ts (f i j)) first ∙ by d
+  where
+    by : (d : Option ℕ) → (d >>= λ i. e >>= λ j. from_one ts (f i j)) ≡ singly
+        (d >>= λ i. g >>= λ j. o >>= f i j)
+    by None = refl
+    by (Some i) = counted e g ts o (f i) second one
+
+-- ## Rows
+
+swapped : {A B C : Type 0} → (o : Option A) (p : Option B) (f : A → B → Option C)
+    → (o >>= λ a. p >>= λ b. f a b) ≡ (p >>= λ b. o >>= λ a. f a b)
+swapped None None f = refl
+swapped None (Some b) f = refl
+swapped (Some a) None f = refl
+swapped (Some a) (Some b) f = refl
+
+called : {A B C : Type 0} → (o n : Option A) (p q : Option B) (f : A → B → Option C) → o ≡ n → p ≡ q
+    → (o >>= λ a. p >>= λ b. f a b) ≡ (q >>= λ b. n >>= λ a. f a b)
+called o n p q f eo ep =
+    ap (λ o. o >>= λ a. p >>= λ b. f a b) eo ∙ ap (λ p. n >>= λ a. p >>= λ b. f a b) ep
+    ∙ swapped n q f
+
+abbrev nowhere : {A B : Type 0} → A → Option B
+nowhere x = None
+
+nothing : {A B : Type 0} → (q : Option A) → (q >>= nowhere {A = A} {B = B}) ≡ None
+nothing None = refl
+nothing (Some x) = refl
+
+iterated : {A B C D : Type 0} →
+    (c d : Option A) (o n : Option B) (p q : Option C) (f : A → B → C → Option D)
+    → c ≡ d → o ≡ n → p ≡ q
+    → (c >>= λ a. o >>= λ b. p >>= λ x. f a b x) ≡ (q >>= λ x. d >>= λ a. n >>= λ b. f a b x)
+iterated c d o n p q f ec eo ep =
+    ap (λ c. c >>= λ a. o >>= λ b. p >>= λ x. f a b x) ec ∙ by d
+  where
+    by : (d : Option _) → (d >>= λ a. o >>= λ b. p >>= λ x. f a b x) ≡
+        (q >>= λ x. d >>= λ a. n >>= λ b. f a b x)
+    by None = sym (nothing q)
+    by (Some a) = called o n p q (f a) eo ep
+
+-- ## Terms
+
+-- the meaning of the numbers of a node is what the definitions say of an instance
+pub record Fits (P : Program) (here : Instance) (texts : Texts) (n : Counts) (ctx : Context) :
+    Type 0 where
+  pub variable : (x : _) → is_variable n x ≡ true →
+      name_data_type P here (name_at texts.variables x) ≡ ctx.variable x
+  pub value : (i : _) → is_static n i ≡ true
+      → is_no_variable texts.variables (static_at texts.statics i) ≡ true
+      → data_types P here (named_value (static_at texts.statics i)) ≡ singly (ctx.constant i)
+  pub count : (i : _) → is_static n i ≡ true →
+      static_count P here (static_at texts.statics i) ≡ ctx.count i
+  pub call : (c : _) → is_call n c ≡ true
+      → operator_types P here (Node_named (site_at texts.calls c).callee
+      (site_at texts.calls c).arguments) ≡ ctx.call c
+  pub repeats : (c : _) → is_call n c ≡ true
+      → static_count P here (either_or (site_at texts.calls c).count (Whole 0)) ≡ ctx.repeats c
+
+module _ (P : Program) (here : Instance) (texts : Texts) (n : Counts) (ctx : Context)
+    (fits : Fits P here texts n ctx) where
+  abbrev typed : Term → Option (List DataType)
+  typed t = data_types P here (expr_of texts t)
+
+  one : (t : Term) → typed t ≡ results ctx t → (typed t >>= only) ≡ type_of ctx t
+  one t e = ap (λ o. o >>= only) e ∙ sym (type_is_only ctx t)
+
+  two : (a b : Term) (f : DataType → DataType → Option DataType) → typed a ≡ results ctx a →
+      typed b ≡ results ctx b
+      → from_two (typed a) (typed b) f ≡ singly (when_both (type_of ctx a) (type_of ctx b) f)
+  two a b f ea eb = from_two_is (typed a) (typed b) (type_of ctx a) (type_of ctx b) f (one a ea)
+      (one b eb)
+
+  mutual
+    unfolding type_of results
+
+    pub term_results : (t : Term) → is_within n t ≡ true → is_unhidden texts t ≡ true →
+        typed t ≡ results ctx t
+    term_results (Literal m) w u = refl
+    term_results (Truth b) w u = refl
+    term_results (Variable x) w u = ap singly (fits.variable x w)
+    term_results (Value i) w u = fits.value i w u
+    term_results (Group' p e) w u = term_results e w u
+    term_results (Unary' op p a) w u =
+        from_one_is (typed a) (type_of ctx a) (unary_type op) (one a (term_results a w u))
+    term_results (Binary' op p a q b) w u =
+        two a b (binary_type op) (term_results a (and_first _ (is_within n b) w)
+        (and_first _ (is_unhidden texts b) u))
+        (term_results b (and_second (is_within n a) _ w) (and_second (is_unhidden texts a) _ u))
+    term_results (If' p c q a r b) w u =
+        let wab = and_second (is_within n c) _ w in
+        let uab = and_second (is_unhidden texts c) _ u in
+        let ec = one c (term_results c (and_first _ (is_within n a && is_within n b) w)
+        (and_first _ (is_unhidden texts a && is_unhidden texts b) u)) in
+        ap (λ ts. from_truths ts >>= λ _. from_two (typed a) (typed b) common_type)
+        (same_again (typed c) (type_of ctx c) ec)
+        ∙ under_truth (type_of ctx c) (when_both (type_of ctx a) (type_of ctx b) common_type) _
+        (two a b common_type (term_results a (and_first _ (is_within n b) wab)
+        (and_first _ (is_unhidden texts b) uab))
+        (term_results b (and_second (is_within n a) _ wab)
+        (and_second (is_unhidden texts a) _ uab)))
+    term_results (Arrow' p a q b) w u =
+        two a b common_type (term_results a (and_first _ (is_within n b) w)
+        (and_first _ (is_unhidden texts b) u))
+        (term_results b (and_second (is_within n a) _ w) (and_second (is_unhidden texts a) _ u))
+    term_results (Fby' p a q b) w u =
+        two a b common_type (term_results a (and_first _ (is_within n b) w)
+        (and_first _ (is_unhidden texts b) u))
+        (term_results b (and_second (is_within n a) _ w) (and_second (is_unhidden texts a) _ u))
+    term_results (Pre' p e) w u = same_again (typed e) (type_of ctx e) (one e (term_results e w u))
+    term_results (Current' p e) w u =
+        same_again (typed e) (type_of ctx e) (one e (term_results e w u))
+    term_results (When' p e x sign) w u =
+        let ex = fits.variable x (and_first _ (is_within n e) w) in
+        ap (λ o. from_truths (singly o) >>= λ _. from_one (typed e) Some) ex
+        ∙ under_truth (ctx.variable x) (type_of ctx e) _
+        (same_again (typed e) (type_of ctx e)
+        (one e (term_results e (and_second (is_variable n x) _ w) u)))
+    term_results (Replicate' p e i) w u =
+        counted _ (ctx.count i) (typed e) (type_of ctx e) array_of
+        (fits.count i (and_first _ (is_within n e) w))
+        (one e (term_results e (and_second (is_static n i) _ w) u))
+    term_results (Index' p e i) w u =
+        counted _ (ctx.count i) (typed e) (type_of ctx e) index_type
+        (fits.count i (and_first _ (is_within n e) w))
+        (one e (term_results e (and_second (is_static n i) _ w) u))
+    term_results (Slice' p e i j) w u =
+        let rest = and_second (is_static n i) _ w in
+        counted_twice _ (ctx.count i) _ (ctx.count j) (typed e) (type_of ctx e) slice_type
+        (fits.count i (and_first _ (is_static n j && is_within n e) w))
+        (fits.count j (and_first _ (is_within n e) rest))
+        (one e (term_results e (and_second (is_static n j) _ rest) u))
+    term_results (Join' p a q b) w u =
+        two a b join_type (term_results a (and_first _ (is_within n b) w)
+        (and_first _ (is_unhidden texts b) u))
+        (term_results b (and_second (is_within n a) _ w) (and_second (is_unhidden texts a) _ u))
+    term_results (Array' arity all) w u =
+        ap (λ o. o >>= λ ts. singly (list_type ts)) (row_types all w u)
+    term_results (AtMostOne' arity all) w u = ap from_truths (row_types all w u)
+    term_results (Nor' arity all) w u = ap from_truths (row_types all w u)
+    term_results (Call' c arity all) w u =
+        called _ (ctx.call c) _ (types_in ctx all) _
+        (fits.call c (and_first _ (are_within n all) w))
+        (row_types all (and_second (is_call n c) _ w) u)
+    term_results (IterateNode' it c arity all) w u =
+        let wc = and_first _ (are_within n all) w in
+        iterated _ (ctx.repeats c) _ (ctx.call c) _ (types_in ctx all)
+        (λ m o ts. iterator_types it m o.0 o.1 ts)
+        (fits.repeats c wc) (fits.call c wc) (row_types all (and_second (is_call n c) _ w) u)
+    term_results (IterateSymbol' it op i arity all) w u =
+        iterated _ (ctx.count i) _ (symbol_types op) _ (types_in ctx all)
+        (λ m o ts. iterator_types it m o.0 o.1 ts)
+        (fits.count i (and_first _ (are_within n all) w)) refl
+        (row_types all (and_second (is_static n i) _ w) u)
+
+    row_types : {m : _} (row : Row_of-Term m) → are_within n row ≡ true →
+        are_unhidden texts row ≡ true
+        → all_types P here (row_of texts row) ≡ types_in ctx row
+    row_types end_of-Term w u = refl
+    row_types (more_of-Term e rest) w u =
+        let ee = one e (term_results e (and_first _ (are_within n rest) w)
+        (and_first _ (are_unhidden texts rest) u)) in
+        let er = row_types rest (and_second (is_within n e) _ w)
+        (and_second (is_unhidden texts e) _ u) in
+        ap (λ o. o >>= λ t. all_types P here (row_of texts rest) >>= λ ts. Some (t ∷ ts)) ee
+        ∙ ap (λ p. type_of ctx e >>= λ t. p >>= λ ts. Some (t ∷ ts)) er

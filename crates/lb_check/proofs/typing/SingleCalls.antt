@@ -1,0 +1,324 @@
+-- Where the rules of types hold, each call has one result, apart from one that is a whole right
+-- side.
+use Rattle.lb_check.proofs.Words.{◌≡◌, ℕ, Bool, true, false, List, [], ◌∷◌, ◌++◌, length, map, take}
+use Rattle.lb_check.proofs.Words.{drop, Option, Some, None, refl, ap, sym, ◌∙◌, arith, ◌&&◌}
+use Rattle.lb_check.proofs.Words.{is_some, slice_get, nat_eq, ℤ, list_all, nat_tests, length-map}
+use Rattle.lb_check.proofs.Words.{and_from, ◌>>=◌, all_some, holds, where_true, Node, bind_some}
+use Rattle.lb_check.proofs.Words.{all_at, and_first, and_second, Reached, CallId, ResolvedNode}
+use Rattle.lb_check.proofs.Words.{ResolvedStatement, Term, Literal, Truth, Value, Group', Unary'}
+use Rattle.lb_check.proofs.Words.{Binary', If', Arrow', Fby', Pre', Current', When', Replicate'}
+use Rattle.lb_check.proofs.Words.{Index', Slice', Join', Array', AtMostOne', Nor', Call'}
+use Rattle.lb_check.proofs.Words.{IterateNode', IterateSymbol', Row_of-Term, end_of-Term}
+use Rattle.lb_check.proofs.Words.{more_of-Term, Specialization, Table, instance_of, Program}
+use Rattle.lb_check.proofs.Words.{Instance, Root, Child, Site, callee_of, node_named, static_value}
+use Rattle.lb_check.proofs.Words.{called_by, source_names, IsResolved, node_of, counts_of, is_call}
+use Rattle.lb_check.proofs.Words.{is_static, is_variable, is_within, are_within}
+use Rattle.lb_check.proofs.Words.{is_statement_within, DataType, truth, is_type, are_types}
+use Rattle.lb_check.proofs.Words.{IsJudged, is_single, are_single, calls_single, is_single_within}
+use Rattle.lb_check.proofs.Words.{is_statement_single, declared_type, declared_types}
+use Rattle.lb_check.proofs.Words.{length-all_some, CallTypes, call_types_of, callee_types}
+use Rattle.lb_check.proofs.Words.{call_types_at, are_typed, is_specialization_typed}
+use Rattle.lb_check.proofs.Words.{is_variable_typed, is_resolved_statement_typed, is_node_typed}
+use Rattle.lb_check.proofs.Words.{are_equal, results, type_of, types_in, when_truth, only, singly}
+use Rattle.std.proofs.Common.{length-append, length-take, length-drop}
+use Rattle.lb_static.specs.declared.resolved.Term.{Variable}
+use Rattle.lb_check.specs.TermTypes.{Context, context_of}
+use Rattle.lb_check.proofs.typing.FittedCalls.{specialized_instance}
+use Rattle.lb_check.proofs.typing.OneType.{type_is_only}
+use Rattle.lb_check.proofs.programs.SiteCallees.{callee_found, node_resolved, site_found}
+use Rattle.lb_static.specs.declared.resolved.ResolvedStatement.TheVariants as statement
+
+-- ## Results that are there
+
+first_some : {A B : Type 0} (o : Option A) (f : A → Option B) → is_some (o >>= f) ≡ true →
+    is_some o ≡ true
+first_some None f e = absurd cc
+first_some (Some a) f e = refl
+
+second_some : {A B C : Type 0} (o : Option A) (p : Option B) (f : A → B → Option C) →
+    is_some (o >>= λ a. p >>= f a) ≡ true → is_some p ≡ true
+second_some None p f e = absurd cc
+second_some (Some a) p f e = first_some p (f a) e
+
+third_some : {A B C D : Type 0} (o : Option A) (p : Option B) (q : Option C)
+    (f : A → B → C → Option D)
+    → is_some (o >>= λ a. p >>= λ b. q >>= f a b) ≡ true → is_some q ≡ true
+third_some None p q f e = absurd cc
+third_some (Some a) p q f e = second_some p q (f a) e
+
+under_truth : (c o : Option DataType) → is_some (when_truth c o) ≡ true → is_some o ≡ true
+under_truth None o e = absurd cc
+under_truth (Some c) o e = by (is_type truth c) e
+  where
+    by : (b : Bool) → is_some (where_true b c >>= λ _. o) ≡ true → is_some o ≡ true
+    by true e = e
+    by false e = absurd cc
+
+one_some : (o : Option DataType) → is_some (singly o) ≡ true → is_some o ≡ true
+one_some None e = absurd cc
+one_some (Some t) e = refl
+
+only_one : (ts : List DataType) → is_some (only ts) ≡ true → length ts ≡ 1
+only_one [] e = absurd cc
+only_one (t ∷ []) e = refl
+only_one (t ∷ u ∷ ts) e = absurd cc
+
+-- a call with one type has one result
+one_result : (ts : Option (List DataType)) (o : Option CallTypes)
+    → is_some (ts >>= (λ ts. o >>= λ o. where_true (are_types o.0 ts) o.1) >>= only) ≡ true
+    → (g : CallTypes) × (o ≡ Some g) × (length g.1 ≡ 1)
+one_result None o e = absurd cc
+one_result (Some ts) None e = absurd cc
+one_result (Some ts) (Some g) e = (g, refl, only_one g.1 (by (are_types g.0 ts) e))
+  where
+    by : (b : Bool) → is_some (where_true b g.1 >>= only) ≡ true → is_some (only g.1) ≡ true
+    by true e = e
+    by false e = absurd cc
+
+-- results that are a truth have one type
+one_truth : (o : Option (List DataType)) → are_equal o (Some (truth ∷ [])) ≡ true →
+    is_some (o >>= only) ≡ true
+one_truth None e = absurd cc
+one_truth (Some []) e = absurd cc
+one_truth (Some (t ∷ [])) e = refl
+one_truth (Some (t ∷ u ∷ ts)) e = let no = and_second (is_type t truth) false e in absurd cc
+
+equal_some : (o p : Option (List DataType)) → are_equal o p ≡ true → is_some o ≡ true
+equal_some None p e = absurd cc
+equal_some (Some ts) p e = refl
+
+-- ## As many outputs as their types
+
+outputs_there : (names : _) (n : ResolvedNode) → IsResolved names n →
+    length (take n.outputs (drop n.inputs n.variables.items)) ≡ n.outputs
+outputs_there names n resolved =
+    let node = node_of n in
+    let all = resolved.as_many ∙ length-append node.inputs (node.outputs ++ node.locals) in
+    let others = length-append node.outputs node.locals in
+    let ins = resolved.inputs in
+    let outs = resolved.outputs in
+    let rest = length-drop n.inputs n.variables.items in
+    let taken = length-take n.outputs (drop n.inputs n.variables.items) in
+    omega (arith, all, others, ins, outs, rest, taken)
+
+call_outputs : (statics : List ℤ) (names : _) (n : ResolvedNode) (g : CallTypes) →
+    IsResolved names n → call_types_of statics n ≡ Some g → length g.1 ≡ n.outputs
+call_outputs statics names n g resolved e =
+    let ins = bind_some (declared_types statics (take n.inputs n.variables.items))
+    (λ ins. declared_types statics
+    (take n.outputs (drop n.inputs n.variables.items)) >>= λ outs. Some (ins, outs)) g e in
+    let outs = bind_some (declared_types statics (take n.outputs (drop n.inputs n.variables.items)))
+    (λ outs. Some (ins.0, outs)) g ins.2 in
+    let same : outs.0 ≡ g.1 = second_of ins.0 outs.0 g outs.2 in
+    ap length (sym same) ∙ length-all_some
+    (map (declared_type statics) (take n.outputs (drop n.inputs n.variables.items))) outs.0
+    outs.1
+    ∙ length-map (take n.outputs (drop n.inputs n.variables.items)) (declared_type statics)
+    ∙ outputs_there names n resolved
+  where
+    second_of : (a b : List DataType) (g : CallTypes) →
+        ◌≡◌ {A = Option CallTypes} (Some (a, b)) (Some g) → b ≡ g.1
+    second_of a b g e = let same : ◌≡◌ {A = CallTypes} (a, b) g = cc in ap (λ p. p.1) same
+
+-- ## Calls
+
+callee_node : (P : Program) (here : Instance) (site : Site) (call : ℕ) (x : Instance) →
+    callee_of P here site call 0 ≡ Some x → node_named P site.callee ≡ Some x.node
+callee_node P here site call x e =
+    by (node_named P site.callee) (all_some (map (static_value P here) site.arguments)) e
+  where
+    by : (o : Option Node) (vs : Option (List ℤ)) →
+        (o >>= λ m. vs >>= λ values. Some (instance_of (Child here.path call 0) m values)) ≡ Some
+        x → o ≡ Some x.node
+    by None vs e = absurd cc
+    by (Some m) None e = absurd cc
+    by (Some m) (Some values) e =
+        let same : instance_of (Child here.path call 0) m values ≡ x = cc in
+        ap (λ (i : Instance). Some i.node) same
+
+module _ (P : Program) (r : Reached) (t : Table) (j : IsJudged P r t) (i : ℕ) (s : Specialization)
+    (n : ResolvedNode)
+    (is : slice_get t.specializations.items i ≡ Some s)
+    (at : slice_get r.nodes.items s.node.0 ≡ Some n) where
+  -- the callee of a call with one type has one output
+  call_single : (c : CallId) → is_call (counts_of n) c ≡ true → (g : CallTypes) →
+      call_types_at r t s c ≡ Some g → length g.1 ≡ 1 → calls_single r n c ≡ true
+  call_single c w g typed one =
+      let called = bind_some (called_by t s c) (callee_types r) g typed in
+      let id = bind_some (slice_get s.callees.items c.0)
+      (λ id. slice_get t.specializations.items id.0) called.0 called.1 in
+      let m = bind_some (slice_get r.nodes.items called.0.node.0)
+      (call_types_of called.0.statics.items) g called.2 in
+      let resolved = node_resolved P r j.names j.reached called.0.node.0 m.0 m.1 in
+      let outs : m.0.outputs ≡ 1 =
+      sym (call_outputs called.0.statics.items (source_names P) m.0 g resolved m.2)
+      ∙ one in
+      let here = instance_of Root (node_of n) s.values.items in
+      let here_is = specialized_instance P r t j.reached j.table s n Root at in
+      let site = site_found P r j.names j.reached s.node.0 n at c w in
+      let there = specialized_instance P r t j.reached j.table called.0 m.0 (Child Root c.0 0)
+      m.1 in
+      let same = (j.table.specialized i s is).0.callees here here_is c.0 site.0 site.1 id.0 id.1
+      called.0 id.2 in
+      let named : node_named P site.0.callee ≡ Some (node_of m.0) =
+      callee_node P here site.0 c.0
+      (instance_of (Child Root c.0 0) (node_of m.0) called.0.values.items) (same ∙ there) in
+      let found = callee_found P r j.names j.reached s.node.0 n at c w in
+      let both : Some (node_of found.0) ≡ Some (node_of m.0) = sym found.2
+      ∙ ap (λ (x : Site). node_named P x.callee) site.2 ∙ named in
+      let node : node_of found.0 ≡ node_of m.0 = cc in
+      let there_resolved = found.3 in
+      let outputs : found.0.outputs ≡ 1 = there_resolved.outputs
+      ∙ ap (λ (k : Node). length k.outputs) node ∙ sym resolved.outputs ∙ outs in
+      let single : nat_eq found.0.outputs 1 ≡ true = grind (arith, nat_tests) in
+      ap (holds (λ k. nat_eq k.outputs 1)) found.1 ∙ single
+
+  abbrev ctx : Context
+  ctx = context_of r t n s
+
+  typed_call : (c : CallId) → is_call (counts_of n) c ≡ true → (ts : Option (List DataType))
+      → is_some (ts >>= (λ ts. ctx.call c >>= λ o. where_true (are_types o.0 ts) o.1) >>= only) ≡
+      true → calls_single r n c ≡ true
+  unfolding context_of
+  typed_call c w ts e =
+      let g = one_result ts (call_types_at r t s c) e in
+      call_single c w g.0 g.1 g.2
+
+  mutual
+    unfolding type_of is_single
+
+    term_single : (e : Term) → is_within (counts_of n) e ≡ true → is_some (type_of ctx e) ≡ true →
+        is_single r n e ≡ true
+    term_single (Literal m) w h = refl
+    term_single (Truth b) w h = refl
+    term_single (Variable x) w h = refl
+    term_single (Value k) w h = refl
+    term_single (Group' p e) w h = term_single e w h
+    term_single (Unary' op p a) w h = term_single a w (first_some (type_of ctx a) _ h)
+    term_single (Binary' op p a q b) w h =
+        and_from _ _ (term_single a (and_first _ (is_within (counts_of n) b) w)
+        (first_some (type_of ctx a) _ h))
+        (term_single b (and_second (is_within (counts_of n) a) _ w)
+        (second_some (type_of ctx a) (type_of ctx b) _ h))
+    term_single (If' p c q a r' b) w h =
+        let rest = under_truth (type_of ctx c) _ h in
+        let wab = and_second (is_within (counts_of n) c) _ w in
+        and_from _ _ (term_single c
+        (and_first _ (is_within (counts_of n) a && is_within (counts_of n) b) w)
+        (first_some (type_of ctx c) _ h))
+        (and_from _ _ (term_single a (and_first _ (is_within (counts_of n) b) wab)
+        (first_some (type_of ctx a) _ rest))
+        (term_single b (and_second (is_within (counts_of n) a) _ wab)
+        (second_some (type_of ctx a) (type_of ctx b) _ rest)))
+    term_single (Arrow' p a q b) w h =
+        and_from _ _ (term_single a (and_first _ (is_within (counts_of n) b) w)
+        (first_some (type_of ctx a) _ h))
+        (term_single b (and_second (is_within (counts_of n) a) _ w)
+        (second_some (type_of ctx a) (type_of ctx b) _ h))
+    term_single (Fby' p a q b) w h =
+        and_from _ _ (term_single a (and_first _ (is_within (counts_of n) b) w)
+        (first_some (type_of ctx a) _ h))
+        (term_single b (and_second (is_within (counts_of n) a) _ w)
+        (second_some (type_of ctx a) (type_of ctx b) _ h))
+    term_single (Pre' p e) w h = term_single e w h
+    term_single (Current' p e) w h = term_single e w h
+    term_single (When' p e x sign) w h =
+        term_single e (and_second (is_variable (counts_of n) x) _ w)
+        (under_truth (ctx.variable x) (type_of ctx e) h)
+    term_single (Replicate' p e k) w h =
+        term_single e (and_second (is_static (counts_of n) k) _ w)
+        (second_some (ctx.count k) (type_of ctx e) _ h)
+    term_single (Index' p e k) w h =
+        term_single e (and_second (is_static (counts_of n) k) _ w)
+        (second_some (ctx.count k) (type_of ctx e) _ h)
+    term_single (Slice' p e k l) w h =
+        term_single e (and_second (is_static (counts_of n) l) _
+        (and_second (is_static (counts_of n) k) _ w))
+        (third_some (ctx.count k) (ctx.count l) (type_of ctx e) _ h)
+    term_single (Join' p a q b) w h =
+        and_from _ _ (term_single a (and_first _ (is_within (counts_of n) b) w)
+        (first_some (type_of ctx a) _ h))
+        (term_single b (and_second (is_within (counts_of n) a) _ w)
+        (second_some (type_of ctx a) (type_of ctx b) _ h))
+    term_single (Array' arity all) w h =
+        row_single all w (first_some (types_in ctx all) _ (first_some _ only h))
+    term_single (AtMostOne' arity all) w h =
+        row_single all w (first_some (types_in ctx all) _ (first_some _ only h))
+    term_single (Nor' arity all) w h =
+        row_single all w (first_some (types_in ctx all) _ (first_some _ only h))
+    term_single (Call' c arity all) w h =
+        and_from _ _ (typed_call c (and_first _ (are_within (counts_of n) all) w)
+        (types_in ctx all) h)
+        (row_single all (and_second (is_call (counts_of n) c) _ w)
+        (first_some (types_in ctx all) _ (first_some _ only h)))
+    term_single (IterateNode' it c arity all) w h =
+        row_single all (and_second (is_call (counts_of n) c) _ w)
+        (first_some (types_in ctx all) _ (first_some _ only h))
+    term_single (IterateSymbol' it op k arity all) w h =
+        row_single all (and_second (is_static (counts_of n) k) _ w)
+        (first_some (types_in ctx all) _ (first_some _ only h))
+
+    row_single : {m : _} (row : Row_of-Term m) → are_within (counts_of n) row ≡ true →
+        is_some (types_in ctx row) ≡ true → are_single r n row ≡ true
+    row_single end_of-Term w h = refl
+    row_single (more_of-Term e rest) w h =
+        and_from _ _ (term_single e (and_first _ (are_within (counts_of n) rest) w)
+        (first_some (type_of ctx e) _ h))
+        (row_single rest (and_second (is_within (counts_of n) e) _ w)
+        (second_some (type_of ctx e) (types_in ctx rest) _ h))
+
+  right_single : (e : Term) → is_within (counts_of n) e ≡ true → is_some (results ctx e) ≡ true →
+      is_single_within r n e ≡ true
+  unfolding results is_single_within is_single
+  right_single (Group' p e) w h = right_single e w h
+  right_single (Array' arity all) w h = row_single all w (first_some (types_in ctx all) _ h)
+  right_single (AtMostOne' arity all) w h = row_single all w (first_some (types_in ctx all) _ h)
+  right_single (Nor' arity all) w h = row_single all w (first_some (types_in ctx all) _ h)
+  right_single (Call' c arity all) w h =
+      row_single all (and_second (is_call (counts_of n) c) _ w) (first_some (types_in ctx all) _ h)
+  right_single (IterateNode' it c arity all) w h =
+      row_single all (and_second (is_call (counts_of n) c) _ w) (first_some (types_in ctx all) _ h)
+  right_single (IterateSymbol' it op k arity all) w h =
+      row_single all (and_second (is_static (counts_of n) k) _ w)
+      (first_some (types_in ctx all) _ h)
+  right_single (Literal m) w h = refl
+  right_single (Truth b) w h = refl
+  right_single (Variable x) w h = refl
+  right_single (Value k) w h = refl
+  right_single e w h = term_single e w (one_some (type_of ctx e) h)
+
+  statement_single : (st : ResolvedStatement) → is_statement_within (counts_of n) st ≡ true
+      → is_resolved_statement_typed ctx st ≡ true →
+      is_statement_single r n st ≡ true
+  statement_single (statement.Equation lefts e) w h =
+      right_single e (and_second (list_all (is_variable (counts_of n)) lefts.items) _ w)
+      (equal_some (results ctx e) _ h)
+  statement_single (statement.Assertion e) w h =
+      term_single e w (ap is_some (type_is_only ctx e) ∙ one_truth (results ctx e) h)
+
+  statements_single : (ss : List ResolvedStatement)
+      → list_all (is_statement_within (counts_of n)) ss ≡ true →
+      list_all (is_resolved_statement_typed ctx) ss ≡ true
+      → list_all (is_statement_single r n) ss ≡ true
+  statements_single [] w h = refl
+  statements_single (st ∷ ss) w h =
+      and_from _ _ (statement_single st
+      (and_first _ (list_all (is_statement_within (counts_of n)) ss) w)
+      (and_first _ (list_all (is_resolved_statement_typed ctx) ss) h))
+      (statements_single ss (and_second (is_statement_within (counts_of n) st) _ w)
+      (and_second (is_resolved_statement_typed ctx st) _ h))
+
+-- in the node of each specialization each call has one result, apart from one that is a whole right
+-- side
+pub single_statements : (P : Program) (r : Reached) (t : Table) → IsJudged P r t
+    → are_typed r t ≡ true
+    → (i : ℕ) (s : Specialization) (n : ResolvedNode) →
+    slice_get t.specializations.items i ≡ Some s → slice_get r.nodes.items s.node.0 ≡ Some n
+    → list_all (is_statement_single r n) n.body.items ≡ true
+single_statements P r t j typed i s n is at =
+    let resolved = node_resolved P r j.names j.reached s.node.0 n at in
+    let one = all_at (is_specialization_typed r t) t.specializations.items i s typed is in
+    let node : is_node_typed (context_of r t n s) n ≡ true =
+    sym (ap (holds (λ m. is_node_typed (context_of r t m s) m)) at) ∙ one in
+    statements_single P r t j i s n is at n.body.items resolved.body_within
+    (and_second (list_all (is_variable_typed (context_of r t n s)) n.variables.items) _ node)

@@ -1,0 +1,242 @@
+-- The rules of types of a specialization are those of each of its instances.
+use Rattle.lb_check.proofs.Words.{◌≡◌, ℕ, zero, suc, ◌<◌, Bool, true, false, List, [], ◌∷◌, length}
+use Rattle.lb_check.proofs.Words.{map, Option, Some, None, refl, ap, sym, ◌∙◌, subst, arith, ◌&&◌}
+use Rattle.lb_check.proofs.Words.{option_map, slice_get, slice_index_or, list_all, slice_get-map}
+use Rattle.lb_check.proofs.Words.{slice_get_within, get_or_from_slice_get, length-map, and-true}
+use Rattle.lb_check.proofs.Words.{all_some, holds, listed, zip2, Name, Node, all_at, item_at}
+use Rattle.lb_check.proofs.Words.{and_first, and_second, Reached, ResolvedNode, Sampling}
+use Rattle.lb_check.proofs.Words.{ResolvedStatement, VariableId, Specialization, Table, instance_of}
+use Rattle.lb_check.proofs.Words.{specialized_at, Program, Instance, Path, static_value, instances}
+use Rattle.lb_check.proofs.Words.{are_distinct, is_named, declares_once, reached_nodes}
+use Rattle.lb_check.proofs.Words.{variable_names, source_names, trees, IsResolved, node_of}
+use Rattle.lb_check.proofs.Words.{statics_of, texts_of, counts_of, name_at, declaration_of}
+use Rattle.lb_check.proofs.Words.{sampling_of, statement_of, is_variable, is_within}
+use Rattle.lb_check.proofs.Words.{is_statement_within, is_statement_unhidden, are_statics}
+use Rattle.lb_check.proofs.Words.{is_sampling_within, is_declared_within, DataType, truth, is_type}
+use Rattle.lb_check.proofs.Words.{variables, are_same, Part, is_part_typed, is_part_typed_in}
+use Rattle.lb_check.proofs.Words.{IsIllTyped, IsJudged, type_of_name, is_statement_typed}
+use Rattle.lb_check.proofs.Words.{is_clock_typed, is_typed, results, are_equal}
+use Rattle.lb_static.specs.declared.resolved.Variable.{Variable as Declared}
+use Rattle.lb_check.specs.TermTypes.{Context, context_of}
+use Rattle.lb_check.proofs.typing.FittedCalls.{node_at, specialized_instance, values_at, call_is}
+use Rattle.lb_check.proofs.typing.FittedEnvs.{variable_is, left_is, value_is, static_is, repeats_is}
+use Rattle.lb_check.proofs.typing.FittedEnvs.{call_at}
+use Rattle.lb_check.proofs.typing.MirroredTypes.{Fits, term_results}
+use Rattle.lb_check.proofs.clocking.ClockedNodes.{zip_at}
+use Rattle.lb_check.proofs.lists.DistinctNames.{distinct_first}
+use Rattle.lb_check.proofs.lists.FirstBroken.{fails_at, item_there}
+use Rattle.lb_check.proofs.typing.TableRows.{each_judged}
+use Rattle.lb_static.specs.declared.resolved.ResolvedStatement.TheVariants as statement
+use Rattle.lb_check.specs.declared.part.Part.TheVariants as part
+use Rattle.lb_check.specs.TermTypes as mirror
+
+-- ## Distinct names
+
+held_by_all : (f : Node → Bool) (xs : List Node) (k : ℕ) (x : Node) → list_all f xs ≡ true →
+    k < length xs → slice_index_or xs k x ≡ x → f x ≡ true
+held_by_all f [] k x all lt e = absurd (omega arith)
+held_by_all f (y ∷ xs) zero x all lt e = subst (λ z. f z ≡ true) e (and_first (f y) _ all)
+held_by_all f (y ∷ xs) (suc k) x all lt e =
+    held_by_all f xs k x (and_second (f y) _ all) (omega arith) e
+
+distinct : (P : Program) (r : Reached) (t : Table) → IsJudged P r t → (k : ℕ) (n : ResolvedNode) →
+    slice_get r.nodes.items k ≡ Some n
+    → are_distinct (variable_names (node_of n)) ≡ true
+distinct P r t j k n at =
+    let tree : slice_get (trees r) k ≡ Some (node_of n) = slice_get-map node_of r.nodes.items k
+    ∙ ap (option_map node_of) at in
+    let lt = slice_get_within (trees r) k (node_of n) tree in
+    let reached = (j.reached.same (node_of n)).0
+    (k, lt, get_or_from_slice_get (trees r) k (node_of n) (node_of n) tree) in
+    let named_all = and_first _ _ (and_second _ _ (and_second _ _ j.names)) in
+    let passes = held_by_all (is_named P) (reached_nodes P) reached.0
+    (node_of n) named_all reached.1 reached.2 in
+    distinct_first (variable_names (node_of n)) (node_of n).parameters
+    (and_first (declares_once P (node_of n)) _ passes)
+
+-- ## Statements
+
+same_is : (P : Program) (o p : Option (List DataType)) → are_same P o p ≡ are_equal o p
+same_is P None None = refl
+same_is P None (Some ts) = refl
+same_is P (Some ss) None = refl
+same_is P (Some ss) (Some ts) = refl
+
+module _ (P : Program) (r : Reached) (t : Table) (j : IsJudged P r t) (i : ℕ) (s : Specialization)
+    (is : slice_get t.specializations.items i ≡ Some s)
+    (n : ResolvedNode) (at : slice_get r.nodes.items s.node.0 ≡ Some n)
+    (resolved : IsResolved (source_names P) n) (p : Path) where
+  abbrev here : Instance
+  here = instance_of p (node_of n) s.values.items
+
+  abbrev ctx : Context
+  ctx = context_of r t n s
+
+  abbrev names : List Name
+  names = variable_names (node_of n)
+
+  distinct_here : are_distinct names ≡ true
+  distinct_here = distinct P r t j s.node.0 n at
+
+  valued : map Some s.statics.items ≡ map (static_value P here) (statics_of n)
+  valued = values_at P r t j.reached j.table s (j.table.specialized i s is).0 n p at
+
+  -- the meaning of the numbers of its node is what the definitions say
+  pub fits : Fits P here (texts_of n) (counts_of n) ctx
+  unfolding context_of
+  fits = record {
+    variable = variable_is P r t s n p resolved distinct_here valued;
+    value = value_is P r t s n p resolved distinct_here valued;
+    count = static_is P r t s n p resolved distinct_here valued;
+    call = λ c w. call_is P r t j.reached j.table i s is n p at c _
+        (call_at P r t s n p resolved distinct_here valued c w).2;
+    repeats = repeats_is P r t s n p resolved distinct_here valued;
+  }
+
+  left : (x : VariableId) → is_variable (counts_of n) x ≡ true →
+      type_of_name P here (name_at names x) ≡ ctx.variable x
+  unfolding context_of
+  left x w = left_is P r t s n p resolved distinct_here valued x w
+
+  lefts : (xs : List VariableId) → list_all (is_variable (counts_of n)) xs ≡ true
+      → map (type_of_name P here) (map (name_at names) xs) ≡ map ctx.variable xs
+  lefts [] w = refl
+  lefts (x ∷ xs) w =
+      rw (left x (and_first _ (list_all (is_variable (counts_of n)) xs) w))
+      (ap (λ (os : List (Option DataType)). ctx.variable x ∷ os)
+      (lefts xs (and_second (is_variable (counts_of n) x) _ w)))
+
+  resolved_statement_is : (st : ResolvedStatement) → is_statement_within (counts_of n) st ≡ true →
+      is_statement_unhidden (texts_of n) st ≡ true
+      → is_statement_typed P here (statement_of (texts_of n) st)
+      ≡ mirror.is_resolved_statement_typed ctx st
+  resolved_statement_is (statement.Equation xs e) w u =
+      let wx = and_first _ (is_within (counts_of n) e) w in
+      let we = and_second (list_all (is_variable (counts_of n)) xs.items) _ w in
+      ap (λ o. are_same P o (all_some (map (type_of_name P here) (map (name_at names) xs.items))))
+      (term_results P here (texts_of n) (counts_of n) ctx fits e we u)
+      ∙ ap (λ os. are_same P (results ctx e) (all_some os)) (lefts xs.items wx)
+      ∙ same_is P (results ctx e) _
+  resolved_statement_is (statement.Assertion e) w u =
+      ap (λ o. are_same P o (Some (truth ∷ [])))
+      (term_results P here (texts_of n) (counts_of n) ctx fits e w u)
+      ∙ same_is P (results ctx e) _
+
+  resolved_statements_are : (ss : List ResolvedStatement)
+      → list_all (is_statement_within (counts_of n)) ss ≡ true →
+      list_all (is_statement_unhidden (texts_of n)) ss ≡ true
+      → list_all (is_statement_typed P here) (map (statement_of (texts_of n)) ss) ≡ list_all
+      (mirror.is_resolved_statement_typed ctx) ss
+  resolved_statements_are [] w u = refl
+  resolved_statements_are (st ∷ ss) w u =
+      let a = resolved_statement_is st
+      (and_first _ (list_all (is_statement_within (counts_of n)) ss) w)
+      (and_first _ (list_all (is_statement_unhidden (texts_of n)) ss) u) in
+      let b = resolved_statements_are ss (and_second (is_statement_within (counts_of n) st) _ w)
+      (and_second (is_statement_unhidden (texts_of n) st) _ u) in
+      rw a (ap (λ z. mirror.is_resolved_statement_typed ctx st && z) b)
+
+  -- ## Clocks
+
+  clock_is : (o : Option Sampling) → is_sampling_within (counts_of n) o ≡ true
+      → list_all (λ c. holds (is_type truth) (type_of_name P here c.variable))
+      (listed (λ c. c ∷ []) (option_map (sampling_of names) o))
+      ≡ mirror.is_clock_typed ctx o
+  clock_is None w = refl
+  clock_is (Some c) w = and-true
+      (holds (is_type truth) (type_of_name P here (name_at names c.variable)))
+      ∙ ap (holds (is_type truth)) (left c.variable w)
+
+  clocks_are : (xs : List Name) (vs : List Declared) → length vs ≡ length xs →
+      list_all (is_declared_within (counts_of n)) vs ≡ true
+      → list_all (is_clock_typed P here)
+      (zip2 (declaration_of names (statics_of n)) xs vs) ≡ list_all
+      (mirror.is_variable_typed ctx) vs
+  clocks_are [] [] e w = refl
+  clocks_are [] (v ∷ vs) e w = absurd cc
+  clocks_are (x ∷ xs) [] e w = absurd cc
+  clocks_are (x ∷ xs) (v ∷ vs) e w =
+      let rest : length vs ≡ length xs = cc in
+      let one = and_first _ (list_all (is_declared_within (counts_of n)) vs) w in
+      let a = clock_is v.clock (and_second (are_statics (counts_of n) v.first_size v.sizes) _ one)
+      in
+      let b = clocks_are xs vs rest (and_second (is_declared_within (counts_of n) v) _ w) in
+      rw a (ap (λ z. mirror.is_variable_typed ctx v && z) b)
+
+  pub node_typed : is_typed P here ≡ mirror.is_node_typed ctx n
+  node_typed =
+      let node = node_of n in
+      let clocks = ap (list_all (is_clock_typed P here)) (sym resolved.declared)
+      ∙ clocks_are names n.variables.items
+      (resolved.as_many ∙ sym (length-map (variables node) (λ d. d.name)))
+      resolved.declared_within in
+      let statements = ap (list_all (is_statement_typed P here)) (sym resolved.body)
+      ∙ resolved_statements_are n.body.items resolved.body_within resolved.unhidden in
+      ap (λ b. b && list_all (is_statement_typed P here) node.body) clocks
+      ∙ ap (λ b. list_all (mirror.is_variable_typed ctx) n.variables.items && b) statements
+
+  -- a part that the code finds to break the rules breaks them
+  pub part_untyped : (p : Part) → is_part_typed_in ctx n p ≡ false → is_part_typed P here p ≡ false
+  part_untyped (part.Variable x) e =
+      let v = item_there (mirror.is_variable_typed ctx) n.variables.items x.0 e in
+      let lt = slice_get_within n.variables.items x.0 v.0 v.1 in
+      let name = item_at names x.0 (omega (
+        arith,
+        lt,
+        resolved.as_many,
+        length-map (variables (node_of n)) (λ d. d.name),
+      )) in
+      let declared = ap (λ ds. slice_get ds x.0) (sym resolved.declared)
+      ∙ zip_at (declaration_of names (statics_of n)) names n.variables.items x.0 name.0 v.0 name.1
+      v.1 in
+      let within = all_at (is_declared_within (counts_of n)) n.variables.items x.0 v.0
+      resolved.declared_within v.1 in
+      fails_at (is_clock_typed P here) (variables (node_of n)) x.0
+      (declaration_of names (statics_of n) name.0 v.0) declared
+      (clock_is v.0.clock
+      (and_second (are_statics (counts_of n) v.0.first_size v.0.sizes) _ within) ∙ v.2)
+  part_untyped (part.Statement j) e =
+      let st = item_there (mirror.is_resolved_statement_typed ctx) n.body.items j e in
+      let text = ap (λ ss. slice_get ss j) (sym resolved.body)
+      ∙ slice_get-map (statement_of (texts_of n)) n.body.items j
+      ∙ ap (option_map (statement_of (texts_of n))) st.1 in
+      fails_at (is_statement_typed P here) (node_of n).body j (statement_of (texts_of n) st.0) text
+      (resolved_statement_is st.0
+      (all_at (is_statement_within (counts_of n)) n.body.items j st.0 resolved.body_within st.1)
+      (all_at (is_statement_unhidden (texts_of n)) n.body.items j st.0 resolved.unhidden st.1)
+      ∙ st.2)
+
+-- a part of a specialization that breaks the rules of types breaks them in its instance at a path
+pub specialization_part : (P : Program) (r : Reached) (t : Table) → IsJudged P r t →
+    (i : ℕ) (s : Specialization) → slice_get t.specializations.items i ≡ Some s → (p : Path)
+    (here : Instance) → specialized_at r p s ≡ Some here
+    → (q : Part) → IsIllTyped r t s q → is_part_typed P here q ≡ false
+specialization_part P r t j i s is p here e q broken =
+    let n = node_at P r t j.reached j.table s (j.table.specialized i s is).0 in
+    let same : Some (instance_of p (node_of n.0) s.values.items) ≡ Some here =
+    sym (specialized_instance P r t j.reached j.table s n.0 p n.1) ∙ e in
+    let one : instance_of p (node_of n.0) s.values.items ≡ here = cc in
+    subst (λ h. is_part_typed P h q ≡ false) one
+    (part_untyped P r t j i s is n.0 n.1 n.2 p q (broken.1 n.0 n.1))
+
+-- a specialization keeps the rules of types exactly where its instance at a path does
+pub specialization_typed : (P : Program) (r : Reached) (t : Table) → IsJudged P r t →
+    (i : ℕ) (s : Specialization)
+    → slice_get t.specializations.items i ≡ Some s → (p : Path) (here : Instance) →
+    specialized_at r p s ≡ Some here
+    → is_typed P here ≡ mirror.is_specialization_typed r t s
+specialization_typed P r t j i s is p here e =
+    let n = node_at P r t j.reached j.table s (j.table.specialized i s is).0 in
+    let same : Some (instance_of p (node_of n.0) s.values.items) ≡ Some here =
+    sym (specialized_instance P r t j.reached j.table s n.0 p n.1) ∙ e in
+    let one : instance_of p (node_of n.0) s.values.items ≡ here = cc in
+    subst (λ h. is_typed P h ≡ mirror.is_specialization_typed r t s) one
+    (node_typed P r t j i s is n.0 n.1 n.2 p
+    ∙ sym (ap (holds (λ m. mirror.is_node_typed (context_of r t m s) m)) n.1))
+
+-- each specialization keeps the rules of types exactly where each instance does
+pub instances_typed : (P : Program) (r : Reached) (t : Table) → IsJudged P r t →
+    mirror.are_typed r t ≡ list_all (is_typed P) (instances P)
+instances_typed P r t j =
+    each_judged P r t (is_typed P) (mirror.is_specialization_typed r t)
+    (specialization_typed P r t j) j.table

@@ -1,0 +1,207 @@
+-- The parts that a walk over a term notes, from those that it notes for the operands of the term.
+use Rattle.lb_check.proofs.Words.{◌≡◌, inl, inr, ℕ, ◌+◌, ◌-◌, ◌<◌, ◌≤◌, List, [], ◌∷◌, ◌++◌, length}
+use Rattle.lb_check.proofs.Words.{map, drop, get_or, Option, Some, None, Box, Vec, Global, refl, ap}
+use Rattle.lb_check.proofs.Words.{sym, subst, ◌∙◌, arith, IfOk, OnOk, option_map, length-drop}
+use Rattle.lb_check.proofs.Words.{length-map, ◌>>=◌, all_some, CallId, Term, DataType, view_type}
+use Rattle.lb_check.proofs.Words.{IsSingle, IsPair, FoundTypes, IsWalked, Kept, kept, noted}
+use Rattle.lb_check.proofs.Words.{placed_types, placed_all_types, IsGiven, IsLeaf, Signature}
+use Rattle.lb_check.proofs.Words.{evaluated, given_of, list_of, one_type, results, type_of}
+use Rattle.lb_check.proofs.Words.{when_both, when_truth, common_type, only, singly}
+use Rattle.std.proofs.Common.{Result}
+use Rattle.lb_static.specs.declared.resolved.Term.{Array, Group, If}
+use Rattle.lb_check.specs.TermTypes.{Context, leaf_type}
+use Rattle.lb_check.proofs.definitions.BrokenRules.{both_found, if_found}
+use Rattle.lb_check.proofs.typing.OneType.{list_results, list_type_is, type_is_only}
+use Rattle.lb_check.proofs.typing.PartSizes.{kept_both}
+use Rattle.lb_check.proofs.typing.SignatureRows.{list_is}
+use Rattle.lb_check.proofs.typing.TermSignatures.{results_given}
+use Rattle.lb_check.proofs.lists.TurnedLists.{all_last, more_last, none_last}
+use Rattle.lb_check.proofs.typing.TypeParts.{single_none, single_type}
+use Rattle.lb_check.proofs.typing.TypeWalks.{group_placed, row_placed}
+use Rattle.lb_static.specs.declared.data_type.DataType as stored
+
+-- parts are kept, and then those that stand before them
+pub further : (before mid after : Kept) (xs ys : List FoundTypes) → mid ≡ kept before ys →
+    after ≡ kept mid xs → after ≡ kept before (xs ++ ys)
+further before mid after xs ys m a =
+    a ∙ ap (λ k. kept k xs) m ∙ sym (kept_both before xs ys)
+
+module _ (ctx : Context) where
+  -- ## Terms of one result
+
+  pub leaf_is : (t : Term) → IsLeaf t → leaf_type ctx t ≡ type_of ctx t
+  unfolding type_of
+  leaf_is t (inl (n, e)) = rw e refl
+  leaf_is t (inr (inl (b, e))) = rw e refl
+  leaf_is t (inr (inr (inl (i, e)))) = rw e refl
+  leaf_is t (inr (inr (inr (x, e)))) = rw e refl
+
+  pub leaf_one : (t : Term) → IsLeaf t → results ctx t ≡ singly (type_of ctx t)
+  unfolding results
+  leaf_one t (inl (n, e)) = rw e refl
+  leaf_one t (inr (inl (b, e))) = rw e refl
+  leaf_one t (inr (inr (inl (i, e)))) = rw e refl
+  leaf_one t (inr (inr (inr (x, e)))) = rw e refl
+
+  pub single_one : (t : Term) (e : Box Term Global) → IsSingle t e →
+      results ctx t ≡ singly (type_of ctx t)
+  unfolding results
+  single_one t e (inl (op, is)) = rw is refl
+  single_one t e (inr (inl is)) = rw is refl
+  single_one t e (inr (inr (inl is))) = rw is refl
+  single_one t e (inr (inr (inr (inl (x, sign, is))))) = rw is refl
+  single_one t e (inr (inr (inr (inr (inl (n, is)))))) = rw is refl
+  single_one t e (inr (inr (inr (inr (inr (inl (i, is))))))) = rw is refl
+  single_one t e (inr (inr (inr (inr (inr (inr (i, j, is))))))) = rw is refl
+
+  pub pair_one : (t : Term) (a b : Box Term Global) → IsPair t a b →
+      results ctx t ≡ singly (type_of ctx t)
+  unfolding results
+  pair_one t a b (inl (op, is)) = rw is refl
+  pair_one t a b (inr (inl is)) = rw is refl
+  pair_one t a b (inr (inr (inl is))) = rw is refl
+  pair_one t a b (inr (inr (inr is))) = rw is refl
+
+  pub choice_one : (t : Term) (c a b : Box Term Global) → t ≡ If c a b →
+      results ctx t ≡ singly (type_of ctx t)
+  unfolding results
+  choice_one t c a b is = rw is refl
+
+  pub list_one : (t : Term) (es : Vec Term Global) → t ≡ Array es →
+      results ctx t ≡ singly (type_of ctx t)
+  list_one t es is = list_results ctx t es is ∙ ap singly (sym (list_type_is ctx t es is))
+
+  group_type : (t : Term) (e : Box Term Global) → t ≡ Group e →
+      type_of ctx t ≡ type_of ctx e.value
+  unfolding type_of
+  group_type t e is = rw is refl
+
+  -- the type of a term comes from that of its one operand
+  pub single_from : (t : Term) (e : Box Term Global) → IsSingle t e →
+      (type_of ctx e.value >>= one_type ctx t) ≡ type_of ctx t
+  single_from t e is = by (type_of ctx e.value) refl
+    where
+      by : (o : Option DataType) → type_of ctx e.value ≡ o → (o >>= one_type ctx t) ≡ type_of ctx t
+      by None h = sym (single_none ctx t e (inr is) h)
+      by (Some s) h = single_type ctx t e s (inr is) h
+
+  -- the type of a choice comes from those of its condition and its branches
+  pub choice_type : (t : Term) (c a b : Box Term Global) → t ≡ If c a b →
+      when_truth (type_of ctx c.value)
+      (when_both (type_of ctx a.value) (type_of ctx b.value) common_type)
+      ≡ type_of ctx t
+  unfolding type_of
+  choice_type t c a b is = rw is refl
+
+  -- the type of a list comes from those of its elements
+  pub list_from : (t : Term) (es : Vec Term Global) → t ≡ Array es →
+      list_of (map (type_of ctx) es.items) ≡ type_of ctx t
+  list_from t es is =
+      sym (list_is (map (type_of ctx) es.items)) ∙ sym (list_type_is ctx t es is)
+
+  -- ## The parts that are noted for a term
+
+  module _ (before mid after : Kept) where
+    walked_group : (t : Term) (e : Box Term Global) (own : Option DataType) → t ≡ Group e →
+        IsWalked ctx e.value before after own → IsWalked ctx t before after own
+    walked_group t e own is w = (
+      w.0 ∙ sym (group_type t e is),
+      w.1 ∙ ap (kept before) (sym (group_placed ctx t e is)),
+    )
+
+    -- a term is noted after the parts of its operands
+    noted_after : (t : Term) (xs : List FoundTypes) (r : FoundTypes) →
+        placed_types ctx t ≡ results ctx t ∷ xs → r ≡ results ctx t → mid ≡ kept before xs →
+        after ≡ noted mid r → after ≡ kept before (placed_types ctx t)
+    noted_after t xs r whole is m a =
+        a ∙ ap (λ k. noted k r) m ∙ ap (noted (kept before xs)) is
+        ∙ ap (kept before) (sym whole)
+
+    -- noting a term of one result, after its operands, completes the walk over it
+    pub returns_one :
+        {E : Type 0} (r : Result (Option stored.DataType) E)
+        (t : Term) (xs : List FoundTypes) (own : Option DataType) →
+        placed_types ctx t ≡ results ctx t ∷ xs → results ctx t ≡ singly (type_of ctx t) →
+        own ≡ type_of ctx t → mid ≡ kept before xs →
+        IfOk r (λ o. option_map view_type o ≡ own) → OnOk r (after ≡ noted mid (singly own)) →
+        IfOk r (λ o. IsWalked ctx t before after (option_map view_type o))
+    returns_one r t xs own whole single is m same a =
+        both_found r (λ o. option_map view_type o ≡ own) (λ o. after ≡ noted mid (singly own))
+        (λ o. IsWalked ctx t before after (option_map view_type o)) same a
+        (λ o s e. (s ∙ is, noted_after t xs (singly own) whole (ap singly is ∙ sym single) m e))
+
+    -- noting a term with a row of operands, a list apart, completes the walk over it
+    pub returns_given :
+        {E : Type 0} (called : CallId → Signature) (r : Result (Option stored.DataType) E)
+        (t : Term) (es : Vec Term Global) (given : Option (List (Option DataType))) →
+        ((c : CallId) → ctx.call c ≡ evaluated (called c)) → IsGiven t es →
+        given ≡ given_of called ctx t (map (type_of ctx) es.items) →
+        mid ≡ kept before (placed_all_types ctx es.items) →
+        IfOk r (λ o. option_map view_type o ≡ (given >>= all_some >>= only)) →
+        OnOk r (after ≡ noted mid (given >>= all_some)) →
+        IfOk r (λ o. IsWalked ctx t before after (option_map view_type o))
+    returns_given called r t es given law is g m one a =
+        let all = given >>= all_some in
+        let same : all ≡ results ctx t =
+        ap (λ o. o >>= all_some) g ∙ sym (results_given called ctx law t es is) in
+        both_found r (λ o. option_map view_type o ≡ (all >>= only)) (λ o. after ≡ noted mid all)
+        (λ o. IsWalked ctx t before after (option_map view_type o)) one a
+        (λ o s e. (
+          s ∙ ap (λ r. r >>= only) same ∙ sym (type_is_only ctx t),
+          noted_after t (placed_all_types ctx es.items) all (row_placed ctx t es (inr is)) same m e,
+        ))
+
+    pub returns_group :
+        {E : Type 0} (r : Result (Option stored.DataType) E) (t d : Term) (e : Box Term Global) →
+        t ≡ Group e → d ≡ e.value →
+        IfOk r (λ o. IsWalked ctx d before after (option_map view_type o)) →
+        IfOk r (λ o. IsWalked ctx t before after (option_map view_type o))
+    returns_group r t d e is same w =
+        if_found r (λ o. IsWalked ctx d before after (option_map view_type o))
+        (λ o. IsWalked ctx t before after (option_map view_type o)) w
+        (λ o v. walked_group t e (option_map view_type o) is
+        (subst (λ x. IsWalked ctx x before after (option_map view_type o)) same v))
+
+  -- ## Rows
+
+  module _ (all : List Term) where
+    -- the types of the last `seen` terms, such as the last two of `[a, b, c]`
+    abbrev pub later : ℕ → List (Option DataType)
+    later seen = map (type_of ctx) (drop (length all - seen) all)
+
+    pub later_none : later 0 ≡ []
+    later_none = ap (map (type_of ctx)) (none_last all)
+
+    pub later_more : (seen : ℕ) (x : Term) → seen < length all →
+        x ≡ get_or all (length all - 1 - seen) x → later (seen + 1) ≡ type_of ctx x ∷ later seen
+    later_more seen x lt is = ap (map (type_of ctx)) (more_last all seen x lt is)
+
+    pub later_all : (seen : ℕ) → length all ≤ seen → later seen ≡ map (type_of ctx) all
+    later_all seen le = ap (map (type_of ctx)) (all_last all seen le)
+
+    pub later_length : (seen : ℕ) → seen ≤ length all → length (later seen) ≡ seen
+    later_length seen le =
+        let kept = length-map (drop (length all - seen) all) (type_of ctx) in
+        let rest = length-drop (length all - seen) all in
+        omega (arith, kept, rest, le)
+
+    -- the parts of the last `seen` terms are noted
+    module _ (before : Kept) where
+      abbrev pub AreNoted : ℕ → Kept → Type 0
+      AreNoted seen now = now ≡ kept before (placed_all_types ctx (drop (length all - seen) all))
+
+      pub noted_none : AreNoted 0 before
+      noted_none = sym (ap (λ es. kept before (placed_all_types ctx es)) (none_last all))
+
+      pub noted_more : (seen : ℕ) (now more : Kept) (x : Term) → seen < length all →
+          x ≡ get_or all (length all - 1 - seen) x → AreNoted seen now →
+          more ≡ kept now (placed_types ctx x) → AreNoted (seen + 1) more
+      noted_more seen now more x lt is w e =
+          let rest = drop (length all - seen) all in
+          further before now more (placed_types ctx x) (placed_all_types ctx rest) w e
+          ∙ sym (ap (λ es. kept before (placed_all_types ctx es)) (more_last all seen x lt is))
+
+      pub noted_all : (seen : ℕ) (now : Kept) → length all ≤ seen → AreNoted seen now →
+          now ≡ kept before (placed_all_types ctx all)
+      noted_all seen now le w =
+          w ∙ ap (λ es. kept before (placed_all_types ctx es)) (all_last all seen le)
