@@ -1,20 +1,19 @@
 -- The type of each expression of an instance.
 -- Source: Lustre V6 reference manual, typing of expressions and array iterators; the limits of
 -- lengths are this project's rule.
-use Rattle.std.specs.Prelude.{ℕ, suc, ◌+◌, ◌-◌, ℤ, pos, Bool, true, false, ◌&&◌, ◌||◌, nat_le}
+use Rattle.std.specs.Prelude.{ℕ, suc, ◌+◌, ◌-◌, ℤ, pos, Bool, ◌&&◌, ◌||◌, nat_le}
 use Rattle.std.specs.Prelude.{nat_lt, Option, Some, None, option_map, List, [], ◌∷◌, map, length}
 use Rattle.std.specs.Prelude.{if◌then◌else◌}
 use Rattle.std.specs.List.{list_all}
 use Rattle.lb_syntax.specs.declared.tree.UnaryOperator.{UnaryOperator}
 use Rattle.lb_syntax.specs.declared.tree.UnaryOperator.TheVariants.{Not, Negate}
 use Rattle.lb_syntax.specs.declared.tree.BinaryOperator.{BinaryOperator}
-use Rattle.lb_syntax.specs.declared.tree.BinaryOperator.TheVariants.{Or, Xor, And, Implies, Equal}
-use Rattle.lb_syntax.specs.declared.tree.BinaryOperator.TheVariants.{Unequal, Plus, Minus, Times}
-use Rattle.lb_syntax.specs.declared.tree.BinaryOperator.TheVariants.{Divide, Modulo}
 use Rattle.lb_syntax.specs.declared.tree.Kind.{Kind}
 use Rattle.lb_syntax.specs.declared.tree.ArrayIterator.{ArrayIterator}
 use Rattle.lb_syntax.specs.declared.tree.ArrayIterator.TheVariants.{Map, Red, Fill}
 use Rattle.lb_syntax.specs.Lists.{◌>>=◌, all_some, either_or, holds, where_true}
+use Rattle.lb_syntax.specs.Operators.{class_of, is_class}
+use Rattle.lb_syntax.specs.declared.tree.OperatorClass.TheVariants.{Arithmetic, Equality, Logical}
 use Rattle.lb_syntax.specs.Tree.{Name, Operator, Node_named, Symbol, Expr, Literal, Truth, Variable}
 use Rattle.lb_syntax.specs.Tree.{Group, Unary, Binary, If, Arrow, Fby, Pre, Current, When}
 use Rattle.lb_syntax.specs.Tree.{Replicate, Index, Slice, Join, Array, AtMostOne, Nor, Call}
@@ -29,24 +28,13 @@ use Rattle.lb_static.specs.DataTypes.{variable_type, input_types, output_types}
 -- ## Data operators
 
 abbrev pub is_arithmetic : BinaryOperator → Bool
-is_arithmetic Plus = true
-is_arithmetic Minus = true
-is_arithmetic Times = true
-is_arithmetic Divide = true
-is_arithmetic Modulo = true
-is_arithmetic op = false
+is_arithmetic op = is_class Arithmetic (class_of op)
 
 abbrev pub is_logical : BinaryOperator → Bool
-is_logical And = true
-is_logical Or = true
-is_logical Xor = true
-is_logical Implies = true
-is_logical op = false
+is_logical op = is_class Logical (class_of op)
 
 abbrev pub is_equality : BinaryOperator → Bool
-is_equality Equal = true
-is_equality Unequal = true
-is_equality op = false
+is_equality op = is_class Equality (class_of op)
 
 abbrev pub are_ints : DataType → DataType → Bool
 are_ints s t = is_type s int && is_type t int

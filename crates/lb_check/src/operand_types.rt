@@ -9,7 +9,7 @@ ghost use Rattle.lb_check.specs.Types as types;
 
 use crate::array_types;
 use lb_static::DataType;
-use lb_syntax::{BinaryOperator, Kind, UnaryOperator};
+use lb_syntax::{BinaryOperator, Kind, OperatorClass, UnaryOperator};
 use std::alloc::{AllocError, Global};
 
 /// The type `given`, where the operands fit.
@@ -74,22 +74,14 @@ fn binary_type(
 {
     let int = DataType::scalar(alloc, Kind::Int);
     let truth = DataType::scalar(alloc, Kind::Bool);
-    match op {
-        BinaryOperator::Plus
-        | BinaryOperator::Minus
-        | BinaryOperator::Times
-        | BinaryOperator::Divide
-        | BinaryOperator::Modulo => given_where(are_ints(left, right), int),
-        BinaryOperator::Or | BinaryOperator::Xor | BinaryOperator::And | BinaryOperator::Implies =>
-            given_where(are_truths(left, right), truth),
-        BinaryOperator::Equal | BinaryOperator::Unequal => given_where(
+    match op.class() {
+        OperatorClass::Arithmetic => given_where(are_ints(left, right), int),
+        OperatorClass::Logical => given_where(are_truths(left, right), truth),
+        OperatorClass::Equality => given_where(
             are_ints(left, right) || are_truths(left, right),
             truth,
         ),
-        BinaryOperator::Less
-        | BinaryOperator::AtMost
-        | BinaryOperator::Greater
-        | BinaryOperator::AtLeast => given_where(are_ints(left, right), truth),
+        OperatorClass::Order => given_where(are_ints(left, right), truth),
     }
 }
 

@@ -19,7 +19,7 @@ use crate::array_types::{array_of, is_length};
 use crate::operand_types::are_one;
 use crate::type_env::TypeEnv;
 use lb_static::{CallId, DataType, ResolvedNode, StaticInt, Term, Variable, part_of};
-use lb_syntax::{ArrayIterator, BinaryOperator, Kind};
+use lb_syntax::{ArrayIterator, BinaryOperator, Kind, OperatorClass};
 use std::alloc::{AllocError, Global};
 
 /// Types in a row.
@@ -300,15 +300,10 @@ fn callee<'a>(env: &TypeEnv<'a, '_>, call: CallId) -> Called<'a>
 fn symbol<'a>(op: BinaryOperator) -> Called<'a>
     ensures { mirror.called_in result ≡ mirror.symbol_signature op }
 {
-    match op {
-        BinaryOperator::Plus
-        | BinaryOperator::Minus
-        | BinaryOperator::Times
-        | BinaryOperator::Divide
-        | BinaryOperator::Modulo => scalars(Kind::Int, 2, true),
-        BinaryOperator::Or | BinaryOperator::Xor | BinaryOperator::And | BinaryOperator::Implies =>
-            scalars(Kind::Bool, 2, true),
-        _ => scalars(Kind::Bool, 2, false),
+    match op.class() {
+        OperatorClass::Arithmetic => scalars(Kind::Int, 2, true),
+        OperatorClass::Logical => scalars(Kind::Bool, 2, true),
+        OperatorClass::Equality | OperatorClass::Order => scalars(Kind::Bool, 2, false),
     }
 }
 

@@ -7,7 +7,7 @@ use crate::type_env::TypeEnv;
 use crate::type_fault::TypeRule;
 use crate::types::type_of;
 use lb_static::{Term, VariableId};
-use lb_syntax::{BinaryOperator, Kind, UnaryOperator};
+use lb_syntax::{BinaryOperator, Kind, OperatorClass, UnaryOperator};
 use std::alloc::{AllocError, Global};
 
 /// The source of the type, or of the types, that a fault reports.
@@ -87,11 +87,10 @@ fn of_inner<'t>(
 
 /// The kind of the operands of an operator; none where it takes each kind.
 fn operand_kind(op: BinaryOperator) -> Option<Kind> {
-    match op {
-        BinaryOperator::Or | BinaryOperator::Xor | BinaryOperator::And | BinaryOperator::Implies =>
-            Some(Kind::Bool),
-        BinaryOperator::Equal | BinaryOperator::Unequal => None,
-        _ => Some(Kind::Int),
+    match op.class() {
+        OperatorClass::Logical => Some(Kind::Bool),
+        OperatorClass::Equality => None,
+        OperatorClass::Order | OperatorClass::Arithmetic => Some(Kind::Int),
     }
 }
 

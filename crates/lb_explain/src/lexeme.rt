@@ -4,7 +4,7 @@
 //! is a lexeme by itself.
 
 use crate::bytes::{byte_at, find, part};
-use crate::words::is_reserved;
+use lb_syntax::is_reserved;
 
 /// The sort of a lexeme.
 #[derive(Clone, Copy, PartialEq, Eq)]

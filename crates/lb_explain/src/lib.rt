@@ -10,6 +10,7 @@ mod cells;
 mod characters;
 mod clock_places;
 mod clocks;
+mod colour;
 mod columns;
 mod context;
 mod counts;
@@ -45,6 +46,7 @@ mod values;
 mod wiring;
 mod words;
 
+pub use colour::Painted;
 pub use explanation::explain;
 pub use texts::Text;
 pub use wiring::wiring_warnings;

@@ -17,20 +17,9 @@ const MOST_NUMBER: u32 = 2_147_483_647;
 
 const MOST_SIGNS: usize = 500;
 
-/// The operators and opening brackets of a statement: symbols, and words.
-const SIGNS: [&[u8]; 18] = [
-    b"|", b"->", b"=>", b"=", b"<>", b"<", b"<=", b">", b">=", b"+", b"-", b"*", b"/", b"^", b"#",
-    b"(", b"[", b"<<",
-];
-
-const SIGN_WORDS: [&[u8]; 12] = [
-    b"if", b"fby", b"or", b"xor", b"and", b"not", b"div", b"mod", b"when", b"pre", b"current",
-    b"nor",
-];
-
 /// Whether a token is an operator or an opening bracket.
 fn is_counted(text: &[u8], token: &Lexeme) -> bool {
-    token.is_among(text, &SIGNS) || token.is_among(text, &SIGN_WORDS)
+    token.sort == Sort::Mark && lb_syntax::is_counted(token.of(text))
 }
 
 /// The number of static brackets that are open behind a token; `depth` are open before it.

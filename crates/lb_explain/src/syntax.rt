@@ -8,6 +8,7 @@ use crate::lexeme::{Lexeme, Sort, last_before, piece_at, token_at};
 use crate::statements::{expected_in_body, expected_in_value};
 use crate::texts::{Stretch, Text, line_at, offset_of, spot};
 use crate::words::{is_same, mend_of_word};
+use lb_syntax::is_sign;
 use std::alloc::{AllocError, Global};
 
 /// The most bytes of a token that are shown.
@@ -64,13 +65,7 @@ fn window_start(text: &[u8], context: &Context) -> usize {
 
 /// Whether a token joins two operands.
 fn is_infix(text: &[u8], token: &Lexeme) -> bool {
-    const WORDS: [&[u8]; 8] = [
-        b"and", b"or", b"xor", b"div", b"mod", b"fby", b"when", b"=>",
-    ];
-    const SIGNS: [&[u8]; 14] = [
-        b"+", b"-", b"*", b"/", b"=", b"<>", b"<", b"<=", b">", b">=", b"->", b"|", b"^", b"[",
-    ];
-    token.is_among(text, &WORDS) || token.is_among(text, &SIGNS)
+    token.sort == Sort::Mark && is_sign(token.of(text))
 }
 
 /// Two texts, and how to mend them where they stand together.

@@ -15,38 +15,6 @@ fn is_among(word: &[u8], words: &[&str]) -> bool {
     false
 }
 
-/// The reserved words that begin with the letter `first`.
-fn reserved_by(first: u8) -> &'static [&'static str] {
-    match first {
-        b'a' => &["and", "assert"],
-        b'b' => &["bool"],
-        b'c' => &["const", "current"],
-        b'd' => &["div"],
-        b'e' => &["else"],
-        b'f' => &["false", "fby", "function"],
-        b'i' => &["if", "int"],
-        b'l' => &["let"],
-        b'm' => &["mod"],
-        b'n' => &["node", "nor", "not"],
-        b'o' => &["or"],
-        b'p' => &["pre"],
-        b'r' => &["returns"],
-        b't' => &["tel", "then", "true"],
-        b'v' => &["var"],
-        b'w' => &["when"],
-        b'x' => &["xor"],
-        _ => &[],
-    }
-}
-
-/// Whether a word is reserved.
-pub fn is_reserved(word: &[u8]) -> bool {
-    match word {
-        [first, ..] => is_among(word, reserved_by(*first)),
-        [] => false,
-    }
-}
-
 /// The mends of words of other languages, and of words that this language writes in another way.
 static MENDS: [(&[&str], &str); 18] = [
     (

@@ -263,7 +263,7 @@ pub use Rattle.lb_syntax.specs.declared.tree.ArrayIterator.TheVariants.{Fill, Ma
 pub use Rattle.lb_syntax.specs.declared.tree.BinaryOperator.{BinaryOperator}
 pub use Rattle.lb_syntax.specs.declared.tree.BinaryOperator.TheVariants.{And, Divide, Equal}
 pub use Rattle.lb_syntax.specs.declared.tree.BinaryOperator.TheVariants.{Implies, Minus, Modulo, Or}
-pub use Rattle.lb_syntax.specs.declared.tree.BinaryOperator.TheVariants.{Plus, Times, Unequal, Xor}
+pub use Rattle.lb_syntax.specs.declared.tree.BinaryOperator.TheVariants.{Plus, Times, Unequal}
 pub use Rattle.lb_syntax.specs.declared.tree.Kind.{Kind}
 pub use Rattle.lb_syntax.specs.declared.tree.Kind.TheVariants.{Int}
 pub use Rattle.lb_syntax.specs.declared.tree.UnaryOperator.{UnaryOperator}

@@ -5,13 +5,13 @@ use Rattle.std.specs.Prelude.{◌≡◌, ℕ, ◌<◌, Bool, true, Option, Some,
 use Rattle.lb_syntax.specs.declared.tree.UnaryOperator.{UnaryOperator}
 use Rattle.lb_syntax.specs.declared.tree.UnaryOperator.TheVariants.{Not, Negate}
 use Rattle.lb_syntax.specs.declared.tree.BinaryOperator.{BinaryOperator}
-use Rattle.lb_syntax.specs.declared.tree.BinaryOperator.TheVariants.{Or, Xor, And, Implies, Equal}
-use Rattle.lb_syntax.specs.declared.tree.BinaryOperator.TheVariants.{Unequal, Less, AtMost, Greater}
-use Rattle.lb_syntax.specs.declared.tree.BinaryOperator.TheVariants.{AtLeast, Plus, Minus, Times}
-use Rattle.lb_syntax.specs.declared.tree.BinaryOperator.TheVariants.{Divide, Modulo}
 use Rattle.lb_syntax.specs.declared.tree.Kind.{Kind}
 use Rattle.lb_syntax.specs.declared.tree.Kind.TheVariants.{Int, Bool as Truth}
 use Rattle.lb_syntax.specs.Lists.{Every}
+use Rattle.lb_syntax.specs.Operators.{class_of}
+use Rattle.lb_syntax.specs.declared.tree.OperatorClass.{OperatorClass}
+use Rattle.lb_syntax.specs.declared.tree.OperatorClass.TheVariants.{Arithmetic, Equality, Logical}
+use Rattle.lb_syntax.specs.declared.tree.OperatorClass.TheVariants.{Order}
 use Rattle.lb_check.specs.Scalars.{Scalar, is_of_kind}
 use Rattle.lb_flat.specs.Flat.{FlatClock, Always, Where, Operation, Input, Constant, Copy}
 use Rattle.lb_flat.specs.Flat.{ApplyUnary, ApplyBinary, Choose, FirstThen, Previous, Latest, Sample}
@@ -40,29 +40,26 @@ pub record ClockFits (inputs : ℕ) (K : ℕ → FlatClock) (q : FlatEquation) :
 
 -- ## Kinds
 
+-- the kind of the result on two integers, and on two truth values, of the operators of a class, if
+-- they take them
+abbrev pub class_on_integers : OperatorClass → Option Kind
+class_on_integers Arithmetic = Some Int
+class_on_integers Equality = Some Truth
+class_on_integers Order = Some Truth
+class_on_integers Logical = None
+
+abbrev pub class_on_truths : OperatorClass → Option Kind
+class_on_truths Logical = Some Truth
+class_on_truths Equality = Some Truth
+class_on_truths Order = None
+class_on_truths Arithmetic = None
+
 -- the kind of an operator's result on two integers, and on two truth values, if it takes them
 abbrev pub integers_kind : BinaryOperator → Option Kind
-integers_kind Plus = Some Int
-integers_kind Minus = Some Int
-integers_kind Times = Some Int
-integers_kind Divide = Some Int
-integers_kind Modulo = Some Int
-integers_kind Equal = Some Truth
-integers_kind Unequal = Some Truth
-integers_kind Less = Some Truth
-integers_kind AtMost = Some Truth
-integers_kind Greater = Some Truth
-integers_kind AtLeast = Some Truth
-integers_kind op = None
+integers_kind op = class_on_integers (class_of op)
 
 abbrev pub truths_kind : BinaryOperator → Option Kind
-truths_kind Or = Some Truth
-truths_kind Xor = Some Truth
-truths_kind And = Some Truth
-truths_kind Implies = Some Truth
-truths_kind Equal = Some Truth
-truths_kind Unequal = Some Truth
-truths_kind op = None
+truths_kind op = class_on_truths (class_of op)
 
 -- the kind of the result of an operator on operands of two kinds, if it takes them
 abbrev pub binary_kind : BinaryOperator → Kind → Kind → Option Kind

@@ -28,6 +28,7 @@ mod temporary_kinds;
 mod trace_run;
 mod variable_kinds;
 
+pub use cell::two_booleans;
 pub use cycle_places::with_places;
 pub use equation::{Clock, ClockId, ElementId, Equation, InputId, Operation};
 pub use error::{Cycle, CyclePlace, FlatError, OrderError, SizeFault};

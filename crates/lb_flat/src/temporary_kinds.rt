@@ -8,7 +8,7 @@ ghost use Rattle.lb_flat.specs.declared.equation.Clock.{Clock};
 
 use crate::equation::{ElementId, Equation, Operation};
 use crate::scalar::Scalar;
-use lb_syntax::{BinaryOperator, Kind, UnaryOperator};
+use lb_syntax::{BinaryOperator, Kind, OperatorClass, UnaryOperator};
 use std::alloc::AllocError;
 
 /// The kind of an element; `int` where it has none yet.
@@ -42,13 +42,9 @@ fn unary_kind(operator: UnaryOperator) -> Kind
 fn binary_kind(operator: BinaryOperator) -> Kind
     ensures { result ≡ mirror.binary_result operator }
 {
-    match operator {
-        BinaryOperator::Plus
-        | BinaryOperator::Minus
-        | BinaryOperator::Times
-        | BinaryOperator::Divide
-        | BinaryOperator::Modulo => Kind::Int,
-        _ => Kind::Bool,
+    match operator.class() {
+        OperatorClass::Arithmetic => Kind::Int,
+        OperatorClass::Logical | OperatorClass::Equality | OperatorClass::Order => Kind::Bool,
     }
 }
 

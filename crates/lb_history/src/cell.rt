@@ -4,14 +4,13 @@
 //! nil where an operand is nil; `if` takes the chosen branch alone.
 
 ghost use Rattle.std.specs.Prelude.{◌≡◌, Some};
-ghost use Rattle.lb_check.specs.Scalars.{two_integers, two_booleans, two_scalars, one_scalar};
-ghost use Rattle.lb_check.specs.Scalars.{or_fault};
+ghost use Rattle.lb_check.specs.Scalars.{two_integers, two_scalars, one_scalar, or_fault};
 ghost use Rattle.lb_check.specs.Streams.{held, one_cell, two_cells, sample, shows, newest};
 ghost use Rattle.lb_flat.specs.Run.{chosen_cell};
 ghost use Rattle.lb_flat.specs.Values.{scalar_of};
 ghost use Rattle.lb_history.specs.Cells.{cell_of};
 
-use lb_flat::Scalar;
+use lb_flat::{Scalar, two_booleans};
 use lb_static::{arithmetic, negated};
 use lb_syntax::{BinaryOperator, UnaryOperator};
 
@@ -68,26 +67,16 @@ fn two_integers(op: BinaryOperator, a: i32, b: i32) -> Cell
     }
 }
 
-fn two_booleans(op: BinaryOperator, a: bool, b: bool) -> Cell
-    ensures { cell_of result ≡ Some (two_booleans op a b) }
-{
-    match op {
-        BinaryOperator::Or => Cell::Boolean(a | b),
-        BinaryOperator::Xor | BinaryOperator::Unequal => Cell::Boolean(a != b),
-        BinaryOperator::And => Cell::Boolean(a & b),
-        BinaryOperator::Implies => Cell::Boolean(!a | b),
-        BinaryOperator::Equal => Cell::Boolean(a == b),
-        _ => Cell::Bad,
-    }
-}
-
 /// The result of an operator with two operands.
 pub(crate) fn two_cells(op: BinaryOperator, x: Cell, y: Cell) -> Cell
     ensures { cell_of result ≡ two_cells (two_scalars op) (cell_of x) (cell_of y) }
 {
     match (x, y) {
         (Cell::Integer(a), Cell::Integer(b)) => two_integers(op, a, b),
-        (Cell::Boolean(a), Cell::Boolean(b)) => two_booleans(op, a, b),
+        (Cell::Boolean(a), Cell::Boolean(b)) => match two_booleans(op, a, b) {
+            Some(c) => Cell::Boolean(c),
+            None => Cell::Bad,
+        },
         (Cell::Absent, _) | (_, Cell::Absent) => Cell::Absent,
         (Cell::Bad, _) | (_, Cell::Bad) => Cell::Bad,
         (Cell::Nil, _) | (_, Cell::Nil) => Cell::Nil,

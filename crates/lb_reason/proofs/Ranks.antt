@@ -6,12 +6,17 @@ use Rattle.std.proofs.lemmas.Bool.Decides.{nat_tests}
 use Rattle.std.specs.Prelude.{if◌then◌else◌}
 use Rattle.lb_syntax.specs.Lists.{Every, In}
 use Rattle.lb_syntax.specs.declared.tree.BinaryOperator.{BinaryOperator}
-use Rattle.lb_syntax.specs.declared.tree.BinaryOperator.TheVariants.{Or, Xor, And, Implies}
+use Rattle.lb_syntax.specs.declared.tree.BinaryOperator.TheVariants.{Or, And, Implies}
+use Rattle.lb_syntax.specs.Operators.{class_of}
+use Rattle.lb_syntax.specs.declared.tree.OperatorClass.TheVariants.{}
+use Rattle.lb_syntax.specs.declared.tree.OperatorClass.{OperatorClass}
+use Rattle.lb_syntax.specs.declared.tree.OperatorClass.TheVariants.{Logical}
 use Rattle.lb_check.specs.Scalars.{Cell, Integer, Boolean, Nil, Bad}
 use Rattle.lb_flat.specs.Flat.{FlatEquation, Operation, Input, Constant, Copy, ApplyUnary}
 use Rattle.lb_flat.specs.Flat.{ApplyBinary, Choose, FirstThen, Previous, Latest, Sample}
 use Rattle.lb_flat.specs.Run.{Ready, Row, cell, clock_reads, reads}
 use Rattle.lb_reason.specs.Deciding.{branch_taken, deciding, decided_by, first_of, first_or_second}
+use Rattle.lb_reason.specs.Deciding.{first_where_logical}
 use Rattle.lb_reason.specs.Deciding.{given_by, is_bad, is_false, is_nil, is_present, is_true}
 use Rattle.lb_reason.specs.Deciding.{next_element, of_condition, of_one, of_two, operands_taken}
 use Rattle.lb_reason.specs.Deciding.{truth_of_two, value_decided}
@@ -40,15 +45,16 @@ module _ (row : Row) (a b e : ℕ) where
       by_test true same = inl (cc)
       by_test false same = inr (inl (cc))
 
+  logical_is : (c : OperatorClass) → first_where_logical c a ≡ Some e → a ≡ e
+  logical_is Logical is = cc
+  logical_is _ is = absurd (cc)
+
   truth_in :
       (op : BinaryOperator) (v : Bool) → truth_of_two op v row a b ≡ Some e → In e (a ∷ b ∷ [])
   truth_in And false is = second_in is_false is
-  truth_in And true is = inl (cc)
   truth_in Or true is = second_in is_true is
-  truth_in Or false is = inl (cc)
   truth_in Implies v is = second_in is_false is
-  truth_in Xor v is = inl (cc)
-  truth_in op v is = absurd (cc)
+  truth_in op v is = inl (logical_is (class_of op) is)
 
   two_in : (op : BinaryOperator) (x : Cell) → of_two op x row a b ≡ Some e → In e (a ∷ b ∷ [])
   two_in op (Some (Boolean v)) is = truth_in op v is

@@ -5,7 +5,11 @@ use Rattle.std.specs.Prelude.{nat_eq}
 use Rattle.std.specs.Prelude.{if◌then◌else◌}
 use Rattle.std.specs.List.{find}
 use Rattle.lb_syntax.specs.declared.tree.BinaryOperator.{BinaryOperator}
-use Rattle.lb_syntax.specs.declared.tree.BinaryOperator.TheVariants.{Or, Xor, And, Implies}
+use Rattle.lb_syntax.specs.declared.tree.BinaryOperator.TheVariants.{Or, And, Implies}
+use Rattle.lb_syntax.specs.Operators.{class_of}
+use Rattle.lb_syntax.specs.declared.tree.OperatorClass.TheVariants.{}
+use Rattle.lb_syntax.specs.declared.tree.OperatorClass.{OperatorClass}
+use Rattle.lb_syntax.specs.declared.tree.OperatorClass.TheVariants.{Logical}
 use Rattle.lb_check.specs.Scalars.{Cell, Boolean, Nil, Bad}
 use Rattle.lb_check.specs.Verdicts as verdicts
 use Rattle.lb_flat.specs.Flat.{FlatEquation, Operation, Input, Constant, Copy, ApplyUnary}
@@ -62,18 +66,20 @@ operands_taken row (Previous v a) = []
 operands_taken row (Latest v a) = a ∷ []
 operands_taken row (Sample a) = a ∷ []
 
+-- the first operand of a logical operator; a comparison has none that decides
+abbrev pub first_where_logical : OperatorClass → (a : ℕ) → Option ℕ
+first_where_logical Logical a = Some a
+first_where_logical class a = None
+
 -- the operand that decides, where two operands give this truth. `and` with the result false: the
--- first that is false. `or` with the result true: the first that is true. `and` and `or` with
--- another result, and `xor`: the first. `=>`: the left one where it is false, and else the right
--- one. A comparison has none
+-- first that is false. `or` with the result true: the first that is true. `=>`: the left one where
+-- it is false, and else the right one. `and` and `or` with another result, and each other logical
+-- operator: the first. A comparison has none
 abbrev pub truth_of_two : BinaryOperator → Bool → Row → (a b : ℕ) → Option ℕ
 truth_of_two And false row a b = first_or_second is_false row a b
-truth_of_two And true row a b = Some a
 truth_of_two Or true row a b = first_or_second is_true row a b
-truth_of_two Or false row a b = Some a
 truth_of_two Implies v row a b = first_or_second is_false row a b
-truth_of_two Xor v row a b = Some a
-truth_of_two op v row a b = None
+truth_of_two op v row a b = first_where_logical (class_of op) a
 
 -- the operand that decides, where an operator of two operands gives this cell
 abbrev pub of_two : BinaryOperator → Cell → Row → (a b : ℕ) → Option ℕ

@@ -13,7 +13,7 @@ ghost use Rattle.lb_reason.specs.Tests.{number, passes};
 use crate::moment::Moment;
 use lb_flat::{ElementId, Equation, Operation};
 use lb_history::Cell;
-use lb_syntax::BinaryOperator;
+use lb_syntax::{BinaryOperator, OperatorClass};
 use std::alloc::{AllocError, Global};
 
 /// A test of a cell.
@@ -138,6 +138,16 @@ fn taken_with(test: Test, moment: &Moment<'_>, operation: &Operation) -> Option<
 
 // ## The operand that decides
 
+/// The first operand, if the operator is a logical one.
+fn first_where_logical(class: OperatorClass, a: ElementId) -> Option<ElementId>
+    ensures { option_map number result ≡ spec.first_where_logical class a.0 }
+{
+    match class {
+        OperatorClass::Logical => Some(a),
+        OperatorClass::Equality | OperatorClass::Order | OperatorClass::Arithmetic => None,
+    }
+}
+
 /// The operand that decides, where an operator of two operands gives this truth.
 fn truth_of_two(
     op: BinaryOperator,
@@ -153,9 +163,7 @@ fn truth_of_two(
         (BinaryOperator::And, false) => first_or_second(Test::False, moment, a, b),
         (BinaryOperator::Or, true) => first_or_second(Test::True, moment, a, b),
         (BinaryOperator::Implies, _) => first_or_second(Test::False, moment, a, b),
-        (BinaryOperator::And, true) | (BinaryOperator::Or, false) => Some(a),
-        (BinaryOperator::Xor, _) => Some(a),
-        _ => None,
+        _ => first_where_logical(op.class(), a),
     }
 }
 

@@ -1,6 +1,6 @@
 //! Expressions as they stand in the text of a source.
 
-use lb_syntax::{BinaryOperator, Expr, Static, UnaryOperator};
+use lb_syntax::{Expr, Static, UnaryOperator};
 use std::alloc::{AllocError, Global};
 
 /// The most characters of an expression that are written; `..` stands for the rest.
@@ -8,27 +8,6 @@ const MOST: usize = 60;
 
 /// A depth of forms within one another that no text reaches.
 const DEEPEST: usize = 1_000_000;
-
-/// The sign of an operator.
-pub(crate) fn sign_of(op: BinaryOperator) -> &'static str {
-    match op {
-        BinaryOperator::Or => "or",
-        BinaryOperator::Xor => "xor",
-        BinaryOperator::And => "and",
-        BinaryOperator::Implies => "=>",
-        BinaryOperator::Equal => "=",
-        BinaryOperator::Unequal => "<>",
-        BinaryOperator::Less => "<",
-        BinaryOperator::AtMost => "<=",
-        BinaryOperator::Greater => ">",
-        BinaryOperator::AtLeast => ">=",
-        BinaryOperator::Plus => "+",
-        BinaryOperator::Minus => "-",
-        BinaryOperator::Times => "*",
-        BinaryOperator::Divide => "/",
-        BinaryOperator::Modulo => "mod",
-    }
-}
 
 /// The end of a form, without the brackets that close behind it.
 #[derive(Clone, Copy)]
@@ -221,14 +200,6 @@ pub(crate) fn ungrouped(expr: &Expr) -> &Expr {
         }
     }
     inner
-}
-
-/// Whether an operator joins two truths.
-pub(crate) fn joins(op: BinaryOperator) -> bool {
-    matches!(
-        op,
-        BinaryOperator::And | BinaryOperator::Or | BinaryOperator::Implies | BinaryOperator::Xor
-    )
 }
 
 /// Whether an expression is a truth or a number, perhaps with a sign.

@@ -10,7 +10,7 @@
 ghost use Rattle.std.specs.Prelude.{◌<◌, length};
 
 use crate::deciding::given_by;
-use crate::expressions::{is_literal, is_short, joins, put_expression, sign_of, ungrouped};
+use crate::expressions::{is_literal, is_short, put_expression, ungrouped};
 use crate::finding::{Step, find_reason};
 use crate::moment::Moment;
 use crate::page::{parts_of_verdict, push, push_cell, push_number, push_spot};
@@ -19,7 +19,7 @@ use lb_check::Verdict;
 use lb_flat::{ElementId, Operation, Ordered};
 use lb_history::{Cell, Replay};
 use lb_static::Term;
-use lb_syntax::{Expr, UnaryOperator};
+use lb_syntax::{Expr, OperatorClass, UnaryOperator};
 use lb_traces::TraceSet;
 use std::alloc::{AllocError, Global};
 
@@ -228,9 +228,9 @@ impl<'p, 'a, 's> Telling<'p, 'a, 's> {
             _ => true,
         };
         match next {
-            Some(next) if joins(op) && !is_told => {
+            Some(next) if op.class() == OperatorClass::Logical && !is_told => {
                 let side = if next == a { "left side" } else { "right side" };
-                self.say_side(sign_of(op), side, next)
+                self.say_side(op.sign(), side, next)
             }
             _ => self.say_whole(site, operation),
         }
@@ -385,7 +385,7 @@ impl<'p, 'a, 's> Telling<'p, 'a, 's> {
         match self.operation(element) {
             Some(Operation::ApplyBinary(op, a, b)) => {
                 self.say("`")?;
-                self.say(sign_of(op))?;
+                self.say(op.sign())?;
                 self.say("` with ")?;
                 self.say_cell(a)?;
                 self.say(", ")?;

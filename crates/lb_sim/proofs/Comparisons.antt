@@ -1,10 +1,8 @@
 -- The operators that compare integers.
 use Rattle.std.proofs.Common.{◌≡◌, ◌≢◌, Some, refl}
 use Rattle.lb_syntax.specs.declared.tree.BinaryOperator.{BinaryOperator}
-use Rattle.lb_syntax.specs.declared.tree.BinaryOperator.TheVariants.{Or, Xor, And, Implies, Equal}
-use Rattle.lb_syntax.specs.declared.tree.BinaryOperator.TheVariants.{Unequal, Less, AtMost, Greater}
-use Rattle.lb_syntax.specs.declared.tree.BinaryOperator.TheVariants.{AtLeast, Plus, Minus, Times}
-use Rattle.lb_syntax.specs.declared.tree.BinaryOperator.TheVariants.{Divide, Modulo}
+use Rattle.lb_syntax.specs.declared.tree.BinaryOperator.TheVariants.{Equal, Unequal, Less, AtMost}
+use Rattle.lb_syntax.specs.declared.tree.BinaryOperator.TheVariants.{Greater, AtLeast}
 use Rattle.lb_syntax.specs.declared.tree.Kind.TheVariants.{Bool as Bool_kind}
 use Rattle.lb_flat.specs.Fitting.{integers_kind}
 
@@ -18,12 +16,4 @@ not_compared Less a b c d f g e = c refl
 not_compared AtMost a b c d f g e = d refl
 not_compared Greater a b c d f g e = f refl
 not_compared AtLeast a b c d f g e = g refl
-not_compared Plus a b c d f g e = cc
-not_compared Minus a b c d f g e = cc
-not_compared Times a b c d f g e = cc
-not_compared Divide a b c d f g e = cc
-not_compared Modulo a b c d f g e = cc
-not_compared Or a b c d f g e = cc
-not_compared Xor a b c d f g e = cc
-not_compared And a b c d f g e = cc
-not_compared Implies a b c d f g e = cc
+not_compared _ a b c d f g e = cc

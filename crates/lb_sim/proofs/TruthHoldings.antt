@@ -2,14 +2,16 @@
 use Rattle.std.proofs.Common.{◌≡◌, ◌≢◌, ◌||◌, Bool, true, false, Some, cond, refl, sym, ap, ap₂}
 use Rattle.std.proofs.Common.{◌∙◌}
 use Rattle.lb_syntax.specs.declared.tree.BinaryOperator.{BinaryOperator}
-use Rattle.lb_syntax.specs.declared.tree.BinaryOperator.TheVariants.{Or, Xor, And, Implies, Equal}
-use Rattle.lb_syntax.specs.declared.tree.BinaryOperator.TheVariants.{Unequal, Less, AtMost, Greater}
-use Rattle.lb_syntax.specs.declared.tree.BinaryOperator.TheVariants.{AtLeast, Plus, Minus, Times}
-use Rattle.lb_syntax.specs.declared.tree.BinaryOperator.TheVariants.{Divide, Modulo}
+use Rattle.lb_syntax.specs.Operators.{class_of}
+use Rattle.lb_syntax.specs.declared.tree.OperatorClass.TheVariants.{}
+use Rattle.lb_syntax.specs.declared.tree.OperatorClass.{OperatorClass}
+use Rattle.lb_syntax.specs.declared.tree.OperatorClass.TheVariants.{Equality, Logical}
+use Rattle.lb_syntax.specs.declared.tree.BinaryOperator.TheVariants.{Plus, Minus, Times, Divide}
+use Rattle.lb_syntax.specs.declared.tree.BinaryOperator.TheVariants.{Modulo}
 use Rattle.lb_syntax.specs.declared.tree.Kind.{Kind}
 use Rattle.lb_syntax.specs.declared.tree.Kind.TheVariants.{Bool as Bool_kind}
 use Rattle.lb_check.specs.Scalars.{Scalar, Boolean, two_booleans, two_integers, two_scalars}
-use Rattle.lb_flat.specs.Fitting.{binary_kind, integers_kind, truths_kind}
+use Rattle.lb_flat.specs.Fitting.{binary_kind, class_on_truths, integers_kind, truths_kind}
 use Rattle.lb_machine.specs.Listed.{listed}
 use Rattle.lb_machine.specs.Meaning.{Lane, HasRun}
 use Rattle.lb_machine.specs.declared.code.Code.{Code}
@@ -41,16 +43,7 @@ compared_kind Minus kind a b c d e f = absurd (b refl)
 compared_kind Times kind a b c d e f = absurd (c refl)
 compared_kind Divide kind a b c d e f = absurd (d refl)
 compared_kind Modulo kind a b c d e f = absurd (e refl)
-compared_kind Equal kind a b c d e f = cc
-compared_kind Unequal kind a b c d e f = cc
-compared_kind Less kind a b c d e f = cc
-compared_kind AtMost kind a b c d e f = cc
-compared_kind Greater kind a b c d e f = cc
-compared_kind AtLeast kind a b c d e f = cc
-compared_kind Or kind a b c d e f = absurd (cc)
-compared_kind Xor kind a b c d e f = absurd (cc)
-compared_kind And kind a b c d e f = absurd (cc)
-compared_kind Implies kind a b c d e f = absurd (cc)
+compared_kind _ kind a b c d e f = cc
 
 pub compared_for :
     (code : Code) (op : BinaryOperator) (kind : Kind) (a b : WordId) (nil left right bad : PlaneId)
@@ -76,21 +69,12 @@ compared_for code op kind a b nil left right bad x h c d f g k e is is_nil is_ba
 -- ## Operators on truths
 
 truths_give : (op : BinaryOperator) (kind : Kind) → truths_kind op ≡ Some kind → Bool_kind ≡ kind
-truths_give Or kind e = cc
-truths_give Xor kind e = cc
-truths_give And kind e = cc
-truths_give Implies kind e = cc
-truths_give Equal kind e = cc
-truths_give Unequal kind e = cc
-truths_give Plus kind e = absurd (cc)
-truths_give Minus kind e = absurd (cc)
-truths_give Times kind e = absurd (cc)
-truths_give Divide kind e = absurd (cc)
-truths_give Modulo kind e = absurd (cc)
-truths_give Less kind e = absurd (cc)
-truths_give AtMost kind e = absurd (cc)
-truths_give Greater kind e = absurd (cc)
-truths_give AtLeast kind e = absurd (cc)
+truths_give op kind e = by (class_of op) e
+  where
+    by : (c : OperatorClass) → class_on_truths c ≡ Some kind → Bool_kind ≡ kind
+    by Logical is = cc
+    by Equality is = cc
+    by _ is = absurd (cc)
 
 both_shown :
     (op : BinaryOperator) (x y bl br nl nr : Bool) →

@@ -1,6 +1,7 @@
 -- A program keeps the rule of names where the judged parts of it do.
-use Rattle.std.proofs.Common.{◌≡◌, ℕ, zero, suc, Bool, true, List, length, refl, ap, sym, ◌∙◌}
-use Rattle.std.specs.Prelude.{◌||◌, filter, flat_map, is_some}
+use Rattle.std.proofs.Common.{◌≡◌, ℕ, zero, suc, Bool, true, false, List, length, refl, ap, sym}
+use Rattle.std.proofs.Common.{◌∙◌}
+use Rattle.std.specs.Prelude.{◌&&◌, ◌||◌, filter, flat_map, is_some}
 use Rattle.std.specs.List.{list_all, list_any, Contains}
 use Rattle.std.specs.Str.{bytes_eq}
 use Rattle.std.proofs.lemmas.Bool.{and_from, and_right}
@@ -11,7 +12,7 @@ use Rattle.lb_syntax.proofs.ListPlaces.{all_at, all_from}
 use Rattle.lb_static.specs.CalledNodes.{are_named}
 use Rattle.lb_static.specs.Instances.{Program}
 use Rattle.lb_static.specs.CountedNames.{NameUse, Declares, Statics, are_once, constants_where}
-use Rattle.lb_static.specs.CountedNames.{counted, is_named_where}
+use Rattle.lb_static.specs.CountedNames.{are_named_where, counted, is_named_where}
 use Rattle.lb_static.specs.CountedNames.{keeps_names_where, starts_where}
 use Rattle.lb_static.specs.NamedConstants.{keeps_constants, told_constants}
 use Rattle.lb_static.specs.NameFaults.{IsNameFault, is_told, named_in, alone}
@@ -126,3 +127,18 @@ module _ (P : Program) (r : Reached) (reached : IsReached P r) where
       (and_right (starts_where counts P) _
       (and_right (list_all (is_named_where counts P) (reached_nodes P)) _
       (sym (told_are counts) ∙ no))))
+
+named_first : (a b c d : Bool) → (b && c) ≡ false → (a && (b && (c && d))) ≡ false
+named_first false b c d e = refl
+named_first true false c d e = refl
+named_first true true false d e = refl
+named_first true true true d e = absurd cc
+
+-- a fault of the names of the starts and of the reached nodes is one of the program
+pub fault_named : (P : Program) (e : StaticError) → IsNameFault e (are_named_where (is_told e) P)
+    → IsNameFault e (keeps_names_where (is_told e) P)
+fault_named P e h =
+    let counts = is_told e in
+    fault_within e (are_named_where counts P) (keeps_names_where counts P) h
+    (named_first (are_once (counts Declares) (global_names P)) (starts_where counts P)
+    (list_all (is_named_where counts P) (reached_nodes P)) _)

@@ -1,9 +1,10 @@
 -- The items of a list of options, if each is there: item by item, in the other order, and for two
 -- lists one after the other.
-use Rattle.std.proofs.Common.{◌≡◌, ℕ, suc, List, [], ◌∷◌, ◌++◌, length, drop, map}
-use Rattle.std.proofs.Common.{Option, Some, None, option_map, refl, ap, sym, ◌∙◌}
+use Rattle.std.proofs.Common.{◌≡◌, ◌<◌, ◌≤◌, ◌+◌, ℕ, suc, List, [], ◌∷◌, ◌++◌, length, drop, map}
+use Rattle.std.proofs.Common.{get_or, Option, Some, None, option_map, refl, ap, sym, ◌∙◌}
 use Rattle.std.specs.Prelude.{reverse}
-use Rattle.std.proofs.lemmas.List.{reverse-append, map-append}
+use Rattle.std.proofs.Math.ListN.{drop_of_length-le}
+use Rattle.std.proofs.lemmas.List.{reverse-append, map-append, drop_more, append-nil, append_assoc}
 use Rattle.lb_syntax.specs.Lists.{◌>>=◌, all_some}
 
 -- the items that are done, and then the items from `i` on, are the whole list
@@ -14,6 +15,49 @@ IsSoFar f done xs i = option_map (λ l. done ++ l) (all_some (map f (drop i xs))
 nothing_before : {B : Type 0} (o : Option (List B)) → option_map (λ l. [] ++ l) o ≡ o
 nothing_before None = refl
 nothing_before (Some l) = refl
+
+-- ## Item by item
+
+next_item : {A B : Type 0} (f : A → Option B) (xs : List A) (i : ℕ) (x : A) (o : Option B)
+    → i < length xs → x ≡ get_or xs i x → o ≡ f x
+    → all_some (map f (drop i xs)) ≡ all_some (o ∷ map f (drop (i + 1) xs))
+next_item f xs i x o below is e =
+    ap (λ l. all_some (map f l)) (drop_more xs i x below)
+    ∙ ap (λ y. all_some (f y ∷ map f (drop (i + 1) xs))) (sym is)
+    ∙ ap (λ q. all_some (q ∷ map f (drop (i + 1) xs))) (sym e)
+
+moved : {B : Type 0} (done : List B) (y : B) (o : Option (List B))
+    → option_map (λ l. (done ++ y ∷ []) ++ l) o
+    ≡ option_map (λ l. done ++ l) (option_map (λ l. y ∷ l) o)
+moved done y None = refl
+moved {B = B} done y (Some l) = ap (λ (m : List B). Some m) (append_assoc done (y ∷ []) l)
+
+-- one more item is done
+pub one_more : {A B : Type 0} (f : A → Option B) (xs : List A) (i : ℕ) (x : A) (y : B)
+    (done after : List B) (all : Option (List B))
+    → i < length xs → x ≡ get_or xs i x → Some y ≡ f x → after ≡ done ++ y ∷ []
+    → option_map (λ l. done ++ l) (all_some (map f (drop i xs))) ≡ all
+    → option_map (λ l. after ++ l) (all_some (map f (drop (i + 1) xs))) ≡ all
+one_more f xs i x y done after all below is e more h =
+    ap (λ l. option_map (λ m. l ++ m) (all_some (map f (drop (i + 1) xs)))) more
+    ∙ moved done y (all_some (map f (drop (i + 1) xs)))
+    ∙ ap (option_map (λ l. done ++ l)) (sym (next_item f xs i x (Some y) below is e)) ∙ h
+
+-- an item is not there
+pub one_missing : {A B : Type 0} (f : A → Option B) (xs : List A) (i : ℕ) (x : A)
+    (done : List B) (all : Option (List B)) → i < length xs → x ≡ get_or xs i x → None ≡ f x
+    → option_map (λ l. done ++ l) (all_some (map f (drop i xs))) ≡ all → None ≡ all
+one_missing f xs i x done all below is e h =
+    sym (ap (option_map (λ l. done ++ l)) (next_item f xs i x None below is e)) ∙ h
+
+-- all items are done
+pub all_done : {A B : Type 0} (f : A → Option B) (xs : List A) (i : ℕ) (done : List B)
+    (all : Option (List B)) → length xs ≤ i
+    → option_map (λ l. done ++ l) (all_some (map f (drop i xs))) ≡ all → Some done ≡ all
+all_done {B = B} f xs i done all past h =
+    ap (λ (l : List B). Some l) (sym (append-nil done))
+    ∙ ap (λ l. option_map (λ m. done ++ m) (all_some (map f l))) (sym (drop_of_length-le xs past))
+    ∙ h
 
 -- ## Two lists, one after the other
 

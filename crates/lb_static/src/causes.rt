@@ -5,7 +5,7 @@
 use lb_syntax::BinaryOperator;
 
 /// The sort of thing that an unknown name had to be.
-#[derive(Clone, Copy, PartialEq, Eq, Debug)]
+#[derive(Clone, Copy, Debug)]
 pub enum Sought {
     /// A node or function: the node under test, the observer, or one that is called or iterated.
     Node,
@@ -20,7 +20,7 @@ pub enum Sought {
 }
 
 /// The rule of names that a name breaks.
-#[derive(Clone, Copy, PartialEq, Eq, Debug)]
+#[derive(Clone, Copy)]
 pub enum NameRule {
     /// Nothing of this sort has the name.
     Unknown(Sought),
@@ -31,7 +31,7 @@ pub enum NameRule {
 }
 
 /// A name that breaks a rule of names (E4).
-#[derive(Debug, Drop)]
+#[derive(Drop)]
 pub struct NameFault {
     pub name: String,
     pub rule: NameRule,
@@ -121,7 +121,7 @@ pub enum RangeRole {
 }
 
 /// A value that is out of its range (E6).
-#[derive(Debug, Drop)]
+#[derive(Drop)]
 pub struct RangeFault {
     pub role: RangeRole,
     /// The offset of the static expression, or of the name of the variable with too many elements.
@@ -139,7 +139,7 @@ pub struct RangeFault {
 }
 
 /// A call on a cycle of calls.
-#[derive(Debug, Drop)]
+#[derive(Drop)]
 pub struct CycleCall {
     /// The name of the node that calls the next one of the cycle; the last one calls the first.
     pub node: String,
@@ -148,7 +148,7 @@ pub struct CycleCall {
 }
 
 /// A cycle of calls: each node calls the next one, and the last one calls the first (E7).
-#[derive(Debug, Drop)]
+#[derive(Drop)]
 pub struct CallCycle {
     pub calls: Vec<CycleCall>,
 }
@@ -185,7 +185,7 @@ pub enum RootRule {
 }
 
 /// The node under test or an observer whose interface is not lawful (E8).
-#[derive(Debug, Drop)]
+#[derive(Drop)]
 pub struct RootFault {
     pub rule: RootRule,
     pub start: Start,
@@ -198,7 +198,7 @@ pub struct RootFault {
 }
 
 /// A limit of instances.
-#[derive(Clone, Copy, PartialEq, Eq, Debug)]
+#[derive(Clone, Copy, Debug)]
 pub enum Limit {
     /// At most 4,096 instances.
     Instances,
@@ -207,7 +207,7 @@ pub enum Limit {
 }
 
 /// An instance that is past a limit (E12).
-#[derive(Debug, Drop)]
+#[derive(Drop)]
 pub struct LimitFault {
     pub limit: Limit,
     /// The path to the instance.

@@ -15,14 +15,14 @@ use crate::causes::Start;
 use crate::error::StaticError;
 use crate::interface::Interface;
 use crate::reachable::{NodeId, Reached};
-use crate::root_faults::{input_fault, observer_fault, output_fault, start_fault};
+use crate::root_faults::{input_rule, missing_fault, observer_rule, output_rule, root_fault};
 use crate::signature::Signature;
 use crate::table::Table;
 use crate::valued_node::valued_node;
 use std::alloc::Global;
 
 /// Whether a reached node has no static parameters.
-fn has_no_parameters(reached: &Reached, id: NodeId) -> bool
+pub fn has_no_parameters(reached: &Reached, id: NodeId) -> bool
     ensures { result ≡ has_no_parameters_at reached.now id }
 {
     match reached.nodes.get(id.0) {
@@ -65,11 +65,16 @@ fn check_property(
             if observer.observes(root) {
                 Ok(())
             } else {
-                Err(StaticError::Root(observer_fault(alloc, &observer, root)?))
+                let broken = observer_rule(&observer, root);
+                let fault = root_fault(alloc, Start::Observer, observer.tree, broken)?;
+                Err(StaticError::Root(fault))
             }
         }
         None if root.has_property() => Ok(()),
-        None => Err(StaticError::Root(output_fault(alloc, root)?)),
+        None => {
+            let fault = root_fault(alloc, Start::UnderTest, root.tree, output_rule(root))?;
+            Err(StaticError::Root(fault))
+        }
     }
 }
 
@@ -85,7 +90,8 @@ fn interface_signature(
         (signature_in reached.now table.now (view_interface root.now)) result }
 {
     if !root.is_plain || root.scalar_inputs() > Signature::MOST {
-        return Err(StaticError::Root(input_fault(alloc, root)?));
+        let fault = root_fault(alloc, Start::UnderTest, root.tree, input_rule(root))?;
+        return Err(StaticError::Root(fault));
     }
     check_property(alloc, reached, table, root)?;
     Ok(root.signature(alloc)?)
@@ -107,7 +113,7 @@ pub fn check_interface(
         → IsRootAnswer P result }
 {
     let Some(found) = valued_node(reached, table, table.root) else {
-        return Err(StaticError::Root(start_fault(alloc, reached)?));
+        return Err(StaticError::Root(missing_fault(alloc, Start::UnderTest)?));
     };
     let root = Interface::new(alloc, Start::UnderTest, found.node, found.statics)?;
     interface_signature(alloc, reached, table, &root)

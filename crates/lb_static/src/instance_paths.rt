@@ -55,9 +55,9 @@ fn climb(
 }
 
 /// The call site of a call of a node.
-fn called_site(reached: &Reached, node: NodeId, call: CallId) -> Option<CallSite> {
+fn called_site<'r>(reached: &'r Reached, node: NodeId, call: CallId) -> Option<&'r CallSite> {
     let node = reached.nodes.get(node.0)?;
-    Some(*node.calls.get(call.0)?)
+    node.calls.get(call.0)
 }
 
 /// The name of a reached node.
@@ -81,7 +81,7 @@ fn follow(
         let Some(site) = called_site(reached, node, call.id) else {
             return Ok(steps);
         };
-        node = reached.called(&site).unwrap_or(node);
+        node = reached.called(site).unwrap_or(node);
         steps.push(CallStep {
             node: name_of(alloc, reached, node)?,
             offset: site.offset,
@@ -95,14 +95,6 @@ fn follow(
     Ok(steps)
 }
 
-/// The node under test, or the observer.
-fn start_id(reached: &Reached, start: Start) -> NodeId {
-    match (start, reached.observer) {
-        (Start::Observer, Some(id)) => id,
-        _ => reached.root,
-    }
-}
-
 /// The path to the instance with this origin, whose callers are among `instances`.
 pub fn call_path(
     alloc: Global,
@@ -111,11 +103,10 @@ pub fn call_path(
     origin: Origin,
 ) -> Result<CallPath, AllocError> {
     let mut calls = Vec::new(alloc);
-    let start = match climb(instances, origin, &mut calls)? {
-        Origin::Observer => Start::Observer,
-        _ => Start::UnderTest,
+    let (start, node) = match (climb(instances, origin, &mut calls)?, reached.observer) {
+        (Origin::Observer, Some(observer)) => (Start::Observer, observer),
+        _ => (Start::UnderTest, reached.root),
     };
-    let node = start_id(reached, start);
     Ok(CallPath {
         start,
         node: name_of(alloc, reached, node)?,

@@ -33,7 +33,7 @@ ghost use Rattle.lb_static.specs.declared.resolved.ResolvedNode.{ResolvedNode};
 use crate::causes::{Limit, LimitFault};
 use crate::constants::Constants;
 use crate::error::StaticError;
-use crate::instance_paths::InstancePlace;
+use crate::instance_paths::{InstancePlace, call_path};
 use crate::instance_values::InstanceValues;
 use crate::reachable::{NodeId, Reached};
 use crate::resolved::{CallId, CallSite};
@@ -152,13 +152,19 @@ fn begun_from(
     })
 }
 
-/// An instance that is past a limit, in a box.
+/// The fault of an instance that is past a limit, where `instances` were entered before it.
 fn limit_fault(
     alloc: Global,
-    limit: Limit,
-    place: &InstancePlace,
+    reached: &Reached,
+    instances: &[Instance],
+    origin: Origin,
 ) -> Result<Box<LimitFault>, AllocError> {
-    let path = place.path(alloc)?;
+    let limit = if instances.len() >= MOST_INSTANCES {
+        Limit::Instances
+    } else {
+        Limit::Levels
+    };
+    let path = call_path(alloc, reached, instances, origin)?;
     Ok(Box::new(alloc, LimitFault { limit, path })?)
 }
 
@@ -194,17 +200,8 @@ fn begin(
         result }
 {
     if entered.instances.len() >= MOST_INSTANCES || entry.level > MOST_LEVELS {
-        let place = InstancePlace {
-            reached,
-            instances: &entered.instances,
-            origin: entry.origin,
-        };
-        let limit = if entered.instances.len() >= MOST_INSTANCES {
-            Limit::Instances
-        } else {
-            Limit::Levels
-        };
-        return Err(StaticError::Instances(limit_fault(alloc, limit, &place)?));
+        let fault = limit_fault(alloc, reached, &entered.instances, entry.origin)?;
+        return Err(StaticError::Instances(fault));
     }
     entered.instances.push(Instance {
         specialization: SpecializationId(0),

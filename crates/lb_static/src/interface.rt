@@ -20,7 +20,12 @@ use std::alloc::{AllocError, Global};
 fn have_no_clocks(variables: &[Variable]) -> bool
     ensures { result ≡ list_all (λ v. not (is_some v.clock)) variables.now }
 {
-    variables.iter().all(|variable| variable.clock.is_none())
+    for variable in variables {
+        if variable.clock.is_some() {
+            return false;
+        }
+    }
+    true
 }
 
 /// The types of the inputs and outputs of an instance.

@@ -8,7 +8,7 @@ ghost use Rattle.lb_static.specs.NameFaults.{TellsName, TellsRule};
 
 use crate::causes::{NameFault, NameRule, Sought};
 use crate::error::StaticError;
-use lb_syntax::{Declarations, Name, Node, Source};
+use lb_syntax::{Name, Node, Source};
 use std::alloc::{AllocError, Global};
 
 /// The scope of a declared name that has to be new there.
@@ -27,14 +27,6 @@ struct Standing<'a> {
     node: Option<&'a Node>,
 }
 
-/// A copy of the name of a node, if there is a node.
-fn name_of(alloc: Global, node: Option<&Node>) -> Result<Option<String>, AllocError> {
-    match node {
-        Some(node) => Ok(Some(String::from_str(alloc, node.name.as_str())?)),
-        None => Ok(None),
-    }
-}
-
 /// A name that breaks a rule, in a box.
 fn boxed_fault(
     alloc: Global,
@@ -45,7 +37,10 @@ fn boxed_fault(
     ensures name { IfOk result (λ fault. string_bytes fault.value.name ≡ name.now) }
     ensures broken { IfOk result (λ fault. fault.value.rule ≡ rule) }
 {
-    let node = name_of(alloc, standing.node)?;
+    let node = match standing.node {
+        Some(node) => Some(String::from_str(alloc, node.name.as_str())?),
+        None => None,
+    };
     let name = String::from_str(alloc, name)?;
     Ok(Box::new(
         alloc,
@@ -110,39 +105,36 @@ pub fn other_arguments(
     name_fault(alloc, name.as_str(), rule, standing)
 }
 
-/// The first of some names that is equal to `name`.
-fn first_named<'a>(names: &'a [Name], name: &Name) -> Option<&'a Name> {
-    names.iter().find(|other| other.as_str() == name.as_str())
-}
-
-/// The first of some variables with this name.
-fn first_declared<'a>(groups: &'a [Declarations], name: &Name) -> Option<&'a Name> {
-    for group in groups {
-        if let Some(first) = first_named(&group.names, name) {
-            return Some(first);
+/// The offset of the first of some names that is equal to `name`.
+fn first_named(names: &[Name], name: &Name) -> Option<u32> {
+    for other in names {
+        if other.as_str() == name.as_str() {
+            return Some(other.offset);
         }
     }
     None
 }
 
-/// The first variable of a node with this name, or else its static parameter.
-fn first_in_node<'a>(node: &'a Node, name: &Name) -> Option<&'a Name> {
-    first_declared(&node.inputs, name)
-        .or_else(|| first_declared(&node.outputs, name))
-        .or_else(|| first_declared(&node.locals, name))
-        .or_else(|| first_named(&node.parameters, name))
+/// The offset of the first variable of a node with this name, or else of its static parameter.
+fn first_in_node(node: &Node, name: &Name) -> Option<u32> {
+    for group in node.inputs.iter().chain(&node.outputs).chain(&node.locals) {
+        if let Some(first) = first_named(&group.names, name) {
+            return Some(first);
+        }
+    }
+    first_named(&node.parameters, name)
 }
 
-/// The first constant of a source with this name, or else its first node.
-fn first_in_source<'a>(source: &'a Source, name: &Name) -> Option<&'a Name> {
+/// The offset of the first constant of a source with this name, or else of its first node.
+fn first_in_source(source: &Source, name: &Name) -> Option<u32> {
     for constant in &source.constants {
         if constant.name.as_str() == name.as_str() {
-            return Some(&constant.name);
+            return Some(constant.name.offset);
         }
     }
     for node in &source.nodes {
         if node.name.as_str() == name.as_str() {
-            return Some(&node.name);
+            return Some(node.name.offset);
         }
     }
     None
@@ -157,10 +149,7 @@ pub fn doubled_name(alloc: Global, name: &Name, declaring: Declaring) -> StaticE
         Declaring::Node(node) => (first_in_node(node, name), Some(node)),
     };
     let here = name.offset;
-    let other = match first {
-        Some(first) => first.offset,
-        None => here,
-    };
+    let other = first.unwrap_or(here);
     let standing = Standing {
         offset: Some(here.max(other)),
         node,

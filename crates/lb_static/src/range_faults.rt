@@ -5,11 +5,11 @@
 use crate::causes::{RangeFault, RangeRole};
 use crate::instance_paths::InstancePlace;
 use crate::instance_values::InstanceValues;
-use crate::resolved::{ResolvedNode, Role, StaticPart, StaticText, Variable};
+use crate::resolved::{ResolvedNode, Role, StaticPart, StaticText};
 use crate::slices::part_of;
 use crate::specialize::{LONGEST, WIDEST, size_of};
 use crate::static_value::{StaticInt, static_value};
-use lb_syntax::{Declarations, Name, Node, Static};
+use lb_syntax::{Name, Static};
 use std::alloc::{AllocError, Global};
 
 /// A value, and the range in which it has to be.
@@ -23,9 +23,13 @@ struct Ranged {
 }
 
 impl Ranged {
-    /// Whether the value is in the range.
-    fn is_within(&self) -> bool {
-        self.least <= self.value && self.value <= self.most
+    /// The value with its range, if it is out of it.
+    fn outside(self) -> Option<Ranged> {
+        if self.least <= self.value && self.value <= self.most {
+            None
+        } else {
+            Some(self)
+        }
     }
 }
 
@@ -45,9 +49,8 @@ fn least_end(start: &Static, values: &InstanceValues) -> i64 {
     }
 }
 
-/// The value of a static expression with its range, under the values of names; none where each
-/// value is in range.
-fn range_of(part: &StaticPart, value: StaticInt, values: &InstanceValues) -> Option<Ranged> {
+/// The value of a static expression under the values of names, if it is out of its range.
+fn value_outside(part: &StaticPart, value: StaticInt, values: &InstanceValues) -> Option<Ranged> {
     let longest = i64::from(LONGEST);
     let (role, least, most) = match part.role {
         Role::Size | Role::Dimension => (RangeRole::Size, 1, longest),
@@ -56,13 +59,14 @@ fn range_of(part: &StaticPart, value: StaticInt, values: &InstanceValues) -> Opt
         Role::SliceEnd(start) => (RangeRole::SliceEnd, least_end(start, values), longest - 1),
         Role::Argument | Role::Value => return None,
     };
-    Some(Ranged {
+    let ranged = Ranged {
         role,
         offset: part_offset(part),
         value: value.get(),
         least,
         most,
-    })
+    };
+    ranged.outside()
 }
 
 /// The first static expression of a node whose value is out of its range.
@@ -71,11 +75,9 @@ fn part_fault(
     statics: &[StaticInt],
     values: &InstanceValues,
 ) -> Option<Ranged> {
-    for (part, value) in node.statics.iter().zip(statics) {
-        if let Some(found) = range_of(part, *value, values) {
-            if !found.is_within() {
-                return Some(found);
-            }
+    for (place, part) in node.statics.iter().enumerate() {
+        if let Some(found) = value_outside(part, *statics.get(place)?, values) {
+            return Some(found);
         }
     }
     None
@@ -90,74 +92,42 @@ fn all_elements(sizes: &[StaticInt]) -> i64 {
     i64::try_from(elements).unwrap_or(i64::MAX)
 }
 
-/// Adds the names of some variables at the end.
-fn push_names<'t>(names: &mut Vec<&'t Name>, groups: &'t [Declarations]) -> Result<(), AllocError> {
-    for group in groups {
-        for name in &group.names {
-            names.push(name)?;
-        }
-    }
-    Ok(())
-}
-
-/// The names of the variables of a node, in their order.
-fn variable_names(alloc: Global, tree: &Node) -> Result<Vec<&Name>, AllocError> {
-    let mut names = Vec::new(alloc);
-    push_names(&mut names, &tree.inputs)?;
-    push_names(&mut names, &tree.outputs)?;
-    push_names(&mut names, &tree.locals)?;
-    Ok(names)
-}
-
-/// The number of elements of a variable, with the range of this number.
-fn width(name: &Name, variable: &Variable, statics: &[StaticInt]) -> Ranged {
-    let sizes = part_of(statics, variable.first_size.0, variable.sizes);
+/// The number of elements of a variable of this name, with the range of this number.
+fn width(name: &Name, elements: i64) -> Ranged {
     Ranged {
         role: RangeRole::Elements,
         offset: name.offset,
-        value: all_elements(sizes),
+        value: elements,
         least: 0,
         most: WIDEST as i64,
     }
 }
 
 /// The first variable of a node with too many elements.
-fn width_fault(
-    alloc: Global,
-    node: &ResolvedNode,
-    statics: &[StaticInt],
-) -> Result<Option<Ranged>, AllocError> {
-    let names = variable_names(alloc, node.tree)?;
-    for (name, variable) in names.iter().zip(&node.variables) {
-        let found = width(*name, variable, statics);
-        if !found.is_within() {
-            return Ok(Some(found));
+fn width_fault(node: &ResolvedNode, statics: &[StaticInt]) -> Option<Ranged> {
+    let tree = node.tree;
+    let mut variables = node.variables.iter();
+    for group in tree.inputs.iter().chain(&tree.outputs).chain(&tree.locals) {
+        for name in &group.names {
+            let variable = variables.next()?;
+            let sizes = part_of(statics, variable.first_size.0, variable.sizes);
+            if let Some(found) = width(name, all_elements(sizes)).outside() {
+                return Some(found);
+            }
         }
     }
-    Ok(None)
+    None
 }
 
 /// The value that is out of its range in a node whose static expressions have these values.
-fn node_fault(
-    alloc: Global,
-    node: &ResolvedNode,
-    statics: &[StaticInt],
-    values: &InstanceValues,
-) -> Result<Ranged, AllocError> {
+fn node_fault(node: &ResolvedNode, statics: &[StaticInt], values: &InstanceValues) -> Ranged {
     if let Some(found) = part_fault(node, statics, values) {
-        return Ok(found);
+        return found;
     }
-    if let Some(found) = width_fault(alloc, node, statics)? {
-        return Ok(found);
+    match width_fault(node, statics) {
+        Some(found) => found,
+        None => width(&node.tree.name, 0),
     }
-    let name = &node.tree.name;
-    Ok(Ranged {
-        role: RangeRole::Elements,
-        offset: name.offset,
-        value: 0,
-        least: 0,
-        most: WIDEST as i64,
-    })
 }
 
 /// The first value of a node that is out of its range, and the path to the instance at `place`.
@@ -168,7 +138,7 @@ pub fn range_fault(
     values: &InstanceValues,
     place: &InstancePlace,
 ) -> Result<Box<RangeFault>, AllocError> {
-    let found = node_fault(alloc, node, statics, values)?;
+    let found = node_fault(node, statics, values);
     let path = place.path(alloc)?;
     let node = String::from_str(alloc, node.tree.name.as_str())?;
     Ok(Box::new(

@@ -6,7 +6,7 @@ ghost use Rattle.lb_static.specs.ReachedNodes.{callee_in, id_at};
 use crate::resolved::{CallId, CallSite, ResolvedNode};
 
 /// The place of a node among the reached nodes.
-#[derive(Clone, Copy, PartialEq, Eq, Hash, Debug)]
+#[derive(Clone, Copy, PartialEq, Eq, Hash)]
 pub struct NodeId(pub usize);
 
 /// The reached nodes, with their names resolved: the node under test, then the observer if there is

@@ -9,7 +9,7 @@
 use lb_syntax::{ArrayIterator, BinaryOperator, Kind, Name, Node, Static, UnaryOperator};
 
 /// The place of a variable among the inputs, outputs and locals of its node, in this order.
-#[derive(Clone, Copy, PartialEq, Eq, Debug)]
+#[derive(Clone, Copy, PartialEq, Eq)]
 pub struct VariableId(pub usize);
 
 /// The place of a static expression among those of its node.

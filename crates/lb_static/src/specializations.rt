@@ -22,7 +22,7 @@ struct Key {
 fn key_of(alloc: Global, node: NodeId, values: &[StaticInt]) -> Result<Key, AllocError>
     ensures { IfOk result (λ k. (k.node ≡ node) × (k.values.items ≡ values.now)) }
 {
-    let values = values.iter().map(|value| value.get()).collect(alloc)?;
+    let values = values.iter().copied().map(StaticInt::get).collect(alloc)?;
     Ok(Key { node, values })
 }
 

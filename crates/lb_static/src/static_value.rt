@@ -176,17 +176,8 @@ pub fn value_or_fault<'s, V: Values>(
 pub fn static_value<V: Values>(expression: &Static, values: &V) -> Option<StaticInt>
     ensures { result ≡ value_under (V.given values.now) (view_static expression.now) }
 {
-    match expression {
-        Static::Whole(n, _) => Some(StaticInt {
-            value: i64::from(*n),
-        }),
-        Static::Named(x) => values.get(x.as_str()),
-        Static::Grouped(inner, _) => static_value(inner, values),
-        Static::Negated(inner, _) => lawful(-static_value(inner, values)?.get()),
-        Static::Combined(op, left, right, _) => {
-            let a = static_value(left, values)?;
-            let b = static_value(right, values)?;
-            combined(*op, a, b)
-        }
+    match value_or_fault(expression, values) {
+        Ok(value) => Some(value),
+        Err(_) => None,
     }
 }

@@ -11,57 +11,23 @@ use crate::static_value::{NoValue, Values, value_or_fault};
 use lb_syntax::{Constant, Name};
 use std::alloc::{AllocError, Global};
 
-/// A rule of values that is broken, and the place where.
-#[derive(Drop)]
-struct Broken {
-    rule: ValueRule,
-    offset: u32,
-}
-
-/// The rule that an operator breaks, or else the name that has no value.
-fn operator_fault(fault: NoValue) -> Result<Broken, &Name> {
-    match fault {
-        NoValue::Name(name) => Err(name),
-        NoValue::Negation { operand, offset } => Ok(Broken {
-            rule: ValueRule::Negation { operand },
-            offset,
-        }),
-        NoValue::Operator {
-            operator,
-            left,
-            right,
-            offset,
-        } => Ok(Broken {
-            rule: ValueRule::Operator {
-                operator,
-                left,
-                right,
-            },
-            offset,
-        }),
-    }
-}
-
-/// The place of the constant with this name in a source.
+/// The place of the first constant with this name.
 fn constant_place(trees: &[Constant], name: &Name) -> Option<usize> {
-    trees
-        .iter()
-        .position(|tree| tree.name.as_str() == name.as_str())
-}
-
-/// The fault of a constant that needs itself.
-fn needs_itself(alloc: Global, name: &Name) -> Result<Broken, AllocError> {
-    Ok(Broken {
-        rule: ValueRule::Constant {
-            name: String::from_str(alloc, name.as_str())?,
-        },
-        offset: name.offset,
-    })
+    for (place, tree) in trees.iter().enumerate() {
+        if tree.name.as_str() == name.as_str() {
+            return Some(place);
+        }
+    }
+    None
 }
 
 /// The reason why the constant `name` has no value: an operator in a value that it needs, or else
 /// the first constant that the search meets a second time.
-fn constant_fault(alloc: Global, constants: &Constants, name: &Name) -> Result<Broken, AllocError> {
+fn constant_fault<'s>(
+    alloc: Global,
+    constants: &Constants<'s>,
+    name: &'s Name,
+) -> Result<NoValue<'s>, AllocError> {
     let trees = constants.trees();
     let mut seen = vec![in alloc; false; trees.len()]?;
     let mut needed = name;
@@ -78,14 +44,12 @@ fn constant_fault(alloc: Global, constants: &Constants, name: &Name) -> Result<B
         }
         *is_seen = true;
         match value_or_fault(&tree.value, constants) {
+            Err(NoValue::Name(next)) => needed = next,
+            Err(fault) => return Ok(fault),
             Ok(_) => break,
-            Err(fault) => match operator_fault(fault) {
-                Ok(broken) => return Ok(broken),
-                Err(next) => needed = next,
-            },
         }
     }
-    needs_itself(alloc, needed)
+    Ok(NoValue::Name(needed))
 }
 
 /// The reason why a static expression of a node has no value, if it has none.
@@ -99,21 +63,44 @@ fn part_fault<'s>(part: &StaticPart<'s>, values: &InstanceValues) -> Option<NoVa
     }
 }
 
-/// The rule that is broken in the first static expression of a node that has no value.
-fn node_fault(
+/// What has no value in the first static expression of a node that has none.
+fn node_fault<'s>(
     alloc: Global,
-    node: &ResolvedNode,
-    values: &InstanceValues,
-) -> Result<Broken, AllocError> {
+    node: &ResolvedNode<'s>,
+    values: &InstanceValues<'s>,
+) -> Result<NoValue<'s>, AllocError> {
     for part in &node.statics {
-        if let Some(fault) = part_fault(part, values) {
-            return match operator_fault(fault) {
-                Ok(broken) => Ok(broken),
-                Err(name) => constant_fault(alloc, values.constants, name),
-            };
+        match part_fault(part, values) {
+            Some(NoValue::Name(name)) => return constant_fault(alloc, values.constants, name),
+            Some(fault) => return Ok(fault),
+            None => {}
         }
     }
-    needs_itself(alloc, &node.tree.name)
+    Ok(NoValue::Name(&node.tree.name))
+}
+
+/// The rule that is broken where something has no value, and its offset.
+fn broken_rule(alloc: Global, fault: NoValue) -> Result<(ValueRule, u32), AllocError> {
+    match fault {
+        NoValue::Name(constant) => {
+            let name = String::from_str(alloc, constant.as_str())?;
+            Ok((ValueRule::Constant { name }, constant.offset))
+        }
+        NoValue::Negation { operand, offset } => Ok((ValueRule::Negation { operand }, offset)),
+        NoValue::Operator {
+            operator,
+            left,
+            right,
+            offset,
+        } => Ok((
+            ValueRule::Operator {
+                operator,
+                left,
+                right,
+            },
+            offset,
+        )),
+    }
 }
 
 /// The first static expression of a node that has no value, and the path to the instance at
@@ -124,14 +111,14 @@ pub fn value_fault(
     values: &InstanceValues,
     place: &InstancePlace,
 ) -> Result<Box<ValueFault>, AllocError> {
-    let broken = node_fault(alloc, node, values)?;
+    let (rule, offset) = broken_rule(alloc, node_fault(alloc, node, values)?)?;
     let path = place.path(alloc)?;
     let node = String::from_str(alloc, node.tree.name.as_str())?;
     Ok(Box::new(
         alloc,
         ValueFault {
-            rule: broken.rule,
-            offset: broken.offset,
+            rule,
+            offset,
             node,
             path,
         },

@@ -2,30 +2,19 @@
 use Rattle.std.proofs.Common.{◌≡◌, ℕ, suc, ◌+◌, ◌<◌, ◌≤◌, Bool, true, false, not, ◌&&◌, List, []}
 use Rattle.std.proofs.Common.{◌∷◌, length, take, drop, get_or, drop-cons, Option, Some, None, refl}
 use Rattle.std.proofs.Common.{ap, subst, sym, inl, inr, ◌∙◌, ◌↔◌, ◌⊎◌, zero-add, add-zero, add-one}
-use Rattle.std.proofs.Common.{add_assoc, arith, count_by, IsNone, IsTrue, IfSome, is_some, ◌||◌}
+use Rattle.std.proofs.Common.{add_assoc, arith, count_by, IsNone, IsTrue, IfSome, is_some}
 use Rattle.std.specs.List.{list_all}
 use Rattle.std.specs.Option.{option_map}
 use Rattle.std.specs.Prelude.{nat_le}
 use Rattle.std.proofs.lemmas.List.{drop_all}
 use Rattle.std.proofs.lemmas.List.Sums.{sum_by-cons}
 use Rattle.std.proofs.lemmas.Bool.{cases_Bool, le-leb, lt-leb, leb-true, leb-false, true≢false}
-use Rattle.lb_syntax.specs.declared.token.Mark.{Mark}
-use Rattle.lb_syntax.specs.declared.token.Mark.TheVariants as m
 use Rattle.lb_syntax.specs.declared.token.Token.{Token}
 use Rattle.lb_syntax.specs.declared.token.Token.TheVariants as token
-use Rattle.lb_syntax.specs.Levels.{form_of}
 use Rattle.lb_syntax.specs.Limits.{is_short_name, is_small_literal, is_separator, depth_after}
 use Rattle.lb_syntax.specs.Limits.{is_counted, is_small_statement, in_first, runs, keeps_limits}
 use Rattle.lb_syntax.specs.Limits.{IsFirstOver}
-use Rattle.lb_syntax.specs.TokenCounts.{opens, weight_of, counted_after, here_or, over_from}
-
--- ---- the marks that are counted
-
--- a mark is counted if `opens` holds of it, or if it is the mark of an infix or postfix form
-pub counted_mark : (mark : Mark)
-    → is_counted (token.Mark mark) ≡ (opens mark || is_some (form_of mark))
-counted_mark m.And = refl
-counted_mark _ = refl
+use Rattle.lb_syntax.specs.TokenCounts.{weight_of, counted_after, here_or, over_from}
 
 -- ---- the limits from a place on, where some tokens of the statement are counted already
 

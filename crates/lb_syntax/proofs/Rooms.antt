@@ -3,7 +3,9 @@ use Rattle.std.proofs.Common.{ℕ, suc, ◌+◌, ◌≤◌, ◌<◌, max, inl, i
 use Rattle.std.proofs.Common.{◌∷◌, length, arith}
 use Rattle.lb_syntax.specs.declared.level.Form.TheVariants as form
 use Rattle.lb_syntax.specs.declared.token.Token.{Token}
-use Rattle.lb_syntax.specs.Tree.{Name, Or, Xor, And, Plus, Minus, Times, Not, Negate, Static, Whole}
+use Rattle.lb_syntax.specs.declared.tree.BinaryOperator.TheVariants.{Or, Xor, And, Plus, Minus}
+use Rattle.lb_syntax.specs.declared.tree.BinaryOperator.TheVariants.{Times}
+use Rattle.lb_syntax.specs.Tree.{Name, Not, Negate, Static, Whole}
 use Rattle.lb_syntax.specs.Tree.{Named, Negated, Combined, Grouped, Operator, Node_named, Symbol}
 use Rattle.lb_syntax.specs.Tree.{Expr, Exprs, Literal, Truth, Variable, Group, Unary, Binary, If}
 use Rattle.lb_syntax.specs.Tree.{Arrow, Fby, Pre, Current, When, Replicate, Index, Slice, Join}

@@ -1,10 +1,11 @@
 -- Laws of every row of the table of levels.
-use Rattle.std.proofs.Common.{◌≡◌, ℕ, ◌≤◌, ◌<◌, arith}
-use Rattle.std.specs.Prelude.{◌≢◌}
+use Rattle.std.proofs.Common.{◌≡◌, ℕ, suc, ◌≤◌, ◌<◌, ◌==◌, Bool, true, not, ◌&&◌, ◌||◌, arith, refl}
+use Rattle.std.proofs.lemmas.Bool.Decides.{nat_tests}
+use Rattle.std.specs.Prelude.{◌≢◌, nat_le}
 use Rattle.lb_syntax.specs.declared.level.Form.TheVariants as form
-use Rattle.lb_syntax.specs.Tree.{BinaryOperator, Or, Xor, And, Implies, Plus, Minus, Times, Divide}
-use Rattle.lb_syntax.specs.Tree.{Modulo}
-use Rattle.lb_syntax.specs.Levels.{Form, Row, to_left, to_right, to_none, row_of}
+use Rattle.lb_syntax.specs.declared.tree.BinaryOperator.{BinaryOperator}
+use Rattle.lb_syntax.specs.declared.tree.BinaryOperator.TheVariants as operator
+use Rattle.lb_syntax.specs.Levels.{Form, Row, row_of}
 
 -- Operands have the form's level at least; forms that group to the left and forms that group to the
 -- right share no level; and no prefix form has the level of an infix or postfix form.
@@ -20,108 +21,52 @@ pub record IsRow (row : Row) : Type 0 where
   pub no_not : row.level ≢ 8
   pub no_memory : row.level ≢ 12
 
--- `k` may be the level of an infix or postfix form
-record IsLevel (k : ℕ) : Type 0 where
-  pub one : 1 ≤ k
-  pub no_choice : k ≢ 2
-  pub no_not : k ≢ 8
-  pub no_memory : k ≢ 12
+-- ---- the rows of the table
 
-left_row : (k : ℕ) → IsLevel k → k ≢ 3 → k ≢ 4 → IsRow (to_left k)
-left_row k is a b = record {
-  one = is.one;
-  left_high = omega arith;
-  right_high = omega arith;
-  left_not_3 = λ e. a;
-  left_not_4 = λ e. b;
-  right_from_3 = λ e. omega arith;
-  right_to_4 = λ e. omega arith;
-  no_choice = is.no_choice;
-  no_not = is.no_not;
-  no_memory = is.no_memory;
+-- whether a level is none of a prefix form
+abbrev is_infix_level : ℕ → Bool
+is_infix_level k = nat_le 1 k && not (k == 2) && not (k == 8) && not (k == 12)
+
+abbrev is_row_left : Row → Bool
+is_row_left row =
+    row.left == row.level && row.right == suc row.level
+    && not (row.level == 3) && not (row.level == 4)
+
+abbrev is_row_right : Row → Bool
+is_row_right row =
+    row.left == suc row.level && row.right == row.level && nat_le 3 row.level && nat_le row.level 4
+
+abbrev is_row_none : Row → Bool
+is_row_none row = row.left == suc row.level && row.right == suc row.level
+
+-- a test of what holds of each row
+abbrev is_lawful : Row → Bool
+is_lawful row = is_infix_level row.level && (is_row_left row || is_row_right row || is_row_none row)
+
+lawful_row : (row : Row) → is_lawful row ≡ true → IsRow row
+lawful_row row e = record {
+  one = grind (arith, nat_tests);
+  left_high = grind (arith, nat_tests);
+  right_high = grind (arith, nat_tests);
+  left_not_3 = λ f. grind (arith, nat_tests);
+  left_not_4 = λ f. grind (arith, nat_tests);
+  right_from_3 = λ f. grind (arith, nat_tests);
+  right_to_4 = λ f. grind (arith, nat_tests);
+  no_choice = grind (arith, nat_tests);
+  no_not = grind (arith, nat_tests);
+  no_memory = grind (arith, nat_tests);
 }
 
-right_row : (k : ℕ) → IsLevel k → 3 ≤ k → k ≤ 4 → IsRow (to_right k)
-right_row k is a b = record {
-  one = is.one;
-  left_high = omega arith;
-  right_high = omega arith;
-  left_not_3 = λ e. omega arith;
-  left_not_4 = λ e. omega arith;
-  right_from_3 = λ e. a;
-  right_to_4 = λ e. b;
-  no_choice = is.no_choice;
-  no_not = is.no_not;
-  no_memory = is.no_memory;
-}
+data_row : (op : BinaryOperator) → is_lawful (row_of (form.Data op)) ≡ true
+data_row operator.And = refl
+data_row _ = refl
 
-none_row : (k : ℕ) → IsLevel k → IsRow (to_none k)
-none_row k is = record {
-  one = is.one;
-  left_high = omega arith;
-  right_high = omega arith;
-  left_not_3 = λ e. omega arith;
-  left_not_4 = λ e. omega arith;
-  right_from_3 = λ e. omega arith;
-  right_to_4 = λ e. omega arith;
-  no_choice = is.no_choice;
-  no_not = is.no_not;
-  no_memory = is.no_memory;
-}
-
-infix_level : (k : ℕ) → 1 ≤ k → k ≢ 2 → k ≢ 8 → k ≢ 12 → IsLevel k
-infix_level k a b c d = record { one = a; no_choice = b; no_not = c; no_memory = d }
-
-one : IsLevel 1
-one = infix_level 1 (omega arith) (omega arith) (omega arith) (omega arith)
-
-three : IsLevel 3
-three = infix_level 3 (omega arith) (omega arith) (omega arith) (omega arith)
-
-four : IsLevel 4
-four = infix_level 4 (omega arith) (omega arith) (omega arith) (omega arith)
-
-five : IsLevel 5
-five = infix_level 5 (omega arith) (omega arith) (omega arith) (omega arith)
-
-six : IsLevel 6
-six = infix_level 6 (omega arith) (omega arith) (omega arith) (omega arith)
-
-seven : IsLevel 7
-seven = infix_level 7 (omega arith) (omega arith) (omega arith) (omega arith)
-
-nine : IsLevel 9
-nine = infix_level 9 (omega arith) (omega arith) (omega arith) (omega arith)
-
-ten : IsLevel 10
-ten = infix_level 10 (omega arith) (omega arith) (omega arith) (omega arith)
-
-eleven : IsLevel 11
-eleven = infix_level 11 (omega arith) (omega arith) (omega arith) (omega arith)
-
-thirteen : IsLevel 13
-thirteen = infix_level 13 (omega arith) (omega arith) (omega arith) (omega arith)
-
-data_row : (op : BinaryOperator) → IsRow (row_of (form.Data op))
-data_row Implies = right_row 4 four (omega arith) (omega arith)
-data_row Or = left_row 5 five (omega arith) (omega arith)
-data_row Xor = left_row 5 five (omega arith) (omega arith)
-data_row And = left_row 6 six (omega arith) (omega arith)
-data_row Plus = left_row 9 nine (omega arith) (omega arith)
-data_row Minus = left_row 9 nine (omega arith) (omega arith)
-data_row Times = left_row 10 ten (omega arith) (omega arith)
-data_row Divide = left_row 10 ten (omega arith) (omega arith)
-data_row Modulo = left_row 10 ten (omega arith) (omega arith)
-data_row _ = none_row 7 seven
+row_lawful : (f : Form) → is_lawful (row_of f) ≡ true
+row_lawful (form.Data op) = data_row op
+row_lawful _ = refl
 
 pub is_row : (f : Form) → IsRow (row_of f)
-is_row (form.Data op) = data_row op
-is_row form.Join = left_row 1 one (omega arith) (omega arith)
-is_row form.Arrow = right_row 3 three (omega arith) (omega arith)
-is_row form.Fby = right_row 3 three (omega arith) (omega arith)
-is_row form.When = left_row 11 eleven (omega arith) (omega arith)
-is_row form.Replicate = left_row 13 thirteen (omega arith) (omega arith)
-is_row form.Element = left_row 13 thirteen (omega arith) (omega arith)
+is_row f = lawful_row (row_of f) (row_lawful f)
 
 -- the form of `row`, where it may have a form of `other` on its left, has too low a level to stand
 -- in the right operand of `other`

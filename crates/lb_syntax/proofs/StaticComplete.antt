@@ -6,7 +6,9 @@ use Rattle.lb_syntax.specs.declared.level.Form.TheVariants as form
 use Rattle.lb_syntax.specs.declared.token.Mark.TheVariants as m
 use Rattle.lb_syntax.specs.declared.token.Token.{Token}
 use Rattle.lb_syntax.specs.declared.token.Token.TheVariants as token
-use Rattle.lb_syntax.specs.Tree.{Name, BinaryOperator, Or, Xor, And, Plus, Minus, Times, Static}
+use Rattle.lb_syntax.specs.declared.tree.BinaryOperator.TheVariants.{Or, Xor, And, Plus, Minus}
+use Rattle.lb_syntax.specs.declared.tree.BinaryOperator.TheVariants.{Times}
+use Rattle.lb_syntax.specs.Tree.{Name, BinaryOperator, Static}
 use Rattle.lb_syntax.specs.Tree.{Whole, Named, Negated, Combined, Grouped, Operator, Node_named}
 use Rattle.lb_syntax.specs.Tree.{Symbol}
 use Rattle.lb_syntax.specs.Levels.{row_of, static_level}

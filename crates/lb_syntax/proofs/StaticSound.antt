@@ -6,7 +6,8 @@ use Rattle.lb_syntax.specs.declared.token.Mark.{Mark}
 use Rattle.lb_syntax.specs.declared.token.Mark.TheVariants as m
 use Rattle.lb_syntax.specs.declared.token.Token.{Token}
 use Rattle.lb_syntax.specs.declared.token.Token.TheVariants as token
-use Rattle.lb_syntax.specs.Tree.{Name, BinaryOperator, Or, Static, Operator}
+use Rattle.lb_syntax.specs.declared.tree.BinaryOperator.TheVariants.{Or}
+use Rattle.lb_syntax.specs.Tree.{Name, BinaryOperator, Static, Operator}
 use Rattle.lb_syntax.specs.Levels.{row_of, static_level}
 use Rattle.lb_syntax.specs.Spelling.{IsMark, IsSeparator, IsStatic, AreStatics, AreArguments}
 use Rattle.lb_syntax.specs.Spelling.{IsSize, IsClockName, IsClock, IsSymbol, IsOperator, IsApplied}

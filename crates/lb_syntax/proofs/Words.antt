@@ -1,5 +1,5 @@
 -- Words, looked up among the reserved words of their length; symbols; and values of literals.
-use Rattle.std.proofs.Common.{◌≡◌, ℕ, ◌+◌, ◌-◌, ◌*◌, ◌<◌, ◌≤◌, min, ◌==◌, Bool, true, List, [], ◌∷◌}
+use Rattle.std.proofs.Common.{◌≡◌, ◌≢◌, ℕ, ◌+◌, ◌-◌, ◌*◌, ◌<◌, ◌≤◌, min, ◌==◌, Bool, true, List, [], ◌∷◌}
 use Rattle.std.proofs.Common.{◌++◌, filter, fold, length, take, get_or, slice_index, Option, Some}
 use Rattle.std.proofs.Common.{None, bytes_eq, refl, ap, sym, ◌∙◌, inl, inr, arith}
 use Rattle.std.specs.List.{list_all}
@@ -10,7 +10,7 @@ use lib.Dec.{eqb}
 use Rattle.std.proofs.Math.Bool.{and-false}
 use Rattle.lb_syntax.specs.declared.token.Mark.{Mark}
 use Rattle.lb_syntax.specs.declared.token.Token.TheVariants as token
-use Rattle.lb_syntax.specs.Tokens.{Text, Piece, Lexeme, Wrong, words, lookup, word, word_by}
+use Rattle.lb_syntax.specs.Tokens.{Text, Piece, Lexeme, Wrong, words, lookup}
 use Rattle.lb_syntax.specs.Tokens.{value_of, pairs, singles, symbols, symbol_of}
 
 lookup_of_length : (table : List (Text × Mark)) (text : Text) →
@@ -28,15 +28,12 @@ lookup_of_length (entry ∷ table) text =
       ]
     ]
 
--- the token of a word, from a search of the reserved words of its length
-pub word_by_length : (text : Text) (found : List (Text × Mark)) (mark : Option Mark) →
+-- the mark of a word, from a search of the reserved words of its length
+pub word_found : (text : Text) (found : List (Text × Mark)) (mark : Option Mark) →
     found ≡ filter (λ entry. length entry.0 == length text) words → mark ≡ lookup found text →
-    word text ≡ word_by text mark
-unfolding word
-word_by_length text found mark e f =
-    let found_is : mark ≡ lookup words text =
-    f ∙ ap (λ table. lookup table text) e ∙ lookup_of_length words text in
-    rw found_is refl
+    mark ≡ lookup words text
+word_found text found mark e f =
+    f ∙ ap (λ table. lookup table text) e ∙ lookup_of_length words text
 
 -- ---- symbols
 
@@ -93,6 +90,28 @@ symbol_is text first second two one some f s t o =
     ap (λ mark. found_or 2 mark (symbol_of singles text)) pair ∙
     ap (λ later. found_or 2 two later)
     (symbol_by_lookup 1 singles [] text refl ∙ ap (λ mark. found_or 1 mark Wrong) single)
+
+-- a symbol has one byte or two
+pub one_symbol : (text : Text) → length text ≡ 1 →
+    lookup singles (slice_index text 0 ∷ []) ≡ lookup symbols text
+one_symbol [] e = absurd (omega arith)
+one_symbol (b ∷ []) e = simp and-false
+one_symbol (b ∷ c ∷ rest) e = absurd (omega arith)
+
+pub two_symbol : (text : Text) → length text ≡ 2 →
+    lookup pairs (slice_index text 0 ∷ slice_index text 1 ∷ []) ≡ lookup symbols text
+two_symbol [] e = absurd (omega arith)
+two_symbol (b ∷ []) e = absurd (omega arith)
+two_symbol (b ∷ c ∷ []) e = simp and-false
+two_symbol (b ∷ c ∷ d ∷ rest) e = absurd (omega arith)
+
+pub no_symbol : (text : Text) → length text ≢ 1 → length text ≢ 2 → None ≡ lookup symbols text
+no_symbol [] e f = refl
+no_symbol (b ∷ []) e f = absurd (e refl)
+no_symbol (b ∷ c ∷ []) e f = absurd (f refl)
+no_symbol (b ∷ c ∷ d ∷ rest) e f = simp and-false
+
+pub ruleset symbol_found = (one_symbol, two_symbol, no_symbol)
 
 -- ---- literals
 

@@ -7,9 +7,8 @@ use Rattle.lb_syntax.specs.declared.level.Form.TheVariants as form
 pub use Rattle.lb_syntax.specs.declared.level.Row.{Row}
 use Rattle.lb_syntax.specs.declared.token.Mark.{Mark}
 use Rattle.lb_syntax.specs.declared.token.Mark.TheVariants as m
-use Rattle.lb_syntax.specs.Tree.{BinaryOperator, Or, Xor, And, Implies, Equal, Unequal, Less}
-use Rattle.lb_syntax.specs.Tree.{AtMost, Greater, AtLeast, Plus, Minus, Times, Divide, Modulo}
-use Rattle.lb_syntax.specs.Tree.{UnaryOperator, Not, Negate, Static, Negated, Combined}
+use Rattle.lb_syntax.specs.declared.tree.BinaryOperator.TheVariants as operator
+use Rattle.lb_syntax.specs.Tree.{BinaryOperator, UnaryOperator, Not, Negate, Static, Negated, Combined}
 use Rattle.lb_syntax.specs.Tree.{Expr, Unary, Binary, If, Arrow, Fby, Pre, Current, When, Replicate}
 use Rattle.lb_syntax.specs.Tree.{Index, Slice, Join}
 
@@ -31,21 +30,21 @@ abbrev pub row_of : Form → Row
 row_of form.Join = to_left 1
 row_of form.Arrow = to_right 3
 row_of form.Fby = to_right 3
-row_of (form.Data Implies) = to_right 4
-row_of (form.Data Or) = to_left 5
-row_of (form.Data Xor) = to_left 5
-row_of (form.Data And) = to_left 6
-row_of (form.Data Equal) = to_none 7
-row_of (form.Data Unequal) = to_none 7
-row_of (form.Data Less) = to_none 7
-row_of (form.Data AtMost) = to_none 7
-row_of (form.Data Greater) = to_none 7
-row_of (form.Data AtLeast) = to_none 7
-row_of (form.Data Plus) = to_left 9
-row_of (form.Data Minus) = to_left 9
-row_of (form.Data Times) = to_left 10
-row_of (form.Data Divide) = to_left 10
-row_of (form.Data Modulo) = to_left 10
+row_of (form.Data operator.Implies) = to_right 4
+row_of (form.Data operator.Or) = to_left 5
+row_of (form.Data operator.Xor) = to_left 5
+row_of (form.Data operator.And) = to_left 6
+row_of (form.Data operator.Equal) = to_none 7
+row_of (form.Data operator.Unequal) = to_none 7
+row_of (form.Data operator.Less) = to_none 7
+row_of (form.Data operator.AtMost) = to_none 7
+row_of (form.Data operator.Greater) = to_none 7
+row_of (form.Data operator.AtLeast) = to_none 7
+row_of (form.Data operator.Plus) = to_left 9
+row_of (form.Data operator.Minus) = to_left 9
+row_of (form.Data operator.Times) = to_left 10
+row_of (form.Data operator.Divide) = to_left 10
+row_of (form.Data operator.Modulo) = to_left 10
 row_of form.When = to_left 11
 row_of form.Replicate = to_left 13
 row_of form.Element = to_left 13
@@ -69,12 +68,12 @@ atom_level = 14
 
 -- the operator of static expressions that a mark stands for
 abbrev pub arithmetic_of : Mark → Option BinaryOperator
-arithmetic_of m.Plus = Some Plus
-arithmetic_of m.Minus = Some Minus
-arithmetic_of m.Star = Some Times
-arithmetic_of m.Slash = Some Divide
-arithmetic_of m.Div = Some Divide
-arithmetic_of m.Mod = Some Modulo
+arithmetic_of m.Plus = Some operator.Plus
+arithmetic_of m.Minus = Some operator.Minus
+arithmetic_of m.Star = Some operator.Times
+arithmetic_of m.Slash = Some operator.Divide
+arithmetic_of m.Div = Some operator.Divide
+arithmetic_of m.Mod = Some operator.Modulo
 arithmetic_of _ = None
 
 abbrev pub data_form : Option BinaryOperator → Option Form
@@ -86,16 +85,16 @@ abbrev pub form_of : Mark → Option Form
 form_of m.Bar = Some form.Join
 form_of m.Arrow = Some form.Arrow
 form_of m.Fby = Some form.Fby
-form_of m.Implies = Some (form.Data Implies)
-form_of m.Or = Some (form.Data Or)
-form_of m.Xor = Some (form.Data Xor)
-form_of m.And = Some (form.Data And)
-form_of m.Equal = Some (form.Data Equal)
-form_of m.Unequal = Some (form.Data Unequal)
-form_of m.Less = Some (form.Data Less)
-form_of m.AtMost = Some (form.Data AtMost)
-form_of m.Greater = Some (form.Data Greater)
-form_of m.AtLeast = Some (form.Data AtLeast)
+form_of m.Implies = Some (form.Data operator.Implies)
+form_of m.Or = Some (form.Data operator.Or)
+form_of m.Xor = Some (form.Data operator.Xor)
+form_of m.And = Some (form.Data operator.And)
+form_of m.Equal = Some (form.Data operator.Equal)
+form_of m.Unequal = Some (form.Data operator.Unequal)
+form_of m.Less = Some (form.Data operator.Less)
+form_of m.AtMost = Some (form.Data operator.AtMost)
+form_of m.Greater = Some (form.Data operator.Greater)
+form_of m.AtLeast = Some (form.Data operator.AtLeast)
 form_of m.When = Some form.When
 form_of m.Caret = Some form.Replicate
 form_of m.OpenBracket = Some form.Element

@@ -14,6 +14,7 @@ pub mod Places
 pub mod Lexed
 pub mod Limits
 pub mod TokenCounts
+pub mod Operators
 pub mod Texts
 pub mod ListReading
 pub mod Grammar

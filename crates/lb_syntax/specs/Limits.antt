@@ -1,11 +1,14 @@
 -- The limits of a source text.
 -- Source: this project's rule; the reference manual sets none.
-use Rattle.std.specs.Prelude.{ℕ, ◌+◌, ◌-◌, ◌<◌, Bool, true, false, ◌&&◌, if◌then◌else◌, ◌==◌}
-use Rattle.std.specs.Prelude.{nat_le, List, [], ◌∷◌, length, count_by, take, IsTrue, IsFalse}
+use Rattle.std.specs.Prelude.{ℕ, ◌+◌, ◌-◌, ◌<◌, Bool, true, false, ◌&&◌, ◌||◌, if◌then◌else◌}
+use Rattle.std.specs.Prelude.{◌==◌, nat_le, is_some, List, [], ◌∷◌, length, count_by, take, IsTrue}
+use Rattle.std.specs.Prelude.{IsFalse}
 use Rattle.std.specs.List.{list_all}
+use Rattle.lb_syntax.specs.declared.token.Mark.{Mark}
 use Rattle.lb_syntax.specs.declared.token.Mark.TheVariants as m
 use Rattle.lb_syntax.specs.declared.token.Token.{Token}
 use Rattle.lb_syntax.specs.declared.token.Token.TheVariants as token
+use Rattle.lb_syntax.specs.Levels.{form_of}
 
 -- ---- names and literals
 
@@ -54,38 +57,21 @@ runs depth (t ∷ ts) =
 abbrev pub statements : List Token → List (List Token)
 statements = runs 0
 
+-- whether a mark is a prefix operator, or a bracket that nests in front of an operand
+abbrev pub opens : Mark → Bool
+opens m.If = true
+opens m.Not = true
+opens m.Pre = true
+opens m.Current = true
+opens m.Hash = true
+opens m.Nor = true
+opens m.Open = true
+opens m.OpenStatic = true
+opens mark = false
+
 -- whether a token is counted: the operators, and the brackets that nest
 abbrev pub is_counted : Token → Bool
-is_counted (token.Mark m.Bar) = true
-is_counted (token.Mark m.If) = true
-is_counted (token.Mark m.Arrow) = true
-is_counted (token.Mark m.Fby) = true
-is_counted (token.Mark m.Implies) = true
-is_counted (token.Mark m.Or) = true
-is_counted (token.Mark m.Xor) = true
-is_counted (token.Mark m.And) = true
-is_counted (token.Mark m.Equal) = true
-is_counted (token.Mark m.Unequal) = true
-is_counted (token.Mark m.Less) = true
-is_counted (token.Mark m.AtMost) = true
-is_counted (token.Mark m.Greater) = true
-is_counted (token.Mark m.AtLeast) = true
-is_counted (token.Mark m.Not) = true
-is_counted (token.Mark m.Plus) = true
-is_counted (token.Mark m.Minus) = true
-is_counted (token.Mark m.Star) = true
-is_counted (token.Mark m.Slash) = true
-is_counted (token.Mark m.Div) = true
-is_counted (token.Mark m.Mod) = true
-is_counted (token.Mark m.When) = true
-is_counted (token.Mark m.Pre) = true
-is_counted (token.Mark m.Current) = true
-is_counted (token.Mark m.Caret) = true
-is_counted (token.Mark m.Hash) = true
-is_counted (token.Mark m.Nor) = true
-is_counted (token.Mark m.Open) = true
-is_counted (token.Mark m.OpenBracket) = true
-is_counted (token.Mark m.OpenStatic) = true
+is_counted (token.Mark mark) = opens mark || is_some (form_of mark)
 is_counted t = false
 
 -- a statement has at most 500 counted tokens

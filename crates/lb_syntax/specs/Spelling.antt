@@ -7,7 +7,9 @@ use Rattle.lb_syntax.specs.declared.token.Mark.{Mark}
 use Rattle.lb_syntax.specs.declared.token.Mark.TheVariants as m
 use Rattle.lb_syntax.specs.declared.token.Token.{Token}
 use Rattle.lb_syntax.specs.declared.token.Token.TheVariants as token
-use Rattle.lb_syntax.specs.Tree.{Name, BinaryOperator, Or, Xor, And, Plus, Minus, Times, Not}
+use Rattle.lb_syntax.specs.declared.tree.BinaryOperator.TheVariants.{Or, Xor, And, Plus, Minus}
+use Rattle.lb_syntax.specs.declared.tree.BinaryOperator.TheVariants.{Times}
+use Rattle.lb_syntax.specs.Tree.{Name, BinaryOperator, Not}
 use Rattle.lb_syntax.specs.Tree.{Negate, ArrayIterator, Map, Red, Fill, Static, Whole, Named}
 use Rattle.lb_syntax.specs.Tree.{Negated, Combined, Grouped, Operator, Node_named, Symbol}
 use Rattle.lb_syntax.specs.Tree.{Expr, Exprs, Literal, Truth, Variable, Group, Unary, Binary, If}

@@ -1,25 +1,11 @@
 -- Mirrors the code of `over_limit`: one walk over the tokens, with a depth and a count. The limits
 -- themselves are defined in Limits.
-use Rattle.std.specs.Prelude.{ℕ, suc, Bool, true, false, ◌+◌, ◌&&◌, if◌then◌else◌, nat_le, List, []}
+use Rattle.std.specs.Prelude.{ℕ, suc, ◌+◌, ◌&&◌, if◌then◌else◌, nat_le, List, []}
 use Rattle.std.specs.Prelude.{◌∷◌, Option, Some, None}
 use Rattle.std.specs.Option.{option_map}
-use Rattle.lb_syntax.specs.declared.token.Mark.{Mark}
-use Rattle.lb_syntax.specs.declared.token.Mark.TheVariants as m
 use Rattle.lb_syntax.specs.declared.token.Token.{Token}
 use Rattle.lb_syntax.specs.Limits.{is_short_name, is_small_literal, is_separator, depth_after}
 use Rattle.lb_syntax.specs.Limits.{is_counted}
-
--- whether a mark is a prefix operator, or a bracket that nests in front of an operand
-abbrev pub opens : Mark → Bool
-opens m.If = true
-opens m.Not = true
-opens m.Pre = true
-opens m.Current = true
-opens m.Hash = true
-opens m.Nor = true
-opens m.Open = true
-opens m.OpenStatic = true
-opens mark = false
 
 -- the weight of a token: 1 if it is counted, else 0
 abbrev pub weight_of : Token → ℕ

@@ -4,11 +4,6 @@ use Rattle.std.specs.Prelude.{ℕ, Bool, List, Option}
 pub use Rattle.lb_syntax.specs.declared.tree.UnaryOperator.{UnaryOperator}
 pub use Rattle.lb_syntax.specs.declared.tree.UnaryOperator.TheVariants.{Not, Negate}
 pub use Rattle.lb_syntax.specs.declared.tree.BinaryOperator.{BinaryOperator}
-pub use Rattle.lb_syntax.specs.declared.tree.BinaryOperator.TheVariants.{Or, Xor, And, Implies}
-pub use Rattle.lb_syntax.specs.declared.tree.BinaryOperator.TheVariants.{Equal, Unequal, Less}
-pub use Rattle.lb_syntax.specs.declared.tree.BinaryOperator.TheVariants.{AtMost, Greater, AtLeast}
-pub use Rattle.lb_syntax.specs.declared.tree.BinaryOperator.TheVariants.{Plus, Minus, Times, Divide}
-pub use Rattle.lb_syntax.specs.declared.tree.BinaryOperator.TheVariants.{Modulo}
 pub use Rattle.lb_syntax.specs.declared.tree.Kind.{Kind}
 pub use Rattle.lb_syntax.specs.declared.tree.Kind.TheVariants.{Int as Int_kind, Bool as Bool_kind}
 pub use Rattle.lb_syntax.specs.declared.tree.ArrayIterator.{ArrayIterator}

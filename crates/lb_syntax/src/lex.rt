@@ -214,12 +214,20 @@ fn lookup(mut table: &[(&[u8], Mark)], text: &[u8]) -> Option<Mark>
     None
 }
 
+/// The mark of a reserved word.
+pub fn word_mark(text: &[u8]) -> Option<Mark>
+    ensures { result ≡ spec.lookup spec.words text.now }
+{
+    lookup(words_of(text.len()), text)
+}
+
 /// The token of the whole word `text`, which stands at the offset `at`.
+#[tactic(auto, unfolding(crate::specs::Tokens::word))]
 fn word(alloc: Global, text: &[u8], at: Offset) -> Result<Token, AllocError>
     requires { IsUtf8 text.now }
     ensures { IfOk result (λ t. t ≡ spec.word text.now) }
 {
-    match lookup(words_of(text.len()), text) {
+    match word_mark(text) {
         Some(mark) => Ok(Token::Mark(mark)),
         None => Ok(Token::Name(Name::new(alloc, text, at)?)),
     }
@@ -265,6 +273,18 @@ fn single(b: u8) -> Option<Mark>
         b'^' => Some(Mark::Caret),
         b'|' => Some(Mark::Bar),
         b'#' => Some(Mark::Hash),
+        _ => None,
+    }
+}
+
+/// The mark of a symbol.
+#[tactic(auto, using(crate::proofs::Words::symbol_found))]
+pub fn symbol_mark(text: &[u8]) -> Option<Mark>
+    ensures { result ≡ spec.lookup spec.symbols text.now }
+{
+    match text.len() {
+        1 => single(text[0]),
+        2 => pair(text[0], text[1]),
         _ => None,
     }
 }

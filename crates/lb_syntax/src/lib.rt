@@ -9,6 +9,7 @@ mod expression;
 mod forms;
 mod level;
 mod lex;
+mod lexicon;
 mod limits;
 mod list;
 mod lookahead;
@@ -24,9 +25,10 @@ mod token;
 mod tree;
 
 pub use error::SyntaxError;
+pub use lexicon::{is_counted, is_reserved, is_sign};
 pub use parser::parse;
 pub use place::{LineColumn, line_column};
 pub use tree::{
     ArrayIterator, BinaryOperator, Constant, Declarations, Expr, Kind, Name, Node, Offset,
-    Operator, Sampling, Source, Statement, Static, UnaryOperator,
+    Operator, OperatorClass, Sampling, Source, Statement, Static, UnaryOperator,
 };

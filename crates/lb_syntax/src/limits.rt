@@ -6,6 +6,7 @@
 ghost use Rattle.std.specs.Prelude.{◌≡◌, ◌<◌, ◌≤◌, ◌+◌, ◌&&◌, ◌↔◌, length, IsNone, IfSome, IsTrue};
 ghost use Rattle.lb_syntax.specs.Limits as spec;
 ghost use Rattle.lb_syntax.specs.TokenCounts as token_counts;
+ghost use Rattle.lb_syntax.specs.declared.token.Token.TheVariants.{Mark as Mark'};
 
 use crate::level::form_of;
 use crate::token::{Mark, PlacedToken, Token};
@@ -59,7 +60,7 @@ fn is_separator(depth: usize, token: &Token) -> bool
 
 /// Whether a mark is a prefix operator, or a bracket that nests in front of an operand.
 fn opens(mark: Mark) -> bool
-    ensures { result ≡ token_counts.opens mark }
+    ensures { result ≡ spec.opens mark }
 {
     match mark {
         Mark::If | Mark::Not | Mark::Pre | Mark::Current | Mark::Hash | Mark::Nor => true,
@@ -68,13 +69,19 @@ fn opens(mark: Mark) -> bool
     }
 }
 
+/// Whether a mark is an operator, or a bracket that nests.
+pub fn is_counted_mark(mark: Mark) -> bool
+    ensures { result ≡ spec.is_counted (Mark' mark) }
+{
+    opens(mark) || form_of(mark).is_some()
+}
+
 /// Whether a token is an operator, or a bracket that nests.
-#[tactic(auto, using(crate::proofs::LimitLaws::counted_mark))]
 fn is_counted(token: &Token) -> bool
     ensures { result ≡ spec.is_counted token.now }
 {
     match token {
-        Token::Mark(mark) => opens(*mark) || form_of(*mark).is_some(),
+        Token::Mark(mark) => is_counted_mark(*mark),
         _ => false,
     }
 }

@@ -8,6 +8,7 @@ ghost use Rattle.std.specs.Prelude.{◌≡◌, IfOk, IfSome};
 ghost use Rattle.std.specs.Str.{IsUtf8};
 ghost use Rattle.lb_syntax.specs.Offsets.{expr_offset, expr_sign, static_offset, static_sign};
 ghost use Rattle.lb_syntax.specs.Offsets.{statement_offset};
+ghost use Rattle.lb_syntax.specs.Operators.{class_of, IsSignOf};
 
 use std::alloc::{AllocError, Global};
 use std::marker::Model;
@@ -109,6 +110,60 @@ pub enum BinaryOperator {
     Divide,
     /// `a mod b`
     Modulo,
+}
+
+/// What a data operator with two operands takes and gives.
+#[derive(Clone, Copy, PartialEq, Eq)]
+pub enum OperatorClass {
+    /// Two truths give a truth: `a and b`.
+    Logical,
+    /// Two numbers, or two truths, give a truth: `a = b`.
+    Equality,
+    /// Two numbers give a truth: `a < b`.
+    Order,
+    /// Two numbers give a number: `a + b`.
+    Arithmetic,
+}
+
+impl BinaryOperator {
+    /// The class of the operator.
+    pub fn class(self) -> OperatorClass
+        ensures { result ≡ class_of self }
+    {
+        match self {
+            BinaryOperator::Or | BinaryOperator::Xor => OperatorClass::Logical,
+            BinaryOperator::And | BinaryOperator::Implies => OperatorClass::Logical,
+            BinaryOperator::Equal | BinaryOperator::Unequal => OperatorClass::Equality,
+            BinaryOperator::Less | BinaryOperator::AtMost => OperatorClass::Order,
+            BinaryOperator::Greater | BinaryOperator::AtLeast => OperatorClass::Order,
+            BinaryOperator::Plus | BinaryOperator::Minus => OperatorClass::Arithmetic,
+            BinaryOperator::Times => OperatorClass::Arithmetic,
+            BinaryOperator::Divide | BinaryOperator::Modulo => OperatorClass::Arithmetic,
+        }
+    }
+
+    /// A word or symbol that spells the operator: `/` for division, which `div` spells too.
+    pub fn sign(self) -> &'static str
+        ensures { IsSignOf self result.now }
+    {
+        match self {
+            BinaryOperator::Or => "or",
+            BinaryOperator::Xor => "xor",
+            BinaryOperator::And => "and",
+            BinaryOperator::Implies => "=>",
+            BinaryOperator::Equal => "=",
+            BinaryOperator::Unequal => "<>",
+            BinaryOperator::Less => "<",
+            BinaryOperator::AtMost => "<=",
+            BinaryOperator::Greater => ">",
+            BinaryOperator::AtLeast => ">=",
+            BinaryOperator::Plus => "+",
+            BinaryOperator::Minus => "-",
+            BinaryOperator::Times => "*",
+            BinaryOperator::Divide => "/",
+            BinaryOperator::Modulo => "mod",
+        }
+    }
 }
 
 /// The kind of a scalar.

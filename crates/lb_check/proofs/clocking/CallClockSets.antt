@@ -115,7 +115,7 @@ module _ (P : Program) (here callee : ResolvedNode) (h : HasClocks here) (hc : H
       ∙ ap (λ b. b && rest (Some (node_of callee)))
       (and-true (is_call_clocked (node_of here) k args (node_of callee)))
       ∙ ap (λ b. is_call_clocked (node_of here) k args (node_of callee) && b)
-      (each_stood P here ctx es stand (argument_clocks k (node_of callee) args) (n + 1))
+      (each_stood P here ctx es stand _ (n + 1))
 
   -- ## One result
 
@@ -154,7 +154,7 @@ module _ (P : Program) (here callee : ResolvedNode) (h : HasClocks here) (hc : H
         let f = λ (b : tree.Clock) (g : tree.Given) (d : Declaration). outer b g
         (declared_clock (node_of callee) d.name) in
         ap (λ g. map (f (base_clock k (node_of callee)) (given ++ g)) (node_of callee).outputs)
-        (no_outputs (node_of callee).outputs)
+        (no_outputs _)
         ∙ ap (λ g. map (f (base_clock k (node_of callee)) g) (node_of callee).outputs)
         (append-nil given)
         ∙ ap (map (f (base_clock k (node_of callee)) given)) the_output.1
@@ -212,7 +212,7 @@ module _ (P : Program) (here callee : ResolvedNode) (h : HasClocks here) (hc : H
           let small = output_waits callee hc 0 v s (omega (arith, single)) there is in
           let low : callee.inputs ≤ s.variable.0 = grind (arith, nat_tests) in
           let same : s.variable.0 ≡ callee.inputs = omega (arith, single) in
-          absurd (not_itself callee hc (variable_at callee.inputs) v s at
+          absurd (not_itself callee hc _ v s at
           (slice_get_within callee.variables.items callee.inputs v at) is same)
 
       waits_input : (i : ℕ) (v : Declared) (s : Sampling) → i < callee.inputs + 1 →
@@ -224,11 +224,11 @@ module _ (P : Program) (here callee : ResolvedNode) (h : HasClocks here) (hc : H
           let low : callee.inputs ≤ i = grind (arith, nat_tests) in
           let same : i ≡ callee.inputs = omega arith in
           output_input v s (subst (λ j. slice_get callee.variables.items j ≡ Some v) same at) is
-          (nat_lt s.variable.0 callee.inputs) refl
+          _ refl
 
       pub waits : AreGiven callee Y callee.inputs (callee.inputs + 1)
       waits i v s lt at is =
-          let less = waits_input i v s lt at is (nat_lt i callee.inputs) refl in (
+          let less = waits_input i v s lt at is _ refl in (
             less,
             waited_given P here callee h hc ctx declares es w u stand all i v s
                 (omega (arith, single)) at is less,
@@ -315,7 +315,7 @@ module _ (P : Program) (here callee : ResolvedNode) (h : HasClocks here) (hc : H
       some_determines : NoneDetermines → (i : ℕ) (l : Clock) → i < callee.inputs →
           slice_get ss i ≡ Some (OneClock l) → ⊥
       some_determines none i l lt e =
-          let t = term_at ctx es i (OneClock l) e in
+          let t = term_at ctx es i _ e in
           let x = expr_of (texts_of here) t.0 in
           let stands : IsClockSet P here x (OneClock l) =
           subst (IsClockSet P here x) t.2 (stands_at P here ctx es i t.0 stand t.1) in
@@ -348,7 +348,7 @@ module _ (P : Program) (here callee : ResolvedNode) (h : HasClocks here) (hc : H
       result_free none None is = refl
       result_free none (Some s) is =
           let z = waits callee.inputs result.0 s (omega arith) result.1 is in
-          absurd (some_determines none s.variable.0 (declared_in here z.1.0) z.0
+          absurd (some_determines none s.variable.0 _ z.0
           (operand_stands P here callee h hc ctx declares es w u stand s.variable.0 z.1.0
           z.1.1))
 

@@ -67,16 +67,14 @@ module _ (callee : ResolvedNode) (hc : HasClocks callee) where
       (take callee.inputs callee.variables.items) ≡ true
   wait_inputs =
       sym (inputs_clocked hc.nodes callee hc.resolved hc.distinct)
-      ∙ and_first (list_all (is_clocked_by (node_of callee).inputs) (node_of callee).inputs) _
+      ∙ and_first _ _
       hc.declared
 
   wait_outputs : list_all (waits_below (callee.inputs + callee.outputs))
       (take callee.outputs (drop callee.inputs callee.variables.items)) ≡ true
   wait_outputs =
       sym (outputs_clocked hc.nodes callee hc.resolved hc.distinct)
-      ∙ and_first (list_all (is_clocked_by ((node_of callee).inputs ++ (node_of callee).outputs))
-      (node_of callee).outputs) _
-      (and_second (list_all (is_clocked_by (node_of callee).inputs) (node_of callee).inputs) _
+      ∙ and_first _ _ (and_second _ _
       hc.declared)
 
   below : (n : ℕ) (v : Declared) (s : Sampling) → v.clock ≡ Some s → waits_below n v ≡ true →
@@ -86,8 +84,7 @@ module _ (callee : ResolvedNode) (hc : HasClocks callee) where
   pub input_waits : (i : ℕ) (v : Declared) (s : Sampling) → i < callee.inputs →
       slice_get callee.variables.items i ≡ Some v → v.clock ≡ Some s → s.variable.0 < callee.inputs
   input_waits i v s lt at is =
-      below callee.inputs v s is (all_at (waits_below callee.inputs)
-      (take callee.inputs callee.variables.items) i v wait_inputs
+      below callee.inputs v s is (all_at _ _ i v wait_inputs
       (taken callee.inputs callee.variables.items i v at lt))
 
   pub output_waits : (j : ℕ) (v : Declared) (s : Sampling) → j < callee.outputs →
@@ -96,10 +93,7 @@ module _ (callee : ResolvedNode) (hc : HasClocks callee) where
   output_waits j v s lt at is =
       let here : slice_get (drop callee.inputs callee.variables.items) j ≡ Some v =
       get_dropped callee.inputs callee.variables.items j ∙ at in
-      below (callee.inputs + callee.outputs) v s is
-      (all_at (waits_below (callee.inputs + callee.outputs))
-      (take callee.outputs (drop callee.inputs callee.variables.items)) j v wait_outputs
-      (taken callee.outputs (drop callee.inputs callee.variables.items) j v here lt))
+      below _ v s is (all_at _ _ j v wait_outputs (taken callee.outputs _ j v here lt))
 
   -- no variable waits for itself
   pub not_itself : (x : VariableId) (v : Declared) (s : Sampling) →
@@ -131,7 +125,7 @@ module _ (P : Program) (here : ResolvedNode) where
   stood_clock e (OneClock c) p z k t is =
       let only : clock_of P (node_of here) e ≡ Some (clock_in here c) = p.1 in
       let same : k ≡ clock_in here c = cc in
-      same ∙ sym (clock_same z (clock_in here c) t)
+      same ∙ sym (clock_same z _ t)
 
   pub stands_at : (ctx : Context) (es : List Term) (i : ℕ) (t : Term) → AreClockSets P here ctx es →
       slice_get es i ≡ Some t
@@ -157,9 +151,8 @@ module _ (P : Program) (here : ResolvedNode) where
       list_all-append (is_occurrence_clocked P (node_of here))
       (occurrences P (node_of here) k n e) more
       ∙ ap (λ b. b && list_all (is_occurrence_clocked P (node_of here)) more)
-      (stood_is e (infer_clock ctx t) all.0 k n)
-      ∙ ap (λ b. stood here k (infer_clock ctx t) && b)
-      (each_stood ctx es all.1 ks (n + call_count e))
+      (stood_is e _ all.0 k n)
+      ∙ ap (λ b. stood here k (infer_clock ctx t) && b) (each_stood ctx es all.1 ks _)
 
   -- the clock that each operand determines, at the place of the operand
   pub clock_there : (es : List Term) (i : ℕ) (t : Term) → slice_get es i ≡ Some t
@@ -196,8 +189,7 @@ module _ (P : Program) (here callee : ResolvedNode) (h : HasClocks here) (hc : H
       is_variable (counts_of here) y ≡ true
   operand_within i y e =
       let t = operand_at ctx es i y e in
-      variable_within (counts_of here) t.0 y t.2
-      (all_at (is_within (counts_of here)) es i t.0 w t.1)
+      variable_within _ t.0 y t.2 (all_at _ es i t.0 w t.1)
 
   pub operand_stands : (i : ℕ) (y : VariableId) → given_at (operands_of ctx es) i ≡ Some y →
       slice_get (clock_sets (operands_of ctx es)) i ≡ Some (OneClock (declared_in here y))
@@ -221,13 +213,12 @@ module _ (P : Program) (here callee : ResolvedNode) (h : HasClocks here) (hc : H
         → s.variable.0 < callee.inputs →
         (y : VariableId) × (given_at (operands_of ctx es) s.variable.0 ≡ Some y)
     waited_given i v s lt at is less =
-        let inside = taken (callee.inputs + callee.outputs) callee.variables.items i v at lt in
-        let passes = all_at (λ v. is_given callee.inputs (operands_of ctx es) v.clock)
-        (take (callee.inputs + callee.outputs) callee.variables.items) i v all inside in
+        let inside = taken _ callee.variables.items i v at lt in
+        let passes = all_at _ _ i v all inside in
         let small : nat_lt s.variable.0 callee.inputs ≡ true = grind (arith, nat_tests) in
         let there : is_given callee.inputs (operands_of ctx es) (Some s) ≡ true =
         subst (λ o. is_given callee.inputs (operands_of ctx es) o ≡ true) is passes in
-        some_of (given_at (operands_of ctx es) s.variable.0) (rw small at there)
+        some_of _ (rw small at there)
 
   -- ## The inputs of the callee
 
@@ -257,7 +248,7 @@ module _ (P : Program) (here callee : ResolvedNode) (h : HasClocks here) (hc : H
       pub inputs_is_given : (i : ℕ) (c : Option Sampling) →
           slice_get (input_clocks callee) i ≡ Some c → IsGiven here Y c
       inputs_is_given i c e s is =
-          let v = mapped_from (λ v. v.clock) (take callee.inputs callee.variables.items) i c e in
+          let v = mapped_from _ _ i c e in
           let t = get_taken callee.inputs callee.variables.items i v.0 v.1 in
           let less = t.1 in
           let z = waits i v.0 s (omega arith) t.0 (v.2 ∙ is) in
@@ -273,12 +264,10 @@ module _ (P : Program) (here callee : ResolvedNode) (h : HasClocks here) (hc : H
           stood here (seen callee inputs_given b i) s ≡ true
       outer_stand b fits i s lt e =
           let d = input_held callee hc i lt in
-          let here_seen = get_mapped (λ (d : Declaration). outer b inputs_given
-          (declared_clock (node_of callee) d.name)) (node_of callee).inputs i d.0 d.1 in
+          let here_seen = get_mapped _ _ i d.0 d.1 in
           let k = outer b inputs_given (declared_clock (node_of callee) d.0.name) in
           let stands : stood here k s ≡ true =
-          pair_at (stood here) (inputs_seen b)
-          (clock_sets (operands_of ctx es)) i k s fits here_seen e in
+          pair_at _ _ _ i k s fits here_seen e in
           subst (λ n. stood here (outer b inputs_given (declared_clock (node_of callee) n))
           s ≡ true) (input_at callee hc i d.0 d.1).0 stands
 
@@ -288,10 +277,8 @@ module _ (P : Program) (here callee : ResolvedNode) (h : HasClocks here) (hc : H
           slice_get callee.variables.items i ≡ Some v → S i ≡ Some s
           → stood here (expected_on here Y b v.clock) s ≡ true
       code_stand b fits i v s lt at e =
-          let c = get_mapped (λ v. v.clock) (take callee.inputs callee.variables.items) i v
-          (taken callee.inputs callee.variables.items i v at lt) in
-          pair_at (λ c s. stood here (expected_on here Y b c) s) (input_clocks callee)
-          (clock_sets (operands_of ctx es)) i v.clock s fits c e
+          let c = get_mapped _ _ i v (taken callee.inputs callee.variables.items i v at lt) in
+          pair_at _ _ _ i v.clock s fits c e
 
       pub outer_known : (b : tree.Clock) →
           each_pair (stood here) (inputs_seen b) (clock_sets (operands_of ctx es)) ≡ true

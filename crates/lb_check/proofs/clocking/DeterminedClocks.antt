@@ -86,8 +86,8 @@ module _ (P : Program) (here : Instance) (Q : Instance → Type 0) where
       AreSited n (sites a ++ sites b) →
       AllLawful (occurrences P here.node k n a) × AreSited n (sites a)
   left k n a b h s = (
-    fore (occurrences P here.node k n a) (occurrences P here.node k (n + call_count a) b) h,
-    sited_first (OfCalled P here Q) n (sites a) (sites b) s,
+    fore _ _ h,
+    sited_first _ n _ _ s,
   )
 
   pub right :
@@ -97,8 +97,8 @@ module _ (P : Program) (here : Instance) (Q : Instance → Type 0) where
       AllLawful (occurrences P here.node k (n + call_count a) b)
       × AreSited (n + call_count a) (sites b)
   right k n a b h s = (
-    aft (occurrences P here.node k n a) (occurrences P here.node k (n + call_count a) b) h,
-    sited_second (OfCalled P here Q) n (sites a) (sites b) s,
+    aft _ _ h,
+    sited_second _ n _ _ s,
   )
 
 module _ (P : Program) (here : Instance) (V : Name → Type 0)

@@ -96,13 +96,13 @@ module _ (P : Program) (here callee : ResolvedNode) (h : HasClocks here) (hc : H
 
   left_stands : (j : ℕ) (x : VariableId) → slice_get lefts j ≡ Some x →
       slice_get ls j ≡ Some (OneClock (declared_in here x))
-  left_stands j x e = get_mapped (λ x. OneClock (ctx.variable x)) lefts j x e
+  left_stands j x e = get_mapped _ lefts j x e
       ∙ ap (λ f. Some (OneClock (f x))) declares
 
   left_from : (j : ℕ) (s : ClockSet) → slice_get ls j ≡ Some s →
       (x : VariableId) × (slice_get lefts j ≡ Some x) × (s ≡ OneClock (declared_in here x))
   left_from j s e =
-      let x = mapped_from (λ x. OneClock (ctx.variable x)) lefts j s e in
+      let x = mapped_from _ lefts j s e in
       (x.0, x.1, sym x.2 ∙ ap (λ f. OneClock (f x.0)) declares)
 
   lefts_within : (j : ℕ) (s : ClockSet) → slice_get ls j ≡ Some s → IsWithin here s
@@ -116,15 +116,15 @@ module _ (P : Program) (here callee : ResolvedNode) (h : HasClocks here) (hc : H
   left_clock_at : (j : ℕ) (x : VariableId) → slice_get lefts j ≡ Some x →
       slice_get (left_clocks (node_of here) xs) j ≡ Some
       (declared_clock (node_of here) (name_in here x))
-  left_clock_at j x e = get_mapped (declared_clock (node_of here)) xs j (name_in here x)
-      (get_mapped (name_in here) lefts j x e)
+  left_clock_at j x e = get_mapped _ xs j _
+      (get_mapped _ lefts j x e)
 
   left_clock_from : (j : ℕ) (k : tree.Clock) → slice_get (left_clocks (node_of here) xs) j ≡ Some k
       → (x : VariableId) × (slice_get lefts j ≡ Some x)
       × (declared_clock (node_of here) (name_in here x) ≡ k)
   left_clock_from j k e =
-      let n = mapped_from (declared_clock (node_of here)) xs j k e in
-      let x = mapped_from (name_in here) lefts j n.0 n.1 in
+      let n = mapped_from _ xs j k e in
+      let x = mapped_from _ lefts j n.0 n.1 in
       (x.0, x.1, ap (declared_clock (node_of here)) x.2 ∙ n.2)
 
   -- a left variable may stand on a clock exactly where that is its own
@@ -151,13 +151,11 @@ module _ (P : Program) (here callee : ResolvedNode) (h : HasClocks here) (hc : H
       elim (place_split i callee.inputs callee.outputs lt) [
         | inl less ↦
             let there = given_in callee hc here ctx es i y less (sym (Y_in i less) ∙ e) in
-            ap (λ o. either_or o (place_name callee i))
-            (found_before inner (given_outputs (node_of callee).outputs xs)
-            (place_name callee i) (name_in here y) there)
+            ap (λ o. either_or o (place_name callee i)) (found_before inner _ _ _ there)
         | inr p ↦
             let there : slice_get lefts p.0 ≡ Some y = sym (Y_out p.0) ∙ ap Y (sym p.1) ∙ e in
-            let x = get_mapped (name_in here) lefts p.0 y there in
-            let here_given = given_out callee hc args xs p.0 (name_in here y) p.2 x in
+            let x = get_mapped _ lefts p.0 y there in
+            let here_given = given_out callee hc args xs p.0 _ p.2 x in
             let at : given_name given (place_name callee (callee.inputs + p.0)) ≡ name_in here y =
             ap (λ o. either_or o (place_name callee (callee.inputs + p.0))) here_given in
             ap (λ i. given_name given (place_name callee i)) p.1 ∙ at
@@ -168,9 +166,8 @@ module _ (P : Program) (here callee : ResolvedNode) (h : HasClocks here) (hc : H
       → (v : Declared) × (slice_get callee.variables.items (callee.inputs + j) ≡ Some v)
       × (v.clock ≡ c) × (j < callee.outputs)
   out_clock j c e =
-      let v = mapped_from (λ v. v.clock)
-      (take callee.outputs (drop callee.inputs callee.variables.items)) j c e in
-      let t = get_taken callee.outputs (drop callee.inputs callee.variables.items) j v.0 v.1 in
+      let v = mapped_from _ _ j c e in
+      let t = get_taken callee.outputs _ j v.0 v.1 in
       (v.0, sym (get_dropped callee.inputs callee.variables.items j) ∙ t.0, v.2, t.1)
 
   clock_out : (j : ℕ) (v : Declared) → j < callee.outputs →
@@ -178,8 +175,8 @@ module _ (P : Program) (here callee : ResolvedNode) (h : HasClocks here) (hc : H
       slice_get (output_clocks callee) j ≡ Some v.clock
   clock_out j v lt e =
       let there = get_dropped callee.inputs callee.variables.items j ∙ e in
-      get_mapped (λ v. v.clock) (take callee.outputs (drop callee.inputs callee.variables.items)) j
-      v (taken callee.outputs (drop callee.inputs callee.variables.items) j v there lt)
+      get_mapped _ _ j
+      v (taken callee.outputs _ j v there lt)
 
   module _ (all : are_given callee (operands_of ctx es) ≡ true)
       (many : length lefts ≡ callee.outputs) where
@@ -302,10 +299,9 @@ module _ (P : Program) (here callee : ResolvedNode) (h : HasClocks here) (hc : H
     result_at b ok j x lt e =
         let d = output_held callee hc j lt in
         let f = λ (d : Declaration). outer b given (declared_clock (node_of callee) d.name) in
-        let there = get_mapped f (node_of callee).outputs j d.0 d.1 in
+        let there = get_mapped f _ j d.0 d.1 in
         let k = declared_clock (node_of here) (name_in here x) in
-        let same = clocks_at (left_clocks (node_of here) xs) (outputs_seen b) j k (f d.0) ok
-        (left_clock_at j x e) there in
+        let same = clocks_at _ _ j k (f d.0) ok (left_clock_at j x e) there in
         subst (λ n. is_clock k (outer b given (declared_clock (node_of callee) n)) ≡ true)
         (output_at callee hc j d.0 d.1).0 same
 
@@ -324,8 +320,7 @@ module _ (P : Program) (here callee : ResolvedNode) (h : HasClocks here) (hc : H
         → slice_get lefts j ≡ Some x →
         stood here (expected_on here Y b v.clock) (OneClock (declared_in here x)) ≡ true
     left_fits b ok j v x lt at e =
-        pair_at (λ c s. stood here (expected_on here Y b c) s) (output_clocks callee) ls j v.clock
-        (OneClock (declared_in here x)) ok (clock_out j v lt at) (left_stands j x e)
+        pair_at _ _ ls j v.clock _ ok (clock_out j v lt at) (left_stands j x e)
 
     known_code : (b : tree.Clock) → fits_in b ≡ true → fits_out b ≡ true →
         (x : VariableId) (v : Declared) → x.0 < callee.inputs + callee.outputs
@@ -624,8 +619,7 @@ module _ (P : Program) (here callee : ResolvedNode) (h : HasClocks here) (hc : H
       let c = λ (d : Declaration). outer (base_clock k (node_of callee)) given
       (declared_clock (node_of callee) d.name) in
       sym (length-map lefts (name_in here)) ∙ sym (length-map xs f)
-      ∙ clocks_length (left_clocks (node_of here) xs)
-      (result_clocks k (node_of callee) args xs) out
+      ∙ clocks_length _ _ out
       ∙ length-map (node_of callee).outputs c ∙ sym hc.resolved.outputs
 
   code_kept : (((g && kept_one) && kept_in) && kept_out) ≡ true →

@@ -62,7 +62,7 @@ module _ (V : Name → Type 0) where
       (x : Name) (ds : List Declaration) (v : Declaration) → Every (λ d. V d.name) ds →
       named (λ d. d.name) x ds ≡ Some v → V x
   named_has x ds v all e =
-      let found = named_every (λ d. V d.name) x ds v all e in
+      let found = named_every _ x ds v all e in
       subst V (name_same v.name x found.1) found.0
 
 turned : (x y : Name) → bytes_eq x y ≡ false → bytes_eq y x ≡ true → ⊥
@@ -192,7 +192,7 @@ module _ (V : Name → Type 0) where
     where
       by : (ds : List Declaration) → IsOver V (base_from k n ds)
       by [] = h
-      by (d ∷ ds) = above_over (own_depth n d) k h
+      by (d ∷ ds) = above_over _ k h
 
 -- ## Declared clocks
 
@@ -210,9 +210,8 @@ module _ (V : Name → Type 0) (vars : List Declaration) (E : Declaration → Ty
           sampled (clock_within n vars) vars o ≡ Some k → IsOver V k
       by next None is g = let base : Base ≡ k = cc in subst (IsOver V) base tt
       by next (Some s) is g =
-          let v = bind_some (named (λ v. v.name) s.variable vars)
-          (λ v. clock_within n vars v >>= λ k. Some (On k s.variable s.sign)) k g in
-          let up = bind_some (clock_within n vars v.0) (λ k. Some (On k s.variable s.sign)) k v.2 in
+          let v = bind_some _ _ k g in
+          let up = bind_some _ _ k v.2 in
           let w = waits d s v.0 h is v.1 in
           let on : On up.0 s.variable s.sign ≡ k = cc in
           subst (IsOver V) on (next v.0 up.0 w.1 up.1, w.0)
@@ -221,8 +220,8 @@ module _ (V : Name → Type 0) (vars : List Declaration) (E : Declaration → Ty
       (n : ℕ) (x : Name) → ((v : Declaration) → named (λ v. v.name) x vars ≡ Some v → E v) →
       IfSome (named (λ v. v.name) x vars >>= clock_within n vars) (IsOver V)
   named_over n x h =
-      if_some (IsOver V) (named (λ v. v.name) x vars >>= clock_within n vars) (λ k e.
-      let v = bind_some (named (λ v. v.name) x vars) (clock_within n vars) k e in
+      if_some _ _ (λ k e.
+      let v = bind_some _ _ k e in
       within_over n v.0 k (h v.0 v.1) v.2)
 
 module _ (V : Name → Type 0) (n : Node) (all : Every (λ d. V d.name) (variables n)) where
@@ -277,12 +276,9 @@ module _ (Seen : Name → Type 0) (here callee : Node) (es : Exprs)
 
   inputs_wait : Every Waits callee.inputs
   inputs_wait =
-      Every-both (λ d. is_clocked_by callee.inputs d ≡ true)
-      (λ d. is_given_variable here callee given d ≡ true) callee.inputs
-      (Every-tested (is_clocked_by callee.inputs) callee.inputs (and_first _ _ declared))
-      (Every-first (λ d. is_given_variable here callee given d ≡ true) callee.inputs
-      callee.outputs
-      (Every-tested (is_given_variable here callee given) (callee.inputs ++ callee.outputs)
+      Every-both _ _ callee.inputs (Every-tested _ callee.inputs (and_first _ _ declared))
+      (Every-first _ callee.inputs
+      callee.outputs (Every-tested _ _
       is_given))
 
   -- `Seen` holds of an awaited input that is given a variable of the caller
@@ -298,20 +294,17 @@ module _ (Seen : Name → Type 0) (here callee : Node) (es : Exprs)
   waited_given : (d : Declaration) (s : Sampling) → is_given_variable here callee given d ≡ true →
       d.clock ≡ Some s → among s.variable input_names ≡ true → Seen s.variable
   waited_given d s w is e =
-      let test = one_clock (λ s.
-      not (among s.variable (map (λ i. i.name) callee.inputs))
-      || holds (λ g. among g.1 (variable_names here)) (named (λ g. g.0) s.variable given))
+      let test = one_clock _
       d s w is in
-      given_there s.variable (named (λ g. g.0) s.variable given) refl
-      (implied (among s.variable input_names) _ test e)
+      given_there s.variable _ refl (implied _ _ test e)
 
   waits :
       (d : Declaration) (s : Sampling) (v : Declaration) → Waits d → d.clock ≡ Some s →
       named (λ v. v.name) s.variable (variables callee) ≡ Some v → Seen s.variable × Waits v
   waits d s v w is found =
-      let e = one_clock (λ s. among s.variable (map (λ v. v.name) callee.inputs)) d s w.0 is in (
+      let e = one_clock _ d s w.0 is in (
         waited_given d s w.1 is e,
-        found_first Waits s.variable callee.inputs (callee.outputs ++ callee.locals) v inputs_wait
+        found_first Waits s.variable callee.inputs _ v inputs_wait
             e found,
       )
 
@@ -348,17 +341,15 @@ module _ (Seen : Name → Type 0) (here callee : Node) (es : Exprs)
 
     clocked : is_clocked_by (callee.inputs ++ callee.outputs) d ≡ true
     clocked =
-        let outs = and_first (list_all (is_clocked_by (callee.inputs ++ callee.outputs))
-        callee.outputs) _ (and_second _ _ declared) in
-        and_first (is_clocked_by (callee.inputs ++ callee.outputs) d) true
+        let outs = and_first _ _ (and_second _ _ declared) in
+        and_first _ true
         (subst (λ ds. list_all (is_clocked_by (callee.inputs ++ callee.outputs)) ds ≡ true) one
         outs)
 
     is_given_output : is_given_variable here callee given d ≡ true
     is_given_output =
-        let all_given = Every-second (λ d. is_given_variable here callee given d ≡ true)
-        callee.inputs callee.outputs
-        (Every-tested (is_given_variable here callee given) (callee.inputs ++ callee.outputs)
+        let all_given = Every-second _
+        callee.inputs callee.outputs (Every-tested _ _
         is_given) in
         (subst (Every (λ d. is_given_variable here callee given d ≡ true)) one all_given).0
 
@@ -373,11 +364,9 @@ module _ (Seen : Name → Type 0) (here callee : Node) (es : Exprs)
             among s.variable input_names ≡ b → IfSome (clock_within m vars d) (IsOver Seen)
         waiting s is true e =
             let own : is_clocked_by callee.inputs d ≡ true = only_clock callee.inputs d s is e in
-            if_some (IsOver Seen) (clock_within m vars d)
-            (λ k. within_over Seen vars Waits waits m d k (own, is_given_output))
+            if_some _ _ (λ k. within_over Seen vars Waits waits m d k (own, is_given_output))
         waiting s is false e =
-            let some = one_clock (λ s. among s.variable
-            (map (λ v. v.name) (callee.inputs ++ callee.outputs))) d s clocked is in
+            let some = one_clock _ d s clocked is in
             let there = subst (λ outs. among s.variable (map (λ v. v.name)
             (callee.inputs ++ outs)) ≡ true) one some in
             let found = output_found s.variable e (itself s.variable e there) in
@@ -421,8 +410,7 @@ module _ (V : Name → Type 0) (here callee : Node) (es : Exprs)
       named (λ g. g.0) x (given_inputs callee.inputs es) ≡ Some g →
       among g.1 (variable_names here) ≡ true → SeenOver x
   seen_over x g is e =
-      subst V (sym (ap (λ o. either_or (option_map (λ g. g.1) o) x) is))
-      (among_has V g.1 (variables here) all e)
+      subst V (sym (ap (λ o. either_or (option_map (λ g. g.1) o) x) is)) (among_has V g.1 _ all e)
 
   -- `V` holds of each variable of the clocks of the arguments
   pub arguments_over :

@@ -75,13 +75,11 @@ module _ (P : Program) (r : Reached) (here : ResolvedNode) (sees : SeesClocks P 
 
   fore : (os os' : List Occurrence) → AreLawful (os ++ os') → AreLawful os
   fore os os' e =
-      and_first _ (list_all (is_occurrence_clocked P (node_of here)) os')
-      (sym (list_all-append (is_occurrence_clocked P (node_of here)) os os') ∙ e)
+      and_first _ _ (sym (list_all-append (is_occurrence_clocked P (node_of here)) os os') ∙ e)
 
   aft : (os os' : List Occurrence) → AreLawful (os ++ os') → AreLawful os'
   aft os os' e =
-      and_second (list_all (is_occurrence_clocked P (node_of here)) os) _
-      (sym (list_all-append (is_occurrence_clocked P (node_of here)) os os') ∙ e)
+      and_second _ _ (sym (list_all-append (is_occurrence_clocked P (node_of here)) os os') ∙ e)
 
   -- the occurrences of an expression on clock `k` of the code
   abbrev on : Clock → ℕ → Expr → List Occurrence
@@ -223,11 +221,9 @@ module _ (P : Program) (r : Reached) (here : ResolvedNode) (sees : SeesClocks P 
   two_placed k n a b w u o h g e =
       let first = on k n (expr_of texts a) in
       let second = on k (n + call_count (expr_of texts a)) (expr_of texts b) in
-      both_placed first second (placed_terms ctx k a) (placed_terms ctx k b)
-      (h (and_first _ (is_within (counts_of here) b) w) (and_first _ (is_unhidden texts b) u)
-      (and_first _ (is_single r here b) o) (fore first second e))
-      (g (and_second (is_within (counts_of here) a) _ w) (and_second (is_unhidden texts a) _ u)
-      (and_second (is_single r here a) _ o) (aft first second e))
+      both_placed first second _ _ (h (and_first _ _ w) (and_first _ _ u)
+      (and_first _ _ o) (fore first second e)) (g (and_second _ _ w) (and_second _ _ u)
+      (and_second _ _ o) (aft first second e))
 
   mutual
     unfolding placed_terms is_single

@@ -46,8 +46,7 @@ all_append :
     list_all f (xs ++ ys) ≡ true
 all_append f [] ys p q = q
 all_append f (x ∷ xs) ys p q =
-    and_from (f x) (list_all f (xs ++ ys)) (and_first (f x) (list_all f xs) p)
-    (all_append f xs ys (and_second (f x) (list_all f xs) p) q)
+    and_from (f x) _ (and_first (f x) _ p) (all_append f xs ys (and_second (f x) _ p) q)
 
 module _ (count : ℕ) where
   abbrev is_low : GivenVariable → Bool
@@ -66,15 +65,14 @@ module _ (count : ℕ) where
           (listed (λ g. g ∷ []) (if b then option_map (pair_at i) o else None)) ≡ true
       by false o = refl
       by true None = refl
-      by true (Some y) = and_from (nat_lt i count) true (low i lt) refl
+      by true (Some y) = and_from _ true (low i lt) refl
 
   from_low :
       (n : ResolvedNode) (given : ℕ → Option VariableId) (i m : ℕ) → i + m ≤ count →
       list_all is_low (given_from n given i m) ≡ true
   from_low n given i zero le = refl
   from_low n given i (suc m) le =
-      all_append is_low (listed (λ g. g ∷ []) (given_variable n given i))
-      (given_from n given (suc i) m) (one_low n given i (omega (arith, le)))
+      all_append is_low _ _ (one_low n given i (omega (arith, le)))
       (from_low n given (suc i) m (omega (arith, le)))
 
 -- the pairs that the code finds are for variables of the callee
@@ -86,8 +84,7 @@ parameters_within callee hc os lefts =
     let vs = callee.variables.items in
     let many = as_many_names hc.nodes callee hc.resolved hc.distinct in
     let few = length-take (callee.inputs + callee.outputs) vs in
-    from_low (length (variable_names (node_of callee))) callee (stands_for callee.inputs os lefts) 0
-    (length (take (callee.inputs + callee.outputs) vs)) (omega (arith, many, few))
+    from_low _ callee _ 0 _ (omega (arith, many, few))
 
 -- ## Clocks of a node
 
@@ -141,11 +138,8 @@ module _ (here : ResolvedNode) where
       (xs : List VariableId) → list_all (is_variable (counts_of here)) xs ≡ true → (i : ℕ) →
       IsFound (slice_get xs i)
   among_in [] w i = tt
-  among_in (x ∷ xs) w zero =
-      and_first (is_variable (counts_of here) x) (list_all (is_variable (counts_of here)) xs) w
-  among_in (x ∷ xs) w (suc i) =
-      among_in xs
-      (and_second (is_variable (counts_of here) x) (list_all (is_variable (counts_of here)) xs) w) i
+  among_in (x ∷ xs) w zero = and_first _ _ w
+  among_in (x ∷ xs) w (suc i) = among_in xs (and_second _ _ w) i
 
   stands_in :
       (inputs : ℕ) (os : List Operand) → AreOperands os → (lefts : List VariableId) →
@@ -155,7 +149,7 @@ module _ (here : ResolvedNode) where
     where
       by : (b : Bool) → IsFound (if b then given_at os i else slice_get lefts (i - inputs))
       by true = given_in os h i
-      by false = among_in lefts w (i - inputs)
+      by false = among_in lefts w _
 
   expected_in :
       (base : Option Clock) → IsClock base → (given : ℕ → Option VariableId) →
@@ -186,7 +180,7 @@ module _ (here : ResolvedNode) where
       Every IsIn (map (λ v. either_or (expected (Some base) given v.clock) base) vs)
   arguments_in base b given g [] = tt
   arguments_in base b given g (v ∷ vs) = (
-    or_in (expected (Some base) given v.clock) base (expected_in (Some base) b given g v.clock) b,
+    or_in _ base (expected_in _ b given g v.clock) b,
     arguments_in base b given g vs,
   )
 
@@ -224,8 +218,7 @@ module _ (here : ResolvedNode) where
       ((i : ℕ) → IsFound (given i)) → (cs : List (Option Sampling)) →
       IsSet (first_result base given cs)
   result_in base b given g [] = set_on base b
-  result_in base b given g (c ∷ cs) =
-      set_on (expected base given c) (expected_in base b given g c)
+  result_in base b given g (c ∷ cs) = set_on _ (expected_in base b given g c)
 
   call_set_in :
       (os : List Operand) → AreOperands os → (o : Option ResolvedNode) →
@@ -559,7 +552,7 @@ module _ (here : ResolvedNode) where
         list_all (is_clock_within here) (clocks_among ts) ≡ true
     clocks_in [] h = refl
     clocks_in (t ∷ ts) h =
-        and_from (is_clock_within here t.clock) (list_all (is_clock_within here) (clocks_among ts))
+        and_from _ _
         h.0.0 (clocks_in ts h.1)
 
     calls_all : (ts : List FoundTerm) → AreFound ts →
@@ -588,8 +581,7 @@ module _ (r : Reached) (here : ResolvedNode)
           is_clock_within here (clock_with (o >>= λ v. v.clock)) ≡ true
       by None e = refl
       by (Some v) e =
-          waits v.clock (and_second (are_statics (counts_of here) v.first_size v.sizes) _
-          (all_at (is_declared_within (counts_of here)) here.variables.items x.0 v declared e))
+          waits v.clock (and_second _ _ (all_at _ here.variables.items x.0 v declared e))
 
   context_in : (x : VariableId) → is_clock_within here ((context_of r here).variable x) ≡ true
   unfolding context_of

@@ -106,7 +106,7 @@ module _ (P : Program) (here : ResolvedNode) (own : HasClocks here) where
   two_parts a b d m AnyClock (OneClock c) ha hb ec ed = (
     hb.0,
     ec ∙ ap (λ o. or_else o (clock_of P node b)) ha.0 ∙ hb.1,
-    λ k n. ed k n ∙ both_are _ _ true (is_clock k (clock_in here c)) (ha.1 k n) (hb.2 k (n + m)),
+    λ k n. ed k n ∙ both_are _ _ true _ (ha.1 k n) (hb.2 k (n + m)),
   )
   two_parts a b d m (OneClock c) NoClock ha hb ec ed =
       λ k n. ed k n ∙ ap (λ x. accepts a k n && x) (hb k (n + m)) ∙ and-false (accepts a k n)
@@ -122,15 +122,13 @@ module _ (P : Program) (here : ResolvedNode) (own : HasClocks here) where
       by true is = (
         ha.0,
         ec ∙ ap (λ o. or_else o (clock_of P node b)) ha.1,
-        λ k n. ed k n ∙ both_are _ _ (is_clock k (clock_in here c)) (is_clock k (clock_in here e))
+        λ k n. ed k n ∙ both_are _ _ _ _
             (ha.2 k n) (hb.2 k (n + m))
-            ∙ on_one k (clock_in here c) (clock_in here e)
-            (sym (same_is here own c e ha.0 hb.0) ∙ is),
+            ∙ on_one k _ _ (sym (same_is here own c e ha.0 hb.0) ∙ is),
       )
       by false is =
-          λ k n. ed k n ∙ both_are _ _ (is_clock k (clock_in here c)) (is_clock k (clock_in here e))
-          (ha.2 k n) (hb.2 k (n + m))
-          ∙ on_two k (clock_in here c) (clock_in here e) (sym (same_is here own c e ha.0 hb.0) ∙ is)
+          λ k n. ed k n ∙ both_are _ _ _ _ (ha.2 k n) (hb.2 k (n + m))
+          ∙ on_two k _ _ (sym (same_is here own c e ha.0 hb.0) ∙ is)
 
   -- ## Variables, constants and static parameters
 
@@ -151,7 +149,7 @@ module _ (P : Program) (here : ResolvedNode) (own : HasClocks here) where
   value_stands (tree.Named x) u =
       let out = not-true (among x (variable_names node)) u in (
         ap (λ o. o >>= clock_within (suc (length (variables node))) (variables node))
-            (unfound x (variables node) out),
+            (unfound x _ out),
         λ k n. ap (λ b. (not b || is_clock k (declared_clock node x)) && true) out,
       )
   value_stands (tree.Whole m) u = (refl, λ k n. refl)
@@ -281,8 +279,7 @@ free_list all statics [] (v ∷ vs) e = absurd cc
 free_list all statics (x ∷ xs) [] e = absurd cc
 free_list all statics (x ∷ xs) (v ∷ vs) e =
     let rest : length xs ≡ length vs = cc in
-    both_are _ _ (stays_free v) (list_all stays_free vs) (by v.clock)
-    (free_list all statics xs vs rest)
+    both_are _ _ _ _ (by v.clock) (free_list all statics xs vs rest)
   where
     by : (o : Option Sampling) → not (is_some (option_map (sampling_of all) o)) ≡ not (is_some o)
     by None = refl
@@ -344,10 +341,9 @@ module _ (P : Program) (r : Reached) (here : ResolvedNode) (sees : SeesClocks P 
       ++ occurrences P (node_of here) k (n + call_count a) b))
       → Finds d (both s t)
   pair_stands a b d s t ha hb ec ed =
-      two_parts P here sees.own a b d (call_count a) s t ha hb ec
+      two_parts P here sees.own a b d _ s t ha hb ec
       (λ k n. ed k n ∙ list_all-append (is_occurrence_clocked P (node_of here))
-      (occurrences P (node_of here) k n a)
-      (occurrences P (node_of here) k (n + call_count a) b))
+      (occurrences P (node_of here) k n a) (occurrences P (node_of here) k (n + call_count a) b))
 
   -- the clock set of a row is that of its terms together
   row_together : {m : Count} (row : Row_of-Term m)
@@ -389,11 +385,10 @@ module _ (P : Program) (r : Reached) (here : ResolvedNode) (sees : SeesClocks P 
       let outputs : callee.0.outputs ≡ 1 = grind (arith, nat_tests) in
       let stands = call_stands callee.0
       (sees.callees c callee.0 callee.1) site callee.2 outputs ctx refl es
-      (within_items (counts_of here) m row ∙ w) (unhidden_items texts m row ∙ u) all in
+      (within_items _ m row ∙ w) (unhidden_items texts m row ∙ u) all in
       subst (λ o. Finds (tree.Call site.callee site.arguments (row_of texts row))
       (either_or (option_map (λ n. call_clock_set n (operands_in ctx row)) o) NoClock))
-      (sym callee.1)
-      (subst (λ es. Finds (tree.Call site.callee site.arguments es)
+      (sym callee.1) (subst (λ es. Finds (tree.Call site.callee site.arguments es)
       (call_clock_set callee.0 (operands_in ctx row))) (sym (row_items texts m row))
       (subst (λ os. Finds (tree.Call site.callee site.arguments (exprs_of texts es))
       (call_clock_set callee.0 os)) (sym (operands_items ctx m row)) stands))

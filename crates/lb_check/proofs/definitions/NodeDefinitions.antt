@@ -66,15 +66,15 @@ module _ (t : Texts) (k : Counts) (as_many : k.variables ≡ length t.variables)
       name_count x (map (name_at t.variables) xs) ≡ count_left i xs
   lefts_counted [] w = refl
   lefts_counted (y ∷ xs) w =
-      let lt = ltb-true y.0 k.variables (and_first _ (list_all (is_variable k) xs) w) in
+      let lt = ltb-true y.0 k.variables (and_first _ _ w) in
       let h = item_at t.variables y.0 (omega (arith, as_many, lt)) in
       let same = distinct_at t.variables i y.0 x h.0 distinct at h.1 in
-      let rest = lefts_counted xs (and_second (is_variable k y) _ w) in
+      let rest = lefts_counted xs (and_second _ _ w) in
       ap (λ o. cond (bytes_eq x (either_or o [])) (1 + name_count x (map (name_at t.variables) xs))
       (name_count x (map (name_at t.variables) xs))) h.1
       ∙ ap (λ b. cond b (1 + name_count x (map (name_at t.variables) xs))
       (name_count x (map (name_at t.variables) xs))) same
-      ∙ one_or_none (y.0 == i) _ _ rest
+      ∙ one_or_none _ _ _ rest
 
   statement_counted : (s : ResolvedStatement) → is_statement_within k s ≡ true →
       name_count x (left_names (statement_of t s)) ≡ count_statement i s
@@ -132,16 +132,16 @@ module _ {A : Type 0} (xs ys : List A) (c : A → ℕ) (k : ℕ → ℕ) (count 
       by : (b : Bool) → nat_lt i (length xs) ≡ b → k i ≡ cond (nat_lt i (length xs)) 0 1
       by true is =
           let h = item_at xs i (ltb-true i (length xs) is) in
-          let zero = all_at never xs i h.0 (and_second (list_all once ys) _ all) h.1 in
+          let zero = all_at never xs i h.0 (and_second _ _ all) h.1 in
           sym (same i h.0 (get_first xs ys i h.0 h.1)) ∙ eqb-true _ 0 zero
           ∙ sym (ap (λ b. cond b 0 1) is)
       by false is =
           let le : length xs ≤ i = grind (arith, nat_tests) in
           let sum : length xs + (i - length xs) ≡ i = omega arith in
           let whole : length (xs ++ ys) ≡ length xs + length ys = length-append xs ys in
-          let h = item_at ys (i - length xs) (omega (arith, as_many, lt, whole, le)) in
-          let one = all_at once ys (i - length xs) h.0 (and_first _ (list_all never xs) all) h.1 in
-          let at = ap (slice_get (xs ++ ys)) (sym sum) ∙ get_later xs ys (i - length xs) ∙ h.1 in
+          let h = item_at ys _ (omega (arith, as_many, lt, whole, le)) in
+          let one = all_at once ys _ h.0 (and_first _ _ all) h.1 in
+          let at = ap (slice_get (xs ++ ys)) (sym sum) ∙ get_later xs ys _ ∙ h.1 in
           sym (same i h.0 at) ∙ eqb-true _ 1 one ∙ sym (ap (λ b. cond b 0 1) is)
 
 -- the place that is found by the code is right of the variables and statements of the node
@@ -355,7 +355,7 @@ module _ (P : Program) (r : Reached) (names : keeps_names P ≡ true) (reached :
       by : (b : Bool) →
           cond b (first_broken (is_statement_memoryless r n) n.body.items) None ≡ None
           → (not b || list_all (is_statement_memoryless r n) n.body.items) ≡ true
-      by true known = all_pass (is_statement_memoryless r n) n.body.items known
+      by true known = all_pass _ n.body.items known
       by false known = refl
 
   -- ## Definitions

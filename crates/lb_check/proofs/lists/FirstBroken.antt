@@ -24,17 +24,6 @@ module _ {A : Type 0} (f : A → Bool) where
       → whole ≡ broken_from (i + 1) (drop (i + 1) all)
   broken_more whole all i x known lt is e = next whole all i x true known lt is e
 
-  -- an item that fails is the first, where none before it fails
-  pub broken_here : (whole : Option ℕ) (all : List A) (i : ℕ) (x : A) →
-      whole ≡ broken_from i (drop i all) → i < length all → x ≡ get_or all i x → f x ≡ false
-      → Some i ≡ whole
-  broken_here whole all i x known lt is e = sym (next whole all i x false known lt is e)
-
-  -- no item fails, where none is left
-  pub broken_none : (whole : Option ℕ) (all : List A) (i : ℕ) →
-      whole ≡ broken_from i (drop i all) → length all ≤ i → None ≡ whole
-  broken_none whole all i known le = sym (known ∙ ap (broken_from i) (drop_all i all le))
-
   -- ## The item that is found
 
   all_from : (k : ℕ) (xs : List A) → broken_from k xs ≡ None → list_all f xs ≡ true

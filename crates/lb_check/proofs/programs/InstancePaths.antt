@@ -38,10 +38,10 @@ same_path Observer (Child q d j) e = absurd cc
 same_path (Child p c i) Root e = absurd cc
 same_path (Child p c i) Observer e = absurd cc
 same_path (Child p c i) (Child q d j) e =
-    let call = eqb-true c d (and_first (nat_eq c d) _ e) in
-    let rest = and_second (nat_eq c d) _ e in
-    let index = eqb-true i j (and_first (nat_eq i j) _ rest) in
-    let above = same_path p q (and_second (nat_eq i j) _ rest) in
+    let call = eqb-true c d (and_first _ _ e) in
+    let rest = and_second _ _ e in
+    let index = eqb-true i j (and_first _ _ rest) in
+    let above = same_path p q (and_second _ _ rest) in
     rw call (rw index (rw above refl))
 
 -- ## Paths that go on from a path
@@ -118,10 +118,10 @@ module _ (P : Program) where
       (p : Path) (call index : ℕ) (c : Instance) → instance_at P (Child p call index) ≡ Some c →
       IsCalled p call index c
   called p call index c e =
-      let h = bound (instance_at P p) _ c e in
-      let s = bound (slice_get (node_sites h.value.node) call) _ c h.gives in
-      let n = bound (instance_count P h.value s.value.count) _ c s.gives in
-      let t = if_true (nat_lt index n.value) _ c n.gives in
+      let h = bound _ _ c e in
+      let s = bound _ _ c h.gives in
+      let n = bound _ _ c s.gives in
+      let t = if_true _ _ c n.gives in
       record {
         caller = h.value;
         above = h.is;
@@ -136,7 +136,7 @@ module _ (P : Program) where
   pub path_is : (p : Path) (c : Instance) → instance_at P p ≡ Some c → c.path ≡ p
   path_is Root c e = started P Root P.root c e
   path_is Observer c e =
-      let f = bound P.observer (start_at P Observer) c e in started P Observer f.value c f.gives
+      let f = bound P.observer _ c e in started P Observer f.value c f.gives
   path_is (Child p call index) c e =
       let k = called p call index c e in
       let path = callee_path P k.caller k.site call index c k.gives in
@@ -164,9 +164,8 @@ module _ (P : Program) where
       (here : Instance) (s : ℕ × Site) → IsAt here →
       slice_get (node_sites here.node) s.0 ≡ Some s.1 → Every IsAt (site_instances P here s)
   site_children here s at stands =
-      Every-found IsAt (callee_of P here s.1 s.0)
-      (listed (range_with_len 0) (instance_count P here s.1.count))
-      (by (instance_count P here s.1.count) refl)
+      Every-found IsAt _
+      _ (by (instance_count P here s.1.count) refl)
     where
       placed : (m i : ℕ) → instance_count P here s.1.count ≡ Some m → i < m → (c : Instance) →
           callee_of P here s.1 s.0 i ≡ Some c → IsAt c
@@ -181,8 +180,7 @@ module _ (P : Program) where
           Every (λ i. IfSome (callee_of P here s.1 s.0 i) IsAt) (listed (range_with_len 0) o)
       by None e = tt
       by (Some m) e =
-          Every-of_range (λ i. IfSome (callee_of P here s.1 s.0 i) IsAt) 0 m
-          (λ i lt. if_some IsAt (callee_of P here s.1 s.0 (0 + i))
+          Every-of_range _ 0 m (λ i lt. if_some IsAt _
           (λ c is. placed m (0 + i) e (omega (arith, lt)) c is))
 
   pub children_at : (here : Instance) → IsAt here → Every IsAt (children P here)
@@ -245,8 +243,8 @@ module _ (P : Program) where
   child_in here call index count site c stands counts lower gives =
       let number : 0 + call ≡ call = omega arith in
       let numbered = subst (λ m. In (m, site) (numbered_sites 0 (node_sites here.node))) number
-      (numbered_in (node_sites here.node) 0 call site stands) in
-      to_pieces (site_instances P here) c (call, site) (numbered_sites 0 (node_sites here.node))
+      (numbered_in _ 0 call site stands) in
+      to_pieces _ c _ _
       numbered in_site
     where
       in_site : In c (site_instances P here (call, site))
@@ -254,7 +252,7 @@ module _ (P : Program) where
           let at : 0 + index ≡ index = omega arith in
           let ranged = subst (λ i. In i (range_with_len 0 count)) at
           (in_range 0 count index lower) in
-          rw counts (in_some (callee_of P here site call) (range_with_len 0 count) index c ranged
+          rw counts (in_some _ _ index c ranged
           gives)
 
   -- ## No instance stands twice
@@ -418,11 +416,9 @@ module _ (P : Program) where
         (here : Instance) → In here (instances P) →
         Every (λ c. In c (instances P)) (children P here)
     kept_children here i =
-        Every-at (λ d. Every Kept (children P d)) (instances P) here
-        (all_children P Kept
-        (Every-both (λ c. level P c.path ≤ 64) Kept (instances P)
-        (Every-map _ _ (λ c z. z.0) (instances P) (all_entered P 0 (instances P) instantiated))
-        (Every-from Kept (instances P) (λ c k. k)))) i
+        Every-at _ _ here (all_children P Kept (Every-both _ Kept _
+        (Every-map _ _ (λ c z. z.0) _ (all_entered P 0 _ instantiated))
+        (Every-from Kept _ (λ c k. k)))) i
 
     -- the instance at a path is an instance of the program
     pub in_instances :

@@ -25,8 +25,7 @@ pub as_many_types : (ss ts : List DataType) → are_types ss ts ≡ true → len
 as_many_types [] [] e = refl
 as_many_types [] (t ∷ ts) e = absurd cc
 as_many_types (s ∷ ss) [] e = absurd cc
-as_many_types (s ∷ ss) (t ∷ ts) e =
-    ap suc (as_many_types ss ts (and_second (is_type s t) (are_types ss ts) e))
+as_many_types (s ∷ ss) (t ∷ ts) e = ap suc (as_many_types ss ts (and_second _ _ e))
 
 -- the expressions of some occurrences
 abbrev pub exprs_of : List Occurrence → List Expr
@@ -63,7 +62,7 @@ module _ (P : Program) (here : Instance) where
       ∙ length-map n.inputs
       (λ d. outer (base_clock k n) (given_inputs n.inputs es) (declared_clock n d.name))
       ∙ sym (length-map n.inputs (variable_type P c.callee))
-      ∙ sym (length-all_some (map (variable_type P c.callee) n.inputs) types.0 c.inputs)
+      ∙ sym (length-all_some _ types.0 c.inputs)
       ∙ as_many_types types.0 args same
 
   -- the occurrences of two operands are their parts
@@ -73,9 +72,7 @@ module _ (P : Program) (here : Instance) where
       ArePartsOf
       (occurrences P here.node k n a ++ occurrences P here.node k (n + call_count a) b)
       (parts a ++ parts b)
-  two_parts k n a b h g =
-      joined_parts (occurrences P here.node k n a)
-      (occurrences P here.node k (n + call_count a) b) (parts a) (parts b) h g
+  two_parts k n a b h g = joined_parts _ _ _ _ h g
 
   mutual
     pub occurrence_parts :
@@ -210,8 +207,7 @@ module _ (P : Program) (here : Instance) where
   pub right_typed :
       (s : Statement) → is_statement_typed P here s ≡ true →
       (ts : List DataType) × (data_types P here (right_side s) ≡ Some ts)
-  right_typed (Equation lefts a) e =
-      compared (data_types P here a) (all_some (map (type_of_name P here) lefts)) e
+  right_typed (Equation lefts a) e = compared _ _ e
   right_typed (Assertion a) e = compared (data_types P here a) (Some (truth ∷ [])) e
 
   statement_parts :

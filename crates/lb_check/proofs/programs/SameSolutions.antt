@@ -122,12 +122,9 @@ module _ (P : Program) (H G : History) (here : Instance) (agree : AgreeAt H G he
       let base = base_clock k c.node in
       let on = presence_same P H G here agree base (base_over Own k c.node over) in (
         sym own.agrees.ticks ∙ j.0 ∙ on,
-        receives_same H G (Child here.path n 0) c.node.inputs
-            (argument_streams P H here (argument_clocks k c.node es) (n + 1) es)
-            (argument_streams P G here (argument_clocks k c.node es) (n + 1) es)
-            (Every-first (λ d. H.columns (Child here.path n 0) d.name
-            ≡ G.columns (Child here.path n 0) d.name) c.node.inputs
-            (c.node.outputs ++ c.node.locals) own.agrees.columns)
+        receives_same H G _ c.node.inputs
+            _
+            _ (Every-first _ c.node.inputs _ own.agrees.columns)
             args j.1,
       )
 
@@ -158,7 +155,7 @@ module _ (P : Program) (H G : History) (here : Instance) (agree : AgreeAt H G he
       Every (λ d. H.columns p d.name ≡ G.columns p d.name) c.outputs
   outputs_agree c p all =
       let same = λ (d : Declaration). H.columns p d.name ≡ G.columns p d.name in
-      Every-first same c.outputs c.locals (Every-second same c.inputs (c.outputs ++ c.locals) all)
+      Every-first same c.outputs c.locals (Every-second same c.inputs _ all)
 
   abbrev IsStepJoined : History → Clock → ℕ → ArrayIterator → ℕ → Exprs → Node → ℕ → Type 0
   IsStepJoined F k n it m es callee i =
@@ -179,18 +176,12 @@ module _ (P : Program) (H G : History) (here : Instance) (agree : AgreeAt H G he
       let outs : (i : ℕ) → i < m →
       Every (λ o. H.columns (Child here.path n i) o.name ≡ G.columns (Child here.path n i) o.name)
       c.node.outputs =
-      λ i lt. outputs_agree c.node (Child here.path n i) (own i lt).agrees.columns in (
+      λ i lt. outputs_agree c.node _ (own i lt).agrees.columns in (
         sym same.agrees.ticks ∙ j.0 ∙ presence_same P H G here agree k over,
         receives_same H G child c.node.inputs
-            (iterator_inputs (λ j x. H.columns (Child here.path n j) x) m it c.node.outputs
-            (all_streams P H here k (n + 1) es) i)
-            (iterator_inputs (λ j x. G.columns (Child here.path n j) x) m it c.node.outputs
-            (all_streams P G here k (n + 1) es) i)
-            (Every-first (λ d. H.columns child d.name ≡ G.columns child d.name) c.node.inputs
-            (c.node.outputs ++ c.node.locals) same.agrees.columns)
-            (inputs_same (λ j x. H.columns (Child here.path n j) x)
-            (λ j x. G.columns (Child here.path n j) x) m c.node.outputs outs it
-            (all_streams P H here k (n + 1) es) i lt
+            _
+            _ (Every-first _ c.node.inputs _ same.agrees.columns) (inputs_same _
+            _ m c.node.outputs outs it _ i lt
             ∙ ap (λ args. iterator_inputs (λ j x. G.columns (Child here.path n j) x) m it
             c.node.outputs args i) args)
             j.1,
@@ -204,12 +195,10 @@ module _ (P : Program) (H G : History) (here : Instance) (agree : AgreeAt H G he
       IsIteratorJoined P H here k n it m es (Some c.node) →
       IsIteratorJoined P G here k n it m es (Some c.node)
   iterator_stays k n it m es c over own args j =
-      Every-of_range (IsStepJoined G k n it m es c.node) 0 m (λ i lt.
+      Every-of_range _ 0 m (λ i lt.
       let none : i ≡ 0 + i = omega arith in
-      subst (IsStepJoined G k n it m es c.node) none
-      (step_stays k n it m es c over own args i lt
-      (subst (IsStepJoined H k n it m es c.node) (sym none)
-      (Every-range (IsStepJoined H k n it m es c.node) 0 m i j lt))))
+      subst (IsStepJoined G k n it m es c.node) none (step_stays k n it m es c over own args i lt
+      (subst (IsStepJoined H k n it m es c.node) (sym none) (Every-range _ 0 m i j lt))))
 
   iterator_joined :
       (k : Clock) (n : ℕ) (it : ArrayIterator) (f : Name) (statics : List Static) (m : Static)
@@ -305,7 +294,7 @@ root_path P c e = start_path P Root P.root c e
 observer_path : (P : Program) (c : Instance) → instance_at P Observer ≡ Some c →
     c.path ≡ Observer
 observer_path P c e =
-    let f = bound P.observer (start_at P Observer) c e in
+    let f = bound P.observer _ c e in
     start_path P Observer f.value c f.gives
 
 -- the variables of an instance agree at its path
@@ -321,8 +310,7 @@ given_stays :
 given_stays P X H G None at a h = tt
 given_stays P X H G (Some c) at a h =
     let same = λ (d : Declaration). H.columns Root d.name ≡ G.columns Root d.name in
-    sym (flat_same (λ d. H.columns Root d.name) (λ d. G.columns Root d.name) c.node.inputs
-    (Every-first same c.node.inputs (c.node.outputs ++ c.node.locals)
+    sym (flat_same _ _ c.node.inputs (Every-first same c.node.inputs _
     (agree_there H G c Root (at c refl) a)))
     ∙ h
 
@@ -343,16 +331,14 @@ observed_stays P H G (Some root) None at there a b h = tt
 observed_stays P H G (Some root) (Some observer) at there a b h =
     let same = λ (d : Declaration). H.columns Root d.name ≡ G.columns Root d.name in
     let own = agree_there H G root Root (at root refl) a in
-    let ins = Every-first same root.node.inputs (root.node.outputs ++ root.node.locals) own in
+    let ins = Every-first same root.node.inputs _ own in
     let outs = Every-first same root.node.outputs root.node.locals
-    (Every-second same root.node.inputs (root.node.outputs ++ root.node.locals) own) in
+    (Every-second same root.node.inputs _ own) in
     let seen = agree_there H G observer Observer (there observer refl) b in
     receives_same H G Observer observer.node.inputs
-    (columns_at H Root (root.node.inputs ++ root.node.outputs))
-    (columns_at G Root (root.node.inputs ++ root.node.outputs))
-    (Every-first (λ d. H.columns Observer d.name ≡ G.columns Observer d.name)
-    observer.node.inputs (observer.node.outputs ++ observer.node.locals) seen)
-    (columns_same H G Root (root.node.inputs ++ root.node.outputs)
+    _
+    _ (Every-first _
+    observer.node.inputs _ seen) (columns_same H G Root _
     (Every-append same root.node.inputs root.node.outputs ins outs))
     h
 

@@ -51,9 +51,7 @@ module _ {A : Type 0} (f g : ℕ → Name → List A) (n : ℕ) where
       (outs : List Declaration) → AreSameOutputs outs → gathered f n outs ≡ gathered g n outs
   gathered_same [] h = refl
   gathered_same (o ∷ outs) h =
-      ap₂ (λ xs ys. xs ++ ys)
-      (flat_same (λ i. f i o.name) (λ i. g i o.name) (range_with_len 0 n)
-      (Every-of_range (λ i. f i o.name ≡ g i o.name) 0 n (λ i lt.
+      ap₂ (λ xs ys. xs ++ ys) (flat_same _ _ _ (Every-of_range _ 0 n (λ i lt.
       let same : i ≡ 0 + i = omega arith in
       subst (λ j. f j o.name ≡ g j o.name) same (h i lt).0)))
       (gathered_same outs (λ i lt. (h i lt).1))
@@ -113,9 +111,8 @@ module _ (P : Program) (H G : History) (here : Instance) (agree : AgreeAt H G he
       (k : Clock) (x : Name) → presence H here.path k ≡ presence G here.path k →
       name_streams P here H k x ≡ name_streams P here G k x
   name_same k x e =
-      by (named (λ d. d.name) x (variables here.node))
-      (if_some (λ d. Same d.name) (named (λ d. d.name) x (variables here.node)) (λ d is.
-      (named_every (λ d. Same d.name) x (variables here.node) d agree.columns is).0))
+      by (named (λ d. d.name) x (variables here.node)) (if_some _ _ (λ d is.
+      (named_every _ x _ d agree.columns is).0))
     where
       by : (o : Option Declaration) → IfSome o (λ d. Same d.name) →
           either_or (option_map (λ d. H.columns here.path d.name) o)
@@ -139,7 +136,7 @@ module _ (P : Program) (H G : History) (here : Instance) (agree : AgreeAt H G he
       H.columns (Child here.path n i) d.name ≡ G.columns (Child here.path n i) d.name in
       subst (λ o. Every agrees (listed (λ (n : Node). n.outputs) o)) (sym p.node)
       (Every-first agrees c.node.outputs c.node.locals
-      (Every-second agrees c.node.inputs (c.node.outputs ++ c.node.locals) same.columns))
+      (Every-second agrees c.node.inputs _ same.columns))
 
   -- the histories agree on the names of the clocks of the arguments of a call
   clocks_over :

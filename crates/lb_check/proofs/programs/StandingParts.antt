@@ -274,8 +274,8 @@ module _ (P : Program) (here : Instance) (V : Name → Type 0)
   left_has [] ts e = tt
   left_has (x ∷ xs) ts e =
       let f = first_some (type_of_name P here x) (map (type_of_name P here) xs) ts e in
-      let d = bound (named (λ d. d.name) x (variables here.node)) (variable_type P here) f.0 f.1 in
-      (named_has V x (variables here.node) d.value all d.is, left_has xs f.2 f.3)
+      let d = bound _ _ f.0 f.1 in
+      (named_has V x _ d.value all d.is, left_has xs f.2 f.3)
     where
       first_some : (o : Option DataType) (os : List (Option DataType)) (ts : List DataType) →
           all_some (o ∷ os) ≡ Some ts →

@@ -75,18 +75,6 @@ none_kept k p e =
     let left : k.left - p.elements ≡ 0 = omega (arith, e) in
     ap (λ m. keeping m (if nat_eq m 0 then [] else (k.found ++ (p ∷ [])))) left
 
-pub part_noted : (k : Kept) (t : DataType) (n : ℕ) (o : FoundTypes) →
-    t ≡ type_among (either_or o []) → IsCounted k.left n (part_size o) →
-    noted_part k (record { data_type = t; elements = n }) ≡ noted k o
-part_noted k t n o is counted = by k.left refl
-  where
-    by : (m : ℕ) → k.left ≡ m → noted_part k (part t n) ≡ noted k o
-    by zero e = none_kept k (part t n) e ∙ sym (none_kept k (found_part o) e)
-    by (suc m) e =
-        ap (λ t. noted_part k (part t n)) is
-        ∙ ap (λ n. noted_part k (part (type_among (either_or o [])) n))
-        (counted (omega (arith, e)))
-
 -- ## Several parts
 
 pub kept_both : (k : Kept) (xs ys : List FoundTypes) → kept k (xs ++ ys) ≡ kept (kept k ys) xs

@@ -45,12 +45,8 @@ module _ (P : Program) (here : Instance) (texts : Texts) (n : Counts) (ctx : Con
       Places (placed_types ctx a ++ placed_types ctx b)
       (parts (expr_of texts a) ++ parts (expr_of texts b))
   both_placed a b w u h g =
-      two_placed (placed_types ctx a) (placed_types ctx b) (parts (expr_of texts a))
-      (parts (expr_of texts b))
-      (h (and_first (is_within n a) (is_within n b) w)
-      (and_first (is_unhidden texts a) (is_unhidden texts b) u))
-      (g (and_second (is_within n a) (is_within n b) w)
-      (and_second (is_unhidden texts a) (is_unhidden texts b) u))
+      two_placed _ _ _
+      _ (h (and_first _ _ w) (and_first _ _ u)) (g (and_second _ _ w) (and_second _ _ u))
 
   value_alone : (s : Static) → parts (named_value s) ≡ named_value s ∷ []
   value_alone (tree.Named x) = refl
@@ -68,90 +64,53 @@ module _ (P : Program) (here : Instance) (texts : Texts) (n : Counts) (ctx : Con
     types_placed (Truth b) w u = one_more (Truth b) [] [] w u refl
     types_placed (Variable x) w u = one_more (Variable x) [] [] w u refl
     types_placed (Value i) w u =
-        one_more (Value i) [] [] w u refl
-        ∙ ap (map (data_types P here)) (sym (value_alone (static_at texts.statics i)))
+        one_more _ [] [] w u refl
+        ∙ ap (map (data_types P here)) (sym (value_alone _))
     types_placed (Group' p e) w u = types_placed e w u
-    types_placed (Unary' op p a) w u =
-        one_more (Unary' op p a) (placed_types ctx a) (parts (expr_of texts a)) w u
-        (types_placed a w u)
+    types_placed (Unary' op p a) w u = one_more _ _ _ w u (types_placed a w u)
     types_placed (Binary' op p a q b) w u =
-        one_more (Binary' op p a q b) (placed_types ctx a ++ placed_types ctx b)
-        (parts (expr_of texts a) ++ parts (expr_of texts b)) w u
-        (both_placed a b w u
+        one_more _ _ _ w u (both_placed a b w u
         (λ w u. types_placed a w u) (λ w u. types_placed b w u))
     types_placed (If' p c q a r b) w u =
-        let wab = and_second (is_within n c) _ w in
-        let uab = and_second (is_unhidden texts c) _ u in
-        one_more (If' p c q a r b)
-        (placed_types ctx c ++ (placed_types ctx a ++ placed_types ctx b))
-        (parts (expr_of texts c) ++ (parts (expr_of texts a) ++ parts (expr_of texts b))) w u
-        (two_placed (placed_types ctx c) (placed_types ctx a ++ placed_types ctx b)
-        (parts (expr_of texts c)) (parts (expr_of texts a) ++ parts (expr_of texts b))
-        (types_placed c (and_first (is_within n c) (is_within n a && is_within n b) w)
-        (and_first (is_unhidden texts c) (is_unhidden texts a && is_unhidden texts b) u))
+        let wab = and_second _ _ w in
+        let uab = and_second _ _ u in
+        one_more _
+        _ _ w u (two_placed _ _ _ _ (types_placed c (and_first _ _ w) (and_first _ _ u))
         (both_placed a b wab uab (λ w u. types_placed a w u) (λ w u. types_placed b w u)))
     types_placed (Arrow' p a q b) w u =
-        one_more (Arrow' p a q b) (placed_types ctx a ++ placed_types ctx b)
-        (parts (expr_of texts a) ++ parts (expr_of texts b)) w u (both_placed a b w u
+        one_more _ _ _ w u (both_placed a b w u
         (λ w u. types_placed a w u) (λ w u. types_placed b w u))
     types_placed (Fby' p a q b) w u =
-        one_more (Fby' p a q b) (placed_types ctx a ++ placed_types ctx b)
-        (parts (expr_of texts a) ++ parts (expr_of texts b)) w u (both_placed a b w u
+        one_more _ _ _ w u (both_placed a b w u
         (λ w u. types_placed a w u) (λ w u. types_placed b w u))
-    types_placed (Pre' p e) w u =
-        one_more (Pre' p e) (placed_types ctx e) (parts (expr_of texts e)) w u
-        (types_placed e w u)
-    types_placed (Current' p e) w u =
-        one_more (Current' p e) (placed_types ctx e) (parts (expr_of texts e)) w u
-        (types_placed e w u)
-    types_placed (When' p e x sign) w u =
-        one_more (When' p e x sign) (placed_types ctx e) (parts (expr_of texts e)) w u
-        (types_placed e (and_second (is_variable n x) _ w) u)
-    types_placed (Replicate' p e i) w u =
-        one_more (Replicate' p e i) (placed_types ctx e) (parts (expr_of texts e)) w u
-        (types_placed e (and_second (is_static n i) _ w) u)
-    types_placed (Index' p e i) w u =
-        one_more (Index' p e i) (placed_types ctx e) (parts (expr_of texts e)) w u
-        (types_placed e (and_second (is_static n i) _ w) u)
+    types_placed (Pre' p e) w u = one_more _ _ _ w u (types_placed e w u)
+    types_placed (Current' p e) w u = one_more _ _ _ w u (types_placed e w u)
+    types_placed (When' p e x sign) w u = one_more _ _ _ w u (types_placed e (and_second _ _ w) u)
+    types_placed (Replicate' p e i) w u = one_more _ _ _ w u (types_placed e (and_second _ _ w) u)
+    types_placed (Index' p e i) w u = one_more _ _ _ w u (types_placed e (and_second _ _ w) u)
     types_placed (Slice' p e i j) w u =
-        one_more (Slice' p e i j) (placed_types ctx e) (parts (expr_of texts e)) w u
-        (types_placed e (and_second (is_static n j) _ (and_second (is_static n i) _ w)) u)
+        one_more _ _ _ w u (types_placed e (and_second _ _ (and_second _ _ w)) u)
     types_placed (Join' p a q b) w u =
-        one_more (Join' p a q b) (placed_types ctx a ++ placed_types ctx b)
-        (parts (expr_of texts a) ++ parts (expr_of texts b)) w u (both_placed a b w u
+        one_more _ _ _ w u (both_placed a b w u
         (λ w u. types_placed a w u) (λ w u. types_placed b w u))
-    types_placed (Array' arity all) w u =
-        one_more (Array' arity all) (placed_row_types ctx all) (parts_in (row_of texts all)) w u
-        (row_types_placed all w u)
-    types_placed (AtMostOne' arity all) w u =
-        one_more (AtMostOne' arity all) (placed_row_types ctx all)
-        (parts_in (row_of texts all)) w u (row_types_placed all w u)
-    types_placed (Nor' arity all) w u =
-        one_more (Nor' arity all) (placed_row_types ctx all) (parts_in (row_of texts all)) w u
-        (row_types_placed all w u)
+    types_placed (Array' arity all) w u = one_more _ _ _ w u (row_types_placed all w u)
+    types_placed (AtMostOne' arity all) w u = one_more _ _ _ w u (row_types_placed all w u)
+    types_placed (Nor' arity all) w u = one_more _ _ _ w u (row_types_placed all w u)
     types_placed (Call' c arity all) w u =
-        one_more (Call' c arity all) (placed_row_types ctx all) (parts_in (row_of texts all)) w u
-        (row_types_placed all (and_second (is_call n c) _ w) u)
+        one_more _ _ _ w u (row_types_placed all (and_second _ _ w) u)
     types_placed (IterateNode' it c arity all) w u =
-        one_more (IterateNode' it c arity all) (placed_row_types ctx all)
-        (parts_in (row_of texts all)) w u
-        (row_types_placed all (and_second (is_call n c) _ w) u)
+        one_more _ _ _ w u (row_types_placed all (and_second _ _ w) u)
     types_placed (IterateSymbol' it op i arity all) w u =
-        one_more (IterateSymbol' it op i arity all) (placed_row_types ctx all)
-        (parts_in (row_of texts all)) w u
-        (row_types_placed all (and_second (is_static n i) _ w) u)
+        one_more _ _ _ w u (row_types_placed all (and_second _ _ w) u)
 
     pub row_types_placed : {m : Count} (row : Row_of-Term m) → are_within n row ≡ true →
         are_unhidden texts row ≡ true →
         placed_row_types ctx row ≡ map (data_types P here) (parts_in (row_of texts row))
     row_types_placed end_of-Term w u = refl
     row_types_placed (more_of-Term e rest) w u =
-        two_placed (placed_types ctx e) (placed_row_types ctx rest) (parts (expr_of texts e))
-        (parts_in (row_of texts rest))
-        (types_placed e (and_first (is_within n e) (are_within n rest) w)
-        (and_first (is_unhidden texts e) (are_unhidden texts rest) u))
-        (row_types_placed rest (and_second (is_within n e) (are_within n rest) w)
-        (and_second (is_unhidden texts e) (are_unhidden texts rest) u))
+        two_placed _ _ _
+        _ (types_placed e (and_first _ _ w) (and_first _ _ u))
+        (row_types_placed rest (and_second _ _ w) (and_second _ _ u))
 
   -- ## Statements
 
@@ -159,8 +118,7 @@ module _ (P : Program) (here : Instance) (texts : Texts) (n : Counts) (ctx : Con
       is_statement_unhidden texts s ≡ true →
       statement_types ctx s
       ≡ map (data_types P here) (parts (right_side (statement_of texts s)))
-  statement_placed (statement.Equation lefts e) w u =
-      types_placed e (and_second (list_all (is_variable n) lefts.items) (is_within n e) w) u
+  statement_placed (statement.Equation lefts e) w u = types_placed e (and_second _ _ w) u
   statement_placed (statement.Assertion e) w u = types_placed e w u
 
   -- the found types of the statements of a node are those of the parts of their texts
@@ -172,12 +130,7 @@ module _ (P : Program) (here : Instance) (texts : Texts) (n : Counts) (ctx : Con
       (map (statement_of texts) ss))
   statements_typed [] w u = refl
   statements_typed (s ∷ ss) w u =
-      two_placed (statement_types ctx s) (flat_map (statement_types ctx) ss)
-      (parts (right_side (statement_of texts s)))
-      (flat_map (λ s. parts (right_side s)) (map (statement_of texts) ss))
-      (statement_placed s
-      (and_first (is_statement_within n s) (list_all (is_statement_within n) ss) w)
-      (and_first (is_statement_unhidden texts s) (list_all (is_statement_unhidden texts) ss) u))
-      (statements_typed ss
-      (and_second (is_statement_within n s) (list_all (is_statement_within n) ss) w)
-      (and_second (is_statement_unhidden texts s) (list_all (is_statement_unhidden texts) ss) u))
+      two_placed _ _
+      _
+      _ (statement_placed s (and_first _ _ w) (and_first _ _ u)) (statements_typed ss
+      (and_second _ _ w) (and_second _ _ u))

@@ -527,8 +527,8 @@ module _ (P : Program) (accepted : static_refusal P ≡ None) where
     size_small : is_small P ≡ true → (e : Expr) → In e (node_parts here.node) →
         expression_size P here e ≤ 65536
     size_small small e on =
-        let one = in_sum (expression_size P here) (node_parts here.node) e on in
-        let whole = in_sum (instance_size P) (instances P) here stands in
+        let one = in_sum _ _ e on in
+        let whole = in_sum _ _ here stands in
         by (size P) (sum_by (width P here) (variables here.node))
         (sum_by (expression_size P here) (node_parts here.node)) (expression_size P here e) small
         whole one

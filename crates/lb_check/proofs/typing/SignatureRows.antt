@@ -26,50 +26,11 @@ Types = List (Option DataType)
 
 -- ## The type at a place
 
-pub scalar_within : (t : DataType) (n i : ℕ) → i < n → type_at (replicate n (Some t)) i ≡ Some t
-scalar_within t zero i lt = absurd (omega (arith, lt))
-scalar_within t (suc n) zero lt = refl
-scalar_within t (suc n) (suc i) lt = scalar_within t n i (omega (arith, lt))
-
-pub scalar_past : (t : DataType) (n i : ℕ) → n ≤ i → type_at (replicate n (Some t)) i ≡ None
-scalar_past t zero i le = refl
-scalar_past t (suc n) zero le = absurd (omega (arith, le))
-scalar_past t (suc n) (suc i) le = scalar_past t n i (omega (arith, le))
-
-pub declared_there : (f : Variable → Option DataType) (vs : List Variable) (i : ℕ) →
-    type_at (map f vs) i ≡ (slice_get vs i >>= f)
-declared_there f vs i = ap (λ o. either_or o None) (slice_get-map f vs i) ∙ by (slice_get vs i)
-  where
-    by : (o : Option Variable) → either_or (option_map f o) None ≡ (o >>= f)
-    by None = refl
-    by (Some v) = refl
-
 pub item_at : {A : Type 0} (f : A → Option DataType) (xs : List A) (i : ℕ) (d : A) →
     i < length xs → f (get_or xs i d) ≡ type_at (map f xs) i
 item_at f xs i d lt =
     sym (ap (λ o. either_or o None)
     (slice_get-map f xs i ∙ ap (option_map f) (slice_get-get_or xs i d lt)))
-
-pub array_at : (n : ℕ) (os : Types) (i : ℕ) → type_at (map (arrays n) os) i ≡ arrays n (type_at os i)
-array_at n [] i = refl
-array_at n (o ∷ os) zero = refl
-array_at n (o ∷ os) (suc i) = array_at n os i
-
-pub first_at : (n : ℕ) (os : Types) → type_at (rest_arrays n os) 0 ≡ type_at os 0
-first_at n [] = refl
-first_at n (o ∷ os) = refl
-
-pub later_at : (n : ℕ) (os : Types) (i : ℕ) → i ≢ 0 →
-    type_at (rest_arrays n os) i ≡ arrays n (type_at os i)
-later_at n [] i some = refl
-later_at n (o ∷ os) zero some = absurd (some refl)
-later_at n (o ∷ os) (suc i) some = array_at n os i
-
-pub as_many_arrays : (a : Arrays) (os : Types) → length (arrays_in a os) ≡ length os
-as_many_arrays No os = refl
-as_many_arrays (All n) os = length-map os (arrays n)
-as_many_arrays (Rest n) [] = refl
-as_many_arrays (Rest n) (o ∷ os) = ap suc (length-map os (arrays n))
 
 -- the one type of a row with one type
 pub one_given : (os : Types) → length os ≡ 1 → type_at os 0 ≡ (all_some os >>= only)

@@ -9,14 +9,6 @@ use Rattle.lb_check.specs.TermTypes.{Context, context_of}
 use Rattle.lb_check.proofs.lists.FirstBroken.{all_pass, fails_there, not_all_pass}
 use Rattle.lb_check.specs.declared.part.Part.TheVariants as part
 
--- a specialization of no node breaks the rules of types
-pub no_node : (r : Reached) (t : Table) (s : Specialization) (p : Part) →
-    slice_get r.nodes.items s.node.0 ≡ None → IsIllTyped r t s p
-no_node r t s p at = (
-  ap (holds (λ n. is_node_typed (context_of r t n s) n)) at,
-  λ n is. let none : None ≡ Some n = sym at ∙ is in absurd cc,
-)
-
 module _ (r : Reached) (t : Table) (s : Specialization) (n : ResolvedNode)
     (at : slice_get r.nodes.items s.node.0 ≡ Some n) where
   abbrev ctx : Context

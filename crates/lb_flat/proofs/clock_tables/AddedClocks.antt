@@ -36,14 +36,11 @@ module _ {B : Type 0} (u v : ℕ → B) where
   pairs_first a (suc n) more zero lt m e =
       let none : m ≡ 0 = omega (arith, e) in
       let same : a ≡ a + 0 = omega arith in
-      ap (slice_get (flat_map pair (range_with_len a (suc n)) ++ more)) none
-      ∙ ap (λ i. Some (u i)) same
+      cc
   pairs_first a (suc n) more (suc x) lt m e =
       let next : m ≡ suc (suc (2 * x)) = omega (arith, e) in
       let same : (a + 1) + x ≡ a + suc x = omega arith in
-      ap (slice_get (flat_map pair (range_with_len a (suc n)) ++ more)) next
-      ∙ pairs_first (a + 1) n more x (omega (arith, lt)) (2 * x) refl
-      ∙ ap (λ i. Some (u i)) same
+      cc (pairs_first (a + 1) n more x (omega (arith, lt)) (2 * x) refl)
 
   pairs_second :
       (a n : ℕ) (more : List B) (x : ℕ) → x < n → (m : ℕ) → m ≡ 2 * x + 1 →
@@ -52,14 +49,11 @@ module _ {B : Type 0} (u v : ℕ → B) where
   pairs_second a (suc n) more zero lt m e =
       let one : m ≡ 1 = omega (arith, e) in
       let same : a ≡ a + 0 = omega arith in
-      ap (slice_get (flat_map pair (range_with_len a (suc n)) ++ more)) one
-      ∙ ap (λ i. Some (v i)) same
+      cc
   pairs_second a (suc n) more (suc x) lt m e =
       let next : m ≡ suc (suc (2 * x + 1)) = omega (arith, e) in
       let same : (a + 1) + x ≡ a + suc x = omega arith in
-      ap (slice_get (flat_map pair (range_with_len a (suc n)) ++ more)) next
-      ∙ pairs_second (a + 1) n more x (omega (arith, lt)) (2 * x + 1) refl
-      ∙ ap (λ i. Some (v i)) same
+      cc (pairs_second (a + 1) n more x (omega (arith, lt)) (2 * x + 1) refl)
 
 -- ## What is filled
 
@@ -87,8 +81,7 @@ module _ (from : Sources) (counted : AreCounted from) where
       (added_after piece 0 [] (take k from.table.instances.items))
   next_row piece k i at =
       let next : suc k ≡ k + 1 = omega arith in
-      ap (λ m. added_after piece 0 [] (take m rows)) next
-      ∙ row_added piece rows k i (slice_get_within rows k i at)
+      cc (row_added piece rows k i (slice_get_within rows k i at))
 
   -- ## The clocks on which rows run
 
@@ -136,13 +129,8 @@ module _ (from : Sources) (counted : AreCounted from) where
       get_or (table_runs from from.table.instances.items) k None
       ≡ clock_id from.variables (table_runs from from.table.instances.items) caller.0 c.runs
   runs_called k i at caller call index is lt c found =
-      let done = table_runs from (take k rows) in
       let within = slice_get_within rows k i at in
-      runs_read k i at
-      ∙ ap (row_runs from done) is
-      ∙ ap (λ o. either_or
-      (option_map (λ c. clock_id from.variables done caller.0 c.runs) o) None) found
-      ∙ same_id c.runs (runs_before k caller.0 (omega (arith, within)) lt)
+      cc (runs_read k i at, same_id c.runs (runs_before k caller.0 (omega (arith, within)) lt))
     where
       same_id : (l : Clock) →
           get_or (table_runs from (take k from.table.instances.items)) caller.0 None
@@ -157,15 +145,13 @@ module _ (from : Sources) (counted : AreCounted from) where
       (k : ℕ) (i : row.Instance) → slice_get from.table.instances.items k ≡ Some i →
       i.origin ≡ origin.UnderTest →
       get_or (table_runs from from.table.instances.items) k None ≡ None
-  runs_first k i at is =
-      runs_read k i at ∙ ap (row_runs from (table_runs from (take k rows))) is
+  runs_first k i at is = cc (runs_read k i at)
 
   pub runs_observer :
       (k : ℕ) (i : row.Instance) → slice_get from.table.instances.items k ≡ Some i →
       i.origin ≡ origin.Observer →
       get_or (table_runs from from.table.instances.items) k None ≡ None
-  runs_observer k i at is =
-      runs_read k i at ∙ ap (row_runs from (table_runs from (take k rows))) is
+  runs_observer k i at is = cc (runs_read k i at)
 
   -- ## The elements that serve for variables
 
@@ -220,11 +206,7 @@ module _ (from : Sources) (counted : AreCounted from) where
       get_or (table_serving from from.table.instances.items) (get_or from.variables k 0 + x)
       no_element
       ≡ own_element from.variables from.starts k x
-  serving_own k i at x lt none =
-      serving_read k i at x lt
-      ∙ ap (λ o. either_or
-      (option_map (λ n. get_or (table_serving from (take k rows)) n no_element) o)
-      (own_element from.variables from.starts k x)) none
+  serving_own k i at x lt none = cc (serving_read k i at x lt)
 
   -- else the element that serves for the variable `n` of its caller
   pub serving_given :
@@ -281,15 +263,14 @@ module _ (from : Sources) (counted : AreCounted from) where
         let j = get_or rows k i.0 in
         let same : j ≡ i.0 = get_or_from_slice_get rows k i.0 i.0 i.1 in
         let own : length (clock_row k j) ≡ 2 * count_at from.variables k =
-        ap (λ z. length (clock_row k z)) same ∙ row_long k i.0 i.1 in
+        cc (row_long k i.0 i.1) in
         let long = length-append done (clock_row k j) in
         let known = clocks_long k (omega (arith, le)) in
         let next = counted.next k (omega (arith, le)) in
         let count : before (k + 1) ≡ before (suc k) =
         let same : k + 1 ≡ suc k = omega arith in ap before same in
-        ap length (next_row clock_piece k i.0 i.1)
-        ∙ (let all : length (done ++ clock_row k j) ≡ 2 * before (suc k) =
-        omega (arith, long, own, known, next, count) in all)
+        ap length (next_row clock_piece k _ i.1) ∙ (let all : length (done ++ clock_row k j) ≡ 2
+        * before (suc k) = omega (arith, long, own, known, next, count) in all)
 
     -- the clock of variable `x` for `sign` stands at its place in the table
     pub clocks_read :
@@ -309,12 +290,7 @@ module _ (from : Sources) (counted : AreCounted from) where
         let start = clocks_long k (omega (arith, within)) in
         let here : 2 * (before k + x) + sign_place sign
         ≡ length done + (2 * x + sign_place sign) = omega (arith, start) in
-        ap (λ l. slice_get l (2 * (before k + x) + sign_place sign)) s.1
-        ∙ ap (λ o. slice_get (done ++ (listed (node_clocks from.variables runs serving k) o ++ s.0))
-        (2 * (before k + x) + sign_place sign)) is
-        ∙ ap (slice_get (done ++ (own ++ s.0))) here
-        ∙ get_later done (own ++ s.0) (2 * x + sign_place sign)
-        ∙ by s.0 sign
+        cc (s.1, get_later done (own ++ s.0) (2 * x + sign_place sign), by s.0 sign)
       where
         by : (more : List table.Clock) (sign : Bool) →
             slice_get (flat_map (λ y. clock_for k n false y ∷ clock_for k n true y ∷ [])
@@ -322,11 +298,9 @@ module _ (from : Sources) (counted : AreCounted from) where
             ≡ Some (clock_for k n sign x)
         by more false =
             let start : 0 + x ≡ x = omega arith in
-            pairs_first (clock_for k n false) (clock_for k n true) 0 (count_at from.variables k)
-            more x lt (2 * x + 0) (omega arith)
-            ∙ ap (λ y. Some (clock_for k n false y)) start
+            cc (pairs_first (clock_for k n false) (clock_for k n true) 0
+            (count_at from.variables k) more x lt (2 * x + 0) (omega arith))
         by more true =
             let start : 0 + x ≡ x = omega arith in
-            pairs_second (clock_for k n false) (clock_for k n true) 0 (count_at from.variables k)
-            more x lt (2 * x + 1) refl
-            ∙ ap (λ y. Some (clock_for k n true y)) start
+            cc (pairs_second (clock_for k n false) (clock_for k n true) 0
+            (count_at from.variables k) more x lt (2 * x + 1) refl)

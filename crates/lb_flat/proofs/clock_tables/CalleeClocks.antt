@@ -164,19 +164,15 @@ module _ (P : Program) (accepted : static_refusal P ≡ None) (checked : check_r
           ≡ whole_clock P here.path (runs_on P here.path) l →
           flat_clock Y (Child here.path o.calls_before index) k ≡ flat_clock Y here.path l
       on_numbers s index callee there k l e =
-          let p = there.path in
           let c = there.instance in
-          ap (λ q. flat_clock Y q k) (sym p) ∙ flat_is P c there.stands k
-          ∙ ap (λ q. numbered_clock P (whole_clock P q (runs_on P q) k)) p
-          ∙ ap (numbered_clock P) e ∙ sym (flat_is P here stands l)
+          cc (flat_is P c there.stands k, flat_is P here stands l)
 
       -- a callee declares its clocks as the rules say
       declared :
           (s : Site) (index : ℕ) (callee : Node) →
           IsInstanceOf P here s o.calls_before index callee → are_declared_clocks callee ≡ true
       declared s index callee there =
-          subst (λ n. are_declared_clocks n ≡ true) there.node
-          (and_first (are_declared_clocks there.instance.node) _
+          rw (← there.node) (and_first (are_declared_clocks there.instance.node) _
           (clocked P checked there.instance there.stands))
 
   -- ## A call
@@ -196,8 +192,7 @@ module _ (P : Program) (accepted : static_refusal P ≡ None) (checked : check_r
         (omega arith)
 
     call_clocked : is_call_clocked here.node k es callee ≡ true
-    call_clocked =
-        called_passes P (is_call_clocked here.node k es) f callee (lawful o i refl) named
+    call_clocked = called_passes P (is_call_clocked here.node k es) f _ (lawful o i refl) named
 
     given_all : are_given_variables here.node callee es ≡ true
     given_all = and_first (are_given_variables here.node callee es) _ call_clocked
@@ -226,12 +221,8 @@ module _ (P : Program) (accepted : static_refusal P ≡ None) (checked : check_r
         (outer (base_clock k callee) (given_with (lefts_at P here.node n))
         (declared_clock callee d.name))
     parameter_clock d on over =
-        let all = given_with (lefts_at P here.node n) in
-        on_numbers o i refl (call_site f statics) 0 callee there (declared_clock callee d.name)
-        (outer (base_clock k callee) all (declared_clock callee d.name))
-        (called_clock P here (at_path P here stands) o (own o i refl) callee all
-        (base_clock k callee) is_given runs 0 (declared_clock callee d.name)
-        (over_served callee all (declared_clock callee d.name)
+        on_numbers o i refl _ 0 _ there _ _ (called_clock P here (at_path P here stands) o
+        (own o i refl) callee _ _ is_given runs 0 _ (over_served _ _ _
         (over_parameters callee declares d on) over))
 
     -- the clock of a parameter whose clock waits for arguments alone
@@ -328,17 +319,14 @@ module _ (P : Program) (accepted : static_refusal P ≡ None) (checked : check_r
             as_many = pairs.as_many;
             outputs = outputs;
             left_variables =
-                joined_clocks (Declaration × Name)
-                (λ u. flat_clock Y (Child here.path n 0) (declared_clock callee u.0.name))
-                (λ u. flat_clock Y here.path
-                (outer (base_clock k callee) (given_with lefts) (declared_clock callee u.0.name)))
-                (λ u. flat_clock Y here.path (declared_clock here.node u.1))
-                (zip callee.outputs lefts)
-                (beside_first _ callee.outputs lefts outputs)
-                (every_applied (Declaration × Name) (flat_clock Y here.path)
-                (λ u. outer (base_clock k callee) (given_with lefts)
-                (declared_clock callee u.0.name))
-                (λ u. declared_clock here.node u.1) (zip callee.outputs lefts) pairs.same);
+                joined_clocks (Declaration × Name) (λ u. flat_clock Y (Child here.path n 0)
+                (declared_clock callee u.0.name)) (λ u. flat_clock Y here.path (outer
+                (base_clock k callee) (given_with lefts) (declared_clock callee u.0.name)))
+                (λ u. flat_clock Y here.path (declared_clock here.node u.1)) _
+                (beside_first _ _ lefts outputs) (every_applied (Declaration × Name)
+                (flat_clock Y here.path) (λ u. outer (base_clock k callee) (given_with lefts)
+                (declared_clock callee u.0.name)) (λ u. declared_clock here.node u.1) _
+                pairs.same);
           }
 
   -- ## An iterated node
@@ -374,12 +362,10 @@ module _ (P : Program) (accepted : static_refusal P ≡ None) (checked : check_r
   clocks_at :
       (k : Clock) (n : ℕ) (e : Expr) → In (at k n e) (node_occurrences P here.node) →
       ClocksAt (layout P) P here k n e
-  clocks_at k n (Call f statics es) i =
-      λ callee named. call_clocks_are k n f statics es i callee named
+  clocks_at k n (Call f statics es) i = λ callee named. call_clocks_are k n f _ es i _ named
   clocks_at k n (Iterate it (Node_named f statics) m es) i =
-      λ callee named index lower.
-      Every-from _ (callee.inputs ++ callee.outputs)
-      (iterated_clock k n it f statics m es i callee named index lower)
+      λ callee named index lower. Every-from _ (callee.inputs ++ callee.outputs)
+      (iterated_clock k n it f _ m es i _ named index lower)
   clocks_at k n (Iterate it (Symbol op) m es) i = tt
   clocks_at k n e i = tt
 
@@ -433,10 +419,9 @@ module _ (P : Program) (accepted : static_refusal P ≡ None) (checked : check_r
       In (at k n e) (node_occurrences P here.node) →
       RunAt (layout P) P H here k n e
   runs_there H k n (Call f statics es) i = λ callee named.
-      instance_runs (at k n (Call f statics es)) i refl 0 (base_clock k callee)
-      (ap (λ c. either_or (c >>= λ c. Some (base_clock k c)) k) named)
+      instance_runs _ i refl 0 _ (ap (λ c. either_or (c >>= λ c. Some (base_clock k c)) k) named)
   runs_there H k n (Iterate it (Node_named f statics) m es) i = λ index lower.
-      instance_runs (at k n (Iterate it (Node_named f statics) m es)) i refl index k refl
+      instance_runs _ i refl index k refl
   runs_there H k n (Iterate it (Symbol op) m es) i = tt
   runs_there H k n e i = tt
 

@@ -20,8 +20,7 @@ filter_last : (p : ℕ → Bool) (n : ℕ) →
     ≡ filter p (range_with_len 0 n) ++ cond (p n) (n ∷ []) []
 filter_last p n =
     let zero_n : 0 + n ≡ n = omega arith in
-    ap (filter p) (range_last 0 n ∙ ap (λ y. range_with_len 0 n ++ y ∷ []) zero_n)
-    ∙ filter-append p (range_with_len 0 n) (n ∷ [])
+    cc (range_last 0 n, filter-append p (range_with_len 0 n) (n ∷ []))
 
 filters_agree : (p q : ℕ → Bool) (n : ℕ) → ((x : ℕ) → x < n → p x ≡ q x) →
     filter p (range_with_len 0 n) ≡ filter q (range_with_len 0 n)
@@ -29,9 +28,7 @@ filters_agree p q zero h = refl
 filters_agree p q (suc n) h =
     let next : suc n ≡ n + 1 = omega arith in
     let before = filters_agree p q n (λ x lt. h x (omega (arith, lt))) in
-    ap (λ m. filter p (range_with_len 0 m)) next ∙ (filter_last p n
-    ∙ (ap₂ (λ (xs : List ℕ) (b : Bool). xs ++ cond b (n ∷ []) []) before (h n (omega arith))
-    ∙ (sym (filter_last q n) ∙ ap (λ m. filter q (range_with_len 0 m)) (sym next))))
+    cc (filter_last p n, h n (omega arith), filter_last q n)
 
 -- the flags of a node give the variables that serve as clocks
 pub flagged_are : (n : ResolvedNode) (flags : List Bool) →
@@ -69,9 +66,8 @@ module _ (places : ℕ → List ℕ) (flags : List Bool) where
       z ≡ onto below (gives s (flat_map places (flagged_below flags (x + 1))))
   flag_put below s w z new x d lt e h put is =
       let so = flat_map places (flagged_below flags x) in
-      putting_more below so new (flat_map places (flagged_below flags (x + 1))) s w z h put
-      (ap (λ (ys : List ℕ). so ++ ys) (is ∙ sym (append-nil (places x)))
-      ∙ sym (last_flag x true d lt e))
+      putting_more below _ new _ s w z h put (ap (λ (ys : List ℕ). so ++ ys)
+      (is ∙ sym (append-nil (places x))) ∙ sym (last_flag x true d lt e))
 
   -- a variable without a flag adds nothing
   pub flag_skipped :
@@ -81,8 +77,7 @@ module _ (places : ℕ → List ℕ) (flags : List Bool) where
       w ≡ onto below (gives s (flat_map places (flagged_below flags (x + 1))))
   flag_skipped below s w x d lt e h =
       let so = flat_map places (flagged_below flags x) in
-      h ∙ ap (λ (is : List ℕ). onto below (gives s is))
-      (sym (last_flag x false d lt e ∙ append-nil so))
+      cc (last_flag x false d lt e, append-nil so)
 
 -- ## Row after row
 
@@ -93,9 +88,7 @@ module _ (r : Reached) (t : Table) (cs : ℕ → Context) where
       node_at r t i ≡ Some n → ctx ≡ cs j →
       HasFlags (length n.variables.items) (clocks_named n) flags →
       flat_map ctx.places (flagged flags) ≡ clocks_in cs r t j i
-  clocks_found j i n ctx flags e at h =
-      ap₂ (λ (ctx : Context) (is : List ℕ). flat_map ctx.places is) at (flagged_are n flags h)
-      ∙ sym (ap (listed (λ (n : ResolvedNode). flat_map (cs j).places (clock_numbers n))) e)
+  clocks_found j i n ctx flags e at h = cc (flagged_are n flags h)
 
   clocks_more :
       (is : List row.Instance) (j : ℕ) (i d : row.Instance) → j < length is →
@@ -105,10 +98,7 @@ module _ (r : Reached) (t : Table) (cs : ℕ → Context) where
   unfolding row_clocks
   clocks_more is j i d lt e =
       let next : suc j ≡ j + 1 = omega arith in
-      ap (row_clocks r t cs j) (drop_more is j d lt)
-      ∙ (ap (λ k. clocks_in cs r t j (get_or is j d) ++ row_clocks r t cs k (drop (j + 1) is)) next
-      ∙ ap (λ (i : row.Instance).
-      clocks_in cs r t j i ++ row_clocks r t cs (j + 1) (drop (j + 1) is)) (sym e))
+      cc (drop_more is j d lt)
 
   no_clocks : (j : ℕ) → row_clocks r t cs j [] ≡ []
   unfolding row_clocks
@@ -124,16 +114,10 @@ module _ (r : Reached) (t : Table) (cs : ℕ → Context) where
   clocks_step x y whole is j i d lt e put h =
       let one = clocks_in cs r t j i in
       let rest = row_clocks r t cs (j + 1) (drop (j + 1) is) in
-      ap (λ (y : Emitted). onto y.found (gives y.state rest)) put
-      ∙ (ap (λ (is : List ℕ). gives x.state is)
-      (append_assoc x.found one rest
-      ∙ ap (λ (is : List ℕ). x.found ++ is) (sym (clocks_more is j i d lt e))) ∙ h)
+      cc (append_assoc x.found one rest, clocks_more is j i d lt e)
 
   pub clocks_end :
       (s : State) (so : List ℕ) (whole : Emitted) (is : List row.Instance) (j : ℕ) →
       length is ≤ j → onto so (gives s (row_clocks r t cs j (drop j is))) ≡ whole →
       gives s so ≡ whole
-  clocks_end s so whole is j le h =
-      sym (ap (λ (is : List ℕ). gives s (so ++ is))
-      (ap (row_clocks r t cs j) (drop_all j is le) ∙ no_clocks j)
-      ∙ ap (λ (is : List ℕ). gives s is) (append-nil so)) ∙ h
+  clocks_end s so whole is j le h = cc (drop_all j is le, no_clocks j, append-nil so)

@@ -42,8 +42,7 @@ module _ (P : Program) (accepted : static_refusal P ≡ None) (checked : check_r
   id_within here on r (On k x sign) h =
       let z = is.rows here on x h.1 sign in
       let low = slice_get_within clocks (place here.path x + sign_place sign) z.row z.stands in
-      λ n e. subst (λ (i : ClockId). i.0 < length clocks)
-      (same_Some (record { 0 = place here.path x + sign_place sign }) n e) low
+      λ n e. rw (← (same_Some (record { 0 = place here.path x + sign_place sign }) n e)) low
 
   base_within : IsClock clocks None
   base_within n e = absurd cc
@@ -84,11 +83,10 @@ module _ (P : Program) (accepted : static_refusal P ≡ None) (checked : check_r
       subst (IsTableClock (length (program_elements P)) clocks) same
       (record {
         element =
-            first_below (length (program_elements P)) _ z.row.element.0
-            (numbers_below P accepted (serving P here.path x).0 (serving P here.path x).1) signs;
+            first_below _ _ _ (numbers_below P accepted (serving P here.path x).0
+            (serving P here.path x).1) signs;
         parent =
-            subst (IsClock clocks) (sym z.parent)
-            (id_within here on (runs_within here.path here at) (declared_clock here.node x)
+            subst (IsClock clocks) (sym z.parent) (id_within here on (runs_within _ here at) _
             (declared_own here.node x));
       })
 
@@ -179,9 +177,8 @@ module _ (c : Checking) (lawful : IsChecked c) (l : Layout)
 
   own_counted : AreCounted (sources_of c l)
   own_counted =
-      counted P c.elab.reached c.elab.table lawful.elaborated.reached lawful.elaborated.table
-      lawful.elaborated.accepted lawful.accepted c.clocks.items lawful.clocks l.variables.items
-      l.starts.items laid.numbers laid.variables small
+      counted P _ _ lawful.elaborated.reached lawful.elaborated.table lawful.elaborated.accepted
+      lawful.accepted _ lawful.clocks _ _ laid.numbers laid.variables small
 
   long : length (all_clocks (sources_of c l))
       ≡ 2 * get_or l.variables.items (length c.elab.table.instances.items) 0
@@ -211,10 +208,9 @@ module _ (c : Checking) (lawful : IsChecked c) (l : Layout)
       v < get_or l.variables.items (length c.elab.table.instances.items) 0 → (m : ℕ) →
       2 * v + sign_place sign ≡ m → IsPlaced m
   at_variable v sign lt m there =
-      let o = row_of_variable l.variables.items own_counted.first
-      (length c.elab.table.instances.items) own_counted.next v lt in
+      let o = row_of_variable _ own_counted.first _ own_counted.next v lt in
       let i = item_at c.elab.table.instances.items o.k o.row in
-      let s = row_shown P c.elab.reached c.elab.table lawful.elaborated.table o.k i.0 i.1 in
+      let s = row_shown P _ _ lawful.elaborated.table _ _ i.1 in
       of o.k o.x i.0 s.0 s.1 o.is o.low
     where
       of : (k x : ℕ) (i : row.Instance) (here : Instance) →
@@ -223,20 +219,16 @@ module _ (c : Checking) (lawful : IsChecked c) (l : Layout)
           IsPlaced m
       of k x i here is number low =
           let on = in_at (instances P) k here is.instance_is in
-          let many = row_count P c.elab.reached c.elab.table lawful.elaborated.reached
-          lawful.elaborated.table lawful.elaborated.accepted l.variables.items laid.variables k i
-          here is in
+          let many = row_count P _ _ lawful.elaborated.reached _ lawful.elaborated.accepted _
+          laid.variables k _ here is in
           let names = length-map (variables here.node) (λ (d : Declaration). d.name) in
           let y = item_at (variable_names here.node) x (omega (arith, many, names, low)) in
-          let row_is = row_number_is P c.elab.reached c.elab.table lawful.elaborated.table k i here
-          is in
-          let distinct = apart P c.elab.reached c.elab.table lawful.elaborated.reached
-          lawful.elaborated.table lawful.elaborated.accepted lawful.accepted c.clocks.items
-          lawful.clocks l.variables.items l.starts.items laid.numbers laid.variables small k i here
-          is in
-          let place_is = variable_place_is P here on distinct x y.0 y.1 in
+          let row_is = row_number_is P _ _ _ k _ here is in
+          let distinct = apart P _ _ lawful.elaborated.reached _ lawful.elaborated.accepted
+          lawful.accepted _ lawful.clocks _ _ laid.numbers laid.variables small k _ here is in
+          let place_is = variable_place_is P here on distinct x _ y.1 in
           let start : path_before P l.variables.items here.path ≡ get_or l.variables.items k 0 =
-          ap (λ j. get_or l.variables.items j 0) row_is in
+          cc in
           record {
             here = here;
             stands = on;
@@ -258,9 +250,8 @@ module _ (c : Checking) (lawful : IsChecked c) (l : Layout)
       Every (λ o. IsOwn here.node o.clock)
       (node_occurrences (elaborated_program c.elab) here.node)
   terms_own =
-      own_terms P c.elab.reached c.elab.table lawful.elaborated.reached lawful.elaborated.table
-      lawful.elaborated.accepted lawful.accepted c.clocks.items lawful.clocks l.variables.items
-      l.starts.items laid.numbers laid.variables small
+      own_terms P _ _ lawful.elaborated.reached lawful.elaborated.table lawful.elaborated.accepted
+      lawful.accepted _ lawful.clocks _ _ laid.numbers laid.variables small
 
   by_formula :
       IsClockTable (elaborated_program c.elab) (all_clocks (sources_of c l))
@@ -294,8 +285,7 @@ module _ (c : Checking) (lawful : IsChecked c) (l : Layout)
       let w = placed k.0 (slice_get_within C k.0 t stands) in
       entry_whole P lawful.elaborated.accepted lawful.accepted terms_own C
       (path_place P l.variables.items) (path_runs P (all_runs (sources_of c l)))
-      (path_before P l.variables.items) by_formula w.here w.stands w.x w.named w.sign k t w.spot
-      stands
+      (path_before P l.variables.items) by_formula _ w.stands _ w.named _ k t w.spot stands
 
   -- at most 131072 clocks are filled in: two for each variable
   pub filled_few : length (all_clocks (sources_of c l)) ≤ 131072

@@ -40,7 +40,7 @@ StandsFor clocks id (Where k i sign) =
 stands_is :
     (clocks : List table.Clock) (m : ℕ) (id : Option ClockId) (k : FlatClock) →
     StandsFor clocks id k → flat_depth k ≤ m → clock_within m clocks id ≡ k
-stands_is clocks m id Always h deep = ap (clock_within m clocks) h ∙ none m
+stands_is clocks m id Always h deep = cc (none m)
   where
     none : (m : ℕ) → clock_within m clocks None ≡ Always
     none zero = refl
@@ -49,10 +49,7 @@ stands_is clocks zero id (Where k i sign) h deep = absurd (omega (arith, deep))
 stands_is clocks (suc m) id (Where k i sign) h deep =
     let c = h.0 in
     let up = stands_is clocks m c.parent k h.6 (omega (arith, deep)) in
-    ap (clock_within (suc m) clocks) h.2
-    ∙ ap (clock_from (clock_within m clocks)) h.3
-    ∙ ap (λ l. Where l c.element.0 c.sign) up
-    ∙ ap₂ (λ j s. Where k j s) h.4 h.5
+    cc (h.2, h.3, h.4, h.5)
 
 pub first_signed :
     (k : FlatClock) (sign : Bool) (is : List ℕ) (i : ℕ) → slice_get is 0 ≡ Some i →
@@ -100,8 +97,7 @@ module _ (P : Program) (accepted : static_refusal P ≡ None) (checked : check_r
       let up = rows_stand here stands r k
       (subst (IsOwn here.node) (sym h.0) (declared_own here.node x)) in
       let parent : StandsFor clocks row.row.parent (flat_clock (layout P) here.path k) =
-      subst (λ i. StandsFor clocks i (flat_clock (layout P) here.path k))
-      (ap (clock_place place runs here.path) h.0 ∙ sym row.parent) up in
+      rw (← (ap (clock_place place runs here.path) h.0 ∙ sym row.parent)) up in
       let found : StandsFor clocks (clock_place place runs here.path (On k x sign))
       (Where (flat_clock (layout P) here.path k) row.row.element.0 sign) = (
         row.row,
@@ -113,8 +109,7 @@ module _ (P : Program) (accepted : static_refusal P ≡ None) (checked : check_r
         parent,
       ) in
       subst (StandsFor clocks (clock_place place runs here.path (On k x sign)))
-      (sym (first_signed (flat_clock (layout P) here.path k) sign ((layout P).signs here.path x)
-      row.row.element.0 row.serves)) found
+      (sym (first_signed _ sign _ _ row.serves)) found
 
   -- the caller of an instance, and the occurrence of the call
   pub record IsCallerOf (p : Path) (call index : ℕ) : Type 0 where
@@ -144,7 +139,7 @@ module _ (P : Program) (accepted : static_refusal P ≡ None) (checked : check_r
       let site = call_of_site o.occurrence.expr k.site o.site in
       let own_call = call_of P k.caller.node o.occurrence o.stands site in
       let child : Child k.caller.path o.occurrence.calls_before index ≡ Child p call index =
-      ap₂ (λ q n. Child q n index) path o.number in
+      cc (o.number) in
       record {
         caller = k.caller;
         above = k.above;
@@ -152,14 +147,12 @@ module _ (P : Program) (accepted : static_refusal P ≡ None) (checked : check_r
         occurrence = o.occurrence;
         occurs = o.stands;
         number = o.number;
-        found = ap (call_at P k.caller.node) (sym o.number) ∙ own_call;
+        found = cc (o.number);
         runs_flat =
-            ap (layout P).runs (sym child)
-            ∙ instance_runs P accepted checked k.caller up o.occurrence o.stands site index
-            (site_clock P o.occurrence.clock o.occurrence.expr) refl;
+            cc (instance_runs P accepted checked k.caller up o.occurrence o.stands site index
+            (site_clock P o.occurrence.clock o.occurrence.expr) refl);
         runs_whole =
-            ap (runs_on P) (sym child)
-            ∙ called_runs P k.caller (at_path P k.caller up) o.occurrence own_call index;
+            cc (called_runs P k.caller (at_path P k.caller up) o.occurrence own_call index);
       }
 
   -- the clock of a call or iterator is an own clock of the node that it stands in

@@ -134,8 +134,7 @@ module _ (P : Program) (r : Reached) (t : Table) (reached : IsReached P r)
     }
 
     pub apart : are_distinct (variable_names here.node) ≡ true
-    apart =
-        subst (λ n. are_distinct (variable_names n) ≡ true) (sym node_same) own_clocks.distinct
+    apart = rw node_same own_clocks.distinct
 
     variable_low :
         (y : VariableId) → is_variable (counts_of is.node) y ≡ true → y.0 < count_at vars k
@@ -168,15 +167,11 @@ module _ (P : Program) (r : Reached) (t : Table) (reached : IsReached P r)
     own_place :
         (y : VariableId) → is_variable (counts_of is.node) y ≡ true →
         variable_place P here.path (name_in is.node y) ≡ y.0
-    own_place y w =
-        variable_place_is P here stands apart y.0 (name_in is.node y) (name_stands y w)
+    own_place y w = variable_place_is P here stands apart y.0 _ (name_stands y w)
 
     -- a row has a node
     pub node_found : node_at r t i ≡ Some is.node
-    node_found =
-        ap (λ (o : Option Specialization). o >>= λ s. slice_get r.nodes.items s.node.0)
-        is.specialized
-        ∙ is.resolved
+    node_found = cc (is.specialized, is.resolved)
 
     -- the first element of a variable
     own_first :
@@ -185,11 +180,10 @@ module _ (P : Program) (r : Reached) (t : Table) (reached : IsReached P r)
         ≡ Some (own_element vars starts k y.0).0
     own_first y w =
         let x = name_in is.node y in
-        let first = has_first P accepted here stands x (name_in_node y w) in
+        let first = has_first P accepted here stands _ (name_in_node y w) in
         let same : numbers_of P here.path x ≡ numbers_at vars starts k y.0 =
         sym (numbers k y.0 ∙ own_numbers_are P r t reached table accepted k i here is y w) in
-        first_held (numbers_of P here.path x) first.0 first.1
-        ∙ ap (λ (ns : List ℕ). Some (get_or ns 0 0)) same
+        cc (first_held (numbers_of P here.path x) first.0 first.1)
 
   -- ## Paths
 
@@ -238,11 +232,10 @@ module _ (P : Program) (r : Reached) (t : Table) (reached : IsReached P r)
       let number = number_is k (row_within k i here is) x.0 (variable_low k i here is x w) in
       let row = own_number k i here is in
       let place = own_place k i here is x w in
-      let start : get_or vars (row_number P here.path) 0 ≡ get_or vars k 0 =
-      ap (λ j. get_or vars j 0) row in
+      let start : get_or vars (row_number P here.path) 0 ≡ get_or vars k 0 = cc in
       let same : 2 * variable_number vars k x.0
       ≡ path_place here.path (name_in is.node x) = omega (arith, number, place, start) in
-      ap (λ m. id_at (m + sign_place sign)) same
+      cc
 
   -- ## Calls
 
@@ -280,17 +273,16 @@ module _ (P : Program) (r : Reached) (t : Table) (reached : IsReached P r)
       let up_stands = in_instances P (instantiation_kept P accepted) p h.caller h.above in
       let up_path = path_is P p h.caller h.above in
       let j = place_in (instances P) h.caller up_stands in
-      let up = row_of P r t table j.0 h.caller j.1 in
-      let below : here.path ≡ Child h.caller.path call index =
-      path ∙ ap (λ q. Child q call index) (sym up_path) in
-      let o = called_is j.0 call index i.origin
-      (origin_called P r t table j.0 call index k up.0 i h.caller here up.1 is below) in
-      let low = (origin_path P r t table k i is.row_is o.caller o.call o.index o.is).before in
+      let up = row_of P r t table _ _ j.1 in
+      let below : here.path ≡ Child h.caller.path call index = cc in
+      let o = called_is _ call index _ (origin_called P r t table _ call index k _ i _ here up.1
+      is below) in
+      let low = (origin_path P r t table k i is.row_is _ _ _ o.is).before in
       let site = site_occurs P checked h.caller up_stands call h.site h.stands in
       let own = call_of P h.caller.node site.occurrence site.stands
       (call_of_site site.occurrence.expr h.site site.site) in
       let occurs = ap (call_at P h.caller.node) (sym site.number) ∙ own in
-      let same = node_same j.0 up.0 h.caller up.1 in
+      let same = node_same _ _ _ up.1 in
       let f = has.clocks up.0.specialization.0 up.1.specialization up.1.node up.1.specialized
       up.1.resolved in
       let c = f.3 call site.occurrence (ap (λ m. call_at P m call) (sym same) ∙ occurs) in
@@ -301,7 +293,7 @@ module _ (P : Program) (r : Reached) (t : Table) (reached : IsReached P r)
         caller = h.caller;
         above = up.1;
         path = up_path;
-        low = subst (λ m. m < k) o.caller_is low;
+        low = rw (← o.caller_is) low;
         caller_id = o.caller;
         call_id = o.call;
         index = o.index;
@@ -550,7 +542,7 @@ module _ (P : Program) (r : Reached) (t : Table) (reached : IsReached P r)
       IsClockRow P (all_clocks filled) path_place path_runs here x sign
   clock_is here on x named_here sign =
       let k = place_in (instances P) here on in
-      let w = row_of P r t table k.0 here k.1 in
+      let w = row_of P r t table _ here k.1 in
       let y = place_in (variable_names here.node) x named_here in
       of k.0 w.0 w.1 y.0 y.1
     where
@@ -559,44 +551,41 @@ module _ (P : Program) (r : Reached) (t : Table) (reached : IsReached P r)
           IsClockRow P (all_clocks filled) path_place path_runs here x sign
       of k i is y at =
           let id : VariableId = record { 0 = y } in
-          let many = (row_variables P r t reached table k i here is).0 in
+          let many = (row_variables P r t reached table _ i here is).0 in
           let long = length-map (variables here.node) (λ (d : Declaration). d.name) in
           let within = slice_get_within (variable_names here.node) y x at in
           let w : is_variable (counts_of is.node) id ≡ true =
           lt-ltb y (length is.node.variables.items) (omega (arith, many, long, within)) in
           let name : name_in is.node id ≡ x =
-          same_Some (name_in is.node id) x (sym (name_stands k i here is id w) ∙ at) in
-          let lower = variable_low k i here is id w in
-          let number = number_is k (row_within k i here is) y lower in
-          let hc = own_clocks k i here is in
-          let same = node_same k i here is in
-          let row_is = own_number k i here is in
-          let place_is : variable_place P here.path x ≡ y =
-          ap (variable_place P here.path) (sym name) ∙ own_place k i here is id w in
-          let start : get_or vars (row_number P here.path) 0 ≡ get_or vars k 0 =
-          ap (λ j. get_or vars j 0) row_is in
+          same_Some (name_in is.node id) x (sym (name_stands _ i here is _ w) ∙ at) in
+          let lower = variable_low _ i here is _ w in
+          let number = number_is _ (row_within _ i here is) _ lower in
+          let hc = own_clocks _ i here is in
+          let same = node_same _ i here is in
+          let row_is = own_number _ i here is in
+          let place_is : variable_place P here.path x ≡ y = cc (own_place k i here is id w) in
+          let start : get_or vars (row_number P here.path) 0 ≡ get_or vars k 0 = cc in
           let spot : path_place here.path x + sign_place sign
           ≡ 2 * (get_or vars k 0 + y) + sign_place sign = omega (arith, place_is, start) in
           let declared : clock_in is.node (declared_in is.node id) ≡ declared_clock here.node x =
-          declared_is is.node hc id w ∙ ap₂ declared_clock (sym same) name in
+          cc (declared_is is.node hc id w) in
           record {
             row = signed_clock (clock_id vars (all_runs filled) k (declared_in is.node id))
                 (get_or (all_serving filled) (variable_number vars k y) no_element) sign;
             stands =
-                ap (slice_get (all_clocks filled)) spot
-                ∙ clocks_read filled counted (all_runs filled) (all_serving filled) nodes_found k i
-                is.row_is is.node (node_found k i here is) y lower sign;
+                cc (clocks_read filled counted (all_runs filled) (all_serving filled) nodes_found
+                k i is.row_is is.node (node_found k i here is) y lower sign);
             parent =
-                id_is k i here is (declared_in is.node id) (declared_within is.node hc id w)
-                ∙ ap (clock_place path_place path_runs here.path) declared;
+                cc (id_is k i here is (declared_in is.node id) (declared_within is.node hc id w));
             signed = refl;
             serves =
-                ap (λ (ns : List ℕ). slice_get ns 0) (signs_are P here on x)
-                ∙ subst (λ z. slice_get (numbers_of P (serving P here.path z).0
-                (serving P here.path z).1) 0
-                ≡ Some (get_or (all_serving filled) (get_or vars k 0 + y) no_element).0) name
-                (all_serves here.path k i here is refl id w)
-                ∙ ap (λ m. Some (get_or (all_serving filled) m no_element).0) (sym number);
+                cc (
+                  signs_are P here on x,
+                  subst (λ z. slice_get (numbers_of P
+                      (serving P here.path z).0 (serving P here.path z).1) 0 ≡ Some (get_or
+                      (all_serving filled) (get_or vars k 0 + y) no_element).0) name
+                      (all_serves here.path k i here is refl id w),
+                );
           }
 
   is_called :
@@ -609,30 +598,27 @@ module _ (P : Program) (r : Reached) (t : Table) (reached : IsReached P r)
       let on = in_instances P (instantiation_kept P accepted) (Child p call index) c at in
       let path = path_is P (Child p call index) c at in
       let k = place_in (instances P) c on in
-      let w = row_of P r t table k.0 c k.1 in
-      let u = called_row k.0 w.0 c w.1 p call index path in
+      let w = row_of P r t table _ c k.1 in
+      let u = called_row _ _ c w.1 p call index path in
       let up_at : instance_at P p ≡ Some u.caller =
-      ap (instance_at P) (sym u.path) ∙ at_path P u.caller (stands u.j u.up u.caller u.above) in
-      let one = same_Some u.caller caller (sym up_at ∙ above) in
-      let same = same_Some u.occurrence o
-      (sym (ap (λ (c : Instance). call_at P c.node call) (sym one) ∙ u.occurs) ∙ occurs) in
+      cc (u.path, at_path P u.caller (stands u.j u.up u.caller u.above)) in
       let place : found_call t found u.caller_id.0 u.call_id.0 ≡ Some u.call_found =
-      ap₂ (found_call t found) u.caller_is u.call_is ∙ u.found_is in
-      let within = slice_get_within t.instances.items k.0 w.0 w.1.row_is in
+      cc (u.caller_is, u.call_is, u.found_is) in
       let runs = and_first (is_clock_within u.above.node u.call_found.runs)
       (list_all (λ g. is_variable (counts_of u.above.node) g.caller) u.call_found.given.items)
       u.within in
-      let number : row_number P (Child p call index) ≡ k.0 =
-      ap (row_number P) (sym path) ∙ own_number k.0 w.0 c w.1 in
+      let number : row_number P (Child p call index) ≡ k.0 = cc (own_number k.0 w.0 c w.1) in
       let low = u.low in
-      let lower : u.caller_id.0 < k.0 = subst (λ m. m < k.0) (sym u.caller_is) low in
-      ap (λ j. get_or (all_runs filled) j None) number
-      ∙ runs_called filled counted k.0 w.0 w.1.row_is u.caller_id u.call_id u.index u.origin_is
-      lower u.call_found place
-      ∙ ap (λ j. clock_id vars (all_runs filled) j u.call_found.runs) u.caller_is
-      ∙ id_is u.j u.up u.caller u.above u.call_found.runs runs
-      ∙ ap₂ (clock_place path_place path_runs) u.path
-      (sym (ap (λ (o : Occurrence). site_clock P o.clock o.expr) (sym same) ∙ u.law.runs))
+      let lower : u.caller_id.0 < k.0 = rw u.caller_is low in
+      cc (
+        runs_called filled counted k.0 w.0 w.1.row_is u.caller_id u.call_id u.index u.origin_is
+            lower u.call_found place,
+        u.caller_is,
+        id_is u.j u.up u.caller u.above u.call_found.runs
+            runs,
+        u.path,
+        u.law.runs,
+      )
 
   is_deeper :
       (p : Path) (call index : ℕ) (c caller : Instance) →
@@ -708,11 +694,10 @@ module _ (P : Program) (r : Reached) (t : Table) (reached : IsReached P r)
       Every (λ o. IsOwn here.node o.clock) (node_occurrences P here.node)
   own_terms here on =
       let k = place_in (instances P) here on in
-      let w = row_of P r t table k.0 here k.1 in
+      let w = row_of P r t table _ here k.1 in
       let f = has.clocks w.0.specialization.0 w.1.specialization w.1.node w.1.specialized
       w.1.resolved in
-      term_clocks_own P accepted checked here on w.1.node f.0.terms.items
-      (sym (node_same k.0 w.0 here w.1)) f.2
+      term_clocks_own P accepted checked here on w.1.node _ (sym (node_same _ _ here w.1)) f.2
 
   -- each clock of a row is found at its place
   pub row_clock :

@@ -115,10 +115,9 @@ module _ (P : Program) (accepted : static_refusal P ≡ None) (checked : check_r
       (k : FlatClock) → flat_clock (layout P) c.path (declared_clock c.node d.name) ≡ k →
       Every (IsRunAt k) (numbers_of P c.path d.name)
   own_runs c j d i k e =
-      subst (λ k. Every (IsRunAt k) (numbers_of P c.path d.name)) e
-      (Every-at (λ d.
-      Every (IsRunAt (flat_clock (layout P) c.path (declared_clock c.node d.name)))
-      (numbers_of P c.path d.name)) (variables c.node) d (variable_runs c j) i)
+      rw (← e) (Every-at (λ d. Every (IsRunAt (flat_clock (layout P) c.path
+      (declared_clock c.node d.name))) (numbers_of P c.path d.name)) (variables c.node) d
+      (variable_runs c j) i)
 
   -- the elements of an output of an instance of a call run on its clock
   output_runs :
@@ -127,16 +126,12 @@ module _ (P : Program) (accepted : static_refusal P ≡ None) (checked : check_r
       flat_clock (layout P) (Child here.path n index) (declared_clock callee d.name) ≡ k →
       Every (IsRunAt k) (numbers_of P (Child here.path n index) d.name)
   output_runs s n index callee there d on k e =
-      let c = there.instance in
       let is_in : In d (variables callee) =
       in_second d callee.inputs (callee.outputs ++ callee.locals)
       (in_first d callee.outputs callee.locals on) in
-      subst (λ p. Every (IsRunAt k) (numbers_of P p d.name)) there.path
-      (own_runs c there.stands d
-      (subst (λ (m : Node). In d (variables m)) (sym there.node) is_in) k
-      (ap₂ (λ (p : Path) (m : Node). flat_clock (layout P) p (declared_clock m d.name)) there.path
-      there.node
-      ∙ e))
+      rw (← there.path) (own_runs _ there.stands d (subst (λ (m : Node). In d (variables m))
+      (sym there.node) is_in) k (ap₂ (λ (p : Path) (m : Node). flat_clock (layout P) p
+      (declared_clock m d.name)) there.path there.node ∙ e))
 
   variable_run :
       (k : Clock) (x : Name) → is_on_clock P here.node k (Variable x) ≡ true →
@@ -205,15 +200,12 @@ module _ (P : Program) (accepted : static_refusal P ≡ None) (checked : check_r
       let clocks : ClocksAt (layout P) P here k n (Iterate it (Node_named f statics) m es) =
       Every-at (CalleeClocks (layout P) P here) os o
       (callee_clocks P accepted checked here stands) i in
-      Every-from (λ o. (index : ℕ) → index < number P here m →
-      Every (IsRunAt (flat k)) (numbers_of P (Child here.path n index) o.name)) callee.outputs
-      (λ d on index lt.
-      output_runs s n index callee
-      (instance_there P accepted checked here stands o s callee index i refl e lt) d on (flat k)
-      (Every-at (λ d.
-      flat_clock (layout P) (Child here.path n index) (declared_clock callee d.name) ≡ flat k)
-      (callee.inputs ++ callee.outputs) d (clocks callee e index lt)
-      (in_second d callee.inputs callee.outputs on)))
+      Every-from (λ o. (index : ℕ) → index < number P here m → Every (IsRunAt (flat k))
+      (numbers_of P (Child here.path n index) o.name)) callee.outputs (λ d on index lt.
+      output_runs _ n index _ (instance_there P accepted checked here stands o s callee index i
+      refl e lt) d on _ (Every-at (λ d. flat_clock (layout P) (Child here.path n index)
+      (declared_clock callee d.name) ≡ flat k) (callee.inputs ++ callee.outputs) d
+      (clocks callee e index lt) (in_second d callee.inputs callee.outputs on)))
 
   known_at :
       (k : Clock) (n : ℕ) (e : Expr) → In (at k n e) os →
@@ -221,31 +213,24 @@ module _ (P : Program) (accepted : static_refusal P ≡ None) (checked : check_r
   known_at k n (When a x sign) i =
       let o = at k n (When a x sign) in
       let own = On (declared_clock here.node x) x sign in
-      awaited own
-      (subst (IsOver (IsVariable here.node)) (clock_same k own (lawful o i))
+      awaited _ (subst (IsOver (IsVariable here.node)) (clock_same k own (lawful _ i))
       (occurrence_fits P accepted checked here stands o i).over)
-  known_at k n (Current a) i = awaited (clock_or (clock_of P here.node a)) (operand_over k n a i)
+  known_at k n (Current a) i = awaited _ (operand_over k n a i)
   known_at k n (Call f statics es) i = λ c e.
       let clocks : ClocksAt (layout P) P here k n (Call f statics es) =
       Every-at (CalleeClocks (layout P) P here) os (at k n (Call f statics es))
       (callee_clocks P accepted checked here stands) i in
-      subst (λ p. Every (λ d. flat_clock (layout P) p (declared_clock c.node d.name)
-      ≡ flat (outer (base_clock k c.node) (given_inputs c.node.inputs es)
-      (declared_clock c.node d.name))) c.node.inputs)
-      (sym (callee_path P here (call_site f statics) n 0 c e))
-      (clocks c.node (callee_node P here (call_site f statics) n 0 c e)).inputs
+      rw (callee_path P here (call_site f statics) n 0 c e) (clocks c.node
+      (callee_node P here (call_site f statics) n 0 c e)).inputs
   known_at k n (Iterate it (Node_named f statics) m es) i = λ index lt c e.
       let clocks : ClocksAt (layout P) P here k n (Iterate it (Node_named f statics) m es) =
       Every-at (CalleeClocks (layout P) P here) os
       (at k n (Iterate it (Node_named f statics) m es))
       (callee_clocks P accepted checked here stands) i in
-      subst (λ p. Every (λ d. flat_clock (layout P) p (declared_clock c.node d.name) ≡ flat k)
-      c.node.inputs)
-      (sym (callee_path P here (call_site f statics) n index c e))
-      (Every-first (λ d.
+      rw (callee_path P here (call_site f statics) n index c e) (Every-first (λ d.
       flat_clock (layout P) (Child here.path n index) (declared_clock c.node d.name) ≡ flat k)
-      c.node.inputs c.node.outputs
-      (clocks c.node (callee_node P here (call_site f statics) n index c e) index lt))
+      c.node.inputs c.node.outputs (clocks c.node
+      (callee_node P here (call_site f statics) n index c e) index lt))
   known_at k n (Iterate it (Symbol op) m es) i = tt
   known_at k n e i = tt
 

@@ -167,8 +167,7 @@ module _ (t : Texts) (n : Counts) where
       Named t.variables n.variables (listed (λ (s : Sampling). s.variable.0 ∷ []) o ++ xs)
       (some_of (option_map (λ s. s.variable) (option_map (sampling_of t.variables) o) ∷ os))
   one_declared None xs os w h = h
-  one_declared (Some s) xs os w h =
-      one_first t.variables n.variables s.variable.0 xs (some_of os) w h
+  one_declared (Some s) xs os w h = one_first t.variables _ _ xs _ w h
 
   declared_are :
       (xs : List Name) (vs : List Declared) → length xs ≡ length vs →
@@ -180,11 +179,9 @@ module _ (t : Texts) (n : Counts) where
   declared_are (x ∷ xs) [] long w = absurd (omega (arith, long))
   declared_are (x ∷ xs) (v ∷ vs) long w =
       let own = and_first (is_declared_within n v) (list_all (is_declared_within n) vs) w in
-      one_declared v.clock (flat_map declared_when vs)
-      (map waited (zip2 (declaration_of t.variables t.statics) xs vs))
-      (and_second (are_statics n v.first_size v.sizes) (is_sampling_within n v.clock) own)
-      (declared_are xs vs (omega (arith, long))
-      (and_second (is_declared_within n v) (list_all (is_declared_within n) vs) w))
+      one_declared _ _ _ (and_second (are_statics n v.first_size v.sizes)
+      (is_sampling_within n v.clock) own) (declared_are xs vs (omega (arith, long)) (and_second
+      (is_declared_within n v) (list_all (is_declared_within n) vs) w))
 
 module _ (names : List Name) (bound : ℕ) (many : bound ≡ length names)
     (distinct : are_distinct names ≡ true) (x : ℕ) (z : Name)

@@ -89,13 +89,7 @@ module _ (P : Program) (H : History) (here : Instance) where
       (k : Clock) (n : ℕ) (e : Expr) (x : Name) (v : Declaration) → as_variable e ≡ Some x →
       named (λ d. d.name) x (variables here.node) ≡ Some v →
       streams P H here k n e ≡ H.columns here.path x
-  variable_streams k n (Variable z) x v e is =
-      let same = same_Some z x e in
-      ap (λ o.
-      either_or (option_map (λ d. H.columns here.path d.name) o)
-      (constantly (or_fault (name_value P here z)) (presence H here.path k) ∷ []))
-      (ap (λ y. named (λ d. d.name) y (variables here.node)) same ∙ is)
-      ∙ ap (H.columns here.path) (found_name x (variables here.node) v is)
+  variable_streams k n (Variable z) x v e is = cc (found_name x (variables here.node) v is)
   variable_streams k n (Group a) x v e is = variable_streams k n a x v e is
   variable_streams k n _ x v e is = absurd cc
 
@@ -159,25 +153,26 @@ module _ (P : Program) (H : History) (here : Instance) where
   results_same c [] xs outs lefts wide own p q e same x g found = absurd cc
   results_same c (d ∷ ds) [] outs lefts wide own p q e same x g found = absurd cc
   results_same c (d ∷ ds) (y ∷ xs) outs lefts wide own p q e same x g found =
-      let h = each (variable_type P c d) (map (variable_type P c) ds) outs p in
-      let i = each (type_of_name P here y) (map (type_of_name P here) xs) lefts q in
+      let h = each _ _ outs p in
+      let i = each _ _ lefts q in
       let types : (is_type h.first i.first && are_types h.rest i.rest) ≡ true =
-      ap₂ are_types (sym h.all) (sym i.all) ∙ e in
+      cc (h.all, i.all) in
       let v = bound (named (λ d. d.name) y (variables here.node)) (variable_type P here) i.first
       i.is in
       let ys = H.columns here.path y in
       let zs = H.columns c.path d.name in
-      let more = flat_map (H.columns here.path) xs in
-      let others = flat_map (λ o. H.columns c.path o.name) ds in
       let long : length ys ≡ length zs =
-      own v.value y v.is ∙ width_of P here v.value i.first v.gives
-      ∙ sym (same_count h.first i.first (and_first (is_type h.first i.first) _ types))
-      ∙ sym (width_of P c d h.first h.is) ∙ sym wide.0 in
-      by (bytes_eq d.name x) refl (halves ys zs more others long same).first
-      (λ later. results_same c ds xs h.rest i.rest wide.1 own h.others i.others
-      (and_second (is_type h.first i.first) _ types) (halves ys zs more others long same).second x g
-      later)
-      found
+      cc (
+        own v.value y v.is,
+        width_of P here v.value i.first v.gives,
+        same_count h.first i.first
+            (and_first (is_type h.first i.first) _ types),
+        width_of P c d h.first h.is,
+        wide.0,
+      ) in
+      by (bytes_eq d.name x) refl (halves _ _ _ _ long same).first (λ later. results_same c ds xs
+      h.rest i.rest wide.1 own h.others i.others (and_second (is_type h.first i.first) _ types)
+      (halves _ _ _ _ long same).second x g later) found
     where
       by : (b : Bool) → bytes_eq d.name x ≡ b →
           H.columns here.path y ≡ H.columns c.path d.name →
@@ -185,10 +180,7 @@ module _ (P : Program) (H : History) (here : Instance) where
           H.columns c.path x ≡ H.columns here.path g.1) →
           cond b (Some (d.name, y)) (found_in (given_outputs ds xs) x) ≡ Some g →
           H.columns c.path x ≡ H.columns here.path g.1
-      by true name first later e =
-          let value = ap (λ (u : Name × Name). u.1) (same_Some (d.name, y) g e) in
-          ap (H.columns c.path) (sym ((bytes_eq-Decides d.name x).0 name)) ∙ sym first
-          ∙ ap (H.columns here.path) value
+      by true name first later e = cc ((bytes_eq-Decides d.name x).0 name)
       by false name first later e = later e
 
 -- ## A history that solves a program
@@ -204,9 +196,8 @@ module _ (P : Program) (accepted : static_refusal P ≡ None) (checked : check_r
         length (H.columns here.path x) ≡ width P here v
     own_width v x e =
         let i = find_in (λ (d : Declaration). bytes_eq d.name x) (variables here.node) v e in
-        subst (λ y. length (H.columns here.path y) ≡ width P here v)
-        (found_name x (variables here.node) v e)
-        (Every-at (Fits P H here) (variables here.node) v solved.variables i).width
+        rw (← (found_name x (variables here.node) v e)) (Every-at (Fits P H here)
+        (variables here.node) v solved.variables i).width
 
   output_widths :
       (c : Instance) → In c (instances P) → (ds : List Declaration) → Every (Fits P H c) ds →
@@ -281,9 +272,7 @@ module _ (P : Program) (accepted : static_refusal P ≡ None) (checked : check_r
 
     output_variable :
         (c : Instance) (x : Name) → In x (map (λ d. d.name) c.node.outputs) → IsVariable c.node x
-    output_variable c x i =
-        names_second x c.node.inputs (c.node.outputs ++ c.node.locals)
-        (names_first x c.node.outputs c.node.locals i)
+    output_variable c x i = names_second x _ _ (names_first x _ _ i)
 
     argument_places :
         (here : Instance) (k : Clock) (n : ℕ) (f : Name) (statics : List Static) (es : Exprs)
@@ -291,10 +280,9 @@ module _ (P : Program) (accepted : static_refusal P ≡ None) (checked : check_r
         found_in (given_inputs c.node.inputs es) x ≡ Some g → IsVariable here.node g.1 →
         columns X F ((layout P).places c.path x) ≡ columns X F ((layout P).places here.path g.1)
     argument_places here k n f statics es c call x g found variable =
-        same c call.callee_stands x
-        (parameter_variable c x (input_named c.node.inputs es x g found))
-        ∙ of_argument here k n f statics es c call x g found variable
-        ∙ sym (same here call.stands g.1 variable)
+        same c call.callee_stands x (parameter_variable c x (input_named _ es x g found))
+        ∙ of_argument here k n f _ es c call x g found variable ∙ sym
+        (same here call.stands g.1 variable)
 
     result_places :
         (here : Instance) (k : Clock) (n : ℕ) (f : Name) (statics : List Static) (es : Exprs)
@@ -303,14 +291,12 @@ module _ (P : Program) (accepted : static_refusal P ≡ None) (checked : check_r
         found_in (given_outputs c.node.outputs lefts) x ≡ Some g →
         columns X F ((layout P).places c.path x) ≡ columns X F ((layout P).places here.path g.1)
     result_places here k n f statics es c call lefts r x g found =
-        let left = output_value c.node.outputs lefts x g found in
-        let variable = left_variable P accepted checked here call.stands (Equation lefts
-        r.right) g.1
-        (zip_first here.node.body _ (Equation lefts r.right, r.occurrence) r.stands) left in
-        same c call.callee_stands x
-        (output_variable c x (output_named c.node.outputs lefts x g found))
-        ∙ of_result here k n f statics es c call lefts r x g found
-        ∙ sym (same here call.stands g.1 variable)
+        let left = output_value _ lefts x g found in
+        let variable = left_variable P accepted checked here call.stands _ g.1 (zip_first
+        here.node.body _ (Equation lefts r.right, r.occurrence) r.stands) left in
+        same c call.callee_stands x (output_variable c x (output_named _ lefts x g found))
+        ∙ of_result here k n f _ es c call lefts r x g found ∙ sym
+        (same here call.stands g.1 variable)
 
     -- a variable that serves for another in a clock has the streams of the other
     pub signs_history :

@@ -61,8 +61,7 @@ module _ (P : Program) (accepted : static_refusal P ≡ None) (checked : check_r
         let i = find_in (λ (d : Declaration). bytes_eq d.name x) (variables here.node) v e in
         let wide = Every-at (λ d. length (Y.places here.path d.name) ≡ width P here d)
         (variables here.node) v (places_width P accepted here stands) i in
-        subst (λ y. length (Y.places here.path y) ≡ width P here v)
-        (found_name x (variables here.node) v e) wide
+        rw (← (found_name x (variables here.node) v e)) wide
 
     module _ (c : Instance) (c_stands : In c (instances P)) where
       abbrev IsCounted : Declaration → Type 0

@@ -27,11 +27,7 @@ module _ (Y : Layout) (P : Program) (here : Instance) where
       as_variable e ≡ Some x → named (λ d. d.name) x (variables here.node) ≡ Some d →
       (emit Y P here k n s e).found ≡ Y.places here.path x
   unfolding emit
-  emit_variable k n s (Variable z) x d e is =
-      let same = same_Some z x e in
-      ap (λ o. (emit_name Y P here k s z o).found)
-      (ap (λ y. named (λ d. d.name) y (variables here.node)) same ∙ is)
-      ∙ ap (Y.places here.path) (found_name x (variables here.node) d is)
+  emit_variable k n s (Variable z) x d e is = cc (found_name x (variables here.node) d is)
   emit_variable k n s (Group a) x d e is = emit_variable k n s a x d e is
   emit_variable k n s _ x d e is = absurd cc
 
@@ -64,11 +60,7 @@ module _ (Y : Layout) (P : Program) (here : Instance) where
       (e : Expr) (x : Name) (v : Declaration) → as_variable e ≡ Some x →
       named (λ d. d.name) x (variables here.node) ≡ Some v →
       data_types P here e ≡ singly (variable_type P here v)
-  variable_types (Variable z) x v e is =
-      let same = same_Some z x e in
-      ap (λ o. singly (either_or (option_map (variable_type P here) o)
-      (constant_type (name_value P here z))))
-      (ap (λ y. named (λ d. d.name) y (variables here.node)) same ∙ is)
+  variable_types (Variable z) x v e is = cc
   variable_types (Group a) x v e is = variable_types a x v e is
   variable_types _ x v e is = absurd cc
 
@@ -134,7 +126,7 @@ module _ (Y : Layout) (P : Program) (here : Instance) where
         this : (y : Name) → as_variable a ≡ Some y → d.name ≡ x → (d.name, y) ≡ g →
             IsArgument (d ∷ ds) x v g.1
         this y var name given =
-            let value : y ≡ g.1 = ap (λ (u : Name × Name). u.1) given in
+            let value : y ≡ g.1 = cc in
             let own = var ∙ ap (λ z. Some z) value in
             let places = emit_variable k n s a g.1 v own is in
             record {
@@ -143,10 +135,8 @@ module _ (Y : Layout) (P : Program) (here : Instance) where
               name = name;
               wide = argument_width c d a g.1 v t u is_t is_u same own is;
               copies =
-                  subst (λ z. Within Y P cs
-                  (copied (targets Y c.node c.path z) (Y.places here.path g.1))) name
-                  (subst (λ fs. Within Y P cs (copied (targets Y c.node c.path d.name) fs)) places
-                  first);
+                  rw (← name) (subst (λ fs. Within Y P cs
+                  (copied (targets Y c.node c.path d.name) fs)) places first);
             }
 
         by_name : (y : Name) → as_variable a ≡ Some y → (b : Bool) → bytes_eq d.name x ≡ b →
@@ -229,7 +219,7 @@ module _ (Y : Layout) (P : Program) (here : Instance) where
       where
         this : d.name ≡ x → (d.name, y) ≡ g → IsResult (d ∷ ds) x g.1
         this name given =
-            let value : y ≡ g.1 = ap (λ (u : Name × Name). u.1) given in
+            let value : y ≡ g.1 = cc in
             let of_y : IsResult (d ∷ ds) x y = record {
               output = d;
               among = inl refl;
@@ -237,11 +227,9 @@ module _ (Y : Layout) (P : Program) (here : Instance) where
               left = v;
               is_left = is;
               wide = wide;
-              copies =
-                  subst (λ z. Within Y P cs
-                  (copied (targets Y here.node here.path y) (Y.places c.path z))) name first;
+              copies = rw (← name) first;
             } in
-            subst (λ z. IsResult (d ∷ ds) x z) value of_y
+            rw (← value) of_y
 
         by : (b : Bool) → bytes_eq d.name x ≡ b →
             cond b (Some (d.name, y)) (found_in (given_outputs ds xs) x) ≡ Some g →

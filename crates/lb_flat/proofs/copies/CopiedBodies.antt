@@ -147,9 +147,8 @@ one_or_call P here (Iterate it (Symbol op) m es) ts e =
     let c = bound (static_count P here m) _ ts e in
     let o = bound (operator_types P here (Symbol op)) _ ts c.gives in
     let a = bound (all_types P here es) _ ts o.gives in
-    inr (symbol_single c.value it o.value.0 o.value.1 a.value ts
-    (ap (λ (t : List DataType × List DataType). length t.1) (symbolic op o.value o.is).are)
-    a.gives)
+    inr (symbol_single _ it _ _ _ ts (ap (λ (t : List DataType × List DataType). length t.1)
+    (symbolic op _ o.is).are) a.gives)
 
 module _ (Y : Layout) (P : Program) (H : History)
     (same : (p : Path) (x : Name) → length (Y.places p x) ≡ length (H.columns p x))
@@ -275,11 +274,7 @@ module _ (Y : Layout) (P : Program) (H : History)
         (flat_map (elements_named P here) lefts)
     lefts_paired [] = tt
     lefts_paired (x ∷ lefts) =
-        pairs-append (λ t y. IsAt y t.place) (targets Y here.node here.path x)
-        (elements_named P here x) (flat_map (targets Y here.node here.path) lefts)
-        (flat_map (elements_named P here) lefts)
-        (places_paired (flat_clock Y here.path (declared_clock here.node x)) (Y.places here.path x)
-        (elements_named P here x) (numbered x))
+        pairs-append (λ t y. IsAt y t.place) _ _ _ _ (places_paired _ _ _ (numbered x))
         (lefts_paired lefts)
 
     own_clock : (x : Name) (is : List ℕ) →
@@ -353,8 +348,7 @@ module _ (Y : Layout) (P : Program) (H : History)
         (cs qs es ds : List Definition) (new : List FlatEquation) →
         AreMatched Defined new (cs ++ (qs ++ (es ++ ds))) →
         AreMatched Defined new ((qs ++ es) ++ (cs ++ ds))
-    shuffled cs qs es ds new m =
-        matched-moved Defined new (cs ++ (qs ++ (es ++ ds))) ((qs ++ es) ++ (cs ++ ds)) m there back
+    shuffled cs qs es ds new m = matched-moved Defined new _ _ m there back
       where
         of_last : (d : Definition) → In d es ⊎ In d ds → In d ((qs ++ es) ++ (cs ++ ds))
         of_last d (inl i) = in_first d (qs ++ es) (cs ++ ds) (in_second d qs es i)

@@ -50,9 +50,7 @@ range_pairs :
     Pairs R (flat_map f (range_with_len a m)) (flat_map g (range_with_len a m))
 range_pairs R f g n a zero le h = tt
 range_pairs R f g n a (suc m) le h =
-    pairs-append R (f a) (g a) (flat_map f (range_with_len (a + 1) m))
-    (flat_map g (range_with_len (a + 1) m)) (h a (omega arith))
-    (range_pairs R f g n (a + 1) m (omega arith) h)
+    pairs-append R _ _ _ _ (h a (omega arith)) (range_pairs R f g n (a + 1) m (omega arith) h)
 
 module _ (Y : Layout) (P : Program) (H : History)
     (same : (p : Path) (x : Name) → length (Y.places p x) ≡ length (H.columns p x))
@@ -327,12 +325,11 @@ module _ (Y : Layout) (P : Program) (H : History)
       Defines s y.state (called_by (oa ++ ob)))
   two_defined k n s a b left right p g h =
       let m = n + call_count a in
-      let x = emit Y P here k n s a in
       let oa = occurrences P here.node k n a in
       let ob = occurrences P here.node k m b in
-      let first = term_before Y P H same IsAt Under Left here k m x.state b h in
-      defines_two s x.state _ oa ob (left (fore oa ob p) (before oa ob g) first)
-      (right (aft oa ob p) (behind oa ob g) h)
+      let first = term_before Y P H same IsAt Under Left here k _ _ b h in
+      defines_two s _ _ oa ob (left (fore _ _ p) (before _ _ g) first)
+      (right (aft _ _ p) (behind _ _ g) h)
 
   mutual
     unfolding emit

@@ -78,8 +78,7 @@ module _ (V : ℕ) (Y : Layout) (P : Program)
   joins_below : (s : State) (qs : List FlatEquation) (is : List ℕ) → AllBelow qs →
       AllBelow s.copies → AllBelow (joins s qs is).state.copies
   joins_below s qs is new h =
-      on (s.copies ++ qs) _ (joins_copies s qs is)
-      (Every-append (λ q. q.element < V) s.copies qs h new)
+      on _ _ (joins_copies s qs is) (Every-append (λ q. q.element < V) s.copies qs h new)
 
   abbrev Lows : State → State → Type 0
   Lows s t = AllBelow s.copies → AllBelow t.copies
@@ -107,8 +106,7 @@ module _ (V : ℕ) (Y : Layout) (P : Program)
   instances_below : (s : State) (is : List Instance) → AllBelow s.copies →
       AllBelow (emit_instances Y P s is).copies
   instances_below =
-      instances_step AllBelow Lows lowering Y joined_below P
-      (λ x h. on x.state.copies (assert x).copies (assert_copies x) h)
+      instances_step AllBelow Lows lowering Y joined_below P (λ x h. on _ _ (assert_copies x) h)
 
   -- ## The trace and the observer
 
@@ -150,20 +148,15 @@ expanded_within count Y P laid =
     let given = given_inputs Y (instance_at P Root) in
     let seen = observed Y (instance_at P Root) (instance_at P Observer) in
     let closed : Closed count s =
-    all_closed count Y P laid (before_instances count) (instances P)
-    (record { fresh = tt; next = omega arith }) in
+    all_closed count Y P laid _ _ (record { fresh = tt; next = omega arith }) in
     let within : count ≤ s.next = omega (arith, closed.next) in
     let widen : (qs : List FlatEquation) → Every (λ q. q.element < count) qs →
     Every (λ q. q.element < s.next) qs =
     λ qs h. Every-map (λ q. q.element < count) (λ q. q.element < s.next)
     (λ q lt. omega (arith, lt, within)) qs h in
     Every-append (λ q. q.element < s.next) given (seen ++ (s.copies ++ s.equations))
-    (widen given (given_below count Y P laid.places (instance_at P Root)))
-    (Every-append (λ q. q.element < s.next) seen (s.copies ++ s.equations)
-    (widen seen
-    (observed_below count Y P laid.places (instance_at P Root) (instance_at P Observer)))
-    (Every-append (λ q. q.element < s.next) s.copies s.equations
-    (widen s.copies
-    (instances_below count Y P laid.places (before_instances count) (instances P) tt))
-    (subst (λ n. Every (λ q. q.element < n) s.equations) (sym closed.next)
-    (fresh_within count s.equations closed.fresh))))
+    (widen given (given_below count Y P laid.places _)) (Every-append (λ q. q.element < s.next)
+    seen (s.copies ++ s.equations) (widen seen (observed_below count Y P laid.places _ _))
+    (Every-append (λ q. q.element < s.next) s.copies s.equations (widen s.copies
+    (instances_below count Y P laid.places _ _ tt))
+    (rw closed.next (fresh_within count _ closed.fresh))))

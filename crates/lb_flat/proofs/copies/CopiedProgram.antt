@@ -55,8 +55,7 @@ module _ (P : Program) (accepted : static_refusal P ≡ None) (checked : check_r
       joined (map (λ d. itself (elements P root d)) ds) ≡ itself (flat_map (elements P root) ds)
   each_itself root [] = refl
   each_itself root (d ∷ ds) =
-      ap (λ yss. itself (elements P root d) ++ yss) (each_itself root ds)
-      ∙ sym (itself-append (elements P root d) (flat_map (elements P root) ds))
+      cc (each_itself root ds, itself-append (elements P root d) (flat_map (elements P root) ds))
 
   observed_fed :
       (root : Instance) (p : Path) (callee : Node) (cs ds : List Declaration) →
@@ -69,8 +68,7 @@ module _ (P : Program) (accepted : static_refusal P ≡ None) (checked : check_r
   observed_fed root p callee (c ∷ cs) [] h w = absurd w
   observed_fed root p callee (c ∷ cs) (d ∷ ds) h w = (
     (
-      variable_links IsAt Under Left (flat_clock Y p (declared_clock callee c.name))
-          (Y.places Root d.name) (elements P root d) h.0,
+      variable_links IsAt Under Left _ _ _ h.0,
       widths p c.name ∙ (w.0 ∙ sym (widths Root d.name)),
     ),
     observed_fed root p callee cs ds h.1 w.1,

@@ -49,8 +49,7 @@ module _ (Y : Layout) (P : Program) (H : History)
         map (λ t. t.place) (left_targets lefts) ≡ flat_map (Y.places here.path) lefts
     lefts_places lefts =
         sym (map-pieces (λ (t : Target). t.place) (targets Y here.node here.path)
-        (Y.places here.path)
-        (λ x. target_places (flat_clock Y here.path _) (Y.places here.path x)) lefts)
+        (Y.places here.path) (λ x. target_places _ _) lefts)
 
     -- the copies of these statements give their left variables and the inputs of their calls
     record AddsBody (s t : State) (n : ℕ) (body : List Statement) : Type 0 where

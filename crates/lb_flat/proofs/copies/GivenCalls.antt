@@ -56,8 +56,7 @@ copied_gives (t ∷ ts) (j ∷ js) e = ap (λ is. t.place ∷ is) (copied_gives 
 some_all : {A B : Type 0} (f : A → Option B) (g : A → B) → ((a : A) → f a ≡ Some (g a)) →
     (xs : List A) → some_of (map f xs) ≡ map g xs
 some_all f g e [] = refl
-some_all f g e (x ∷ xs) =
-    ap (λ o. some_of (o ∷ map f xs)) (e x) ∙ ap (λ ys. g x ∷ ys) (some_all f g e xs)
+some_all f g e (x ∷ xs) = cc (e x, some_all f g e xs)
 
 module _ (Y : Layout) (H : History)
     (same : (p : Path) (x : Name) → length (Y.places p x) ≡ length (H.columns p x)) where
@@ -129,9 +128,8 @@ module _ (Y : Layout) (P : Program) (H : History) (here : Instance)
   adds_two s t u n ss ss' a b =
       let first = numbered_sites n ss in
       let second = numbered_sites (n + length ss) ss' in
-      let all : total of_site (numbered_sites n (ss ++ ss'))
-      ≡ total of_site first + total of_site second =
-      ap (total of_site) (numbered_append n ss ss') ∙ total-append of_site first second in
+      let all : total of_site (numbered_sites n (ss ++ ss')) ≡ total of_site first + total of_site
+      second = cc (numbered_append n ss ss', total-append of_site first second) in
       let one = a.sum in let two = b.sum in
       record { sum = omega (arith, one, two, all) }
 
@@ -142,11 +140,10 @@ module _ (Y : Layout) (P : Program) (H : History) (here : Instance)
       count_in qs ≡ of_site (n, site) → Adds s u (numbered_sites n (site ∷ ss))
   adds_call s t u qs n site ss a e f =
       let next : n + 1 ≡ suc n = omega arith in
-      let later : total of_site (numbered_sites (n + 1) ss)
-      ≡ total of_site (numbered_sites (suc n) ss) =
-      ap (λ m. total of_site (numbered_sites m ss)) next in
+      let later : total of_site (numbered_sites (n + 1) ss) ≡ total of_site
+      (numbered_sites (suc n) ss) = cc in
       let all : count_in u.copies ≡ count_in t.copies + count_in qs =
-      ap count_in e ∙ given-append i t.copies qs in
+      ap count_in e ∙ given-append i _ qs in
       let one = a.sum in
       record { sum = omega (arith, later, all, one, f) }
 
@@ -294,10 +291,7 @@ module _ (Y : Layout) (P : Program) (H : History) (here : Instance)
       (Parts oa → Adds s x.state (numbered_sites n (sites a))) →
       (Parts ob → Adds x.state y.state (numbered_sites m (sites b))) → Parts (oa ++ ob) →
       Adds s y.state (numbered_sites n (sites a ++ sites b)))
-  two_added k n s a b left right h =
-      let oa = occurrences P here.node k n a in
-      let ob = occurrences P here.node k (n + call_count a) b in
-      adds_two s _ _ n (sites a) (sites b) (left (fore oa ob h)) (right (aft oa ob h))
+  two_added k n s a b left right h = adds_two s _ _ n _ _ (left (fore _ _ h)) (right (aft _ _ h))
 
   mutual
     unfolding emit

@@ -22,9 +22,7 @@ module _ (cs : ℕ → Context) where
 
   pub outputs_none : (s : State) (below : List ℕ) (start : Option Start) → start ≡ None →
       gives s below ≡ onto below (gives s (outputs_at cs start))
-  outputs_none s below start e =
-      no_outputs s below
-      ∙ sym (ap (λ (start : Option Start). onto below (gives s (outputs_at cs start))) e)
+  outputs_none s below start e = cc (no_outputs s below)
 
   pub outputs_found :
       (s : State) (below : List ℕ) (ctx : Context) (start : Option Start) (n : Start) →
@@ -33,8 +31,7 @@ module _ (cs : ℕ → Context) where
       ≡ onto below (gives s (outputs_at cs start))
   outputs_found s below ctx start n e at =
       let count : n.inputs + n.outputs - n.inputs ≡ n.outputs = omega arith in
-      ap₂ (λ (ctx : Context) (k : ℕ). onto below (gives s (places_from ctx n.inputs k))) at count
-      ∙ sym (ap (λ (start : Option Start). onto below (gives s (outputs_at cs start))) e)
+      cc
 
 -- the first item of a stack above `below` is the first of `outs`
 pub first_above :
@@ -43,10 +40,7 @@ pub first_above :
     a ≡ get_or items from d → a.0 ≡ get_or outs 0 0
 first_above below outs items from a d count is lt e =
     let none : from ≡ length below + 0 = omega (arith, count) in
-    ap (λ (a : ElementId). a.0) e
-    ∙ (sym (get_or-map (λ (a : ElementId). a.0) items from d 0 lt)
-    ∙ (ap (λ xs. get_or xs from 0) is
-    ∙ (ap (λ n. get_or (below ++ outs) n 0) none ∙ get_or-append-add below outs 0 0)))
+    cc (get_or-map (λ (a : ElementId). a.0) items from d 0 lt, get_or-append-add below outs 0 0)
 
 -- if a stack has no item above `below`, the first of `outs` is the default 0
 pub none_above :
@@ -62,10 +56,7 @@ none_above below outs items from count is le =
 pub gone_above :
     (below outs : List ℕ) (from : ℕ) (s : State) (mid : Emitted) → from ≡ length below →
     mid ≡ onto below (gives s outs) → gives mid.state (take from mid.found) ≡ gives s below
-gone_above below outs from s mid count put =
-    ap (λ (x : Emitted). gives x.state (take from x.found)) put
-    ∙ ap (λ (is : List ℕ). gives s is)
-    (ap (λ n. take n (below ++ outs)) count ∙ take-append_seam below outs)
+gone_above below outs from s mid count put = cc (take-append_seam below outs)
 
 -- the row that is watched is ready if the rows of both starts are
 pub watched_ready :
@@ -73,10 +64,9 @@ pub watched_ready :
     w ≡ or_else observer root → root ≡ one → observer ≡ other → ds ≡ cs → h ≡ f →
     ForSome one (IsReady cs f) → ForSome other (IsReady cs f) → ForSome w (IsReady ds h)
 watched_ready cs ds f h root observer one other w is e g at there first second =
-    subst (λ (w : Option Start). ForSome w (IsReady ds h))
-    (sym (is ∙ ap₂ (λ (o r : Option Start). or_else o r) g e))
-    (subst₂ (λ (ds : ℕ → Context) (h : ℕ → Bool). ForSome (or_else other one) (IsReady ds h))
-    (sym at) (sym there) (by one other first second))
+    rw (is ∙ ap₂ (λ (o r : Option Start). or_else o r) g e) (subst₂
+    (λ (ds : ℕ → Context) (h : ℕ → Bool). ForSome (or_else other one) (IsReady ds h)) (sym at)
+    (sym there) (by one other first second))
   where
     by : (one other : Option Start) → ForSome one (IsReady cs f) →
         ForSome other (IsReady cs f) → ForSome (or_else other one) (IsReady cs f)
@@ -127,22 +117,10 @@ module _ (r : Reached) (t : Table) (cs : ℕ → Context) (inputs kinds : List K
       let observer = start_in r t true in
       let before = begun_at cs root observer in
       let new = rows_emitted in
-      let all_kinds = kinds ++ kinds_from kinds new.equations in
-      let clock_elements = row_clocks r t cs 0 t.instances.items in
-      let watched = get_or (outputs_at cs (or_else observer root)) 0 0 in
       let kinds_known = kinds_are
       ∙ ap (λ (s : State). kinds ++ kinds_from kinds s.equations) rows in
       let joined_lists =
       append_assoc before new.copies new.equations
       ∙ append_assoc (given_at cs root) (observed_at cs root observer)
       (new.copies ++ new.equations) in
-      let program =
-      assembled (after_copies before new) inputs all_kinds count clock_elements watched in
-      ap (λ (u : State). assembled u inputs all count elements property) joined
-      ∙ (ap₂ (λ (begun : List FlatEquation) (s : State).
-      assembled (after_copies begun s) inputs all count elements property) is rows
-      ∙ (ap (λ (all : List Kind).
-      assembled (after_copies before new) inputs all count elements property) kinds_known
-      ∙ (ap₂ (λ (elements : List ℕ) (property : ℕ).
-      assembled (after_copies before new) inputs all_kinds count elements property) clocks first
-      ∙ ap (λ (qs : List FlatEquation). record program { equations = qs }) joined_lists)))
+      cc

@@ -44,10 +44,7 @@ range_done a n i le =
 pub putting_more :
     (below so new next : List ℕ) (s : State) (x y : Emitted) → x ≡ onto below (gives s so) →
     y ≡ onto x.found (gives x.state new) → so ++ new ≡ next → y ≡ onto below (gives s next)
-putting_more below so new next s x y h e is =
-    e ∙ ap (λ (x : Emitted). onto x.found (gives x.state new)) h
-    ∙ ap (λ (is : List ℕ). gives s is)
-    (append_assoc below so new ∙ ap (λ (is : List ℕ). below ++ is) is)
+putting_more below so new next s x y h e is = cc (append_assoc below so new)
 
 -- `a + i`, put above the i numbers from `a` on, makes the i + 1 numbers from `a` on
 pub put_more :
@@ -74,17 +71,15 @@ pub put_flat :
     y ≡ onto below (gives s (flat_map f (range_with_len a k)))
 put_flat below s x y f a i j k new h put is at last =
     let so = flat_map f (range_with_len a i) in
-    putting_more below so new (flat_map f (range_with_len a k)) s x y h put
-    (ap (λ (ys : List ℕ). so ++ ys) (is ∙ ap f at) ∙ flat_last f a i
-    ∙ ap (λ n. flat_map f (range_with_len a n)) (sym last))
+    putting_more below _ new _ s x y h put (ap (λ (ys : List ℕ). so ++ ys) (is ∙ ap f at)
+    ∙ flat_last f a i ∙ ap (λ n. flat_map f (range_with_len a n)) (sym last))
 
 -- with a single instance, gathering over all instances gives the elements of each variable
 pub flat_single : (f : ℕ → List ℕ) (g : ℕ → ℕ → List ℕ) (xs : List ℕ) →
     ((x : ℕ) → g 0 x ≡ f x) →
     flat_map (λ x. flat_map (λ i. g i x) (range_with_len 0 1)) xs ≡ flat_map f xs
 flat_single f g [] h = refl
-flat_single f g (x ∷ xs) h =
-    ap₂ (λ (ys zs : List ℕ). ys ++ zs) (append-nil (g 0 x) ∙ h x) (flat_single f g xs h)
+flat_single f g (x ∷ xs) h = cc (append-nil (g 0 x), h x, flat_single f g xs h)
 
 -- ## Copies
 
@@ -92,11 +87,7 @@ flat_single f g (x ∷ xs) h =
 pub copying_more :
     (s t whole : State) (one left before : List FlatEquation) → t ≡ with_copies s one →
     before ≡ one ++ left → with_copies s before ≡ whole → with_copies t left ≡ whole
-copying_more s t whole one left before e is h =
-    ap (λ (t : State). with_copies t left) e
-    ∙ ap (λ (qs : List FlatEquation). record s { copies = qs })
-    (append_assoc s.copies one left ∙ ap (λ (qs : List FlatEquation). s.copies ++ qs) (sym is))
-    ∙ h
+copying_more s t whole one left before e is h = cc (append_assoc s.copies one left)
 
 pub copying_ends :
     (s whole : State) (left : List FlatEquation) → left ≡ [] → with_copies s left ≡ whole →
@@ -157,26 +148,21 @@ pub copy_ends :
     s ≡ whole
 copy_ends k s whole first n i js done h =
     let f : ℕ → Target = λ i. record { place = i; clock = k } in
-    let ts = targets_of k (range_with_len first n) in
     let size = length-map-range_with_len f first n in
-    copying_ends s whole (copied (drop i ts) (drop i js))
-    (copied_done ts js i (subst (λ n. min n (length js) ≤ i) (sym size) done)) h
+    copying_ends s whole _ (copied_done _ js i (rw size done)) h
 
 -- copies into `ts ++ us` are copies into `ts`, and then copies of the rest into `us`
 pub copied_append : (ts us : List Target) (js : List ℕ) →
     copied (ts ++ us) js ≡ copied ts js ++ copied us (drop (length ts) js)
 copied_append [] us js = refl
 copied_append (t ∷ ts) us [] = none_copied (t ∷ ts ++ us) ∙ sym (none_copied us)
-copied_append (t ∷ ts) us (j ∷ js) =
-    ap (λ (qs : List FlatEquation). copy_of t.clock t.place j ∷ qs) (copied_append ts us js)
+copied_append (t ∷ ts) us (j ∷ js) = cc (copied_append ts us js)
 
 -- skipping n items behind `at` stops at the end of the list
 pub skipped : (at n : ℕ) (all : List ℕ) → at ≤ length all →
     drop (at + min n (length all - at)) all ≡ drop n (drop at all)
 skipped at n all le =
-    sym (drop-drop (min n (length all - at)) at all)
-    ∙ ap (λ m. drop (min n m) (drop at all)) (sym (length-drop at all))
-    ∙ drop_min n (drop at all)
+    cc (drop-drop (min n (length all - at)) at all, length-drop at all, drop_min n (drop at all))
 
 -- a loop of copies over the items of a list, one after the other
 module _ {A : Type 0} (f : A → List Target) where
@@ -189,14 +175,9 @@ module _ {A : Type 0} (f : A → List Target) where
   items_step s t whole x xs ys n at to all is count within h et place =
       let one = copied (f x) (drop at all) in
       let us = flat_map f xs in
-      let rest : drop to all ≡ drop (length (f x)) (drop at all) =
-      ap (λ n. drop n all) place ∙ skipped at n all within
-      ∙ ap (λ n. drop n (drop at all)) (sym count) in
-      copying_more s t whole one (copied us (drop to all)) (copied (flat_map f ys) (drop at all))
-      et
-      (ap (λ (ys : List A). copied (flat_map f ys) (drop at all)) is
-      ∙ copied_append (f x) us (drop at all)
-      ∙ ap (λ (is : List ℕ). one ++ copied us is) (sym rest)) h
+      let rest : drop to all ≡ drop (length (f x)) (drop at all) = cc (skipped at n all within) in
+      copying_more s t whole _ _ _ et (ap (λ (ys : List A). copied (flat_map f ys) (drop at all))
+      is ∙ copied_append _ _ _ ∙ ap (λ (is : List ℕ). one ++ copied us is) (sym rest)) h
 
   pub items_end :
       (s whole : State) (ys : List A) (js : List ℕ) → ys ≡ [] →
@@ -226,15 +207,13 @@ module _ (ctx : Context) (c : ℕ) where
       drop to all ≡ drop (length (input_targets ctx c i x) * m) (drop at all)
   skipped_child i x at to m all within place =
       let n = length (ctx.child c i x) in
-      ap (λ n. drop n all) place ∙ skipped at (n * m) all within
-      ∙ ap (λ n. drop (n * m) (drop at all)) (sym (target_count i x))
+      cc (skipped at (n * m) all within, target_count i x)
 
   pub skipped_one : (i x at to : ℕ) (all : List ℕ) → at ≤ length all →
       to ≡ at + min (length (ctx.child c i x)) (length all - at) →
       drop to all ≡ drop (length (input_targets ctx c i x)) (drop at all)
   skipped_one i x at to all within place =
-      ap (λ n. drop n all) place ∙ skipped at (length (ctx.child c i x)) all within
-      ∙ ap (λ n. drop n (drop at all)) (sym (target_count i x))
+      cc (skipped at (length (ctx.child c i x)) all within, target_count i x)
 
   -- a step of the loop over the inputs of a call: after input x, those from x + 1 on are left
   pub input_step :
@@ -247,11 +226,9 @@ module _ (ctx : Context) (c : ℕ) where
       (drop (x + 1) (range_with_len 0 inputs))) (drop to all)) ≡ whole
   input_step s t whole x inputs at to all lt within h et place =
       let zero_x : 0 + x ≡ x = omega arith in
-      items_step (input_targets ctx c 0) s t whole x (drop (x + 1) (range_with_len 0 inputs))
-      (drop x (range_with_len 0 inputs)) (length (ctx.child c 0 x)) at to all
-      (range_rest 0 inputs x lt
-      ∙ ap (λ y. y ∷ drop (x + 1) (range_with_len 0 inputs)) zero_x)
-      (target_count 0 x) within h et place
+      items_step (input_targets ctx c 0) s t whole x _ _ _ at to all (range_rest 0 _ x lt ∙ ap
+      (λ y. y ∷ drop (x + 1) (range_with_len 0 inputs)) zero_x) (target_count 0 x) within h et
+      place
 
   pub input_ends :
       (s whole : State) (x inputs at : ℕ) (all : List ℕ) → inputs ≤ x →
@@ -277,14 +254,9 @@ module _ (ctx : Context) (c : ℕ) where
       let ts = input_targets ctx c i x in
       let one = skipped_child i x at start i all within from in
       let two = skipped_child i x at to m all within after in
-      let split : part_copies ctx c m i (drop y (range_with_len a len)) (drop at all)
-      ≡ copied ts (drop start all) ++ part_copies ctx c m i xs (drop to all) =
-      ap (λ (ys : List ℕ). part_copies ctx c m i ys (drop at all))
-      (range_rest a len y lt ∙ ap (λ z. z ∷ xs) ex)
-      ∙ ap₂ (λ (is js : List ℕ). copied ts is ++ part_copies ctx c m i xs js) (sym one) (sym two) in
-      copying_more s t whole (copied ts (drop start all))
-      (part_copies ctx c m i xs (drop to all))
-      (part_copies ctx c m i (drop y (range_with_len a len)) (drop at all)) et split h
+      let split : part_copies ctx c m i (drop y (range_with_len a len)) (drop at all) ≡ copied ts
+      (drop start all) ++ part_copies ctx c m i xs (drop to all) = cc (range_rest a len y lt) in
+      copying_more s t whole _ _ _ et split h
 
   pub part_ends :
       (s whole : State) (m i a len y at : ℕ) (all : List ℕ) → len ≤ y →
@@ -316,11 +288,8 @@ module _ (ctx : Context) (c : ℕ) where
       let one = copied (input_targets ctx c i 0) (accumulator ctx c n i (drop at all)) in
       let xs = range_with_len 1 (n.inputs - 1) in
       let rest = skipped_one i 0 at to all within place in
-      eu ∙ ap (λ (t : State). with_copies t (part_copies ctx c m i xs (drop to all))) et
-      ∙ ap (λ (is : List ℕ). with_copies (with_copies s one) (part_copies ctx c m i xs is)) rest
-      ∙ ap (λ (qs : List FlatEquation). record s { copies = qs })
-      (append_assoc s.copies one
-      (part_copies ctx c m i xs (drop (length (input_targets ctx c i 0)) (drop at all))))
+      cc (append_assoc s.copies one (part_copies ctx c m i xs
+      (drop (length (input_targets ctx c i 0)) (drop at all))))
 
   -- the outputs of an iterated node, for each iterator
   pub map_outputs : (m first end : ℕ) (it : ArrayIterator) (n : Callee) → it ≡ Map →
@@ -329,16 +298,12 @@ module _ (ctx : Context) (c : ℕ) where
       ≡ index_outputs ctx c (ctx.repeats c) it n
   map_outputs m first end it n is from to count =
       let size : end - first ≡ n.outputs = omega (arith, from, to) in
-      ap₂ (λ (m k : ℕ). gathered_at ctx c m (range_with_len first k)) count size
-      ∙ ap (λ k. gathered_at ctx c (ctx.repeats c) (range_with_len k n.outputs)) from
-      ∙ ap (λ (it : ArrayIterator). index_outputs ctx c (ctx.repeats c) it n) (sym is)
+      cc
 
   pub red_outputs : (m k first : ℕ) (is : List ℕ) (it : ArrayIterator) (n : Callee) → it ≡ Red →
       first ≡ n.inputs → k ≡ m - 1 → m ≡ ctx.repeats c → is ≡ ctx.child c k first →
       is ≡ index_outputs ctx c (ctx.repeats c) it n
-  red_outputs m k first is it n form from last count same =
-      same ∙ ap₂ (λ k x. ctx.child c k x) (last ∙ ap (λ m. m - 1) count) from
-      ∙ ap (λ (it : ArrayIterator). index_outputs ctx c (ctx.repeats c) it n) (sym form)
+  red_outputs m k first is it n form from last count same = cc
 
   pub fill_outputs :
       (m k first end : ℕ) (is : List ℕ) (it : ArrayIterator) (n : Callee) → it ≡ Fill →
@@ -349,11 +314,7 @@ module _ (ctx : Context) (c : ℕ) where
   fill_outputs m k first end is it n form from to last count same =
       let size : end - (first + 1) ≡ n.outputs - 1 = omega (arith, from, to) in
       let next : first + 1 ≡ suc n.inputs = omega (arith, from) in
-      ap₂ (λ (xs ys : List ℕ). xs ++ ys)
-      (same ∙ ap₂ (λ k x. ctx.child c k x) (last ∙ ap (λ m. m - 1) count) from)
-      (ap₂ (λ (m k : ℕ). gathered_at ctx c m (range_with_len (first + 1) k)) count size
-      ∙ ap (λ k. gathered_at ctx c (ctx.repeats c) (range_with_len k (n.outputs - 1))) next)
-      ∙ ap (λ (it : ArrayIterator). index_outputs ctx c (ctx.repeats c) it n) (sym form)
+      cc
 
   -- a call or an iterated node: its operands are copied and dropped, and its outputs are put
   pub call_done :
@@ -368,18 +329,16 @@ module _ (ctx : Context) (c : ℕ) where
   unfolding joins
   call_done from n x y z t found end is et cut same to put =
       let size : end - n.inputs ≡ n.outputs = omega (arith, to) in
-      let all = range_with_len n.inputs n.outputs in
       let given = copied (flat_map (input_targets ctx c 0) (range_with_len 0 n.inputs))
       (drop from x.found) in
-      put ∙ ap (λ (y : Emitted). onto y.found (gives y.state
-      (gathered_at ctx c 1 (range_with_len n.inputs (end - n.inputs))))) cut
-      ∙ ap₂ (λ (t : State) (is : List ℕ). onto (take from is) (gives t
-      (gathered_at ctx c 1 (range_with_len n.inputs (end - n.inputs))))) et same
-      ∙ ap (λ (is : List ℕ). onto (take from x.found) (gives (with_copies x.state given) is))
-      (ap (λ k. gathered_at ctx c 1 (range_with_len n.inputs k)) size
-      ∙ flat_single (ctx.child c 0) (ctx.child c) all (λ x. refl))
-      ∙ ap (λ (o : Option Callee). onto (take from x.found)
-      (joins x.state (call_copies ctx c o (drop from x.found)) (call_outputs ctx c o))) (sym is)
+      put ∙ ap (λ (y : Emitted). onto y.found (gives y.state (gathered_at ctx c 1
+      (range_with_len n.inputs (end - n.inputs))))) cut ∙ ap₂ (λ (t : State) (is : List ℕ). onto
+      (take from is) (gives t (gathered_at ctx c 1 (range_with_len n.inputs (end - n.inputs)))))
+      et same ∙ ap (λ (is : List ℕ). onto (take from x.found)
+      (gives (with_copies x.state given) is)) (ap
+      (λ k. gathered_at ctx c 1 (range_with_len n.inputs k)) size ∙ flat_single (ctx.child c 0)
+      (ctx.child c) _ (λ x. refl)) ∙ ap (λ (o : Option Callee). onto (take from x.found) (joins
+      x.state (call_copies ctx c o (drop from x.found)) (call_outputs ctx c o))) (sym is)
 
   pub iterate_done :
       (from : ℕ) (it : ArrayIterator) (n : Callee) (x y z : Emitted) (t : State)

@@ -25,10 +25,7 @@ keep_more x y whole all i a lt e at h =
       state = record x.state { memory_operands = is };
       found = x.found;
     } in
-    ap (λ (y : Emitted). with_kept y rest) e
-    ∙ ap put (append_assoc so (a ∷ []) rest
-    ∙ ap (λ (is : List ℕ). so ++ is) (ap (λ a. a ∷ rest) at ∙ sym (drop_more all i 0 lt)))
-    ∙ h
+    cc (append_assoc so (a ∷ []) rest, drop_more all i 0 lt)
 
 pub keep_ends :
     (x whole : Emitted) (all : List ℕ) (i : ℕ) → length all ≤ i →
@@ -48,11 +45,7 @@ pub assert_more :
 assert_more s t whole all i a lt e at h =
     let rest = drop (i + 1) all in
     let put : List ℕ → State = λ is. record s { asserted = is } in
-    ap (λ (t : State). with_asserted t rest) e
-    ∙ ap put (append_assoc s.asserted (a ∷ []) rest
-    ∙ ap (λ (is : List ℕ). s.asserted ++ is)
-    (ap (λ a. a ∷ rest) at ∙ sym (drop_more all i 0 lt)))
-    ∙ h
+    cc (append_assoc s.asserted (a ∷ []) rest, drop_more all i 0 lt)
 
 pub assert_ends :
     (s whole : State) (all : List ℕ) (i : ℕ) → length all ≤ i →
@@ -73,8 +66,7 @@ pub numbers_replaced : (from : ℕ) (xs : List ElementId) (a : ElementId) →
     numbers_of (take from xs ++ a ∷ []) ≡ take from (numbers_of xs) ++ a.0 ∷ []
 numbers_replaced from xs a =
     let number : ElementId → ℕ = λ b. b.0 in
-    map-append number (take from xs) (a ∷ [])
-    ∙ ap (λ (is : List ℕ). is ++ a.0 ∷ []) (sym (take-map number from xs))
+    cc (map-append number (take from xs) (a ∷ []), take-map number from xs)
 
 pub elements_replaced : (n from : ℕ) (xs : List ElementId) (a : ElementId) →
     All (λ a. a.0 < n) xs → a.0 < n → All (λ a. a.0 < n) (take from xs ++ a ∷ [])
@@ -105,9 +97,7 @@ pub chain_step :
     t ≡ push j s (ApplyBinary op any a) → j ≡ k → a ≡ get_or all i 0 → last ≡ s.next →
     chained k op t last (drop (i + 1) all) ≡ whole
 chain_step k j op s t any last a all i whole lt h e clock at is =
-    let one = ap₂ (λ (k : FlatClock) (a : ℕ). push k s (ApplyBinary op any a)) clock at in
-    ap₂ (λ t l. chained k op t l (drop (i + 1) all)) (e ∙ one) is
-    ∙ sym (chained_more k op s any all i 0 lt) ∙ h
+    cc (chained_more k op s any all i 0 lt)
 
 pub chain_end :
     (k : FlatClock) (op : BinaryOperator) (s : State) (any : ℕ) (all : List ℕ) (i : ℕ)
@@ -141,16 +131,10 @@ twice_step k s t u v any two both second last all i whole lt h et eb eu es ev el
     let x = get_or all i 0 in
     let rest = drop (i + 1) all in
     let g : ℕ → State → State = λ b t. push k t (ApplyBinary Or two b) in
-    let is_u : u ≡ g s.next t = eu ∙ ap (λ b. g b t) eb in
-    let one : twice k v last second rest
-    ≡ twice k (push k u (ApplyBinary Or any x)) u.next t.next rest =
-    ap₂ (λ v l. twice k v l second rest) ev el
-    ∙ ap (λ w. twice k (push k u (ApplyBinary Or any x)) u.next w rest) es in
-    one
-    ∙ ap (λ (u : State). twice k (push k u (ApplyBinary Or any x)) u.next t.next rest) is_u
-    ∙ ap (λ (t : State). let u = g s.next t in
-    twice k (push k u (ApplyBinary Or any x)) u.next t.next rest) et
-    ∙ sym (twice_more k s any two all i 0 lt) ∙ h
+    let is_u : u ≡ g s.next t = cc in
+    let one : twice k v last second rest ≡ twice k (push k u (ApplyBinary Or any x)) u.next t.next
+    rest = cc in
+    cc (twice_more k s any two all i 0 lt)
 
 pub twice_end :
     (k : FlatClock) (s : State) (any two : ℕ) (all : List ℕ) (i : ℕ)
@@ -168,8 +152,7 @@ pub nor_is :
 unfolding add
 nor_is k s first mid last start any is ef en ec el =
     let f : Emitted → Emitted = λ r. add k r.state (map (ApplyUnary Not) r.found) in
-    ap (λ (t : State). gives t (mid.next ∷ [])) el
-    ∙ ap f (ec ∙ ap₂ (λ t n. chained k Or t n is) ef en)
+    cc
 
 pub at_most_one_is :
     (k : FlatClock) (s first mid last : State) (start two : ℕ) (is : List ℕ) →
@@ -180,8 +163,7 @@ pub at_most_one_is :
 unfolding add
 at_most_one_is k s first mid last start two is ef en ec el =
     let f : Emitted → Emitted = λ r. add k r.state (map (ApplyUnary Not) r.found) in
-    ap (λ (t : State). gives t (mid.next ∷ [])) el
-    ∙ ap f (ec ∙ ap₂ (λ t n. twice k t n n is) ef en)
+    cc
 
 -- ## Some of the elements
 
@@ -196,19 +178,13 @@ picked_is from start count over skip all le is skips =
     let above = drop from all in
     let picked = drop start above in
     let is_rest : drop (from + skip) all ≡ picked =
-    sym (drop-drop skip from all)
-    ∙ ap (λ n. drop n above) (skips ∙ ap (min start) (is ∙ sym (length-drop from all)))
-    ∙ drop_min start above in
+    cc (drop-drop skip from all, length-drop from all, drop_min start above) in
     let size : length below ≡ from = length-take-le from all le in
     let long = length-drop from all in
     let gone = length-drop start above in
     let left : over - skip ≡ length picked = left_over start over skip (length picked) skips
     (gone ∙ ap (λ n. n - start) (long ∙ sym is)) in
-    ap (λ (is : List ℕ). take (from + min count (over - skip)) (below ++ is)) is_rest
-    ∙ ap (λ n. take (from + min count n) (below ++ picked)) left
-    ∙ ap (λ n. take (n + min count (length picked)) (below ++ picked)) (sym size)
-    ∙ take-append-add below picked (min count (length picked))
-    ∙ ap (λ (is : List ℕ). below ++ is) (take_min count picked)
+    cc (take-append-add below picked (min count (length picked)), take_min count picked)
   where
     left_over : (start over skip n : ℕ) → skip ≡ min start over → n ≡ over - start →
         over - skip ≡ n

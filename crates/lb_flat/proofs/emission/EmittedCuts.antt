@@ -45,9 +45,7 @@ pub pick_is :
     z ≡ gives y.state (take (from + min count (over - skip)) y.found) →
     z ≡ on_top from (picked start count) x
 pick_is from start count over skip x y z le is skips e f =
-    f ∙ ap (λ (y : Emitted). gives y.state (take (from + min count (over - skip)) y.found)) e
-    ∙ ap (λ (is : List ℕ). gives x.state is)
-    (picked_is from start count over skip x.found le is skips)
+    cc (picked_is from start count over skip x.found le is skips)
 
 -- ## Copies of the elements
 
@@ -55,9 +53,7 @@ copies_last : (n : ℕ) (xs : List ℕ) → copies (n + 1) xs ≡ copies n xs ++
 copies_last zero xs = append-nil xs
 copies_last (suc n) xs =
     let more : suc n + 1 ≡ suc (n + 1) = omega arith in
-    ap (λ n. copies n xs) more
-    ∙ ap (λ (is : List ℕ). xs ++ is) (copies_last n xs)
-    ∙ sym (append_assoc xs (copies n xs) xs)
+    cc (copies_last n xs, append_assoc xs (copies n xs) xs)
 
 -- `all ++ more` from `from` to the end of `all` is `drop from all`
 part_left : (from : ℕ) (all more : List ℕ) → from ≤ length all →
@@ -76,22 +72,15 @@ pub copies_more :
 copies_more from top i x y z le is h e =
     let all = x.found in
     let so = copies i (drop from all) in
-    let part : slice_range (all ++ so) from top ≡ drop from all =
-    ap (slice_range (all ++ so) from) is ∙ part_left from all so le in
-    e ∙ ap (λ (y : Emitted). onto y.found (gives y.state (slice_range y.found from top))) h
-    ∙ ap (λ (is : List ℕ). gives x.state is)
-    (append_assoc all so (slice_range (all ++ so) from top)
-    ∙ ap (λ (is : List ℕ). all ++ (so ++ is)) part
-    ∙ ap (λ (is : List ℕ). all ++ is) (sym (copies_last i (drop from all))))
+    let part : slice_range (all ++ so) from top ≡ drop from all = cc (part_left from all so le) in
+    cc (append_assoc all so (slice_range (all ++ so) from top), copies_last i (drop from all))
 
 pub copies_end :
     (from top n i : ℕ) (x y z : Emitted) → from ≤ length x.found → top ≡ length x.found → i ≡ n →
     y ≡ onto x.found (gives x.state (copies i (drop from x.found))) → z ≡ without from top y →
     z ≡ on_top from (λ r. gives r.state (copies n r.found)) x
 copies_end from top n i x y z le is all h e =
-    e ∙ ap₂ (without from) is h
-    ∙ without_operands from x.found (gives x.state (copies i (drop from x.found))) le
-    ∙ ap (λ n. onto (take from x.found) (gives x.state (copies n (drop from x.found)))) all
+    cc (without_operands from x.found (gives x.state (copies i (drop from x.found))) le)
 
 -- ## A chain from the first of the elements
 
@@ -103,10 +92,7 @@ pub red_is :
     y ≡ on_top from (λ r. red k op r.state r.found) x
 red_is k op from init last x mid y lt is h e same =
     let all = x.found in
-    e ∙ ap (λ (is : List ℕ). onto (take from is) (gives mid.state (last ∷ []))) same
-    ∙ ap (onto (take from all)) (h
-    ∙ ap (λ i. chained k op x.state i (drop (from + 1) all)) is
-    ∙ ap (red k op x.state) (sym (drop_more all from 0 lt)))
+    cc (drop_more all from 0 lt)
 
 pub red_none :
     (k : FlatClock) (op : BinaryOperator) (from : ℕ) (x : Emitted) → length x.found ≤ from →

@@ -75,10 +75,8 @@ three_parts from middle all le =
     let rest = drop from all in
     let sum : from + (middle - from) ≡ middle = omega (arith, le) in
     let skip : drop (middle - from) rest ≡ drop middle all =
-    drop-drop (middle - from) from all ∙ ap (λ n. drop n all) sum in
-    ap (λ (is : List ℕ). take from all ++ (take (middle - from) rest ++ is)) (sym skip)
-    ∙ ap (λ (is : List ℕ). take from all ++ is) (take-append-drop (middle - from) rest)
-    ∙ take-append-drop from all
+    cc (drop-drop (middle - from) from all) in
+    cc (take-append-drop (middle - from) rest, take-append-drop from all)
 
 -- joining two operands leaves the stack as it is
 pub joined_stays : (from middle : ℕ) (x : Emitted) → from ≤ middle →
@@ -120,11 +118,9 @@ pairs_after k f g from middle x y le within e =
     take-append-le from below z.found (omega (arith, size, le))
     ∙ take-take from middle x.found le in
     let second : slice_range all from middle ≡ slice_range x.found from middle =
-    part_below from middle x.found z.found le within in
-    let third : drop middle all ≡ z.found =
-    ap (λ n. drop n all) (sym size) ∙ drop-append_seam below z.found in
-    ap (on_two from middle (pairs k f)) e
-    ∙ ap₂ onto first (ap₂ (λ (xs ys : List ℕ). pairs k f xs (gives z.state ys)) second third)
+    part_below from _ _ _ le within in
+    let third : drop middle all ≡ z.found = cc (drop-append_seam below z.found) in
+    cc
 
 -- ## A row
 
@@ -162,16 +158,14 @@ chosen_is k from second third c x y z lt le within is e f =
     let size : length below ≡ second = length-take-le second all (omega (arith, le, within)) in
     let new = pairs k (Choose c) xs (gives x.state ys) in
     let gone : without from second (onto below new) ≡ onto (take from below) new =
-    ap (λ n. without from n (onto below new)) (sym size)
-    ∙ without_operands from below new (omega (arith, size, lt)) in
+    cc (without_operands from below new (omega (arith, size, lt))) in
     let first : cs ≡ c ∷ take (second - from - 1) (drop (from + 1) all) =
-    ap (take (second - from)) (drop_more all from 0 (omega (arith, lt, le, within)))
-    ∙ take_one (second - from) _ (drop (from + 1) all) (omega (arith, lt))
-    ∙ ap (λ i. i ∷ take (second - from - 1) (drop (from + 1) all)) (sym is) in
-    f ∙ ap (without from second) e ∙ gone
-    ∙ ap (λ (b : List ℕ). onto b new)
-    (take-take from second all (omega (arith, lt)))
-    ∙ ap (λ (cs : List ℕ). onto (take from all) (choose k cs xs (gives x.state ys))) (sym first)
+    cc (
+      drop_more all from 0 (omega (arith, lt, le, within)),
+      take_one (second - from) _
+          (drop (from + 1) all) (omega (arith, lt)),
+    ) in
+    cc (take-take from second all (omega (arith, lt)))
 
 -- a condition without elements chooses nothing
 pub none_chosen :
@@ -180,14 +174,10 @@ pub none_chosen :
 none_chosen k from second third x y same e =
     let all = x.found in
     let rest = gives x.state (drop third all) in
-    let empty : slice_range all from second ≡ [] =
-    ap (λ n. take n (drop from all)) (none_between from second same) in
+    let empty : slice_range all from second ≡ [] = cc (none_between from second same) in
     let none : choose k [] (slice_range all second third) rest ≡ gives x.state [] =
-    added_none k (gives x.state []) in
-    e ∙ ap (λ (is : List ℕ). gives x.state is) (sym (append-nil (take from all)))
-    ∙ ap (onto (take from all)) (sym none)
-    ∙ ap (λ (cs : List ℕ). onto (take from all) (choose k cs (slice_range all second third) rest))
-    (sym empty)
+    added_none k _ in
+    cc (append-nil (take from all))
   where
     none_between : (m n : ℕ) → m ≡ n → n - m ≡ 0
     none_between m n e = omega (arith, e)

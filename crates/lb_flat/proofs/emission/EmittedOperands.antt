@@ -98,8 +98,7 @@ module _ (below : List ℕ) (to up : Cursor) (mid next : Emitted) (x y : PlacedE
       (f x.emitted.found y.emitted).state.next < most →
       (f (slice_range next.found (length below) (length mid.found))
       (above (length mid.found) next)).state.next < most
-  two_left f most lt =
-      subst (λ (z : Emitted). z.state.next < most) (sym (ap₂ f first_part second_part)) lt
+  two_left f most lt = rw (ap₂ f first_part second_part) lt
 
 -- the three operands of a choice, cut out of the stack
 module _ (ctx : Context) (at : Cursor) (s : State) (below : List ℕ) (c a b : Box Term Global)
@@ -120,8 +119,7 @@ module _ (ctx : Context) (at : Cursor) (s : State) (below : List ℕ) (c a b : B
   mid_is = then_operand ctx below to up one mid z_of a.value h g
 
   last_is : placed top next ≡ stacked ((below ++ z_of.emitted.found) ++ x_of.emitted.found) y_of
-  last_is =
-      then_operand ctx (below ++ z_of.emitted.found) up top mid next x_of b.value mid_is f
+  last_is = then_operand ctx _ up top mid next x_of _ mid_is f
 
   one_size : length one.found ≡ length (below ++ z_of.emitted.found)
   one_size = ap (λ (r : PlacedEmitted). length r.emitted.found) h
@@ -162,21 +160,17 @@ module _ (ctx : Context) (at : Cursor) (s : State) (below : List ℕ) (c a b : B
       (choose k (slice_range next.found (length below) (length one.found))
       (slice_range next.found (length one.found) (length mid.found))
       (above (length mid.found) next)).state.next < most
-  three_left k most lt =
-      subst (λ n. n < most)
-      (sym (ap (λ (z : Emitted). z.state.next) (three_is (choose k)))) lt
+  three_left k most lt = rw (ap (λ (z : Emitted). z.state.next) (three_is (choose k))) lt
 
 -- ## Where operands begin
 
 pub start_room : (ctx : Context) (at : Cursor) (s : State) (e : Term) →
     HasRoom (emit_term ctx at s e) → HasPlaces at
-start_room ctx at s e h =
-    places_before at (emit_term ctx at s e).place (place_grows ctx at s e) h.places
+start_room ctx at s e h = places_before at _ (place_grows ctx at s e) h.places
 
 pub list_start : (ctx : Context) (at : Cursor) (s : State) (es : List Term) →
     HasRoom (emit_list ctx at s es) → HasPlaces at
-list_start ctx at s es h =
-    places_before at (emit_list ctx at s es).place (list_later ctx at s es) h.places
+list_start ctx at s es h = places_before at _ (list_later ctx at s es) h.places
 
 pub next_fits : (at : Cursor) → HasPlaces (next_term at) → at.term + 1 < 2 ^ 64
 next_fits at h = let lt = h.terms in omega (arith, lt)
@@ -199,12 +193,10 @@ pub placed_as :
     (ctx : Context) (p q to : Cursor) (s : State) (e f : Term) (below : List ℕ) (x : Emitted) →
     q ≡ p → f ≡ e → placed to x ≡ stacked below (emit_term ctx q s f) →
     placed to x ≡ stacked below (emit_term ctx p s e)
-placed_as ctx p q to s e f below x place is h =
-    h ∙ ap₂ (λ p e. stacked below (emit_term ctx p s e)) place is
+placed_as ctx p q to s e f below x place is h = cc
 
 pub listed_as :
     (ctx : Context) (p q to : Cursor) (s : State) (es fs : List Term) (below : List ℕ)
     (x : Emitted) → q ≡ p → fs ≡ es → placed to x ≡ stacked below (emit_list ctx q s fs) →
     placed to x ≡ stacked below (emit_list ctx p s es)
-listed_as ctx p q to s es fs below x place is h =
-    h ∙ ap₂ (λ p es. stacked below (emit_list ctx p s es)) place is
+listed_as ctx p q to s es fs below x place is h = cc

@@ -55,9 +55,7 @@ unfolding emit_term emit_list
 list_of_row ctx at s n end_of-Term = refl
 list_of_row ctx at s n (more_of-Term e rest) =
     let x = emit_term ctx at s e in
-    ap (λ (r : PlacedEmitted).
-    placed r.place (gives r.emitted.state (x.emitted.found ++ r.emitted.found)))
-    (list_of_row ctx x.place x.emitted.state _ rest)
+    cc (list_of_row ctx x.place x.emitted.state _ rest)
 
 -- a term does the same with a row of operands as with their list
 row_is :
@@ -67,8 +65,7 @@ row_is :
     ≡ (let r = emit_list ctx from s es.items in placed r.place (with_all ctx at t r.emitted))
 row_is ctx at from s t es is =
     let row = row_in t in
-    ap (λ (r : PlacedEmitted). placed r.place (with_all ctx at t r.emitted))
-    (list_of_row ctx from s row.0 row.1 ∙ ap (emit_list ctx from s) is)
+    cc (list_of_row ctx from s row.0 row.1)
 
 abbrev whole_row : Context → Cursor → State → Term → Vec Term Global → PlacedEmitted
 whole_row ctx at s t es =
@@ -98,10 +95,7 @@ pub emitted_all :
     (r : PlacedEmitted) → IsRow t es → xs ≡ es.items →
     r ≡ emit_list ctx (row_place at t) s xs →
     emit_term ctx at s t ≡ placed r.place (with_all ctx at t r.emitted)
-emitted_all ctx at s t es xs r is items er =
-    row_form ctx at s t es is
-    ∙ sym (ap (λ (r : PlacedEmitted). placed r.place (with_all ctx at t r.emitted))
-    (er ∙ ap (emit_list ctx (row_place at t) s) items))
+emitted_all ctx at s t es xs r is items er = cc (row_form ctx at s t es is)
 
 -- ## A list of terms, one after another
 
@@ -126,9 +120,7 @@ unfolding emit_list
 listed_more ctx at x es i d lt =
     let y = emit_term ctx at x.state (get_or es i d) in
     let r = emit_list ctx y.place y.emitted.state (drop (i + 1) es) in
-    ap (listed_onto ctx at x) (drop_more es i d lt)
-    ∙ ap (λ (is : List ℕ). placed r.place (record { state = r.emitted.state; found = is }))
-    (sym (append_assoc x.found y.emitted.found r.emitted.found))
+    cc (drop_more es i d lt, append_assoc x.found y.emitted.found r.emitted.found)
 
 -- a step of the loop over terms: after term i, the terms from i + 1 on are left
 pub listed_step :

@@ -136,18 +136,16 @@ pub adding_more :
     (k : FlatClock) (old new next : Emitted) (o : flat.Operation)
     (before rest all : List flat.Operation) → IsAdding k old new before all → before ≡ o ∷ rest →
     next ≡ pushed k o new → IsAdding k old next rest all
-adding_more k old new next o before rest all h is e =
-    subst (λ (x : Emitted). IsAdding k old x rest all) (sym e) (record {
-      below = still_below old.found new.found new.state.next h.below;
-      rest = added_more k o rest new ∙ ap (λ os. added k os new) (sym is) ∙ h.rest;
-    })
+adding_more k old new next o before rest all h is e = rw e (record {
+  below = still_below _ _ _ h.below;
+  rest = added_more k o rest new ∙ ap (λ os. added k os new) (sym is) ∙ h.rest;
+})
 
 -- `without` drops the operands, and keeps what was put above them
 pub without_operands : (from : ℕ) (below : List ℕ) (x : Emitted) → from ≤ length below →
     without from (length below) (onto below x) ≡ onto (take from below) x
 without_operands from below x le =
-    ap₂ (λ (b is : List ℕ). record { state = x.state; found = b ++ is })
-    (take-append-le from below x.found le) (drop-append_seam below x.found)
+    cc (take-append-le from below x.found le, drop-append_seam below x.found)
 
 -- at the end of a loop that pushes, the operands are dropped and the new elements stay
 pub adding_ends :
@@ -173,9 +171,7 @@ below_at xs ns i d lt e =
     let taken = length-take (length ns) (numbers_of xs) in
     let same = ap (λ (is : List ℕ). length is) e in
     let within : i < length (numbers_of xs) = grind (arith, taken, same, lt) in
-    number_at xs i d within
-    ∙ sym (get_or-take (length ns) (numbers_of xs) i 0 lt)
-    ∙ ap (λ (is : List ℕ). get_or is i 0) e
+    cc (number_at xs i d within, get_or-take (length ns) (numbers_of xs) i 0 lt)
 
 -- `map f` from place i on is `f` of item i, and then `map f` from i + 1 on
 pub map_more : (f : ℕ → flat.Operation) (ns : List ℕ) (i d : ℕ) → i < length ns →
@@ -225,10 +221,9 @@ pub each_step :
     IsAdding k old next (map f (drop (i + 1) old.found)) all
 each_step k j f old new next i a o all lt h e clock is at =
     let rest = map f (drop (i + 1) old.found) in
-    let same : f (get_or old.found i 0) ≡ o = ap f (sym at) ∙ sym is in
-    adding_more k old new next o (map f (drop i old.found)) rest all h
-    (map_more f old.found i 0 lt ∙ ap (λ (o : flat.Operation). o ∷ rest) same)
-    (e ∙ ap (λ (k : FlatClock). pushed k o new) clock)
+    let same : f (get_or old.found i 0) ≡ o = cc in
+    adding_more k old new next o _ _ all h (map_more f _ i 0 lt ∙ ap
+    (λ (o : flat.Operation). o ∷ rest) same) (e ∙ ap (λ (k : FlatClock). pushed k o new) clock)
 
 pub pairs_step :
     (k j : FlatClock) (f : ℕ → ℕ → flat.Operation) (old new next : Emitted) (xs ys : List ℕ)
@@ -238,10 +233,9 @@ pub pairs_step :
     IsAdding k old next (zip2 f (drop (i + 1) xs) (drop (i + 1) ys)) all
 pairs_step k j f old new next xs ys i a b o all lt more h e clock is at bt =
     let rest = zip2 f (drop (i + 1) xs) (drop (i + 1) ys) in
-    let same : f (get_or xs i 0) (get_or ys i 0) ≡ o = ap₂ f (sym at) (sym bt) ∙ sym is in
-    adding_more k old new next o (zip2 f (drop i xs) (drop i ys)) rest all h
-    (zip_more f xs ys i 0 lt more ∙ ap (λ (o : flat.Operation). o ∷ rest) same)
-    (e ∙ ap (λ (k : FlatClock). pushed k o new) clock)
+    let same : f (get_or xs i 0) (get_or ys i 0) ≡ o = cc in
+    adding_more k old new next o _ _ all h (zip_more f xs ys i 0 lt more ∙ ap
+    (λ (o : flat.Operation). o ∷ rest) same) (e ∙ ap (λ (k : FlatClock). pushed k o new) clock)
 
 -- item i of the part from `from` on is item `from + i` of the list
 pub part_at : (all : List ℕ) (from middle i : ℕ) → i < middle - from →

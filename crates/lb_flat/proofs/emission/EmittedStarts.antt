@@ -22,21 +22,16 @@ use Rattle.lb_static.specs.declared.table.Instance as row
 from_inputs_append : (j : ℕ) (ts us : List Target) →
     from_inputs j (ts ++ us) ≡ from_inputs j ts ++ from_inputs (j + length ts) us
 from_inputs_append j [] us =
-    let same : j ≡ j + 0 = omega arith in ap (λ k. from_inputs k us) same
+    let same : j ≡ j + 0 = omega arith in cc
 from_inputs_append j (t ∷ ts) us =
     let next : suc j + length ts ≡ j + suc (length ts) = omega arith in
-    ap (λ (qs : List FlatEquation). input_of t.clock t.place j ∷ qs)
-    (from_inputs_append (suc j) ts us
-    ∙ ap (λ k. from_inputs (suc j) ts ++ from_inputs k us) next)
+    cc (from_inputs_append (suc j) ts us)
 
 -- the copies `one`, and then the copies `new`, are the copies `all`
 with_more :
     (s t u : State) (one new all : List FlatEquation) → t ≡ with_copies s one →
     u ≡ with_copies t new → one ++ new ≡ all → u ≡ with_copies s all
-with_more s t u one new all h e is =
-    e ∙ ap (λ (t : State). with_copies t new) h
-    ∙ ap (λ (qs : List FlatEquation). record s { copies = qs })
-    (append_assoc s.copies one new ∙ ap (λ (qs : List FlatEquation). s.copies ++ qs) is)
+with_more s t u one new all h e is = cc (append_assoc s.copies one new)
 
 -- a step of the loop over the elements of an input of the trace
 pub give_step :
@@ -48,16 +43,14 @@ give_step k l s t u first i j e m h step clock place number =
     let f : ℕ → Target = λ i. record { place = i; clock = k } in
     let ts = map f (range_with_len first i) in
     let size = length-map-range_with_len f first i in
-    let pieces : from_inputs j (targets_of k (range_with_len first (i + 1)))
-    ≡ from_inputs j ts ++ input_of k (first + i) (j + i) ∷ [] =
-    ap (from_inputs j) (map-range_with_len_more f first i (first + i) refl)
-    ∙ from_inputs_append j ts (f (first + i) ∷ [])
-    ∙ ap (λ n. from_inputs j ts ++ input_of k (first + i) (j + n) ∷ []) size in
+    let pieces : from_inputs j (targets_of k (range_with_len first (i + 1))) ≡ from_inputs j ts
+    ++ input_of k (first + i) (j + i) ∷ [] = ap (from_inputs j)
+    (map-range_with_len_more f first i (first + i) refl) ∙ from_inputs_append j _ _ ∙ ap (λ n.
+    from_inputs j ts ++ input_of k (first + i) (j + n) ∷ []) size in
     let one = ap (λ (l : FlatClock). input_of l e m) clock
     ∙ ap₂ (λ e m. input_of k e m) place number in
-    with_more s t u (from_inputs j ts) (input_of l e m ∷ [])
-    (from_inputs j (targets_of k (range_with_len first (i + 1)))) h step
-    (ap (λ (q : FlatEquation). from_inputs j ts ++ q ∷ []) one ∙ sym pieces)
+    with_more s t u _ _ _ h step (ap (λ (q : FlatEquation). from_inputs j ts ++ q ∷ []) one ∙ sym
+    pieces)
 
 module _ (ctx : Context) where
   -- the targets of x + 1 parameters: those of x parameters, and then those of variable x
@@ -66,9 +59,7 @@ module _ (ctx : Context) where
   parameters_more x =
       let f = variable_targets ctx in
       let zero_x : 0 + x ≡ x = omega arith in
-      ap (flat_map f) (range_last 0 x ∙ ap (λ y. range_with_len 0 x ++ y ∷ []) zero_x)
-      ∙ flat_map-append f (range_with_len 0 x) (x ∷ [])
-      ∙ ap (λ (ts : List Target). parameter_targets ctx x ++ ts) (append-nil (f x))
+      cc (range_last 0 x, flat_map-append f (range_with_len 0 x) (x ∷ []), append-nil (f x))
 
   target_count : (x : ℕ) → length (variable_targets ctx x) ≡ length (ctx.places x)
   target_count x =
@@ -108,12 +99,9 @@ module _ (ctx : Context) where
   given_step s t u x j ts h number step is =
       let so = parameter_targets ctx x in
       let zero_more : length so ≡ 0 + length so = omega arith in
-      with_more s t u (from_inputs 0 so) (from_inputs j ts)
-      (from_inputs 0 (parameter_targets ctx (x + 1))) h step
-      (ap₂ (λ (n : ℕ) (ts : List Target). from_inputs 0 so ++ from_inputs n ts)
-      (number ∙ zero_more) is
-      ∙ sym (ap (from_inputs 0) (parameters_more x)
-      ∙ from_inputs_append 0 so (variable_targets ctx x)))
+      with_more s t u _ _ _ h step (ap₂ (λ (n : ℕ) (ts : List Target). from_inputs 0 so
+      ++ from_inputs n ts) (number ∙ zero_more) is ∙ sym (ap (from_inputs 0) (parameters_more x)
+      ∙ from_inputs_append 0 _ _))
 
   -- ## Copies
 
@@ -127,11 +115,8 @@ module _ (ctx : Context) where
       (drop (x + 1) (range_with_len 0 inputs))) (drop to all)) ≡ whole
   parameter_step s t whole x inputs at to all lt within h et place =
       let zero_x : 0 + x ≡ x = omega arith in
-      items_step (variable_targets ctx) s t whole x (drop (x + 1) (range_with_len 0 inputs))
-      (drop x (range_with_len 0 inputs)) (length (ctx.places x)) at to all
-      (range_rest 0 inputs x lt
-      ∙ ap (λ y. y ∷ drop (x + 1) (range_with_len 0 inputs)) zero_x)
-      (target_count x) within h et place
+      items_step (variable_targets ctx) s t whole x _ _ _ at to all (range_rest 0 _ x lt ∙ ap
+      (λ y. y ∷ drop (x + 1) (range_with_len 0 inputs)) zero_x) (target_count x) within h et place
 
   pub parameter_ends :
       (s whole : State) (x inputs at : ℕ) (all : List ℕ) → inputs ≤ x →
@@ -148,18 +133,12 @@ pub observed_done :
     from ≡ length below → mid ≡ onto below (gives s ps) →
     t ≡ with_copies mid.state (copied ts (drop from mid.found)) → u ≡ t →
     u ≡ with_copies s (copied ts ps)
-observed_done below ps from ts s t u mid count put copies same =
-    same ∙ (copies
-    ∙ (ap (λ (x : Emitted). with_copies x.state (copied ts (drop from x.found))) put
-    ∙ ap (λ (is : List ℕ). with_copies s (copied ts is))
-    (ap (λ n. drop n (below ++ ps)) count ∙ drop-append_seam below ps)))
+observed_done below ps from ts s t u mid count put copies same = cc (drop-append_seam below ps)
 
 pub observed_gone :
     (below ps found : List ℕ) (from : ℕ) (s : State) (mid : Emitted) → from ≡ length below →
     mid ≡ onto below (gives s ps) → found ≡ take from mid.found → found ≡ below
-observed_gone below ps found from s mid count put h =
-    h ∙ (ap (λ (x : Emitted). take from x.found) put
-    ∙ (ap (λ n. take n (below ++ ps)) count ∙ take-append_seam below ps))
+observed_gone below ps found from s mid count put h = cc (take-append_seam below ps)
 
 -- ## Rows that start
 
@@ -173,23 +152,14 @@ module _ (r : Reached) (t : Table) (b : Bool) where
   unfolding start_from
   start_more is j d lt =
       let next : suc j ≡ j + 1 = omega arith in
-      let i = get_or is j d in
-      ap (start_from r t b j) (drop_more is j d lt)
-      ∙ ap (λ k. if is_start b i.origin then option_map (start_of j) (node_at r t i)
-      else start_from r t b k (drop (j + 1) is)) next
+      cc (drop_more is j d lt)
 
   start_next : (is : List row.Instance) (j : ℕ) (i d : row.Instance) (c : Bool) → j < length is →
       i ≡ get_or is j d → is_start b i.origin ≡ c →
       start_from r t b j (drop j is)
       ≡ (if c then option_map (start_of j) (node_at r t i)
       else start_from r t b (j + 1) (drop (j + 1) is))
-  start_next is j i d c lt e h =
-      start_more is j d lt
-      ∙ (ap (λ (i : row.Instance). if is_start b i.origin
-      then option_map (start_of j) (node_at r t i)
-      else start_from r t b (j + 1) (drop (j + 1) is)) (sym e)
-      ∙ ap (λ c. if c then option_map (start_of j) (node_at r t i)
-      else start_from r t b (j + 1) (drop (j + 1) is)) h)
+  start_next is j i d c lt e h = cc (start_more is j d lt)
 
   -- a row that starts nothing is passed over
   pub start_passed :
@@ -205,11 +175,9 @@ module _ (r : Reached) (t : Table) (b : Bool) where
       (whole : Option Start) → j < length is → i ≡ get_or is j d →
       is_start b i.origin ≡ true → node_at r t i ≡ o → start_from r t b j (drop j is) ≡ whole →
       option_map (start_of j) o ≡ whole
-  start_here is j i d o whole lt e h found all =
-      sym (start_next is j i d true lt e h ∙ ap (option_map (start_of j)) found) ∙ all
+  start_here is j i d o whole lt e h found all = cc (start_next is j i d true lt e h)
 
   pub start_end : (is : List row.Instance) (j : ℕ) (whole : Option Start) → length is ≤ j →
       start_from r t b j (drop j is) ≡ whole → None ≡ whole
   unfolding start_from
-  start_end is j whole le all =
-      sym (ap (start_from r t b j) (drop_all j is le)) ∙ all
+  start_end is j whole le all = cc (drop_all j is le)

@@ -124,10 +124,9 @@ module _ (Y : Layout) (P : Program) (H : History) (here : Instance) (texts : Tex
       let own = h.0 in
       let c = bound (static_count P here i) _ own.types own.typed in
       let o = one (data_types P here a) (index_type c.value) own.types c.gives in
-      let x = indexed c.value o.data_type o.result o.gives in
+      let x = indexed _ _ _ o.gives in
       let within = x.within in
-      parts_of k at.call (suc at.term) a h.1 x.count o.result.sizes
-      (typed_as a o.data_type o.is ∙ x.sizes) (omega (arith, within))
+      parts_of k _ _ a h.1 _ _ (typed_as a _ o.is ∙ x.sizes) (omega (arith, within))
 
   sliced_parts :
       (k : Clock) (at : Cursor) (a : Expr) (i j : Static) → Stands k at (tree.Slice a i j) →
@@ -137,10 +136,9 @@ module _ (Y : Layout) (P : Program) (H : History) (here : Instance) (texts : Tex
       let c = bound (static_count P here i) _ own.types own.typed in
       let d = bound (static_count P here j) _ own.types c.gives in
       let o = one (data_types P here a) (slice_type c.value d.value) own.types d.gives in
-      let x = sliced c.value d.value o.data_type o.result o.gives in
+      let x = sliced _ _ _ _ o.gives in
       let within = x.within in
-      parts_of k at.call (suc at.term) a h.1 x.count x.element.sizes
-      (typed_as a o.data_type o.is ∙ x.sizes) (omega (arith, within))
+      parts_of k _ _ a h.1 _ _ (typed_as a _ o.is ∙ x.sizes) (omega (arith, within))
 
   -- ## Leaves
 
@@ -158,8 +156,7 @@ module _ (Y : Layout) (P : Program) (H : History) (here : Instance) (texts : Tex
       (named (λ d. d.name) (name_at texts.variables x) (variables here.node))
   name_is k s x w =
       let d = context.named x w in
-      ap (gives s) (context.places x w ∙ ap (Y.places here.path) (sym d.name))
-      ∙ ap (emit_name Y P here k s (name_at texts.variables x)) (sym d.found)
+      cc (context.places x w, d.name, d.found)
 
   value_typed :
       (k : Clock) (at : Cursor) (s : Static) → Stands k at (named_value s) →
@@ -174,15 +171,10 @@ module _ (Y : Layout) (P : Program) (H : History) (here : Instance) (texts : Tex
       ≡ whole k at s (named_value (static_at texts.statics i))
   unfolding emit
   value_is k at s i v h =
-      subst (λ (st : Static). Stands k at (named_value st) →
-      placed (next_term at) (constant (ctx.clock at.term) s (ctx.value i.0))
-      ≡ whole k at s (named_value st)) (sym v.is)
-      (λ h.
-      leaf at (text.at k at.call (tree.Variable v.name))
-      (constant (ctx.clock at.term) s (ctx.value i.0))
-      (emit Y P here k at.call s (tree.Variable v.name))
-      (ap₂ (λ l w. constant l s w) h.0.clock v.value
-      ∙ ap (emit_name Y P here k s v.name) (sym v.unfound))) h
+      subst (λ (st : Static). Stands k at (named_value st) → placed (next_term at)
+      (constant (ctx.clock at.term) s (ctx.value i.0)) ≡ whole k at s (named_value st)) (sym v.is)
+      (λ h. leaf at (text.at k at.call (tree.Variable v.name)) _ _ (ap₂ (λ l w. constant l s w)
+      h.0.clock v.value ∙ ap (emit_name Y P here k s v.name) (sym v.unfound))) h
 
   -- ## Calls
 
@@ -279,15 +271,11 @@ module _ (Y : Layout) (P : Program) (H : History) (here : Instance) (texts : Tex
       (length (sites (expr_of texts a) ++ sites (expr_of texts b)))) w
   two_are k at s a b o w F h first second e =
       let ea = expr_of texts a in
-      let eb = expr_of texts b in
       let oa = on k at.call ea in
-      let ob = on k (at.call + call_count ea) eb in
       let x = emit Y P here k at.call s ea in
-      with_operands at o oa ob (sites ea) (sites eb) (emit_term ctx (next_term at) s a)
-      (λ p t. emit_term ctx p t b) x
-      (emit Y P here k (at.call + call_count ea) x.state eb) w F
-      (first (next_term at) s (fore (suc at.term) oa ob h))
-      (second (past (next_term at) oa (call_count ea)) x.state (aft (suc at.term) oa ob h)) e
+      with_operands at o _ _ _ _ _ (λ p t. emit_term ctx p t b) _ _ w F
+      (first (next_term at) s (fore _ _ _ h)) (second (past (next_term at) oa (call_count ea))
+      x.state (aft _ _ _ h)) e
 
   mutual
     unfolding emit_term emit

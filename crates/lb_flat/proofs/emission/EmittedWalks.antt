@@ -39,17 +39,13 @@ module _ (ctx : Context) (at : Cursor) (s : State) (t : Term) where
   pub single_room : (e : Box Term Global) → IsSingle t e → HasRoom (emit_term ctx at s t) →
       HasRoom (emit_term ctx (next_term at) s e.value)
   single_room e is h =
-      let x = emit_term ctx (next_term at) s e.value in
-      room_before x (placed x.place (with_one ctx at t x.emitted))
-      (one_grows ctx at t x.emitted) (same_place x.place)
-      (subst HasRoom (emitted_single ctx at s t e x is refl) h)
+      room_before _ _ (one_grows ctx at t _) (same_place _)
+      (subst HasRoom (emitted_single ctx at s t e _ is refl) h)
 
   pub single_word : (e : Box Term Global) → IsSingle t e → HasRoom (emit_term ctx at s t) →
       (let x = emit_term ctx (next_term at) s e.value in
       (with_one ctx at t x.emitted).state.next < 2 ^ 32)
-  single_word e is h =
-      let x = emit_term ctx (next_term at) s e.value in
-      (subst HasRoom (emitted_single ctx at s t e x is refl) h).elements
+  single_word e is h = (subst HasRoom (emitted_single ctx at s t e _ is refl) h).elements
 
   -- if a term with two operands has room, so have both operands
   pub pair_room : (a b : Box Term Global) → IsPair t a b → HasRoom (emit_term ctx at s t) →
@@ -59,38 +55,29 @@ module _ (ctx : Context) (at : Cursor) (s : State) (t : Term) where
       let x = emit_term ctx (next_term at) s a.value in
       let y = emit_term ctx x.place x.emitted.state b.value in
       let second : HasRoom y =
-      room_before y (placed y.place (with_two ctx at t x.emitted.found y.emitted))
-      (two_grows ctx at t x.emitted.found y.emitted) (same_place y.place)
-      (subst HasRoom (emitted_pair ctx at s t a b x y is refl refl) h) in
+      room_before _ _ (two_grows ctx at t _ _) (same_place _) (subst HasRoom
+      (emitted_pair ctx at s t a b _ _ is refl refl) h) in
       let first : HasRoom x =
-      room_before x y (next_grows ctx x.place x.emitted.state b.value)
-      (place_grows ctx x.place x.emitted.state b.value) second in
+      room_before _ _ (next_grows ctx _ _ _) (place_grows ctx _ _ _) second in
       (first, second)
 
   pub pair_word : (a b : Box Term Global) → IsPair t a b → HasRoom (emit_term ctx at s t) →
       (let x = emit_term ctx (next_term at) s a.value in
       let y = emit_term ctx x.place x.emitted.state b.value in
       (with_two ctx at t x.emitted.found y.emitted).state.next < 2 ^ 32)
-  pair_word a b is h =
-      let x = emit_term ctx (next_term at) s a.value in
-      let y = emit_term ctx x.place x.emitted.state b.value in
-      (subst HasRoom (emitted_pair ctx at s t a b x y is refl refl) h).elements
+  pair_word a b is h = (subst HasRoom (emitted_pair ctx at s t a b _ _ is refl refl) h).elements
 
   -- if a term with a row of operands has room, so has the row
   pub row_room : (es : Vec Term Global) → IsRow t es → HasRoom (emit_term ctx at s t) →
       HasRoom (emit_list ctx (row_place at t) s es.items)
   row_room es is h =
-      let r = emit_list ctx (row_place at t) s es.items in
-      room_before r (placed r.place (with_all ctx at t r.emitted))
-      (all_grows ctx at t r.emitted) (same_place r.place)
-      (subst HasRoom (emitted_all ctx at s t es es.items r is refl refl) h)
+      room_before _ _ (all_grows ctx at t _) (same_place _) (subst HasRoom
+      (emitted_all ctx at s t es _ _ is refl refl) h)
 
   pub row_word : (es : Vec Term Global) → IsRow t es → HasRoom (emit_term ctx at s t) →
       (let r = emit_list ctx (row_place at t) s es.items in
       (with_all ctx at t r.emitted).state.next < 2 ^ 32)
-  row_word es is h =
-      let r = emit_list ctx (row_place at t) s es.items in
-      (subst HasRoom (emitted_all ctx at s t es es.items r is refl refl) h).elements
+  row_word es is h = (subst HasRoom (emitted_all ctx at s t es _ _ is refl refl) h).elements
 
 -- a choice, with its three operands placed one after another
 module _ (ctx : Context) (at : Cursor) (s : State) (t : Term) (c a b : Box Term Global)
@@ -110,8 +97,7 @@ module _ (ctx : Context) (at : Cursor) (s : State) (t : Term) (c a b : Box Term 
       ≡ placed third_of_three.place (choose (ctx.clock at.term) first_of_three.emitted.found
       second_of_three.emitted.found third_of_three.emitted)
   if_is =
-      ap (emit_term ctx at s) is
-      ∙ emitted_if ctx at s c a b first_of_three second_of_three third_of_three refl refl refl
+      cc (emitted_if ctx at s c a b first_of_three second_of_three third_of_three refl refl refl)
 
   pub if_word : HasRoom (emit_term ctx at s t) →
       (choose (ctx.clock at.term) first_of_three.emitted.found second_of_three.emitted.found
@@ -119,26 +105,13 @@ module _ (ctx : Context) (at : Cursor) (s : State) (t : Term) (c a b : Box Term 
   if_word h = (subst HasRoom if_is h).elements
 
   pub third_room : HasRoom (emit_term ctx at s t) → HasRoom third_of_three
-  third_room h =
-      room_before third_of_three (placed third_of_three.place
-      (choose (ctx.clock at.term) first_of_three.emitted.found
-      second_of_three.emitted.found third_of_three.emitted))
-      (add_grows (ctx.clock at.term) third_of_three.emitted.state
-      (chosen_by first_of_three.emitted.found second_of_three.emitted.found
-      third_of_three.emitted.found))
-      (same_place third_of_three.place) (subst HasRoom if_is h)
+  third_room h = room_before _ _ (add_grows _ _ _) (same_place _) (subst HasRoom if_is h)
 
   pub second_room : HasRoom (emit_term ctx at s t) → HasRoom second_of_three
-  second_room h =
-      let x = second_of_three in
-      room_before x third_of_three (next_grows ctx x.place x.emitted.state b.value)
-      (place_grows ctx x.place x.emitted.state b.value) (third_room h)
+  second_room h = room_before _ _ (next_grows ctx _ _ _) (place_grows ctx _ _ _) (third_room h)
 
   pub first_room : HasRoom (emit_term ctx at s t) → HasRoom first_of_three
-  first_room h =
-      let x = first_of_three in
-      room_before x second_of_three (next_grows ctx x.place x.emitted.state a.value)
-      (place_grows ctx x.place x.emitted.state a.value) (second_room h)
+  first_room h = room_before _ _ (next_grows ctx _ _ _) (place_grows ctx _ _ _) (second_room h)
 
 -- ## What a term leaves
 
@@ -162,12 +135,10 @@ module _ (ctx : Context) (at : Cursor) (s : State) (t : Term) (below : List ℕ)
       new ≡ on_top (length below) (with_one ctx at t) mid →
       placed to new ≡ stacked below (emit_term ctx at s t)
   single_done e to mid new is h f =
-      let x = emit_term ctx (next_term at) s e.value in
-      let leaves = f
-      ∙ ap (on_top (length below) (with_one ctx at t)) (emitted_in to mid (stacked below x) h)
-      ∙ on_top_onto (with_one ctx at t) below x.emitted in
-      ap₂ placed (place_in to mid (stacked below x) h) leaves
-      ∙ ap (stacked below) (sym (emitted_single ctx at s t e x is refl))
+      let leaves = f ∙ ap (on_top (length below) (with_one ctx at t)) (emitted_in to mid _ h)
+      ∙ on_top_onto (with_one ctx at t) below _ in
+      ap₂ placed (place_in to mid _ h) leaves ∙ ap (stacked below)
+      (sym (emitted_single ctx at s t e _ is refl))
 
   pub single_left :
       (e : Box Term Global) (to : Cursor) (mid : Emitted) (most : ℕ) →
@@ -176,10 +147,8 @@ module _ (ctx : Context) (at : Cursor) (s : State) (t : Term) (below : List ℕ)
       (with_one ctx at t x.emitted).state.next < most) →
       (with_one ctx at t (above (length below) mid)).state.next < most
   single_left e to mid most h lt =
-      let x = emit_term ctx (next_term at) s e.value in
-      let same = ap (above (length below)) (emitted_in to mid (stacked below x) h)
-      ∙ above_onto below x.emitted in
-      subst (λ (y : Emitted). (with_one ctx at t y).state.next < most) (sym same) lt
+      let same = ap (above (length below)) (emitted_in to mid _ h) ∙ above_onto below _ in
+      rw same lt
 
   -- a term with two operands is done when the word on both is
   pub pair_done :
@@ -191,17 +160,14 @@ module _ (ctx : Context) (at : Cursor) (s : State) (t : Term) (below : List ℕ)
   pair_done a b to up mid next new is h g f =
       let x = emit_term ctx (next_term at) s a.value in
       let y = emit_term ctx x.place x.emitted.state b.value in
-      let first = emitted_in to mid (stacked below x) h in
+      let first = emitted_in to mid _ h in
       let second : placed up next ≡ stacked (below ++ x.emitted.found) y =
-      g ∙ ap₂ (λ (at : Cursor) (z : Emitted). stacked z.found (emit_term ctx at z.state b.value))
-      (place_in to mid (stacked below x) h) first in
+      cc (place_in to mid (stacked below x) h) in
       let size = ap (λ (z : Emitted). length z.found) first in
-      let leaves = f
-      ∙ ap₂ (λ n z. on_two (length below) n (with_two ctx at t) z) size
-      (emitted_in up next (stacked (below ++ x.emitted.found) y) second)
-      ∙ on_two_onto (with_two ctx at t) below x.emitted.found y.emitted in
-      ap₂ placed (place_in up next (stacked (below ++ x.emitted.found) y) second) leaves
-      ∙ ap (stacked below) (sym (emitted_pair ctx at s t a b x y is refl refl))
+      let leaves = f ∙ ap₂ (λ n z. on_two (length below) n (with_two ctx at t) z) size
+      (emitted_in up next _ second) ∙ on_two_onto (with_two ctx at t) below _ _ in
+      ap₂ placed (place_in up next _ second) leaves ∙ ap (stacked below)
+      (sym (emitted_pair ctx at s t a b _ _ is refl refl))
 
   -- a term with a row of operands is done when the word on the row is
   pub row_done :
@@ -210,12 +176,10 @@ module _ (ctx : Context) (at : Cursor) (s : State) (t : Term) (below : List ℕ)
       new ≡ on_top (length below) (with_all ctx at t) mid →
       placed to new ≡ stacked below (emit_term ctx at s t)
   row_done es to mid new is h f =
-      let r = emit_list ctx (row_place at t) s es.items in
-      let leaves = f
-      ∙ ap (on_top (length below) (with_all ctx at t)) (emitted_in to mid (stacked below r) h)
-      ∙ on_top_onto (with_all ctx at t) below r.emitted in
-      ap₂ placed (place_in to mid (stacked below r) h) leaves
-      ∙ ap (stacked below) (sym (emitted_all ctx at s t es es.items r is refl refl))
+      let leaves = f ∙ ap (on_top (length below) (with_all ctx at t)) (emitted_in to mid _ h)
+      ∙ on_top_onto (with_all ctx at t) below _ in
+      ap₂ placed (place_in to mid _ h) leaves ∙ ap (stacked below)
+      (sym (emitted_all ctx at s t es _ _ is refl refl))
 
 -- the word on a row has room on a stack where it has room on what the row emitted
 pub row_left :
@@ -224,9 +188,8 @@ pub row_left :
     (with_all ctx at t r.emitted).state.next < most →
     (with_all ctx at t (above (length below) mid)).state.next < most
 row_left ctx at t below r to mid most h lt =
-    let same = ap (above (length below)) (emitted_in to mid (stacked below r) h)
-    ∙ above_onto below r.emitted in
-    subst (λ (y : Emitted). (with_all ctx at t y).state.next < most) (sym same) lt
+    let same = ap (above (length below)) (emitted_in to mid _ h) ∙ above_onto below _ in
+    rw same lt
 
 -- ## Lists of terms
 
@@ -236,12 +199,8 @@ pub listed_room :
     i < length es → HasRoom (listed_onto ctx at x (drop i es)) →
     HasRoom (emit_term ctx at x.state (get_or es i d))
 listed_room ctx at x es i d lt h =
-    let y = emit_term ctx at x.state (get_or es i d) in
-    let rest = drop (i + 1) es in
-    let r = emit_list ctx y.place y.emitted.state rest in
     let g = subst HasRoom (listed_more ctx at x es i d lt) h in
-    room_before y (listed_onto ctx y.place (onto x.found y.emitted) rest)
-    (list_grows ctx y.place y.emitted.state rest) (list_later ctx y.place y.emitted.state rest) g
+    room_before _ _ (list_grows ctx _ _ _) (list_later ctx _ _ _) g
 
 -- ## Terms without parts, and parentheses
 
@@ -294,15 +253,10 @@ pub leaf_done :
     new ≡ pushed j (Constant w) (gives s below) → j ≡ k → w ≡ v →
     placed to new ≡ stacked below r
 unfolding add
-leaf_done at to k j v w s below new r is place h clock value =
-    ap₂ placed place (h ∙ ap₂ (λ (k : FlatClock) (v : Scalar).
-    pushed k (Constant v) (gives s below)) clock value)
-    ∙ sym (ap (stacked below) is)
+leaf_done at to k j v w s below new r is place h clock value = cc
 
 pub variable_done :
     (at to : Cursor) (is js below : List ℕ) (s : State) (new : Emitted) (r : PlacedEmitted) →
     r ≡ placed at (gives s js) → to ≡ at → new ≡ onto below (gives s is) → is ≡ js →
     placed to new ≡ stacked below r
-variable_done at to is js below s new r form place h same =
-    ap₂ placed place (h ∙ ap (λ (is : List ℕ). onto below (gives s is)) same)
-    ∙ sym (ap (stacked below) form)
+variable_done at to is js below s new r form place h same = cc

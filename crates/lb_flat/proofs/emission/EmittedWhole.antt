@@ -41,13 +41,8 @@ module _ {A D : Type 0} where
     where
       by : (b : Bool) → p j ≡ b → q d ≡ b →
           flat_map f (filter p (j ∷ is)) ≡ flat_map g (filter q (d ∷ ds))
-      by true e h =
-          ap (λ b. flat_map f (cond b (j ∷ filter p is) (filter p is))) e
-          ∙ (ap₂ (λ (xs ys : List A). xs ++ ys) same rest
-          ∙ sym (ap (λ b. flat_map g (cond b (d ∷ filter q ds) (filter q ds))) h))
-      by false e h =
-          ap (λ b. flat_map f (cond b (j ∷ filter p is) (filter p is))) e
-          ∙ (rest ∙ sym (ap (λ b. flat_map g (cond b (d ∷ filter q ds) (filter q ds))) h))
+      by true e h = cc
+      by false e h = cc
 
   -- `flat_map` over the numbers that pass a test is `flat_map` over the items that pass it
   passed_by_number :
@@ -58,10 +53,9 @@ module _ {A D : Type 0} where
   passed_by_number p q f g j [] tests same = refl
   passed_by_number p q f g j (d ∷ ds) tests same =
       let first : j ≡ j + 0 = omega arith in
-      filtered p q f g j d (range_with_len (j + 1) (length ds)) ds (ap p first ∙ tests 0 d refl)
-      (ap f first ∙ same 0 d refl)
-      (passed_by_number p q f g (j + 1) ds
-      (λ x e at. let next : (j + 1) + x ≡ j + suc x = omega arith in
+      filtered p q f g j d _ ds (ap p first ∙ tests 0 d refl) (ap f first ∙ same 0 d refl)
+      (passed_by_number p q f g (j + 1) ds (λ x e at. let next : (j + 1) + x ≡ j + suc x = omega
+      arith in
       ap p next ∙ tests (suc x) e at)
       (λ x e at. let next : (j + 1) + x ≡ j + suc x = omega arith in
       ap f next ∙ same (suc x) e at))
@@ -115,9 +109,7 @@ module _ (r : Reached) (t : Table) (b : Bool) where
       start_from r t b j (x ∷ is)
       ≡ (if c then option_map (start_of j) (node_at r t x) else start_from r t b (suc j) is)
   unfolding start_from
-  step_start j x is c e =
-      ap (λ c. if c then option_map (start_of j) (node_at r t x)
-      else start_from r t b (suc j) is) e
+  step_start j x is c e = cc
 
   end_start : (j : ℕ) → start_from r t b j [] ≡ None
   unfolding start_from
@@ -145,19 +137,15 @@ module _ (r : Reached) (t : Table) (b : Bool) where
         first = h.first;
         stands = h.stands;
         starts = h.starts;
-        found = step_start j x is false e ∙ (h.found
-            ∙ ap (λ m. option_map (start_of m) (node_at r t h.first)) next);
+        found = cc (step_start j x is false e, h.found);
       }
 
   first_start :
       (j : ℕ) (is : List row.Instance) (k : ℕ) (i : row.Instance) → slice_get is k ≡ Some i →
       is_start b i.origin ≡ true → IsFirst j is
   first_start j [] k i e h = absurd cc
-  first_start j (x ∷ is) zero i e h =
-      first_here j x is
-      (subst (λ (i : row.Instance). is_start b i.origin ≡ true) (sym (same_Some x i e)) h)
-  first_start j (x ∷ is) (suc k) i e h =
-      or_later j x is (is_start b x.origin) refl (first_start (suc j) is k i e h)
+  first_start j (x ∷ is) zero i e h = first_here j x is (rw (same_Some x i e) h)
+  first_start j (x ∷ is) (suc k) i e h = or_later j x is _ refl (first_start (suc j) is k i e h)
 
   none_step : (j : ℕ) (x : row.Instance) (is : List row.Instance) (c : Bool) →
       is_start b x.origin ≡ c → (is_start b x.origin ≡ true → ⊥) →
@@ -197,8 +185,7 @@ module _ (P : Program) (r : Reached) (t : Table) (reached : IsReached P r)
   -- the node of a row is found
   pub node_found : (k : ℕ) (i : row.Instance) (here : Instance) (is : IsRow P r t table k i here) →
       node_at r t i ≡ Some is.node
-  node_found k i here is =
-      ap (λ o. o >>= λ s. slice_get r.nodes.items s.node.0) is.specialized ∙ is.resolved
+  node_found k i here is = cc (is.specialized, is.resolved)
 
   -- ## The places of rows that start
 
@@ -273,11 +260,10 @@ module _ (P : Program) (r : Reached) (t : Table) (reached : IsReached P r)
       let path = path_is P (start_path b) here e in
       let there = in_instances P (instantiation_kept P accepted) (start_path b) here e in
       let at = place_in (instances P) here there in
-      let line = row_of P r t table at.0 here at.1 in
-      let stands = start_of_path b at.0 line.0 line.1.row_is
-      (line.1.path_is ∙ ap (λ p. Some p) path) in
-      let f = first_start r t b 0 t.instances.items at.0 line.0 line.1.row_is stands in
-      let one = begun b f.place f.first f.stands f.starts in
+      let line = row_of P r t table _ here at.1 in
+      let stands = start_of_path b _ _ line.1.row_is (line.1.path_is ∙ ap (λ p. Some p) path) in
+      let f = first_start r t b 0 _ _ _ line.1.row_is stands in
+      let one = begun b _ _ f.stands f.starts in
       let same : one.0 ≡ here = same_Some one.0 here (sym one.2 ∙ e) in
       let own : IsRow P r t table f.place f.first here =
       subst (IsRow P r t table f.place f.first) same one.1 in
@@ -287,15 +273,13 @@ module _ (P : Program) (r : Reached) (t : Table) (reached : IsReached P r)
         line = f.first;
         at = own;
         path = path;
-        found = f.found ∙ (ap (option_map (start_of (0 + f.place)))
-            (node_found f.place f.first here own)
-            ∙ ap (λ m. Some (start_of m own.node)) zero_more);
+        found = f.found ∙ (ap (option_map (start_of (0 + f.place))) (node_found _ _ here own) ∙ ap
+            (λ m. Some (start_of m own.node)) zero_more);
       }
 
   -- if there is no instance at the path of a start, no row starts it
   pub not_started : (b : Bool) → instance_at P (start_path b) ≡ None → start_in r t b ≡ None
-  not_started b e =
-      none_start r t b 0 t.instances.items (λ k i at h.
+  not_started b e = none_start r t b 0 _ (λ k i at h.
       let one = begun b k i at h in
       let no_one : Some one.0 ≡ None = sym one.2 ∙ e in absurd cc)
 
@@ -325,10 +309,8 @@ module _ (P : Program) (r : Reached) (t : Table) (reached : IsReached P r)
       inputs_are =
           let ins = here.node.inputs in
           let own = has k i here is in
-          ap (parameter_targets (cs k)) inputs_many
-          ∙ by_number (variable_targets (cs k))
-          (λ (d : Declaration). targets (layout P) here.node here.path d.name) 0 ins
-          (λ q d e.
+          ap (parameter_targets (cs k)) inputs_many ∙ by_number (variable_targets (cs k))
+          (λ (d : Declaration). targets (layout P) here.node here.path d.name) 0 _ (λ q d e.
           let zero_q : 0 + q ≡ q = omega arith in
           let at = get_first ins (here.node.outputs ++ here.node.locals) q d e in
           ap (variable_targets (cs k)) zero_q
@@ -340,11 +322,10 @@ module _ (P : Program) (r : Reached) (t : Table) (reached : IsReached P r)
           let ins = here.node.inputs in
           let outs = here.node.outputs in
           let own = has k i here is in
-          ap₂ (places_from (cs k)) inputs_many outputs_many
-          ∙ by_number (cs k).places
-          (λ (d : Declaration). (layout P).places here.path d.name) (length ins) outs
-          (λ q d e. own.places (length ins + q) d
-          (get_later ins (outs ++ here.node.locals) q ∙ get_first outs here.node.locals q d e))
+          ap₂ (places_from (cs k)) inputs_many outputs_many ∙ by_number (cs k).places
+          (λ (d : Declaration). (layout P).places here.path d.name) _ _ (λ q d e. own.places
+          (length ins + q) d (get_later ins (outs ++ here.node.locals) q ∙ get_first outs
+          here.node.locals q d e))
 
       all_are :
           places_from (cs k) 0 (is.node.inputs + is.node.outputs)
@@ -355,15 +336,12 @@ module _ (P : Program) (r : Reached) (t : Table) (reached : IsReached P r)
           let own = has k i here is in
           let many : is.node.inputs + is.node.outputs ≡ length (ins ++ outs) =
           ap₂ (λ m n. m + n) inputs_many outputs_many ∙ sym (length-append ins outs) in
-          ap (places_from (cs k) 0) many
-          ∙ by_number (cs k).places
-          (λ (d : Declaration). (layout P).places here.path d.name) 0 (ins ++ outs)
-          (λ q d e.
+          cc (by_number (cs k).places (λ (d : Declaration). (layout P).places here.path d.name) 0
+          (ins ++ outs) (λ q d e.
           let zero_q : 0 + q ≡ q = omega arith in
-          ap (cs k).places zero_q ∙ own.places q d
-          (ap (λ (ds : List Declaration). slice_get ds q)
-          (sym (append_assoc ins outs here.node.locals))
-          ∙ get_first (ins ++ outs) here.node.locals q d e))
+          ap (cs k).places zero_q ∙ own.places q d (ap (λ (ds : List Declaration). slice_get ds q)
+          (sym (append_assoc ins outs here.node.locals)) ∙ get_first (ins ++ outs)
+          here.node.locals q d e)))
 
     -- ## The instances that start
 
@@ -506,8 +484,7 @@ module _ (P : Program) (r : Reached) (t : Table) (reached : IsReached P r)
           let shown = row_shown P r t table k i e in
           let same = same_Some shown.0 here (sym shown.1.instance_is ∙ f) in
           let number : k ≡ 0 + k = omega arith in
-          subst (λ m. IsRow P r t table m i here) number
-          (subst (IsRow P r t table k i) same shown.1)
+          rw (← number) (subst (IsRow P r t table k i) same shown.1)
 
       clocks_are :
           row_clocks r t cs 0 t.instances.items ≡ clock_places (layout P) (instances P)

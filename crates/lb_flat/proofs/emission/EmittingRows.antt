@@ -29,8 +29,7 @@ module _ (ctx : Context) where
   statements_later at s [] = record { term = omega arith; call = omega arith }
   statements_later at s (x ∷ xs) =
       let r = emit_statement ctx at s x in
-      then_later at r.place (emit_statements ctx r.place r.state xs).place
-      (statement_later at s x) (statements_later r.place r.state xs)
+      then_later at _ _ (statement_later at s x) (statements_later r.place r.state xs)
 
   statements_more :
       (at : Cursor) (s : State) (xs : List ResolvedStatement) (i : ℕ) (d : ResolvedStatement) →
@@ -58,8 +57,7 @@ module _ (ctx : Context) where
       (at : Cursor) (s : State) (xs : List ResolvedStatement) (i : ℕ) (whole : PlacedState) →
       length xs ≤ i → emit_statements ctx at s (drop i xs) ≡ whole → placed_state at s ≡ whole
   unfolding emit_statements
-  statements_end at s xs i whole le h =
-      sym (ap (emit_statements ctx at s) (drop_all i xs le)) ∙ h
+  statements_end at s xs i whole le h = cc (drop_all i xs le)
 
   -- a statement has room if all statements from it on have room
   pub statement_room :
@@ -118,8 +116,7 @@ module _ (r : Reached) (t : Table) (cs : ℕ → Context) where
   unfolding bodies
   bodies_more is j d lt =
       let next : suc j ≡ j + 1 = omega arith in
-      ap (bodies r t cs j) (drop_more is j d lt)
-      ∙ ap (λ k. body_in r t cs j (get_or is j d) ++ bodies r t cs k (drop (j + 1) is)) next
+      cc (drop_more is j d lt)
 
   bodies_none : (j : ℕ) → bodies r t cs j [] ≡ []
   unfolding bodies
@@ -142,16 +139,12 @@ module _ (r : Reached) (t : Table) (cs : ℕ → Context) where
       j < length is → i ≡ get_or is j d → u ≡ emit_rows s (body_in r t cs j i) →
       emit_rows s (bodies r t cs j (drop j is)) ≡ whole →
       emit_rows u (bodies r t cs (j + 1) (drop (j + 1) is)) ≡ whole
-  row_step s u whole is j i d lt e h all =
-      ap (λ (u : State). emit_rows u (bodies r t cs (j + 1) (drop (j + 1) is))) h
-      ∙ sym (row_first s is j i d lt e) ∙ all
+  row_step s u whole is j i d lt e h all = cc (row_first s is j i d lt e)
 
   pub rows_end :
       (s whole : State) (is : List row.Instance) (j : ℕ) → length is ≤ j →
       emit_rows s (bodies r t cs j (drop j is)) ≡ whole → s ≡ whole
-  rows_end s whole is j le h =
-      sym (ap (λ (is : List row.Instance). emit_rows s (bodies r t cs j is)) (drop_all j is le)
-      ∙ (ap (emit_rows s) (bodies_none j) ∙ no_row s)) ∙ h
+  rows_end s whole is j le h = cc (drop_all j is le, bodies_none j, no_row s)
 
   -- a row has room if all rows from it on have room
   pub row_room :
@@ -168,10 +161,7 @@ module _ (r : Reached) (t : Table) (cs : ℕ → Context) where
       (is : List row.Instance) (j : ℕ) (i d : row.Instance) → j < length is →
       i ≡ get_or is j d → Every IsCounted (bodies r t cs j (drop j is)) →
       Every IsCounted (body_in r t cs j i ++ bodies r t cs (j + 1) (drop (j + 1) is))
-  counted_more is j i d lt e h =
-      subst (λ (i : row.Instance).
-      Every IsCounted (body_in r t cs j i ++ bodies r t cs (j + 1) (drop (j + 1) is))) (sym e)
-      (subst (Every IsCounted) (bodies_more is j d lt) h)
+  counted_more is j i d lt e h = rw e (subst (Every IsCounted) (bodies_more is j d lt) h)
 
   pub row_counted :
       (is : List row.Instance) (j : ℕ) (i d : row.Instance) → j < length is →
@@ -197,16 +187,14 @@ module _ (r : Reached) (t : Table) (cs : ℕ → Context) where
       (j : ℕ) (i : row.Instance) (n : ResolvedNode) (ctx : Context)
       (xs : List ResolvedStatement) → node_at r t i ≡ Some n → ctx ≡ cs j →
       xs ≡ n.body.items → body_in r t cs j i ≡ one_body ctx xs
-  found_body j i n ctx xs e at is =
-      ap (listed (with_body (cs j))) e ∙ sym (ap₂ one_body at is)
+  found_body j i n ctx xs e at is = cc
 
   pub row_is :
       (s : State) (j : ℕ) (i : row.Instance) (n : ResolvedNode) (ctx : Context)
       (xs : List ResolvedStatement) → node_at r t i ≡ Some n → ctx ≡ cs j →
       xs ≡ n.body.items →
       emit_rows s (body_in r t cs j i) ≡ (emit_statements ctx first_place s xs).state
-  row_is s j i n ctx xs e at is =
-      ap (emit_rows s) (found_body j i n ctx xs e at is) ∙ one_row s ctx xs
+  row_is s j i n ctx xs e at is = cc (found_body j i n ctx xs e at is, one_row s ctx xs)
 
   pub row_none : (s : State) (j : ℕ) (i : row.Instance) → node_at r t i ≡ None →
       emit_rows s (body_in r t cs j i) ≡ s

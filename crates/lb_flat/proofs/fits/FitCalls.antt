@@ -62,11 +62,8 @@ module _ (S : Sorts) (Y : Layout) (P : Program) where
     received_fit c at (d ∷ ds) [] v e g = tt
     received_fit c at (d ∷ ds) (is ∷ iss) v e g =
         Every-append (IsFit S) (copied (targets Y c.node c.path d.name) is)
-        (received Y c.node c.path ds iss)
-        (copied_fit (flat_clock Y c.path (declared_clock c.node d.name)) d.kind
-        (Y.places c.path d.name) is v.0.elements
-        (as_clock _ _ d.kind is (sym e.0) g.0))
-        (received_fit c at ds iss v.1 e.1 g.1)
+        (received Y c.node c.path ds iss) (copied_fit _ _ _ is v.0.elements
+        (as_clock _ _ _ is (sym e.0) g.0)) (received_fit c at ds iss v.1 e.1 g.1)
 
     -- ## Arguments
 
@@ -105,8 +102,7 @@ module _ (S : Sorts) (Y : Layout) (P : Program) where
           let all = subst (λ vs. are_types vs (t ∷ args) ≡ true) h.all same in
           let first = and_first (is_type h.first t) (are_types h.rest args) all in
           let others = and_second (is_type h.first t) (are_types h.rest args) all in (
-            as_kind _ t.kind d.kind is
-                (sym (type_kind h.first t first) ∙ variable_kind P c d h.first h.is) g.0,
+            as_kind _ _ _ is (sym (type_kind _ t first) ∙ variable_kind P c d _ h.is) g.0,
             arguments_given at ds h.rest args iss h.others others g.1,
           )
 
@@ -157,9 +153,7 @@ module _ (S : Sorts) (Y : Layout) (P : Program) where
       part_on :
           (k : FlatClock) (b : Kind) (m i : ℕ) (is : List ℕ) → AreOn S k b is →
           AreOn S k b (part m i is)
-      part_on k b m i is h =
-          Every-take _ (length is / m) (drop ((length is / m) * i) is)
-          (Every-drop _ ((length is / m) * i) is h)
+      part_on k b m i is h = Every-take _ _ _ (Every-drop _ _ is h)
 
       -- the parts of arrays
       parts_on :
@@ -199,7 +193,7 @@ module _ (S : Sorts) (Y : Layout) (P : Program) where
           let wanted = bound (all_some (map (array_of n) ins)) _ ts e in
           let b = bound (where_true (are_types wanted.value args) outs) _ ts wanted.gives in
           let t = truly (are_types wanted.value args) outs b.value b.is in
-          parts_on k n m i ins wanted.value args iss wanted.is t.holds g
+          parts_on k n m i ins _ args iss wanted.is t.holds g
       inputs_on k outputs n m i lt Red ds [] outs args ts iss w o e g = cc
       inputs_on k outputs n m i lt Red ds (a ∷ ins) [] args ts iss w o e g = cc
       inputs_on k outputs n m i lt Red ds (a ∷ ins) (u ∷ (v ∷ us)) args ts iss w o e g = cc
@@ -211,12 +205,10 @@ module _ (S : Sorts) (Y : Layout) (P : Program) where
           let fit = truly (is_type a u && (is_type a t && arrays)) (u ∷ []) ts wanted.gives in
           let inner = and_second (is_type a u) (is_type a t && arrays) fit.holds in
           let out = type_kind a u (and_first (is_type a u) (is_type a t && arrays) fit.holds) in
-          let initial = type_kind a t (and_first (is_type a t) arrays inner) in (
-            as_kind _ u.kind a.kind (accumulated outputs ds x i) (sym out)
-                (accumulator_on k outputs m i lt ds u [] x
-                (as_kind _ t.kind u.kind x (sym initial ∙ out) g.0) w o),
-            parts_on k n m i ins wanted.value args iss wanted.is
-                (and_second (is_type a t) arrays inner) g.1,
+          let initial = type_kind a _ (and_first (is_type a t) arrays inner) in (
+            as_kind _ _ _ _ (sym out) (accumulator_on k outputs m i lt ds u [] x
+                (as_kind _ _ _ x (sym initial ∙ out) g.0) w o),
+            parts_on k n m i ins _ args iss wanted.is (and_second (is_type a t) arrays inner) g.1,
           )
       inputs_on k outputs n m i lt Fill ds [] outs args ts iss w o e g = cc
       inputs_on k outputs n m i lt Fill ds (a ∷ (b ∷ ins)) outs args ts iss w o e g = cc
@@ -233,10 +225,9 @@ module _ (S : Sorts) (Y : Layout) (P : Program) where
           let arrays = bound (all_some (map (array_of n) (v ∷ us))) _ ts e in
           let fit = truly (is_type a u && is_type a t) (u ∷ arrays.value) ts arrays.gives in
           let out = type_kind a u (and_first (is_type a u) (is_type a t) fit.holds) in
-          let initial = type_kind a t (and_second (is_type a u) (is_type a t) fit.holds) in (
-            as_kind _ u.kind a.kind (accumulated outputs ds x i) (sym out)
-                (accumulator_on k outputs m i lt ds u (v ∷ us) x
-                (as_kind _ t.kind u.kind x (sym initial ∙ out) g.0) w o),
+          let initial = type_kind a _ (and_second (is_type a u) (is_type a t) fit.holds) in (
+            as_kind _ _ _ _ (sym out) (accumulator_on k outputs m i lt ds u _ x
+                (as_kind _ _ _ x (sym initial ∙ out) g.0) w o),
             tt,
           )
 
@@ -360,14 +351,11 @@ module _ (S : Sorts) (Y : Layout) (P : Program) where
               c.node.outputs
           outputs_at c named i lt =
               let same : a.callee.node ≡ c.node = same_Some _ _ (sym a.node ∙ named) in
-              subst (λ (e : Node). Every (λ d.
-              AreOn S (flat_clock Y here.path k) d.kind (outputs i d.name)) e.outputs) same
-              (by a.callee.node.outputs (outputs_in a.callee a.variables_on)
-              (Every-second _ a.callee.node.inputs a.callee.node.outputs
-              ((w i lt).1 a.callee.node a.node)))
+              rw (← same) (by a.callee.node.outputs (outputs_in _ a.variables_on) (Every-second _
+              a.callee.node.inputs a.callee.node.outputs ((w i lt).1 a.callee.node a.node)))
             where
               a : IsAt f statics types n i
-              a = is_at f statics types n i is_operator (w i lt).0
+              a = is_at f _ types n i is_operator (w i lt).0
 
               by :
                   (ds : List Declaration) → Every (IsVariableOn S Y P a.callee) ds →
@@ -377,9 +365,8 @@ module _ (S : Sorts) (Y : Layout) (P : Program) where
                   Every (λ d. AreOn S (flat_clock Y here.path k) d.kind (outputs i d.name)) ds
               by [] v e = tt
               by (d ∷ ds) v e = (
-                as_clock _ _ d.kind (outputs i d.name) e.0
-                    (subst (λ p. AreOn S (flat_clock Y p (declared_clock a.callee.node d.name))
-                    d.kind
+                as_clock _ _ _ _ e.0 (subst (λ p. AreOn S
+                    (flat_clock Y p (declared_clock a.callee.node d.name)) d.kind
                     (Y.places p d.name)) a.path v.0.elements),
                 by ds v.1 e.1,
               )
@@ -440,8 +427,7 @@ module _ (S : Sorts) (Y : Layout) (P : Program) where
               Every-of_pieces _ (λ i. outputs i d.name) (range_with_len 0 m)
               (Every-of_range _ 0 m (λ i lt.
               let at : i ≡ 0 + i = omega arith in
-              subst (λ j. AreOn S (flat_clock Y here.path k) d.kind (outputs j d.name)) at
-              (own i lt)))
+              rw (← at) (own i lt)))
 
           gathered_found :
               (c : Instance) (number : ℕ) (ds : List Declaration) (us : List DataType)
@@ -485,11 +471,10 @@ module _ (S : Sorts) (Y : Layout) (P : Program) where
               AreOn S (flat_clock Y here.path k) u.kind (last_of outputs m ds)
           last_found c [] u us positive own o = tt
           last_found c (d ∷ ds) u us positive own o =
-              let h = each (variable_type P c d) (map (variable_type P c) ds) (u ∷ us) o in
+              let h = each _ _ _ o in
               let first : u ≡ h.first = heads_same _ _ _ _ h.all in
-              let kind = ap (λ (v : DataType). v.kind) first ∙ variable_kind P c d h.first h.is in
-              as_kind _ d.kind u.kind (outputs (m - 1) d.name) (sym kind)
-              (own (m - 1) (omega (arith, positive))).0
+              let kind = ap (λ (v : DataType). v.kind) first ∙ variable_kind P c d _ h.is in
+              as_kind _ _ _ _ (sym kind) (own (m - 1) (omega (arith, positive))).0
 
           instances_found :
               (c : Instance) (it : ArrayIterator) (number : ℕ) (ds : List Declaration)

@@ -51,12 +51,8 @@ module _ (S : Sorts) (Y : Layout) (P : Program) where
     given_fit (Some root) e =
         let start = set.root_set root e in
         let ds = root.node.inputs in
-        subst (λ p. AllFit S (from_inputs 0 (flat_map (λ d. targets Y root.node p d.name) ds)))
-        start.path
-        (inputs_fit S Y P 0 (flat_map (λ d. targets Y root.node root.path d.name) ds)
-        (kinds_of S Y P root ds)
-        (declared_inputs S Y P root ds (inputs_of root start.variables_on)
-        (Every-first _ ds root.node.outputs start.on_base))
+        rw (← start.path) (inputs_fit S Y P 0 _ _ (declared_inputs S Y P root _
+        (inputs_of root start.variables_on) (Every-first _ ds root.node.outputs start.on_base))
         (λ i c at.
         let same : i ≡ 0 + i = omega arith in
         subst (λ j. slice_get S.inputs j ≡ Some c) same (set.signature root e i c at)))
@@ -102,13 +98,10 @@ module _ (S : Sorts) (Y : Layout) (P : Program) where
     pub whole_fits : IsFitting S.inputs S.clock_of S.kind_of (expanded Y P count).equations
     whole_fits =
         let s = emit_instances Y P (before_instances count) (instances P) in
-        let g = all_grown S Y P (before_instances count) (instances P) set.instances_set
-        set.further in
+        let g = all_grown S Y P _ _ set.instances_set set.further in
         let given = given_inputs Y (instance_at P Root) in
         let seen = observed Y (instance_at P Root) (instance_at P Observer) in
-        all_fitting S (expanded Y P count).equations
-        (Every-append (IsFit S) given (seen ++ (s.copies ++ s.equations))
-        (given_fit (instance_at P Root) refl)
-        (Every-append (IsFit S) seen (s.copies ++ s.equations)
-        (observed_fit (instance_at P Root) (instance_at P Observer) refl refl)
-        (Every-append (IsFit S) s.copies s.equations (g.copies tt) (g.equations tt))))
+        all_fitting S _ (Every-append (IsFit S) given (seen ++ (s.copies ++ s.equations))
+        (given_fit _ refl) (Every-append (IsFit S) seen (s.copies ++ s.equations)
+        (observed_fit _ _ refl refl) (Every-append (IsFit S) s.copies s.equations (g.copies tt)
+        (g.equations tt))))

@@ -76,12 +76,8 @@ symbol_kind op types y w = by y.of
     by : ((is_arithmetic op ≡ true) × (y.data_type ≡ int))
         ⊎ ((is_logical op ≡ true) × (y.data_type ≡ truth)) →
         binary_kind op y.data_type.kind y.data_type.kind ≡ Some y.data_type.kind
-    by (inl (a, e)) =
-        subst (λ (t : DataType). binary_kind op t.kind t.kind ≡ Some t.kind) (sym e)
-        (arithmetic_kind op a)
-    by (inr (l, e)) =
-        subst (λ (t : DataType). binary_kind op t.kind t.kind ≡ Some t.kind) (sym e)
-        (w (no_arithmetic op l))
+    by (inl (a, e)) = rw e (arithmetic_kind op a)
+    by (inr (l, e)) = rw e (w (no_arithmetic op l))
 
 head_same : (s t : DataType) (ss ts : List DataType) → s ∷ ss ≡ t ∷ ts → s ≡ t
 head_same s t ss ts e = cc
@@ -93,19 +89,17 @@ among_first :
     cond a (Some c) (named (λ d. d.name) x ds) ≡ Some d →
     (named (λ d. d.name) x ds ≡ Some d → among x (map (λ d. d.name) ds) ≡ true) →
     among x (map (λ d. d.name) (c ∷ ds)) ≡ true
-among_first c d ds x a true p q e later = ap (λ b. b || among x (map (λ d. d.name) ds)) q
+among_first c d ds x a true p q e later = cc
 among_first c d ds x true false p q e later =
     let same = (bytes_eq-Decides x c.name).1 (sym ((bytes_eq-Decides c.name x).0 p)) in
     absurd cc
-among_first c d ds x false false p q e later =
-    ap (λ b. b || among x (map (λ d. d.name) ds)) q ∙ later e
+among_first c d ds x false false p q e later = cc (later e)
 
 found_among :
     (ds : List Declaration) (x : Name) (d : Declaration) →
     named (λ d. d.name) x ds ≡ Some d → among x (map (λ d. d.name) ds) ≡ true
 found_among [] x d e = cc
-found_among (c ∷ ds) x d e =
-    among_first c d ds x (bytes_eq c.name x) (bytes_eq x c.name) refl refl e (found_among ds x d)
+found_among (c ∷ ds) x d e = among_first c d ds x _ _ refl refl e (found_among ds x d)
 
 module _ (S : Sorts) (Y : Layout) (P : Program) (here : Instance)
     (variables_on : AreVariablesOn S Y P here) where
@@ -135,9 +129,7 @@ module _ (S : Sorts) (Y : Layout) (P : Program) (here : Instance)
       Fit S s r (flat k) u.kind → ts ≡ u ∷ [] → TermFits s r k ts
   one_type s r k u ts f all = record {
     grown = f.grown;
-    found = λ t e.
-        subst (λ (v : DataType). AreOn S (flat k) v.kind r.found)
-        (head_same u t [] [] (sym all ∙ e)) f.found;
+    found = λ t e. rw (← (head_same u t [] [] (sym all ∙ e))) f.found;
   }
 
   -- an expression with one result of kind `c` fits on its clock and kind
@@ -156,8 +148,7 @@ module _ (S : Sorts) (Y : Layout) (P : Program) (here : Instance)
       Gives S (flat k) u.kind (Constant v) → ts ≡ u ∷ [] →
       AllSorted S (add (flat k) s (Constant v ∷ [])).state.equations →
       TermFits s (add (flat k) s (Constant v ∷ [])) k ts
-  constant_fits k s v u ts g all h =
-      one_type s _ k u ts (add_fit S (flat k) u.kind s (Constant v ∷ []) (g, tt) h) all
+  constant_fits k s v u ts g all h = one_type s _ k u ts (add_fit S _ _ s _ (g, tt) h) all
 
   named_gives :
       (k : FlatClock) (o : Option ℤ) → IsOf Int (or_fault o) →
@@ -222,8 +213,7 @@ module _ (S : Sorts) (Y : Layout) (P : Program) (here : Instance)
   each_alike k c [] [] a g = tt
   each_alike k c [] (is ∷ iss) a g = absurd g
   each_alike k c (t ∷ ts) [] a g = absurd g
-  each_alike k c (t ∷ ts) (is ∷ iss) a g =
-      (subst (λ b. AreOn S (flat k) b is) a.0 g.0, each_alike k c ts iss a.1 g.1)
+  each_alike k c (t ∷ ts) (is ∷ iss) a g = (rw (← a.0) g.0, each_alike k c ts iss a.1 g.1)
 
   joined_on :
       (k : Clock) (c : Kind) (ts : List DataType) (iss : List (List ℕ)) → AllOf c ts →

@@ -305,9 +305,8 @@ module _ (S : Sorts) where
       AllSorted (add l x.state (map f x.found)).state.equations →
       Fit s (add l x.state (map f x.found)) l d
   one_fit k l c d s x f g part h =
-      let a = part (add_before l x.state (map f x.found) h) in
-      then_fit s x.state (add l x.state (map f x.found)) l d a.grown
-      (add_fit l d x.state (map f x.found) (each_gives k l c d f g x.found a.found) h)
+      let a = part (add_before l _ _ h) in
+      then_fit s _ _ l d a.grown (add_fit l d _ _ (each_gives k l c d f g _ a.found) h)
 
   pub two_fit :
       (k : FlatClock) (c d r : Kind) (s : State) (x y : Emitted) (f : ℕ → ℕ → Operation) →
@@ -317,11 +316,10 @@ module _ (S : Sorts) where
       AllSorted (add k y.state (zip2 f x.found y.found)).state.equations →
       Fit s (add k y.state (zip2 f x.found y.found)) k r
   two_fit k c d r s x y f g left right h =
-      let os = zip2 f x.found y.found in
-      let b = right (add_before k y.state os h) in
+      let b = right (add_before k _ _ h) in
       let a = left b.grown.before in
-      then_fit s y.state (add k y.state os) k r (then_grown s x.state y.state a.grown b.grown)
-      (add_fit k r y.state os (two_give k c d r f g x.found y.found a.found b.found) h)
+      then_fit s _ _ k r (then_grown s _ _ a.grown b.grown) (add_fit k r _ _
+      (two_give k c d r f g _ _ a.found b.found) h)
 
   pub choice_fit :
       (k : FlatClock) (c d : Kind) (s : State) (z x y : Emitted) →
@@ -331,14 +329,11 @@ module _ (S : Sorts) where
       AllSorted (add k y.state (chosen_by z.found x.found y.found)).state.equations →
       Fit s (add k y.state (chosen_by z.found x.found y.found)) k d
   choice_fit k c d s z x y condition left right h =
-      let os = chosen_by z.found x.found y.found in
-      let b = right (add_before k y.state os h) in
+      let b = right (add_before k _ _ h) in
       let a = left b.grown.before in
       let w = condition a.grown.before in
-      then_fit s y.state (add k y.state os) k d
-      (then_grown s x.state y.state (then_grown s z.state x.state w.grown a.grown) b.grown)
-      (add_fit k d y.state os
-      (choices_give k c d z.found x.found y.found w.found a.found b.found) h)
+      then_fit s _ _ k d (then_grown s _ _ (then_grown s _ _ w.grown a.grown) b.grown) (add_fit k
+      d _ _ (choices_give k c d _ _ _ w.found a.found b.found) h)
 
   -- ## `#` and `nor`
 
@@ -348,8 +343,7 @@ module _ (S : Sorts) where
   unfolding chained
   chained_before k op s init [] h = h
   chained_before k op s init (y ∷ ys) h =
-      push_before k s (ApplyBinary op init y)
-      (chained_before k op (push k s (ApplyBinary op init y)) s.next ys h)
+      push_before k s _ (chained_before k op (push k s (ApplyBinary op init y)) s.next ys h)
 
   pub chained_fit :
       (k : FlatClock) (c : Kind) (op : BinaryOperator) → binary_kind op c c ≡ Some c →
@@ -360,10 +354,9 @@ module _ (S : Sorts) where
   chained_fit k c op e s init (y ∷ ys) i p h =
       let o = ApplyBinary op init y in
       let t : State = push k s o in
-      let new = push_fit k c s o (binary_sorted k c c c op e init y i p.0)
-      (chained_before k op t s.next ys h) in
-      then_fit s t (chained k op t s.next ys) k c new.grown
-      (chained_fit k c op e t s.next ys new.is_on p.1 h)
+      let new = push_fit k c s _ (binary_sorted k c c c op e init y i p.0)
+      (chained_before k op _ _ ys h) in
+      then_fit s _ _ k c new.grown (chained_fit k c op e t s.next ys new.is_on p.1 h)
 
   twice_before :
       (k : FlatClock) (s : State) (any two : ℕ) (xs : List ℕ) →
@@ -374,9 +367,8 @@ module _ (S : Sorts) where
       let t : State = push k s (ApplyBinary And any x) in
       let u : State = push k t (ApplyBinary Or two s.next) in
       let v : State = push k u (ApplyBinary Or any x) in
-      push_before k s (ApplyBinary And any x)
-      (push_before k t (ApplyBinary Or two s.next)
-      (push_before k u (ApplyBinary Or any x) (twice_before k v u.next t.next xs h)))
+      push_before k s _ (push_before k t _
+      (push_before k u _ (twice_before k v u.next t.next xs h)))
 
   twice_fit :
       (k : FlatClock) (s : State) (any two : ℕ) (xs : List ℕ) → IsOn k Truth any →
@@ -412,49 +404,27 @@ module _ (S : Sorts) where
   pub nor_before :
       (k : FlatClock) (s : State) (is : List ℕ) → AllSorted (emit_nor k s is).state.equations →
       AllSorted s.equations
-  nor_before k s is h =
-      let start = Constant (Boolean false) in
-      let t : State = push k s start in
-      let x = chained k Or t s.next is in
-      push_before k s start
-      (chained_before k Or t s.next is (add_before k x.state (map (ApplyUnary Not) x.found) h))
+  nor_before k s is h = push_before k s _ (chained_before k Or _ _ is (add_before k _ _ h))
 
   pub nor_fit :
       (k : FlatClock) (s : State) (is : List ℕ) → AreOn k Truth is →
       AllSorted (emit_nor k s is).state.equations → Fit s (emit_nor k s is) k Truth
-  nor_fit k s is p h =
-      let start = Constant (Boolean false) in
-      let t : State = push k s start in
-      let x = chained k Or t s.next is in
-      negated_fit k s x (λ g.
-      let new = push_fit k Truth s start (boolean_gives k false)
-      (chained_before k Or t s.next is g) in
-      then_fit s t x k Truth new.grown
-      (chained_fit k Truth Or refl t s.next is new.is_on p g)) h
+  nor_fit k s is p h = negated_fit k s _ (λ g.
+      let new = push_fit k Truth s _ (boolean_gives k false) (chained_before k Or _ _ is g) in
+      then_fit s _ _ k Truth new.grown (chained_fit k Truth Or refl _ _ is new.is_on p g)) h
 
   pub at_most_one_before :
       (k : FlatClock) (s : State) (is : List ℕ) →
       AllSorted (emit_at_most_one k s is).state.equations → AllSorted s.equations
-  at_most_one_before k s is h =
-      let start = Constant (Boolean false) in
-      let t : State = push k s start in
-      let x = twice k t s.next s.next is in
-      push_before k s start
-      (twice_before k t s.next s.next is (add_before k x.state (map (ApplyUnary Not) x.found) h))
+  at_most_one_before k s is h = push_before k s _ (twice_before k _ _ _ is (add_before k _ _ h))
 
   pub at_most_one_fit :
       (k : FlatClock) (s : State) (is : List ℕ) → AreOn k Truth is →
       AllSorted (emit_at_most_one k s is).state.equations →
       Fit s (emit_at_most_one k s is) k Truth
-  at_most_one_fit k s is p h =
-      let start = Constant (Boolean false) in
-      let t : State = push k s start in
-      let x = twice k t s.next s.next is in
-      negated_fit k s x (λ g.
-      let new = push_fit k Truth s start (boolean_gives k false)
-      (twice_before k t s.next s.next is g) in
-      then_fit s t x k Truth new.grown
-      (twice_fit k t s.next s.next is new.is_on new.is_on p g)) h
+  at_most_one_fit k s is p h = negated_fit k s _ (λ g.
+      let new = push_fit k Truth s _ (boolean_gives k false) (twice_before k _ _ _ is g) in
+      then_fit s _ _ k Truth new.grown (twice_fit k _ _ _ is new.is_on new.is_on p g)) h
 
   -- ## Iterated symbols
 
@@ -472,9 +442,8 @@ module _ (S : Sorts) where
       AllSorted (emit_symbol k op s it found).state.equations →
       Fit s (emit_symbol k op s it found) k c
   symbol_fit k c op e s Map (xs ∷ (ys ∷ [])) p h =
-      add_fit k c s (zip2 (ApplyBinary op) xs ys)
-      (two_give k c c c (ApplyBinary op) (λ i j q r. binary_sorted k c c c op e i j q r) xs ys p.0
-      p.1.0) h
+      add_fit k c s _ (two_give k c c c (ApplyBinary op)
+      (λ i j q r. binary_sorted k c c c op e i j q r) xs ys p.0 p.1.0) h
   symbol_fit k c op e s Red ((init ∷ []) ∷ (ys ∷ [])) p h =
       chained_fit k c op e s init ys p.0.0 p.1.0 h
   symbol_fit k c op e s it found p h = record { grown = not_grown s h; found = tt }

@@ -2,16 +2,19 @@
 use Rattle.lb_flat.proofs.Words.{◌≡◌, ℕ, suc, ◌+◌, ◌-◌, Bool, true, false, ◌&&◌, ◌||◌, Option, Some}
 use Rattle.lb_flat.proofs.Words.{None, option_map, List, [], ◌∷◌, map, length, refl, sym, ap, ap₂}
 use Rattle.lb_flat.proofs.Words.{◌∙◌, subst, list_all, same_Some, UnaryOperator, Not, Negate}
-use Rattle.lb_flat.proofs.Words.{BinaryOperator, Or, Xor, And, Implies, Equal, Unequal, Plus, Minus}
-use Rattle.lb_flat.proofs.Words.{Times, Divide, Modulo, Kind, Int, Every, all_some, where_true}
+use Rattle.lb_flat.proofs.Words.{BinaryOperator, Kind, Int, Every, all_some, where_true}
 use Rattle.lb_flat.proofs.Words.{Declaration, and_first, and_second, Program, Instance, DataType}
 use Rattle.lb_flat.proofs.Words.{int, truth, is_kind, is_type, are_types, same_sizes, variable_type}
 use Rattle.lb_flat.proofs.Words.{are_ints, are_truths, unary_type, binary_type, common_type}
 use Rattle.lb_flat.proofs.Words.{array_of, element_with, element_of, index_type, slice_type}
 use Rattle.lb_flat.proofs.Words.{join_type, list_type, truly}
 use Rattle.std.proofs.Common.{nat_le, nat_lt}
-use Rattle.lb_syntax.specs.declared.tree.BinaryOperator.TheVariants.{Less, AtMost, Greater, AtLeast}
+use Rattle.lb_syntax.specs.Operators.{class_of}
+use Rattle.lb_syntax.specs.declared.tree.OperatorClass.{OperatorClass}
+use Rattle.lb_syntax.specs.declared.tree.OperatorClass.TheVariants.{Arithmetic, Equality, Logical}
+use Rattle.lb_syntax.specs.declared.tree.OperatorClass.TheVariants.{Order}
 use Rattle.lb_syntax.specs.declared.tree.Kind.TheVariants.{Bool as Truth}
+use Rattle.lb_flat.specs.Fitting.{class_on_integers, class_on_truths}
 use Rattle.lb_flat.proofs.runs.ScalarKinds.{binary_kind, unary_kind}
 use Rattle.lb_flat.proofs.widths.TypeFacts.{bound}
 use Rattle.lb_flat.proofs.widths.OutputWidths.{each}
@@ -75,21 +78,14 @@ either op s t r i j false b p q e =
 pub binary_kinds :
     (op : BinaryOperator) (s t r : DataType) → binary_type op s t ≡ Some r →
     binary_kind op s.kind t.kind ≡ Some r.kind
-binary_kinds Plus s t r e = ints Plus s t int r refl e
-binary_kinds Minus s t r e = ints Minus s t int r refl e
-binary_kinds Times s t r e = ints Times s t int r refl e
-binary_kinds Divide s t r e = ints Divide s t int r refl e
-binary_kinds Modulo s t r e = ints Modulo s t int r refl e
-binary_kinds Less s t r e = ints Less s t truth r refl e
-binary_kinds AtMost s t r e = ints AtMost s t truth r refl e
-binary_kinds Greater s t r e = ints Greater s t truth r refl e
-binary_kinds AtLeast s t r e = ints AtLeast s t truth r refl e
-binary_kinds Or s t r e = truths Or s t truth r refl e
-binary_kinds Xor s t r e = truths Xor s t truth r refl e
-binary_kinds And s t r e = truths And s t truth r refl e
-binary_kinds Implies s t r e = truths Implies s t truth r refl e
-binary_kinds Equal s t r e = either Equal s t r refl refl _ _ refl refl e
-binary_kinds Unequal s t r e = either Unequal s t r refl refl _ _ refl refl e
+binary_kinds op s t r e = by (class_of op) refl
+  where
+    by : (c : OperatorClass) → class_of op ≡ c → binary_kind op s.kind t.kind ≡ Some r.kind
+    by Arithmetic is = ints op s t int r (ap class_on_integers is) (rw is at e)
+    by Order is = ints op s t truth r (ap class_on_integers is) (rw is at e)
+    by Logical is = truths op s t truth r (ap class_on_truths is) (rw is at e)
+    by Equality is =
+        either op s t r (ap class_on_integers is) (ap class_on_truths is) _ _ refl refl (rw is at e)
 
 -- both operands have the kind of the result
 pub record SameKinds (s t r : DataType) : Type 0 where

@@ -1,14 +1,18 @@
 -- In an accepted program each number in an expression is in the range of `int`, and an iterated
 -- symbol takes what it gives: the rules of types say so.
 use Rattle.lb_flat.proofs.Words.{◌≡◌, ◌⊎◌, inl, inr, true, false, ℤ, pos, Option, Some, None}
-use Rattle.lb_flat.proofs.Words.{option_map, List, refl, sym, ap, ◌∙◌, BinaryOperator, Or, Xor, And}
-use Rattle.lb_flat.proofs.Words.{Implies, Int, Every, either_or, holds, Symbol, Expr, Literal}
+use Rattle.lb_flat.proofs.Words.{option_map, List, refl, sym, ap, ◌∙◌, BinaryOperator, Int}
+use Rattle.lb_flat.proofs.Words.{Every, either_or, holds, Symbol, Expr, Literal}
 use Rattle.lb_flat.proofs.Words.{Variable, Iterate, is_int, DataType, int, variable_type, Program}
 use Rattle.lb_flat.proofs.Words.{Instance, name_value, static_count, instances, static_refusal}
 use Rattle.lb_flat.proofs.Words.{check_refusal, node_occurrences, or_fault, data_types}
 use Rattle.lb_flat.proofs.Words.{constant_type, singly, operator_types, is_arithmetic, is_logical}
 use Rattle.lb_flat.proofs.Words.{Every-map, HasTypes, occurrences_typed}
+use Rattle.lb_syntax.specs.Operators.{class_of, is_class}
+use Rattle.lb_syntax.specs.declared.tree.OperatorClass.{OperatorClass}
+use Rattle.lb_syntax.specs.declared.tree.OperatorClass.TheVariants.{Logical}
 use Rattle.lb_syntax.specs.declared.tree.Kind.TheVariants.{Bool as Truth_kind}
+use Rattle.lb_flat.specs.Fitting.{class_on_truths}
 use Rattle.lb_flat.proofs.numbering.NumberedFits.{IsScalarAt, AreScalars}
 use Rattle.lb_flat.proofs.runs.ScalarKinds.{IsOf, binary_kind}
 use Rattle.lb_flat.proofs.widths.TypeFacts.{bound, constant, symbolic}
@@ -20,11 +24,11 @@ value_kind (Some z) e = e
 logical_kind :
     (op : BinaryOperator) → is_logical op ≡ true →
     binary_kind op Truth_kind Truth_kind ≡ Some Truth_kind
-logical_kind Or e = refl
-logical_kind Xor e = refl
-logical_kind And e = refl
-logical_kind Implies e = refl
-logical_kind _ e = absurd cc
+logical_kind op e = by (class_of op) e
+  where
+    by : (c : OperatorClass) → is_class Logical c ≡ true → class_on_truths c ≡ Some Truth_kind
+    by Logical is = refl
+    by _ is = absurd cc
 
 symbol_kind :
     (op : BinaryOperator) (t : DataType) (u : DataType) →

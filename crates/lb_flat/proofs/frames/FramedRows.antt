@@ -117,9 +117,7 @@ module _ (r : Reached) (t : Table) (l : Layout) (laid : IsLayoutOf r t l) where
 pub value_read :
     (statics : List ℤ) (i : ℕ) (z : ℤ) → slice_get statics i ≡ Some z → is_int z ≡ true →
     held_value statics i ≡ value_at statics i
-value_read statics i z at int =
-    ap (λ o. either_or (option_map int_value o) Bad) at
-    ∙ ap (λ b. if b then Integer z else Bad) int ∙ sym (ap or_fault at)
+value_read statics i z at int = cc
 
 -- ## Callees
 
@@ -205,15 +203,13 @@ module _ (c : Checking) (lawful : IsChecked c) (l : Layout) (all : Children) (k 
       children_are : (m e x : ℕ) →
           listed (λ q. read_numbers (own_read j n s) q x) (called_row all.rows j m e)
           ≡ child_numbers c.elab.reached c.elab.table j m e (record { 0 = x })
-      children_are m e x =
-          ap (listed (λ q. read_numbers (own_read j n s) q x)) (kept j m e)
-          ∙ by (child_row c.elab.table j m e)
+      children_are m e x = cc (kept j m e, by (child_row c.elab.table j m e))
         where
           by : (o : Option ℕ) →
               listed (λ q. read_numbers (own_read j n s) q x) o
               ≡ listed (λ q. row_numbers c.elab.reached c.elab.table q (record { 0 = x })) o
           by None = refl
-          by (Some q) = held_numbers c.elab.reached c.elab.table l laid q x
+          by (Some q) = held_numbers _ _ l laid q x
 
   module _ (j : ℕ) (i : row.Instance) (here : Instance)
       (is : IsRow (elaborated_program c.elab) c.elab.reached c.elab.table
@@ -221,16 +217,7 @@ module _ (c : Checking) (lawful : IsChecked c) (l : Layout) (all : Children) (k 
     -- the row that is found at number `j` is this row
     row_found :
         found_row c j ≡ Some (is.specialization, is.node)
-    row_found =
-        ap (λ (o : Option row.Instance). o >>= λ i.
-        slice_get c.elab.table.specializations.items i.specialization.0 >>= λ s.
-        option_map {U = Specialization × ResolvedNode} (λ n. (s, n))
-        (slice_get c.elab.reached.nodes.items s.node.0)) is.row_is
-        ∙ ap (λ (o : Option Specialization). o >>= λ s.
-        option_map {U = Specialization × ResolvedNode} (λ n. (s, n))
-        (slice_get c.elab.reached.nodes.items s.node.0)) is.specialized
-        ∙ ap (option_map {U = Specialization × ResolvedNode} (λ n. (is.specialization, n)))
-        is.resolved
+    row_found = cc (is.row_is, is.specialized, is.resolved)
 
     -- what a frame of the row reads stands for the numbers of the row
     pub frame_is :
@@ -239,10 +226,7 @@ module _ (c : Checking) (lawful : IsChecked c) (l : Layout) (all : Children) (k 
         (read_clocks (own_read j is.node is.specialization)) j is.node is.specialization) {
           value = held_value is.specialization.statics.items;
         }
-    frame_is =
-        ap (λ (o : Option (Specialization × ResolvedNode)).
-        either_or (option_map (row_found_context c l all k j) o) no_context) row_found
-        ∙ read_is j is.node is.specialization
+    frame_is = cc (read_is j is.node is.specialization)
 
     there : In here (instances P)
     there = in_at (instances P) j here is.instance_is
@@ -253,15 +237,12 @@ module _ (c : Checking) (lawful : IsChecked c) (l : Layout) (all : Children) (k 
         read_clock (own_read j is.node is.specialization)
         (read_id (own_read j is.node is.specialization) j own_clock)
         ≡ flat_clock (layout (elaborated_program c.elab)) here.path (clock_in is.node own_clock)
-    clock_read own_clock w =
-        clock_filled c lawful l laid k.table.items k.runs.items filled runs j i here is own_clock w
+    clock_read own_clock w = clock_filled c lawful l laid _ _ filled runs j i here is _ w
 
     has_clocks : HasClocks is.node
     has_clocks =
-        own_clocks P r t lawful.elaborated.reached lawful.elaborated.table
-        lawful.elaborated.accepted lawful.accepted c.clocks.items lawful.clocks l.variables.items
-        l.starts.items laid.numbers laid.variables (subst (λ n. n ≤ 65536) laid.count laid.few) j i
-        here is
+        own_clocks P r t lawful.elaborated.reached _ lawful.elaborated.accepted lawful.accepted _
+        lawful.clocks _ _ laid.numbers laid.variables (rw (← laid.count) laid.few) j i here is
 
     same_node : here.node ≡ node_of is.node
     same_node = ap (λ (z : Instance). z.node) is.same
@@ -269,9 +250,7 @@ module _ (c : Checking) (lawful : IsChecked c) (l : Layout) (all : Children) (k 
     own_declared :
         (x : VariableId) → is_variable (counts_of is.node) x ≡ true →
         clock_in is.node (declared_in is.node x) ≡ declared_clock here.node (name_in is.node x)
-    own_declared x w =
-        declared_is is.node has_clocks x w
-        ∙ ap (λ n. declared_clock n (name_in is.node x)) (sym same_node)
+    own_declared x w = cc (declared_is is.node has_clocks x w)
 
     -- the clock that is read of a variable
     pub declared_read :
@@ -289,10 +268,7 @@ module _ (c : Checking) (lawful : IsChecked c) (l : Layout) (all : Children) (k 
         (read_clocks (own_read j is.node is.specialization)).sampled x.0 sign
         ≡ flat_clock (layout (elaborated_program c.elab)) here.path
         (tree.On (declared_clock here.node (name_in is.node x)) (name_in is.node x) sign)
-    sampled_read x sign w =
-        clock_read (On x sign) w
-        ∙ ap (λ n. flat_clock (layout P) here.path
-        (tree.On (declared_clock n (name_in is.node x)) (name_in is.node x) sign)) (sym same_node)
+    sampled_read x sign w = cc (clock_read (On x sign) w)
 
     -- the clock that is read of a term
     pub term_read :
@@ -304,8 +280,7 @@ module _ (c : Checking) (lawful : IsChecked c) (l : Layout) (all : Children) (k 
         let f = lawful.clocks.clocks i.specialization.0 is.specialization is.node is.specialized
         is.resolved in
         let terms = f.0.terms.items in
-        let held : found_terms c is.specialization ≡ f.0.terms.items =
-        ap (listed (λ (g : NodeClocks). g.terms.items)) f.1 in
+        let held : found_terms c is.specialization ≡ f.0.terms.items = cc (f.1) in
         let occurs = ap (λ n. slice_get (node_occurrences P n) m) (sym same_node) ∙ at in
         let clock = ap (λ (ks : List tree.Clock). slice_get ks m) (sym f.2)
         ∙ get_mapped (λ (o : Occurrence). o.clock) (node_occurrences P (node_of is.node)) m o
@@ -313,12 +288,8 @@ module _ (c : Checking) (lawful : IsChecked c) (l : Layout) (all : Children) (k 
         let found = mapped_from (clock_in is.node) terms m o.clock clock in
         let within = all_at (is_clock_within is.node) terms m found.0 f.4 found.1 in
         let same : get_or (found_terms c is.specialization) m Base ≡ found.0 =
-        ap (λ (ks : List Clock). get_or ks m Base) held
-        ∙ get_or_from_slice_get terms m found.0 Base found.1 in
-        ap (λ own_clock. read_clock (own_read j is.node is.specialization)
-        (read_id (own_read j is.node is.specialization) j own_clock)) same
-        ∙ clock_read found.0 within
-        ∙ ap (flat_clock (layout P) here.path) found.2
+        cc (get_or_from_slice_get terms m found.0 Base found.1) in
+        cc (clock_read found.0 within, found.2)
 
     -- the clock that is read of an input of what is called
     pub input_read :
@@ -333,19 +304,16 @@ module _ (c : Checking) (lawful : IsChecked c) (l : Layout) (all : Children) (k 
     input_read m e site callee at lt found x low =
         let table = lawful.elaborated.table in
         let accepted = lawful.elaborated.accepted in
-        let called =
-        callee_is P r t lawful.elaborated.reached table accepted j i here is m site at in
+        let called = callee_is P r t lawful.elaborated.reached _ accepted j i here is m site at in
         let own_callee = same_Some called.callee callee (sym called.found ∙ found) in
-        let named : node_named P site.callee ≡ Some (node_of callee) =
-        called.named ∙ ap (λ (n : ResolvedNode). Some (node_of n)) own_callee in
+        let named : node_named P site.callee ≡ Some (node_of callee) = cc (called.named) in
         let o = site_occurs P lawful.accepted here there m site at in
         let inst = instance_there P accepted lawful.accepted here there o.occurrence site
         (node_of callee) e o.stands o.site named lt in
         let path = inst.path ∙ ap (λ n. Child here.path n e) o.number in
         let q = place_in (instances P) inst.instance inst.stands in
-        let w = row_of P r t table q.0 inst.instance q.1 in
-        let place = kept j m e
-        ∙ child_found P r t table j m e q.0 i here inst.instance is q.1 path in
+        let w = row_of P r t table _ _ q.1 in
+        let place = kept j m e ∙ child_found P r t _ j m e _ i here _ is q.1 path in
         of q.0 w.0 inst.instance w.1 path inst.node place
         (subst (IsResolved (source_names P)) own_callee called.resolved)
       where
@@ -361,15 +329,13 @@ module _ (c : Checking) (lawful : IsChecked c) (l : Layout) (all : Children) (k 
             (declared_clock (node_of callee) (name_in callee x))
         of q z inner there path node place resolved =
             let n = there.node in
-            let tree_is : node_of n ≡ node_of callee =
-            sym (ap (λ (z : Instance). z.node) there.same) ∙ node in
+            let tree_is : node_of n ≡ node_of callee = cc (there.same) in
             let ins = resolved.inputs in
             let first = length-append (node_of callee).inputs
             ((node_of callee).outputs ++ (node_of callee).locals) in
-            let many = (row_variables P r t lawful.elaborated.reached lawful.elaborated.table q z
-            inner there).0 in
+            let many = (row_variables P r t lawful.elaborated.reached _ _ z inner there).0 in
             let same_count : length (variables inner.node) ≡ length (variables (node_of callee)) =
-            ap (λ n. length (variables n)) node in
+            cc in
             let w : is_variable (counts_of n) x ≡ true =
             lt-ltb x.0 (length n.variables.items) (omega (
               arith,
@@ -379,29 +345,16 @@ module _ (c : Checking) (lawful : IsChecked c) (l : Layout) (all : Children) (k 
               many,
               same_count,
             )) in
-            let hc = own_clocks P r t lawful.elaborated.reached lawful.elaborated.table
-            lawful.elaborated.accepted lawful.accepted c.clocks.items lawful.clocks
-            l.variables.items l.starts.items laid.numbers laid.variables
-            (subst (λ n. n ≤ 65536) laid.count laid.few) q z inner there in
-            let node_here = node_found P r t lawful.elaborated.reached lawful.elaborated.table
-            lawful.elaborated.accepted lawful.accepted c.clocks.items lawful.clocks
-            l.variables.items l.starts.items laid.numbers laid.variables
-            (subst (λ n. n ≤ 65536) laid.count laid.few) q z inner there in
-            let id : input_id (own_read j is.node is.specialization) m e x.0
-            ≡ clock_id l.variables.items k.runs.items q (declared_in n x) =
-            ap (λ (o : Option ℕ). o >>= λ m. slice_get c.elab.table.instances.items m >>= λ j.
-            node_at c.elab.reached c.elab.table j >>= λ n.
-            clock_id l.variables.items k.runs.items m (declared_in n (record { 0 = x.0 }))) place
-            ∙ ap (λ (o : Option row.Instance). o >>= λ j.
-            node_at c.elab.reached c.elab.table j >>= λ n.
-            clock_id l.variables.items k.runs.items q (declared_in n (record { 0 = x.0 })))
-            there.row_is
-            ∙ ap (λ (o : Option ResolvedNode). o >>= λ n.
-            clock_id l.variables.items k.runs.items q (declared_in n (record { 0 = x.0 })))
-            node_here in
-            ap (clock_of k.table.items) id
-            ∙ clock_filled c lawful l laid k.table.items k.runs.items filled runs q z inner there
-            (declared_in n x) (declared_within n hc x w)
-            ∙ ap₂ (flat_clock (layout P)) path
-            (declared_is n hc x w
-            ∙ ap (λ m. declared_clock m (name_at (variable_names m) x)) tree_is)
+            let hc = own_clocks P r t lawful.elaborated.reached _ lawful.elaborated.accepted
+            lawful.accepted _ lawful.clocks _ _ laid.numbers laid.variables
+            (rw (← laid.count) laid.few) _ z inner there in
+            let node_here = node_found P r t lawful.elaborated.reached _
+            lawful.elaborated.accepted lawful.accepted _ lawful.clocks _ _ laid.numbers
+            laid.variables (rw (← laid.count) laid.few) _ z inner there in
+            let id : input_id (own_read j is.node is.specialization) m e x.0 ≡ clock_id
+            l.variables.items k.runs.items q (declared_in n x) = cc (there.row_is) in
+            cc (
+              clock_filled c lawful l laid k.table.items k.runs.items filled runs q z inner
+                  there (declared_in n x) (declared_within n hc x w),
+              declared_is n hc x w,
+            )

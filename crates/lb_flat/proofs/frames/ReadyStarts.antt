@@ -104,12 +104,10 @@ module _ (P : Program) (accepted : static_refusal P ≡ None) (checked : check_r
         (λ (d : Declaration). length ((layout P).places here.path d.name) ≡ width P here d)
         here.node.inputs (here.node.outputs ++ here.node.locals)
         (places_width P accepted here there) in
-        let long : length (parameter_targets (cs k) is.node.inputs)
-        ≡ sum_by (width P here) here.node.inputs =
-        ap (λ (ts : List Target). length ts) same
-        ∙ inputs_long (layout P) P here here.node here.node.inputs wide in
+        let long : length (parameter_targets (cs k) is.node.inputs) ≡ sum_by (width P here)
+        here.node.inputs = cc (inputs_long (layout P) P here here.node here.node.inputs wide) in
         let few = inputs_few P here there small in
-        subst (λ n. n < 2 ^ 32) (sym long) (omega (arith, few))
+        rw long (omega (arith, few))
 
     all_counted : is.node.inputs + is.node.outputs < 2 ^ 64
     all_counted =
@@ -151,12 +149,10 @@ module _ (P : Program) (accepted : static_refusal P ≡ None) (checked : check_r
   whole_few is inputs kinds count many =
       let all = many ∙ element_total_is P r t reached table in
       let same : (whole r t cs inputs kinds count).size
-      ≡ (expanded (layout P) P (length (program_elements P))).size =
-      ap (λ n. (whole r t cs inputs kinds n).size) all
-      ∙ ap (λ (f : FlatProgram). f.size) (is (length (program_elements P))) in
+      ≡ (expanded (layout P) P (length (program_elements P))).size = cc
+      (is (length (program_elements P))) in
       let few = small_few P accepted checked small in
-      subst (λ n. n ≤ 327680) (sym same)
-      (within (expanded (layout P) P (length (program_elements P))).size few)
+      rw same (within (expanded (layout P) P (length (program_elements P))).size few)
     where
       within : (n : ℕ) → n ≤ 5 * 65536 → n ≤ 327680
       within n le = omega (arith, le)

@@ -55,33 +55,25 @@ same_place : (a b c d : ℕ) → a ≡ c → b ≡ d →
 same_place a b c d e f = ap₂ (λ (a b : ℕ). record { term = a; call = b }) e f
 
 pub past_none : (at : Cursor) → at ≡ past at [] 0
-past_none at =
-    same_place at.term at.call (at.term + 0) (at.call + 0) (omega arith) (omega arith)
+past_none at = same_place _ _ _ _ (omega arith) (omega arith)
 
 pub past_leaf : (at : Cursor) (o : Occurrence) → next_term at ≡ past at (o ∷ []) 0
-past_leaf at o =
-    same_place (suc at.term) at.call (at.term + 1) (at.call + 0) (omega arith) (omega arith)
+past_leaf at o = same_place _ _ _ _ (omega arith) (omega arith)
 
 pub past_one : (at : Cursor) (o : Occurrence) (os : List Occurrence) (m : ℕ) →
     past (next_term at) os m ≡ past at (o ∷ os) m
-past_one at o os m =
-    same_place (suc at.term + length os) (at.call + m) (at.term + suc (length os)) (at.call + m)
-    (omega arith) refl
+past_one at o os m = same_place _ _ _ _ (omega arith) refl
 
 pub past_call : (at : Cursor) (o : Occurrence) (os : List Occurrence) (m : ℕ) →
     past (next_call at) os m ≡ past at (o ∷ os) (suc m)
-past_call at o os m =
-    same_place (suc at.term + length os) (suc at.call + m) (at.term + suc (length os))
-    (at.call + suc m) (omega arith) (omega arith)
+past_call at o os m = same_place _ _ _ _ (omega arith) (omega arith)
 
 pub past_both : (at : Cursor) (oa ob : List Occurrence) (sa sb : List Site) →
     past (past at oa (length sa)) ob (length sb) ≡ past at (oa ++ ob) (length (sa ++ sb))
 past_both at oa ob sa sb =
     let os = length-append oa ob in
     let ss = length-append sa sb in
-    same_place (at.term + length oa + length ob) (at.call + length sa + length sb)
-    (at.term + length (oa ++ ob)) (at.call + length (sa ++ sb)) (omega (arith, os))
-    (omega (arith, ss))
+    same_place _ _ _ _ (omega (arith, os)) (omega (arith, ss))
 
 -- ## What is emitted for one operand, for two and for three
 
@@ -90,9 +82,7 @@ pub with_operand :
     (at : Cursor) (o : Occurrence) (os : List Occurrence) (m : ℕ) (x : PlacedEmitted)
     (y z : Emitted) (F : Emitted → Emitted) → x ≡ placed (past (next_term at) os m) y →
     F y ≡ z → placed x.place (F x.emitted) ≡ placed (past at (o ∷ os) m) z
-with_operand at o os m x y z F h e =
-    ap (λ (x : PlacedEmitted). placed x.place (F x.emitted)) h
-    ∙ ap₂ placed (past_one at o os m) e
+with_operand at o os m x y z F h e = cc (past_one at o os m)
 
 -- a form with two operands, one emitted after the other
 pub then_operand :

@@ -131,8 +131,7 @@ cells_counted :
     fold more (Some c) xs ≡ option_map (fold one_more c) (all_some xs)
 cells_counted c [] = refl
 cells_counted c (None ∷ xs) = nothing_counted xs
-cells_counted c (Some v ∷ xs) =
-    cells_counted (one_more c v) xs ∙ counted_with c v (all_some xs)
+cells_counted c (Some v ∷ xs) = cells_counted (one_more c v) xs ∙ counted_with c v _
 
 -- the counts at the first instant, and then the counts at the others
 counts_step :
@@ -269,10 +268,9 @@ pub any_step :
     ≡ read_by any_counted (zip2 more cs xs)
 any_step [] xs = refl
 any_step (c ∷ cs) [] = refl
-any_step (None ∷ cs) (x ∷ xs) = ap (λ ys. None ∷ ys) (any_step cs xs)
-any_step (Some c ∷ cs) (None ∷ xs) = ap (λ ys. None ∷ ys) (any_step cs xs)
-any_step (Some c ∷ cs) (Some v ∷ xs) =
-    ap₂ (λ y ys. Some y ∷ ys) (any_one c v) (any_step cs xs)
+any_step (None ∷ cs) (x ∷ xs) = cc (any_step cs xs)
+any_step (Some c ∷ cs) (None ∷ xs) = cc (any_step cs xs)
+any_step (Some c ∷ cs) (Some v ∷ xs) = cc (any_one c v, any_step cs xs)
 
 pub two_step :
     (cs : List (Option Count)) (xs : Stream) →
@@ -281,19 +279,16 @@ pub two_step :
     ≡ read_by two_counted (zip2 more cs xs)
 two_step [] xs = refl
 two_step (c ∷ cs) [] = refl
-two_step (None ∷ cs) (x ∷ xs) = ap (λ ys. None ∷ ys) (two_step cs xs)
-two_step (Some c ∷ cs) (None ∷ xs) = ap (λ ys. None ∷ ys) (two_step cs xs)
-two_step (Some c ∷ cs) (Some v ∷ xs) =
-    ap₂ (λ y ys. Some y ∷ ys) (two_one c v) (two_step cs xs)
+two_step (None ∷ cs) (x ∷ xs) = cc (two_step cs xs)
+two_step (Some c ∷ cs) (None ∷ xs) = cc (two_step cs xs)
+two_step (Some c ∷ cs) (Some v ∷ xs) = cc (two_one c v, two_step cs xs)
 
 any_counts :
     (cs : List (Option Count)) (xss : List Stream) →
     fold (along_two (two_scalars Or)) (read_by any_counted cs) xss
     ≡ read_by any_counted (fold (zip2 more) cs xss)
 any_counts cs [] = refl
-any_counts cs (xs ∷ xss) =
-    ap (λ ys. fold (along_two (two_scalars Or)) ys xss) (any_step cs xs)
-    ∙ any_counts (zip2 more cs xs) xss
+any_counts cs (xs ∷ xss) = cc (any_step cs xs, any_counts (zip2 more cs xs) xss)
 
 pub none_yet :
     (bs : List Bool) →
@@ -355,5 +350,4 @@ pub at_most_one_counts :
     AllTruths xss →
     along (one_scalar Not) (read_by two_counted (counts bs xss)) ≡ across at_most_one bs xss
 at_most_one_counts bs xss h t =
-    not_two (counts bs xss)
-    ∙ sym (across_counts at_most_one at_most_one_counted at_most_one_by bs xss h t)
+    not_two _ ∙ sym (across_counts at_most_one at_most_one_counted at_most_one_by bs xss h t)

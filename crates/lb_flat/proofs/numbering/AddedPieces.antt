@@ -16,12 +16,10 @@ module _ {A B : Type 0} (piece : ℕ → A → List B → List B) where
       ≡ added_after piece n before rows
       ++ piece (n + length rows) i (added_after piece n before rows)
   last_added n before [] i =
-      let same : n ≡ n + 0 = omega arith in ap (λ m. before ++ piece m i before) same
+      let same : n ≡ n + 0 = omega arith in cc
   last_added n before (j ∷ rows) i =
       let same : suc n + length rows ≡ n + suc (length rows) = omega arith in
-      let all = added_after piece (suc n) (before ++ piece n j before) rows in
-      last_added (suc n) (before ++ piece n j before) rows i
-      ∙ ap (λ m. all ++ piece m i all) same
+      cc (last_added (suc n) (before ++ piece n j before) rows i)
 
   -- the first i + 1 rows add the pieces of the first i rows, and then the piece of row i
   pub row_added :
@@ -30,12 +28,9 @@ module _ {A B : Type 0} (piece : ℕ → A → List B → List B) where
       ≡ added_after piece 0 [] (take i rows)
       ++ piece i (get_or rows i d) (added_after piece 0 [] (take i rows))
   row_added rows i d lt =
-      let done = added_after piece 0 [] (take i rows) in
       let long = length-take-le i rows (omega (arith, lt)) in
       let count : 0 + length (take i rows) ≡ i = omega (arith, long) in
-      ap (added_after piece 0 []) (take_more rows i d lt)
-      ∙ last_added 0 [] (take i rows) (get_or rows i d)
-      ∙ ap (λ m. done ++ piece m (get_or rows i d) done) count
+      cc (take_more rows i d lt, last_added 0 [] (take i rows) (get_or rows i d))
 
   -- `row_added` as a step of a loop, from `after` to `more`
   pub next_added :
@@ -43,8 +38,7 @@ module _ {A B : Type 0} (piece : ℕ → A → List B → List B) where
       after ≡ added_after piece 0 [] (take i rows) →
       more ≡ after ++ piece i (get_or rows i d) after →
       more ≡ added_after piece 0 [] (take (i + 1) rows)
-  next_added rows i d after more lt known e =
-      e ∙ ap (λ l. l ++ piece i (get_or rows i d) l) known ∙ sym (row_added rows i d lt)
+  next_added rows i d after more lt known e = cc (row_added rows i d lt)
 
   -- `added_after piece n before rows` begins with `before`
   pub first_added :
@@ -61,12 +55,10 @@ module _ {A B : Type 0} (piece : ℕ → A → List B → List B) where
       added_after piece n before (xs ++ ys)
       ≡ added_after piece (n + length xs) (added_after piece n before xs) ys
   all_added n before [] ys =
-      let same : n ≡ n + 0 = omega arith in ap (λ m. added_after piece m before ys) same
+      let same : n ≡ n + 0 = omega arith in cc
   all_added n before (i ∷ xs) ys =
       let same : suc n + length xs ≡ n + suc (length xs) = omega arith in
-      let all = added_after piece (suc n) (before ++ piece n i before) xs in
-      all_added (suc n) (before ++ piece n i before) xs ys
-      ∙ ap (λ m. added_after piece m all ys) same
+      cc (all_added (suc n) (before ++ piece n i before) xs ys)
 
   -- what all rows add begins with what the first i rows add
   pub front_added :

@@ -149,11 +149,8 @@ module _ (P : Program) (r : Reached) (t : Table) (reached : IsReached P r)
   specialized_widths p s n sp at =
       let m = node_at P r t reached table s sp in
       let resolved = subst (IsResolved (source_names P)) (same_Some m.0 n (sym m.1 ∙ at)) m.2 in
-      subst (λ ds. map (declared_width s.statics.items) n.variables.items
-      ≡ map (width P (instance_of p (node_of n) s.values.items)) ds) resolved.declared
-      (declared_widths P (instance_of p (node_of n) s.values.items) (variable_names (node_of n))
-      (statics_of n) s.statics.items (values_at P r t reached table s sp n p at)
-      (variable_names (node_of n)) n.variables.items
+      rw (← resolved.declared) (declared_widths P (instance_of p (node_of n) s.values.items) _ _ _
+      (values_at P r t reached table s sp n p at) _ _
       (resolved.as_many ∙ ap length (sym resolved.declared)))
 
   -- the widths of a row are the widths of the variables of its instance
@@ -189,7 +186,7 @@ module _ (P : Program) (r : Reached) (t : Table) (reached : IsReached P r)
       (k : ℕ) →
       first_of_row r t k ≡ length (flat_map (instance_elements P) (take k (instances P)))
   first_is k =
-      counted_rows P (widths_in r t) t.instances.items (instances P) (rows_many P r t table)
+      counted_rows P (widths_in r t) _ _ (rows_many P r t table)
       (λ j i here e f. one j i here e f) k
     where
       one : (j : ℕ) (i : row.Instance) (here : Instance) →
@@ -199,8 +196,7 @@ module _ (P : Program) (r : Reached) (t : Table) (reached : IsReached P r)
           let shown = row_shown P r t table j i e in
           let same = same_Some shown.0 here (sym shown.1.instance_is ∙ f) in
           let is = subst (IsRow P r t table j i) same shown.1 in
-          ap sum_of (row_widths_are j i here is)
-          ∙ sym (elements_wide P here (variables here.node))
+          cc (row_widths_are j i here is, elements_wide P here (variables here.node))
 
   module _ (accepted : static_refusal P ≡ None) where
     -- the numbers that are counted for variable `x` of a row are the numbers of its elements
@@ -247,8 +243,7 @@ module _ (P : Program) (r : Reached) (t : Table) (reached : IsReached P r)
         record {
           declaration = d.0;
           stands = d.1;
-          named = ap (λ n. either_or (slice_get (variable_names n) x.0) []) (sym same)
-              ∙ ap (λ o. either_or o []) (get_name (variables here.node) x.0 d.0 d.1);
+          named = cc (get_name (variables here.node) x.0 d.0 d.1);
         }
 
     -- the numbers counted for a variable are those of its elements, where `m` resolves the node
@@ -259,8 +254,7 @@ module _ (P : Program) (r : Reached) (t : Table) (reached : IsReached P r)
         row_numbers r t k x ≡ numbers_of P here.path (name_in m x)
     row_numbers_are k i here is m many same x within =
         let v = variable_there here m x many same within in
-        row_numbers_of k i here is x v.declaration v.stands
-        ∙ ap (numbers_of P here.path) (sym v.named)
+        cc (row_numbers_of k i here is x v.declaration v.stands, v.named)
 
     -- the numbers that are counted for a variable of the row's own node are those of its elements
     pub own_numbers_are :

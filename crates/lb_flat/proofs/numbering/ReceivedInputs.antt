@@ -35,8 +35,7 @@ module _ {A D : Type 0} where
   pub each_alike :
       (f g : D → List A) → ((d : D) → f d ≡ g d) → (ds : List D) → flat_map f ds ≡ flat_map g ds
   each_alike f g same [] = refl
-  each_alike f g same (d ∷ ds) =
-      ap₂ (λ (xs ys : List A). xs ++ ys) (same d) (each_alike f g same ds)
+  each_alike f g same (d ∷ ds) = cc (same d, each_alike f g same ds)
 
 module _ {A : Type 0} where
   pub range_alike :
@@ -62,8 +61,7 @@ pub copied_append :
 copied_append [] us [] js e = refl
 copied_append [] us (i ∷ is) js e = absurd (omega (arith, e))
 copied_append (t ∷ ts) us [] js e = absurd (omega (arith, e))
-copied_append (t ∷ ts) us (i ∷ is) js e =
-    ap (λ (qs : List FlatEquation). copy_of t i ∷ qs) (copied_append ts us is js (omega (arith, e)))
+copied_append (t ∷ ts) us (i ∷ is) js e = cc (copied_append ts us is js (omega (arith, e)))
 
 -- where `is` has an element for each target, the elements `js` behind it are not copied
 pub copied_first :
@@ -71,8 +69,7 @@ pub copied_first :
     copied ts (is ++ js) ≡ copied ts is
 copied_first [] is js le = refl
 copied_first (t ∷ ts) [] js le = absurd (omega (arith, le))
-copied_first (t ∷ ts) (i ∷ is) js le =
-    ap (λ (qs : List FlatEquation). copy_of t i ∷ qs) (copied_first ts is js (omega (arith, le)))
+copied_first (t ∷ ts) (i ∷ is) js le = cc (copied_first ts is js (omega (arith, le)))
 
 copied_taken :
     (ts : List Target) (n : ℕ) (is : List ℕ) → length ts ≤ n →
@@ -80,8 +77,7 @@ copied_taken :
 copied_taken [] n is le = refl
 copied_taken (t ∷ ts) zero is le = absurd (omega (arith, le))
 copied_taken (t ∷ ts) (suc n) [] le = refl
-copied_taken (t ∷ ts) (suc n) (i ∷ is) le =
-    ap (λ (qs : List FlatEquation). copy_of t i ∷ qs) (copied_taken ts n is (omega (arith, le)))
+copied_taken (t ∷ ts) (suc n) (i ∷ is) le = cc (copied_taken ts n is (omega (arith, le)))
 
 copied_end : (qs : List FlatEquation) → qs ++ [] ≡ qs
 copied_end [] = refl
@@ -358,10 +354,9 @@ module _ (Y : Layout) where
         ≡ gathered (λ j x. Y.places (at j) x) m outs
     gathered_is m from outs given =
         by_number (λ x. flat_map (λ i. ctx.child c i x) (range_with_len 0 m))
-        (λ (o : Declaration). flat_map (λ i. Y.places (at i) o.name) (range_with_len 0 m)) from outs
-        (λ q o e.
-        each_alike (λ i. ctx.child c i (from + q)) (λ i. Y.places (at i) o.name)
-        (λ i. given i q o e) (range_with_len 0 m))
+        (λ (o : Declaration). flat_map (λ i. Y.places (at i) o.name) (range_with_len 0 m)) from
+        outs (λ q o e. each_alike (λ i. ctx.child c i (from + q)) (λ i. Y.places (at i) o.name)
+        (λ i. given i q o e) _)
 
     index_given :
         (it : ArrayIterator) (m : ℕ) (outs : List Declaration) →
@@ -370,24 +365,22 @@ module _ (Y : Layout) where
         ctx.child c j (own.parameters.inputs + q) ≡ Y.places (at j) o.name) →
         HasAccumulator it outs →
         index_outputs ctx c m it own.parameters ≡ iterated (λ j x. Y.places (at j) x) m it outs
-    index_given Map m outs many given first =
-        ap (λ n. gathered_at ctx c m (range_with_len own.parameters.inputs n)) many
-        ∙ gathered_is m own.parameters.inputs outs given
+    index_given Map m outs many given first = cc (gathered_is m own.parameters.inputs outs given)
     index_given Red m [] many given first = absurd first
     index_given Red m (o ∷ outs) many given first =
         let start : own.parameters.inputs ≡ own.parameters.inputs + 0 = omega arith in
-        ap (ctx.child c (m - 1)) start ∙ given (m - 1) 0 o refl
+        cc (given (m - 1) 0 o refl)
     index_given Fill m [] many given first = absurd first
     index_given Fill m (o ∷ outs) many given first =
         let start : own.parameters.inputs ≡ own.parameters.inputs + 0 = omega arith in
         let others : own.parameters.outputs - 1 ≡ length outs = omega (arith, many) in
-        ap₂ (λ (xs ys : List ℕ). xs ++ ys)
-        (ap (ctx.child c (m - 1)) start ∙ given (m - 1) 0 o refl)
-        (ap (λ n. gathered_at ctx c m (range_with_len (suc own.parameters.inputs) n)) others
-        ∙ gathered_is m (suc own.parameters.inputs) outs
-        (λ j q d e.
-        let next : suc own.parameters.inputs + q ≡ own.parameters.inputs + suc q = omega arith in
-        ap (ctx.child c j) next ∙ given j (suc q) d e))
+        cc (
+          given (m - 1) 0 o refl,
+          gathered_is m (suc own.parameters.inputs) outs (λ j q d e.
+              let next : suc own.parameters.inputs + q ≡ own.parameters.inputs + suc q = omega
+              arith in
+              ap (ctx.child c j) next ∙ given j (suc q) d e),
+        )
 
     -- the outputs that the instances of an iterator give
     pub iterator_given :
@@ -395,8 +388,4 @@ module _ (Y : Layout) where
         terms.iterator_outputs ctx c it (ctx.callee c)
         ≡ iterated (λ j x. Y.places (at j) x) m it (outputs_of P here site.callee)
     iterator_given it m times first =
-        ap (terms.iterator_outputs ctx c it) own.found
-        ∙ ap (λ m. index_outputs ctx c m it own.parameters) times
-        ∙ index_given it m callee.outputs own.outputs output_is first
-        ∙ ap (λ o. iterated (λ j x. Y.places (at j) x) m it (listed (λ n. n.outputs) o))
-        (sym own.named)
+        cc (own.found, index_given it m callee.outputs own.outputs output_is first, own.named)

@@ -33,10 +33,8 @@ piece_added f xs i d before after more lt h e =
     let x = get_or xs i d in
     let done = flat_map f (take i xs) in
     let pieces : flat_map f (take (i + 1) xs) ≡ done ++ f x =
-    ap (flat_map f) (take_more xs i d lt)
-    ∙ (flat_map-append f (take i xs) (x ∷ []) ∙ ap (λ l. done ++ l) (append-nil (f x))) in
-    e ∙ (ap (λ l. l ++ f x) h
-    ∙ (append_assoc before done (f x) ∙ ap (λ l. before ++ l) (sym pieces)))
+    cc (take_more xs i d lt, flat_map-append f (take i xs) (x ∷ []), append-nil (f x)) in
+    cc (append_assoc before done (f x))
 
 -- the pieces of the first `i + 1` items, where nothing stands before them
 pub piece_next :

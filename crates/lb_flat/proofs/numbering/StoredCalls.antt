@@ -21,9 +21,7 @@ place_last test [] x = by (test x)
         (if b then Some 0 else option_map suc None) ≡ or_else None (if b then Some 0 else None)
     by true = refl
     by false = refl
-place_last test (y ∷ xs) x =
-    ap (λ o. if test y then Some 0 else option_map suc o) (place_last test xs x)
-    ∙ by (test y) (place_where test xs) (test x)
+place_last test (y ∷ xs) x = cc (place_last test xs x, by (test y) (place_where test xs) (test x))
   where
     over : (o : Option ℕ) (b : Bool) →
         option_map suc (or_else o (if b then Some (length xs) else None))
@@ -45,10 +43,7 @@ place_next :
     place_where test (take (k + 1) xs)
     ≡ or_else (place_where test (take k xs)) (if test x then Some k else None)
 place_next test xs k x lt is =
-    ap (place_where test) (take_more xs k x lt ∙ ap (λ y. take k xs ++ y ∷ []) (sym is))
-    ∙ (place_last test (take k xs) x
-    ∙ ap (λ n. or_else (place_where test (take k xs)) (if test x then Some n else None))
-    (length_front xs k lt))
+    cc (take_more xs k x lt, place_last test (take k xs) x, length_front xs k lt)
   where
     length_front : {A : Type 0} (xs : List A) (k : ℕ) → k < length xs → length (take k xs) ≡ k
     length_front [] k lt = absurd (omega arith)
@@ -98,9 +93,7 @@ module _ {S : Type 0} where
         place_where (λ (z : row.Instance). is_called j c i z.origin) (take (k + 1) rows)
         ≡ or_else (called_row m j c i) (if is_called j c i own.origin then Some k else None)
     next_row j c i =
-        place_next (λ (z : row.Instance). is_called j c i z.origin) rows k own lt is
-        ∙ ap (λ o. or_else o (if is_called j c i own.origin then Some k else None))
-        (sym (h j c i))
+        cc (place_next (λ (z : row.Instance). is_called j c i z.origin) rows k own lt is, h j c i)
 
     -- a row that is a start changes nothing
     pub start_passed :
@@ -108,10 +101,8 @@ module _ {S : Type 0} where
         own.origin ≡ origin.Called caller call index → ⊥) →
         HasCalls m (take (k + 1) rows)
     start_passed never j c i =
-        let no = not_called own.origin never j c i in
-        no_more (called_row m j c i)
-        ∙ (ap (λ b. or_else (called_row m j c i) (if b then Some k else None)) (sym no)
-        ∙ sym (next_row j c i))
+        let no = not_called _ never j c i in
+        cc (no_more (called_row m j c i), next_row j c i)
 
     module _ (caller : InstanceId) (call : CallId) (index : ℕ)
         (same : own.origin ≡ origin.Called caller call index) where
@@ -125,11 +116,9 @@ module _ {S : Type 0} where
           by : (b : Bool) → is_called j c i own.origin ≡ b →
               called_row m j c i ≡ or_else (called_row m j c i) (if b then Some k else None)
           by true e =
-              let one = same_key (caller.0, call.0, index) (j, c, i)
-              (sym (ap (is_called j c i) same) ∙ e) in
-              kept_some (called_row m j c i) (Some k)
-              (ap (λ q. is_some (get same_call m q)) (sym one) ∙ there)
-          by false e = no_more (called_row m j c i)
+              let one = same_key _ _ (sym (ap (is_called j c i) same) ∙ e) in
+              kept_some _ _ (ap (λ q. is_some (get same_call m q)) (sym one) ∙ there)
+          by false e = no_more _
 
       -- a row whose call has no row yet is added
       pub call_added :

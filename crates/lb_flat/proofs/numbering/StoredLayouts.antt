@@ -50,8 +50,7 @@ pub capped :
 capped statics v =
     let vs = take v.sizes (drop v.first_size.0 statics) in
     let once : 1 * sizes_product vs ≡ sizes_product vs = omega arith in
-    times_are 1 vs
-    ∙ (ap (λ n. min n 65537) once ∙ ap (λ n. min n 65537) (sym (width_product statics v)))
+    cc (times_are 1 vs, width_product statics v)
 
 -- ## Sums
 
@@ -61,12 +60,11 @@ sum_one n = omega (arith, sum_cons n [])
 sums_append :
     (n : ℕ) (ws vs : List ℕ) →
     sums_after n (ws ++ vs) ≡ sums_after n ws ++ sums_after (n + sum_of ws) vs
-sums_append n [] vs = let e : n ≡ n + 0 = omega arith in ap (λ m. sums_after m vs) e
+sums_append n [] vs = let e : n ≡ n + 0 = omega arith in cc
 sums_append n (w ∷ ws) vs =
     let e : (n + w) + sum_of ws ≡ n + sum_of (w ∷ ws) =
     let more = sum_cons w ws in omega (arith, more) in
-    ap (λ l. (n + w) ∷ l)
-    (sums_append (n + w) ws vs ∙ ap (λ m. sums_after (n + w) ws ++ sums_after m vs) e)
+    cc (sums_append (n + w) ws vs)
 
 length_sums : (n : ℕ) (ws : List ℕ) → length (sums_after n ws) ≡ length ws
 length_sums n [] = refl
@@ -90,18 +88,14 @@ sums_past n ws k lt =
 -- the sum of a mapped list is the `sum_by` of the list
 pub sum_mapped : {A : Type 0} (f : A → ℕ) (xs : List A) → sum_of (map f xs) ≡ sum_by f xs
 sum_mapped f [] = refl
-sum_mapped f (x ∷ xs) =
-    sum_cons (f x) (map f xs)
-    ∙ (ap (λ n. f x + n) (sum_mapped f xs) ∙ sym (sum_by-cons f x xs))
+sum_mapped f (x ∷ xs) = cc (sum_cons (f x) (map f xs), sum_mapped f xs, sum_by-cons f x xs)
 
 pub sum_pieces :
     {A : Type 0} (f : A → List ℕ) (xs : List A) →
     sum_of (flat_map f xs) ≡ sum_by (λ x. sum_of (f x)) xs
 sum_pieces f [] = refl
 sum_pieces f (x ∷ xs) =
-    sum_append (f x) (flat_map f xs)
-    ∙ (ap (λ n. sum_of (f x) + n) (sum_pieces f xs)
-    ∙ sym (sum_by-cons (λ x. sum_of (f x)) x xs))
+    cc (sum_append (f x) (flat_map f xs), sum_pieces f xs, sum_by-cons (λ x. sum_of (f x)) x xs)
 
 -- the sum of the lengths of all pieces is the length of their `flat_map`
 lengths_sum :
@@ -174,8 +168,7 @@ module _ {A : Type 0} (f : A → List ℕ) where
   pub all_stored :
       (xs : List A) (i : ℕ) (variables elements : List ℕ) (count : ℕ) → length xs ≤ i →
       IsStored f (take i xs) variables elements count → IsStored f xs variables elements count
-  all_stored xs i variables elements count le h =
-      subst (λ l. IsStored f l variables elements count) (take_all i xs le) h
+  all_stored xs i variables elements count le h = rw (← (take_all i xs le)) h
 
   -- one row more is stored
   pub row_stored :
@@ -244,20 +237,13 @@ module _ (variables elements : List ℕ) (j x first next : ℕ) where
   nothing :
       next ≤ first + x → get_or variables j 0 ≡ first → get_or variables (j + 1) 0 ≡ next →
       numbers_at variables elements j x ≡ []
-  nothing le e g =
-      ap₂ (chosen_numbers elements x) e g
-      ∙ ap (λ b. if b then numbers_between (get_or elements (first + x) 0)
-      (get_or elements (first + x + 1) 0) else []) (le-ltb x (next - first) (omega (arith, le)))
+  nothing le e g = cc (le-ltb x (next - first) (omega (arith, le)))
 
   something :
       first + x < next → get_or variables j 0 ≡ first → get_or variables (j + 1) 0 ≡ next →
       numbers_at variables elements j x
       ≡ numbers_between (get_or elements (first + x) 0) (get_or elements (first + x + 1) 0)
-  something lt e g =
-      ap₂ (chosen_numbers elements x) e g
-      ∙ ap (λ b. if b then numbers_between (get_or elements (first + x) 0)
-      (get_or elements (first + x + 1) 0) else [])
-      (lt-ltb x (next - first) (omega (arith, lt)))
+  something lt e g = cc (lt-ltb x (next - first) (omega (arith, lt)))
 
 module _ {A : Type 0} (f : A → List ℕ) where
   take_first : (xs ys : List ℕ) (n : ℕ) → n ≤ length xs → take n (xs ++ ys) ≡ take n xs
@@ -419,8 +405,6 @@ module _ {A : Type 0} (f : A → List ℕ) where
         by None e =
             let past = no_row xs j e in
             let no = past_end [] x (omega arith) in
-            nothing variables elements j x (get_or variables j 0) 0 (omega arith) refl
-            (starts_past (j + 1) (omega (arith, past)))
-            ∙ ap (range_with_len (sum_of (flat_map f (take j xs)) + sum_of (take x [])))
-            (sym no)
+            cc (nothing variables elements j x (get_or variables j 0) 0 (omega arith) refl
+            (starts_past (j + 1) (omega (arith, past))))
         by (Some row) e = row_read j x row e

@@ -49,15 +49,12 @@ pub literals_small :
     (P : Program) → static_refusal P ≡ None → check_refusal P ≡ None →
     Every (λ here. Every (λ o. IsSmall o.expr) (node_occurrences P here.node)) (instances P)
 literals_small P accepted checked =
-    Every-map
-    (λ (here : Instance).
-    Every (λ (o : Occurrence). IsScalarAt P here o.expr) (node_occurrences P here.node))
-    (λ (here : Instance).
-    Every (λ (o : Occurrence). IsSmall o.expr) (node_occurrences P here.node))
-    (λ here z.
-    Every-map (λ (o : Occurrence). IsScalarAt P here o.expr) (λ (o : Occurrence). IsSmall o.expr)
-    (λ o h. scalar_small P here o.expr h) (node_occurrences P here.node) z)
-    (instances P) (accepted_scalars P accepted checked)
+    Every-map (λ (here : Instance). Every (λ (o : Occurrence). IsScalarAt P here o.expr)
+    (node_occurrences P here.node)) (λ (here : Instance). Every
+    (λ (o : Occurrence). IsSmall o.expr) (node_occurrences P here.node)) (λ here z. Every-map
+    (λ (o : Occurrence). IsScalarAt P here o.expr) (λ (o : Occurrence). IsSmall o.expr)
+    (λ o h. scalar_small P here _ h) (node_occurrences P here.node) z) (instances P)
+    (accepted_scalars P accepted checked)
 
 module _ (P : Program) (accepted : static_refusal P ≡ None) (checked : check_refusal P ≡ None)
     (r : Reached) (t : Table) (reached : IsReached P r) (table : IsTable P r t) where
@@ -80,9 +77,7 @@ module _ (P : Program) (accepted : static_refusal P ≡ None) (checked : check_r
     body_first :
         (k : ℕ) (i : row.Instance) (here : Instance) (is : IsRow P r t table k i here) →
         body_in r t cs k i ≡ with_body (cs k) is.node
-    body_first k i here is =
-        ap (listed (with_body (cs k)))
-        (ap (λ o. o >>= λ s. slice_get r.nodes.items s.node.0) is.specialized ∙ is.resolved)
+    body_first k i here is = cc (is.specialized, is.resolved)
 
     emitted_first :
         (s : State) (c : Context) (ss : List ResolvedStatement)

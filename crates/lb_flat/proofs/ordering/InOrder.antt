@@ -46,12 +46,8 @@ pub record AreMarks (done : List Bool) (before : List ℕ) : Type 0 where
 pub done_stays : (done : List Bool) (e i : ℕ) → e < length done → is_done done i ≡ true →
     is_done (set done e true) i ≡ true
 done_stays done e i lt h =
-    ⊎_elim
-    (λ (same : i ≡ e).
-    subst (λ j. is_done (set done e true) j ≡ true) (sym same)
-    (get_or-set_same done e true false lt))
-    (λ (other : i ≡ e → ⊥). get_or-set_other done e i true false other ∙ h)
-    (cases_eq i e)
+    ⊎_elim (λ (same : i ≡ e). rw same (get_or-set_same done e true false lt))
+    (λ (other : i ≡ e → ⊥). get_or-set_other done e i true false other ∙ h) (cases_eq i e)
 
 pub marks_more : (done : List Bool) (before : List ℕ) (e : ℕ) → e < length done →
     AreMarks done before → AreMarks (set done e true) (e ∷ before)
@@ -62,12 +58,8 @@ marks_more done before e lt h = record {
       inr (h.given i (sym (get_or-set_other done e i true false other) ∙ is)))
       (cases_eq i e);
   marked = λ i is.
-      ⊎_elim
-      (λ (same : e ≡ i).
-      subst (λ j. is_done (set done e true) j ≡ true) same
-      (get_or-set_same done e true false lt))
-      (λ (earlier : In i before). done_stays done e i lt (h.marked i earlier))
-      is;
+      ⊎_elim (λ (same : e ≡ i). rw (← same) (get_or-set_same done e true false lt))
+      (λ (earlier : In i before). done_stays done e i lt (h.marked i earlier)) is;
 }
 
 module _ (done : List Bool) (q : FlatEquation) where
@@ -77,11 +69,9 @@ module _ (done : List Bool) (q : FlatEquation) where
       Every (λ i. i < length done) (keeps q.operation) → q.element < length done →
       is_done done q.element ≡ false → is_next done q ≡ true
   passes all_read kept lt new =
-      and_from _ _ all_read
-      (and_from _ _
-      (test_of-Every (λ i. nat_lt i (length done)) (λ i. i < length done)
-      (λ i. lt-ltb i (length done)) (keeps q.operation) kept)
-      (and_from _ _ (lt-ltb q.element (length done) lt) (not_from_false _ new)))
+      and_from _ _ all_read (and_from _ _ (test_of-Every (λ i. nat_lt i (length done))
+      (λ i. i < length done) (λ i. lt-ltb i (length done)) _ kept) (and_from _ _
+      (lt-ltb q.element (length done) lt) (not_from_false _ new)))
 
   module _ (h : is_next done q ≡ true) where
     next_element : (nat_lt q.element (length done) && not (is_done done q.element)) ≡ true
@@ -93,12 +83,10 @@ module _ (done : List Bool) (q : FlatEquation) where
     pub next_of_test : (before : List ℕ) → AreMarks done before → IsNext (length done) before q
     next_of_test before marks = record {
       reads_done =
-          Every-of_test (is_done done) (λ i. In i before) marks.given (equation_reads q)
-          (and_first _ _ h);
+          Every-of_test (is_done done) (λ i. In i before) marks.given _ (and_first _ _ h);
       keeps_element =
           Every-of_test (λ i. nat_lt i (length done)) (λ i. i < length done)
-          (λ i. ltb-true i (length done)) (keeps q.operation)
-          (and_first _ _ (and_second _ _ h));
+          (λ i. ltb-true i (length done)) _ (and_first _ _ (and_second _ _ h));
       is_element = next_below;
       is_new = λ old.
           contrary (is_done done q.element) (marks.marked q.element old)
@@ -146,8 +134,7 @@ no_marks size = record {
 pub ready_of :
     (size : ℕ) (Q : List FlatEquation) → is_in_order (replicate size false) Q ≡ true →
     Ready size [] Q
-ready_of size Q h =
-    ready_of_test Q (replicate size false) [] size (length-replicate size false) (no_marks size) h
+ready_of size Q h = ready_of_test Q _ [] size (length-replicate size false) (no_marks size) h
 
 -- ## Growth of an order
 

@@ -173,8 +173,7 @@ module _ (Y : Layout) (P : Program) (H : History)
       AllMeet IsAt Under Left (emit_name Y P here k s x o).state.equations →
       AreLinks IsAt Under Left (flat k) (emit_name Y P here k s x o).found
       (either_or (o >>= λ d. Some (itself (elements P here d))) ([] ∷ []))
-  name_linked k s x None e numbered h =
-      constant_linked (flat k) s (Constant (or_fault (name_value P here x))) refl h
+  name_linked k s x None e numbered h = constant_linked _ s _ refl h
   name_linked k s x (Some d) e numbered h =
       let test = λ (d : Declaration). bytes_eq d.name x in
       let name = (bytes_eq-Decides d.name x).0 (found_passes test (variables here.node) d e) in
@@ -204,11 +203,7 @@ module _ (Y : Layout) (P : Program) (H : History)
       (flat_map (λ o. output_elements P here f statics n 0 o.name) outs)
   each_output f statics n h [] = tt
   each_output f statics n h (o ∷ outs) =
-      pairs-append (λ i y. IsAt y i) (Y.places (Child here.path n 0) o.name)
-      (output_elements P here f statics n 0 o.name)
-      (flat_map (λ o. Y.places (Child here.path n 0) o.name) outs)
-      (flat_map (λ o. output_elements P here f statics n 0 o.name) outs) (h o.name)
-      (each_output f statics n h outs)
+      pairs-append (λ i y. IsAt y i) _ _ _ _ (h o.name) (each_output f statics n h outs)
 
   -- ## Clocks of what is found
 
@@ -231,12 +226,11 @@ module _ (Y : Layout) (P : Program) (H : History)
       named (λ d. d.name) x (variables here.node) ≡ o → RunOn k (Y.places here.path x) →
       AllMeet IsAt Under Left (emit_name Y P here k s x o).state.equations →
       RunOn k (emit_name Y P here k s x o).found
-  name_runs k s x None e r h =
-      added_runs k s (Constant (or_fault (name_value P here x)) ∷ []) h
+  name_runs k s x None e r h = added_runs k s _ h
   name_runs k s x (Some d) e r h =
       let test = λ (d : Declaration). bytes_eq d.name x in
       let name = (bytes_eq-Decides d.name x).0 (found_passes test (variables here.node) d e) in
-      subst (λ y. RunOn k (Y.places here.path y)) (sym name) r
+      rw name r
 
   chained_runs :
       (k : Clock) (op : BinaryOperator) (s : State) (init : ℕ) (ys : List ℕ) →
@@ -245,9 +239,8 @@ module _ (Y : Layout) (P : Program) (H : History)
   unfolding chained
   chained_runs k op s init [] h r = r
   chained_runs k op s init (y ∷ ys) h r =
-      let g = chained_gives IsAt Under Left (flat k) op (push (flat k) s (ApplyBinary op init y))
-      s.next ys h in
-      let p = pushed IsAt Under Left (flat k) s (ApplyBinary op init y) g.before in
+      let g = chained_gives IsAt Under Left _ op _ _ ys h in
+      let p = pushed IsAt Under Left _ s _ g.before in
       chained_runs k op (push (flat k) s (ApplyBinary op init y)) s.next ys h (p.clock, tt)
 
   pub symbol_runs :
@@ -284,9 +277,8 @@ module _ (Y : Layout) (P : Program) (H : History)
       Met (add k y.state (zip2 f x.found y.found)).state →
       AreLinks IsAt Under Left k (add k y.state (zip2 f x.found y.found)).found (both yss zss)
   two_linked k x y yss zss f e before left right h =
-      let n = added IsAt Under Left k y.state (zip2 f x.found y.found) h in
-      each_two IsAt Under Left k f e _ x.found y.found yss zss n.new (left (before n.before))
-      (right n.before)
+      let n = added IsAt Under Left k _ _ h in
+      each_two IsAt Under Left k f e _ _ _ yss zss n.new (left (before n.before)) (right n.before)
 
   keep_linked :
       (x : Emitted) (k : FlatClock) (yss : List (List Element)) →
@@ -334,9 +326,8 @@ module _ (Y : Layout) (P : Program) (H : History)
         and_first (is_type truth z.data_type) true
         (ap (λ us. list_all (is_type truth) us)
         (sym (z.all ∙ ap (λ u. u ∷ []) (sym (same_Some _ _ z.gives)))) ∙ truths.truths) in
-        counted k n s c (z.data_type ∷ []) z.is
-        (Every-first (IsOccurrenceWide P H here) oc others t.parts.1)
-        ∙ (ap (λ m. m + 0) (truth_is z.data_type condition) ∙ omega arith)
+        counted k n s c _ z.is (Every-first (IsOccurrenceWide P H here) oc others t.parts.1)
+        ∙ (ap (λ m. m + 0) (truth_is _ condition) ∙ omega arith)
 
     -- both operands of `fby` have equally many elements
     pub sides_same :

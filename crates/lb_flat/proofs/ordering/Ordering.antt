@@ -86,54 +86,36 @@ module _ (clocks : List Clock) (table : List (Option Equation)) (done : List Boo
   next : is_next done (equation_of clocks q) ≡ true
   next =
       let w = is_table.within e q at in
-      passes done (equation_of clocks q)
-      (none_left done (equation_reads (equation_of clocks q)) ready)
-      (subst (λ n. Every (λ i. i < n) (keeps (equation_of clocks q).operation)) (sym h.marks)
-      (Every-of_All (λ i. i < length table) (keeps (equation_of clocks q).operation)
-      w.memory_operands))
-      (omega (arith, h.marks, element))
-      (ap (is_done done) element ∙ new)
+      passes done _ (none_left done _ ready) (rw h.marks
+      (Every-of_All (λ i. i < length table) _ w.memory_operands))
+      (omega (arith, h.marks, element)) (ap (is_done done) element ∙ new)
 
   pub schedules : IsScheduled clocks table (set done e true) (out ++ q ∷ [])
   schedules = record {
     marks = length-set done e true ∙ h.marks;
     begins = λ Q rest.
-        let all = replicate (length table) false in
-        let grown : flat_equations clocks out ++ (equation_of clocks q ∷ Q)
-        ≡ flat_equations clocks (out ++ q ∷ []) ++ Q =
-        sym (ap (λ qs. qs ++ Q) (map-append (equation_of clocks) out (q ∷ []))
-        ∙ append_assoc (flat_equations clocks out) (equation_of clocks q ∷ []) Q) in
-        subst (λ qs. is_in_order all qs ≡ true) grown
-        (h.begins (equation_of clocks q ∷ Q)
-        (goes_before done (equation_of clocks q) Q next
-        (subst (λ i. is_in_order (set done i true) Q ≡ true) (sym element) rest)));
+        let grown : flat_equations clocks out ++ (equation_of clocks q ∷ Q) ≡ flat_equations
+        clocks (out ++ q ∷ []) ++ Q = cc (
+          map-append (equation_of clocks) out (q ∷ []),
+          append_assoc (flat_equations clocks out) (equation_of clocks q ∷ []) Q,
+        ) in
+        rw (← grown) (h.begins (equation_of clocks q ∷ Q) (goes_before done _ Q next (subst
+        (λ i. is_in_order (set done i true) Q ≡ true) (sym element) rest)));
     entries = λ p is.
-        ⊎_elim (h.entries p)
-        (λ (same : q ≡ p).
-        subst (λ x. get_or table x.element.0 None ≡ Some x) same
-        (ap (λ i. get_or table i None) element ∙ at))
-        (In-cases p q out is);
+        ⊎_elim (h.entries p) (λ (same : q ≡ p). rw (← same)
+        (ap (λ i. get_or table i None) element ∙ at)) (In-cases p q out is);
     holds = λ i p is stands.
         ⊎_elim
         (λ (same : i ≡ e).
-        let both : Some q ≡ Some p =
-        sym at ∙ ap (λ j. get_or table j None) (sym same) ∙ stands in
+        let both : Some q ≡ Some p = cc in
         let equal : q ≡ p = cc in
-        subst (λ x. In x (out ++ q ∷ [])) equal (In-last q out))
-        (λ (other : i ≡ e → ⊥).
-        in_first p out (q ∷ [])
-        (h.holds i p (sym (get_or-set_other done e i true false other) ∙ is) stands))
-        (cases_eq i e);
+        rw (← equal) (In-last q out)) (λ (other : i ≡ e → ⊥). in_first p out (q ∷ []) (h.holds i p
+        (sym (get_or-set_other done e i true false other) ∙ is) stands)) (cases_eq i e);
     settled = λ i p is stands.
-        none_still done e (omega (arith, h.marks)) (equation_reads (equation_of clocks p))
-        (⊎_elim
-        (λ (same : i ≡ e).
-        let both : Some q ≡ Some p =
-        sym at ∙ ap (λ j. get_or table j None) (sym same) ∙ stands in
-        subst (λ x. awaited clocks done x ≡ None) (same_Some q p both) ready)
-        (λ (other : i ≡ e → ⊥).
-        h.settled i p (sym (get_or-set_other done e i true false other) ∙ is) stands)
-        (cases_eq i e));
+        none_still done e (omega (arith, h.marks)) _ (⊎_elim (λ (same : i ≡ e).
+        let both : Some q ≡ Some p = cc in
+        rw (← (same_Some q p both)) ready) (λ (other : i ≡ e → ⊥). h.settled i p
+        (sym (get_or-set_other done e i true false other) ∙ is) stands) (cases_eq i e));
   }
 
 -- ## A pass
@@ -168,11 +150,10 @@ module _ (clocks : List Clock) (table : List (Option Equation)) (first done : Li
       after ≡ done → IsNotNext clocks table done e →
       IsPassing clocks table first after some (e + 1)
   none_settled same here = record {
-    scheduled = λ is. subst (λ d. left d < left first) (sym same) (h.scheduled is);
+    scheduled = λ is. rw same (h.scheduled is);
     unchanged = λ is. same ∙ h.unchanged is;
     stuck = λ is.
-        below_more (IsNotNext clocks table first) e (h.stuck is)
-        (subst (λ d. IsNotNext clocks table d e) (h.unchanged is) here);
+        below_more (IsNotNext clocks table first) e (h.stuck is) (rw (← (h.unchanged is)) here);
   }
 
 -- ## All scheduled
@@ -183,9 +164,8 @@ pub all_settled :
     ((i : ℕ) → i < n → is_done done i ≡ true) → AreScheduled clocks table out
 all_settled clocks table done out n h le all = record {
   in_order =
-      subst (λ qs. is_in_order (replicate (length table) false) qs ≡ true)
-      (append-nil (flat_equations clocks out))
-      (h.begins [] (ends_order done (λ i lt. all i (omega (arith, h.marks)))));
+      rw (← (append-nil (flat_equations clocks out))) (h.begins []
+      (ends_order done (λ i lt. all i (omega (arith, h.marks)))));
   entries = h.entries;
   holds = λ e q lt. h.holds e q (all e (omega arith));
 }

@@ -27,8 +27,7 @@ flat_elements clocks (q ∷ qs) = ap (λ is. q.element.0 ∷ is) (flat_elements 
 -- the equations of a program give different elements
 pub elements_apart :
     (p : FlatProgram) → IsGiven (program_of p) → AreApart (elements_of p.equations.items)
-elements_apart p given =
-    subst AreApart (flat_elements p.clocks.items p.equations.items) given.once
+elements_apart p given = subst AreApart (flat_elements _ _) given.once
 
 -- no equation before place `i` gives the element of the equation at `i`
 pub new_element :
@@ -84,29 +83,23 @@ module _ (size : ℕ) (qs : List Equation) (table : List (Option Equation)) (q :
   elsewhere e other = get_or-set_other table q.element.0 e (Some q) None other
 
   at : (e : ℕ) (p : Equation) → e ≡ q.element.0 → get_or more e None ≡ Some p → q ≡ p
-  at e p same h =
-      same_entry (get_or more e None) q p (ap (λ i. get_or more i None) same ∙ here) h
+  at e p same h = same_entry _ q p (ap (λ i. get_or more i None) same ∙ here) h
 
   new_entry : IsTableOf size (qs ++ q ∷ []) more
   new_entry = record {
     entries = length-set table q.element.0 (Some q) ∙ t.entries;
     listed = λ e p h.
-        ⊎_elim
-        (λ (same : e ≡ q.element.0).
-        subst (λ x. In x (qs ++ q ∷ [])) (at e p same h) (In-last q qs))
-        (λ (other : e ≡ q.element.0 → ⊥).
-        in_first p qs (q ∷ []) (t.listed e p (sym (elsewhere e other) ∙ h)))
-        (cases_eq e q.element.0);
+        ⊎_elim (λ (same : e ≡ q.element.0). rw (← (at e p same h)) (In-last q qs))
+        (λ (other : e ≡ q.element.0 → ⊥). in_first p qs (q ∷ [])
+        (t.listed e p (sym (elsewhere e other) ∙ h))) (cases_eq e q.element.0);
     own = λ e p h.
         ⊎_elim
         (λ (same : e ≡ q.element.0). ap (λ x. x.element.0) (sym (at e p same h)) ∙ sym same)
         (λ (other : e ≡ q.element.0 → ⊥). t.own e p (sym (elsewhere e other) ∙ h))
         (cases_eq e q.element.0);
     each = λ p i.
-        ⊎_elim
-        (λ (earlier : In p qs). elsewhere p.element.0 (new p earlier) ∙ t.each p earlier)
-        (λ (last : q ≡ p). subst (λ x. get_or more x.element.0 None ≡ Some x) last here)
-        (In-cases p q qs i);
+        ⊎_elim (λ (earlier : In p qs). elsewhere _ (new p earlier) ∙ t.each p earlier)
+        (λ (last : q ≡ p). rw (← last) here) (In-cases p q qs i);
   }
 
 -- the table of the first `i + 1` equations is the table of the first `i`, with the next one entered
@@ -129,11 +122,10 @@ module _ (p : FlatProgram) (table : List (Option Equation))
     (t : IsTableOf p.size p.equations.items table) (range : IsInRange p) where
   pub is_table : IsTable p.clocks.items table
   is_table = record {
-    table_clocks = subst (λ n. AreClocks n p.clocks.items) (sym t.entries) range.clocks;
+    table_clocks = rw t.entries range.clocks;
     own = t.own;
     within = λ e q h.
-        subst (λ n. IsWithin n p.clocks.items q) (sym t.entries)
-        (In-All (IsWithin p.size p.clocks.items) q p.equations.items range.equations
+        rw t.entries (In-All (IsWithin p.size p.clocks.items) q _ range.equations
         (t.listed e q h));
   }
 
@@ -152,21 +144,16 @@ module _ (p : FlatProgram) (table : List (Option Equation))
         In x (flat_equations p.clocks.items qs) → In x (flat_equations p.clocks.items rs)
     moved qs rs f x i =
         let s = from_map (equation_of p.clocks.items) x qs i in
-        subst (λ y. In y (flat_equations p.clocks.items rs)) s.is
-        (In-map (equation_of p.clocks.items) s.source rs (f s.source s.is_in))
+        rw (← s.is) (In-map (equation_of p.clocks.items) _ rs (f s.source s.is_in))
 
     pub are_ordered : AreOrdered p out
     are_ordered = record {
       within =
-          All-In (IsWithin p.size p.clocks.items) out
-          (λ q i. In-All (IsWithin p.size p.clocks.items) q p.equations.items range.equations
-          (listed q i));
+          All-In (IsWithin p.size p.clocks.items) out (λ q i. In-All
+          (IsWithin p.size p.clocks.items) q _ range.equations (listed q i));
       ordering = record {
-        there = moved p.equations.items out holds;
-        back = moved out p.equations.items listed;
+        there = moved _ out holds;
+        back = moved out _ listed;
       };
-      in_order =
-          subst
-          (λ n. is_in_order (replicate n false) (flat_equations p.clocks.items out) ≡ true)
-          t.entries scheduled.in_order;
+      in_order = rw (← t.entries) scheduled.in_order;
     }

@@ -58,8 +58,7 @@ fits_made kind bs xs p h = subst (λ cs. fits kind cs xs ≡ true) p (own_fits k
 
 constantly_there : (v : Scalar) (bs : List Bool) → presence_of (constantly v bs) ≡ bs
 constantly_there v [] = refl
-constantly_there v (b ∷ bs) =
-    ap₂ (λ c cs. c ∷ cs) (held_present v b) (constantly_there v bs)
+constantly_there v (b ∷ bs) = cc (held_present v b, constantly_there v bs)
 
 along_there : (f : Scalar → Scalar) (xs : Stream) → presence_of (along f xs) ≡ presence_of xs
 along_there f [] = refl
@@ -98,17 +97,14 @@ first_then_there (Some v ∷ xs) [] bs p q = ends _ _ bs p q
 first_then_there (None ∷ xs) (y ∷ ys) [] p q = absurd cc
 first_then_there (Some v ∷ xs) (y ∷ ys) [] p q = absurd cc
 first_then_there (None ∷ xs) (y ∷ ys) (b ∷ bs) p q =
-    ap₂ (λ c cs. c ∷ cs) (first_is _ _ _ _ p)
-    (first_then_there xs ys bs (rest_is _ _ _ _ p) (rest_is _ _ _ _ q))
-first_then_there (Some v ∷ xs) (y ∷ ys) (b ∷ bs) p q =
-    ap₂ (λ c cs. c ∷ cs) (first_is _ _ _ _ p) (rest_is _ _ _ _ q)
+    cc (first_is _ _ _ _ p, first_then_there xs ys bs (rest_is _ _ _ _ p) (rest_is _ _ _ _ q))
+first_then_there (Some v ∷ xs) (y ∷ ys) (b ∷ bs) p q = cc (first_is _ _ _ _ p, rest_is _ _ _ _ q)
 
 previous_there : (v : Scalar) (bs : List Bool) (xs : Stream) →
     presence_of (previous v bs xs) ≡ bs
 previous_there v [] xs = refl
 previous_there v (b ∷ bs) xs =
-    ap₂ (λ c cs. c ∷ cs) (held_present v b)
-    (previous_there (newest v (first_cell xs)) bs (tail_of xs))
+    cc (held_present v b, previous_there (newest v (first_cell xs)) bs (tail_of xs))
 
 latest_there : (v : Scalar) (bs : List Bool) (xs : Stream) → length xs ≡ length bs →
     presence_of (latest v bs xs) ≡ bs
@@ -125,8 +121,7 @@ sampled_there : (sign : Bool) (xs cs : Stream) →
 sampled_there sign [] cs = refl
 sampled_there sign (x ∷ xs) [] = refl
 sampled_there sign (x ∷ xs) (c ∷ cs) =
-    ap₂ (λ b bs. b ∷ bs) (kept_present (is_some x) (shows sign c) x refl)
-    (sampled_there sign xs cs)
+    cc (kept_present (is_some x) (shows sign c) x refl, sampled_there sign xs cs)
 
 -- ## Equations
 
@@ -145,8 +140,7 @@ module _ (inputs : List Kind) (K : ℕ → FlatClock) (N : ℕ → Kind) (X : In
       Every (λ row. is_row inputs row ≡ true) Z →
       presence_of (column_of Z j) ≡ replicate (length Z) true
   given_there j lt [] h = refl
-  given_there j lt (row ∷ Z) h =
-      ap₂ (λ c cs. c ∷ cs) (all_given inputs row h.0 j lt) (given_there j lt Z h.1)
+  given_there j lt (row ∷ Z) h = cc (all_given inputs row h.0 j lt, given_there j lt Z h.1)
 
   on : (k : FlatClock) (i : ℕ) → K i ≡ k → IsThere i →
       presence_of (column X F i) ≡ instants X F k
@@ -155,32 +149,23 @@ module _ (inputs : List Kind) (K : ℕ → FlatClock) (N : ℕ → Kind) (X : In
   operate_there :
       (k : FlatClock) (o : Operation) → OperandsFit (length inputs) K k o →
       Every IsThere (reads o) → presence_of (operate X F k o) ≡ instants X F k
-  operate_there k (Input j) f h =
-      given_there j f.1 X rows ∙ sym (ap (instants X F) f.0)
-  operate_there k (Constant v) f h = constantly_there v (instants X F k)
+  operate_there k (Input j) f h = cc (given_there j f.1 X rows, f.0)
+  operate_there k (Constant v) f h = constantly_there v _
   operate_there k (Copy a) f h = on k a f h.0
-  operate_there k (ApplyUnary op a) f h =
-      along_there (one_scalar op) (column X F a) ∙ on k a f h.0
+  operate_there k (ApplyUnary op a) f h = along_there (one_scalar op) _ ∙ on k a f h.0
   operate_there k (ApplyBinary op a b) f h =
-      along_two_there (two_scalars op) (column X F a) (column X F b) (instants X F k)
-      (on k a f.0 h.0) (on k b f.1 h.1.0)
+      along_two_there (two_scalars op) _ _ _ (on k a f.0 h.0) (on k b f.1 h.1.0)
   operate_there k (Choose c a b) f h =
-      choice_there (column X F c) (column X F a) (column X F b) (instants X F k)
-      (on k c f.0 h.0) (on k a f.1 h.1.0) (on k b f.2 h.1.1.0)
+      choice_there _ _ _ _ (on k c f.0 h.0) (on k a f.1 h.1.0) (on k b f.2 h.1.1.0)
   operate_there k (FirstThen true a b) f h = on k b f.1 h.1.0
   operate_there k (FirstThen false a b) f h =
-      first_then_there (column X F a) (column X F b) (instants X F k) (on k a f.0 h.0)
-      (on k b f.1 h.1.0)
-  operate_there k (Previous v a) f h = previous_there v (instants X F k) (column X F a)
+      first_then_there _ _ _ (on k a f.0 h.0) (on k b f.1 h.1.0)
+  operate_there k (Previous v a) f h = previous_there v _ _
   operate_there k (Latest v a) f h =
-      latest_there v (instants X F k) (column X F a)
-      (column_long X F long a ∙ sym (instants_long X F long k))
+      latest_there v _ _ (column_long X F long a ∙ sym (instants_long X F long k))
   operate_there k (Sample a) f h =
-      subst (λ c. presence_of (zip2 sample (instants X F c) (column X F a)) ≡ instants X F c)
-      (sym f.2)
-      (subst (λ bs. presence_of (zip2 sample (sampled_at bs f.1 (column X F f.0)) (column X F a))
-      ≡ sampled_at bs f.1 (column X F f.0)) h.0
-      (sampled_there f.1 (column X F a) (column X F f.0)))
+      rw f.2 (subst (λ bs. presence_of (zip2 sample (sampled_at bs f.1 (column X F f.0))
+      (column X F a)) ≡ sampled_at bs f.1 (column X F f.0)) h.0 (sampled_there f.1 _ _))
 
   -- ## Along the equations
 
@@ -227,7 +212,5 @@ pub cells_fit :
     ((i : ℕ) → i < size → fits (N i) (instants X F (K i)) (column X F i) ≡ true) →
     Every (IsCellFit N X F) Q
 cells_fit inputs K N size X F Q within clocks all =
-    Every-map _ (IsCellFit N X F)
-    (λ q h. subst (λ k. fits (N q.element) (instants X F k) (column X F q.element) ≡ true)
-    h.1.own (all q.element h.0)) Q
-    (Every-both (λ q. q.element < size) (ClockFits (length inputs) K) Q within clocks)
+    Every-map _ (IsCellFit N X F) (λ q h. rw (← h.1.own) (all q.element h.0)) Q (Every-both
+    (λ q. q.element < size) (ClockFits (length inputs) K) Q within clocks)

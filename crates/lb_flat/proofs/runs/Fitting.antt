@@ -102,24 +102,20 @@ module _ (inputs : List Kind) (N : ℕ → Kind) (given : List Scalar) (row : Ro
   now_kind :
       (k : FlatClock) (kind : Kind) (o : Operation) → OperandKinds inputs N kind o →
       Every IsOfKind (reads o) → CellOf kind (now given row k o)
-  now_kind k kind (Input j) f h = given_kind inputs given is_given_row j kind f
-  now_kind k kind (Constant v) f h = held_of kind v (is_now row k) f
+  now_kind k kind (Input j) f h = given_kind _ given is_given_row j kind f
+  now_kind k kind (Constant v) f h = held_of kind v _ f
   now_kind k kind (Copy a) f h = of kind a f h.0
   now_kind k kind (ApplyUnary op a) f h =
-      one_of (N a) kind (one_scalar op) (cell row a) (λ v i. unary_of op (N a) kind v f i) h.0
+      one_of _ kind (one_scalar op) _ (λ v i. unary_of op _ kind v f i) h.0
   now_kind k kind (ApplyBinary op a b) f h =
-      two_of (N a) (N b) kind (two_scalars op) (cell row a) (cell row b)
-      (λ v w i j. binary_of op (N a) (N b) kind v w f i j) h.0 h.1.0
+      two_of _ _ kind (two_scalars op) _ _ (λ v w i j. binary_of op _ _ kind v w f i j) h.0 h.1.0
   now_kind k kind (Choose c a b) f h =
-      chosen_cell_of kind (cell row c) _ _ (of kind a f.0 h.1.0) (of kind b f.1 h.1.1.0)
+      chosen_cell_of kind _ _ _ (of kind a f.0 h.1.0) (of kind b f.1 h.1.1.0)
   now_kind k kind (FirstThen true a b) f h = of kind b f.1 h.1.0
   now_kind k kind (FirstThen false a b) f h = of kind a f.0 h.0
-  now_kind k kind (Previous v a) f h = held_of kind v (is_now row k) f.0
-  now_kind k kind (Latest v a) f h =
-      held_of kind (newest v (cell row a)) (is_now row k)
-      (newest_of kind v (cell row a) f.0 (of kind a f.1 h.0))
-  now_kind k kind (Sample a) f h =
-      kept_of kind (cell row a) (is_now row k) (of kind a f h.0)
+  now_kind k kind (Previous v a) f h = held_of kind v _ f.0
+  now_kind k kind (Latest v a) f h = held_of kind _ _ (newest_of kind v _ f.0 (of kind a f.1 h.0))
+  now_kind k kind (Sample a) f h = kept_of kind _ _ (of kind a f h.0)
 
   each_kind :
       (done is : List ℕ) → ((i : ℕ) → In i done → IsOfKind i) →
@@ -156,18 +152,15 @@ module _ (inputs : List Kind) (N : ℕ → Kind) (given : List Scalar) (row : Ro
   kind_advanced :
       (kind : Kind) (o : Operation) → ((i : ℕ) → IsOfKind i) → OperandKinds inputs N kind o →
       OperandKinds inputs N kind (remembered row o)
-  kind_advanced kind (Previous v a) all f =
-      (newest_of kind v (cell row a) f.0 (of kind a f.1 (all a)), f.1)
-  kind_advanced kind (Latest v a) all f =
-      (newest_of kind v (cell row a) f.0 (of kind a f.1 (all a)), f.1)
+  kind_advanced kind (Previous v a) all f = (newest_of kind v _ f.0 (of kind a f.1 (all a)), f.1)
+  kind_advanced kind (Latest v a) all f = (newest_of kind v _ f.0 (of kind a f.1 (all a)), f.1)
   kind_advanced kind _ all f = f
 
   kinds_advanced :
       (Q : List FlatEquation) → ((i : ℕ) → IsOfKind i) → Every (KindFits inputs N) Q →
       Every (KindFits inputs N) (map (advanced row) Q)
   kinds_advanced [] all fit = tt
-  kinds_advanced (q ∷ Q) all fit =
-      (kind_advanced (N q.element) q.operation all fit.0, kinds_advanced Q all fit.1)
+  kinds_advanced (q ∷ Q) all fit = (kind_advanced _ _ all fit.0, kinds_advanced Q all fit.1)
 
 -- ## All instants
 
@@ -195,8 +188,7 @@ fits_step :
     CellOf kind x → fits kind bs xs ≡ true → fits kind (b ∷ bs) (x ∷ xs) ≡ true
 fits_step kind true None bs xs p h e = cc
 fits_step kind false None bs xs p h e = e
-fits_step kind true (Some v) bs xs p h e =
-    ap₂ (λ c d. c && d) h e
+fits_step kind true (Some v) bs xs p h e = cc
 fits_step kind false (Some v) bs xs p h e = cc
 
 pub fits_nothing :

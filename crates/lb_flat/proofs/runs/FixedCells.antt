@@ -46,9 +46,8 @@ module _ (given : List Scalar) where
       now given r k o ≡ now X s k o
   fixed_now k o e r s X =
       let h = fixed_is k o e in
-      subst (λ x. now given r k x ≡ now X s k x) (sym h.is)
-      (subst (λ l. now given r l (Constant h.value) ≡ now X s l (Constant h.value)) (sym h.clock)
-      refl)
+      rw h.is (subst (λ l. now given r l (Constant h.value) ≡ now X s l (Constant h.value))
+      (sym h.clock) refl)
 
   -- an operation that is no input gives the same cell whatever the inputs are
   no_input_now :
@@ -129,18 +128,14 @@ module _ (given : List Scalar) where
     known_there :
         Every (λ q. is_step q ≡ false → HoldsNow given with_inputs q) Q
     known_there =
-        Every-map _ (λ q. is_step q ≡ false → HoldsNow given with_inputs q)
-        (λ q h no.
-        by_test (reads_input q) (λ yes. h.0 yes)
-        (λ other.
+        Every-map _ (λ q. is_step q ≡ false → HoldsNow given with_inputs q) (λ q h no. by_test _
+        (λ yes. h.0 yes) (λ other.
         let is = fixed_left _ _ no other in
-        h.1.0 other ∙ h.1.1 is ∙ sym (fixed_now given q.clock q.operation is with_inputs row [])))
-        Q
-        (Every-both (λ q. reads_input q ≡ true → HoldsNow given with_inputs q) _ Q
-        (some_hold given size reads_input input_stable [] Q row ready (omega (arith, long)))
-        (Every-both (λ q. reads_input q ≡ false → cell with_inputs q.element ≡ cell row q.element)
-        (HoldsFixed row) Q
-        (others_kept given size reads_input [] Q row ready) fixed))
+        h.1.0 other ∙ h.1.1 is ∙ sym (fixed_now given _ _ is _ row []))) Q (Every-both
+        (λ q. reads_input q ≡ true → HoldsNow given with_inputs q) _ Q (some_hold given size
+        reads_input input_stable [] Q row ready (omega (arith, long))) (Every-both (λ q.
+        reads_input q ≡ false → cell with_inputs q.element ≡ cell row q.element) (HoldsFixed row)
+        Q (others_kept given size reads_input [] Q row ready) fixed))
 
     pub instant_row :
         filled [] (filled given row (inputs_in Q)) (steps_in Q) ≡ row_of size Q given
@@ -183,16 +178,13 @@ module _ (row : Row) where
   no_memory _ e = refl
 
   step_same : (q : FlatEquation) → is_step (advanced row q) ≡ is_step q
-  step_same q =
-      ap₂ (λ a b. not (a || b)) (input_same q.operation) (fixed_same q.clock q.operation)
+  step_same q = cc (input_same q.operation, fixed_same q.clock q.operation)
 
   pub steps_advanced :
       (Q : List FlatEquation) →
       map (advanced row) (steps_in Q) ≡ steps_in (map (advanced row) Q)
   steps_advanced [] = refl
-  steps_advanced (q ∷ Q) =
-      map_cond (is_step q)
-      ∙ ap₂ (λ b qs. cond b (advanced row q ∷ qs) qs) (sym (step_same q)) (steps_advanced Q)
+  steps_advanced (q ∷ Q) = cc (map_cond (is_step q), step_same q, steps_advanced Q)
     where
       map_cond :
           (b : Bool) → map (advanced row) (cond b (q ∷ steps_in Q) (steps_in Q))
@@ -232,8 +224,7 @@ module _ (row : Row) where
       (n : ℕ) (Q : List FlatEquation) →
       memory_places n (map (advanced row) Q) ≡ memory_places n Q
   places_advanced n [] = refl
-  places_advanced n (q ∷ Q) =
-      ap₂ (λ b ns. cond b (n ∷ ns) ns) (memory_same q.operation) (places_advanced (suc n) Q)
+  places_advanced n (q ∷ Q) = cc (memory_same q.operation, places_advanced (suc n) Q)
 
 -- the row of an instant holds the constants, also for the equations of the next instant
 pub fixed_stay :

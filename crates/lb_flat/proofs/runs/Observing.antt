@@ -42,9 +42,7 @@ any_pieces :
     {A B : Type 0} (test : B → Bool) (f : A → List B) (xs : List A) →
     list_any (λ x. list_any test (f x)) xs ≡ list_any test (flat_map f xs)
 any_pieces test f [] = refl
-any_pieces test f (x ∷ xs) =
-    ap (λ a. list_any test (f x) || a) (any_pieces test f xs)
-    ∙ sym (list_any-append test (f x) (flat_map f xs))
+any_pieces test f (x ∷ xs) = cc (any_pieces test f xs, list_any-append test (f x) (flat_map f xs))
 
 -- the elements of all variables, in the order of instantiation
 abbrev pub all_places : Layout → Program → List ℕ

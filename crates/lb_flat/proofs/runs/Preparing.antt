@@ -51,29 +51,21 @@ memory_places_more n (p ∷ Q) q =
     let place : suc n + length Q ≡ n + suc (length Q) = omega arith in
     let rest = memory_places_more (suc n) Q q
     ∙ ap (λ k. memory_places (suc n) Q ++ place_of_memory (has_memory q.operation) k) place in
-    by_test (has_memory p.operation)
-    (λ yes.
-    ap (λ b. cond b (n ∷ memory_places (suc n) (Q ++ q ∷ [])) (memory_places (suc n) (Q ++ q ∷ [])))
-    yes
-    ∙ ap (λ ks. n ∷ ks) rest
-    ∙ sym (ap (λ b. cond b (n ∷ memory_places (suc n) Q) (memory_places (suc n) Q)
-    ++ place_of_memory (has_memory q.operation) (n + suc (length Q))) yes))
-    (λ no.
-    ap (λ b. cond b (n ∷ memory_places (suc n) (Q ++ q ∷ [])) (memory_places (suc n) (Q ++ q ∷ [])))
-    no
-    ∙ rest
+    by_test _ (λ yes. ap (λ b. cond b (n ∷ memory_places (suc n) (Q ++ q ∷ []))
+    (memory_places (suc n) (Q ++ q ∷ []))) yes ∙ ap (λ ks. n ∷ ks) rest ∙ sym (ap (λ b. cond b
+    (n ∷ memory_places (suc n) Q) (memory_places (suc n) Q) ++ place_of_memory
+    (has_memory q.operation) (n + suc (length Q))) yes)) (λ no. ap (λ b. cond b
+    (n ∷ memory_places (suc n) (Q ++ q ∷ [])) (memory_places (suc n) (Q ++ q ∷ []))) no ∙ rest
     ∙ sym (ap (λ b. cond b (n ∷ memory_places (suc n) Q) (memory_places (suc n) Q)
     ++ place_of_memory (has_memory q.operation) (n + suc (length Q))) no))
 
 pub one_memory_more : (memories more : List ℕ) (b : Bool) (n k : ℕ) → b ≡ true → k ≡ n →
     more ≡ memories ++ k ∷ [] → more ≡ memories ++ place_of_memory b n
-one_memory_more memories more b n k e f g =
-    g ∙ ap (λ k. memories ++ k ∷ []) f ∙ sym (ap (λ b. memories ++ place_of_memory b n) e)
+one_memory_more memories more b n k e f g = cc
 
 pub no_memory_more : (memories more : List ℕ) (b : Bool) (n : ℕ) → b ≡ false →
     more ≡ memories → more ≡ memories ++ place_of_memory b n
-no_memory_more memories more b n e g =
-    g ∙ sym (append-nil memories) ∙ sym (ap (λ b. memories ++ place_of_memory b n) e)
+no_memory_more memories more b n e g = cc (append-nil memories)
 
 -- `AreApart` holds of equal lists
 pub apart_same :
@@ -107,20 +99,14 @@ module _ (clocks : List Clock) (qs : List Equation) (i : ℕ) (d : Equation) (lt
     steps_here :
         (b : Bool) → is_step (equation_of clocks next) ≡ b →
         steps_in (flat (drop i qs)) ≡ one_more b (equation_of clocks next) (steps_in (flat later))
-    steps_here b e =
-        ap (λ rs. steps_in (flat rs)) (here_is i d qs lt)
-        ∙ ap (λ x. one_more x (equation_of clocks next) (steps_in (flat later))) e
+    steps_here b e = cc (here_is i d qs lt)
 
     inputs_here :
         (b : Bool) → is_input (operation_of next.operation) ≡ b →
         inputs_in (flat (drop i qs))
         ≡ one_more b (on_base (equation_of clocks next)) (inputs_in (flat later))
-    inputs_here true e =
-        ap (λ rs. inputs_in (flat rs)) (here_is i d qs lt)
-        ∙ ap (λ x. map on_base (one_more x (equation_of clocks next) (inputs_of later))) e
-    inputs_here false e =
-        ap (λ rs. inputs_in (flat rs)) (here_is i d qs lt)
-        ∙ ap (λ x. map on_base (one_more x (equation_of clocks next) (inputs_of later))) e
+    inputs_here true e = cc (here_is i d qs lt)
+    inputs_here false e = cc (here_is i d qs lt)
 
     later_place : (steps : List Equation) → length steps ≡ 0 + length (flat steps)
     later_place steps = omega (arith, length-map steps (equation_of clocks))
@@ -190,11 +176,9 @@ module _ (clocks : List Clock) (qs : List Equation) (i : ℕ) (d : Equation) (lt
           is_step (equation_of clocks next) ≡ false →
           AreApart size clocks qs (i + 1) inputs steps memories
       constant_passed_over never e = record {
-        inputs_are =
-            ap (λ xs. map place_equation inputs ++ xs)
-            (sym (inputs_here false (not_input next.operation never))) ∙ h.inputs_are;
+        inputs_are = cc (inputs_here false (not_input next.operation never), h.inputs_are);
         places = h.places;
-        steps_are = ap (λ xs. flat steps ++ xs) (sym (steps_here false e)) ∙ h.steps_are;
+        steps_are = cc (steps_here false e, h.steps_are);
         within = h.within;
         memories_are = h.memories_are;
       }
@@ -202,9 +186,7 @@ module _ (clocks : List Clock) (qs : List Equation) (i : ℕ) (d : Equation) (lt
     fixed_here :
         (b : Bool) → is_fixed (clock_of clocks next.clock) (operation_of next.operation) ≡ b →
         fixed_in (flat (drop i qs)) ≡ one_more b (equation_of clocks next) (fixed_in (flat later))
-    fixed_here b e =
-        ap (λ rs. fixed_in (flat rs)) (here_is i d qs lt)
-        ∙ ap (λ x. one_more x (equation_of clocks next) (fixed_in (flat later))) e
+    fixed_here b e = cc (here_is i d qs lt)
 
     pub constant_set :
         (row : List Cell) (c : Cell) (all : Row) →
@@ -213,15 +195,11 @@ module _ (clocks : List Clock) (qs : List Equation) (i : ℕ) (d : Equation) (lt
         ≡ now [] (map cell_of row) (clock_of clocks next.clock) (operation_of next.operation) →
         filled [] (map cell_of row) (fixed_in (flat (drop i qs))) ≡ all →
         filled [] (map cell_of (set row next.element.0 c)) (fixed_in (flat later)) ≡ all
-    constant_set row c all e is h =
-        ap (λ r. filled [] r (fixed_in (flat later)))
-        (map-set row next.element.0 c ∙ ap (set (map cell_of row) next.element.0) is)
-        ∙ ap (filled [] (map cell_of row)) (sym (fixed_here true e)) ∙ h
+    constant_set row c all e is h = cc (map-set row next.element.0 c, fixed_here true e)
 
     pub constant_passed :
         (row : List Cell) (all : Row) →
         is_fixed (clock_of clocks next.clock) (operation_of next.operation) ≡ false →
         filled [] (map cell_of row) (fixed_in (flat (drop i qs))) ≡ all →
         filled [] (map cell_of row) (fixed_in (flat later)) ≡ all
-    constant_passed row all e h =
-        ap (filled [] (map cell_of row)) (sym (fixed_here false e)) ∙ h
+    constant_passed row all e h = cc (fixed_here false e)

@@ -1,11 +1,12 @@
 -- The operators give scalars of their kinds.
 use Rattle.lb_flat.proofs.Words.{◌≡◌, ◌≢◌, ℕ, zero, suc, ◌/◌, ◌<◌, ◌≤◌, Bool, true, false, ℤ, pos}
 use Rattle.lb_flat.proofs.Words.{Some, [], ◌∷◌, refl, subst, arith, UnaryOperator, Not, Negate}
-use Rattle.lb_flat.proofs.Words.{BinaryOperator, Or, Xor, And, Implies, Equal, Unequal, Plus, Minus}
+use Rattle.lb_flat.proofs.Words.{BinaryOperator, Equal, Unequal, Plus, Minus}
 use Rattle.lb_flat.proofs.Words.{Times, Divide, Modulo, Kind, Int, where_true, is_int}
 use Rattle.std.proofs.Common.{negsuc, neg_ℤ, ◌+ℤ◌, ◌-ℤ◌, ◌*ℤ◌, int_div, int_rem}
 use Rattle.std.specs.Int.Signed.{mag, mag_rem}
 use Rattle.std.proofs.Math.Nat.{div-le_self, div-one, div-lt_iff_lt-mul, div-le_of_le-mul}
+use Rattle.lb_syntax.specs.declared.tree.BinaryOperator.TheVariants.{Less, AtMost, Greater, AtLeast}
 use Rattle.lb_syntax.specs.declared.tree.Kind.TheVariants.{Bool as Truth}
 use Rattle.lb_static.specs.Arithmetic.{is_divisible}
 use Rattle.lb_check.specs.Scalars.{Scalar, Integer, Boolean, Nil, Bad, strict, or_fault}
@@ -96,22 +97,27 @@ of_integers Minus r a b e i j = one_kind Int r _ e (lawful_int (a -ℤ b) _ refl
 of_integers Times r a b e i j = one_kind Int r _ e (lawful_int (a *ℤ b) _ refl)
 of_integers Divide r a b e i j = one_kind Int r _ e (quotient_int a b _ i refl)
 of_integers Modulo r a b e i j = one_kind Int r _ e (remainder_int a b _ i)
-of_integers Or r a b e i j = cc
-of_integers Xor r a b e i j = cc
-of_integers And r a b e i j = cc
-of_integers Implies r a b e i j = cc
-of_integers _ r a b e i j = one_kind Truth r _ e refl
+of_integers Equal r a b e i j = one_kind Truth r _ e refl
+of_integers Unequal r a b e i j = one_kind Truth r _ e refl
+of_integers Less r a b e i j = one_kind Truth r _ e refl
+of_integers AtMost r a b e i j = one_kind Truth r _ e refl
+of_integers Greater r a b e i j = one_kind Truth r _ e refl
+of_integers AtLeast r a b e i j = one_kind Truth r _ e refl
+of_integers _ r a b e i j = cc
 
 of_truths :
     (op : BinaryOperator) (r : Kind) (a b : Bool) → truths_kind op ≡ Some r →
     IsOf r (two_scalars op (Boolean a) (Boolean b))
-of_truths Or r a b e = one_kind Truth r _ e refl
-of_truths Xor r a b e = one_kind Truth r _ e refl
-of_truths And r a b e = one_kind Truth r _ e refl
-of_truths Implies r a b e = one_kind Truth r _ e refl
-of_truths Equal r a b e = one_kind Truth r _ e refl
-of_truths Unequal r a b e = one_kind Truth r _ e refl
-of_truths _ r a b e = cc
+of_truths Plus r a b e = cc
+of_truths Minus r a b e = cc
+of_truths Times r a b e = cc
+of_truths Divide r a b e = cc
+of_truths Modulo r a b e = cc
+of_truths Less r a b e = cc
+of_truths AtMost r a b e = cc
+of_truths Greater r a b e = cc
+of_truths AtLeast r a b e = cc
+of_truths _ r a b e = one_kind Truth r _ e refl
 
 pub binary_of :
     (op : BinaryOperator) (k l r : Kind) (v w : Scalar) → binary_kind op k l ≡ Some r →

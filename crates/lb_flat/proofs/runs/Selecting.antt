@@ -49,12 +49,9 @@ module _ (given : List Scalar) (size : ℕ) (p : FlatEquation → Bool) where
       (i : ℕ) → In i done → cell (some_filled row Q) i ≡ cell row i
   some_keep done [] row ready i is = refl
   some_keep done (q ∷ Q) row ready i is =
-      by_test (p q)
-      (λ e. ap (λ r. cell r i) (fill_yes row q Q e)
-      ∙ some_keep (q.element ∷ done) Q (after row q) ready.1 i (inr is)
-      ∙ get_or-set_other row q.element i _ None
-      (λ same. ready.0.is_new (subst (λ j. In j done) same is)))
-      (λ e. ap (λ r. cell r i) (fill_no row q Q e)
+      by_test _ (λ e. ap (λ r. cell r i) (fill_yes row q Q e) ∙ some_keep (q.element ∷ done) Q
+      (after row q) ready.1 i (inr is) ∙ get_or-set_other row q.element i _ None
+      (λ same. ready.0.is_new (rw (← same) is))) (λ e. ap (λ r. cell r i) (fill_no row q Q e)
       ∙ some_keep (q.element ∷ done) Q row ready.1 i (inr is))
 
   -- an element of an equation that is not selected keeps its cell
@@ -65,21 +62,17 @@ module _ (given : List Scalar) (size : ℕ) (p : FlatEquation → Bool) where
       (done : List ℕ) (Q : List FlatEquation) (row : Row) → Ready size done Q →
       Every (IsKept (some_filled row Q) row) Q
   others_kept done [] row ready = tt
-  others_kept done (q ∷ Q) row ready =
-      by_test (p q)
+  others_kept done (q ∷ Q) row ready = by_test _ (λ e. (
+    (λ no. absurd (contrary (p q) e no)),
+    Every-map _ (IsKept (some_filled row (q ∷ Q)) row) (λ r h no. ap (λ s. cell s r.element)
+        (fill_yes row q Q e) ∙ h.0 no ∙ kept_beside row q r h.1) Q (Every-both
+        (IsKept (some_filled (after row q) Q) (after row q)) (λ r. r.element ≢ q.element) Q
+        (others_kept (q.element ∷ done) Q (after row q) ready.1)
+        (later_new size _ Q ready.1 _ (inl refl))),
+  ))
       (λ e. (
-        (λ no. absurd (contrary (p q) e no)),
-        Every-map _ (IsKept (some_filled row (q ∷ Q)) row)
-            (λ r h no. ap (λ s. cell s r.element) (fill_yes row q Q e) ∙ h.0 no
-            ∙ kept_beside row q r h.1) Q
-            (Every-both (IsKept (some_filled (after row q) Q) (after row q))
-            (λ r. r.element ≢ q.element) Q
-            (others_kept (q.element ∷ done) Q (after row q) ready.1)
-            (later_new size (q.element ∷ done) Q ready.1 q.element (inl refl))),
-      ))
-      (λ e. (
-        (λ no. ap (λ s. cell s q.element) (fill_no row q Q e)
-            ∙ some_keep (q.element ∷ done) Q row ready.1 q.element (inl refl)),
+        (λ no. ap (λ s. cell s q.element) (fill_no row q Q e) ∙ some_keep _ Q row ready.1 _
+            (inl refl)),
         Every-map (IsKept (some_filled row Q) row) (IsKept (some_filled row (q ∷ Q)) row)
             (λ r h no. ap (λ s. cell s r.element) (fill_no row q Q e) ∙ h no) Q
             (others_kept (q.element ∷ done) Q row ready.1),
@@ -126,14 +119,9 @@ module _ (given : List Scalar) (size : ℕ) (p : FlatEquation → Bool) where
       Every (IsKnown row) Q → some_filled row Q ≡ filled given row Q
   some_fill_all stable done [] row ready known = refl
   some_fill_all stable done (q ∷ Q) row ready known =
-      by_test (p q)
-      (λ e. fill_yes row q Q e
-      ∙ some_fill_all stable (q.element ∷ done) Q (after row q) ready.1
-      (Every-map _ (IsKnown (after row q))
-      (λ r h no. kept_beside row q r h.1 ∙ h.0 no ∙ stable r no row (after row q)) Q
-      (Every-both (IsKnown row) (λ r. r.element ≢ q.element) Q known.1
-      (later_new size (q.element ∷ done) Q ready.1 q.element (inl refl)))))
-      (λ e. fill_no row q Q e
-      ∙ some_fill_all stable (q.element ∷ done) Q row ready.1 known.1
-      ∙ ap (λ r. filled given r Q)
-      (sym (ap (set row q.element) (sym (known.0 e)) ∙ set-get_or row q.element None)))
+      by_test _ (λ e. fill_yes row q Q e ∙ some_fill_all stable (q.element ∷ done) Q (after row q)
+      ready.1 (Every-map _ (IsKnown (after row q)) (λ r h no. kept_beside row q r h.1 ∙ h.0 no
+      ∙ stable r no row (after row q)) Q (Every-both (IsKnown row) (λ r. r.element ≢ q.element) Q
+      known.1 (later_new size _ Q ready.1 _ (inl refl))))) (λ e. fill_no row q Q e ∙ some_fill_all
+      stable (q.element ∷ done) Q row ready.1 known.1 ∙ ap (λ r. filled given r Q) (sym (ap
+      (set row q.element) (sym (known.0 e)) ∙ set-get_or row q.element None)))

@@ -26,8 +26,7 @@ pub is_now_step :
     is_now row (clock_within (suc n) clocks (Some id))
     ≡ (is_now row (clock_within n clocks (get_or clocks id.0 d).parent)
     && shows (get_or clocks id.0 d).sign (cell row (get_or clocks id.0 d).element.0))
-is_now_step row clocks n id d lt =
-    ap (λ t. is_now row (clock_from (clock_within n clocks) t)) (slice_get-get_or clocks id.0 d lt)
+is_now_step row clocks n id d lt = cc (slice_get-get_or clocks id.0 d lt)
 
 base_is_now :
     (row : Row) (clocks : List Clock) (n : ℕ) → is_now row (clock_within n clocks None) ≡ true
@@ -47,8 +46,7 @@ module _ (row : Row) (clocks : List Clock) (clock rest : Option ClockId) (depth 
       depth < length clocks → rest ≡ None → true ≡ is_now row (clock_of clocks clock)
   ends_base lt e =
       let n = length clocks - depth in
-      sym (base_is_now row clocks n) ∙ ap (λ k. is_now row (clock_within n clocks k)) (sym e)
-      ∙ same n (omega arith)
+      cc (base_is_now row clocks n, same n (omega arith))
 
   pub ends_past : length clocks ≤ depth → depth ≤ length clocks →
       true ≡ is_now row (clock_of clocks clock)
@@ -64,10 +62,7 @@ module _ (row : Row) (clocks : List Clock) (clock rest : Option ClockId) (depth 
         (is_now row (clock_within n clocks (get_or clocks id.0 d).parent)
         && shows (get_or clocks id.0 d).sign (cell row (get_or clocks id.0 d).element.0))
         ≡ is_now row (clock_of clocks clock)
-    above n count =
-        sym (is_now_step row clocks n id d within)
-        ∙ ap (λ k. is_now row (clock_within (suc n) clocks k)) (sym e)
-        ∙ same (suc n) (omega arith)
+    above n count = cc (is_now_step row clocks n id d within, same (suc n) (omega arith))
 
     pub ends_hidden :
         shows (get_or clocks id.0 d).sign (cell row (get_or clocks id.0 d).element.0) ≡ false →
@@ -120,19 +115,14 @@ fill_step f given row first all i d c lt h is_c =
     rw (add-one, drop-cons all i d) in
     record {
       as_long = length-set row q.element c ∙ h.as_long;
-      rest =
-          ap (λ r. filled given r (map f (drop (i + 1) all)))
-          (map-set row q.element c ∙ ap (set (map cell_of row) q.element) is_c)
-          ∙ sym (ap (λ qs. filled given (map cell_of row) (map f qs)) here)
-          ∙ h.rest;
+      rest = cc (map-set row q.element c, h.rest);
     }
 
 pub all_filled :
     {A : Type 0} (f : A → FlatEquation) (given : List scalars.Scalar) (row first : List Cell)
     (all : List A) (i : ℕ) → length all ≤ i → IsFilling f given row first all i →
     map cell_of row ≡ filled given (map cell_of first) (map f all)
-all_filled f given row first all i le h =
-    sym (ap (λ qs. filled given (map cell_of row) (map f qs)) (drop_of_length-le all le)) ∙ h.rest
+all_filled f given row first all i le h = cc (drop_of_length-le all le, h.rest)
 
 -- ## Committing
 
@@ -161,14 +151,9 @@ module _ (clocks : List Clock) (row : List Cell) (steps first : List Equation) (
       All-set (IsWithin size clocks) steps n moved_on (record {
         element = h.element;
         clock = h.clock;
-        operands =
-            subst (λ is. All (λ j. j < size) is)
-            (sym (ap reads is_o ∙ reads_same (map cell_of row) before))
-            h.operands;
+        operands = rw (ap reads is_o ∙ reads_same (map cell_of row) before) h.operands;
         memory_operands =
-            subst (λ is. All (λ j. j < size) is)
-            (sym (ap keeps is_o ∙ keeps_same (map cell_of row) before))
-            h.memory_operands;
+            rw (ap keeps is_o ∙ keeps_same (map cell_of row) before) h.memory_operands;
       }) w
 
   pub commit_step :
@@ -211,11 +196,7 @@ pub all_committed :
     ≡ map (advanced (map cell_of row)) (map (equation_of clocks) first)
 all_committed clocks row steps first places i e le h =
     let Q = map (equation_of clocks) first in
-    sym (ap (λ ns. all_moved (map cell_of row) ns (map (equation_of clocks) steps))
-    (drop_of_length-le places le))
-    ∙ h.rest
-    ∙ ap (λ ns. all_moved (map cell_of row) ns Q) e
-    ∙ memories_moved (map cell_of row) Q
+    cc (drop_of_length-le places le, h.rest, memories_moved (map cell_of row) Q)
 
 -- ## Judging
 
@@ -233,27 +214,21 @@ module _ (row : List Cell) (count i : ℕ) (in_row : count ≤ length row)
       (is_bad (Some (cell_of (get_or row i d)))
       || some_in is_bad (map cell_of row) (range_with_len (i + 1) n))
       ≡ some_in is_bad (map cell_of row) (range_with_len 0 count)
-  bad_or_rest d lt n e =
-      ap (λ x. is_bad (Some x) || some_in is_bad (map cell_of row) (range_with_len (i + 1) n))
-      (sym (cell_is d lt))
-      ∙ same (suc n) (omega arith)
+  bad_or_rest d lt n e = cc (cell_is d lt, same (suc n) (omega arith))
 
   pub finds_bad :
       (d : Cell) → i < count → is_bad (Some (cell_of (get_or row i d))) ≡ true →
       true ≡ some_in is_bad (map cell_of row) (range_with_len 0 count)
   finds_bad d lt bad =
       let n = count - (i + 1) in
-      sym (ap (λ b. b || some_in is_bad (map cell_of row) (range_with_len (i + 1) n)) bad)
-      ∙ bad_or_rest d lt n (omega arith)
+      cc (bad_or_rest d lt n (omega arith))
 
   pub looks_on :
       (d : Cell) → i < count → is_bad (Some (cell_of (get_or row i d))) ≡ false →
       (n : ℕ) → i + 1 + n ≡ count →
       some_in is_bad (map cell_of row) (range_with_len (i + 1) n)
       ≡ some_in is_bad (map cell_of row) (range_with_len 0 count)
-  looks_on d lt good n e =
-      sym (ap (λ b. b || some_in is_bad (map cell_of row) (range_with_len (i + 1) n)) good)
-      ∙ bad_or_rest d lt n e
+  looks_on d lt good n e = cc (bad_or_rest d lt n e)
 
   pub finds_none :
       count ≤ i → i ≤ count →

@@ -45,8 +45,7 @@ module _ (X : Inputs) (F : List Stream) where
       (i : ℕ) (k : FlatClock) (os : List Operation) → AllMet (numbered i k os) →
       columns (numbers i os) ≡ map (operate X F k) os
   numbered_found i k [] h = refl
-  numbered_found i k (o ∷ os) h =
-      ap₂ (λ x xs. x ∷ xs) h.0.0 (numbered_found (suc i) k os h.1)
+  numbered_found i k (o ∷ os) h = cc (h.0.0, numbered_found (suc i) k os h.1)
 
   pub add_sound :
       (k : FlatClock) (s : State) (os : List Operation) →
@@ -113,11 +112,10 @@ module _ (X : Inputs) (F : List Stream) where
   chained_sound k op s init (y ∷ ys) h =
       let o = ApplyBinary op init y in
       let r = chained_sound k op (push k s o) s.next ys h in
-      let p = push_sound k s o r.before in
+      let p = push_sound k s _ r.before in
       record {
         before = p.before;
-        found = r.found
-            ∙ ap (λ x. fold (along_two (two_scalars op)) x (columns ys) ∷ []) p.new;
+        found = cc (r.found, p.new);
         copies = r.copies;
       }
 

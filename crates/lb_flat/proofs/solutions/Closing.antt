@@ -34,8 +34,7 @@ Reaches n o = Below n (reads o ++ keeps o)
 
 reaches_higher :
     (n m : ℕ) (os : List Operation) → n ≤ m → Every (Reaches n) os → Every (Reaches m) os
-reaches_higher n m os le h =
-    Every-map (Reaches n) (Reaches m) (λ o b. higher n m (reads o ++ keeps o) le b) os h
+reaches_higher n m os le h = Every-map (Reaches n) (Reaches m) (λ o b. higher n m _ le b) os h
 
 module _ (n : ℕ) where
   reach_each :
@@ -200,13 +199,11 @@ module _ (V : ℕ) where
         let u : State = push k t (ApplyBinary Or two s.next) in
         let v : State = push k u (ApplyBinary Or any x) in
         let below = h.0 in
-        let t_closed = push_tight s (ApplyBinary And any x) closed (a, (below, tt)) in
-        let u_closed = push_tight t (ApplyBinary Or two s.next) t_closed
-        (omega arith, (omega arith, tt)) in
-        let v_closed = push_tight u (ApplyBinary Or any x) u_closed
-        (omega arith, (omega (arith, below), tt)) in
+        let t_closed = push_tight s _ closed (a, (below, tt)) in
+        let u_closed = push_tight _ _ t_closed (omega arith, (omega arith, tt)) in
+        let v_closed = push_tight _ _ u_closed (omega arith, (omega (arith, below), tt)) in
         let r = twice_tight v u.next t.next xs v_closed (omega arith) (omega arith)
-        (higher s.next _ xs (omega arith) h.1) in
+        (higher _ _ xs (omega arith) h.1) in
         record { state = r.state; grows = omega (arith, r.grows); found = r.found }
 
     negated_tight : (s : State) (x : Emitted) → Tight s x → Tight s (negated k x)
@@ -219,10 +216,9 @@ module _ (V : ℕ) where
         (s : State) (is : List ℕ) → Closed s → Below s.next is → Tight s (emit_nor k s is)
     nor_tight s is closed h =
         let t : State = push k s (Constant (Boolean false)) in
-        let t_closed = push_tight s (Constant (Boolean false)) closed tt in
-        let r = chained_tight Or t s.next is t_closed (omega arith)
-        (higher s.next _ is (omega arith) h) in
-        then_tight s t _ (omega arith) (negated_tight t _ r)
+        let t_closed = push_tight s _ closed tt in
+        let r = chained_tight Or _ _ is t_closed (omega arith) (higher _ _ is (omega arith) h) in
+        then_tight s _ _ (omega arith) (negated_tight _ _ r)
 
     at_most_one_tight :
         (s : State) (is : List ℕ) → Closed s → Below s.next is →
@@ -252,19 +248,17 @@ module _ (V : ℕ) where
         ((n i : ℕ) → i < n → Reaches n (f i)) → Tight s x →
         Tight s (add k x.state (map f x.found))
     one_tight s x f e a =
-        then_tight s _ _ a.grows
-        (add_tight x.state (map f x.found) a.state
-        (reach_each x.state.next f (e x.state.next) x.found a.found))
+        then_tight s _ _ a.grows (add_tight _ _ a.state
+        (reach_each _ f (e x.state.next) _ a.found))
 
     two_tight :
         (s : State) (x y : Emitted) (f : ℕ → ℕ → Operation) →
         ((n i j : ℕ) → i < n → j < n → Reaches n (f i j)) → Tight s x → Tight x.state y →
         Tight s (add k y.state (zip2 f x.found y.found))
     two_tight s x y f e a b =
-        let left = higher x.state.next y.state.next x.found b.grows a.found in
-        then_tight s _ _ (omega (arith, a.grows, b.grows))
-        (add_tight y.state (zip2 f x.found y.found) b.state
-        (reach_two y.state.next f (e y.state.next) x.found y.found left b.found))
+        let left = higher _ _ _ b.grows a.found in
+        then_tight s _ _ (omega (arith, a.grows, b.grows)) (add_tight _ _ b.state
+        (reach_two _ f (e y.state.next) _ _ left b.found))
 
   -- ## Expressions
 
@@ -272,8 +266,7 @@ module _ (V : ℕ) where
       (places_below : (p : Path) (x : Name) → Below V (Y.places p x))
       (clocks_below : (k : Clock) → Below V (clock_reads (flat_clock Y here.path k))) where
     at_places : (s : State) → Closed s → (p : Path) (x : Name) → Below s.next (Y.places p x)
-    at_places s closed p x =
-        higher V s.next (Y.places p x) (omega (arith, closed.next)) (places_below p x)
+    at_places s closed p x = higher V _ _ (omega (arith, closed.next)) (places_below p x)
 
     module _ (s : State) (closed : Closed s) (p : Path) (call n : ℕ) where
       abbrev outputs : ℕ → Name → List ℕ
@@ -281,9 +274,7 @@ module _ (V : ℕ) where
 
       gathered_tight : (outs : List Declaration) → Below s.next (gathered outputs n outs)
       gathered_tight outs =
-          Every-pieces _ _ (λ o.
-          Every-pieces _ _ (λ i. at_places s closed (Child p call i) o.name)
-          (range_with_len 0 n)) outs
+          Every-pieces _ _ (λ o. Every-pieces _ _ (λ i. at_places s closed _ _) _) outs
 
       last_tight : (outs : List Declaration) → Below s.next (last_of outputs n outs)
       last_tight [] = tt
@@ -312,7 +303,7 @@ module _ (V : ℕ) where
           (k : Clock) (n : ℕ) (s : State) (e : Expr) → Closed s → Tight s (emit Y P here k n s e)
       tight k n s (Literal m) c = add_tight _ (clocks_below k) s _ c (tt, tt)
       tight k n s (Truth b) c = add_tight _ (clocks_below k) s _ c (tt, tt)
-      tight k n s (Variable x) c = name_tight k s x _ c
+      tight k n s (Variable x) c = name_tight k s _ _ c
       tight k n s (Group a) c = tight k n s a c
       tight k n s (Unary op a) c =
           one_tight _ (clocks_below k) s _ (ApplyUnary op) (λ n i p. (p, tt)) (tight k n s a c)
@@ -384,15 +375,12 @@ module _ (V : ℕ) where
           (nor_tight _ (clocks_below k) _ _ r.state (Every-joined _ _ r.found))
       tight k n s (Call f statics es) c =
           let r = tight_each (call_clocks k (node_named P f) es) (n + 1) s es c in
-          then_tight s _ _ r.grows
-          (joins_tight _ _ _ r.state
-          (Every-pieces _ _ (λ o. at_places _ r.state (Child here.path n 0) o.name)
-          (outputs_of P here f)))
+          then_tight s _ _ r.grows (joins_tight _ _ _ r.state
+          (Every-pieces _ _ (λ o. at_places _ r.state _ _) _))
       tight k n s (Iterate it (Node_named f statics) m es) c =
           let r = tight_all k (n + 1) s es c in
-          then_tight s _ _ r.grows
-          (joins_tight _ _ _ r.state
-          (iterated_tight _ r.state here.path n (number P here m) it (outputs_of P here f)))
+          then_tight s _ _ r.grows (joins_tight _ _ _ r.state
+          (iterated_tight _ r.state here.path n _ it _))
       tight k n s (Iterate it (Symbol op) m es) c =
           let r = tight_all k n s es c in
           then_tight s _ _ r.grows (symbol_tight _ (clocks_below k) op _ it _ r.state r.found)

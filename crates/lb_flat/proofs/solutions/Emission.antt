@@ -143,13 +143,12 @@ module _ (Y : Layout) (P : Program) (X : Inputs) (H : History) (F : List Stream)
       AllMet X F (add k y.state (zip2 f x.found y.found)).state.equations →
       Sound s (add k y.state (zip2 f x.found y.found)) (zip2 g xss yss) (o ∷ (os ++ os'))
   two_sound k s x y xss yss f g e o os os' j left right h =
-      let r = add_sound X F k y.state (zip2 f x.found y.found) h in
+      let r = add_sound X F k _ _ h in
       let b = right r.before in let a = left b.before in
       record {
         before = a.before;
-        found = r.found ∙ each_two X F k f g e x.found y.found ∙ ap₂ (zip2 g) a.found b.found;
-        joins = quiet_joins s y.state _ o (os ++ os') j
-            (two_joins s x.state y.state os os' a.joins b.joins) r.copies;
+        found = r.found ∙ each_two X F k f g e _ _ ∙ ap₂ (zip2 g) a.found b.found;
+        joins = quiet_joins s _ _ o _ j (two_joins s _ _ os os' a.joins b.joins) r.copies;
       }
 
   -- results that are picked from the elements of the one operand
@@ -167,8 +166,7 @@ module _ (Y : Layout) (P : Program) (X : Inputs) (H : History) (F : List Stream)
       (m n : ℕ) (x : Emitted) (xss : List Stream) → columns X F x.found ≡ xss →
       columns X F (take m (drop n x.found)) ≡ take m (drop n xss)
   part_found m n x xss e =
-      map-take (column X F) m (drop n x.found)
-      ∙ ap (take m) (map-drop (column X F) n x.found ∙ ap (drop n) e)
+      cc (map-take (column X F) m (drop n x.found), map-drop (column X F) n x.found)
 
   joined_found :
       (r : EmittedAll) (xsss : List (List Stream)) → map (columns X F) r.found ≡ xsss →
@@ -187,10 +185,9 @@ module _ (Y : Layout) (P : Program) (X : Inputs) (H : History) (F : List Stream)
       let e = parts a.before in
       record {
         before = e.before;
-        found = a.found
-            ∙ ap₂ (λ bs xss. across f bs xss ∷ []) (sym (presence_flat Y X H F agrees here.path k))
-            (joined_found r xsss e.found);
-        joins = quiet_joins s r.state x.state o os j e.joins a.copies;
+        found =
+            cc (a.found, presence_flat Y X H F agrees here.path k, joined_found r xsss e.found);
+        joins = quiet_joins s _ _ o os j e.joins a.copies;
       }
 
   keep_sound :
@@ -229,11 +226,10 @@ module _ (Y : Layout) (P : Program) (X : Inputs) (H : History) (F : List Stream)
   name_sound k s x (Some d) h =
       record { before = h; found = sym (agrees.columns here.path d.name); copies = refl }
   name_sound k s x None h =
-      let v = or_fault (name_value P here x) in
-      let r = add_sound X F (flat_clock Y here.path k) s (Constant v ∷ []) h in
+      let r = add_sound X F _ s _ h in
       record {
         before = r.before;
-        found = r.found ∙ constantly_flat Y X H F agrees here.path k v;
+        found = r.found ∙ constantly_flat Y X H F agrees _ k _;
         copies = r.copies;
       }
 

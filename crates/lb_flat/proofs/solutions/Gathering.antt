@@ -60,24 +60,20 @@ module _ (X : Inputs) where
   columns_after xs F a zero = refl
   columns_after xs F a (suc n) =
       let e : suc a + 1 ≡ suc (a + 1) = omega arith in
-      ap₂ (λ y ys. y ∷ ys) refl
-      (ap (λ b. columns X (xs ∷ F) (range_with_len b n)) e ∙ columns_after xs F (a + 1) n)
+      cc (columns_after xs F (a + 1) n)
 
   -- the columns of all elements are the streams
   pub all_columns : (F : List Stream) → columns X F (range_with_len 0 (length F)) ≡ F
   all_columns [] = refl
   all_columns (xs ∷ F) =
       let e : 0 + 1 ≡ suc 0 = omega arith in
-      ap₂ (λ y ys. y ∷ ys) refl
-      (ap (λ b. columns X (xs ∷ F) (range_with_len b (length F))) e
-      ∙ columns_after xs F 0 (length F) ∙ all_columns F)
+      cc (columns_after xs F 0 (length F), all_columns F)
 
   pub columns_same :
       (F G : List Stream) (n : ℕ) → ((i : ℕ) → i < n → column X F i ≡ column X G i) →
       (is : List ℕ) → Below n is → columns X F is ≡ columns X G is
   columns_same F G n same [] h = refl
-  columns_same F G n same (i ∷ is) h =
-      ap₂ (λ y ys. y ∷ ys) (same i h.0) (columns_same F G n same is h.1)
+  columns_same F G n same (i ∷ is) h = cc (same i h.0, columns_same F G n same is h.1)
 
 -- ## The streams of all variables
 
@@ -169,9 +165,8 @@ module _ (P : Program) (Y : Layout) (count : ℕ) (K : ℕ → FlatClock) (N : �
 
   gathered_columns : Every (λ here. Every (HasColumns F here) (variables here.node)) (instances P)
   gathered_columns =
-      each_instance (instances P) placing.variables s.instances
-      (pieces_same (of_instance F) (variable_columns H) (instances P)
-      (widths_same F (instances P) placing.variables s.instances) gathered_flat)
+      each_instance _ placing.variables s.instances (pieces_same (of_instance F)
+      (variable_columns H) _ (widths_same F _ placing.variables s.instances) gathered_flat)
 
   -- ## Lengths
 
@@ -208,8 +203,7 @@ module _ (P : Program) (Y : Layout) (count : ℕ) (K : ℕ → FlatClock) (N : �
   pub gathered_long :
       Every (λ here. Every (IsPresent here) (variables here.node)) (instances P) → AreLong X F
   gathered_long p =
-      Every-of_pieces IsLong (variable_columns H) (instances P)
-      (instances_long (instances P) p s.instances)
+      Every-of_pieces IsLong (variable_columns H) (instances P) (instances_long _ p s.instances)
 
   -- ## The streams of all elements
 
@@ -220,9 +214,7 @@ module _ (P : Program) (Y : Layout) (count : ℕ) (K : ℕ → FlatClock) (N : �
   further = emit_instances Y P (before_instances count) (instances P)
 
   closed : Closed count further
-  closed =
-      all_closed count Y P placing.laid (before_instances count) (instances P)
-      (record { fresh = tt; next = omega arith })
+  closed = all_closed count Y P placing.laid _ _ (record { fresh = tt; next = omega arith })
 
   filled_same :
       (here : Instance) (ds : List Declaration) → Every (HasColumns F here) ds →
@@ -254,8 +246,7 @@ module _ (P : Program) (Y : Layout) (count : ℕ) (K : ℕ → FlatClock) (N : �
       Every (λ xs. fits kind bs xs ≡ true) (columns X all_gathered is) → Every IsOfKind is
   elements_of k kind bs [] h f = tt
   elements_of k kind bs (i ∷ is) h f = (
-    subst (λ l. StreamOf l (column X all_gathered i)) (sym h.0.is_of)
-        (fits_of kind bs (column X all_gathered i) f.0),
+    rw h.0.is_of (fits_of kind bs _ f.0),
     elements_of k kind bs is h.1 f.1,
   )
 
@@ -287,12 +278,10 @@ module _ (P : Program) (Y : Layout) (count : ℕ) (K : ℕ → FlatClock) (N : �
   below_count : (i : ℕ) → i < count → IsOfKind i
   below_count i lt =
       let e : 0 + i ≡ i = omega arith in
-      subst IsOfKind e
-      (Every-range IsOfKind 0 count i
-      (subst (Every IsOfKind) instance_order
-      (Every-of_pieces IsOfKind
-      (λ here. flat_map (λ d. Y.places here.path d.name) (variables here.node)) (instances P)
-      (instance_elements (instances P) placing.variables s.instances filled_columns))) lt)
+      subst IsOfKind e (Every-range IsOfKind 0 count i (subst (Every IsOfKind) instance_order
+      (Every-of_pieces IsOfKind (λ here. flat_map (λ d. Y.places here.path d.name)
+      (variables here.node)) (instances P) (instance_elements _ placing.variables s.instances
+      filled_columns))) lt)
 
   -- in these streams, the operands that have to be truth values are truth values
   pub gathered_truths :

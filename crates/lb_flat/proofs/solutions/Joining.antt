@@ -30,8 +30,7 @@ module _ (X : Inputs) (F : List Stream) where
   copied_same [] [] e h = refl
   copied_same [] (j ∷ js) e h = absurd (omega arith)
   copied_same (t ∷ ts) [] e h = absurd (omega arith)
-  copied_same (t ∷ ts) (j ∷ js) e h =
-      ap₂ (λ x xs. x ∷ xs) h.0.0 (copied_same ts js (omega arith) h.1)
+  copied_same (t ∷ ts) (j ∷ js) e h = cc (h.0.0, copied_same ts js (omega arith) h.1)
 
   pub copied_holds :
       (ts : List Target) (js : List ℕ) → targeted ts ≡ columns X F js →
@@ -54,16 +53,14 @@ module _ (X : Inputs) (F : List Stream) where
       (n i : ℕ) (iss : List (List ℕ)) →
       map (columns X F) (map (part n i) iss) ≡ map (part n i) (map (columns X F) iss)
   parts_natural n i [] = refl
-  parts_natural n i (is ∷ iss) =
-      ap₂ (λ x xs. x ∷ xs) (part_natural n i is) (parts_natural n i iss)
+  parts_natural n i (is ∷ iss) = cc (part_natural n i is, parts_natural n i iss)
 
 module _ (Y : Layout) (X : Inputs) (H : History) (F : List Stream) (agrees : Agrees Y X H F) where
   pub targets_flat :
       (n : Node) (p : Path) (x : Name) → H.columns p x ≡ targeted X F (targets Y n p x)
   targets_flat n p x =
-      agrees.columns p x
-      ∙ sym (map-maps (λ (t : Target). column X F t.place)
-      (λ i. record { place = i; clock = flat_clock Y p (declared_clock n x) }) (Y.places p x))
+      agrees.columns p x ∙ sym (map-maps (λ (t : Target). column X F t.place) (λ i. record
+      { place = i; clock = flat_clock Y p (declared_clock n x) }) _)
 
   -- ## The inputs of one instance
 
@@ -136,18 +133,16 @@ module _ (Y : Layout) (X : Inputs) (H : History) (F : List Stream) (agrees : Agr
   inputs_natural p call m Red outs [] i = refl
   inputs_natural p call m Fill outs [] i = refl
   inputs_natural p call m Red outs (init ∷ iss) i =
-      ap₂ (λ x xs. x ∷ xs) (accumulated_natural p call outs init i) (parts_natural X F m i iss)
-  inputs_natural p call m Fill outs (init ∷ iss) i =
-      ap (λ x. x ∷ []) (accumulated_natural p call outs init i)
+      cc (accumulated_natural p call outs init i, parts_natural X F m i iss)
+  inputs_natural p call m Fill outs (init ∷ iss) i = cc (accumulated_natural p call outs init i)
 
   gathered_flat :
       (p : Path) (call n : ℕ) (outs : List Declaration) →
       columns X F (gathered (λ i x. Y.places (Child p call i) x) n outs)
       ≡ gathered (λ i x. H.columns (Child p call i) x) n outs
   gathered_flat p call n outs =
-      sym (map-pieces (column X F) _ _ (λ o.
-      map-pieces (column X F) _ _ (λ i. agrees.columns (Child p call i) o.name)
-      (range_with_len 0 n)) outs)
+      sym (map-pieces (column X F) _ _ (λ o. map-pieces (column X F) _ _
+      (λ i. agrees.columns (Child p call i) o.name) _) outs)
 
   last_flat :
       (p : Path) (call n : ℕ) (outs : List Declaration) →
@@ -177,8 +172,7 @@ module _ (Y : Layout) (X : Inputs) (H : History) (F : List Stream) (agrees : Agr
         AllMet X F (call_copies Y (Child here.path n 0) callee iss) →
         IsCallJoined P H here k n es callee
     call_sound None iss e w h = tt
-    call_sound (Some callee) iss e w h =
-        callee_sound here (base_clock k callee) (Child here.path n 0) callee iss _ e w h
+    call_sound (Some callee) iss e w h = callee_sound here _ _ _ iss _ e w h
 
     pub call_holds :
         (callee : Option Node) (iss : List (List ℕ)) →
@@ -214,10 +208,7 @@ module _ (Y : Layout) (X : Inputs) (H : History) (F : List Stream) (agrees : Agr
           (callee : Node) (iss : List (List ℕ)) →
           map (columns X F) iss ≡ all_streams P H here k (n + 1) es → (i : ℕ) →
           map (columns X F) (placed_inputs callee iss i) ≡ given_inputs callee i
-      same_inputs callee iss e i =
-          inputs_natural here.path n m it callee.outputs iss i
-          ∙ ap (λ xsss. iterator_inputs (λ i x. H.columns (Child here.path n i) x) m it
-          callee.outputs xsss i) e
+      same_inputs callee iss e i = cc (inputs_natural here.path n m it callee.outputs iss i)
 
       pub iterator_sound :
           (callee : Option Node) (iss : List (List ℕ)) →

@@ -72,8 +72,7 @@ module _ (Y : Layout) (P : Program) (X : Inputs) (H : History) (F : List Stream)
       ++ operands os'
   operands_first None os os' e = e
   operands_first (Some p) os os' e =
-      ap (λ xs. streams_at P H here p ++ xs) e
-      ∙ append_assoc (streams_at P H here p) (operands os) (operands os')
+      cc (append_assoc (streams_at P H here p) (operands os) (operands os'))
 
   pub operands-append :
       (os os' : List Occurrence) → operands (os ++ os') ≡ operands os ++ operands os'
@@ -200,8 +199,7 @@ module _ (Y : Layout) (P : Program) (X : Inputs) (H : History) (F : List Stream)
       let m = n + call_count a in
       let x = emit Y P here k n s a in
       let first = emit_step Any Earlier earlier Y (any_joined Y) P here k m x.state b h in
-      keeps_two s x.state _ (parts k n a) (parts k m b) (left (fore _ (parts k m b) w) first)
-      (right (aft (parts k n a) _ w) h)
+      keeps_two s _ _ _ _ (left (fore _ _ w) first) (right (aft _ _ w) h)
 
   mutual
     unfolding emit

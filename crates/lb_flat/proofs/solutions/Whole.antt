@@ -45,9 +45,7 @@ module _ (X : Inputs) (F : List Stream) where
   from_inputs_sound j [] h = refl
   from_inputs_sound j (t ∷ ts) h =
       let e : suc j ≡ j + 1 = sym (add-one j) in
-      ap₂ (λ x xs. x ∷ xs) h.0.0
-      (from_inputs_sound (suc j) ts h.1
-      ∙ ap (λ i. map (column_of X) (range_with_len i (length ts))) e)
+      cc (h.0.0, from_inputs_sound (suc j) ts h.1)
 
   from_inputs_holds :
       (j : ℕ) (ts : List Target) →
@@ -79,8 +77,7 @@ module _ (Y : Layout) (P : Program) (X : Inputs) (H : History) (F : List Stream)
       AllMet X F (given_inputs Y o) → IfSome o (IsGiven P X H)
   inputs_sound None w h = tt
   inputs_sound (Some root) w h =
-      inputs_flat root ∙ from_inputs_sound X F 0 (input_targets Y root) h
-      ∙ ap (λ n. columns_of n X) w
+      cc (inputs_flat root, from_inputs_sound X F 0 (input_targets Y root) h)
 
   inputs_hold :
       (o : Option Instance) →
@@ -88,15 +85,13 @@ module _ (Y : Layout) (P : Program) (X : Inputs) (H : History) (F : List Stream)
       IfSome o (IsGiven P X H) → Every (Holds X F) (given_inputs Y o)
   inputs_hold None w g = tt
   inputs_hold (Some root) w g =
-      from_inputs_holds X F 0 (input_targets Y root)
-      (sym (inputs_flat root) ∙ g ∙ sym (ap (λ n. columns_of n X) w))
+      from_inputs_holds X F 0 _ (sym (inputs_flat root) ∙ g ∙ sym (ap (λ n. columns_of n X) w))
 
   places_flat :
       (ds : List Declaration) →
       map (columns X F) (map (λ d. Y.places Root d.name) ds) ≡ columns_at H Root ds
   places_flat [] = refl
-  places_flat (d ∷ ds) =
-      ap₂ (λ x xs. x ∷ xs) (sym (agrees.columns Root d.name)) (places_flat ds)
+  places_flat (d ∷ ds) = cc (agrees.columns Root d.name, places_flat ds)
 
   abbrev AreObserved : Option Instance → Option Instance → Type 0
   AreObserved root observer =
@@ -138,9 +133,7 @@ module _ (count : ℕ) (Y : Layout) (laid : IsLaidOut count Y) (P : Program) (X 
   seen = observed Y (instance_at P Root) (instance_at P Observer)
 
   closed : Closed count s
-  closed =
-      all_closed count Y P laid (before_instances count) (instances P)
-      (record { fresh = tt; next = omega arith })
+  closed = all_closed count Y P laid _ _ (record { fresh = tt; next = omega arith })
 
   -- streams that solve tie the history that they stand for
   pub from_flat :

@@ -177,15 +177,13 @@ module _ (P : Program) (here : Instance) where
   own_weight : (e : Expr) (ts : List DataType) (es : List Expr) → data_types P here e ≡ Some ts →
       weight (e ∷ es) ≡ elements_in ts + weight es
   own_weight e ts es is =
-      let size : expression_size P here e ≡ elements_in ts =
-      ap (λ o. total (either_or o [])) is ∙ total_is ts in
-      sum_by-cons (expression_size P here) e es ∙ ap (λ n. n + weight es) size
+      let size : expression_size P here e ≡ elements_in ts = cc (total_is ts) in
+      cc (sum_by-cons (expression_size P here) e es)
 
   two_weights : (e : Expr) (ts : List DataType) (a b : List Expr) → data_types P here e ≡ Some ts →
       weight (e ∷ (a ++ b)) ≡ elements_in ts + (weight a + weight b)
   two_weights e ts a b is =
-      own_weight e ts (a ++ b) is
-      ∙ ap (λ n. elements_in ts + n) (sum_by-append (expression_size P here) a b)
+      cc (own_weight e ts (a ++ b) is, sum_by-append (expression_size P here) a b)
 
   module _ (Y : Layout) (W : Occurrence → Type 0)
       (counted : (k : Clock) (n : ℕ) (s : State) (e : Expr) (ts : List DataType) →
@@ -228,10 +226,9 @@ module _ (P : Program) (here : Instance) where
         IsFew s.next (emit_name Y P here k s x d).state.next (elements_in ts)
         (weight (Variable x ∷ []))
     name_few k s x ts typed (Some d) is =
-        after_calls s.next s.next 0 (elements_in ts) (weight (Variable x ∷ [])) (omega arith)
-        (own_weight (Variable x) ts [] typed)
+        after_calls _ _ 0 _ _ (omega arith) (own_weight (Variable x) ts [] typed)
     name_few k s x ts typed None is =
-        constant_few (flat_clock Y here.path k) s _ (Variable x) ts typed
+        constant_few _ s _ (Variable x) ts typed
         (ap elements_in (constant (name_value P here x) ts is).all)
 
     -- few new elements are taken, where one is added for each element of the one operand
@@ -246,9 +243,7 @@ module _ (P : Program) (here : Instance) where
         let x = emit Y P here own n s a in
         let many : length (map f x.found) ≡ elements_in us =
         length-map x.found f ∙ counted own n s a us is_us w in
-        after_one s.next x.state.next (elements_in us) (weight (parts a)) (elements_in ts)
-        (length (map f x.found)) (add c x.state (map f x.found)).state.next (weight (e ∷ parts a)) h
-        (next_of_add c x.state (map f x.found)) (omega (arith, many))
+        after_one _ _ _ _ _ _ _ _ h (next_of_add c _ _) (omega (arith, many))
         (own_weight e ts (parts a) is_ts)
 
     one_kept :
@@ -263,22 +258,17 @@ module _ (P : Program) (here : Instance) where
         let x = emit Y P here own n s a in
         let os = map f (keep x).found in
         let many : length os ≡ elements_in us =
-        length-map (keep x).found f ∙ keep_count x ∙ counted own n s a us is_us w in
+        length-map (keep x).found f ∙ keep_count _ ∙ counted own n s a us is_us w in
         let next : (add c (keep x).state os).state.next ≡ x.state.next + length os =
-        next_of_add c (keep x).state os ∙ ap (λ m. m + length os) (next_of_keep x) in
-        after_one s.next x.state.next (elements_in us) (weight (parts a)) (elements_in ts)
-        (length os) (add c (keep x).state os).state.next (weight (e ∷ parts a)) h next
-        (omega (arith, many)) (own_weight e ts (parts a) is_ts)
+        cc (next_of_add c (keep x).state os, next_of_keep x) in
+        after_one _ _ _ _ _ _ _ _ h next (omega (arith, many)) (own_weight e ts (parts a) is_ts)
 
     none_added :
         (k : Clock) (n : ℕ) (s : State) (a e : Expr) (us ts : List DataType) →
         data_types P here e ≡ Some ts → FewAt k n s a us →
         IsFew s.next (emit Y P here k n s a).state.next (elements_in ts) (weight (e ∷ parts a))
     none_added k n s a e us ts is_ts h =
-        let x = emit Y P here k n s a in
-        after_one s.next x.state.next (elements_in us) (weight (parts a)) (elements_in ts) 0
-        x.state.next (weight (e ∷ parts a)) h (omega arith) (omega arith)
-        (own_weight e ts (parts a) is_ts)
+        after_one _ _ _ _ _ 0 _ _ h (omega arith) (omega arith) (own_weight e ts (parts a) is_ts)
 
     -- few new elements are taken, where at most as many are added as the first of two operands has
     two_added :
@@ -292,13 +282,8 @@ module _ (P : Program) (here : Instance) where
         os).state.next
         (elements_in ts) (weight (e ∷ (parts a ++ parts b)))
     two_added k n s a b e us vs ts os c is_us is_ts w g h le =
-        let x = emit Y P here k n s a in
-        let y = emit Y P here k (n + call_count a) x.state b in
         let many = counted k n s a us is_us w in
-        after_two s.next x.state.next y.state.next (elements_in us) (elements_in vs)
-        (weight (parts a)) (weight (parts b)) (elements_in ts) (length os)
-        (add c y.state os).state.next (weight (e ∷ (parts a ++ parts b))) g h
-        (next_of_add c y.state os) (omega (arith, le, many))
+        after_two _ _ _ _ _ _ _ _ _ _ _ g h (next_of_add c _ os) (omega (arith, le, many))
         (two_weights e ts (parts a) (parts b) is_ts)
 
     -- several operands have as many elements as their types
@@ -310,12 +295,10 @@ module _ (P : Program) (here : Instance) where
     all_counted k n s Nil ts e w = ap elements_in (same_Some [] ts e)
     all_counted k n s (Cons a es) ts e w =
         let i = first_of_all P here a es ts e in
-        let oa = parts_at k n a in
-        let ob = occurrences_in P here.node k (n + call_count a) es in
         let x = emit Y P here k n s a in
         let r = emit_all Y P here k (n + call_count a) x.state es in
-        let c = counted k n s a (i.first ∷ []) i.is (fore oa ob w) in
-        let d = all_counted k (n + call_count a) x.state es i.rest i.others (aft oa ob w) in
+        let c = counted k n s a (i.first ∷ []) i.is (fore _ _ w) in
+        let d = all_counted k (n + call_count a) x.state es i.rest i.others (aft _ _ w) in
         let l = length-append x.found (joined r.found) in
         sum_of (length (x.found ++ joined r.found)) (length x.found) (length (joined r.found))
         (element_count i.first) (elements_in i.rest) l c d
@@ -639,8 +622,7 @@ module _ (P : Program) (here : Instance) where
     pub few_here : (s : State) → is_typed P here ≡ true → AllHave (node_occurrences P here.node) →
         (emit_body Y P here 0 s here.node.body).next ≤ s.next + 5 * weight (node_parts here.node)
     few_here s e w =
-        few_body 0 s here.node.body
-        (and_second (list_all (is_clock_typed P here) (variables here.node)) _ e) w
+        few_body 0 s _ (and_second (list_all (is_clock_typed P here) (variables here.node)) _ e) w
 
 -- ## A whole program
 

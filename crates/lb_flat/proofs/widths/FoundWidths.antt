@@ -40,9 +40,7 @@ module _ {A B : Type 0} where
       length (copies n xs) ≡ length (copies n ys)
   length-copied zero xs ys e = refl
   length-copied (suc n) xs ys e =
-      length-append xs (copies n xs)
-      ∙ ap₂ (λ a b. a + b) e (length-copied n xs ys e)
-      ∙ sym (length-append ys (copies n ys))
+      cc (length-append xs (copies n xs), length-copied n xs ys e, length-append ys (copies n ys))
 
   pub length-joins : (xss : List (List A)) (yss : List (List B)) → map length xss ≡ map length yss →
       length (joined xss) ≡ length (joined yss)
@@ -57,10 +55,8 @@ module _ {A B : Type 0} where
   length-parted : (n i : ℕ) (xs : List A) (ys : List B) → length xs ≡ length ys →
       length (part n i xs) ≡ length (part n i ys)
   length-parted n i xs ys e =
-      ap (λ l. length (take (l / n) (drop ((l / n) * i) xs))) e
-      ∙ same_taken (length ys / n) (drop ((length ys / n) * i) xs)
-      (drop ((length ys / n) * i) ys)
-      (same_dropped ((length ys / n) * i) xs ys e)
+      cc (same_taken (length ys / n) (drop ((length ys / n) * i) xs)
+      (drop ((length ys / n) * i) ys) (same_dropped ((length ys / n) * i) xs ys e))
 
   length-parts : (n i : ℕ) (xss : List (List A)) (yss : List (List B)) →
       map length xss ≡ map length yss →
@@ -87,9 +83,8 @@ module _ {A B : Type 0} where
     length-gathered : (n : ℕ) (outs : List Declaration) →
         length (gathered f n outs) ≡ length (gathered g n outs)
     length-gathered n outs =
-        length-pieces _ _ (λ (o : Declaration).
-        length-pieces (λ i. f i o.name) (λ i. g i o.name) (λ i. same i o.name)
-        (range_with_len 0 n)) outs
+        length-pieces _ _ (λ (o : Declaration). length-pieces (λ i. f i o.name) (λ i. g i o.name)
+        (λ i. same i o.name) _) outs
 
     length-last : (n : ℕ) (outs : List Declaration) →
         length (last_of f n outs) ≡ length (last_of g n outs)
@@ -153,19 +148,14 @@ choices_count (z ∷ cs) xs ys (u ∷ us) vs ws c p q =
     length-zip (Choose z) (choice u) xs ys vs ws p q
 
 negated_count : (k : FlatClock) (x : Emitted) → length (negated k x).found ≡ length x.found
-negated_count k x =
-    add_count k x.state (map (ApplyUnary Not) x.found) ∙ length-map x.found (ApplyUnary Not)
+negated_count k x = add_count k _ _ ∙ length-map x.found (ApplyUnary Not)
 
 nor_count : (k : FlatClock) (s : State) (is : List ℕ) → length (emit_nor k s is).found ≡ 1
-nor_count k s is =
-    let t : State = push k s (Constant (Boolean false)) in
-    negated_count k (chained k Or t s.next is) ∙ chained_one k Or t s.next is
+nor_count k s is = negated_count k _ ∙ chained_one k Or _ _ is
 
 at_most_one_count : (k : FlatClock) (s : State) (is : List ℕ) →
     length (emit_at_most_one k s is).found ≡ 1
-at_most_one_count k s is =
-    let t : State = push k s (Constant (Boolean false)) in
-    negated_count k (twice k t s.next s.next is) ∙ twice_one k t s.next s.next is
+at_most_one_count k s is = negated_count k _ ∙ twice_one k _ _ _ is
 
 symbol_count :
     (k : FlatClock) (op : BinaryOperator) (s : State) (it : ArrayIterator)
@@ -174,8 +164,7 @@ symbol_count :
 symbol_count k op s Map [] [] e = refl
 symbol_count k op s Map (x ∷ []) (v ∷ []) e = refl
 symbol_count k op s Map (x ∷ (y ∷ [])) (v ∷ (w ∷ [])) e =
-    add_count k s (zip2 (ApplyBinary op) x y)
-    ∙ length-zip (ApplyBinary op) _ x y v w (heads_same _ _ _ _ e)
+    add_count k s _ ∙ length-zip (ApplyBinary op) _ x y v w (heads_same _ _ _ _ e)
     (heads_same _ _ _ _ (tails_same _ _ _ _ e))
 symbol_count k op s Map (x ∷ (y ∷ (z ∷ xss))) (v ∷ (w ∷ (u ∷ yss))) e = refl
 symbol_count k op s Red [] [] e = refl
@@ -199,16 +188,13 @@ module _ (Y : Layout) (P : Program) (H : History) (here : Instance)
   added_one : (k : Clock) (s : State) (x : Emitted) (f : ℕ → Operation) (g : Stream → Stream)
       (xss : List Stream) → length x.found ≡ length xss →
       length (add (flat_clock Y here.path k) x.state (map f x.found)).found ≡ length (map g xss)
-  added_one k s x f g xss e =
-      add_count (flat_clock Y here.path k) x.state (map f x.found)
-      ∙ length-map x.found f ∙ e ∙ sym (length-map xss g)
+  added_one k s x f g xss e = add_count _ _ _ ∙ length-map x.found f ∙ e ∙ sym (length-map xss g)
 
   added_two : (k : Clock) (t : State) (is js : List ℕ) (f : ℕ → ℕ → Operation)
       (g : Stream → Stream → Stream) (xss yss : List Stream) → length is ≡ length xss →
       length js ≡ length yss →
       length (add (flat_clock Y here.path k) t (zip2 f is js)).found ≡ length (zip2 g xss yss)
-  added_two k t is js f g xss yss p q =
-      add_count (flat_clock Y here.path k) t (zip2 f is js) ∙ length-zip f g is js xss yss p q
+  added_two k t is js f g xss yss p q = add_count _ t _ ∙ length-zip f g is js xss yss p q
 
   name_count : (k : Clock) (s : State) (x : Name) (o : Option Declaration) →
       length (emit_name Y P here k s x o).found
@@ -222,46 +208,33 @@ module _ (Y : Layout) (P : Program) (H : History) (here : Instance)
 
     pub as_many : (k : Clock) (n : ℕ) (s : State) (e : Expr) →
         length (emit Y P here k n s e).found ≡ length (streams P H here k n e)
-    as_many k n s (Literal m) = add_count (flat_clock Y here.path k) s _
-    as_many k n s (Truth b) = add_count (flat_clock Y here.path k) s _
-    as_many k n s (Variable x) = name_count k s x (named (λ d. d.name) x (variables here.node))
+    as_many k n s (Literal m) = add_count _ s _
+    as_many k n s (Truth b) = add_count _ s _
+    as_many k n s (Variable x) = name_count k s _ _
     as_many k n s (Group a) = as_many k n s a
-    as_many k n s (Unary op a) =
-        added_one k s (emit Y P here k n s a) _ _ (streams P H here k n a) (as_many k n s a)
+    as_many k n s (Unary op a) = added_one k s (emit Y P here k n s a) _ _ _ (as_many k n s a)
     as_many k n s (Binary op a b) =
         let x = emit Y P here k n s a in
         let y = emit Y P here k (n + call_count a) x.state b in
-        added_two k y.state x.found y.found _ _ (streams P H here k n a)
-        (streams P H here k (n + call_count a) b) (as_many k n s a)
-        (as_many k (n + call_count a) x.state b)
+        added_two k _ _ _ _ _ _ _ (as_many k n s a) (as_many k (n + call_count a) x.state b)
     as_many k n s (If c a b) =
         let z = emit Y P here k n s c in
         let x = emit Y P here k (n + call_count c) z.state a in
         let y = emit Y P here k (n + call_count c + call_count a) x.state b in
-        add_count (flat_clock Y here.path k) y.state (chosen_by z.found x.found y.found)
-        ∙ choices_count z.found x.found y.found (streams P H here k n c)
-        (streams P H here k (n + call_count c) a)
-        (streams P H here k (n + call_count c + call_count a) b) (as_many k n s c)
+        add_count _ _ _ ∙ choices_count _ _ _ _ _ _ (as_many k n s c)
         (as_many k (n + call_count c) z.state a)
         (as_many k (n + call_count c + call_count a) x.state b)
     as_many k n s (Arrow a b) =
         let x = emit Y P here k n s a in
         let y = emit Y P here k (n + call_count a) x.state b in
-        added_two k y.state x.found y.found _ _ (streams P H here k n a)
-        (streams P H here k (n + call_count a) b) (as_many k n s a)
-        (as_many k (n + call_count a) x.state b)
+        added_two k _ _ _ _ _ _ _ (as_many k n s a) (as_many k (n + call_count a) x.state b)
     as_many k n s (Fby a b) =
         let x = emit Y P here k n s a in
         let y = keep (emit Y P here k (n + call_count a) x.state b) in
-        let z = add (flat_clock Y here.path k) y.state (map _ y.found) in
-        added_two k z.state x.found z.found _ _ (streams P H here k n a)
-        (map _ (streams P H here k (n + call_count a) b)) (as_many k n s a)
-        (added_one k s y _ _ (streams P H here k (n + call_count a) b)
-        (keep_count (emit Y P here k (n + call_count a) x.state b)
-        ∙ as_many k (n + call_count a) x.state b))
+        added_two k _ _ _ _ _ _ _ (as_many k n s a) (added_one k s y _ _ _
+        (keep_count _ ∙ as_many k (n + call_count a) x.state b))
     as_many k n s (Pre a) =
-        added_one k s (keep (emit Y P here k n s a)) _ _ (streams P H here k n a)
-        (keep_count (emit Y P here k n s a) ∙ as_many k n s a)
+        added_one k s (keep (emit Y P here k n s a)) _ _ _ (keep_count _ ∙ as_many k n s a)
     as_many k n s (When a x sign) =
         let own = declared_clock here.node x in
         added_one (On own x sign) s (emit Y P here own n s a) _ _ (streams P H here own n a)
@@ -269,53 +242,38 @@ module _ (Y : Layout) (P : Program) (H : History) (here : Instance)
     as_many k n s (Current a) =
         let own = clock_or (clock_of P here.node a) in
         added_one k s (keep (emit Y P here own n s a)) _ _ (streams P H here own n a)
-        (keep_count (emit Y P here own n s a) ∙ as_many own n s a)
-    as_many k n s (Replicate a m) =
-        length-copied (number P here m) (emit Y P here k n s a).found (streams P H here k n a)
-        (as_many k n s a)
-    as_many k n s (Index a i) =
-        same_taken (part_count P here a) _ _
-        (same_dropped (part_count P here a * number P here i) (emit Y P here k n s a).found
-        (streams P H here k n a) (as_many k n s a))
-    as_many k n s (Slice a i j) =
-        same_taken (part_count P here a * (suc (number P here j) - number P here i)) _ _
-        (same_dropped (part_count P here a * number P here i) (emit Y P here k n s a).found
-        (streams P H here k n a) (as_many k n s a))
+        (keep_count _ ∙ as_many own n s a)
+    as_many k n s (Replicate a m) = length-copied _ _ _ (as_many k n s a)
+    as_many k n s (Index a i) = same_taken _ _ _ (same_dropped _ _ _ (as_many k n s a))
+    as_many k n s (Slice a i j) = same_taken _ _ _ (same_dropped _ _ _ (as_many k n s a))
     as_many k n s (Join a b) =
         let x = emit Y P here k n s a in
         let y = emit Y P here k (n + call_count a) x.state b in
-        length-append x.found y.found
-        ∙ ap₂ (λ p q. p + q) (as_many k n s a) (as_many k (n + call_count a) x.state b)
-        ∙ sym (length-append (streams P H here k n a) (streams P H here k (n + call_count a) b))
-    as_many k n s (Array es) =
-        length-joins (emit_all Y P here k n s es).found (all_streams P H here k n es)
-        (all_as_many k n s es)
-    as_many k n s (AtMostOne es) =
-        at_most_one_count (flat_clock Y here.path k) (emit_all Y P here k n s es).state
-        (joined (emit_all Y P here k n s es).found)
-    as_many k n s (Nor es) =
-        nor_count (flat_clock Y here.path k) (emit_all Y P here k n s es).state
-        (joined (emit_all Y P here k n s es).found)
+        cc (
+          length-append x.found y.found,
+          as_many k n s a,
+          as_many k (n + call_count a) x.state
+              b,
+          length-append (streams P H here k n a) (streams P H here k (n + call_count a) b),
+        )
+    as_many k n s (Array es) = length-joins _ _ (all_as_many k n s es)
+    as_many k n s (AtMostOne es) = at_most_one_count _ _ _
+    as_many k n s (Nor es) = nor_count _ _ _
     as_many k n s (Call f statics es) =
-        joins_count (emit_each Y P here (call_clocks k (node_named P f) es) (n + 1) s es).state _ _
-        ∙ length-pieces (λ (o : Declaration). Y.places (Child here.path n 0) o.name)
-        (λ (o : Declaration). H.columns (Child here.path n 0) o.name)
-        (λ o. same (Child here.path n 0) o.name) (outputs_of P here f)
+        joins_count _ _ _ ∙ length-pieces
+        (λ (o : Declaration). Y.places (Child here.path n 0) o.name) (λ (o : Declaration).
+        H.columns (Child here.path n 0) o.name) (λ o. same (Child here.path n 0) o.name) _
     as_many k n s (Iterate it (Node_named f statics) m es) =
-        joins_count (emit_all Y P here k (n + 1) s es).state _ _
-        ∙ length-iterated (λ i x. Y.places (Child here.path n i) x)
-        (λ i x. H.columns (Child here.path n i) x) (λ i x. same (Child here.path n i) x)
-        (number P here m) it (outputs_of P here f)
+        joins_count _ _ _ ∙ length-iterated (λ i x. Y.places (Child here.path n i) x)
+        (λ i x. H.columns (Child here.path n i) x) (λ i x. same (Child here.path n i) x) _ it _
     as_many k n s (Iterate it (Symbol op) m es) =
-        symbol_count (flat_clock Y here.path k) op (emit_all Y P here k n s es).state it
-        (emit_all Y P here k n s es).found (all_streams P H here k n es) (all_as_many k n s es)
+        symbol_count _ op _ it _ _ (all_as_many k n s es)
 
     pub all_as_many : (k : Clock) (n : ℕ) (s : State) (es : Exprs) →
         map length (emit_all Y P here k n s es).found ≡ map length (all_streams P H here k n es)
     all_as_many k n s Nil = refl
     all_as_many k n s (Cons e es) =
-        ap₂ (λ a b. a ∷ b) (as_many k n s e)
-        (all_as_many k (n + call_count e) (emit Y P here k n s e).state es)
+        cc (as_many k n s e, all_as_many k (n + call_count e) (emit Y P here k n s e).state es)
 
     pub each_as_many : (ks : List Clock) (n : ℕ) (s : State) (es : Exprs) →
         map length (emit_each Y P here ks n s es).found
@@ -323,5 +281,4 @@ module _ (Y : Layout) (P : Program) (H : History) (here : Instance)
     each_as_many ks n s Nil = refl
     each_as_many [] n s (Cons e es) = refl
     each_as_many (k ∷ ks) n s (Cons e es) =
-        ap₂ (λ a b. a ∷ b) (as_many k n s e)
-        (each_as_many ks (n + call_count e) (emit Y P here k n s e).state es)
+        cc (as_many k n s e, each_as_many ks (n + call_count e) (emit Y P here k n s e).state es)

@@ -21,8 +21,7 @@ use Rattle.lb_flat.proofs.widths.TypedBodies.{arguments_wide, inputs_as_wide}
 
 pub lengths_same :
     (ss ts : List DataType) → map element_count ss ≡ map element_count ts → length ss ≡ length ts
-lengths_same ss ts e =
-    sym (length-map ss element_count) ∙ ap length e ∙ length-map ts element_count
+lengths_same ss ts e = cc (length-map ss element_count, length-map ts element_count)
 
 -- the accumulator behind instance `j` is as wide as the type of the first output
 first_output :
@@ -159,31 +158,28 @@ module _ (P : Program) (H : History) (here : Instance)
       let wanted = bound (all_some (map (array_of n) ins)) _ ts e in
       let b = bound (where_true (are_types wanted.value args) outs) _ ts wanted.gives in
       let t = truly (are_types wanted.value args) outs b.value b.is in
-      parts_wide n i lt ins wanted.value xsss wanted.is
-      (h ∙ sym (are_counts wanted.value args t.holds))
+      parts_wide n i lt ins _ xsss wanted.is (h ∙ sym (are_counts _ args t.holds))
   inputs_of_instance c outputs n i lt Red ds (a ∷ ins) (u ∷ []) (t ∷ args) ts (x ∷ xsss) w o e h =
       let wanted = bound (all_some (map (array_of n) ins)) _ ts e in
       let arrays = are_types wanted.value args in
       let fit = truly (is_type a u && (is_type a t && arrays)) (u ∷ []) ts wanted.gives in
       let inner = and_second (is_type a u) (is_type a t && arrays) fit.holds in
       let out = same_count a u (and_first (is_type a u) (is_type a t && arrays) fit.holds) in
-      let initial = same_count a t (and_first (is_type a t) arrays inner) in
-      let counts = are_counts wanted.value args (and_second (is_type a t) arrays inner) in
+      let initial = same_count a _ (and_first (is_type a t) arrays inner) in
+      let counts = are_counts _ args (and_second (is_type a t) arrays inner) in
       let first : length x ≡ element_count t = heads_same _ _ _ _ h in
-      ap₂ (λ l ls. l ∷ ls)
-      (accumulator_wide P c outputs n i lt ds u [] x (first ∙ sym initial ∙ out) w o ∙ sym out)
-      (parts_wide n i lt ins wanted.value xsss wanted.is
-      (tails_same _ _ _ _ h ∙ sym counts))
+      cc (
+        accumulator_wide P c outputs n i lt ds u [] x (first ∙ sym initial ∙ out) w o,
+        parts_wide n i lt ins wanted.value xsss wanted.is (tails_same _ _ _ _ h ∙ sym counts),
+      )
   inputs_of_instance c outputs n i lt Fill ds (a ∷ []) (u ∷ (v ∷ us))
       (t ∷ []) ts (x ∷ xsss) w o e h =
       let arrays = bound (all_some (map (array_of n) (v ∷ us))) _ ts e in
       let fit = truly (is_type a u && is_type a t) (u ∷ arrays.value) ts arrays.gives in
       let out = same_count a u (and_first (is_type a u) (is_type a t) fit.holds) in
-      let initial = same_count a t (and_second (is_type a u) (is_type a t) fit.holds) in
+      let initial = same_count a _ (and_second (is_type a u) (is_type a t) fit.holds) in
       let first : length x ≡ element_count t = heads_same _ _ _ _ h in
-      ap (λ l. l ∷ [])
-      (accumulator_wide P c outputs n i lt ds u (v ∷ us) x (first ∙ sym initial ∙ out) w o
-      ∙ sym out)
+      cc (accumulator_wide P c outputs n i lt ds u (v ∷ us) x (first ∙ sym initial ∙ out) w o)
   inputs_of_instance c outputs n i lt _ ds _ _ _ ts _ w o e h = cc
 
   pub iterator_as_wide :

@@ -77,21 +77,18 @@ module _ (P : Program) where
         (p : Path) (c : Instance) → instance_at P p ≡ Some c →
         Every (λ d. length (H.columns p d.name) ≡ width P c d) (variables c.node)
     wide_there p c is =
-        let own = Every-in (λ here. AreVariablesWide P H here here) c (instances P) wide
+        let own = Every-in (λ here. AreVariablesWide P H here here) c _ wide
         (in_instances P (instantiation_kept P elaborated) p c is) in
-        subst (λ q. Every (λ d. length (H.columns q d.name) ≡ width P c d) (variables c.node))
-        (path_is P p c is) own
+        rw (← (path_is P p c is)) own
 
     observer_fits :
         (root observer : Instance) → instance_at P Root ≡ Some root →
         instance_at P Observer ≡ Some observer → fits_observer P root observer ≡ true
     observer_fits root observer is also =
-        let keeps : is_root P root ≡ true =
-        sym (ap (holds (is_root P)) is) ∙ root_kept P elaborated in
+        let keeps : is_root P root ≡ true = cc (root_kept P elaborated) in
         let later = and_second (has_plain_clocks P root) _ keeps in
         let property = and_second (nat_le (length (signature P)) 1023) _ later in
-        let all : has_property P root (Some observer) ≡ true =
-        sym (ap (has_property P root) also) ∙ property in
+        let all : has_property P root (Some observer) ≡ true = cc in
         and_first (fits_observer P root observer) _ (and_second (has_plain_clocks P observer) _ all)
 
     abbrev IsSeen : Instance → Instance → Type 0
@@ -122,10 +119,8 @@ module _ (P : Program) where
     pub observer_wide :
         IfSome (instance_at P Root) (λ root. IfSome (instance_at P Observer) (IsSeen root))
     observer_wide =
-        if_some (λ root. IfSome (instance_at P Observer) (IsSeen root)) (instance_at P Root)
-        (λ root is.
-        if_some (IsSeen root) (instance_at P Observer) (λ observer also.
-        one_seen root observer is also))
+        if_some (λ root. IfSome (instance_at P Observer) (IsSeen root)) _ (λ root is. if_some
+        (IsSeen root) _ (λ observer also. one_seen root _ is also))
 
 -- ## A whole program
 
@@ -182,18 +177,14 @@ module _ (P : Program) (elaborated : static_refusal P ≡ None)
         IfSome (instance_at P Root) (λ root.
         Every (λ d. length (Y.places Root d.name) ≡ width P root d) root.node.inputs)
     inputs_placed =
-        if_some (λ root.
-        Every (λ d. length (Y.places Root d.name) ≡ width P root d) root.node.inputs)
-        (instance_at P Root)
-        (λ root is.
-        let own = Every-in _ root (instances P) placed
-        (in_instances P (instantiation_kept P elaborated) Root root is) in
+        if_some (λ root. Every (λ d. length (Y.places Root d.name) ≡ width P root d)
+        root.node.inputs) _ (λ root is.
+        let own = Every-in _ root _ placed (in_instances P (instantiation_kept P elaborated) Root
+        root is) in
         Every-first _ root.node.inputs (root.node.outputs ++ root.node.locals)
-        (subst (λ p. Every (λ d. length (Y.places p d.name) ≡ width P root d)
-        (variables root.node)) (path_is P Root root is) own))
+        (rw (← (path_is P Root root is)) own))
 
     -- the program is sound in the history of any streams
     pub program_sound : (X : Inputs) (F : List Stream) → IsProgramSound Y P (history_of Y X F)
     program_sound X F =
-        sound_where_wide (history_of Y X F) (history_wide X F) Y (runs (history_of Y X F))
-        inputs_placed
+        sound_where_wide _ (history_wide X F) Y (runs (history_of Y X F)) inputs_placed

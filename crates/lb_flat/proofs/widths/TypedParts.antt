@@ -51,11 +51,8 @@ module _ (P : Program) (H : History) (here : Instance) where
     typed k n (Binary op a b) ts e w =
         let i = two (data_types P here a) (data_types P here b) (binary_type op) ts e in (
           record { types = ts; are = e; parts = w },
-          join (occurrences P here.node k n a) (occurrences P here.node k (n + call_count a) b)
-              (typed k n a (i.first ∷ []) i.is_first
-              (fore _ (occurrences P here.node k (n + call_count a) b) w.1))
-              (typed k (n + call_count a) b (i.second ∷ []) i.is_second
-              (aft (occurrences P here.node k n a) _ w.1)),
+          join _ _ (typed k n a (i.first ∷ []) i.is_first (fore _ _ w.1)) (typed k
+              (n + call_count a) b (i.second ∷ []) i.is_second (aft _ _ w.1)),
         )
     typed k n (If c a b) ts e w =
         let na = n + call_count c in let nb = na + call_count a in
@@ -63,32 +60,23 @@ module _ (P : Program) (H : History) (here : Instance) where
         let truths = from_true (from_one (data_types P here c) Some) t.value t.is in
         let z = one (data_types P here c) Some truths.data_types truths.is in
         let i = two (data_types P here a) (data_types P here b) common_type ts t.gives in
-        let oc = occurrences P here.node k n c in
-        let oa = occurrences P here.node k na a in
-        let ob = occurrences P here.node k nb b in
-        let branches = aft oc (oa ++ ob) w.1 in (
+        let branches = aft _ _ w.1 in (
           record { types = ts; are = e; parts = w },
-          join oc (oa ++ ob) (typed k n c (z.data_type ∷ []) z.is (fore oc (oa ++ ob) w.1))
-              (join oa ob (typed k na a (i.first ∷ []) i.is_first (fore oa ob branches))
-              (typed k nb b (i.second ∷ []) i.is_second (aft oa ob branches))),
+          join _ _ (typed k n c (z.data_type ∷ []) z.is (fore _ _ w.1)) (join _ _
+              (typed k na a (i.first ∷ []) i.is_first (fore _ _ branches)) (typed k nb b
+              (i.second ∷ []) i.is_second (aft _ _ branches))),
         )
     typed k n (Arrow a b) ts e w =
         let i = two (data_types P here a) (data_types P here b) common_type ts e in (
           record { types = ts; are = e; parts = w },
-          join (occurrences P here.node k n a) (occurrences P here.node k (n + call_count a) b)
-              (typed k n a (i.first ∷ []) i.is_first
-              (fore _ (occurrences P here.node k (n + call_count a) b) w.1))
-              (typed k (n + call_count a) b (i.second ∷ []) i.is_second
-              (aft (occurrences P here.node k n a) _ w.1)),
+          join _ _ (typed k n a (i.first ∷ []) i.is_first (fore _ _ w.1)) (typed k
+              (n + call_count a) b (i.second ∷ []) i.is_second (aft _ _ w.1)),
         )
     typed k n (Fby a b) ts e w =
         let i = two (data_types P here a) (data_types P here b) common_type ts e in (
           record { types = ts; are = e; parts = w },
-          join (occurrences P here.node k n a) (occurrences P here.node k (n + call_count a) b)
-              (typed k n a (i.first ∷ []) i.is_first
-              (fore _ (occurrences P here.node k (n + call_count a) b) w.1))
-              (typed k (n + call_count a) b (i.second ∷ []) i.is_second
-              (aft (occurrences P here.node k n a) _ w.1)),
+          join _ _ (typed k n a (i.first ∷ []) i.is_first (fore _ _ w.1)) (typed k
+              (n + call_count a) b (i.second ∷ []) i.is_second (aft _ _ w.1)),
         )
     typed k n (Pre a) ts e w =
         let i = one (data_types P here a) Some ts e in
@@ -120,11 +108,8 @@ module _ (P : Program) (H : History) (here : Instance) where
     typed k n (Join a b) ts e w =
         let i = two (data_types P here a) (data_types P here b) join_type ts e in (
           record { types = ts; are = e; parts = w },
-          join (occurrences P here.node k n a) (occurrences P here.node k (n + call_count a) b)
-              (typed k n a (i.first ∷ []) i.is_first
-              (fore _ (occurrences P here.node k (n + call_count a) b) w.1))
-              (typed k (n + call_count a) b (i.second ∷ []) i.is_second
-              (aft (occurrences P here.node k n a) _ w.1)),
+          join _ _ (typed k n a (i.first ∷ []) i.is_first (fore _ _ w.1)) (typed k
+              (n + call_count a) b (i.second ∷ []) i.is_second (aft _ _ w.1)),
         )
     typed k n (Array es) ts e w =
         let b = bound (all_types P here es) _ ts e in
@@ -158,10 +143,8 @@ module _ (P : Program) (H : History) (here : Instance) where
     typed_all k n Nil ts h w = tt
     typed_all k n (Cons e es) ts h w =
         let i = first_of_all P here e es ts h in
-        let oa = occurrences P here.node k n e in
-        let ob = occurrences_in P here.node k (n + call_count e) es in
-        join oa ob (typed k n e (i.first ∷ []) i.is (fore oa ob w))
-        (typed_all k (n + call_count e) es i.rest i.others (aft oa ob w))
+        join _ _ (typed k n e (i.first ∷ []) i.is (fore _ _ w)) (typed_all k (n + call_count e) es
+        i.rest i.others (aft _ _ w))
 
     typed_each :
         (ks : List Clock) (n : ℕ) (es : Exprs) (ts : List DataType) →
@@ -171,7 +154,5 @@ module _ (P : Program) (H : History) (here : Instance) where
     typed_each [] n (Cons e es) ts h w = tt
     typed_each (k ∷ ks) n (Cons e es) ts h w =
         let i = first_of_all P here e es ts h in
-        let oa = occurrences P here.node k n e in
-        let ob = occurrences_each P here.node ks (n + call_count e) es in
-        join oa ob (typed k n e (i.first ∷ []) i.is (fore oa ob w))
-        (typed_each ks (n + call_count e) es i.rest i.others (aft oa ob w))
+        join _ _ (typed k n e (i.first ∷ []) i.is (fore _ _ w)) (typed_each ks (n + call_count e)
+        es i.rest i.others (aft _ _ w))

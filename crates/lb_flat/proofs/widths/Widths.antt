@@ -127,9 +127,7 @@ module _ (P : Program) (H : History) (here : Instance) where
   part_is :
       (e : Expr) (t : DataType) (n : ℕ) (ns : List ℕ) → data_types P here e ≡ Some (t ∷ []) →
       t.sizes ≡ n ∷ ns → part_count P here e ≡ product ns
-  part_is e t n ns h sizes =
-      ap (λ (s : DataType). product (tail_of s.sizes)) (type_is e t h)
-      ∙ ap (λ l. product (tail_of l)) sizes
+  part_is e t n ns h sizes = cc (type_is e t h)
 
   just_one : (n : ℕ) (t : DataType) (ts : List DataType) → n ≡ element_count t → ts ≡ t ∷ [] →
       n ≡ elements_in ts
@@ -328,13 +326,11 @@ module _ (P : Program) (H : History) (here : Instance) where
       length (take (part_count P here a) (drop (part_count P here a * number P here s) xs))
       ≡ elements_in ts
   index_wide a s ts c xs is_c i e =
-      let x = indexed c i.data_type i.result i.gives in
-      let q = element_count i.result in
-      let all = e ∙ sizes_product i.data_type (x.count ∷ i.result.sizes) x.sizes in
-      just_one _ i.result ts
-      (ap₂ (λ p j. length (take p (drop (p * j) xs)))
-      (part_is a i.data_type x.count i.result.sizes i.is x.sizes) (number_is s c is_c)
-      ∙ length-index q c x.count xs all x.within) i.all
+      let x = indexed c _ _ i.gives in
+      let all = e ∙ sizes_product i.data_type _ x.sizes in
+      just_one _ _ ts (ap₂ (λ p j. length (take p (drop (p * j) xs)))
+      (part_is a _ _ _ i.is x.sizes) (number_is s c is_c) ∙ length-index _ c _ xs all x.within)
+      i.all
 
   slice_wide :
       (a : Expr) (s t : Static) (ts : List DataType) (c d : ℕ) (xs : List Stream) →
@@ -345,15 +341,12 @@ module _ (P : Program) (H : History) (here : Instance) where
       (drop (part_count P here a * number P here s) xs))
       ≡ elements_in ts
   slice_wide a s t ts c d xs is_c is_d i e =
-      let x = sliced c d i.data_type i.result i.gives in
-      let q = element_count x.element in
-      let all = e ∙ sizes_product i.data_type (x.count ∷ x.element.sizes) x.sizes in
+      let x = sliced c d _ _ i.gives in
+      let all = e ∙ sizes_product i.data_type _ x.sizes in
       let fits : c + (suc d - c) ≤ x.count = omega (arith, x.ordered, x.within) in
-      just_one _ i.result ts
-      (slice_numbers xs _ q _ c _ d (part_is a i.data_type x.count x.element.sizes i.is x.sizes)
-      (number_is s c is_c) (number_is t d is_d)
-      ∙ length-part q c (suc d - c) x.count xs all fits
-      ∙ omega arith ∙ sym x.result) i.all
+      just_one _ _ ts (slice_numbers xs _ _ _ c _ d (part_is a _ _ _ i.is x.sizes)
+      (number_is s c is_c) (number_is t d is_d) ∙ length-part _ c _ _ xs all fits ∙ omega arith
+      ∙ sym x.result) i.all
 
   module _ (variables_wide : AreVariablesWide here) where
     mutual

@@ -11,8 +11,16 @@ use Rattle.lb_static.specs.Elaborated.{program_of}
 use Rattle.lb_static.specs.NamedConstants.{keeps_constants_of, told_constants_of}
 use Rattle.lb_static.specs.NameFaults.{IsNameFault, named_in}
 use Rattle.lb_static.specs.ResolvedNodes.{IsResolved, node_of}
-use Rattle.lb_static.proofs.KeptNames.{fault_constants, names_kept, nodes_named}
+use Rattle.lb_static.proofs.KeptNames.{fault_constants, fault_named, names_kept, nodes_named}
 use Rattle.lb_static.proofs.resolve_names.resolve_reached.Goals as goal
+
+pub returns-in_err-reached : goal.returns-in_err-reached
+returns-in_err-reached c =
+    let p = err_from_is_err_and c.from_residual.result c.from_residual.ensures.1 in
+    let P = program_of c.args.source.now c.args.node.now
+    (option_map (λ o. o.now) c.args.observer) in
+    subst (Reaches keeps_names keeps_names_where P) (sym (p.1 ∙ ap Err p.2))
+    (fault_named P c.in_err-reached.field-0.0 c.in_err-reached.ensures)
 
 pub check_constants-requires-clause-resolved : goal.check_constants-requires-clause-resolved
 check_constants-requires-clause-resolved c =
