@@ -2,8 +2,6 @@ pub mod Streams
 pub mod Inputs
 pub mod Outcomes
 pub mod Feeding
-pub mod PartWords
-pub mod Words
 pub mod Living
 pub mod Deliveries
 pub mod Columns
@@ -12,6 +10,5 @@ pub mod Remarks
 pub mod Showings
 pub mod Reported
 pub mod Concluding
-pub mod Ranges
 pub mod SameWriters
 pub mod OnStreams

@@ -1,5 +1,5 @@
 -- The outcome of a run, from what its parts answer.
-use Rattle.std.proofs.Common.{◌≡◌, ◌≢◌, Option, Result, Ok, Err, inl, inr, subst, sym}
+use Rattle.std.proofs.Common.{◌≡◌, ◌≢◌, List, Option, Result, Ok, Err, inl, inr, subst, sym}
 use Rattle.std.specs.Prelude.{IfErr}
 use Rattle.std.specs.Result.{IsErrAnd}
 use Rattle.clap.specs.Words.{Text}
@@ -7,20 +7,31 @@ use Rattle.lb_report.specs.declared.feed.LoadError.{LoadError}
 use Rattle.lb_report.specs.declared.feed.LoadError.TheVariants as load
 use Rattle.lb_refusal.specs.declared.options.Options.{Options}
 use Rattle.lb_pool.specs.declared.text.Report.{Report}
+use Rattle.lb_words.specs.Words.{IsRefused}
+use Rattle.lb_words.specs.declared.error.WordsError.{WordsError}
+use Rattle.lb_words.specs.declared.error.WordsError.TheVariants as error
+use Rattle.lb_words.specs.declared.request.Task.{Task}
 use Rattle.lb_command.specs.Outcomes.{AreIn, AreTexts, HasRead, IsOutcomeOn, IsUnread, load_number}
-use Rattle.lb_command.specs.Outcomes.{TellsOfInput, source_in, traces_in}
+use Rattle.lb_command.specs.Correct.{IsRefusal}
+use Rattle.lb_command.specs.Outcomes.{IsToldWords, TellsOfInput, source_in, traces_in}
 use Rattle.lb_command.specs.Outcomes.IsRefusedOn.{judged, unread}
 use Rattle.lb_command.specs.Streams.{Input, NeverFailed}
 use Rattle.lb_command.specs.declared.answer.Warned.{Warned}
 use Rattle.lb_command.specs.declared.refusal.Refusal.{Refusal}
 use Rattle.lb_command.specs.declared.refusal.Texts.{Texts}
-use Rattle.lb_command.specs.declared.request.Task.{Task}
 use Rattle.lb_command.proofs.Inputs.{tells_more}
 
 pub load_unread : (cause : LoadError) (refusal : Refusal) → refusal.number ≡ load_number cause
     → IsUnread refusal
 load_unread load.Memory refusal e = inl e
 load_unread load.Read refusal e = inr e
+
+-- the refusal of words that make no request is one of the words
+pub words_refused : (words : List Text) (cause : WordsError) (refusal : Refusal)
+    → IsToldWords cause refusal → IsRefused words cause → IsRefusal words refusal
+words_refused words error.Memory refusal told is = inl told
+words_refused words error.Unlawful refusal told (inl memory) = cc memory
+words_refused words error.Unlawful refusal told (inr (same, unlawful)) = inr (told, unlawful)
 
 -- `IsOutcomeOn Are` gives `IsOutcomeOn Other`, where `Other` follows from `Are`
 pub outcome_on : (Are Other : Text → Text → Type 0) (options : Options)
@@ -64,12 +75,6 @@ pub read_more : {T : Type 0} (HasFile Other : Type 0) (i : Input) (r : Result T 
     → (HasFile → Other) → HasRead HasFile i r → HasRead Other i r
 read_more HasFile Other i (Ok x) f has = has
 read_more HasFile Other i (Err refusal) f has = tells_more HasFile Other i refusal f has
-
--- `P first` gives `IfErr r P`, where `r` is `Err first`, as behind a `?`
-pub passed_on : {T : Type 0} (r : Result T Refusal) (first : Refusal) (P : Refusal → Type 0)
-    → IsErrAnd r (λ refusal. refusal ≡ first) → P first → IfErr r P
-passed_on (Ok x) first P same p = tt
-passed_on (Err e) first P same p = subst P (sym same) p
 
 -- `TellsOfInput` of `first` gives `HasRead` of `r`, where `r` is `Err first`, as behind a `?`
 pub passed_read : {T : Type 0} (HasFile : Type 0) (i : Input) (r : Result T Refusal)

@@ -3,8 +3,8 @@ use Rattle.std.proofs.Common.{◌≡◌, ◌∙◌, ℕ, List, [], ◌++◌, Boo
 use Rattle.std.specs.Prelude.{if◌then◌else◌}
 use Rattle.clap.specs.Words.{Text}
 use Rattle.lb_refusal.specs.declared.options.Options.{Options}
+use Rattle.lb_words.specs.Words.{asks_to_explain}
 use Rattle.lb_command.specs.Warnings.{AreRemarks, AreWarnings}
-use Rattle.lb_command.specs.Words.{asks_to_explain}
 
 -- warnings are remarks, with the reasons behind them or, where memory ran out, without
 pub remarks_are :

@@ -4,6 +4,9 @@ use Rattle.clap.specs.Words.{Text}
 use Rattle.lb_pool.specs.Follows.{IsFollowed}
 use Rattle.lb_pool.specs.declared.follow_error.FollowError.{FollowError}
 use Rattle.lb_values.specs.Sending.{IsSent}
+use Rattle.lb_words.specs.declared.request.Aim.{Aim}
+use Rattle.lb_words.specs.declared.request.Aim.TheVariants as aim
+use Rattle.lb_words.specs.declared.request.Task.{Task}
 use Rattle.lb_command.specs.Correct.{IsRun, IsRunFor, IsWholeRun}
 use Rattle.lb_command.specs.Judging.{IsJudgingRun}
 use Rattle.lb_command.specs.Live.{IsLiveRun}
@@ -14,9 +17,6 @@ use Rattle.lb_command.specs.Streams.{Change, HasSameWriter, Input, TookOrFailed}
 use Rattle.lb_command.specs.Warnings.{IsWarned}
 use Rattle.lb_command.specs.declared.answer.Answer.{Answer}
 use Rattle.lb_command.specs.declared.refusal.Refusal.{Refusal}
-use Rattle.lb_command.specs.declared.request.Aim.{Aim}
-use Rattle.lb_command.specs.declared.request.Aim.TheVariants as aim
-use Rattle.lb_command.specs.declared.request.Task.{Task}
 use Rattle.lb_command.specs.declared.showing.ShowingFault.TheVariants.{Refused}
 
 -- ## One sink

@@ -7,6 +7,7 @@ use Rattle.lb_show.specs.declared.options.ShowOptions.{ShowOptions}
 use Rattle.lb_values.specs.Values.{IsLeft, IsNoTrace, IsValuesAnswer}
 use Rattle.lb_values.specs.declared.values.ValuesFault.{ValuesFault}
 use Rattle.lb_values.specs.declared.values.ValuesFault.TheVariants as values
+use Rattle.lb_words.specs.declared.request.Task.{Task}
 use Rattle.lb_command.specs.Outcomes.{AreTexts, source_in, traces_in}
 use Rattle.lb_command.specs.Showing.{AreAsked, AreUnshown, IsFaultTold, IsShowing, IsShowingOn}
 use Rattle.lb_command.specs.Showing.{IsUnshown}
@@ -14,7 +15,6 @@ use Rattle.lb_command.specs.Showing.IsUnshown.{judged, memory, no_trace, no_vari
 use Rattle.lb_command.specs.Streams.{Change, Input, IsUntouched, NeverFailed}
 use Rattle.lb_command.specs.declared.refusal.Refusal.{Refusal}
 use Rattle.lb_command.specs.declared.refusal.Texts.{Texts}
-use Rattle.lb_command.specs.declared.request.Task.{Task}
 use Rattle.lb_command.specs.declared.showing.ShowingFault.{ShowingFault}
 use Rattle.lb_command.specs.declared.showing.ShowingFault.TheVariants.{Refused, Stopped}
 use Rattle.lb_command.proofs.Inputs.{is_not_read}

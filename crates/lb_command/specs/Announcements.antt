@@ -2,14 +2,14 @@
 -- Source: this project's rule.
 use Rattle.std.specs.Prelude.{◌&&◌, Bool, true, false, not, is_some, List, codes}
 use Rattle.clap.specs.Words.{Text}
+use Rattle.lb_words.specs.Words.{IsRequest}
+use Rattle.lb_words.specs.declared.request.Aim.{Aim}
+use Rattle.lb_words.specs.declared.request.Aim.TheVariants.{Report, LiveReport, OneTrace, Check}
+use Rattle.lb_words.specs.declared.request.Aim.TheVariants.{Header, Merge}
+use Rattle.lb_words.specs.declared.request.Request.{Request}
+use Rattle.lb_words.specs.declared.request.Request.TheVariants.{Help, Version, Run}
+use Rattle.lb_words.specs.declared.request.Task.{Task}
 use Rattle.lb_command.specs.Streams.{Change, IsUntouched, TookOrFailed}
-use Rattle.lb_command.specs.Words.{IsRequest}
-use Rattle.lb_command.specs.declared.request.Aim.{Aim}
-use Rattle.lb_command.specs.declared.request.Aim.TheVariants.{Report, LiveReport, OneTrace, Check}
-use Rattle.lb_command.specs.declared.request.Aim.TheVariants.{Header, Merge}
-use Rattle.lb_command.specs.declared.request.Request.{Request}
-use Rattle.lb_command.specs.declared.request.Request.TheVariants.{Help, Version, Run}
-use Rattle.lb_command.specs.declared.request.Task.{Task}
 
 -- the text of the note
 abbrev pub note : Text

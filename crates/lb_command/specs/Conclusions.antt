@@ -1,6 +1,6 @@
 -- The output of a run for its report, by the terms of the run.
 -- Source: this project's rule.
-use Rattle.std.specs.Prelude.{◌≡◌, ◌⊎◌, ℕ, List, [], Option, Some, None, IsSome, true}
+use Rattle.std.specs.Prelude.{◌≡◌, ◌⊎◌, ℕ, List, [], Option, Some, None, IsSome, true, if◌then◌else◌}
 use Rattle.std.specs.Borrow.{Bor}
 use Rattle.std.specs.Option.{MatchOption}
 use Rattle.clap.specs.Words.{Text}
@@ -12,12 +12,17 @@ use Rattle.lb_listing.specs.Listings as listing
 use Rattle.lb_listing.specs.Verdicts as verdicts
 use Rattle.lb_listing.specs.declared.listing.Listing.{Listing}
 use Rattle.lb_listing.specs.declared.status.Measure.{Measure}
+use Rattle.lb_listing.specs.declared.status.Measure.TheVariants.{Lenient, Strict}
+use Rattle.lb_words.specs.Terms.{are_usual}
+use Rattle.lb_words.specs.declared.terms.Format.{Format}
+use Rattle.lb_words.specs.declared.terms.Format.TheVariants.{Lines, Junit}
+use Rattle.lb_words.specs.declared.terms.Terms.{Terms}
 use Rattle.lb_command.specs.Lines.{start_of}
-use Rattle.lb_command.specs.Terms.{are_usual}
 use Rattle.lb_command.specs.declared.refusal.Refusal.{Refusal}
-use Rattle.lb_command.specs.declared.terms.Format.{Format}
-use Rattle.lb_command.specs.declared.terms.Format.TheVariants.{Lines, Junit}
-use Rattle.lb_command.specs.declared.terms.Terms.{Terms}
+
+-- the measure of a run
+abbrev pub measure_of : Terms → Measure
+measure_of terms = if terms.is_strict then Strict else Lenient
 
 -- the text of a report in a format, by its traces; a JUnit suite has the name `node` of the node
 -- under test, and the remarks
@@ -49,8 +54,8 @@ pub record IsComparedToFile (measure : Measure) (traces : List listing.Line) (st
 abbrev pub HasStatus : Terms → (traces : List listing.Line) → (status : ℕ) → (notes : Text)
     → Type 0
 HasStatus terms traces status notes =
-    MatchOption terms.baseline (IsMeasured terms.measure traces status notes)
-    (λ path. IsComparedToFile terms.measure traces status notes)
+    MatchOption terms.baseline (IsMeasured (measure_of terms) traces status notes)
+    (λ path. IsComparedToFile (measure_of terms) traces status notes)
 
 -- the output `shown` and the notes for a report that lists `traces`
 pub record IsTold (terms : Terms) (node remarks : Text) (traces : List listing.Line)

@@ -3,6 +3,10 @@
 use Rattle.std.specs.Prelude.{◌≡◌, ◌⊎◌, ◌++◌, ℕ, List, [], Option, Result, Ok, Err, string_bytes}
 use Rattle.lb_pool.specs.declared.text.Report.{Report}
 use Rattle.clap.specs.Words.{Text}
+use Rattle.lb_words.specs.Words.{AsksForHelp, AsksForVersion, IsAsked, IsUnlawful}
+use Rattle.lb_words.specs.declared.request.Aim.{Aim}
+use Rattle.lb_words.specs.declared.request.Aim.TheVariants as aim
+use Rattle.lb_words.specs.declared.request.Task.{Task}
 use Rattle.lb_command.specs.Conclusions.{IsBaselineRefused, IsConcluded}
 use Rattle.lb_command.specs.Judging.{IsJudgingRun}
 use Rattle.lb_command.specs.Lines.{line}
@@ -13,14 +17,10 @@ use Rattle.lb_command.specs.Outcomes.{IsTold, IsUsage, TellsOfInput, refusal_sta
 use Rattle.lb_command.specs.Showing.{IsShowingRun}
 use Rattle.lb_command.specs.Streams.{Change, Input, IsUnread, IsUntouched, NeverFailed}
 use Rattle.lb_command.specs.Warnings.{AreRemarks}
-use Rattle.lb_command.specs.Words.{AsksForHelp, AsksForVersion, IsAsked, IsUnlawful}
 use Rattle.lb_command.specs.declared.answer.Answer.{Answer}
 use Rattle.lb_command.specs.declared.answer.Answer.TheVariants.{OfTraces, OfSource, Help, Version}
 use Rattle.lb_command.specs.declared.answer.Warned.{Warned}
 use Rattle.lb_command.specs.declared.refusal.Refusal.{Refusal}
-use Rattle.lb_command.specs.declared.request.Aim.{Aim}
-use Rattle.lb_command.specs.declared.request.Aim.TheVariants as aim
-use Rattle.lb_command.specs.declared.request.Task.{Task}
 
 -- the output for the report on the texts of a task, and what is said beside it: first the notes
 -- that the terms ask for, then the remarks

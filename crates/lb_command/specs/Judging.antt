@@ -8,6 +8,9 @@ use Rattle.lb_static.specs.Signature.{Elements, names_of}
 use Rattle.lb_report.specs.Judging.{IsAcceptedSource, IsRefusedSource}
 use Rattle.lb_refusal.specs.declared.error.BenchError.{BenchError}
 use Rattle.clap.specs.Words.{Text}
+use Rattle.lb_words.specs.declared.request.Aim.{Aim}
+use Rattle.lb_words.specs.declared.request.Aim.TheVariants.{Header}
+use Rattle.lb_words.specs.declared.request.Task.{Task}
 use Rattle.lb_command.specs.Lines.{line}
 use Rattle.lb_command.specs.Outcomes.{HasPath, IsDelivered, IsSource, IsTold, IsToldBy, IsUnread}
 use Rattle.lb_command.specs.Outcomes.{TellsOfInput, refusal_status}
@@ -17,9 +20,6 @@ use Rattle.lb_command.specs.declared.answer.Answer.{Answer}
 use Rattle.lb_command.specs.declared.answer.Answer.TheVariants.{OfSource}
 use Rattle.lb_command.specs.declared.answer.Warned.{Warned}
 use Rattle.lb_command.specs.declared.refusal.Refusal.{Refusal}
-use Rattle.lb_command.specs.declared.request.Aim.{Aim}
-use Rattle.lb_command.specs.declared.request.Aim.TheVariants.{Header}
-use Rattle.lb_command.specs.declared.request.Task.{Task}
 
 -- the header of traces with these columns, as `trace,open,level`, and a newline
 abbrev pub header : (names : List Text) → Text

@@ -1,7 +1,3 @@
-pub mod WordValues
-pub mod ValuesWords
-pub mod Terms
-pub mod Words
 pub mod Lines
 pub mod Streams
 pub mod Warnings

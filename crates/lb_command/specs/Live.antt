@@ -8,6 +8,7 @@ use Rattle.lb_refusal.specs.declared.options.Options.{Options}
 use Rattle.lb_pool.specs.declared.follow_error.FollowError.{FollowError}
 use Rattle.lb_pool.specs.declared.follow_error.FollowError.TheVariants.{Memory, Write}
 use Rattle.clap.specs.Words.{Text}
+use Rattle.lb_words.specs.declared.request.Task.{Task}
 use Rattle.lb_command.specs.Outcomes.{AreTexts, HasPath, IsRefusedOn, IsToldBy, TellsOfInput}
 use Rattle.lb_command.specs.Outcomes.{IsTold, refusal_status}
 use Rattle.lb_command.specs.Lines.{line}
@@ -16,7 +17,6 @@ use Rattle.lb_command.specs.Warnings.{AreWarnings, IsWarned}
 use Rattle.lb_command.specs.declared.live.LiveFault.{LiveFault}
 use Rattle.lb_command.specs.declared.live.LiveFault.TheVariants.{Refused, Stopped}
 use Rattle.lb_command.specs.declared.refusal.Refusal.{Refusal}
-use Rattle.lb_command.specs.declared.request.Task.{Task}
 
 -- the number of the refusal for what stopped a live report
 abbrev pub stop_number : FollowError → ℕ

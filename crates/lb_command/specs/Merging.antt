@@ -5,6 +5,7 @@ use Rattle.clap.specs.Words.{Text}
 use Rattle.lb_pool.specs.declared.text.Report.{Report}
 use Rattle.lb_listing.specs.Listings.{IsFault, Line, Lists}
 use Rattle.lb_listing.specs.Merged.{HaveTwice, IsMerged}
+use Rattle.lb_words.specs.declared.request.Task.{Task}
 use Rattle.lb_command.specs.Conclusions.{IsBaselineRefused, IsTold}
 use Rattle.lb_command.specs.Lines.{line, start_of}
 use Rattle.lb_command.specs.Outcomes.{IsDelivered, IsUnread, refusal_status}
@@ -12,7 +13,6 @@ use Rattle.lb_command.specs.Outcomes as outcomes
 use Rattle.lb_command.specs.Streams.{Change, IsUntouched}
 use Rattle.lb_command.specs.declared.answer.Answer.TheVariants.{OfTraces}
 use Rattle.lb_command.specs.declared.refusal.Refusal.{Refusal}
-use Rattle.lb_command.specs.declared.request.Task.{Task}
 
 -- one of the texts is no report: E20, at the first line that shows it
 pub record IsNoReport (texts : List Text) (refusal : Refusal) : Type 0 where

@@ -17,11 +17,14 @@ use Rattle.lb_refusal.specs.declared.options.Options.{Options}
 use Rattle.lb_pool.specs.Taken.{Takes}
 use Rattle.lb_pool.specs.declared.text.Report.{Report}
 use Rattle.clap.specs.Words.{Text}
+use Rattle.lb_words.specs.Words.{asks_to_explain}
+use Rattle.lb_words.specs.declared.error.WordsError.{WordsError}
+use Rattle.lb_words.specs.declared.error.WordsError.TheVariants as error
+use Rattle.lb_words.specs.declared.request.Task.{Task}
 use Rattle.lb_command.specs.Lines.{line}
 use Rattle.lb_command.specs.Streams.{Change, HasFailed, Input, IsUnreadable}
 use Rattle.lb_command.specs.Streams.{NeverFailed, Took, TookOrFailed}
 use Rattle.lb_command.specs.Warnings.{IsWarned}
-use Rattle.lb_command.specs.Words.{asks_to_explain}
 use Rattle.lb_command.specs.declared.answer.Answer.{Answer}
 use Rattle.lb_command.specs.declared.answer.Answer.TheVariants.{OfTraces, OfSource, Help, Version}
 use Rattle.lb_command.specs.declared.answer.Warned.{Warned}
@@ -30,7 +33,6 @@ use Rattle.lb_command.specs.declared.loading.Loaded.TheVariants as loaded
 use Rattle.lb_command.specs.declared.refusal.Refusal.{Refusal}
 use Rattle.lb_command.specs.declared.refusal.Texts.{Texts}
 use Rattle.lb_command.specs.declared.refusal.Texts.TheVariants as texts
-use Rattle.lb_command.specs.declared.request.Task.{Task}
 
 -- ## The texts
 
@@ -100,6 +102,11 @@ IsUnread refusal = (refusal.number ≡ 0) ⊎ (refusal.number ≡ 21)
 -- E20, and no place
 abbrev pub IsUsage : Refusal → Type 0
 IsUsage refusal = (refusal.number ≡ 20) × (refusal.position ≡ None)
+
+-- the refusal of words that make no request: E0, or E20 without a place
+abbrev pub IsToldWords : WordsError → Refusal → Type 0
+IsToldWords error.Memory refusal = refusal.number ≡ 0
+IsToldWords error.Unlawful refusal = IsUsage refusal
 
 -- a refusal has the number and the place of an error of the bench
 pub record IsToldBy (e : BenchError) (refusal : Refusal) : Type 0 where

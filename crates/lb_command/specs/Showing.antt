@@ -12,6 +12,8 @@ use Rattle.lb_values.specs.Values.{AreSent, IsNoTrace}
 use Rattle.lb_values.specs.declared.values.ValuesFault.{ValuesFault}
 use Rattle.lb_values.specs.declared.values.ValuesFault.TheVariants as values
 use Rattle.clap.specs.Words.{Text}
+use Rattle.lb_words.specs.declared.request.Task.{Task}
+use Rattle.lb_words.specs.declared.values_request.Values.{Values}
 use Rattle.lb_command.specs.Lines.{line}
 use Rattle.lb_command.specs.Live.{stop_number}
 use Rattle.lb_command.specs.Outcomes.{AreTexts, HasPath, IsToldBy, IsUnread, TellsOfInput}
@@ -19,10 +21,8 @@ use Rattle.lb_command.specs.Outcomes.{IsTold, IsUsage, refusal_status}
 use Rattle.lb_command.specs.Streams.{Change, Input, IsUntouched, NeverFailed}
 use Rattle.lb_command.specs.Warnings.{AreWarnings, IsWarned}
 use Rattle.lb_command.specs.declared.refusal.Refusal.{Refusal}
-use Rattle.lb_command.specs.declared.request.Task.{Task}
 use Rattle.lb_command.specs.declared.showing.ShowingFault.{ShowingFault}
 use Rattle.lb_command.specs.declared.showing.ShowingFault.TheVariants.{Refused, Stopped}
-use Rattle.lb_command.specs.declared.values_request.Values.{Values}
 
 -- the number of last instants that are shown; `None`, for 0, leaves none out
 abbrev pub last_of : ℕ → Option ℕ

@@ -3,8 +3,8 @@
 use Rattle.std.specs.Prelude.{◌≡◌, ℕ, List, [], ◌∷◌, ◌++◌, None, false}
 use Rattle.clap.specs.Words.{Text}
 use Rattle.lb_refusal.specs.declared.options.Options.{Options}
+use Rattle.lb_words.specs.Words.{asks_to_explain}
 use Rattle.lb_command.specs.Streams.{Change, IsUntouched, TookOrFailed}
-use Rattle.lb_command.specs.Words.{asks_to_explain}
 
 -- there is a warning only where the words ask for explanations, and only of an observer
 pub record AreWarnings (words : List Text) (options : Options) (warnings : List ℕ)

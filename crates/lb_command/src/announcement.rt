@@ -7,8 +7,8 @@ ghost use Rattle.lb_command.specs.Streams.{IsUntouched, change};
 
 use crate::delivery::warn;
 use crate::refusal::Refusal;
-use crate::request::{Aim, Request, Task, read_words};
 use lb_report::Sink;
+use lb_words::{Aim, Request, Task, read_words};
 use std::alloc::Global;
 
 /// The note where traces are awaited.
@@ -61,6 +61,6 @@ pub fn announce<E: Sink>(alloc: Global, words: &[String], errors: &mut E) -> Res
                 Ok(())
             }
         },
-        Err(refusal) => Err(refusal),
+        Err(cause) => Err(Refusal::from(cause)),
     }
 }

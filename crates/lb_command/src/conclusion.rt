@@ -11,9 +11,9 @@ ghost use Rattle.lb_listing.specs.Listings as listing;
 use crate::answer::Warned;
 use crate::loading::load_file;
 use crate::refusal::Refusal;
-use crate::terms::{Format, Terms};
-use lb_listing::{Listing, ListingError, compare, junit, read_listing, status_by};
+use lb_listing::{Listing, ListingError, Measure, compare, junit, read_listing, status_by};
 use lb_report::Report;
+use lb_words::{Format, Terms};
 use std::alloc::{AllocError, Global};
 use std::fs::Files;
 
@@ -81,6 +81,17 @@ pub fn read_baseline<'t>(
     }
 }
 
+/// The measure of a run.
+fn measure_of(terms: &Terms<'_>) -> Measure
+    ensures { result ≡ spec.measure_of terms.now }
+{
+    if terms.is_strict {
+        Measure::Strict
+    } else {
+        Measure::Lenient
+    }
+}
+
 /// The status of a run with the traces `now`, and the notes beside its report.
 fn measure(
     alloc: Global,
@@ -93,13 +104,14 @@ fn measure(
     ensures { IfOk result (λ found.
         spec.HasStatus terms.now (indexed.listed now.now) found.status found.notes.items) }
 {
+    let by = measure_of(terms);
     match baseline {
         None => Ok(Measured {
-            status: status_by(terms.measure, now.entries.as_slice()),
+            status: status_by(by, now.entries.as_slice()),
             notes: Vec::new(alloc),
         }),
         Some(before) => {
-            let found = compare(alloc, terms.measure, before, now)?;
+            let found = compare(alloc, by, before, now)?;
             Ok(Measured {
                 status: found.status,
                 notes: found.text,

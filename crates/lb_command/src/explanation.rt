@@ -1,43 +1,25 @@
 //! Explanations beside a report or the line of a refusal, where the words ask for them.
 
 ghost use Rattle.std.specs.Prelude.{◌≡◌, ◌<◌, [], false, map, string_bytes};
+ghost use Rattle.lb_words.specs.Words.{asks_to_explain};
 ghost use Rattle.lb_command.specs.Outcomes.{IsTold, refusal_status};
 ghost use Rattle.lb_command.specs.Lines as spec;
 ghost use Rattle.lb_command.specs.Streams.{change};
 ghost use Rattle.lb_command.specs.Warnings.{AreRemarks, AreWarnings};
-ghost use Rattle.lb_command.specs.Words.{asks_to_explain};
 
 use crate::causes::{
-    explain_input, explain_name, explain_no_report, explain_output, explain_twice, explain_words,
+    explain_input, explain_name, explain_no_report, explain_output, explain_twice,
 };
 use crate::line::send_lines;
 use crate::refusal::{Cause, Refusal, Texts};
-use crate::request::Task;
 use lb_explain::{Text, explain, wiring_warnings};
 use lb_report::{BenchError, Report, Sink, split_case};
 use lb_values::explain_report;
+use lb_words::{Task, asks_for_all, asks_to_explain, explain_words};
 use std::alloc::{AllocError, Global};
-
-/// The option that asks for explanations, and the one that asks for those of all traces.
-const ASKED: &str = "--explain";
-
-const ASKED_ALL: &str = "--explain-all";
 
 /// The most traces that are explained, of those that did not pass, unless all are asked for.
 const MOST_TRACES: usize = 20;
-
-/// Whether one of the words asks for explanations.
-pub fn asks_to_explain(mut words: &[String]) -> bool
-    ensures { result ≡ asks_to_explain (map string_bytes words.entry.now) }
-{
-    while let [word, rest @ ..] = words {
-        if word.as_str() == ASKED || word.as_str() == ASKED_ALL {
-            return true;
-        }
-        words = rest;
-    }
-    false
-}
 
 /// A text with the path that it came from as its name, or `-` where it came from standard input.
 fn text_at<'a>(path: Option<&'a str>, bytes: &'a [u8], lines_before: u64) -> Text<'a> {
@@ -135,16 +117,6 @@ pub fn warnings_of(alloc: Global, words: &[String], task: &Task<'_>, source: &[u
         Ok(lines) => lines,
         Err(_) => Vec::new(alloc),
     }
-}
-
-/// Whether one of the words asks for the explanations of all traces.
-fn asks_for_all(words: &[String]) -> bool {
-    for word in words {
-        if word.as_str() == ASKED_ALL {
-            return true;
-        }
-    }
-    false
 }
 
 /// The reasons why traces of a report on some texts do not pass. There are none where the words ask

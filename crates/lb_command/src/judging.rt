@@ -12,9 +12,9 @@ use crate::delivery::deliver;
 use crate::explanation::{tell, warnings_of};
 use crate::loading::load_source;
 use crate::refusal::{Refusal, Texts};
-use crate::request::{Aim, Task};
 use lb_report::{Feed, Sink, judge};
 use lb_static::Signature;
+use lb_words::{Aim, Task};
 use std::alloc::{AllocError, Global};
 use std::fs::Files;
 

@@ -4,7 +4,6 @@
 mod announcement;
 mod answer;
 mod causes;
-mod colour;
 mod conclusion;
 mod delivery;
 mod explanation;
@@ -13,18 +12,14 @@ mod line;
 mod live;
 mod loading;
 mod merging;
-mod modes;
 mod refusal;
-mod request;
 mod run;
 mod showing;
 mod std_streams;
-mod terms;
-mod values_request;
 mod version;
 
 pub use announcement::announce;
-pub use colour::Painted;
+pub use lb_explain::Painted;
 pub use line::refuse;
 pub use refusal::Refusal;
 pub use run::run_command;

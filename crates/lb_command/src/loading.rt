@@ -5,9 +5,9 @@ ghost use Rattle.lb_command.specs.Outcomes as spec;
 ghost use Rattle.lb_command.specs.Streams.{input};
 
 use crate::refusal::{Refusal, Texts};
-use crate::request::Task;
 use lb_part::{FileRanges, Part, PartError, load_part};
 use lb_report::{Feed, Reader, load};
+use lb_words::Task;
 use std::alloc::Global;
 use std::fs::{File, Files, OpenFile};
 use std::io::{self, Read};

@@ -13,9 +13,9 @@ use crate::delivery::deliver;
 use crate::explanation::tell;
 use crate::loading::load_file;
 use crate::refusal::Refusal;
-use crate::request::Task;
 use lb_listing::{Listing, MergeError, merge};
 use lb_report::{Report, Sink};
+use lb_words::Task;
 use std::alloc::{AllocError, Global};
 use std::fs::Files;
 

@@ -4,6 +4,7 @@ ghost use Rattle.std.specs.Prelude.{◌≡◌, ◌<◌, None, true};
 ghost use Rattle.lb_command.specs.Lines.{is_placed, start_of};
 
 use lb_report::{BenchError, FollowError, LoadError, split_case};
+use lb_words::WordsError;
 use std::alloc::{AllocError, Global};
 
 /// The texts that were judged.
@@ -130,6 +131,19 @@ impl From<AllocError> for Refusal {
 
     fn from(_e: AllocError) -> Refusal {
         Refusal::MEMORY
+    }
+}
+
+impl From<WordsError> for Refusal {
+    ghost use Rattle.lb_command.specs.Outcomes.{IsToldWords};
+
+    ghost from_gives = { λ cause refusal. IsToldWords cause refusal };
+
+    fn from(cause: WordsError) -> Refusal {
+        match cause {
+            WordsError::Memory => Refusal::MEMORY,
+            WordsError::Unlawful => Refusal::USAGE,
+        }
     }
 }
 

@@ -3,28 +3,28 @@
 ghost use Rattle.std.specs.Prelude.{◌≡◌, ◌≢◌, ◌<◌, ◌⊎◌, ◌++◌, ℕ, List, [], IfErr, IfOk, IfSome};
 ghost use Rattle.std.specs.Prelude.{IsSome, None, Some, map, string_bytes};
 ghost use Rattle.lb_listing.specs.Listings.{Line, Lists};
+ghost use Rattle.lb_words.specs.declared.request.Aim.TheVariants.{LiveReport};
 ghost use Rattle.lb_command.specs.Conclusions.{IsBaseline, IsConcluded};
 ghost use Rattle.lb_command.specs.Correct.{IsRun, IsTaskRun, IsToldOutcome, IsWholeRun};
 ghost use Rattle.lb_command.specs.Outcomes as spec;
 ghost use Rattle.lb_command.specs.Streams.{change, input};
 ghost use Rattle.lb_command.specs.Warnings.{AreRemarks};
-ghost use Rattle.lb_command.specs.declared.request.Aim.TheVariants.{LiveReport};
 
 use crate::answer::{Answer, Warned};
 use crate::conclusion::{conclude, load_baseline, read_baseline};
 use crate::delivery::deliver;
-use crate::explanation::{asks_to_explain, remarks_of, tell};
+use crate::explanation::{remarks_of, tell};
 use crate::judging::run_judging;
 use crate::live::run_live;
 use crate::loading::{Loaded, load_file, load_open, load_texts};
 use crate::merging::run_merge;
 use crate::refusal::{Refusal, Texts};
-use crate::request::{Aim, Request, Task, read_words};
 use crate::showing::run_showing;
 use lb_listing::Listing;
 use lb_report::{
     Feed, FeedFault, FilePlaces, Reader, Report, Sink, Sizes, bench, bench_feed, bench_ranges,
 };
+use lb_words::{Aim, Request, Task, asks_to_explain, read_words};
 use std::alloc::{AllocError, Global};
 use std::fs::Files;
 use std::os::unix::fs::FileExt;
@@ -412,6 +412,6 @@ where
             Request::Version => deliver(rt, words, &Answer::Version, &[], writer, errors),
             Request::Run(task) => run_task(rt, words, &task, reader, writer, errors),
         },
-        Err(refusal) => tell(rt.alloc(), words, None, &refusal, errors),
+        Err(cause) => tell(rt.alloc(), words, None, &Refusal::from(cause), errors),
     }
 }

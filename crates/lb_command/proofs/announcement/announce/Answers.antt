@@ -1,9 +1,10 @@
 use Rattle.std.proofs.Common.{map, refl, subst}
 use Rattle.std.specs.Prelude.{string_bytes}
 use Rattle.lb_pool.proofs.SinkBytes.{takes_nothing}
-use Rattle.lb_command.specs.Words.{IsRequest}
-use Rattle.lb_command.specs.declared.request.Request.{Request}
-use Rattle.lb_command.specs.declared.request.Request.TheVariants.{Help, Version, Run}
+use Rattle.lb_words.specs.Words.{IsRequest}
+use Rattle.lb_words.specs.declared.request.Request.{Request}
+use Rattle.lb_words.specs.declared.request.Request.TheVariants.{Help, Version, Run}
+use Rattle.lb_command.proofs.Outcomes.{words_refused}
 use Rattle.lb_command.proofs.announcement.announce.Goals as goal
 
 pub returns-in-Help-clause-ok : goal.returns-in-Help-clause-ok
@@ -32,3 +33,8 @@ returns-in-Run-clause-ok g c =
       asked = subst Is c.in-Run.is c.in-Ok.ensures.ok;
       noted = c.note.ensures.noted;
     }
+
+pub returns-in-Err-clause-err : goal.returns-in-Err-clause-err
+returns-in-Err-clause-err g c =
+    words_refused (map string_bytes c.args.words.now) c.in-Err.cause c.from.result c.from.ensures
+    c.in-Err.ensures.err

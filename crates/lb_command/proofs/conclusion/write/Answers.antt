@@ -4,8 +4,8 @@ use Rattle.lb_listing.specs.Indexed.{listed}
 use Rattle.lb_listing.specs.Junit.{junit_of}
 use Rattle.lb_listing.specs.Listings.{line_of}
 use Rattle.lb_listing.specs.declared.entry.Entry.{Entry}
+use Rattle.lb_words.specs.declared.terms.Format.{Format}
 use Rattle.lb_command.specs.Conclusions.{written}
-use Rattle.lb_command.specs.declared.terms.Format.{Format}
 use Rattle.lb_command.proofs.conclusion.write.Goals as goal
 
 pub returns-in-Junit : goal.returns-in-Junit

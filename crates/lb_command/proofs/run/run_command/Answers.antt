@@ -1,10 +1,11 @@
 use Rattle.std.proofs.Common.{map, refl, subst}
 use Rattle.std.specs.Prelude.{string_bytes}
 use Rattle.lb_pool.proofs.SinkBytes.{takes_nothing}
+use Rattle.lb_words.specs.Words.{AsksForHelp, AsksForVersion, IsAsked, IsRequest}
+use Rattle.lb_words.specs.declared.request.Request.{Request}
 use Rattle.lb_command.specs.Correct.IsRun.{asked, refused, told}
-use Rattle.lb_command.specs.Words.{AsksForHelp, AsksForVersion, IsAsked, IsRequest}
 use Rattle.lb_command.specs.declared.answer.Answer.TheVariants.{Help, Version}
-use Rattle.lb_command.specs.declared.request.Request.{Request}
+use Rattle.lb_command.proofs.Outcomes.{words_refused}
 use Rattle.lb_command.proofs.run.run_command.Goals as goal
 
 pub run_task-requires-clause-worker : goal.run_task-requires-clause-worker
@@ -37,5 +38,7 @@ returns-in-Run g c =
 
 pub returns-in-Err : goal.returns-in-Err
 returns-in-Err g c =
-    refused c.in-Err.refusal c.in-Err.ensures.err (refl, refl) c.tell.ensures.status
+    let refusal = c.from.result in
+    refused refusal (words_refused _ c.in-Err.cause refusal c.from.ensures c.in-Err.ensures.err)
+    (refl, refl) c.tell.ensures.status
     (record { kept = takes_nothing _; never_failed = refl }) c.tell.ensures.told

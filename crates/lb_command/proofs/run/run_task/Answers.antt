@@ -1,8 +1,8 @@
 use Rattle.std.proofs.Common.{map, refl, subst, sym}
 use Rattle.std.specs.Prelude.{string_bytes}
+use Rattle.lb_words.specs.declared.request.Aim.{Aim}
 use Rattle.lb_command.specs.Correct.{IsRunFor}
 use Rattle.lb_command.specs.Streams.{change, input}
-use Rattle.lb_command.specs.declared.request.Aim.{Aim}
 use Rattle.lb_command.proofs.run.run_task.Goals as goal
 
 pub returns-in-Report : goal.returns-in-Report

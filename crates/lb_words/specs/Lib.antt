@@ -1,0 +1,4 @@
+pub mod WordValues
+pub mod ValuesWords
+pub mod Terms
+pub mod Words
