@@ -2,9 +2,5 @@
 pub mod Defining
 pub mod NodePlaces
 pub mod NodeDefinitions
-pub mod Specializations
 pub mod BrokenRules
-pub mod Checks
-pub mod UsedNodes
 pub mod CallNumbers
-pub mod RightCalls

@@ -21,7 +21,7 @@ pub fn is_length(size: u64) -> bool
 
 /// The type of an array of this length, where it may have it.
 #[inline(always)]
-#[tactic(auto, using(crate::proofs::typing::TypeLists::outermost))]
+#[tactic(auto, using(crate::proofs::typing::TypeRows::outermost))]
 pub fn array_of(size: u64, element: DataType) -> Result<Option<DataType>, AllocError>
     ensures { IfOk result (λ o.
         option_map view_type o ≡ types.array_of size (view_type element)) }
@@ -47,7 +47,7 @@ pub fn is_array(size: u64, element: &Option<DataType>) -> bool
 
 /// The type of an element at this index.
 #[inline(always)]
-#[tactic(auto, using(crate::proofs::typing::TypeLists::outermost))]
+#[tactic(auto, using(crate::proofs::typing::TypeRows::outermost))]
 pub fn index_type(index: u64, array: DataType) -> Option<DataType>
     ensures { option_map view_type result ≡ types.index_type index (view_type array) }
 {
@@ -58,7 +58,7 @@ pub fn index_type(index: u64, array: DataType) -> Option<DataType>
 
 /// The type of a slice with these ends.
 #[inline(always)]
-#[tactic(auto, using(crate::proofs::typing::TypeLists::outermost))]
+#[tactic(auto, using(crate::proofs::typing::TypeRows::outermost))]
 pub fn slice_type(start: u64, end: u64, array: DataType) -> Result<Option<DataType>, AllocError>
     ensures { IfOk result (λ o.
         option_map view_type o ≡ types.slice_type start end (view_type array)) }
@@ -76,7 +76,7 @@ pub fn slice_type(start: u64, end: u64, array: DataType) -> Result<Option<DataTy
 
 /// The type of two arrays that are joined.
 #[inline(always)]
-#[tactic(auto, using(crate::proofs::typing::TypeLists::outermost))]
+#[tactic(auto, using(crate::proofs::typing::TypeRows::outermost))]
 pub fn join_type(left: DataType, right: DataType) -> Result<Option<DataType>, AllocError>
     ensures { IfOk result (λ o.
         option_map view_type o ≡ types.join_type (view_type left) (view_type right)) }

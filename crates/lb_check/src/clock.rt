@@ -84,7 +84,7 @@ fn first_in_circle(alloc: Global, variables: &[Variable]) -> Result<Option<usize
 
 /// The place of the first variable of a list that is on a clock and waits for none of the first
 /// `count` variables.
-#[tactic(auto, using(crate::proofs::clocking::ClockedNodes::waits_next))]
+#[tactic(auto, using(crate::proofs::clocking::ClockDepths::waits_next))]
 fn first_waiting_past(variables: &[Variable], count: usize) -> Option<usize>
     ensures first { result ≡ first_broken (waits_below count) variables.now }
     ensures within { IfSome result (λ i. i < length variables.now) }

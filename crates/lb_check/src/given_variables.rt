@@ -14,7 +14,7 @@ use lb_static::{ResolvedNode, Sampling, VariableId};
 use std::alloc::{AllocError, Global};
 
 /// Flags the variable that a clock waits for, if it has a flag.
-#[tactic(auto, using(crate::proofs::clocking::GivenRows::flag_more, crate::proofs::clocking::GivenRows::flag_past))]
+#[tactic(auto, using(crate::proofs::clocking::GivenVariables::flag_more, crate::proofs::clocking::GivenVariables::flag_past))]
 fn flag_awaited(awaited: &mut [bool], clock: Option<Sampling>)
     ensures length_kept { length awaited.new ≡ length awaited.old }
     ensures flagged { (i : ℕ) → i < length awaited.old → get_or awaited.new i false
@@ -29,7 +29,7 @@ fn flag_awaited(awaited: &mut [bool], clock: Option<Sampling>)
 }
 
 /// For each input and output of a node, whether one of them waits for it.
-#[tactic(auto, using(crate::proofs::clocking::GivenRows::waited_more))]
+#[tactic(auto, using(crate::proofs::clocking::GivenVariables::waited_more))]
 fn awaited_parameters(alloc: Global, node: &ResolvedNode) -> Result<Vec<bool>, AllocError>
     ensures length { IfOk result (λ awaited. length awaited.items
         ≡ length (take (node.now.inputs + node.now.outputs) node.now.variables.items)) }

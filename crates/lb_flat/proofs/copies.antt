@@ -1,13 +1,8 @@
 -- The copies that join variables up: of calls, of left variables and of inputs.
 pub mod CopiedElements
 pub mod GivenCalls
-pub mod DefinedNames
-pub mod GivenBodies
-pub mod ChildSums
 pub mod GivenProgram
-pub mod CopiedDefinitions
 pub mod CopiedCalls
 pub mod CopiedBodies
 pub mod CopiedProgram
 pub mod CallCopies
-pub mod ArgumentCopies

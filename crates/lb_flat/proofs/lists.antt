@@ -1,7 +1,3 @@
 -- Lists in general.
 pub mod Lists
 pub mod Counting
-pub mod Columns
-pub mod Totals
-pub mod GivenPairs
-pub mod SomeLists

@@ -1,22 +1,10 @@
 -- The layout by numbers, and the expansion of an accepted program in it.
 pub mod NumberedPlaces
-pub mod NumberedPlacing
-pub mod NumberedWidths
 pub mod RowInstances
 pub mod NumberedRows
 pub mod RowChildren
 pub mod StoredLayouts
-pub mod StoredCalls
-pub mod RowKinds
-pub mod NumberedElements
 pub mod NumberedFits
-pub mod NumberedStanding
-pub mod NumberedBound
-pub mod NumberedExpansion
 pub mod AcceptedExpansion
-pub mod ExpandedPrograms
 pub mod ReceivedInputs
-pub mod AddedPieces
-pub mod CountedRows
-pub mod RowPlaces
 pub mod TableProgram

@@ -1,19 +1,9 @@
 -- The order of the equations, what reads what, and cycles.
-pub mod InOrder
 pub mod Ordering
-pub mod Awaiting
 pub mod ReadCycles
-pub mod NextVariable
-pub mod Certificates
-pub mod NeedsOfReads
 pub mod Tables
+pub mod NeedsOfCopies
 pub mod LinkWords
 pub mod LinkSymbols
 pub mod LinkTerms
-pub mod SourcedInstances
-pub mod ReadsOfNeeds
-pub mod ChainOrders
-pub mod ExpansionReads
-pub mod OrderedExpansions
-pub mod NeedsOfCopies
 pub mod NumberedReads

@@ -1,23 +1,10 @@
 -- Runs of a flat program: its rows at each instant, its memories and its verdict.
-pub mod Stepping
-pub mod Rows
 pub mod Running
 pub mod Filling
-pub mod OnClock
-pub mod Verdicts
+pub mod Fitting
 pub mod Judging
 pub mod Steps
-pub mod Selecting
-pub mod FixedCells
-pub mod Memories
-pub mod Preparing
 pub mod Evaluating
-pub mod Observing
-pub mod ScalarKinds
-pub mod Fitting
-pub mod FilledKinds
-pub mod Prefixes
+pub mod FilledFits
 pub mod RecordedInputs
 pub mod Starting
-pub mod FilledFits
-pub mod RightVerdicts

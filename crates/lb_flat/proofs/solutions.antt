@@ -1,21 +1,10 @@
 -- Solutions of a flat program and histories of its program: each comes from the other.
-pub mod Adding
 pub mod Placing
-pub mod Joining
 pub mod Emission
 pub mod Closing
-pub mod Bodies
-pub mod MemoryOperands
-pub mod Asserting
-pub mod Watching
-pub mod Whole
 pub mod Solving
-pub mod Gathering
-pub mod RunSolutions
-pub mod KeptMemories
-pub mod SolutionHistories
+pub mod Watching
 pub mod FlatHistories
-pub mod OrderedSolutions
-pub mod FlatEquivalence
-pub mod FlatStanding
 pub mod StandingRuns
+pub mod KeptMemories
+pub mod FlatStanding

@@ -1,21 +1,10 @@
 -- Types, how many scalar elements they have, and the size of a program.
 pub mod TypeFacts
-pub mod OutputWidths
-pub mod IteratedTypes
 pub mod Widths
-pub mod TypedBodies
-pub mod TypedParts
 pub mod PlacedCalls
 pub mod SoundInstances
-pub mod RootWidths
-pub mod PropertyOutput
-pub mod ObserverWidths
-pub mod TableSizes
-pub mod FoundSizes
-pub mod CountedSizes
 pub mod SoundPrograms
+pub mod PropertyOutput
+pub mod TableSizes
 pub mod ElementBound
 pub mod FoundWidths
-pub mod WideInstances
-pub mod CallWidths
-pub mod SmallTerms

@@ -100,7 +100,7 @@ fn parameters(node: &ResolvedNode) -> Option<Callee>
 }
 
 /// The elements of a variable of a row; none where they are not below the layout's count.
-#[tactic(auto, using(crate::proofs::frames::HeldReads::held))]
+#[tactic(auto, using(crate::proofs::frames::FramedContexts::held))]
 fn elements_at(layout: &Layout, row: InstanceId, x: VariableId) -> Elements
     ensures places { elements_of result ≡ mirror.held_below layout.now.count
         (numbers_at layout.now.variables.items layout.now.starts.items row.0 x.0) }
@@ -170,7 +170,7 @@ impl<'a, 's> RowFrame<'a, 's> {
     }
 
     /// A clock of the table, or the base clock where there is none at this place.
-    #[tactic(auto, using(crate::proofs::frames::HeldReads::past_clock))]
+    #[tactic(auto, using(crate::proofs::frames::FramedContexts::past_clock))]
     fn held(&self, clock: Option<ClockId>) -> Option<ClockId>
         ensures clock { clock_of self.now.clocks.now.table.items result
             ≡ clock_of self.now.clocks.now.table.items clock }

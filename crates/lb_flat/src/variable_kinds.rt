@@ -9,7 +9,7 @@ use lb_syntax::Kind;
 use std::alloc::{AllocError, Global};
 
 /// Adds `kind` `count` times.
-#[tactic(auto, using(crate::proofs::numbering::RowKinds::copy_added))]
+#[tactic(auto, using(crate::proofs::numbering::RowInstances::copy_added))]
 fn push_kind(kinds: &mut Vec<Kind>, kind: Kind, count: u32) -> Result<(), AllocError>
     ensures { OnOk result (kinds.new.items ≡ kinds.old.items ++ replicate count kind) }
 {
@@ -20,7 +20,7 @@ fn push_kind(kinds: &mut Vec<Kind>, kind: Kind, count: u32) -> Result<(), AllocE
 }
 
 /// Adds the kinds of the elements of some variables under these static values.
-#[tactic(auto, using(crate::proofs::numbering::RowKinds::piece_added))]
+#[tactic(auto, using(crate::proofs::numbering::RowInstances::piece_added))]
 fn push_variables(
     kinds: &mut Vec<Kind>,
     statics: &[StaticInt],
@@ -55,7 +55,7 @@ fn push_row(
 }
 
 /// The kinds of the elements of all rows.
-#[tactic(auto, using(crate::proofs::numbering::RowKinds::piece_next))]
+#[tactic(auto, using(crate::proofs::numbering::RowInstances::piece_next))]
 pub(crate) fn variable_kinds(
     alloc: Global,
     reached: &Reached,

@@ -12,8 +12,7 @@ use Rattle.lb_flat.specs.InOrder.{is_in_order}
 use Rattle.lb_flat.specs.Programs.{flat_equations, program_of}
 use Rattle.lb_flat.specs.Run.{cell, advanced, filled, Ready}
 use Rattle.lb_flat.specs.Within.{IsWithin}
-use Rattle.lb_flat.proofs.ordering.InOrder.{ready_of}
-use Rattle.lb_flat.proofs.runs.Rows.{filled_is}
+use Rattle.lb_flat.proofs.{ordering.Ordering.ready_of, runs.Running.filled_is}
 use Rattle.lb_history.specs.Cells.{cell_of}
 use Rattle.lb_history.specs.Replaying.{equations_before, row_at}
 use Rattle.lb_history.specs.Replays.{IsReplayed}

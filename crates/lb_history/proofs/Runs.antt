@@ -11,9 +11,8 @@ use Rattle.lb_check.specs.Needs.{Element}
 use Rattle.lb_check.specs.Scalars.{Stream}
 use Rattle.lb_check.specs.Solutions.{Inputs, Solves, AgreeAt, AreSame}
 use Rattle.lb_check.specs.Streams.{History}
-use Rattle.lb_check.proofs.programs.AcceptedNumbers.{number_is}
-use Rattle.lb_check.proofs.lists.ApartLists.{Every-at}
-use Rattle.lb_check.proofs.programs.ElementValues.{value_of_element}
+use Rattle.lb_check.proofs.{lists.Members.Every-at, programs.AcceptedElements.number_is}
+use Rattle.lb_check.proofs.programs.AcceptedElements.{value_of_element}
 use Rattle.lb_flat.specs.Flat.{FlatEquation, column, FlatSolves}
 use Rattle.lb_flat.specs.FlatPrograms.{IsFlatOf}
 use Rattle.lb_flat.specs.FlatSolutions.{IsFlatSolution}
@@ -22,8 +21,7 @@ use Rattle.lb_flat.specs.TemporaryKinds.{kind_among}
 use Rattle.lb_flat.specs.Judging.{FlatProgram}
 use Rattle.lb_flat.specs.NumberedLayouts.{layout}
 use Rattle.lb_flat.specs.Run.{Row, cell, advanced, Ready, row_of, run}
-use Rattle.lb_flat.proofs.runs.Running.{step_of, ready_advanced}
-use Rattle.lb_flat.proofs.runs.Stepping.{after_first, column_step}
+use Rattle.lb_flat.proofs.runs.Running.{step_of, ready_advanced, after_first, column_step}
 use Rattle.lb_history.specs.Histories.{history_cell}
 use Rattle.lb_history.specs.Replaying.{equations_before, row_at}
 

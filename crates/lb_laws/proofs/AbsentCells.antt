@@ -11,7 +11,7 @@ use Rattle.lb_check.specs.Scalars.{Scalar, Cell, Stream, two_scalars}
 use Rattle.lb_check.specs.Solutions.{fits}
 use Rattle.lb_check.specs.Streams.{constantly, held, two_cells, along_two, choice, choices, across}
 use Rattle.lb_check.specs.Streams.{previous, newest, first_then, sample, latest, symbols}
-use Rattle.lb_check.proofs.lists.Every.{Every-append}
+use Rattle.lb_check.proofs.lists.Members.{Every-append}
 use Rattle.lb_laws.specs.Ticks.{IsOff, IsAbsent, AreAbsent}
 
 -- ## One stream

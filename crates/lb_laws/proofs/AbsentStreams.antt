@@ -34,27 +34,21 @@ use Rattle.lb_check.specs.Streams.{previous, gathered, iterated, number, part_co
 use Rattle.lb_check.specs.Types.{data_types, all_types, from_one, from_truths, unary_type}
 use Rattle.lb_check.specs.Types.{binary_type, common_type, array_of, index_type, slice_type}
 use Rattle.lb_check.specs.Types.{join_type, operator_types}
-use Rattle.lb_check.proofs.programs.AcceptedRules.{clocked}
-use Rattle.lb_check.proofs.lists.ApartLists.{Every-at, Every-from, in_first, in_second}
-use Rattle.lb_check.proofs.clocking.ClockTests.{clock_same}
-use Rattle.lb_check.proofs.clocking.DeterminedClocks.{OfCalled, Sited, sited_first, sited_second}
-use Rattle.lb_check.proofs.lists.Every.{Every-first, Every-second, Every-append, Every-tested}
-use Rattle.lb_check.proofs.lists.Every.{Every-of_pieces, Every-of_range}
-use Rattle.lb_check.proofs.programs.InstanceNames.{find_in}
-use Rattle.lb_check.proofs.programs.InstancePaths.{at_path}
-use Rattle.lb_check.proofs.clocking.NamedClocks.{IsOver, declared_over}
-use Rattle.lb_check.proofs.clocking.OccurrenceClocks.{IsVariable, own_variables, occurrence_fits}
+use Rattle.lb_check.proofs.clocking.{ClockTests.clock_same, NamedClocks.{OfCalled, Sited}}
+use Rattle.lb_check.proofs.clocking.NamedClocks.{sited_first, sited_second, IsOver, declared_over}
+use Rattle.lb_check.proofs.lists.Members.{Every-at, Every-from, in_first, in_second, Every-first}
+use Rattle.lb_check.proofs.lists.Members.{Every-second, Every-append, Every-tested, Every-of_pieces}
+use Rattle.lb_check.proofs.{lists.Members.Every-of_range, programs.AcceptedRules.clocked}
+use Rattle.lb_check.proofs.programs.{InstancePaths.{find_in, at_path}, TypedOccurrences.IsVariable}
+use Rattle.lb_check.proofs.programs.TypedOccurrences.{own_variables, occurrence_fits, found_name}
 use Rattle.lb_check.proofs.typing.OperandTypes.{bound, one, two, from_true, first_of_all, called}
-use Rattle.lb_check.proofs.typing.OperandTypes.{placed}
-use Rattle.lb_check.proofs.typing.OperandTypes.{one_output}
-use Rattle.lb_check.proofs.typing.TypedCalls.{found_name}
+use Rattle.lb_check.proofs.typing.OperandTypes.{placed, one_output}
 use Rattle.lb_flat.specs.Flat.{instants}
 use Rattle.lb_flat.specs.Layouts.{flat_clock}
 use Rattle.lb_flat.specs.NumberedLayouts.{layout}
-use Rattle.lb_flat.proofs.solutions.Adding.{columns}
-use Rattle.lb_flat.proofs.clock_tables.CalleeClocks.{CalleeClocks, callee_clocks}
-use Rattle.lb_flat.proofs.lists.Lists.{Every-take, Every-drop}
-use Rattle.lb_flat.proofs.clock_tables.SignHistories.{clock_instants, runs_history}
+use Rattle.lb_flat.proofs.clock_tables.ClockTable.{CalleeClocks, callee_clocks}
+use Rattle.lb_flat.proofs.clock_tables.SignStreams.{clock_instants, runs_history}
+use Rattle.lb_flat.proofs.{lists.Lists.{Every-take, Every-drop}, solutions.Placing.columns}
 use Rattle.lb_laws.specs.Ticks.{IsOff, IsAbsent, AreAbsent}
 use Rattle.lb_laws.proofs.AbsentCells.{all_constant, all_one, all_two, all_choices, all_first_then}
 use Rattle.lb_laws.proofs.AbsentCells.{all_previous, all_sampled, all_latest, all_fitting}

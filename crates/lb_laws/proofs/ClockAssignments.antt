@@ -26,11 +26,10 @@ use Rattle.lb_check.specs.TypeRules.{is_statement_typed}
 use Rattle.lb_check.specs.Types.{data_types, all_types, from_one, from_truths, unary_type}
 use Rattle.lb_check.specs.Types.{binary_type, common_type, array_of, index_type, slice_type}
 use Rattle.lb_check.specs.Types.{join_type, name_data_type, operator_types, singly}
+use Rattle.lb_check.proofs.{clocking.ClockTests.clock_same, definitions.BrokenRules.first_none}
+use Rattle.lb_check.proofs.{definitions.BrokenRules.second_none, lists.Members.Every-from}
+use Rattle.lb_check.proofs.lists.Members.{Every-first, Every-second, Every-tested}
 use Rattle.lb_check.proofs.programs.AcceptedRules.{clocked, statements_typed}
-use Rattle.lb_check.proofs.lists.ApartLists.{Every-from}
-use Rattle.lb_check.proofs.definitions.Checks.{first_none, second_none}
-use Rattle.lb_check.proofs.clocking.ClockTests.{clock_same}
-use Rattle.lb_check.proofs.lists.Every.{Every-first, Every-second, Every-tested}
 use Rattle.lb_check.proofs.typing.OperandTypes.{bound, one, two, from_true, first_of_all}
 use Rattle.lb_laws.specs.ClockAssignments.{Occurrences, Nothing, First, Both, IsOnly}
 use Rattle.lb_laws.specs.ClockAssignments.{IsJustBelow, IsAssigned, AreAssigned, AreAssignedEach}

@@ -25,12 +25,9 @@ use Rattle.lb_check.specs.Occurrences.{Occurrence, call_count, call_clocks}
 use Rattle.lb_check.specs.Types.{data_types, all_types, from_one, from_truths, unary_type}
 use Rattle.lb_check.specs.Types.{binary_type, common_type, array_of, index_type, slice_type}
 use Rattle.lb_check.specs.Types.{join_type, operator_types}
-use Rattle.lb_check.proofs.clocking.ClockTests.{clock_same}
-use Rattle.lb_check.proofs.clocking.DeterminedClocks.{called_passes}
-use Rattle.lb_check.proofs.clocking.NamedClocks.{either}
-use Rattle.lb_check.proofs.typing.OperandTypes.{bound, one, two, from_true, first_of_all, placed}
-use Rattle.lb_check.proofs.typing.OperandTypes.{one_output}
-use Rattle.lb_check.proofs.clocking.OuterClocks.{above_outer}
+use Rattle.lb_check.proofs.clocking.{ClockTests.clock_same, NamedClocks.{called_passes, either}}
+use Rattle.lb_check.proofs.{clocking.OuterClocks.above_outer, typing.OperandTypes.{bound, one, two}}
+use Rattle.lb_check.proofs.typing.OperandTypes.{from_true, first_of_all, placed, one_output}
 use Rattle.lb_laws.specs.ClockAssignments.{IsAssigned, AreAssigned, AreAssignedEach}
 
 -- ## Names

@@ -14,14 +14,13 @@ use Rattle.lb_check.specs.Scalars.{Scalar, Nil, Stream}
 use Rattle.lb_check.specs.Solutions.{Inputs, Solves}
 use Rattle.lb_check.specs.Streams.{History, presence, streams}
 use Rattle.lb_check.specs.Types.{data_types, common_type}
-use Rattle.lb_check.proofs.programs.AcceptedRules.{clocked, typed, all_declared}
-use Rattle.lb_check.proofs.lists.ApartLists.{Every-at, Every-from}
-use Rattle.lb_check.proofs.programs.CalledProperties.{calls_have}
-use Rattle.lb_check.proofs.clocking.DeterminedClocks.{OfCalled, Sited, sited_first, sited_second}
-use Rattle.lb_check.proofs.clocking.OccurrenceClocks.{IsVariable, own_variables}
-use Rattle.lb_check.proofs.programs.OperandOccurrences.{OperandsHave, OperandHas, operands_have}
-use Rattle.lb_check.proofs.typing.OperandTypes.{one, two}
+use Rattle.lb_check.proofs.clocking.NamedClocks.{OfCalled, Sited, sited_first, sited_second}
+use Rattle.lb_check.proofs.{lists.Members.{Every-at, Every-from}, programs.AcceptedRules.clocked}
+use Rattle.lb_check.proofs.programs.AcceptedRules.{typed, all_declared, calls_have}
+use Rattle.lb_check.proofs.programs.OccurrenceParts.{OperandsHave, OperandHas, operands_have}
 use Rattle.lb_check.proofs.programs.StandingParts.{Stands, node_stands}
+use Rattle.lb_check.proofs.programs.TypedOccurrences.{IsVariable, own_variables}
+use Rattle.lb_check.proofs.typing.OperandTypes.{one, two}
 use Rattle.lb_flat.specs.Flat.{FlatClock, Operation, FirstThen, Previous, Latest, FlatEquation}
 use Rattle.lb_flat.specs.Flat.{column}
 use Rattle.lb_flat.specs.FlatPrograms.{IsFlatOf}
@@ -35,7 +34,7 @@ use Rattle.lb_flat.specs.MemoryPlaces.{KeepsOperand, KeepsFlag, HasMemories, equ
 use Rattle.lb_flat.specs.MemoryPlaces.{after_rows, cells_in}
 use Rattle.lb_flat.specs.NumberedLayouts.{layout}
 use Rattle.lb_flat.specs.Run.{Ready, Row, advanced, cell, row_of, run, streams_of}
-use Rattle.lb_flat.proofs.solutions.RunSolutions.{run_solves}
+use Rattle.lb_flat.proofs.solutions.StandingRuns.{run_solves}
 use Rattle.lb_lanes.specs.Planes.{on}
 use Rattle.lb_sim.specs.BatchLaws.{IsKept, next_cell}
 use Rattle.lb_sim.specs.BatchRuns.{flag_in, flat_of, lane_in, memory_at}

@@ -5,7 +5,7 @@ use Rattle.lb_flat.specs.Programs.{program_of}
 use Rattle.lb_flat.specs.RightVerdicts.{right_verdicts}
 use Rattle.lb_traces.specs.Traces.{Recording}
 use Rattle.lb_flat.specs.declared.flat.Ordered.{Ordered}
-use Rattle.lb_flat.proofs.runs.RightVerdicts.{length-right_verdicts}
+use Rattle.lb_flat.proofs.solutions.StandingRuns.{length-right_verdicts}
 use Rattle.lb_pool.specs.declared.follow_views.FollowKey.{FollowKey}
 use Rattle.lb_pool.specs.FollowKeys.{right_by}
 

@@ -6,8 +6,8 @@ use Rattle.lb_flat.specs.RightVerdicts.{right_verdicts}
 use Rattle.lb_traces.specs.Traces.{IsRecording, Recording}
 use Rattle.lb_flat.specs.declared.flat.Ordered.{Ordered}
 use Rattle.lb_flat.specs.declared.program.FlatProgram.{FlatProgram}
-use Rattle.lb_flat.proofs.runs.RightVerdicts.{length-right_verdicts, ordered_ready}
-use Rattle.lb_flat.proofs.runs.RightVerdicts.{right_verdicts_are}
+use Rattle.lb_flat.proofs.solutions.StandingRuns.{length-right_verdicts, ordered_ready}
+use Rattle.lb_flat.proofs.solutions.StandingRuns.{right_verdicts_are}
 use Rattle.lb_pool.specs.Correct.{AreVerdicts}
 use Rattle.lb_pool.specs.FollowSeats.{right_of}
 use Rattle.lb_pool.specs.FollowWorkers.{IsBoardFor}

@@ -8,7 +8,7 @@ use Rattle.lb_flat.specs.RightVerdicts.{right_verdicts}
 use Rattle.lb_flat.specs.Standing.{HasKindsOf, StandsForProgram}
 use Rattle.lb_traces.specs.Traces.{Recording}
 use Rattle.lb_flat.specs.declared.program.FlatProgram.{FlatProgram}
-use Rattle.lb_flat.proofs.runs.RightVerdicts.{right_verdict_at}
+use Rattle.lb_flat.proofs.solutions.StandingRuns.{right_verdict_at}
 use Rattle.lb_pool.specs.Correct.{IsVerdict}
 use Rattle.lb_pool.specs.Settlements.{IsRight}
 

@@ -8,7 +8,7 @@ use Rattle.lb_check.specs.Scalars.{Scalar, Cell, one_scalar, two_scalars}
 use Rattle.lb_check.specs.Solutions.{Inputs}
 use Rattle.lb_check.specs.Streams.{held, newest, one_cell, sample, shows, two_cells}
 use Rattle.lb_check.specs.Verdicts.{is_bad, is_false, is_nil, or_later}
-use Rattle.lb_check.proofs.lists.Every.{Every-first, Every-second}
+use Rattle.lb_check.proofs.lists.Members.{Every-first, Every-second}
 use Rattle.lb_flat.specs.Flat.{FlatClock, Always, Where, Operation, Input, Constant, Copy}
 use Rattle.lb_flat.specs.Flat.{ApplyUnary, ApplyBinary, Choose, FirstThen, Previous, Latest, Sample}
 use Rattle.lb_flat.specs.Flat.{FlatEquation}

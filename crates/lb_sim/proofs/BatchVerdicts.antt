@@ -10,8 +10,8 @@ use Rattle.lb_flat.specs.Judging.{FlatProgram, flat_verdict}
 use Rattle.lb_flat.specs.Run.{Ready}
 use Rattle.lb_traces.specs.Traces.{Recording, IsRecording}
 use Rattle.lb_flat.proofs.runs.RecordedInputs.{trace_given}
-use Rattle.lb_flat.proofs.runs.RightVerdicts.{right_where_fitting}
-use Rattle.lb_flat.proofs.solutions.StandingRuns.{standing_determined, standing_recorded}
+use Rattle.lb_flat.proofs.solutions.StandingRuns.{right_where_fitting, standing_determined}
+use Rattle.lb_flat.proofs.solutions.StandingRuns.{standing_recorded}
 use Rattle.lb_flat.specs.Correct.{IsVerdictOf}
 
 pub verdict_of :

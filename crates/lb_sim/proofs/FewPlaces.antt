@@ -14,7 +14,7 @@ use Rattle.lb_flat.specs.Programs.{flat_equations, program_of}
 use Rattle.lb_flat.specs.Run.{Ready}
 use Rattle.lb_flat.specs.Values.{equation_of}
 use Rattle.lb_flat.specs.declared.program.FlatProgram as code
-use Rattle.lb_flat.proofs.ordering.InOrder.{AreMarks, marks_more, ready_of, unmarked}
+use Rattle.lb_flat.proofs.ordering.Ordering.{AreMarks, marks_more, ready_of, unmarked}
 use Rattle.lb_sim.specs.Homes.{IsRow, plane_row, word_row}
 use Rattle.lb_sim.specs.InputRows.{truth_columns, number_columns}
 use Rattle.lb_sim.specs.Layouts.{AreAllotted}

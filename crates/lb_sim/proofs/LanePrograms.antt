@@ -10,7 +10,7 @@ use Rattle.lb_flat.specs.Judging.{FlatProgram}
 use Rattle.lb_flat.specs.PreparedPrograms.{prepared_props}
 use Rattle.lb_flat.specs.Programs.{program_of}
 use Rattle.lb_flat.specs.Run.{Ready}
-use Rattle.lb_flat.proofs.ordering.InOrder.{ready_of}
+use Rattle.lb_flat.proofs.ordering.Ordering.{ready_of}
 use Rattle.lb_machine.specs.Meaning.{Lane}
 use Rattle.lb_machine.specs.declared.instruction.PlaneId.{PlaneId}
 use Rattle.lb_sim.specs.InputRows.{truth_columns, number_columns}

@@ -12,7 +12,7 @@ use Rattle.lb_syntax.proofs.TruthValues.{both_ways, contrary}
 use Rattle.lb_flat.specs.Judging.{FlatProgram, named_elements}
 use Rattle.lb_flat.specs.Programs.{numbers_of}
 use Rattle.lb_flat.specs.declared.equation.ElementId.{ElementId}
-use Rattle.lb_flat.proofs.ordering.InOrder.{unmarked}
+use Rattle.lb_flat.proofs.ordering.Ordering.{unmarked}
 
 -- ## Elements of lists
 

@@ -20,9 +20,8 @@ use Rattle.lb_flat.specs.Within.{IsWithin}
 use Rattle.lb_flat.specs.declared.equation.ClockId.{ClockId}
 use Rattle.lb_flat.specs.declared.equation.Equation.{Equation}
 use Rattle.lb_flat.specs.declared.program.FlatProgram.{FlatProgram}
-use Rattle.lb_flat.proofs.ordering.InOrder.{ready_of}
 use Rattle.lb_flat.proofs.lists.Lists.{Every-first, Every-in, Every-second}
-use Rattle.lb_flat.proofs.runs.Memories.{every_at}
+use Rattle.lb_flat.proofs.{ordering.Ordering.ready_of, runs.Evaluating.every_at}
 use Rattle.lb_machine.specs.Correct.{IsGrown}
 use Rattle.lb_machine.specs.Listed.{listed}
 use Rattle.lb_machine.specs.Meaning.{Lane, HasRun}

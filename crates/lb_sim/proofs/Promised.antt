@@ -14,7 +14,7 @@ use Rattle.lb_check.specs.Solutions.{Inputs, HasOneHistory}
 use Rattle.lb_check.specs.Streams.{History}
 use Rattle.lb_check.specs.Verdicts.{HasVerdict}
 use Rattle.lb_check.specs.declared.verdict.Verdict.{Verdict}
-use Rattle.lb_check.proofs.programs.OnlyVerdict.{only_verdict}
+use Rattle.lb_check.proofs.programs.SameHistories.{only_verdict}
 use Rattle.lb_flat.specs.Fitting.{IsFitting}
 use Rattle.lb_flat.specs.Flat.{Previous, Latest}
 use Rattle.lb_flat.specs.FlatPrograms.{IsFlatOf}
@@ -26,8 +26,7 @@ use Rattle.lb_flat.specs.Layouts.{flat_clock}
 use Rattle.lb_flat.specs.MemoryPlaces.{HasMemories}
 use Rattle.lb_flat.specs.NumberedLayouts.{layout}
 use Rattle.lb_flat.specs.Run.{Ready, run, streams_of}
-use Rattle.lb_flat.proofs.solutions.RunSolutions.{run_solves}
-use Rattle.lb_flat.proofs.solutions.StandingRuns.{standing_verdict, standing_determined}
+use Rattle.lb_flat.proofs.solutions.StandingRuns.{run_solves, standing_verdict, standing_determined}
 use Rattle.lb_machine.specs.Meaning.{Lane}
 use Rattle.lb_sim.specs.Promise.{HoldsMemories, HoldsEach, HoldsAll, HoldsHistory, StandsFor}
 use Rattle.lb_sim.specs.Showing.{scalar_at}

@@ -10,7 +10,7 @@ use Rattle.std.specs.List.{All}
 use Rattle.lb_syntax.specs.Lists.{Every}
 use Rattle.lb_syntax.specs.declared.tree.Kind.{Kind}
 use Rattle.lb_syntax.specs.declared.tree.Kind.TheVariants.{Int as Int_kind, Bool as Bool_kind}
-use Rattle.lb_check.proofs.lists.Every.{Every-append, Every-map}
+use Rattle.lb_check.proofs.lists.Members.{Every-append, Every-map}
 use Rattle.lb_flat.specs.Flat.{FlatEquation, Operation, Input, Constant, Copy, ApplyUnary}
 use Rattle.lb_flat.specs.Flat.{ApplyBinary, Choose, FirstThen, Previous, Latest, Sample}
 use Rattle.lb_flat.specs.Programs.{flat_equations, numbers_of, program_of}

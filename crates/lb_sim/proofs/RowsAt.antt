@@ -14,8 +14,7 @@ use Rattle.lb_flat.specs.Flat.{FlatEquation}
 use Rattle.lb_flat.specs.Fitting.{OperandsFit, ClockFits}
 use Rattle.lb_flat.specs.Run.{Row, cell, is_now, chosen_cell, now, Ready, row_of, reads}
 use Rattle.lb_flat.specs.Run.{clock_reads}
-use Rattle.lb_flat.proofs.runs.Rows.{row_is}
-use Rattle.lb_flat.proofs.runs.Stepping.{HoldsNow}
+use Rattle.lb_flat.proofs.runs.Running.{row_is, HoldsNow}
 use Rattle.lb_machine.specs.Meaning.{Lane}
 use Rattle.lb_sim.specs.Showing.{scalar_at, cell_at, row_at}
 use Rattle.lb_sim.specs.States.{no_place, holding_of, present_at, kept_at, with_memory, equation_in}

@@ -9,13 +9,12 @@ use Rattle.std.proofs.Math.Bool.{or-false}
 use Rattle.lb_syntax.specs.Lists.{zip2}
 use Rattle.lb_check.specs.Scalars.{Cell, Stream}
 use Rattle.lb_check.specs.Solutions.{Inputs}
-use Rattle.lb_check.proofs.programs.LongStreams.{length-both as length-zips}
+use Rattle.lb_check.proofs.programs.SolutionStreams.{length-both as length-zips}
 use Rattle.lb_flat.specs.Flat.{Operation, Input, Constant, Copy, ApplyUnary, ApplyBinary}
 use Rattle.lb_flat.specs.Flat.{Choose, FirstThen, Previous, Latest, Sample, FlatEquation, column}
 use Rattle.lb_flat.specs.MemoryPlaces.{after_rows, cells_in, remembers}
 use Rattle.lb_flat.specs.Run.{Row, cell, started_by, remembered, advanced, row_of, run, streams_of}
-use Rattle.lb_flat.proofs.lists.Lists.{map-maps}
-use Rattle.lb_flat.proofs.runs.Rows.{length-row_of}
+use Rattle.lb_flat.proofs.{lists.Lists.map-maps, runs.Running.length-row_of}
 
 -- ## After some rows
 

@@ -14,7 +14,7 @@ use Rattle.lb_flat.specs.Inputs.{inputs_of}
 use Rattle.lb_flat.specs.Judging.{flat_verdict}
 use Rattle.lb_flat.specs.Programs.{program_of}
 use Rattle.lb_traces.specs.Traces.{Recording, IsRecording}
-use Rattle.lb_flat.proofs.ordering.InOrder.{ready_of}
+use Rattle.lb_flat.proofs.ordering.Ordering.{ready_of}
 use Rattle.lb_lanes.specs.Planes.{IsPlaneOf, on}
 use Rattle.lb_lanes.specs.declared.planes.Plane.{Plane}
 use Rattle.lb_lanes.proofs.OnPlanes.{on-zero, SetBit}

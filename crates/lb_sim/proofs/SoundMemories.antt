@@ -31,8 +31,7 @@ use Rattle.lb_flat.specs.Judging.{FlatProgram, flat_verdict}
 use Rattle.lb_flat.specs.MemoryPlaces.{HasMemories, KeepsOperand, newest_of}
 use Rattle.lb_flat.specs.NumberedLayouts.{layout}
 use Rattle.lb_flat.specs.Run.{Ready, run, streams_of}
-use Rattle.lb_flat.proofs.lists.Columns.{column_long}
-use Rattle.lb_flat.proofs.runs.Judging.{flat_ends}
+use Rattle.lb_flat.proofs.{lists.Lists.column_long, runs.Judging.flat_ends}
 use Rattle.lb_machine.specs.Meaning.{Lane}
 use Rattle.lb_sim.specs.Showing.{scalar_at}
 use Rattle.lb_sim.specs.SoundMemories.{NoneIsFault, KeepsNoFault, EachKeepsNoFault, AllKeepNoFault}

@@ -1,42 +1,33 @@
 -- A call with one result stands on the clocks that the code finds, and on no others.
-use Rattle.lb_check.proofs.Words.{◌≡◌, ℕ, zero, suc, ◌+◌, ◌<◌, ◌≤◌, ◌⊎◌, inl, inr, Bool, true}
-use Rattle.lb_check.proofs.Words.{false, List, [], ◌∷◌, ◌++◌, take, drop, length, map, Option, Some}
-use Rattle.lb_check.proofs.Words.{None, refl, ap, sym, ◌∙◌, subst, arith, ◌&&◌, ◌||◌, not}
-use Rattle.lb_check.proofs.Words.{option_map, slice_get, nat_eq, nat_lt, if◌then◌else◌, list_all}
-use Rattle.lb_check.proofs.Words.{nat_tests, append-nil, slice_get_within, and-true, and_from}
-use Rattle.lb_check.proofs.Words.{false_from_ne_true, ◌>>=◌, either_or, listed, Expr, Declaration}
-use Rattle.lb_check.proofs.Words.{and_first, and_second, both_ways, mapped_from, Program, Site}
-use Rattle.lb_check.proofs.Words.{node_named, node_of, texts_of, counts_of, expr_of, exprs_of}
-use Rattle.lb_check.proofs.Words.{is_within, is_unhidden, ResolvedNode, Sampling, Term, VariableId}
-use Rattle.lb_check.proofs.Words.{is_clock, are_clocks, is_occurrence_clocked, is_call_clocked}
-use Rattle.lb_check.proofs.Words.{clock_of, each_clock, given_inputs, given_outputs, outer, above}
-use Rattle.lb_check.proofs.Words.{own_depth, declared_clock, depth, base_clock, base_from}
-use Rattle.lb_check.proofs.Words.{base_from_arguments, first_result_clock, called_clock}
-use Rattle.lb_check.proofs.Words.{result_clocks, argument_clocks, occurrences_each, call_clocks}
-use Rattle.lb_check.proofs.Words.{HasClocks, clock_in, IsClockSet, AreClockSets, is_clocked_on}
-use Rattle.lb_check.proofs.Words.{Context, declared_in, infer_clock, operands_of, given_at}
-use Rattle.lb_check.proofs.Words.{clock_sets, are_given, input_clocks, output_clocks, base_of}
-use Rattle.lb_check.proofs.Words.{expected, all_fit, clock_set_on, first_result, call_clock_set}
-use Rattle.lb_check.proofs.Words.{ClockSet, NoClock, AnyClock, OneClock}
-use Rattle.lb_static.specs.declared.resolved.Variable.{Variable as Declared}
+use Rattle.lb_check.proofs.Words
+use Words.{◌≡◌, ℕ, zero, suc, ◌+◌, ◌<◌, ◌≤◌, ◌⊎◌, inl, inr, Bool, true, false, List, [], ◌∷◌, ◌++◌}
+use Words.{take, drop, length, map, Option, Some, None, refl, ap, sym, ◌∙◌, subst, arith, ◌&&◌}
+use Words.{◌||◌, not, option_map, slice_get, nat_eq, nat_lt, if◌then◌else◌, list_all, nat_tests}
+use Words.{append-nil, slice_get_within, and-true, and_from, false_from_ne_true, ◌>>=◌, either_or}
+use Words.{listed, Expr, Declaration, and_first, and_second, both_ways, mapped_from, Program, Site}
+use Words.{node_named, node_of, texts_of, counts_of, expr_of, exprs_of, is_within, is_unhidden}
+use Words.{ResolvedNode, Sampling, Term, VariableId, is_clock, are_clocks, is_occurrence_clocked}
+use Words.{is_call_clocked, clock_of, each_clock, given_inputs, given_outputs, outer, above}
+use Words.{own_depth, declared_clock, depth, base_clock, base_from, base_from_arguments}
+use Words.{first_result_clock, called_clock, result_clocks, argument_clocks, occurrences_each}
+use Words.{call_clocks, HasClocks, clock_in, IsClockSet, AreClockSets, is_clocked_on, Context}
+use Words.{declared_in, infer_clock, operands_of, given_at, clock_sets, are_given, input_clocks}
+use Words.{output_clocks, base_of, expected, all_fit, clock_set_on, first_result, call_clock_set}
+use Words.{ClockSet, NoClock, AnyClock, OneClock, Declared}
 use Rattle.lb_check.specs.declared.own_clock.Clock.{Clock}
 use Rattle.lb_check.proofs.clocking.CallOperands.{are_given_is, operand_within, operand_stands}
 use Rattle.lb_check.proofs.clocking.CallOperands.{clock_set_within, waited_given, input_waits}
-use Rattle.lb_check.proofs.clocking.CallOperands.{output_waits}
-use Rattle.lb_check.proofs.clocking.CallOperands.{not_itself, each_stood, stands_at, stood_clock}
-use Rattle.lb_check.proofs.clocking.CallOperands.{clock_there, clock_from, inputs_seen}
-use Rattle.lb_check.proofs.clocking.CallOperands.{inputs_is_given}
-use Rattle.lb_check.proofs.clocking.CallOperands.{code_known, same_fits}
-use Rattle.lb_check.proofs.clocking.FittingClocks.{IsGiven, IsWithin, base_found, fits_on, fit_some}
-use Rattle.lb_check.proofs.clocking.FittingClocks.{fit_none, base_within, base_is, expects}
-use Rattle.lb_check.proofs.clocking.GivenNames.{term_at, clock_set_at, input_held, output_at}
-use Rattle.lb_check.proofs.clocking.GivenNames.{variable_held}
-use Rattle.lb_check.proofs.lists.ListPairs.{get_mapped, get_taken, each_pair, pair_at}
-use Rattle.lb_check.proofs.clocking.ClockTests.{clock_same}
-use Rattle.lb_check.proofs.clocking.OuterClocks.{stood, clock_equal, above_outer, place_name}
-use Rattle.lb_check.proofs.clocking.OuterClocks.{variable_at}
+use Rattle.lb_check.proofs.clocking.CallOperands.{output_waits, not_itself, each_stood, stands_at}
+use Rattle.lb_check.proofs.clocking.CallOperands.{stood_clock, clock_there, clock_from, inputs_seen}
+use Rattle.lb_check.proofs.clocking.CallOperands.{inputs_is_given, code_known, same_fits}
+use Rattle.lb_check.proofs.clocking.{ClockTests.clock_same, GivenNames.{term_at, clock_set_at}}
+use Rattle.lb_check.proofs.clocking.GivenNames.{input_held, output_at, variable_held}
+use Rattle.lb_check.proofs.clocking.OuterClocks.{IsGiven, IsWithin, base_found, fits_on, fit_some}
+use Rattle.lb_check.proofs.clocking.OuterClocks.{fit_none, base_within, base_is, expects, stood}
+use Rattle.lb_check.proofs.clocking.OuterClocks.{clock_equal, above_outer, place_name, variable_at}
 use Rattle.lb_check.proofs.clocking.OuterClocks.{seen, expected_on, AreGiven}
-use Rattle.lb_check.proofs.clocking.OwnClocks.{clock_of_free}
+use Rattle.lb_check.proofs.{clocking.OwnClocks.clock_of_free, lists.ListPairs.get_mapped}
+use Rattle.lb_check.proofs.lists.ListPairs.{get_taken, each_pair, pair_at}
 use Rattle.lb_syntax.specs.Tree as text
 use Rattle.lb_check.specs.Clocks as tree
 

@@ -1,15 +1,12 @@
 -- Clocks that the code compares, and rows of operands from a place on.
-use Rattle.lb_check.proofs.Words.{◌≡◌, ◌≢◌, ℕ, ◌+◌, ◌<◌, ◌≤◌, Bool, true, false, List, [], ◌∷◌}
-use Rattle.lb_check.proofs.Words.{length, drop, get_or, Option, Some, None, refl, ap, sym, ◌∙◌}
-use Rattle.lb_check.proofs.Words.{arith, ◌&&◌, nat_eq, slice_get, if◌then◌else◌, nat_tests}
-use Rattle.lb_check.proofs.Words.{drop_all, drop_more, slice_get_past, beq, or_else, and_first}
-use Rattle.lb_check.proofs.Words.{and_second, node_of, ResolvedNode, Sampling, Variable, VariableId}
-use Rattle.lb_check.proofs.Words.{HasClocks, clock_in, name_in, same, clocks_of, clock_with}
-use Rattle.lb_check.proofs.Words.{declared_in, is_same, both, together, clock_sets, base_of}
-use Rattle.lb_check.proofs.Words.{all_fit, accepts_clock, expected, Base, Operand, ClockSet}
-use Rattle.lb_check.proofs.Words.{NoClock, AnyClock, OneClock}
-use Rattle.lb_check.specs.declared.own_clock.Clock.{Clock}
-use Rattle.lb_check.specs.declared.own_clock.Clock.TheVariants.{On}
+use Rattle.lb_check.proofs.Words
+use Words.{◌≡◌, ◌≢◌, ℕ, ◌+◌, ◌<◌, ◌≤◌, Bool, true, false, List, [], ◌∷◌, length, drop, get_or}
+use Words.{Option, Some, None, refl, ap, sym, ◌∙◌, arith, ◌&&◌, nat_eq, slice_get, if◌then◌else◌}
+use Words.{nat_tests, drop_all, drop_more, slice_get_past, beq, or_else, and_first, and_second}
+use Words.{node_of, ResolvedNode, Sampling, Variable, VariableId, HasClocks, clock_in, name_in}
+use Words.{same, clocks_of, clock_with, declared_in, is_same, both, together, clock_sets, base_of}
+use Words.{all_fit, accepts_clock, expected, Base, Operand, ClockSet, NoClock, AnyClock, OneClock}
+use Rattle.lb_check.specs.declared.own_clock.Clock.{Clock, TheVariants.On}
 use Rattle.lb_check.proofs.clocking.OwnClocks.{clock_of_free, clock_of_waiting, beq_same}
 use Rattle.lb_check.specs.Clocks as tree
 

@@ -1,21 +1,17 @@
 -- Tests of whether two clocks of a node are the same, and the declared clock of a variable.
-use Rattle.lb_check.proofs.Words.{◌≡◌, ◌≢◌, ℕ, zero, suc, ◌<◌, Bool, true, false, List, [], ◌∷◌}
-use Rattle.lb_check.proofs.Words.{◌++◌, length, Option, Some, None, refl, ap, sym, ◌∙◌, subst}
-use Rattle.lb_check.proofs.Words.{arith, ◌&&◌, is_some, slice_get, nat_eq, list_all, bytes_eq}
-use Rattle.lb_check.proofs.Words.{nat_tests, bytes_eq-Decides, ◌>>=◌, either_or, Name, all_at}
-use Rattle.lb_check.proofs.Words.{item_at, and_first, and_second, both_ways, among, variable_names}
-use Rattle.lb_check.proofs.Words.{is_variable, is_declared_within, is_sampling_within, are_statics}
-use Rattle.lb_check.proofs.Words.{node_of, counts_of, ResolvedNode, Sampling, Variable, VariableId}
-use Rattle.lb_check.proofs.Words.{is_clocked_by, is_clock, same, HasClocks, name_in, clock_in}
-use Rattle.lb_check.proofs.Words.{is_clock_within, clock_with, declared_in, is_same}
-use Rattle.std.proofs.Math.Bool.{and_self, or-true}
-use Rattle.lb_check.specs.Clocks.{Clock, Base, On, clock_or, variable_clock, declared_clock}
-use Rattle.lb_check.specs.declared.own_clock.Clock.{Clock as Compared}
-use Rattle.lb_check.proofs.clocking.ClockedNodes.{as_many_names}
+use Rattle.lb_check.proofs.Words
+use Words.{◌≡◌, ◌≢◌, ℕ, zero, suc, ◌<◌, Bool, true, false, List, [], ◌∷◌, ◌++◌, length, Option}
+use Words.{Some, None, refl, ap, sym, ◌∙◌, subst, arith, ◌&&◌, is_some, slice_get, nat_eq, list_all}
+use Words.{bytes_eq, nat_tests, bytes_eq-Decides, ◌>>=◌, either_or, Name, all_at, item_at}
+use Words.{and_first, and_second, both_ways, among, variable_names, is_variable, is_declared_within}
+use Words.{is_sampling_within, are_statics, node_of, counts_of, ResolvedNode, Sampling, Variable}
+use Words.{VariableId, is_clocked_by, is_clock, same, HasClocks, name_in, clock_in, is_clock_within}
+use Words.{clock_with, declared_in, is_same, Clock, On, clock_or, variable_clock, declared_clock}
+use Words.{Compared}
+use Rattle.{std.proofs.Math.Bool.{and_self, or-true}, lb_check.specs.Clocks.Base}
+use Rattle.lb_check.proofs.clocking.{ClockDepths.as_many_names, ClockSetRows.same_is as same_one}
 use Rattle.lb_check.proofs.clocking.OwnClocks.{clock_of_free, clock_of_waiting, same_signs}
-use Rattle.lb_check.proofs.clocking.OwnClocks.{other_variable}
-use Rattle.lb_check.proofs.clocking.OwnClocks.{beq_same, clock_itself}
-use Rattle.lb_check.proofs.clocking.ClockSetRows.{same_is as same_one}
+use Rattle.lb_check.proofs.clocking.OwnClocks.{other_variable, beq_same, clock_itself}
 use Rattle.lb_check.specs.declared.own_clock.Clock.TheVariants as code
 
 -- ## Clocks of a text

@@ -1,15 +1,13 @@
 -- The declared clocks of a node: their depth, and that the clock of a variable is on the declared
 -- clock of the variable that it waits for.
-use Rattle.lb_check.proofs.Words.{◌≡◌, ℕ, zero, suc, ◌*◌, ◌<◌, ◌≤◌, Option, Some, None, List, []}
-use Rattle.lb_check.proofs.Words.{◌∷◌, length, map, refl, ap, sym, ◌∙◌, subst, arith, bytes_eq}
-use Rattle.lb_check.proofs.Words.{same_Some, ◌>>=◌, In, Name, Declaration, Node, bind_some}
-use Rattle.lb_check.proofs.Words.{variables, variable_names, named, in_map}
-use Rattle.lb_syntax.specs.Tree.{Sampling}
-use Rattle.lb_check.specs.Clocks.{Clock, Base, On, sampled, clock_within, variable_clock, clock_or}
-use Rattle.lb_check.specs.Clocks.{declared_clock, depth, above, base_from, base_clock, own_depth}
-use Rattle.lb_check.proofs.programs.InstanceNames.{find_in}
-use Rattle.lb_check.proofs.clocking.OccurrenceClocks.{IsVariable}
-use Rattle.lb_check.proofs.typing.TypedCalls.{found_name}
+use Rattle.lb_check.proofs.Words
+use Words.{◌≡◌, ℕ, zero, suc, ◌*◌, ◌<◌, ◌≤◌, Option, Some, None, List, [], ◌∷◌, length, map, refl}
+use Words.{ap, sym, ◌∙◌, subst, arith, bytes_eq, same_Some, ◌>>=◌, In, Name, Declaration, Node}
+use Words.{bind_some, variables, variable_names, named, in_map, Clock, On, sampled, clock_within}
+use Words.{variable_clock, clock_or, declared_clock, depth, above, base_from, base_clock, own_depth}
+use Rattle.{lb_syntax.specs.Tree.Sampling, lb_check.specs.Clocks.Base}
+use Rattle.lb_check.proofs.programs.{InstancePaths.find_in, TypedOccurrences.IsVariable}
+use Rattle.lb_check.proofs.programs.TypedOccurrences.{found_name}
 
 -- ## Steps within which a clock is found
 

@@ -1,45 +1,33 @@
 -- A call that is a whole right side keeps the rules of clocks exactly where the code finds so.
-use Rattle.lb_check.proofs.Words.{◌≡◌, ℕ, suc, ◌+◌, ◌-◌, ◌<◌, ◌≤◌, ◌⊎◌, inl, inr, Bool, true, false}
-use Rattle.lb_check.proofs.Words.{List, [], ◌∷◌, ◌++◌, take, drop, length, map, Option, Some, None}
-use Rattle.lb_check.proofs.Words.{refl, ap, sym, ◌∙◌, subst, arith, ◌&&◌, ◌||◌, not, slice_get}
-use Rattle.lb_check.proofs.Words.{nat_eq, nat_lt, if◌then◌else◌, list_all, nat_tests, length-map}
-use Rattle.lb_check.proofs.Words.{lt-ltb, and_from, add-sub_cancel_left, and-true, either_or}
-use Rattle.lb_check.proofs.Words.{listed, or_else, Name, Expr, Declaration, and_first, and_second}
-use Rattle.lb_check.proofs.Words.{both_ways, item_at, all_at, mapped_from, Program, Site}
-use Rattle.lb_check.proofs.Words.{node_named, node_of, texts_of, counts_of, exprs_of, is_within}
-use Rattle.lb_check.proofs.Words.{is_unhidden, is_variable, ResolvedNode, Sampling, Term}
-use Rattle.lb_check.proofs.Words.{VariableId, is_clock, are_clocks, left_clocks, are_on_results}
-use Rattle.lb_check.proofs.Words.{given_inputs, given_outputs, given_name, outer, above, own_depth}
-use Rattle.lb_check.proofs.Words.{depth, declared_clock, base_clock, base_from, argument_clocks}
-use Rattle.lb_check.proofs.Words.{result_clocks, statement_clock, HasClocks, name_in, clock_in}
-use Rattle.lb_check.proofs.Words.{is_clock_within, AreClockSets, is_clocked_on, Context}
-use Rattle.lb_check.proofs.Words.{declared_in, operands_of, given_at, clock_sets, are_given}
-use Rattle.lb_check.proofs.Words.{input_clocks, output_clocks, base_of, all_fit, left_clock_sets}
-use Rattle.lb_check.proofs.Words.{stands_for, result_base, Base, ClockSet, OneClock}
-use Rattle.std.proofs.lemmas.List.{nil_from_length}
-use Rattle.lb_static.specs.declared.resolved.Variable.{Variable as Declared}
-use Rattle.lb_check.specs.TermClocks.{is_call_clocked}
+use Rattle.lb_check.proofs.Words
+use Words.{◌≡◌, ℕ, suc, ◌+◌, ◌-◌, ◌<◌, ◌≤◌, ◌⊎◌, inl, inr, Bool, true, false, List, [], ◌∷◌, ◌++◌}
+use Words.{length, map, Option, Some, None, refl, ap, sym, ◌∙◌, subst, arith, ◌&&◌, ◌||◌, not}
+use Words.{slice_get, nat_eq, nat_lt, if◌then◌else◌, list_all, nat_tests, length-map, lt-ltb}
+use Words.{and_from, add-sub_cancel_left, and-true, either_or, listed, or_else, Name, Expr}
+use Words.{Declaration, and_first, and_second, both_ways, item_at, all_at, mapped_from, Program}
+use Words.{Site, node_named, node_of, texts_of, counts_of, exprs_of, is_within, is_unhidden}
+use Words.{is_variable, ResolvedNode, Sampling, Term, VariableId, is_clock, are_clocks, left_clocks}
+use Words.{are_on_results, given_inputs, given_outputs, given_name, outer, above, own_depth, depth}
+use Words.{declared_clock, base_clock, base_from, argument_clocks, result_clocks, statement_clock}
+use Words.{HasClocks, name_in, clock_in, is_clock_within, AreClockSets, is_clocked_on, Context}
+use Words.{declared_in, operands_of, given_at, clock_sets, are_given, input_clocks, output_clocks}
+use Words.{base_of, all_fit, left_clock_sets, stands_for, result_base, Base, ClockSet, OneClock}
+use Words.{Declared}
+use Rattle.{std.proofs.lemmas.List.nil_from_length, lb_check.specs.TermClocks.is_call_clocked}
 use Rattle.lb_check.specs.declared.own_clock.Clock.{Clock}
-use Rattle.lb_check.proofs.clocking.ClockLists.{clocks_length, clocks_at, clocks_from, place_split}
-use Rattle.lb_check.proofs.clocking.ClockLists.{later_place}
 use Rattle.lb_check.proofs.clocking.CallOperands.{are_given_is, own_inputs, clock_set_within}
-use Rattle.lb_check.proofs.clocking.CallOperands.{waited_given}
-use Rattle.lb_check.proofs.clocking.CallOperands.{input_waits, output_waits, inputs_seen}
-use Rattle.lb_check.proofs.clocking.CallOperands.{inputs_is_given}
-use Rattle.lb_check.proofs.clocking.CallOperands.{code_known, code_stand, same_fits}
-use Rattle.lb_check.proofs.clocking.FittingClocks.{IsGiven, IsWithin, fits_on, fit_some, fit_none}
-use Rattle.lb_check.proofs.clocking.FittingClocks.{base_within, base_is}
-use Rattle.lb_check.proofs.clocking.GivenNames.{given_in, given_out, found_before, output_at}
-use Rattle.lb_check.proofs.clocking.GivenNames.{output_held}
-use Rattle.lb_check.proofs.clocking.GivenNames.{variable_held}
-use Rattle.lb_check.proofs.lists.ListPairs.{get_mapped, get_taken, taken, get_dropped, each_pair}
-use Rattle.lb_check.proofs.lists.ListPairs.{pair_at}
-use Rattle.lb_check.proofs.lists.ListPairs.{pairs_from}
-use Rattle.lb_check.proofs.clocking.ClockTests.{clock_same, clock_turned}
-use Rattle.lb_check.proofs.clocking.OuterClocks.{stood, clock_equal, above_outer, declared_is}
-use Rattle.lb_check.proofs.clocking.OuterClocks.{place_name}
-use Rattle.lb_check.proofs.clocking.OuterClocks.{variable_at, seen, expected_on, AreGiven, StandFor}
-use Rattle.lb_check.proofs.clocking.OuterClocks.{HaveNames, outer_all}
+use Rattle.lb_check.proofs.clocking.CallOperands.{waited_given, input_waits, output_waits}
+use Rattle.lb_check.proofs.clocking.CallOperands.{inputs_seen, inputs_is_given, code_known}
+use Rattle.lb_check.proofs.clocking.{CallOperands.{code_stand, same_fits}, ClockTests.clock_same}
+use Rattle.lb_check.proofs.clocking.{ClockTests.clock_turned, GivenNames.{given_in, given_out}}
+use Rattle.lb_check.proofs.clocking.GivenNames.{found_before, output_at, output_held, variable_held}
+use Rattle.lb_check.proofs.clocking.OuterClocks.{clocks_length, clocks_at, clocks_from, place_split}
+use Rattle.lb_check.proofs.clocking.OuterClocks.{later_place, IsGiven, IsWithin, fits_on, fit_some}
+use Rattle.lb_check.proofs.clocking.OuterClocks.{fit_none, base_within, base_is, stood, clock_equal}
+use Rattle.lb_check.proofs.clocking.OuterClocks.{above_outer, declared_is, place_name, variable_at}
+use Rattle.lb_check.proofs.clocking.OuterClocks.{seen, expected_on, AreGiven, StandFor, HaveNames}
+use Rattle.lb_check.proofs.{clocking.OuterClocks.outer_all, lists.ListPairs.{get_mapped, get_taken}}
+use Rattle.lb_check.proofs.lists.ListPairs.{taken, get_dropped, each_pair, pair_at, pairs_from}
 use Rattle.lb_syntax.specs.Tree as text
 use Rattle.lb_check.specs.Clocks as tree
 use Rattle.lb_check.proofs.clocking.CallClockSets as one

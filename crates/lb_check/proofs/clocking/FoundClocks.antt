@@ -1,28 +1,500 @@
--- The clocks and calls that the code finds of the nodes of a program are those of their texts.
-use Rattle.lb_check.proofs.Words.{◌≡◌, ℕ, Bool, true, None, List, [], ◌∷◌, map, Some, refl, ap, sym}
-use Rattle.lb_check.proofs.Words.{◌∙◌, subst, option_map, slice_get, list_all, slice_get-map}
-use Rattle.lb_check.proofs.Words.{and_from, holds, E9, E10, unless, Node, mapped_from, all_at}
-use Rattle.lb_check.proofs.Words.{and_first, and_second, elaborated_program, IsLawful, Program}
-use Rattle.lb_check.proofs.Words.{Instance, instances, tree_at, node_of, Elaboration, Reached}
-use Rattle.lb_check.proofs.Words.{ResolvedNode, Specialization, Table, check_refusal, is_clocked}
-use Rattle.lb_check.proofs.Words.{IsJudged, node_occurrences, is_clock_within, is_typed}
-use Rattle.lb_check.specs.FoundTerms.{HasTermClocks, HasFoundCalls, HasFoundClocks, is_call_within}
-use Rattle.lb_check.specs.PlacedClocks.{call_in, found_in, node_terms, nothing_found, with_terms}
-use Rattle.lb_check.specs.declared.found_clocks.NodeClocks.{NodeClocks}
-use Rattle.lb_check.proofs.clocking.CallClockSets.{call_stands}
-use Rattle.lb_check.proofs.definitions.Checks.{first_none, second_none, kept, judged}
-use Rattle.lb_check.proofs.programs.CountedCalls.{calls_in, counted_from, node_counted}
-use Rattle.lb_check.proofs.clocking.EquationClockSets.{equation_stands}
-use Rattle.lb_check.proofs.lists.ListPairs.{get_mapped}
-use Rattle.lb_check.proofs.clocking.NodeClocks.{resolved_at}
-use Rattle.lb_check.proofs.clocking.PlacedNodes.{node_placed}
-use Rattle.lb_check.proofs.clocking.PlacedRows.{all_found}
-use Rattle.lb_check.proofs.clocking.PlacedWithin.{node_within}
+-- The clocks and calls that the code finds of nodes are those of their texts.
+use Rattle.lb_check.proofs.Words
+use Words.{◌≡◌, ℕ, ◌+◌, ◌<◌, ◌≤◌, Bool, true, false, List, [], ◌∷◌, ◌++◌, length, map, flat_map}
+use Words.{Option, Some, None, refl, ap, ap₂, sym, ◌∙◌, subst, list_all, zip, list_all-append}
+use Words.{Count, ◌>>=◌, Every, either_or, listed, Name, Expr, Statement, and_first, and_second}
+use Words.{Program, node_named, statement_sites, left_names, right_side, variable_names, node_of}
+use Words.{texts_of, counts_of, Texts, expr_of, exprs_of, named_value, row_of, static_at, site_at}
+use Words.{statement_of, is_variable, is_call, is_within, are_within, is_unhidden, are_unhidden}
+use Words.{is_statement_within, is_statement_unhidden, Reached, CallId, ResolvedNode}
+use Words.{ResolvedStatement, Term, Value, Group', Call', IterateNode', Row_of-Term}
+use Words.{items-the_row-Term, VariableId, base_clock, clock_of, clock_or, declared_clock}
+use Words.{given_inputs, outer, ungrouped, are_declared_clocks, are_on_results, is_clocked}
+use Words.{is_occurrence_clocked, is_statement_clocked, HasTermClocks, pair_names, given_parameters}
+use Words.{given_to, is_site, lefts_at, Occurrence, at, node_occurrences, occurrences}
+use Words.{occurrences_each, occurrences_in, right_sides, statement_clock, clock_in, name_in}
+use Words.{SeesClocks, is_clocked_on, are_single, is_single, is_single_within, is_statement_single}
+use Words.{FoundCall, FoundTerm, side_clocks, side_call, determined_clock, given_variables}
+use Words.{placed_arguments, placed_row, placed_terms, placed_side, placed_statement, node_terms}
+use Words.{callee_in, Context, context_of, declared_in, infer_clock, left_clock, operands_in}
+use Words.{operands_of, result_base, stands_for, Operand, Base, option_map, slice_get}
+use Words.{slice_get-map, and_from, holds, E9, E10, unless, Node, mapped_from, all_at}
+use Words.{elaborated_program, IsLawful, Instance, instances, tree_at, Elaboration, Specialization}
+use Words.{Table, check_refusal, IsJudged, is_clock_within, is_typed, ◌&&◌, cond, nat_eq}
+use Words.{is_call_within, nothing_found, with_terms}
+use Rattle.lb_check.specs.{FoundTerms.{HasFoundCalls, HasFoundClocks}, PlacedClocks.argument_clocks}
+use Rattle.lb_check.specs.PlacedClocks.{call_in, found_in}
+use Rattle.lb_check.specs.declared.{found_clocks.NodeClocks.NodeClocks, own_clock.Clock.Clock}
+use Rattle.lb_check.proofs.clocking.{CallClockSets.call_stands, CallOperands.arguments_placed}
+use Rattle.lb_check.proofs.clocking.{ClockTests.declared_is, EquationClockSets.equation_stands}
+use Rattle.lb_check.proofs.clocking.{GivenVariables.given_is, PlacedTerms.{IsCall, IsCallOf}}
+use Rattle.lb_check.proofs.clocking.PlacedTerms.{IsTerm, arguments_on, determined_is, given_by}
+use Rattle.lb_check.proofs.clocking.{PlacedTerms.{row_placed, term_placed}, PlacedWithin.are_among}
+use Rattle.lb_check.proofs.clocking.PlacedWithin.{parameters_within, node_within}
+use Rattle.lb_check.proofs.clocking.{StatementClockSets.node_clocked, TermClockSets.row_items}
+use Rattle.lb_check.proofs.clocking.TermClockSets.{within_items, unhidden_items, operands_items}
+use Rattle.lb_check.proofs.clocking.TermClockSets.{term_stands, row_stands}
+use Rattle.lb_check.proofs.clocking.WalkedClocks.{calls_among, clocks_among, all_found}
+use Rattle.lb_check.proofs.clocking.WholeClocks.{resolved_at, clocked_node}
+use Rattle.lb_check.proofs.definitions.BrokenRules.{first_none, second_none, kept, judged}
+use Rattle.lb_check.proofs.definitions.CallNumbers.{AreFrom, each_from, first_lefts, later_lefts}
+use Rattle.lb_check.proofs.definitions.CallNumbers.{lefts_among, no_more, no_own, own_is, own_lefts}
+use Rattle.lb_check.proofs.definitions.CallNumbers.{row_from, statement_below, statements_from}
+use Rattle.lb_check.proofs.{definitions.NodePlaces.callee_found, lists.ListPairs.Pairs}
+use Rattle.lb_check.proofs.lists.ListPairs.{Pairs-append, Pairs-with, paired_at, get_mapped}
+use Rattle.lb_check.proofs.lists.Members.{Every-all}
+use Rattle.lb_check.proofs.programs.CountedCalls.{call_placed as call_at_place, calls_in}
+use Rattle.lb_check.proofs.programs.CountedCalls.{counted_from, node_counted}
 use Rattle.lb_check.proofs.typing.SingleCalls.{single_statements}
-use Rattle.lb_check.proofs.definitions.Specializations.{all_specializations}
-use Rattle.lb_check.proofs.clocking.StatementClockSets.{node_clocked}
-use Rattle.lb_check.proofs.clocking.TermClockSets.{term_stands}
-use Rattle.lb_check.proofs.clocking.WholeClocks.{clocked_node}
+use Rattle.lb_check.proofs.typing.Specializations.{all_specializations}
+use Rattle.lb_syntax.specs.Tree as tree
+use Rattle.lb_static.specs.declared.resolved.ResolvedStatement.TheVariants as statement
+use Rattle.lb_check.specs.Occurrences as text
+use Rattle.lb_check.proofs.clocking.EquationClockSets as side
+
+-- The clocks and calls that the code finds of the terms of a node are those of the occurrences in
+-- its text.
+
+abbrev no_names : List Name
+no_names = []
+
+module _ (P : Program) (r : Reached) (here : ResolvedNode) (sees : SeesClocks P r here) where
+  abbrev texts : Texts
+  texts = texts_of here
+
+  abbrev ctx : Context
+  ctx = context_of r here
+
+  -- the clock of an equation with these left variables
+  abbrev left_k : List VariableId → Clock
+  left_k lefts = left_clock (context_of r here) lefts
+
+  abbrev AreLawful : List Occurrence → Type 0
+  AreLawful os = list_all (is_occurrence_clocked P (node_of here)) os ≡ true
+
+  declares : (context_of r here).variable ≡ declared_in here
+  unfolding context_of
+  declares = refl
+
+  calls : (context_of r here).callee ≡ callee_in r here
+  unfolding context_of
+  calls = refl
+
+  left_is : (lefts : List VariableId) → list_all (is_variable (counts_of here)) lefts ≡ true →
+      (e : Expr) →
+      statement_clock P (node_of here) (tree.Equation (map (name_in here) lefts) e)
+      ≡ clock_in here (left_clock (context_of r here) lefts)
+  unfolding context_of
+  left_is [] w e = refl
+  left_is (x ∷ xs) w e =
+      sym (declared_is here sees.own x (and_first _ (list_all (is_variable (counts_of here)) xs) w))
+
+  -- ## Equations
+
+  abbrev call_of_row : {m : Count} → CallId → Row_of-Term m → Expr
+  call_of_row c row =
+      tree.Call (site_at (texts_of here).calls c).callee (site_at (texts_of here).calls c).arguments
+      (row_of (texts_of here) row)
+
+  -- the found call of a whole right side is right, and so are the clocks of its arguments
+  call_found :
+      (lefts : List VariableId) → list_all (is_variable (counts_of here)) lefts ≡ true →
+      (n : ℕ) (c : CallId) {m : Count} (row : Row_of-Term m) →
+      is_call (counts_of here) c ≡ true → are_within (counts_of here) row ≡ true →
+      are_unhidden (texts_of here) row ≡ true → are_single r here row ≡ true →
+      is_clocked_on P here (clock_in here (left_k lefts)) n (call_of_row c row) ≡ true →
+      are_on_results P (node_of here) (clock_in here (left_k lefts)) (map (name_in here) lefts)
+      (call_of_row c row) ≡ true →
+      IsCallOf P here (map (name_in here) lefts)
+      (at (clock_in here (left_k lefts)) n (call_of_row c row))
+      (side_call (context_of r here) lefts (operands_in (context_of r here) row)
+      ((context_of r here).callee c))
+      × (text.call_clocks (clock_in here (left_k lefts))
+      (node_named P (site_at (texts_of here).calls c).callee) (row_of (texts_of here) row)
+      ≡ map (clock_in here)
+      (side_clocks (context_of r here) lefts c (operands_in (context_of r here) row)))
+  call_found lefts wl n c {m = m} row wc w u singles kept results =
+      let found = callee_found P r sees.names sees.reached sees.place here sees.at c wc in
+      let callee = found.0 in
+      let hc = sees.callees c callee found.1 in
+      let site = site_at texts.calls c in
+      let es = items-the_row-Term m row in
+      let wi = within_items (counts_of here) m row ∙ w in
+      let ui = unhidden_items texts m row ∙ u in
+      let stand = row_stands P r here sees
+      (λ callee has. call_stands P here callee sees.own has) row w u singles in
+      let args = row_items texts m row in
+      let xs = map (name_in here) lefts in
+      let whole = tree.Call site.callee site.arguments (exprs_of texts es) in
+      let on_left = left_is lefts wl whole in
+      let same : call_of_row c row ≡ whole = ap (tree.Call site.callee site.arguments) args in
+      let kept_there : is_clocked_on P here
+      (statement_clock P (node_of here) (tree.Equation xs whole)) n whole ≡ true =
+      subst (λ k. is_clocked_on P here k n whole ≡ true) (sym on_left)
+      (subst (λ e. is_clocked_on P here (clock_in here (left_k lefts)) n e ≡ true) same kept) in
+      let results_there : are_on_results P (node_of here)
+      (statement_clock P (node_of here) (tree.Equation xs whole)) xs whole ≡ true =
+      subst (λ k. are_on_results P (node_of here) k xs whole ≡ true) (sym on_left)
+      (subst (λ e. are_on_results P (node_of here) (clock_in here (left_k lefts)) xs e ≡ true) same
+      results) in
+      let given = side.side_given P here callee sees.own hc site found.2 ctx declares es wi ui stand
+      lefts wl n kept_there results_there in
+      let base = side.side_base P here callee sees.own hc site found.2 ctx declares es wi ui stand
+      lefts wl n kept_there results_there in
+      let fits = side.side_fitting P here callee sees.own hc site found.2 ctx declares es wi ui
+      stand lefts wl n kept_there results_there in
+      let os = operands_of ctx es in
+      let b = either_or (result_base ctx callee os lefts) Base in
+      let clocks_of = λ (n : ResolvedNode). argument_clocks
+      (either_or (result_base ctx n os lefts) Base) (stands_for n.inputs os lefts) n in
+      let found_call : side_call ctx lefts (operands_in ctx row) (ctx.callee c)
+      ≡ side_call ctx lefts os (Some callee) =
+      ap₂ (side_call ctx lefts) (operands_items ctx m row) (ap (λ f. f c) calls ∙ found.1) in (
+        subst (IsCallOf P here xs (at (clock_in here (left_k lefts)) n (call_of_row c row)))
+            (sym found_call)
+            (record {
+              runs =
+                  ap (λ o. either_or
+                  (o >>= λ callee. Some (base_clock (clock_in here (left_k lefts)) callee))
+                  (clock_in here (left_k lefts))) found.2
+                  ∙ ap (λ z. base_clock z (node_of callee)) (sym on_left) ∙ base;
+              given =
+                  ap (listed (λ callee. given_parameters callee (row_of texts row) xs)) found.2
+                  ∙ ap (λ es. given_parameters (node_of callee) es xs) args
+                  ∙ given_is callee hc here ctx es lefts given
+                  ∙ sym (ap (λ o. listed (λ z. map (pair_names (variable_names z) here)
+                  (given_variables callee os lefts)) o) found.2);
+              parameters =
+                  ap (are_among (given_variables callee os lefts)) found.2
+                  ∙ parameters_within callee hc os lefts;
+            }),
+        ap₂ (λ o es. text.call_clocks (clock_in here (left_k lefts)) o es) found.2 args
+            ∙ ap (λ z. text.call_clocks z (Some (node_of callee)) (exprs_of texts es)) (sym on_left)
+            ∙ ap (λ z. map (λ (d : tree.Declaration). outer z
+            (given_inputs (node_of callee).inputs (exprs_of texts es))
+            (declared_clock (node_of callee) d.name)) (node_of callee).inputs) base
+            ∙ arguments_placed P here callee sees.own hc ctx declares es wi ui stand
+            (stands_for callee.inputs os lefts)
+            (side.Y_in P here callee sees.own hc site found.2 ctx declares es wi ui stand lefts wl)
+            given b fits
+            ∙ sym (ap (λ (l : List Operand). map (clock_in here) (side_clocks ctx lefts c l))
+            (operands_items ctx m row)
+            ∙ ap (λ f. map (clock_in here) (listed clocks_of (f c))) calls
+            ∙ ap (λ o. map (clock_in here) (listed clocks_of o)) found.1),
+      )
+
+  -- found terms stand for occurrences, where `lefts` has the left variables of each call by its
+  -- number
+  abbrev Places : (ℕ → List Name) → List Occurrence → List FoundTerm → Type 0
+  Places lefts os ts = Pairs (λ o t. IsTerm P here (lefts o.calls_before) o t) os ts
+
+  relabel_call : (l k : List Name) (o : Occurrence) (c : Option FoundCall) →
+      (is_site o.expr ≡ true → l ≡ k) → IsCall P here l o c → IsCall P here k o c
+  relabel_call l k o None same h = h
+  relabel_call l k o (Some c) same h =
+      (h.0, subst (λ l. IsCallOf P here l o c) (same h.0) h.1)
+
+  relabel : (f g : ℕ → List Name) (Q : Occurrence → Type 0) →
+      ((o : Occurrence) → Q o → is_site o.expr ≡ true → f o.calls_before ≡ g o.calls_before) →
+      (os : List Occurrence) (ts : List FoundTerm) → Every Q os → Places f os ts → Places g os ts
+  relabel f g Q same os ts q h =
+      Pairs-with (λ o t. IsTerm P here (f o.calls_before) o t)
+      (λ o t. IsTerm P here (g o.calls_before) o t) Q
+      (λ o t known is. (
+        is.0,
+        relabel_call (f o.calls_before) (g o.calls_before) o t.call
+            (same o known) is.1,
+      )) os ts q h
+
+  abbrev own : List VariableId → ℕ → Expr → ℕ → List Name
+  own lefts n e = own_lefts P (node_of here) n e (map (name_in here) lefts)
+
+  -- a right side that stands on the clock of its equation is placed there
+  abbrev IsPlaced : List VariableId → ℕ → Term → Type 0
+  IsPlaced lefts n e =
+      is_clocked_on P here (clock_in here (left_clock (context_of r here) lefts)) n
+      (expr_of (texts_of here) e) ≡ true →
+      are_on_results P (node_of here) (clock_in here (left_clock (context_of r here) lefts))
+      (map (name_in here) lefts) (ungrouped (expr_of (texts_of here) e)) ≡ true →
+      Places (own lefts n (expr_of (texts_of here) e))
+      (occurrences P (node_of here)
+      (clock_in here (left_clock (context_of r here) lefts)) n (expr_of (texts_of here) e))
+      (placed_side (context_of r here) lefts e)
+
+  -- a right side that is no call is placed
+  plain : (lefts : List VariableId) (n : ℕ) (t : Term) →
+      is_site (ungrouped (expr_of (texts_of here) t)) ≡ false →
+      Pairs (IsTerm P here [])
+      (occurrences P (node_of here) (clock_in here (left_k lefts)) n (expr_of (texts_of here) t))
+      (placed_terms (context_of r here) (left_k lefts) t) →
+      Places (own lefts n (expr_of (texts_of here) t))
+      (occurrences P (node_of here) (clock_in here (left_k lefts)) n (expr_of (texts_of here) t))
+      (placed_terms (context_of r here) (left_k lefts) t)
+  plain lefts n t is h =
+      let e = expr_of texts t in
+      let os = occurrences P (node_of here) (clock_in here (left_k lefts)) n e in
+      relabel (λ i. []) (own lefts n e) (λ o. Unit {0})
+      (λ o known site. no_own P (node_of here) n e (map (name_in here) lefts) o.calls_before is)
+      os (placed_terms ctx (left_k lefts) t) (Every-all (λ o. Unit {0}) (λ o. tt) os) h
+
+  -- the occurrences within a whole right side are no whole right sides
+  inner : (lefts : List VariableId) (n : ℕ) (e : Expr) (os : List Occurrence)
+      (ts : List FoundTerm) → AreFrom (n + 1) os → Pairs (IsTerm P here []) os ts →
+      Places (own lefts n e) os ts
+  inner lefts n e os ts later h =
+      relabel (λ i. []) (own lefts n e) (λ o. is_site o.expr ≡ true → n + 1 ≤ o.calls_before)
+      (λ o known site. no_more P (node_of here) n e (map (name_in here) lefts) o.calls_before
+      (known site))
+      os ts later h
+
+  no_site_value : (s : tree.Static) → is_site (ungrouped (named_value s)) ≡ false
+  no_site_value (tree.Named x) = refl
+  no_site_value (tree.Whole m) = refl
+  no_site_value (tree.Negated s) = refl
+  no_site_value (tree.Combined op s t) = refl
+  no_site_value (tree.Grouped s) = refl
+
+  side_placed :
+      (lefts : List VariableId) → list_all (is_variable (counts_of here)) lefts ≡ true →
+      (n : ℕ) (e : Term) → is_within (counts_of here) e ≡ true →
+      is_unhidden (texts_of here) e ≡ true → is_single_within r here e ≡ true → IsPlaced lefts n e
+  unfolding placed_side placed_terms is_single_within is_single
+  side_placed lefts wl n (Value i) w u s k f =
+      plain lefts n (Value i) (no_site_value (static_at texts.statics i))
+      (term_placed P r here sees (left_k lefts) n (Value i) w u s k)
+  side_placed lefts wl n (Group' p a) w u s k f = side_placed lefts wl n a w u s k f
+  side_placed lefts wl n (Call' c arity all) w u s k f =
+      let wc = and_first _ (are_within (counts_of here) all) w in
+      let wa = and_second (is_call (counts_of here) c) _ w in
+      let es = row_of texts all in
+      let x = call_of_row c all in
+      let ks = side_clocks ctx lefts c (operands_in ctx all) in
+      let names = map (name_in here) lefts in
+      let found = call_found lefts wl n c all wc wa u s k f in (
+        (
+          refl,
+          (
+            refl,
+            subst
+                (λ l. IsCallOf P here l (at (clock_in here (left_k lefts)) n x)
+                (side_call ctx lefts (operands_in ctx all) (ctx.callee c)))
+                (sym (own_is P (node_of here) n x names refl))
+                found.0,
+          ),
+        ),
+        inner lefts n x
+            (occurrences_each P (node_of here)
+            (text.call_clocks (clock_in here (left_k lefts))
+            (node_named P (site_at texts.calls c).callee) es) (n + 1) es)
+            (placed_arguments ctx ks all)
+            (each_from P (node_of here) (text.call_clocks (clock_in here (left_k lefts))
+            (node_named P (site_at texts.calls c).callee) es) (n + 1) es)
+            (subst (λ ls. AreLawful (occurrences_each P (node_of here) ls (n + 1) es) →
+            Pairs (IsTerm P here []) (occurrences_each P (node_of here) ls (n + 1) es)
+            (placed_arguments ctx ks all))
+            (sym found.1)
+            (λ e. arguments_on P r here sees ks (n + 1) all wa u s e) (and_second _ _ k)),
+      )
+  side_placed lefts wl n (IterateNode' it c arity all) w u s k f =
+      let es = row_of texts all in
+      let x = expr_of texts (IterateNode' it c arity all) in (
+        (refl, (refl, record { runs = refl; given = refl; parameters = refl })),
+        inner lefts n x
+            (occurrences_in P (node_of here) (clock_in here (left_k lefts)) (n + 1) es)
+            (placed_row ctx (left_k lefts) all)
+            (row_from P (node_of here) (clock_in here (left_k lefts)) (n + 1) es)
+            (row_placed P r here sees (left_k lefts) (n + 1) all
+            (and_second (is_call (counts_of here) c) _ w) u s (and_second _ _ k)),
+      )
+  side_placed lefts wl n t w u s k f =
+      plain lefts n t refl (term_placed P r here sees (left_k lefts) n t w u s k)
+
+  -- ## Statements
+
+  statement_placed :
+      (n : ℕ) (s : ResolvedStatement) → is_statement_within (counts_of here) s ≡ true →
+      is_statement_unhidden (texts_of here) s ≡ true → is_statement_single r here s ≡ true →
+      is_clocked_on P here (statement_clock P (node_of here) (statement_of (texts_of here) s)) n
+      (right_side (statement_of (texts_of here) s)) ≡ true →
+      is_statement_clocked P (node_of here) (statement_of (texts_of here) s)
+      (at (statement_clock P (node_of here) (statement_of (texts_of here) s)) n
+      (right_side (statement_of (texts_of here) s))) ≡ true →
+      Places (own_lefts P (node_of here) n (right_side (statement_of (texts_of here) s))
+      (left_names (statement_of (texts_of here) s)))
+      (occurrences P (node_of here)
+      (statement_clock P (node_of here) (statement_of (texts_of here) s)) n
+      (right_side (statement_of (texts_of here) s)))
+      (placed_statement (context_of r here) s)
+  statement_placed n (statement.Equation lefts e) w u s kept results =
+      let wl = and_first _ (is_within (counts_of here) e) w in
+      let we = and_second (list_all (is_variable (counts_of here)) lefts.items) _ w in
+      let x = expr_of texts e in
+      subst (λ k. is_clocked_on P here k n x ≡ true →
+      are_on_results P (node_of here) k (map (name_in here) lefts.items) (ungrouped x) ≡ true →
+      Places (own lefts.items n x) (occurrences P (node_of here) k n x)
+      (placed_side ctx lefts.items e)) (sym (left_is lefts.items wl x))
+      (side_placed lefts.items wl n e we u s) kept results
+  statement_placed n (statement.Assertion e) w u s kept results =
+      let x = expr_of texts e in
+      let k = determined_clock (infer_clock ctx e) in
+      let stands = term_stands P r here sees
+      (λ callee has. call_stands P here callee sees.own has) e w u s in
+      let is = determined_is P r here sees x (infer_clock ctx e) stands
+      (clock_or (clock_of P (node_of here) x)) n kept in
+      subst (λ l. AreLawful (occurrences P (node_of here) l n x) →
+      Places (own_lefts P (node_of here) n x []) (occurrences P (node_of here) l n x)
+      (placed_terms ctx k e))
+      (sym is)
+      (λ f. relabel (λ i. []) (own_lefts P (node_of here) n x []) (λ o. Unit {0})
+      (λ o known site. none (nat_eq n o.calls_before && is_site (ungrouped x)))
+      (occurrences P (node_of here) (clock_in here k) n x) (placed_terms ctx k e)
+      (Every-all (λ o. Unit {0}) (λ o. tt) (occurrences P (node_of here) (clock_in here k) n x))
+      (term_placed P r here sees k n e w u s f)) kept
+    where
+      none : (b : Bool) → [] ≡ cond b no_names []
+      none true = refl
+      none false = refl
+
+  abbrev all_in : List Occurrence → List Occurrence
+  all_in os = flat_map (λ r. occurrences P (node_of here) r.clock r.calls_before r.expr) os
+
+  abbrev sides : ℕ → List Statement → List Occurrence
+  sides n ss = right_sides P (node_of here) n ss
+
+  abbrev are_kept : List Statement → List Occurrence → Bool
+  are_kept ss os =
+      list_all (λ s. is_statement_clocked P (node_of here) s.0 s.1) (zip ss os)
+
+  statements_placed :
+      (n : ℕ) (ss : List ResolvedStatement) →
+      list_all (is_statement_within (counts_of here)) ss ≡ true →
+      list_all (is_statement_unhidden (texts_of here)) ss ≡ true →
+      list_all (is_statement_single r here) ss ≡ true →
+      AreLawful (all_in (sides n (map (statement_of (texts_of here)) ss))) →
+      are_kept (map (statement_of (texts_of here)) ss)
+      (sides n (map (statement_of (texts_of here)) ss)) ≡ true →
+      Places (lefts_among P (node_of here) n (map (statement_of (texts_of here)) ss))
+      (all_in (sides n (map (statement_of (texts_of here)) ss)))
+      (flat_map (placed_statement (context_of r here)) ss)
+  statements_placed n [] w u s kept results = tt
+  statements_placed n (st ∷ ss) w u s kept results =
+      let text_of = statement_of texts st in
+      let k = statement_clock P (node_of here) text_of in
+      let e = right_side text_of in
+      let m = n + length (statement_sites text_of) in
+      let body = map (statement_of texts) ss in
+      let first = occurrences P (node_of here) k n e in
+      let rest = all_in (sides m body) in
+      let split =
+      sym (list_all-append (is_occurrence_clocked P (node_of here)) first rest) ∙ kept in
+      let among = lefts_among P (node_of here) n (text_of ∷ body) in
+      Pairs-append (λ o t. IsTerm P here (among o.calls_before) o t) first rest
+      (placed_statement ctx st) (flat_map (placed_statement ctx) ss)
+      (relabel (own_lefts P (node_of here) n e (left_names text_of)) among
+      (λ o. is_site o.expr ≡ true → o.calls_before < m)
+      (λ o below site. first_lefts P (node_of here) n text_of body o.calls_before (below site))
+      first (placed_statement ctx st) (statement_below P (node_of here) n text_of)
+      (statement_placed n st
+      (and_first _ (list_all (is_statement_within (counts_of here)) ss) w)
+      (and_first _ (list_all (is_statement_unhidden texts) ss) u)
+      (and_first _ (list_all (is_statement_single r here) ss) s)
+      (and_first _ (list_all (is_occurrence_clocked P (node_of here)) rest) split)
+      (and_first _ (are_kept body (sides m body)) results)))
+      (relabel (lefts_among P (node_of here) m body) among
+      (λ o. is_site o.expr ≡ true → m ≤ o.calls_before)
+      (λ o later site. later_lefts P (node_of here) n text_of body o.calls_before (later site))
+      rest (flat_map (placed_statement ctx) ss) (statements_from P (node_of here) m body)
+      (statements_placed m ss
+      (and_second (is_statement_within (counts_of here) st) _ w)
+      (and_second (is_statement_unhidden texts st) _ u)
+      (and_second (is_statement_single r here st) _ s)
+      (and_second (list_all (is_occurrence_clocked P (node_of here)) first) _ split)
+      (and_second (is_statement_clocked P (node_of here) text_of (at k n e)) _ results)))
+
+  terms_placed :
+      list_all (is_statement_unhidden (texts_of here)) here.body.items ≡ true →
+      list_all (is_statement_single r here) here.body.items ≡ true →
+      is_clocked P (node_of here) ≡ true →
+      Places (lefts_at P (node_of here)) (node_occurrences P (node_of here)) (node_terms r here)
+  terms_placed u s kept =
+      let resolved = resolved_at P r sees.names sees.reached sees.place here sees.at in
+      let rules = and_second (are_declared_clocks (node_of here)) _ kept in
+      let lawful = and_first (list_all (is_occurrence_clocked P (node_of here))
+      (node_occurrences P (node_of here))) _ rules in
+      let results = and_second (list_all (is_occurrence_clocked P (node_of here))
+      (node_occurrences P (node_of here))) _ rules in
+      subst (λ b. AreLawful (all_in (sides 0 b)) → are_kept b (sides 0 b) ≡ true →
+      Places (lefts_among P (node_of here) 0 b) (all_in (sides 0 b))
+      (flat_map (placed_statement (context_of r here)) here.body.items))
+      resolved.body
+      (statements_placed 0 here.body.items resolved.body_within u s) lawful results
+
+  -- ## The clocks, and the calls
+
+  clocks_of : (f : ℕ → List Name) (os : List Occurrence) (ts : List FoundTerm) → Places f os ts →
+      map (λ o. o.clock) os ≡ map (clock_in here) (clocks_among ts)
+  clocks_of f [] [] h = refl
+  clocks_of f [] (t ∷ ts) h = absurd h
+  clocks_of f (o ∷ os) [] h = absurd h
+  clocks_of f (o ∷ os) (t ∷ ts) h = ap₂ (λ k ks. k ∷ ks) h.0.0 (clocks_of f os ts h.1)
+
+  calls_of : (f : ℕ → List Name) (os : List Occurrence) (ts : List FoundTerm) → Places f os ts →
+      Pairs (λ o c. IsCallOf P here (f o.calls_before) o c) (calls_in os) (calls_among ts)
+  calls_of f [] [] h = tt
+  calls_of f [] (t ∷ ts) h = absurd h
+  calls_of f (o ∷ os) [] h = absurd h
+  calls_of f (o ∷ os) (t ∷ ts) h = by t.call h.0.1 (calls_of f os ts h.1)
+    where
+      by : (c : Option FoundCall) → IsCall P here (f o.calls_before) o c →
+          Pairs (λ o c. IsCallOf P here (f o.calls_before) o c) (calls_in os) (calls_among ts) →
+          Pairs (λ o c. IsCallOf P here (f o.calls_before) o c) (calls_in (o ∷ os))
+          (listed (λ c. c ∷ []) c ++ calls_among ts)
+      by None is rest =
+          subst (λ b. Pairs (λ o c. IsCallOf P here (f o.calls_before) o c)
+          (cond b (o ∷ calls_in os) (calls_in os)) (calls_among ts)) (sym is) rest
+      by (Some c) is rest =
+          subst (λ b. Pairs (λ o c. IsCallOf P here (f o.calls_before) o c)
+          (cond b (o ∷ calls_in os) (calls_in os)) (c ∷ calls_among ts)) (sym is.0) (is.1, rest)
+
+  given_to_is : (call : ℕ) (e : Expr) →
+      given_to P (node_of here) call e ≡ given_by P e (lefts_at P (node_of here) call)
+  given_to_is call (tree.Call f statics es) = refl
+  given_to_is call _ = refl
+
+  -- the clocks and calls found of a node that keeps the rules of clocks are right, where its calls
+  -- are counted
+  pub node_placed :
+      list_all (is_statement_unhidden (texts_of here)) here.body.items ≡ true →
+      list_all (is_statement_single r here) here.body.items ≡ true →
+      is_clocked P (node_of here) ≡ true →
+      counted_from 0 (calls_in (node_occurrences P (node_of here))) ≡ true →
+      HasTermClocks P here (clocks_among (node_terms r here))
+      × HasFoundCalls P here (calls_among (node_terms r here))
+  node_placed u s kept counted = (
+    clocks_of (lefts_at P (node_of here)) (node_occurrences P (node_of here)) (node_terms r here)
+        (terms_placed u s kept),
+    found,
+  )
+    where
+      found : HasFoundCalls P here (calls_among (node_terms r here))
+      found i o e =
+          let os = node_occurrences P (node_of here) in
+          let p = call_at_place P (node_of here) counted i o e in
+          let c = paired_at
+          (λ o c. IsCallOf P here (lefts_at P (node_of here) o.calls_before) o c)
+          (calls_in os) (calls_among (node_terms r here)) i o
+          (calls_of (lefts_at P (node_of here)) os (node_terms r here) (terms_placed u s kept))
+          p.2 in (
+            c.0,
+            c.1,
+            record {
+              runs = c.2.runs;
+              given = given_to_is o.calls_before o.expr ∙ c.2.given;
+              parameters = c.2.parameters;
+            },
+          )
+
+-- The clocks and calls that the code finds of the nodes of a program are those of their texts.
 
 -- all items pass `g`, where all pass `f` and what passes `f` passes `g`
 all_pass : {A : Type 0} (f g : A → Bool) → ((x : A) → f x ≡ true → g x ≡ true) → (xs : List A) →

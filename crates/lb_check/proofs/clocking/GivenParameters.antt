@@ -1,25 +1,20 @@
 -- The clocks of the parameters of a callee: each variable that such a clock waits for is a clock
 -- parameter, and the call gives it a variable of the caller.
-use Rattle.lb_check.proofs.Words.{◌≡◌, ◌⊎◌, inl, inr, ℕ, suc, Bool, true, false, cond, Option, Some}
-use Rattle.lb_check.proofs.Words.{None, List, [], ◌∷◌, ◌++◌, length, map, refl, ap, ap₂, sym, ◌∙◌}
-use Rattle.lb_check.proofs.Words.{subst, arith, ◌||◌, not, is_some, option_map, filter, bytes_eq}
-use Rattle.lb_check.proofs.Words.{append_assoc, map-append, bytes_eq-Decides, ◌>>=◌, In, either_or}
-use Rattle.lb_check.proofs.Words.{holds, listed, Name, Exprs, Declaration, Node, all_in, and_first}
-use Rattle.lb_check.proofs.Words.{and_second, implied, variables, Program, Instance, Path, Child}
-use Rattle.lb_check.proofs.Words.{instance_at, among, variable_names, named, any_in, is_clocked_by}
-use Rattle.lb_check.proofs.Words.{are_declared_clocks, is_given_variable, are_given_variables}
-use Rattle.lb_check.proofs.Words.{is_base_clocked_node, Clock, On, Given, variable_clock}
-use Rattle.lb_check.proofs.Words.{declared_clock, given_name, outer, given_inputs, given_outputs}
-use Rattle.lb_check.proofs.Words.{WholeClock, Always, Where, is_clock_parameter, call_at, given_to}
-use Rattle.lb_check.proofs.Words.{serves, serving, whole_clock, site_clock, runs_on, Occurrence}
-use Rattle.lb_syntax.specs.Tree.{Sampling}
-use Rattle.lb_check.specs.Clocks.{Base}
-use Rattle.lb_check.specs.Needs.{given_at}
-use Rattle.lb_check.proofs.lists.ApartLists.{in_either, Every-at, Every-from}
-use Rattle.lb_check.proofs.clocking.CallClocks.{none_given}
-use Rattle.lb_check.proofs.clocking.NamedClocks.{IsOver, found_first, named_over, clock_or_over}
-use Rattle.lb_check.proofs.clocking.NamedClocks.{own_names}
-use Rattle.lb_check.proofs.clocking.NamedClocks.{input_over, output_over, one_clock}
+use Rattle.lb_check.proofs.Words
+use Words.{◌≡◌, ◌⊎◌, inl, inr, ℕ, suc, Bool, true, false, cond, Option, Some, None, List, [], ◌∷◌}
+use Words.{◌++◌, length, map, refl, ap, ap₂, sym, ◌∙◌, subst, arith, ◌||◌, not, is_some, option_map}
+use Words.{filter, bytes_eq, append_assoc, map-append, bytes_eq-Decides, ◌>>=◌, In, either_or}
+use Words.{holds, listed, Name, Exprs, Declaration, Node, all_in, and_first, and_second, implied}
+use Words.{variables, Program, Instance, Path, Child, instance_at, among, variable_names, named}
+use Words.{any_in, is_clocked_by, are_declared_clocks, is_given_variable, are_given_variables}
+use Words.{is_base_clocked_node, Clock, On, Given, variable_clock, declared_clock, given_name}
+use Words.{outer, given_inputs, given_outputs, WholeClock, Always, Where, is_clock_parameter}
+use Words.{call_at, given_to, serves, serving, whole_clock, site_clock, runs_on, Occurrence}
+use Rattle.{lb_syntax.specs.Tree.Sampling, lb_check.specs.{Clocks.Base, Needs.given_at}}
+use Rattle.lb_check.proofs.clocking.{GivenNames.none_given, NamedClocks.{IsOver, found_first}}
+use Rattle.lb_check.proofs.clocking.NamedClocks.{named_over, clock_or_over, own_names, input_over}
+use Rattle.lb_check.proofs.{clocking.NamedClocks.{output_over, one_clock}, lists.Members.in_either}
+use Rattle.lb_check.proofs.lists.Members.{Every-at, Every-from}
 use Rattle.lb_check.proofs.programs.OccurrenceSites.{find_first}
 
 -- ## The pair that is found by a name

@@ -1,31 +1,96 @@
+-- The variables that the code finds to stand for those of a callee.
+use Rattle.lb_check.proofs.Words
+use Words.{◌≡◌, ◌≢◌, ℕ, suc, ◌+◌, ◌-◌, ◌<◌, ◌≤◌, List, [], ◌∷◌, ◌++◌, Option, refl, ap, sym, ◌∙◌}
+use Words.{arith, Bool, true, false, length, drop, get_or, subst, ◌||◌, nat_eq, list_any, set}
+use Words.{nat_tests, append_assoc, append-nil, drop_more, listed, ResolvedNode, Variable}
+use Words.{VariableId, given_from, given_variable, GivenVariable, zero, map, take, Some, None, ap₂}
+use Words.{◌==◌, filter, not, is_some, option_map, nat_lt, slice_get, if◌then◌else◌, list_all}
+use Words.{bytes_eq, length-append, map-append, length-take-le, slice_get_within}
+use Words.{add-sub_cancel_left, lt-ltb, either_or, holds, zip2, Name, Declaration, item_at}
+use Words.{and_first, and_second, variable_names, node_of, statics_of, texts_of, declaration_of}
+use Words.{expr_of, exprs_of, name_at, Sampling, Term, variable_of, Given, as_variable}
+use Words.{given_inputs, given_outputs, waits_below, pair_names, is_clock_parameter}
+use Words.{given_parameters, HasClocks, name_in, given_variables, is_awaited, pair_at, Context}
+use Words.{are_given, given_at, is_given, operands_of, stands_for, cond, Declared}
+use Rattle.std.proofs.{Math.Bool.{or_assoc, or_comm}, lemmas.List.get_or-set_other}
+use Rattle.std.proofs.lemmas.List.{get_or-set_same, Elements.filter-append}
+use Rattle.lb_check.{specs.PlacedClocks.waits_at, proofs.clocking.ClockDepths.as_many_names}
+use Rattle.lb_check.proofs.clocking.ClockDepths.{same_taken, within_names, all_taken, zip_split}
+use Rattle.lb_check.proofs.clocking.GivenNames.{all_variables, input_at, output_at, variable_as}
+use Rattle.lb_check.proofs.clocking.{GivenNames.variable_held, OuterClocks.later_place}
+use Rattle.lb_check.proofs.{clocking.OuterClocks.place_name, lists.Members.distinct_at}
+
+-- Flags of awaited variables, and the pairs that a loop over places finds, from a place on.
+
+-- ## Flags
+
+-- the flag at place `p` is set, and all others stay
+pub flag_more : (flags : List Bool) (p i : ℕ) → p < length flags →
+    get_or (set flags p true) i false ≡ (nat_eq p i || get_or flags i false)
+flag_more flags p i lt = by (nat_eq p i) refl
+  where
+    by : (b : Bool) → nat_eq p i ≡ b →
+        get_or (set flags p true) i false ≡ (b || get_or flags i false)
+    by true e =
+        let same : p ≡ i = grind (arith, nat_tests) in
+        subst (λ k. get_or (set flags p true) k false ≡ true) same
+        (get_or-set_same flags p true false lt)
+    by false e =
+        let other : i ≢ p = grind (arith, nat_tests) in
+        get_or-set_other flags p i true false other
+
+-- no flag is set at a place past the flags
+pub flag_past : (flags : List Bool) (p i : ℕ) → length flags ≤ p → i < length flags →
+    get_or flags i false ≡ (nat_eq p i || get_or flags i false)
+flag_past flags p i le lt =
+    let e : nat_eq p i ≡ false = grind (arith, nat_tests) in
+    sym (ap (λ b. b || get_or flags i false) e)
+
+-- whether one of some variables waits for the variable at place `i`
+abbrev pub is_waited : ℕ → List Variable → Bool
+is_waited i vs = list_any (λ (v : Variable). waits_at i v.clock) vs
+
+-- one more variable is looked at
+pub waited_more : (vs : List Variable) (j i : ℕ) (d : Variable) (old now : List Bool) (new : Bool) →
+    j < length vs → new ≡ (waits_at i (get_or vs j d).clock || get_or now i false) → now ≡ old →
+    (is_waited i (drop j vs) || get_or old i false) ≡ (is_waited i (drop (j + 1) vs) || new)
+waited_more vs j i d old now new lt e same =
+    let one = waits_at i (get_or vs j d).clock in
+    let rest = is_waited i (drop (j + 1) vs) in
+    let flag = get_or old i false in
+    ap (λ l. is_waited i l || flag) (drop_more vs j d lt)
+    ∙ ap (λ b. b || flag) (or_comm one rest) ∙ or_assoc rest one flag
+    ∙ ap (λ b. rest || b) (sym (e ∙ ap (λ fs. one || get_or fs i false) same))
+
+-- ## Pairs
+
+module _ (n : ResolvedNode) (given : ℕ → Option VariableId) (count i : ℕ)
+    (done : List GivenVariable)
+    (known : given_from n given 0 count ≡ done ++ given_from n given i (count - i)) where
+  -- the pair of one more place is found
+  pub given_more :
+      (more : List GivenVariable) (pair : Option GivenVariable) → i < count →
+      pair ≡ given_variable n given i → more ≡ done ++ listed (λ g. g ∷ []) pair →
+      given_from n given 0 count ≡ more ++ given_from n given (i + 1) (count - (i + 1))
+  given_more more pair lt is e =
+      let rest : count - i ≡ suc (count - (i + 1)) = omega arith in
+      let next : suc i ≡ i + 1 = omega arith in
+      let one = listed (λ g. g ∷ []) pair in
+      known ∙ ap (λ m. done ++ given_from n given i m) rest
+      ∙ ap (λ o. done ++ (listed (λ g. g ∷ []) o ++ given_from n given (suc i) (count - (i + 1))))
+      (sym is)
+      ∙ ap (λ j. done ++ (one ++ given_from n given j (count - (i + 1)))) next
+      ∙ sym (append_assoc done one (given_from n given (i + 1) (count - (i + 1))))
+      ∙ ap (λ l. l ++ given_from n given (i + 1) (count - (i + 1))) (sym e)
+
+  -- no place is left
+  pub given_end : count ≤ i → given_from n given 0 count ≡ done
+  given_end le =
+      let none : count - i ≡ 0 = omega arith in
+      known ∙ ap (λ m. done ++ given_from n given i m) none ∙ append-nil done
+
 -- The variables that the code finds to stand for clock parameters of a callee are those that the
 -- text gives.
-use Rattle.lb_check.proofs.Words.{◌≡◌, ℕ, zero, suc, ◌+◌, ◌<◌, Bool, true, false, List, [], ◌∷◌}
-use Rattle.lb_check.proofs.Words.{◌++◌, length, map, take, Option, Some, None, refl, ap, ap₂, sym}
-use Rattle.lb_check.proofs.Words.{◌∙◌, subst, arith, ◌||◌, ◌==◌, filter, not, is_some, option_map}
-use Rattle.lb_check.proofs.Words.{nat_eq, nat_lt, slice_get, if◌then◌else◌, list_all, list_any}
-use Rattle.lb_check.proofs.Words.{bytes_eq, nat_tests, append_assoc, length-append, map-append}
-use Rattle.lb_check.proofs.Words.{length-take-le, slice_get_within, add-sub_cancel_left, lt-ltb}
-use Rattle.lb_check.proofs.Words.{either_or, holds, listed, zip2, Name, Declaration, item_at}
-use Rattle.lb_check.proofs.Words.{and_first, and_second, variable_names, node_of, statics_of}
-use Rattle.lb_check.proofs.Words.{texts_of, declaration_of, expr_of, exprs_of, name_at}
-use Rattle.lb_check.proofs.Words.{ResolvedNode, Sampling, Term, VariableId, variable_of, Given}
-use Rattle.lb_check.proofs.Words.{as_variable, given_inputs, given_outputs, waits_below, pair_names}
-use Rattle.lb_check.proofs.Words.{is_clock_parameter, given_parameters, HasClocks, name_in}
-use Rattle.lb_check.proofs.Words.{given_from, given_variable, given_variables, is_awaited, pair_at}
-use Rattle.lb_check.proofs.Words.{waits_at, Context, are_given, given_at, is_given, operands_of}
-use Rattle.lb_check.proofs.Words.{stands_for, GivenVariable}
-use Rattle.std.specs.Prelude.{cond}
-use Rattle.std.proofs.lemmas.List.Elements.{filter-append}
-use Rattle.lb_static.specs.declared.resolved.Variable.{Variable as Declared}
-use Rattle.lb_check.proofs.clocking.ClockLists.{later_place}
-use Rattle.lb_check.proofs.clocking.ClockedNodes.{as_many_names, same_taken, within_names}
-use Rattle.lb_check.proofs.clocking.ClockedNodes.{all_taken}
-use Rattle.lb_check.proofs.clocking.ClockedNodes.{zip_split}
-use Rattle.lb_check.proofs.lists.DistinctNames.{distinct_at}
-use Rattle.lb_check.proofs.clocking.GivenNames.{all_variables, input_at, output_at, variable_as}
-use Rattle.lb_check.proofs.clocking.GivenNames.{variable_held}
-use Rattle.lb_check.proofs.clocking.OuterClocks.{place_name}
 
 -- ## Lists
 

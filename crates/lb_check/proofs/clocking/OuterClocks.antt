@@ -1,19 +1,70 @@
--- The clocks of a callee, as its caller sees them, from the numbers of both.
-use Rattle.lb_check.proofs.Words.{◌≡◌, ℕ, ◌<◌, ◌≤◌, ◌⊎◌, inl, inr, Bool, true, false, [], length}
-use Rattle.lb_check.proofs.Words.{Option, Some, None, refl, ap, sym, ◌∙◌, subst, arith, ◌&&◌, ◌==◌}
-use Rattle.lb_check.proofs.Words.{option_map, slice_get, nat_eq, nat_tests, slice_get_within}
-use Rattle.lb_check.proofs.Words.{either_or, Name, item_at, variable_names, node_of, counts_of}
-use Rattle.lb_check.proofs.Words.{is_variable, ResolvedNode, Sampling, Variable, VariableId, Given}
-use Rattle.lb_check.proofs.Words.{given_name, outer, above, depth, declared_clock, is_clock}
-use Rattle.lb_check.proofs.Words.{awaited, HasClocks, name_in, clock_in, is_clock_within, same}
-use Rattle.lb_check.proofs.Words.{declared_in, is_same, Base, ClockSet, NoClock, AnyClock, OneClock}
-use Rattle.lb_check.specs.declared.own_clock.Clock.{Clock}
-use Rattle.lb_check.specs.declared.own_clock.Clock.TheVariants.{On}
-use Rattle.lb_check.proofs.clocking.ClockTests.{clock_same}
-use Rattle.lb_check.proofs.clocking.ClockedNodes.{are_awaited}
+-- The clocks of a callee as its caller sees them, and the operands that fit them.
+use Rattle.lb_check.proofs.Words
+use Words.{◌≡◌, ℕ, zero, suc, ◌+◌, ◌-◌, ◌<◌, ◌≤◌, ◌⊎◌, inl, inr, Bool, true, false, List, [], ◌∷◌}
+use Words.{length, Some, refl, ap, sym, ◌∙◌, arith, slice_get, nat_lt, nat_tests, and_from}
+use Words.{and_first, and_second, is_clock, are_clocks, Option, None, subst, ◌&&◌, ◌==◌, option_map}
+use Words.{nat_eq, slice_get_within, either_or, Name, item_at, variable_names, node_of, counts_of}
+use Words.{is_variable, ResolvedNode, Sampling, Variable, VariableId, Given, given_name, outer}
+use Words.{above, depth, declared_clock, awaited, HasClocks, name_in, clock_in, is_clock_within}
+use Words.{same, declared_in, is_same, Base, ClockSet, NoClock, AnyClock, OneClock, holds}
+use Words.{accepts_clock, expected, base_of, all_fit}
+use Rattle.lb_check.specs.declared.own_clock.Clock.{Clock, TheVariants.On}
+use Rattle.lb_check.proofs.clocking.{ClockDepths.are_awaited, ClockTests.clock_same}
 use Rattle.lb_check.proofs.clocking.OwnClocks.{clock_of_free, clock_of_waiting, same_clock}
-use Rattle.lb_check.proofs.clocking.OwnClocks.{clock_itself}
+use Rattle.lb_check.proofs.{clocking.OwnClocks.clock_itself, lists.ListPairs.{each_pair, pair_at}}
+use Rattle.lb_check.proofs.lists.ListPairs.{same_pairs}
 use Rattle.lb_check.specs.Clocks as tree
+
+-- Two lists of clocks that are the same, and the places of the inputs and outputs of a node.
+
+-- ## Clocks of two lists
+
+-- two lists of the same clocks are of one length
+pub clocks_length : (ks ls : List tree.Clock) → are_clocks ks ls ≡ true → length ks ≡ length ls
+clocks_length [] [] e = refl
+clocks_length [] (l ∷ ls) e = absurd cc
+clocks_length (k ∷ ks) [] e = absurd cc
+clocks_length (k ∷ ks) (l ∷ ls) e = ap suc (clocks_length ks ls (and_second (is_clock k l) _ e))
+
+-- the clocks at one place of two lists of the same clocks are the same
+pub clocks_at : (ks ls : List tree.Clock) (j : ℕ) (k l : tree.Clock) → are_clocks ks ls ≡ true →
+    slice_get ks j ≡ Some k → slice_get ls j ≡ Some l → is_clock k l ≡ true
+clocks_at [] ls j k l e p q = absurd cc
+clocks_at (x ∷ ks) [] j k l e p q = absurd cc
+clocks_at (x ∷ ks) (y ∷ ls) zero k l e p q =
+    let s : x ≡ k = cc in
+    let t : y ≡ l = cc in
+    sym (ap (λ z. is_clock z y) s ∙ ap (is_clock k) t) ∙ and_first (is_clock x y) _ e
+clocks_at (x ∷ ks) (y ∷ ls) (suc j) k l e p q =
+    clocks_at ks ls j k l (and_second (is_clock x y) _ e) p q
+
+-- two lists of one length are of the same clocks, where the clocks at each place are the same
+pub clocks_from : (ks ls : List tree.Clock) → length ks ≡ length ls
+    → ((j : ℕ) (k l : tree.Clock) → slice_get ks j ≡ Some k → slice_get ls j ≡ Some l →
+    is_clock k l ≡ true) → are_clocks ks ls ≡ true
+clocks_from [] [] e h = refl
+clocks_from [] (l ∷ ls) e h = absurd (omega (arith, e))
+clocks_from (k ∷ ks) [] e h = absurd (omega (arith, e))
+clocks_from (k ∷ ks) (l ∷ ls) e h =
+    and_from (is_clock k l) (are_clocks ks ls) (h 0 k l refl refl)
+    (clocks_from ks ls (omega (arith, e)) (λ j x y p q. h (suc j) x y p q))
+
+-- ## Places of inputs, and of outputs
+
+-- a place below `m + n` is an input, below `m`, or output `j`, at `m + j`
+pub place_split : (i m n : ℕ) → i < m + n → (i < m) ⊎ ((j : ℕ) × (i ≡ m + j) × (j < n))
+place_split i m n lt = by (nat_lt i m) refl
+  where
+    by : (b : Bool) → nat_lt i m ≡ b → (i < m) ⊎ ((j : ℕ) × (i ≡ m + j) × (j < n))
+    by true less = inl (grind (arith, nat_tests))
+    by false more =
+        let low : m ≤ i = grind (arith, nat_tests) in
+        inr (i - m, omega arith, omega arith)
+
+pub later_place : (m j : ℕ) → nat_lt (m + j) m ≡ false
+later_place m j = grind (arith, nat_tests)
+
+-- The clocks of a callee, as its caller sees them, from the numbers of both.
 
 -- ## Clocks of the text
 
@@ -222,3 +273,132 @@ module _ (here callee : ResolvedNode) (h : HasClocks here) (hc : HasClocks calle
   outer_all x v lt at =
       by_clock (declared_clock (node_of callee) (name_in callee x)) x v refl lt
       (slice_get_within callee.variables.items x.0 v at) at
+
+-- Operands stand on the clocks that the code expects of them exactly where they stand on those that
+-- the caller sees.
+
+-- ## The base clock of a callee
+
+pub base_found : (cs : List (Option Sampling)) (ss : List ClockSet) (k : Clock) →
+    base_of cs ss ≡ Some k
+    → (i : ℕ) × (slice_get cs i ≡ Some None) × (slice_get ss i ≡ Some (OneClock k))
+base_found [] ss k e = absurd cc
+base_found (c ∷ cs) [] k e = absurd cc
+base_found (None ∷ cs) (OneClock l ∷ ss) k e = (0, refl, ap (λ o. option_map OneClock o) e)
+base_found (None ∷ cs) (NoClock ∷ ss) k e = let z = base_found cs ss k e in (suc z.0, z.1, z.2)
+base_found (None ∷ cs) (AnyClock ∷ ss) k e = let z = base_found cs ss k e in (suc z.0, z.1, z.2)
+base_found (Some c ∷ cs) (s ∷ ss) k e = let z = base_found cs ss k e in (suc z.0, z.1, z.2)
+
+pub base_none : (cs : List (Option Sampling)) (ss : List ClockSet) → base_of cs ss ≡ None →
+    (i : ℕ) (k : Clock) → slice_get cs i ≡ Some None
+    → slice_get ss i ≡ Some (OneClock k) → ⊥
+base_none [] ss e i k p q = absurd cc
+base_none (c ∷ cs) [] e i k p q = absurd cc
+base_none (None ∷ cs) (OneClock l ∷ ss) e i k p q = absurd cc
+base_none (None ∷ cs) (NoClock ∷ ss) e zero k p q = absurd cc
+base_none (None ∷ cs) (AnyClock ∷ ss) e zero k p q = absurd cc
+base_none (Some c ∷ cs) (s ∷ ss) e zero k p q = absurd cc
+base_none (None ∷ cs) (NoClock ∷ ss) e (suc i) k p q = base_none cs ss e i k p q
+base_none (None ∷ cs) (AnyClock ∷ ss) e (suc i) k p q = base_none cs ss e i k p q
+base_none (Some c ∷ cs) (s ∷ ss) e (suc i) k p q = base_none cs ss e i k p q
+
+-- ## One parameter
+
+pub fit_pairs : (base : Option Clock) (given : ℕ → Option VariableId) (cs : List (Option Sampling))
+    (ss : List ClockSet)
+    → all_fit base given cs ss ≡ each_pair (λ c s. accepts_clock (expected base given c) s) cs ss
+fit_pairs base given [] ss = refl
+fit_pairs base given (c ∷ cs) [] = refl
+fit_pairs base given (c ∷ cs) (s ∷ ss) =
+    ap (λ b. accepts_clock (expected base given c) s && b) (fit_pairs base given cs ss)
+
+-- a variable of the caller stands for the one that a parameter waits for
+abbrev pub IsGiven : ResolvedNode → (ℕ → Option VariableId) → Option Sampling → Type 0
+IsGiven here Y c = (s : Sampling) → c ≡ Some s →
+    (y : VariableId) × (Y s.variable.0 ≡ Some y) × (is_variable (counts_of here) y ≡ true)
+
+abbrev pub IsWithin : ResolvedNode → ClockSet → Type 0
+IsWithin here s = (l : Clock) → s ≡ OneClock l → is_clock_within here l ≡ true
+
+-- the code expects the clock that the caller sees
+abbrev pub Expects : ResolvedNode → (ℕ → Option VariableId) → Option Clock → tree.Clock →
+    Option Sampling → Type 0
+Expects here Y base b c =
+    (k : Clock) × (expected base Y c ≡ Some k) × (clock_in here k ≡ expected_on here Y b c)
+    × (is_clock_within here k ≡ true)
+
+module _ (here : ResolvedNode) (h : HasClocks here) (Y : ℕ → Option VariableId) where
+  pub expects_waiting : (base : Option Clock) (b : tree.Clock) (s : Sampling) →
+      IsGiven here Y (Some s) → Expects here Y base b (Some s)
+  expects_waiting base b s given =
+      let y = given s refl in
+      let k = On y.0 s.sign in (
+        k,
+        ap (option_map (λ y. On y s.sign)) y.1,
+        sym (ap (λ o. either_or (option_map (λ y. clock_in here (On y s.sign)) o) tree.Base) y.1),
+        y.2,
+      )
+
+  pub expects : (k : Clock) → is_clock_within here k ≡ true → (c : Option Sampling) →
+      IsGiven here Y c → Expects here Y (Some k) (clock_in here k) c
+  expects k w None given = (k, refl, refl, w)
+  expects k w (Some s) given = expects_waiting (Some k) (clock_in here k) s given
+
+  pub stood_code : (base : Option Clock) (b : tree.Clock) (c : Option Sampling) →
+      Expects here Y base b c → (s : ClockSet) → IsWithin here s
+      → accepts_clock (expected base Y c) s ≡ stood here (expected_on here Y b c) s
+  stood_code base b c e NoClock w = refl
+  stood_code base b c e AnyClock w = refl
+  stood_code base b c e (OneClock l) w =
+      ap (holds (λ k. is_same l k)) e.1 ∙ same_is here h e.0 l e.3 (w l refl)
+      ∙ ap (λ z. is_clock z (clock_in here l)) e.2
+
+  stood_free : (k : tree.Clock) (s : ClockSet) → ((l : Clock) → s ≡ OneClock l → ⊥) →
+      accepts_clock None s ≡ stood here k s
+  stood_free k NoClock other = refl
+  stood_free k AnyClock other = refl
+  stood_free k (OneClock l) other = absurd (other l refl)
+
+  -- ## All parameters
+
+  abbrev pub fits_on : tree.Clock → List (Option Sampling) → List ClockSet → Bool
+  fits_on b cs ss = each_pair (λ c s. stood here (expected_on here Y b c) s) cs ss
+
+  module _ (cs : List (Option Sampling)) (ss : List ClockSet)
+      (given : (i : ℕ) (c : Option Sampling) → slice_get cs i ≡ Some c → IsGiven here Y c)
+      (within : (i : ℕ) (s : ClockSet) → slice_get ss i ≡ Some s → IsWithin here s) where
+    pub fit_some : (k : Clock) → is_clock_within here k ≡ true →
+        all_fit (Some k) Y cs ss ≡ fits_on (clock_in here k) cs ss
+    fit_some k w =
+        fit_pairs (Some k) Y cs ss
+        ∙ same_pairs (λ c s. accepts_clock (expected (Some k) Y c) s)
+        (λ c s. stood here (expected_on here Y (clock_in here k) c) s) cs ss
+        (λ i c s p q. stood_code (Some k) (clock_in here k) c (expects k w c (given i c p)) s
+        (within i s q))
+
+    none_fits : (b : tree.Clock) (c : Option Sampling) → IsGiven here Y c → (s : ClockSet) →
+        IsWithin here s → ((k : Clock) → c ≡ None → s ≡ OneClock k → ⊥)
+        → accepts_clock (expected None Y c) s ≡ stood here (expected_on here Y b c) s
+    none_fits b None g s w other = stood_free b s (λ l e. other l refl e)
+    none_fits b (Some x) g s w other = stood_code None b (Some x) (expects_waiting None b x g) s w
+
+    -- the operands fit on each base clock, where nothing determines one
+    pub fit_none : base_of cs ss ≡ None → (b : tree.Clock) → all_fit None Y cs ss ≡ fits_on b cs ss
+    fit_none e b =
+        fit_pairs None Y cs ss
+        ∙ same_pairs (λ c s. accepts_clock (expected None Y c) s)
+        (λ c s. stood here (expected_on here Y b c) s) cs ss
+        (λ i c s p q. none_fits b c (given i c p) s (within i s q)
+        (λ k none only. base_none cs ss e i k (p ∙ ap Some none) (q ∙ ap Some only)))
+
+    pub base_within : (k : Clock) → base_of cs ss ≡ Some k → is_clock_within here k ≡ true
+    base_within k e = let z = base_found cs ss k e in within z.0 (OneClock k) z.2 k refl
+
+    -- the base clock that the code finds is that of the callee, where the operands fit
+    pub base_is : (k : Clock) (b : tree.Clock) → base_of cs ss ≡ Some k → fits_on b cs ss ≡ true →
+        b ≡ clock_in here k
+    base_is k b e fits =
+        let z = base_found cs ss k e in
+        clock_same b (clock_in here k)
+        (pair_at (λ c s. stood here (expected_on here Y b c) s) cs ss z.0 None
+        (OneClock k) fits z.1 z.2)

@@ -1,18 +1,16 @@
 -- The clock of a declared variable stands one step below that of the variable that it waits for.
-use Rattle.lb_check.proofs.Words.{◌≡◌, ◌≢◌, ℕ, zero, suc, ◌<◌, Bool, true, false, List, [], ◌++◌}
-use Rattle.lb_check.proofs.Words.{length, Option, Some, None, refl, ap, sym, ◌∙◌, subst, arith}
-use Rattle.lb_check.proofs.Words.{◌&&◌, ◌==◌, is_some, option_map, slice_get, nat_eq, bytes_eq}
-use Rattle.lb_check.proofs.Words.{bytes_eq-Decides, beq, list_all, nat_tests, and-true, ◌>>=◌}
-use Rattle.lb_check.proofs.Words.{either_or, Name, Declaration, all_at, item_at, and_second, named}
-use Rattle.lb_check.proofs.Words.{variable_names, variables, declaration_of, sampling_of}
-use Rattle.lb_check.proofs.Words.{is_variable, node_of, statics_of, counts_of, ResolvedNode}
-use Rattle.lb_check.proofs.Words.{Sampling, Variable, VariableId, Clock, On, clock_within, sampled}
-use Rattle.lb_check.proofs.Words.{clock_or, variable_clock, declared_clock, is_clocked_by, is_clock}
-use Rattle.lb_check.proofs.Words.{same, awaited, HasClocks, name_in, clock_in, is_clock_within}
-use Rattle.lb_check.specs.Clocks.{Base}
-use Rattle.lb_check.specs.declared.own_clock.Clock.{Clock as Compared}
-use Rattle.lb_check.proofs.lists.DistinctNames.{distinct_at}
-use Rattle.lb_check.proofs.clocking.ClockedNodes.{at_place, at_name, as_many_names, are_awaited}
+use Rattle.lb_check.proofs.Words
+use Words.{◌≡◌, ◌≢◌, ℕ, zero, suc, ◌<◌, Bool, true, false, List, [], ◌++◌, length, Option, Some}
+use Words.{None, refl, ap, sym, ◌∙◌, subst, arith, ◌&&◌, ◌==◌, is_some, option_map, slice_get}
+use Words.{nat_eq, bytes_eq, bytes_eq-Decides, beq, list_all, nat_tests, and-true, ◌>>=◌, either_or}
+use Words.{Name, Declaration, all_at, item_at, and_second, named, variable_names, variables}
+use Words.{declaration_of, sampling_of, is_variable, node_of, statics_of, counts_of, ResolvedNode}
+use Words.{Sampling, Variable, VariableId, Clock, On, clock_within, sampled, clock_or}
+use Words.{variable_clock, declared_clock, is_clocked_by, is_clock, same, awaited, HasClocks}
+use Words.{name_in, clock_in, is_clock_within, Compared}
+use Rattle.lb_check.{specs.Clocks.Base, proofs.clocking.ClockDepths.{at_place, at_name}}
+use Rattle.lb_check.proofs.clocking.ClockDepths.{as_many_names, are_awaited}
+use Rattle.lb_check.proofs.lists.Members.{distinct_at}
 use Rattle.lb_syntax.specs.Tree as tree
 use Rattle.lb_check.specs.declared.own_clock.Clock.TheVariants as code
 

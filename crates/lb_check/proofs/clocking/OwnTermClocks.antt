@@ -3,11 +3,9 @@ use Rattle.lb_check.proofs.Words.{◌≡◌, None, List, [], ◌∷◌, map, ref
 use Rattle.lb_check.proofs.Words.{Program, Instance, instances, static_refusal, node_of}
 use Rattle.lb_check.proofs.Words.{ResolvedNode, check_refusal, HasTermClocks, Occurrence}
 use Rattle.lb_check.proofs.Words.{node_occurrences, clock_in, Base}
-use Rattle.lb_check.specs.declared.own_clock.Clock.{Clock}
-use Rattle.lb_check.specs.declared.own_clock.Clock.TheVariants.{On}
-use Rattle.lb_check.proofs.clocking.DeclaredClocks.{IsOwn}
-use Rattle.lb_check.proofs.clocking.NamedClocks.{IsOver}
-use Rattle.lb_check.proofs.clocking.OccurrenceClocks.{IsVariable, IsTypedOver, occurrences_fit}
+use Rattle.lb_check.specs.declared.own_clock.Clock.{Clock, TheVariants.On}
+use Rattle.lb_check.proofs.clocking.{DeclaredClocks.IsOwn, NamedClocks.IsOver}
+use Rattle.lb_check.proofs.programs.TypedOccurrences.{IsVariable, IsTypedOver, occurrences_fit}
 use Rattle.lb_check.specs.Clocks as tree
 
 first_clock : (x y : tree.Clock) (xs ys : List tree.Clock) → x ∷ xs ≡ y ∷ ys → x ≡ y

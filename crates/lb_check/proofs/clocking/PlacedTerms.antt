@@ -1,40 +1,32 @@
 -- The clocks and calls that the code finds of the parts of a term are those of its occurrences.
-use Rattle.lb_check.proofs.Words.{◌≡◌, ℕ, ◌+◌, Bool, true, false, List, [], ◌∷◌, ◌++◌, map, Option}
-use Rattle.lb_check.proofs.Words.{Some, None, refl, ap, ap₂, sym, ◌∙◌, subst, arith, ◌&&◌, nat_eq}
-use Rattle.lb_check.proofs.Words.{list_all, nat_tests, list_all-append, Count, ◌>>=◌, either_or}
-use Rattle.lb_check.proofs.Words.{holds, listed, Name, Static, Expr, and_first, and_second, Program}
-use Rattle.lb_check.proofs.Words.{node_named, variable_names, node_of, texts_of, counts_of, Texts}
-use Rattle.lb_check.proofs.Words.{expr_of, exprs_of, row_of, named_value, static_at, site_at}
-use Rattle.lb_check.proofs.Words.{is_variable, is_static, is_call, is_within, are_within}
-use Rattle.lb_check.proofs.Words.{is_unhidden, are_unhidden, Reached, CallId, ResolvedNode, Term}
-use Rattle.lb_check.proofs.Words.{Literal, Truth, Value, Group', Unary', Binary', If', Arrow', Fby'}
-use Rattle.lb_check.proofs.Words.{Pre', Current', When', Replicate', Index', Slice', Join', Array'}
-use Rattle.lb_check.proofs.Words.{AtMostOne', Nor', Call', IterateNode', IterateSymbol'}
-use Rattle.lb_check.proofs.Words.{Row_of-Term, end_of-Term, more_of-Term, items-the_row-Term, Given}
-use Rattle.lb_check.proofs.Words.{clock_of, clock_or, declared_clock, given_inputs, outer}
-use Rattle.lb_check.proofs.Words.{is_occurrence_clocked, pair_names, given_parameters, is_site}
-use Rattle.lb_check.proofs.Words.{site_clock, Occurrence, at, call_count, occurrences}
-use Rattle.lb_check.proofs.Words.{occurrences_in, occurrences_each, name_in, clock_in, IsClockSet}
-use Rattle.lb_check.proofs.Words.{SeesClocks, is_clocked_on, is_single, are_single, calls_single}
-use Rattle.lb_check.proofs.Words.{FoundCall, FoundTerm, part, placed_terms, placed_row}
-use Rattle.lb_check.proofs.Words.{placed_arguments, determined_clock, given_variables, nested_call}
-use Rattle.lb_check.proofs.Words.{callee_in, Context, context_of, declared_in, infer_clock}
-use Rattle.lb_check.proofs.Words.{operands_in, operands_of, input_clocks, clock_sets, base_of}
-use Rattle.lb_check.proofs.Words.{given_at, Operand, ClockSet, NoClock, AnyClock, OneClock}
+use Rattle.lb_check.proofs.Words
+use Words.{◌≡◌, ℕ, ◌+◌, Bool, true, false, List, [], ◌∷◌, ◌++◌, map, Option, Some, None, refl, ap}
+use Words.{ap₂, sym, ◌∙◌, subst, arith, ◌&&◌, nat_eq, list_all, nat_tests, list_all-append, Count}
+use Words.{◌>>=◌, either_or, holds, listed, Name, Static, Expr, and_first, and_second, Program}
+use Words.{node_named, variable_names, node_of, texts_of, counts_of, Texts, expr_of, exprs_of}
+use Words.{row_of, named_value, static_at, site_at, is_variable, is_static, is_call, is_within}
+use Words.{are_within, is_unhidden, are_unhidden, Reached, CallId, ResolvedNode, Term, Literal}
+use Words.{Truth, Value, Group', Unary', Binary', If', Arrow', Fby', Pre', Current', When'}
+use Words.{Replicate', Index', Slice', Join', Array', AtMostOne', Nor', Call', IterateNode'}
+use Words.{IterateSymbol', Row_of-Term, end_of-Term, more_of-Term, items-the_row-Term, Given}
+use Words.{clock_of, clock_or, declared_clock, given_inputs, outer, is_occurrence_clocked}
+use Words.{pair_names, given_parameters, is_site, site_clock, Occurrence, at, call_count}
+use Words.{occurrences, occurrences_in, occurrences_each, name_in, clock_in, IsClockSet, SeesClocks}
+use Words.{is_clocked_on, is_single, are_single, calls_single, FoundCall, FoundTerm, part}
+use Words.{placed_terms, placed_row, placed_arguments, determined_clock, given_variables}
+use Words.{nested_call, callee_in, Context, context_of, declared_in, infer_clock, operands_in}
+use Words.{operands_of, input_clocks, clock_sets, base_of, given_at, Operand, ClockSet, NoClock}
+use Words.{AnyClock, OneClock}
 use Rattle.lb_static.specs.declared.resolved.Term.{Variable}
-use Rattle.lb_check.specs.FoundTerms.{are_parameters, given_names}
-use Rattle.lb_check.specs.PlacedClocks.{argument_clocks, call_clocks}
-use Rattle.lb_check.specs.declared.own_clock.Clock.{Clock}
-use Rattle.lb_check.proofs.clocking.CallClockSets.{call_stands}
-use Rattle.lb_check.proofs.clocking.ClockTests.{declared_is}
-use Rattle.lb_check.proofs.clocking.GivenVariables.{given_is}
-use Rattle.lb_check.proofs.lists.PairedLists.{Pairs, Pairs-append}
-use Rattle.lb_check.proofs.clocking.PlacedArguments.{arguments_placed}
+use Rattle.lb_check.specs.{FoundTerms.{are_parameters, given_names}, PlacedClocks.argument_clocks}
+use Rattle.lb_check.specs.{PlacedClocks.call_clocks, declared.own_clock.Clock.Clock}
+use Rattle.lb_check.proofs.clocking.{CallClockSets.call_stands, CallOperands.arguments_placed}
+use Rattle.lb_check.proofs.clocking.{ClockTests.declared_is, GivenVariables.given_is}
 use Rattle.lb_check.proofs.clocking.PlacedWithin.{are_among, parameters_within}
-use Rattle.lb_check.proofs.programs.SiteCallees.{callee_found}
 use Rattle.lb_check.proofs.clocking.TermClockSets.{row_items, within_items, unhidden_items}
-use Rattle.lb_check.proofs.clocking.TermClockSets.{operands_items}
-use Rattle.lb_check.proofs.clocking.TermClockSets.{term_stands, row_stands}
+use Rattle.lb_check.proofs.clocking.TermClockSets.{operands_items, term_stands, row_stands}
+use Rattle.lb_check.proofs.{definitions.NodePlaces.callee_found, lists.ListPairs.Pairs}
+use Rattle.lb_check.proofs.lists.ListPairs.{Pairs-append}
 use Rattle.lb_syntax.specs.Tree as tree
 use Rattle.lb_check.specs.Clocks as clocks
 use Rattle.lb_check.specs.Occurrences as text

@@ -1,37 +1,29 @@
 -- The clocks and calls that the code finds of a node name variables of the node; the pairs of a
 -- call name variables of its callee.
-use Rattle.lb_check.proofs.Words.{◌≡◌, ℕ, zero, suc, ◌+◌, ◌-◌, ◌<◌, ◌≤◌, Bool, true, false, List}
-use Rattle.lb_check.proofs.Words.{[], ◌∷◌, ◌++◌, length, map, flat_map, take, Option, Some, None}
-use Rattle.lb_check.proofs.Words.{refl, arith, ◌&&◌, nat_lt, slice_get, option_map, if◌then◌else◌}
-use Rattle.lb_check.proofs.Words.{list_all, nat_tests, length-take, Count, and_from, ◌>>=◌, Every}
-use Rattle.lb_check.proofs.Words.{either_or, holds, listed, or_else, Node, all_at, and_first}
-use Rattle.lb_check.proofs.Words.{and_second, variable_names, node_of, counts_of, is_variable}
-use Rattle.lb_check.proofs.Words.{is_static, is_call, is_within, are_within, is_declared_within}
-use Rattle.lb_check.proofs.Words.{is_sampling_within, are_statics, is_statement_within, Reached}
-use Rattle.lb_check.proofs.Words.{ResolvedNode, ResolvedStatement, Sampling, Term, Literal, Truth}
-use Rattle.lb_check.proofs.Words.{Value, Group', Unary', Binary', If', Arrow', Fby', Pre', Current'}
-use Rattle.lb_check.proofs.Words.{When', Replicate', Index', Slice', Join', Array', AtMostOne'}
-use Rattle.lb_check.proofs.Words.{Nor', Call', IterateNode', IterateSymbol', Row_of-Term}
-use Rattle.lb_check.proofs.Words.{end_of-Term, more_of-Term, VariableId, variable_of}
-use Rattle.lb_check.proofs.Words.{is_call_within, HasClocks, is_clock_within, FoundCall, FoundTerm}
-use Rattle.lb_check.proofs.Words.{determined_clock, given_from, given_variable, given_variables}
-use Rattle.lb_check.proofs.Words.{is_awaited, nested_call, node_terms, pair_at, placed_arguments}
-use Rattle.lb_check.proofs.Words.{placed_row, placed_side, placed_statement, placed_terms}
-use Rattle.lb_check.proofs.Words.{side_call, side_clocks, Context, accepts_clock, all_fit}
-use Rattle.lb_check.proofs.Words.{are_given, base_of, both, call_clock_set, clock_set_on}
-use Rattle.lb_check.proofs.Words.{is_base_clocked, clock_sets, clock_with, context_of, declared_in}
-use Rattle.lb_check.proofs.Words.{expected, first_result, given_at, infer_clock, input_clocks}
-use Rattle.lb_check.proofs.Words.{is_same, left_clock, left_clock_sets, operands_in, output_clocks}
-use Rattle.lb_check.proofs.Words.{raised, result_base, stands_for, together, ClockSet, NoClock}
-use Rattle.lb_check.proofs.Words.{AnyClock, OneClock, Operand, GivenVariable, Base}
+use Rattle.lb_check.proofs.Words
+use Words.{◌≡◌, ℕ, zero, suc, ◌+◌, ◌-◌, ◌<◌, ◌≤◌, Bool, true, false, List, [], ◌∷◌, ◌++◌, length}
+use Words.{map, flat_map, take, Option, Some, None, refl, arith, ◌&&◌, nat_lt, slice_get}
+use Words.{option_map, if◌then◌else◌, list_all, nat_tests, length-take, Count, and_from, ◌>>=◌}
+use Words.{Every, either_or, holds, listed, or_else, Node, all_at, and_first, and_second}
+use Words.{variable_names, node_of, counts_of, is_variable, is_static, is_call, is_within}
+use Words.{are_within, is_declared_within, is_sampling_within, is_statement_within, Reached}
+use Words.{ResolvedNode, ResolvedStatement, Sampling, Term, Literal, Truth, Value, Group', Unary'}
+use Words.{Binary', If', Arrow', Fby', Pre', Current', When', Replicate', Index', Slice', Join'}
+use Words.{Array', AtMostOne', Nor', Call', IterateNode', IterateSymbol', Row_of-Term, end_of-Term}
+use Words.{more_of-Term, VariableId, variable_of, is_call_within, HasClocks, is_clock_within}
+use Words.{FoundCall, FoundTerm, determined_clock, given_from, given_variable, given_variables}
+use Words.{is_awaited, nested_call, node_terms, pair_at, placed_arguments, placed_row, placed_side}
+use Words.{placed_statement, placed_terms, side_call, side_clocks, Context, accepts_clock, all_fit}
+use Words.{are_given, base_of, both, call_clock_set, clock_set_on, is_base_clocked, clock_sets}
+use Words.{clock_with, context_of, declared_in, expected, first_result, given_at, infer_clock}
+use Words.{input_clocks, is_same, left_clock, left_clock_sets, operands_in, output_clocks, raised}
+use Words.{result_base, stands_for, together, ClockSet, NoClock, AnyClock, OneClock, Operand}
+use Words.{GivenVariable, Base, Declared}
 use Rattle.lb_static.specs.declared.resolved.Term.{Variable}
-use Rattle.lb_static.specs.declared.resolved.Variable.{Variable as Declared}
 use Rattle.lb_check.specs.PlacedClocks.{argument_clocks, call_base, call_clocks, side_base}
-use Rattle.lb_check.specs.declared.own_clock.Clock.{Clock}
-use Rattle.lb_check.specs.declared.own_clock.Clock.TheVariants.{On}
-use Rattle.lb_check.proofs.clocking.ClockedNodes.{as_many_names}
-use Rattle.lb_check.proofs.lists.Every.{Every-append}
-use Rattle.lb_check.proofs.clocking.PlacedRows.{calls_among, clocks_among}
+use Rattle.lb_check.specs.declared.own_clock.Clock.{Clock, TheVariants.On}
+use Rattle.lb_check.proofs.clocking.{ClockDepths.as_many_names, WalkedClocks.calls_among}
+use Rattle.lb_check.proofs.{clocking.WalkedClocks.clocks_among, lists.Members.Every-append}
 use Rattle.lb_static.specs.declared.resolved.ResolvedStatement.TheVariants as statement
 
 -- ## Variables of a callee

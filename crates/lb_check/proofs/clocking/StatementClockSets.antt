@@ -1,40 +1,30 @@
 -- The statements of a node keep the rules of clocks exactly where the code finds it.
-use Rattle.lb_check.proofs.Words.{◌≡◌, ℕ, zero, suc, ◌<◌, Bool, true, false, ◌+◌, List, [], ◌∷◌}
-use Rattle.lb_check.proofs.Words.{length, map, Option, Some, None, refl, ap, sym, ◌∙◌, subst, arith}
-use Rattle.lb_check.proofs.Words.{◌&&◌, ◌==◌, slice_get, nat_eq, list_all, zip, nat_tests}
-use Rattle.lb_check.proofs.Words.{list_all-append, slice_get_within, get_or_from_slice_get}
-use Rattle.lb_check.proofs.Words.{and-true, ◌>>=◌, holds, Name, Node, Expr, Exprs, Cons, Static}
-use Rattle.lb_check.proofs.Words.{Statement, all_at, and_first, and_second, Program, Site}
-use Rattle.lb_check.proofs.Words.{node_named, node_sites, statement_sites, right_side, source_names}
-use Rattle.lb_check.proofs.Words.{callee_in, IsResolved, node_of, texts_of, counts_of, Texts}
-use Rattle.lb_check.proofs.Words.{is_variable, is_call, is_within, are_within, is_unhidden}
-use Rattle.lb_check.proofs.Words.{are_unhidden, is_declared_within, is_sampling_within, are_statics}
-use Rattle.lb_check.proofs.Words.{is_statement_within, is_statement_unhidden, expr_of, exprs_of}
-use Rattle.lb_check.proofs.Words.{row_of, named_value, static_at, statement_of, site_at, Reached}
-use Rattle.lb_check.proofs.Words.{CallId, ResolvedNode, Sampling, ResolvedStatement, Term, Value}
-use Rattle.lb_check.proofs.Words.{Group', Call', Row_of-Term, end_of-Term, more_of-Term, VariableId}
-use Rattle.lb_check.proofs.Words.{same, clock_of, clock_or, declared_clock, ungrouped, is_clock}
-use Rattle.lb_check.proofs.Words.{is_clocked, is_occurrence_clocked, is_statement_clocked}
-use Rattle.lb_check.proofs.Words.{are_on_results, left_clocks, at_place, is_part_clocked}
-use Rattle.lb_check.proofs.Words.{Occurrence, at, occurrences, right_sides, statement_clock}
-use Rattle.lb_check.proofs.Words.{statements, HasClocks, clock_in, is_clock_within, name_in}
-use Rattle.lb_check.proofs.Words.{is_clocked_on, IsClockSet, AreClockSets, SeesClocks, is_single}
-use Rattle.lb_check.proofs.Words.{are_single, is_single_within, is_statement_single, Context}
-use Rattle.lb_check.proofs.Words.{clock_with, context_of, declared_in, is_same, accepts_clock}
-use Rattle.lb_check.proofs.Words.{operands_in, operands_of, operand_of, infer_clock, left_clock}
-use Rattle.lb_check.proofs.Words.{is_equation_clocked, is_resolved_statement_clocked}
-use Rattle.lb_check.proofs.Words.{is_body_clocked, Operand, ClockSet, NoClock, AnyClock, OneClock}
-use Rattle.std.specs.Prelude.{flat_map}
-use Rattle.lb_check.specs.BrokenParts.{is_side_clocked}
-use Rattle.lb_check.specs.TermClocks.{is_one_clocked, is_call_clocked, stands}
-use Rattle.lb_check.specs.declared.own_clock.Clock.{Clock}
-use Rattle.lb_check.specs.declared.own_clock.Clock.TheVariants.{Base, On}
-use Rattle.lb_check.proofs.lists.DistinctNames.{held_at}
-use Rattle.lb_check.proofs.lists.FirstBroken.{fails_at, item_there}
-use Rattle.lb_check.proofs.programs.SiteCallees.{callee_found}
-use Rattle.lb_check.proofs.clocking.OwnClocks.{clock_of_free, clock_of_waiting, same_clock}
-use Rattle.lb_check.proofs.clocking.OwnClocks.{clock_itself}
-use Rattle.lb_check.proofs.clocking.OuterClocks.{same_turned}
+use Rattle.lb_check.proofs.Words
+use Words.{◌≡◌, ℕ, zero, suc, ◌<◌, Bool, true, false, ◌+◌, List, [], ◌∷◌, length, map, Option, Some}
+use Words.{None, refl, ap, sym, ◌∙◌, subst, arith, ◌&&◌, ◌==◌, slice_get, nat_eq, list_all, zip}
+use Words.{nat_tests, list_all-append, slice_get_within, get_or_from_slice_get, and-true, ◌>>=◌}
+use Words.{holds, Name, Node, Expr, Exprs, Cons, Static, Statement, all_at, and_first, and_second}
+use Words.{Program, Site, node_named, node_sites, statement_sites, right_side, source_names}
+use Words.{callee_in, IsResolved, node_of, texts_of, counts_of, Texts, is_variable, is_call}
+use Words.{is_within, are_within, is_unhidden, are_unhidden, is_declared_within, is_sampling_within}
+use Words.{are_statics, is_statement_within, is_statement_unhidden, expr_of, exprs_of, row_of}
+use Words.{named_value, static_at, statement_of, site_at, Reached, CallId, ResolvedNode, Sampling}
+use Words.{ResolvedStatement, Term, Value, Group', Call', Row_of-Term, end_of-Term, more_of-Term}
+use Words.{VariableId, same, clock_of, clock_or, declared_clock, ungrouped, is_clock, is_clocked}
+use Words.{is_occurrence_clocked, is_statement_clocked, are_on_results, left_clocks, at_place}
+use Words.{is_part_clocked, Occurrence, at, occurrences, right_sides, statement_clock, statements}
+use Words.{HasClocks, clock_in, is_clock_within, name_in, is_clocked_on, IsClockSet, AreClockSets}
+use Words.{SeesClocks, is_single, are_single, is_single_within, is_statement_single, Context}
+use Words.{clock_with, context_of, declared_in, is_same, accepts_clock, operands_in, operands_of}
+use Words.{operand_of, infer_clock, left_clock, is_equation_clocked, is_resolved_statement_clocked}
+use Words.{is_body_clocked, Operand, ClockSet, NoClock, AnyClock, OneClock, flat_map, Base}
+use Rattle.lb_check.specs.{BrokenParts.is_side_clocked, TermClocks.is_one_clocked}
+use Rattle.lb_check.specs.{TermClocks.{is_call_clocked, stands}, declared.own_clock.Clock.Clock}
+use Rattle.lb_check.specs.declared.own_clock.Clock.TheVariants.{On}
+use Rattle.lb_check.proofs.clocking.{OuterClocks.same_turned, OwnClocks.clock_of_free}
+use Rattle.lb_check.proofs.clocking.OwnClocks.{clock_of_waiting, same_clock, clock_itself}
+use Rattle.lb_check.proofs.{definitions.NodePlaces.callee_found, lists.ListPairs.fails_at}
+use Rattle.lb_check.proofs.lists.{ListPairs.item_there, Members.held_at}
 use Rattle.lb_syntax.specs.Tree as tree
 use Rattle.lb_static.specs.declared.resolved.ResolvedStatement.TheVariants as statement
 use Rattle.lb_check.specs.Clocks as clocks

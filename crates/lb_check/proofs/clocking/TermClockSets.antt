@@ -1,41 +1,31 @@
 -- The clock set that the code infers for a term has the clocks on which its expression may stand.
-use Rattle.lb_check.proofs.Words.{◌≡◌, ℕ, suc, ◌+◌, Bool, true, false, List, [], ◌∷◌, ◌++◌, length}
-use Rattle.lb_check.proofs.Words.{take, Option, Some, None, refl, ap, sym, ◌∙◌, subst, arith, ◌&&◌}
-use Rattle.lb_check.proofs.Words.{◌||◌, not, is_some, option_map, nat_eq, if◌then◌else◌, list_all}
-use Rattle.lb_check.proofs.Words.{append_assoc, list_all-append, nat_tests, Count, and-true}
-use Rattle.lb_check.proofs.Words.{and-false, not-true, ◌>>=◌, either_or, holds, or_else, listed}
-use Rattle.lb_check.proofs.Words.{zip2, Name, Static, Expr, Node, ArrayIterator, and_first}
-use Rattle.lb_check.proofs.Words.{and_second, Reached, CallId, ResolvedNode, Sampling, Term}
-use Rattle.lb_check.proofs.Words.{Literal, Truth, Value, Group', Unary', Binary', If', Arrow', Fby'}
-use Rattle.lb_check.proofs.Words.{Pre', Current', When', Replicate', Index', Slice', Join', Array'}
-use Rattle.lb_check.proofs.Words.{AtMostOne', Nor', Call', IterateNode', IterateSymbol'}
-use Rattle.lb_check.proofs.Words.{Row_of-Term, end_of-Term, more_of-Term, items-the_row-Term}
-use Rattle.lb_check.proofs.Words.{VariableId, Program, Site, node_named, among, variable_names}
-use Rattle.lb_check.proofs.Words.{node_of, statics_of, texts_of, counts_of, Texts, Counts, expr_of}
-use Rattle.lb_check.proofs.Words.{row_of, exprs_of, named_value, static_at, site_at, declaration_of}
-use Rattle.lb_check.proofs.Words.{sampling_of, is_variable, is_static, is_call, is_no_variable}
-use Rattle.lb_check.proofs.Words.{is_within, are_within, is_unhidden, are_unhidden, variables}
-use Rattle.lb_check.proofs.Words.{clock_of, clock_or, clock_within, declared_clock, parent}
-use Rattle.lb_check.proofs.Words.{is_clock, is_occurrence_clocked, is_base_clocked_node, if_node}
-use Rattle.lb_check.proofs.Words.{at, call_count, occurrences, occurrences_in, HasClocks, name_in}
-use Rattle.lb_check.proofs.Words.{clock_in, AreClockSets, IsClockSet, SeesClocks, is_clocked_on}
-use Rattle.lb_check.proofs.Words.{is_single, are_single, calls_single, callee_in, Base, Operand}
-use Rattle.lb_check.proofs.Words.{ClockSet, NoClock, AnyClock, OneClock}
-use Rattle.std.proofs.Common.{length-append}
-use Rattle.lb_static.specs.declared.resolved.Term.{Variable}
-use Rattle.lb_static.specs.declared.resolved.Variable.{Variable as Declared}
-use Rattle.lb_static.specs.ResolvedTerms.{iterate_expr}
-use Rattle.lb_check.specs.ClockRules.{is_just_below}
-use Rattle.lb_check.specs.TermClocks.{Context, context_of, declared_in, is_same, both, together}
-use Rattle.lb_check.specs.TermClocks.{sampled, raised, is_base_clocked, call_clock_set, infer_clock}
-use Rattle.lb_check.specs.TermClocks.{operands_in, operand_of, operands_of}
+use Rattle.lb_check.proofs.Words
+use Words.{◌≡◌, ℕ, suc, ◌+◌, Bool, true, false, List, [], ◌∷◌, ◌++◌, length, take, Option, Some}
+use Words.{None, refl, ap, sym, ◌∙◌, subst, arith, ◌&&◌, ◌||◌, not, is_some, option_map, nat_eq}
+use Words.{if◌then◌else◌, list_all, append_assoc, list_all-append, nat_tests, Count, and-true}
+use Words.{and-false, not-true, ◌>>=◌, either_or, holds, or_else, listed, zip2, Name, Static, Expr}
+use Words.{Node, ArrayIterator, and_first, and_second, Reached, CallId, ResolvedNode, Sampling}
+use Words.{Term, Literal, Truth, Value, Group', Unary', Binary', If', Arrow', Fby', Pre', Current'}
+use Words.{When', Replicate', Index', Slice', Join', Array', AtMostOne', Nor', Call', IterateNode'}
+use Words.{IterateSymbol', Row_of-Term, end_of-Term, more_of-Term, items-the_row-Term, VariableId}
+use Words.{Program, Site, node_named, among, variable_names, node_of, statics_of, texts_of}
+use Words.{counts_of, Texts, Counts, expr_of, row_of, exprs_of, named_value, static_at, site_at}
+use Words.{declaration_of, sampling_of, is_variable, is_static, is_call, is_no_variable, is_within}
+use Words.{are_within, is_unhidden, are_unhidden, variables, clock_of, clock_or, clock_within}
+use Words.{declared_clock, parent, is_clock, is_occurrence_clocked, is_base_clocked_node, if_node}
+use Words.{at, call_count, occurrences, occurrences_in, HasClocks, name_in, clock_in, AreClockSets}
+use Words.{IsClockSet, SeesClocks, is_clocked_on, is_single, are_single, calls_single, callee_in}
+use Words.{Base, Operand, ClockSet, NoClock, AnyClock, OneClock, length-append, Declared, Context}
+use Words.{context_of, declared_in, is_same, both, together, raised, is_base_clocked}
+use Words.{call_clock_set, infer_clock, operands_in, operand_of, operands_of}
+use Rattle.lb_static.specs.{ResolvedTerms.iterate_expr, declared.resolved.Term.Variable}
+use Rattle.lb_check.specs.{ClockRules.is_just_below, TermClocks.sampled}
 use Rattle.lb_check.specs.declared.own_clock.Clock.TheVariants.{On}
+use Rattle.lb_check.proofs.clocking.ClockDepths.{as_many_names, same_taken, zip_split}
 use Rattle.lb_check.proofs.clocking.ClockTests.{clock_turned, on_one, on_two, same_is, name_among}
 use Rattle.lb_check.proofs.clocking.ClockTests.{declared_is, declared_within, has_declared}
-use Rattle.lb_check.proofs.clocking.ClockedNodes.{as_many_names, same_taken, zip_split}
+use Rattle.lb_check.proofs.{clocking.OwnClocks.clock_itself, definitions.NodePlaces.callee_found}
 use Rattle.lb_check.proofs.typing.FittedTypes.{unfound}
-use Rattle.lb_check.proofs.programs.SiteCallees.{callee_found}
-use Rattle.lb_check.proofs.clocking.OwnClocks.{clock_itself}
 use Rattle.lb_syntax.specs.Tree as tree
 use Rattle.lb_check.specs.Clocks as clocks
 

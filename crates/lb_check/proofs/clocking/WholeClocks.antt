@@ -1,27 +1,280 @@
--- A program keeps the rules of clocks exactly where the code finds it of its specializations'
--- nodes.
-use Rattle.lb_check.proofs.Words.{◌≡◌, ℕ, suc, ◌<◌, Bool, true, false, List, [], ◌∷◌, length, map}
-use Rattle.lb_check.proofs.Words.{Option, Some, None, refl, ap, sym, ◌∙◌, subst, arith, ◌&&◌, ℤ}
-use Rattle.lb_check.proofs.Words.{option_map, slice_get, list_all, zip, slice_get-map}
-use Rattle.lb_check.proofs.Words.{slice_get_within, get_or_from_slice_get, ◌>>=◌, all_some}
-use Rattle.lb_check.proofs.Words.{either_or, holds, Node, item_at, all_at, and_first, NodeId}
-use Rattle.lb_check.proofs.Words.{Reached, CallId, CallSite, ResolvedNode, Specialization, Table}
-use Rattle.lb_check.proofs.Words.{instance_of, Program, Instance, Root, Child, Site, callee_of}
-use Rattle.lb_check.proofs.Words.{instances, node_named, node_sites, static_value, id_at}
-use Rattle.lb_check.proofs.Words.{source_names, tree_at, callee_in, IsResolved, node_of, statics_of}
-use Rattle.lb_check.proofs.Words.{texts_of, site_of, is_statement_unhidden, are_declared_clocks}
-use Rattle.lb_check.proofs.Words.{is_clocked, IsJudged, is_node_clocked, is_clocked_at, HasClocks}
-use Rattle.lb_check.proofs.Words.{SeesClocks, is_statement_single, Part, at_place, is_part_clocked}
-use Rattle.lb_check.proofs.Words.{IsIllClocked, context_of, is_body_clocked}
-use Rattle.lb_check.proofs.Words.{is_resolved_statement_clocked, are_typed, is_typed}
-use Rattle.std.proofs.lemmas.Bool.{and_left}
-use Rattle.lb_check.specs.NodeClocks.{are_clocked_at}
-use Rattle.lb_check.proofs.typing.FittedCalls.{node_at, specialized_instance}
-use Rattle.lb_check.proofs.clocking.NodeClocks.{resolved_at, clocks_at}
-use Rattle.lb_check.proofs.definitions.NodePlaces.{named_at}
-use Rattle.lb_check.proofs.definitions.Specializations.{all_specializations}
+-- The rules of clocks of a whole program, and the clocks that break them.
+use Rattle.lb_check.proofs.Words
+use Words.{◌≡◌, ℕ, Bool, true, Some, None, ap, sym, ◌∙◌, subst, ◌&&◌, option_map, slice_get}
+use Words.{and-false, slice_get-map, slice_get_within, get_or_from_slice_get, holds, Program}
+use Words.{are_distinct, keeps_names, variable_names, IsReached, source_names, trees, IsResolved}
+use Words.{node_of, NodeId, Reached, ResolvedNode, ResolvedStatement, Part, first_broken}
+use Words.{are_declared_clocks, IsDeclaredClock, IsIllClocked, is_clocked_at, HasClocks, context_of}
+use Words.{is_body_clocked, is_resolved_statement_clocked, zero, suc, ◌+◌, ◌-◌, ◌<◌, ◌≤◌, false}
+use Words.{List, [], ◌∷◌, ◌++◌, take, drop, map, length, Option, refl, arith, is_some, nat_lt}
+use Words.{if◌then◌else◌, lt-ltb, le-ltb, length-append, append_assoc, Name, Declaration, Node}
+use Words.{all_at, item_at, variables, statics_of, declaration_of, Variable, at_place}
+use Words.{variable_clock, IsCircle, waits_below, is_clocked_by, ℤ, list_all, zip, ◌>>=◌, all_some}
+use Words.{either_or, and_first, CallId, CallSite, Specialization, Table, instance_of, Instance}
+use Words.{Root, Child, Site, callee_of, instances, node_named, node_sites, static_value, id_at}
+use Words.{tree_at, callee_in, texts_of, site_of, is_statement_unhidden, is_clocked, IsJudged}
+use Words.{SeesClocks, is_statement_single, is_part_clocked, are_typed, is_typed}
+use Rattle.{std.proofs.lemmas.Bool.and_left, lb_check.specs.BrokenParts.awaitable}
+use Rattle.lb_check.specs.{BrokenParts.is_declared_clock, FoundParts.IsPartIllClocked}
+use Rattle.lb_check.specs.NodeClocks.{is_node_clocked, are_clocked_at}
+use Rattle.lb_check.proofs.clocking.ClockDepths.{first_names}
+use Rattle.lb_check.proofs.definitions.NodePlaces.{distinct_variables, named_at}
+use Rattle.lb_check.proofs.lists.ListPairs.{all_pass, fails_there, not_all_pass, fails_at}
+use Rattle.lb_check.proofs.{lists.ListPairs.found_item, typing.FittedTypes.node_at}
+use Rattle.lb_check.proofs.typing.FittedTypes.{specialized_instance}
+use Rattle.lb_check.proofs.typing.Specializations.{all_specializations}
 use Rattle.lb_check.proofs.typing.TypedSpecializations.{instances_typed}
 use Rattle.lb_check.specs.declared.part.Part.TheVariants as part
+use Rattle.lb_check.proofs.clocking.ClockDepths as clocked
+
+-- A reached node keeps the rules of clocks where its declared clocks and its statements do.
+
+-- ## A reached node
+
+module _ (P : Program) (r : Reached) (names : keeps_names P ≡ true) (reached : IsReached P r)
+    (k : ℕ) (n : ResolvedNode)
+    (at : slice_get r.nodes.items k ≡ Some n) where
+  pub resolved_at : IsResolved (source_names P) n
+  resolved_at =
+      subst (IsResolved (source_names P)) (get_or_from_slice_get r.nodes.items k n n at)
+      (reached.resolved k n (slice_get_within r.nodes.items k n at))
+
+  pub distinct_at : are_distinct (variable_names (node_of n)) ≡ true
+  distinct_at =
+      let tree : slice_get (trees r) k ≡ Some (node_of n) = slice_get-map node_of r.nodes.items k
+      ∙ ap (option_map node_of) at in
+      let lt = slice_get_within (trees r) k (node_of n) tree in
+      distinct_variables P names (node_of n)
+      ((reached.same (node_of n)).0
+      (k, lt, get_or_from_slice_get (trees r) k (node_of n) (node_of n) tree))
+
+  pub clocks_at : are_declared_clocks (node_of n) ≡ true → HasClocks n
+  clocks_at kept = record {
+    nodes = source_names P;
+    resolved = resolved_at;
+    distinct = distinct_at;
+    declared = kept;
+  }
+
+-- the answer of the code on a reached node
+module _ (r : Reached) (id : NodeId) (n : ResolvedNode)
+    (at : slice_get r.nodes.items id.0 ≡ Some n) where
+  abbrev kept : ResolvedStatement → Bool
+  kept = is_resolved_statement_clocked (context_of r n)
+
+  both : is_clocked_at r id ≡ (are_declared_clocks (node_of n) && is_body_clocked r n)
+  both = ap (holds (is_node_clocked r)) at
+
+  here : (p : Part) → IsPartIllClocked r n p → (m : ResolvedNode) →
+      slice_get r.nodes.items id.0 ≡ Some m → IsPartIllClocked r m p
+  here p e m is =
+      let one : Some n ≡ Some m = sym at ∙ is in
+      let same : n ≡ m = cc in
+      subst (λ (m : ResolvedNode). IsPartIllClocked r m p) same e
+
+  pub declared_found : (i : ℕ) → IsDeclaredClock (node_of n) (Some i) →
+      IsIllClocked r id (part.Variable (record { 0 = i }))
+  declared_found i e = (
+    both ∙ ap (λ b. b && is_body_clocked r n) e.0,
+    here (part.Variable (record { 0 = i })) e.1,
+  )
+
+  pub statement_found : (j : ℕ) → are_declared_clocks (node_of n) ≡ true →
+      first_broken (is_resolved_statement_clocked (context_of r n)) n.body.items ≡ Some j
+      → IsIllClocked r id (part.Statement j)
+  statement_found j declared e = (
+    both ∙ ap (λ b. are_declared_clocks (node_of n) && b)
+        (not_all_pass kept n.body.items j e)
+        ∙ and-false (are_declared_clocks (node_of n)),
+    here (part.Statement j) (declared, fails_there kept n.body.items j e),
+  )
+
+  pub all_clocked : are_declared_clocks (node_of n) ≡ true →
+      first_broken (is_resolved_statement_clocked (context_of r n)) n.body.items ≡ None
+      → is_clocked_at r id ≡ true
+  all_clocked declared e = both ∙ ap (λ b. b && is_body_clocked r n) declared
+      ∙ all_pass kept n.body.items e
+
+-- A declared clock that the code finds to break the rules breaks them.
+
+-- ## A part of a list
+
+taken_at : {A : Type 0} (k : ℕ) (xs : List A) (i : ℕ) (x : A) → slice_get (take k xs) i ≡ Some x →
+    (i < k) × (slice_get xs i ≡ Some x)
+taken_at zero xs i x e = absurd cc
+taken_at (suc k) [] i x e = absurd cc
+taken_at (suc k) (y ∷ xs) zero x e = (omega arith, e)
+taken_at (suc k) (y ∷ xs) (suc i) x e =
+    let h = taken_at k xs i x e in
+    let lt = h.0 in (omega (arith, lt), h.1)
+
+dropped_at : {A : Type 0} (k : ℕ) (xs : List A) (i : ℕ) (x : A) →
+    slice_get (drop k xs) i ≡ Some x → slice_get xs (k + i) ≡ Some x
+dropped_at zero xs i x e = let same : 0 + i ≡ i = omega arith in ap (slice_get xs) same ∙ e
+dropped_at (suc k) [] i x e = absurd cc
+dropped_at (suc k) (y ∷ xs) i x e =
+    let same : suc k + i ≡ suc (k + i) = omega arith in
+    ap (slice_get (y ∷ xs)) same ∙ dropped_at k xs i x e
+
+-- ## A node
+
+module _ (nodes : List Name) (r : ResolvedNode) (e : IsResolved nodes r)
+    (distinct : are_distinct (variable_names (node_of r)) ≡ true) where
+  abbrev node : Node
+  node = node_of r
+
+  abbrev names : List Name
+  names = variable_names (node_of r)
+
+  abbrev vs : List Variable
+  vs = r.variables.items
+
+  many : length r.variables.items ≡ length (variable_names (node_of r))
+  many = clocked.as_many_names nodes r e distinct
+
+  abbrev Fails : ℕ → Type 0
+  Fails i = at_place (is_declared_clock (node_of r) i) (variables (node_of r)) i ≡ false
+
+  -- a variable, by its place, whose declaration stands at this place
+  abbrev IsAt : ℕ → Variable → Type 0
+  IsAt i v =
+      (x : Name) × (slice_get (variable_names (node_of r)) i ≡ Some x)
+      × (slice_get (variables (node_of r)) i ≡ Some
+      (declaration_of (variable_names (node_of r)) (statics_of r) x v))
+
+  declared_at : (i : ℕ) (v : Variable) → slice_get r.variables.items i ≡ Some v → IsAt i v
+  declared_at i v at =
+      let lt = slice_get_within vs i v at in
+      let x = item_at names i (omega (arith, many, lt)) in (
+        x.0,
+        x.1,
+        clocked.at_place names (statics_of r) vs (variables node) e.declared many refl distinct
+            (clocked.are_awaited nodes r e) i x.0 v x.1 at,
+      )
+
+  -- a variable fails that waits for none of the first `k`, where it may wait for these alone
+  waits_past : (k i : ℕ) (allowed : List Declaration) (v : Variable) →
+      slice_get r.variables.items i ≡ Some v
+      → map (λ d. d.name) allowed ≡ take k (variable_names (node_of r)) →
+      awaitable (node_of r) i ≡ allowed → waits_below k v ≡ false → Fails i
+  waits_past k i allowed v at firsts may past =
+      let d = declared_at i v at in
+      let decl = declaration_of names (statics_of r) d.0 v in
+      let no = clocked.clocked_one names (statics_of r) vs (variables node) e.declared many refl
+      distinct (clocked.are_awaited nodes r e) k allowed d.0 v v.clock refl firsts
+      (all_at (waits_below (length names)) vs i v (clocked.within_names nodes r e distinct) at)
+      ∙ past in
+      fails_at (is_declared_clock node i) (variables node) i decl d.2
+      (ap (λ ds. is_clocked_by ds decl && is_some (variable_clock node decl.name)) may
+      ∙ ap (λ b. b && is_some (variable_clock node decl.name)) no)
+
+  abbrev either : Bool → Bool → List Declaration
+  either is_input is_output =
+      if is_input then (node_of r).inputs else
+      (if is_output then (node_of r).inputs ++ (node_of r).outputs else variables (node_of r))
+
+  input_names : map (λ d. d.name) (node_of r).inputs ≡ take r.inputs (variable_names (node_of r))
+  input_names = sym (first_names node.inputs (node.outputs ++ node.locals))
+      ∙ ap (λ k. take k names) (sym e.inputs)
+
+  -- the first input that waits for none of the inputs breaks the rules
+  pub input_broken : (ls : List Variable) (i : ℕ) → ls ≡ r.variables.items →
+      first_broken (waits_below r.inputs) (take r.inputs ls) ≡ Some i
+      → IsDeclaredClock (node_of r) (Some i)
+  input_broken ls i same found =
+      let here : first_broken (waits_below r.inputs) (take r.inputs vs) ≡ Some i =
+      ap (λ l. first_broken (waits_below r.inputs) (take r.inputs l)) (sym same) ∙ found in
+      let v = found_item (waits_below r.inputs) (take r.inputs vs) i here in
+      let at = taken_at r.inputs vs i v.0 v.1 in
+      let below = at.0 in
+      let count = e.inputs in
+      let less : i < length node.inputs = omega (arith, below, count) in (
+        clocked.inputs_refused nodes r e distinct
+            (not_all_pass (waits_below r.inputs) (take r.inputs vs) i here),
+        waits_past r.inputs i node.inputs v.0 at.1 input_names
+            (ap (λ b. either b (nat_lt i (length node.inputs + length node.outputs)))
+            (lt-ltb i (length node.inputs) less)) v.2,
+      )
+
+  output_names : map (λ d. d.name) ((node_of r).inputs ++ (node_of r).outputs)
+      ≡ take (r.inputs + r.outputs) (variable_names (node_of r))
+  output_names =
+      let allowed = node.inputs ++ node.outputs in
+      let count : length node.inputs + length node.outputs ≡ r.inputs + r.outputs =
+      omega (arith, e.inputs, e.outputs) in
+      sym (first_names allowed node.locals)
+      ∙ ap (λ l. take (length allowed) (map (λ d. d.name) l))
+      (append_assoc node.inputs node.outputs node.locals)
+      ∙ ap (λ m. take m names) (length-append node.inputs node.outputs ∙ count)
+
+  -- the first output that waits for none of the inputs and outputs breaks the rules
+  pub output_broken : (ls : List Variable) (i : ℕ) → ls ≡ r.variables.items →
+      first_broken (waits_below (r.inputs + r.outputs))
+      (take (r.inputs + r.outputs - r.inputs) (drop r.inputs ls)) ≡ Some i
+      → IsDeclaredClock (node_of r) (Some (r.inputs + i))
+  output_broken ls i same found =
+      let k = r.inputs + r.outputs in
+      let rest : r.inputs + r.outputs - r.inputs ≡ r.outputs = omega arith in
+      let here : first_broken (waits_below k) (take r.outputs (drop r.inputs vs)) ≡ Some i =
+      ap (λ m. first_broken (waits_below k) (take m (drop r.inputs vs))) (sym rest)
+      ∙ ap (λ l. first_broken (waits_below k) (take (k - r.inputs) (drop r.inputs l))) (sym same)
+      ∙ found in
+      let v = found_item (waits_below k) (take r.outputs (drop r.inputs vs)) i here in
+      let at = taken_at r.outputs (drop r.inputs vs) i v.0 v.1 in
+      let below = at.0 in
+      let inputs = e.inputs in
+      let outputs = e.outputs in
+      let past : length node.inputs ≤ r.inputs + i = omega (arith, inputs) in
+      let less : r.inputs + i < length node.inputs + length node.outputs =
+      omega (arith, below, inputs, outputs) in (
+        clocked.outputs_refused nodes r e distinct
+            (not_all_pass (waits_below k) (take r.outputs (drop r.inputs vs)) i here),
+        waits_past k (r.inputs + i) (node.inputs ++ node.outputs) v.0
+            (dropped_at r.inputs vs i v.0 at.1) output_names
+            (ap (λ b. either b (nat_lt (r.inputs + i) (length node.inputs + length node.outputs)))
+            (le-ltb (r.inputs + i) (length node.inputs) past)
+            ∙ ap (either false)
+            (lt-ltb (r.inputs + i) (length node.inputs + length node.outputs) less)) v.2,
+      )
+
+  -- a declared clock that runs in a circle breaks the rules
+  circle_broken : (i : ℕ) → IsCircle r.variables.items (Some i) →
+      IsDeclaredClock (node_of r) (Some i)
+  circle_broken i circle =
+      let v = item_at vs i circle.0 in
+      let d = declared_at i v.0 v.1 in
+      let decl = declaration_of names (statics_of r) d.0 v.0 in
+      let none = clocked.place_some nodes r e distinct i d.0 circle.0 d.1
+      ∙ ap is_some circle.1 in (
+        clocked.circle_refused nodes r e distinct i d.0 d.1 none,
+        fails_at (is_declared_clock node i) (variables node) i decl d.2
+            (ap (λ b. is_clocked_by (awaitable node i) decl && b) none
+            ∙ and-false (is_clocked_by (awaitable node i) decl)),
+      )
+
+  -- the answer about circles is right, where inputs and outputs wait for variables that they may
+  pub circle_found : (o : Option ℕ) (ls ms ns : List Variable) → ls ≡ r.variables.items →
+      ms ≡ r.variables.items → ns ≡ r.variables.items
+      → first_broken (waits_below r.inputs) (take r.inputs ls) ≡ None →
+      first_broken (waits_below (r.inputs + r.outputs))
+      (take (r.inputs + r.outputs - r.inputs) (drop r.inputs ms)) ≡ None
+      → IsCircle ns o → IsDeclaredClock (node_of r) o
+  circle_found (Some i) ls ms ns as_ls as_ms as_ns inputs outputs circle =
+      circle_broken i (subst (λ l. IsCircle l (Some i)) as_ns circle)
+  circle_found None ls ms ns as_ls as_ms as_ns inputs outputs circle =
+      let k = r.inputs + r.outputs in
+      let rest : r.inputs + r.outputs - r.inputs ≡ r.outputs = omega arith in
+      clocked.clocks_accepted nodes r e distinct
+      (all_pass (waits_below r.inputs) (take r.inputs vs)
+      (ap (λ l. first_broken (waits_below r.inputs) (take r.inputs l)) (sym as_ls) ∙ inputs))
+      (all_pass (waits_below k) (take r.outputs (drop r.inputs vs))
+      (ap (λ m. first_broken (waits_below k) (take m (drop r.inputs vs))) (sym rest)
+      ∙ ap (λ l. first_broken (waits_below k) (take (k - r.inputs) (drop r.inputs l))) (sym as_ms)
+      ∙ outputs))
+      (subst (λ l. IsCircle l None) as_ns circle)
+
+-- A program keeps the rules of clocks exactly where the code finds it of its specializations'
+-- nodes.
 
 both_ways : (a b : Bool) → (a ≡ true → a ≡ b) → (b ≡ true → a ≡ b) → a ≡ b
 both_ways true b f g = f refl
@@ -250,12 +503,12 @@ module _ (P : Program) (r : Reached) (t : Table) (j : IsJudged P r t) where
         }
 
     -- the first specialization whose node the code finds to break the rules of clocks breaks them
-    pub first_broken : (i : ℕ) (s : Specialization) → slice_get t.specializations.items i ≡ Some s →
+    pub first_broken_specialization : (i : ℕ) (s : Specialization) → slice_get t.specializations.items i ≡ Some s →
         is_clocked_at r s.node ≡ false
         → ((k : ℕ) (m : Specialization) → k < i → slice_get t.specializations.items k ≡ Some m →
         is_clocked_at r m.node ≡ true)
         → by_tree s ≡ false
-    first_broken i s is broken earlier = by (are_declared_clocks (node_of n.0)) refl
+    first_broken_specialization i s is broken earlier = by (are_declared_clocks (node_of n.0)) refl
       where
         n : (n : ResolvedNode) × (slice_get r.nodes.items s.node.0 ≡ Some n)
             × IsResolved (source_names P) n

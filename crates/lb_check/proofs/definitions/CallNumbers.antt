@@ -1,20 +1,23 @@
+-- The numbers of the calls in the text of a node, and the left variables of each.
+use Rattle.lb_check.proofs.Words
+use Words.{◌&&◌, nat_eq, find, nat_tests, eqb-true, and_from, same_Some, and-false, Every, In}
+use Words.{listed, Node_named, Symbol, Expr, Group, Iterate, Node, Statement, Equation, Assertion}
+use Words.{same_number, and_first, and_second, Program, sites, statement_sites, right_side}
+use Words.{left_names, Clock, ungrouped, is_site, call_at, lefts_at, Occurrence, at, occurrences}
+use Words.{statement_clock, right_sides, statements, node_occurrences, Name, Exprs, Site, sites_in}
+use Words.{numbered_sites, occurrences_each, occurrences_in, cond, ◌≡◌, ◌⊎◌, inl, inr, ℕ, ◌+◌, ◌<◌}
+use Words.{◌≤◌, Bool, true, false, Option, Some, None, List, [], ◌∷◌, length, refl, ap, sym, ◌∙◌}
+use Words.{arith}
+use Rattle.{std.proofs.Common.zip, lb_check.specs.{Clocks.Base, Needs.is_right_side}}
+use Rattle.lb_check.proofs.lists.Members.{Every-at, to_pieces, Every-map, Every-both}
+use Rattle.lb_check.proofs.programs.OccurrenceSites.{site_of_call, numbered_below, find_here}
+use Rattle.lb_check.proofs.programs.OccurrenceSites.{find_next, calls_of, node_calls, AreCalls}
+use Rattle.lb_check.proofs.programs.OccurrenceSites.{body_calls, body_occurrences, calls_each}
+use Rattle.lb_check.proofs.programs.OccurrenceSites.{calls_in, numbered_from, own_site}
+use Rattle.lb_check.proofs.programs.OccurrenceSites.{statement_calls}
+
 -- The call of a number in the text of a node, and the left variables of the equation whose whole
 -- right side is this call.
-use Rattle.lb_check.proofs.Words.{◌&&◌, nat_eq, find, nat_tests, eqb-true, and_from, same_Some}
-use Rattle.lb_check.proofs.Words.{and-false, Every, In, listed, Node_named, Symbol, Expr, Group}
-use Rattle.lb_check.proofs.Words.{Iterate, Node, Statement, Equation, Assertion, same_number}
-use Rattle.lb_check.proofs.Words.{and_first, and_second, Program, sites, statement_sites}
-use Rattle.lb_check.proofs.Words.{right_side, left_names, Clock, ungrouped, is_site, call_at}
-use Rattle.lb_check.proofs.Words.{is_right_side, lefts_at, Occurrence, at, occurrences}
-use Rattle.lb_check.proofs.Words.{statement_clock, right_sides, statements, node_occurrences}
-use Rattle.std.proofs.Common.{◌≡◌, ◌⊎◌, inl, inr, ℕ, ◌+◌, ◌<◌, ◌≤◌, Bool, true, false, Option, Some}
-use Rattle.std.proofs.Common.{None, List, [], ◌∷◌, length, zip, refl, ap, sym, ◌∙◌, arith}
-use Rattle.lb_check.specs.Clocks.{Base}
-use Rattle.lb_check.proofs.lists.ApartLists.{Every-at, to_pieces}
-use Rattle.lb_check.proofs.lists.Every.{Every-map, Every-both}
-use Rattle.lb_check.proofs.programs.OccurrenceSites.{site_of_call, numbered_below, find_here}
-use Rattle.lb_check.proofs.programs.OccurrenceSites.{find_next}
-use Rattle.lb_check.proofs.programs.OccurrenceSites.{calls_of, node_calls}
 
 -- an item that `find` returns is in the list and passes the test
 pub found_in : {A : Type 0} (test : A → Bool) (xs : List A) (x : A) → find test xs ≡ Some x →
@@ -197,3 +200,143 @@ module _ (P : Program) (here : Node) where
             },
             ap (listed (λ s. left_names s.0)) e,
           )
+
+-- The left variables of the call of a number, statement by statement.
+
+-- the calls among occurrences have numbers from `n` on
+abbrev pub AreFrom : ℕ → List Occurrence → Type 0
+AreFrom n os = Every (λ o. is_site o.expr ≡ true → n ≤ o.calls_before) os
+
+-- the calls among occurrences have numbers below `n`
+abbrev pub AreBelow : ℕ → List Occurrence → Type 0
+AreBelow n os = Every (λ o. is_site o.expr ≡ true → o.calls_before < n) os
+
+from_calls : (n : ℕ) (os : List Occurrence) (ss : List Site) → AreCalls n os ss → AreFrom n os
+from_calls n os ss h =
+    Every-map
+    (λ o. (s : Site) → own_site o.expr ≡ Some s → In (o.calls_before, s) (numbered_sites n ss))
+    (λ o. is_site o.expr ≡ true → n ≤ o.calls_before)
+    (λ o f is. let s = site_of_call o.expr is in
+    numbered_from n ss o.calls_before s.0 (f s.0 s.1)) os h.stand
+
+below_calls : (n : ℕ) (os : List Occurrence) (ss : List Site) → AreCalls n os ss →
+    AreBelow (n + length ss) os
+below_calls n os ss h =
+    Every-map
+    (λ o. (s : Site) → own_site o.expr ≡ Some s → In (o.calls_before, s) (numbered_sites n ss))
+    (λ o. is_site o.expr ≡ true → o.calls_before < n + length ss)
+    (λ o f is. let s = site_of_call o.expr is in
+    numbered_below n ss o.calls_before s.0 (f s.0 s.1)) os h.stand
+
+module _ (P : Program) (here : Node) where
+  -- the calls of arguments, each on a clock of its own, have numbers from `n` on
+  pub each_from : (ks : List Clock) (n : ℕ) (es : Exprs) →
+      AreFrom n (occurrences_each P here ks n es)
+  each_from ks n es =
+      from_calls n (occurrences_each P here ks n es) (sites_in es) (calls_each P here ks n es)
+
+  pub row_from : (k : Clock) (n : ℕ) (es : Exprs) → AreFrom n (occurrences_in P here k n es)
+  row_from k n es =
+      from_calls n (occurrences_in P here k n es) (sites_in es) (calls_in P here k n es)
+
+  -- the calls of a statement have numbers below those of the statements behind it
+  pub statement_below : (n : ℕ) (s : Statement) →
+      AreBelow (n + length (statement_sites s))
+      (occurrences P here (statement_clock P here s) n (right_side s))
+  statement_below n s =
+      below_calls n (occurrences P here (statement_clock P here s) n (right_side s))
+      (statement_sites s) (statement_calls P here n s)
+
+  pub statements_from : (n : ℕ) (ss : List Statement) →
+      AreFrom n (body_occurrences P here n ss)
+  statements_from n ss = from_calls n (body_occurrences P here n ss) _ (body_calls P here n ss)
+
+  -- ## Left variables
+
+  abbrev numbered : ℕ → List Statement → List (Statement × Occurrence)
+  numbered n ss = zip ss (right_sides P here n ss)
+
+  -- the left variables of the call with a number, among statements that are numbered from `n` on
+  abbrev pub lefts_among : ℕ → List Statement → ℕ → List Name
+  lefts_among n ss call =
+      listed (λ s. left_names s.0)
+      (find (λ s. is_right_side call s.1) (zip ss (right_sides P here n ss)))
+
+  -- the left variables of the call with a number, where the statement with number `n` has `lefts`
+  -- and `e`
+  abbrev pub own_lefts : ℕ → Expr → List Name → ℕ → List Name
+  own_lefts n e lefts call = cond (nat_eq n call && is_site (ungrouped e)) lefts []
+
+  none_right : (call n : ℕ) (ss : List Statement) → call < n →
+      find (λ s. is_right_side call s.1) (zip ss (right_sides P here n ss)) ≡ None
+  none_right call n [] lt = refl
+  none_right call n (s ∷ ss) lt =
+      let first : Statement × Occurrence = (s, at (statement_clock P here s) n (right_side s)) in
+      let other : nat_eq n call ≡ false = grind (arith, nat_tests) in
+      find_next (λ s. is_right_side call s.1) first
+      (numbered (n + length (statement_sites s)) ss)
+      (ap (λ b. b && is_site (ungrouped (right_side s))) other)
+      ∙ none_right call (n + length (statement_sites s)) ss (omega arith)
+
+  -- the left variables of a call within the first statement are those of this statement
+  pub first_lefts : (n : ℕ) (s : Statement) (ss : List Statement) (call : ℕ) →
+      call < n + length (statement_sites s) →
+      own_lefts n (right_side s) (left_names s) call ≡ lefts_among n (s ∷ ss) call
+  first_lefts n s ss call lt = by (nat_eq n call && is_site (ungrouped (right_side s))) refl
+    where
+      by : (b : Bool) → (nat_eq n call && is_site (ungrouped (right_side s))) ≡ b →
+          own_lefts n (right_side s) (left_names s) call ≡ lefts_among n (s ∷ ss) call
+      by true is =
+          let first : Statement × Occurrence =
+          (s, at (statement_clock P here s) n (right_side s)) in
+          let rest = numbered (n + length (statement_sites s)) ss in
+          ap (λ b. cond b (left_names s) []) is
+          ∙ sym (ap (listed (λ s. left_names s.0))
+          (find_here (λ s. is_right_side call s.1) first rest is))
+      by false is =
+          let first : Statement × Occurrence =
+          (s, at (statement_clock P here s) n (right_side s)) in
+          let rest = numbered (n + length (statement_sites s)) ss in
+          ap (λ b. cond b (left_names s) []) is
+          ∙ sym (ap (listed (λ s. left_names s.0))
+          (find_next (λ s. is_right_side call s.1) first rest is
+          ∙ none_right call (n + length (statement_sites s)) ss lt))
+
+  -- the left variables of a call within a later statement are those among the later ones
+  pub later_lefts : (n : ℕ) (s : Statement) (ss : List Statement) (call : ℕ) →
+      n + length (statement_sites s) ≤ call →
+      lefts_among (n + length (statement_sites s)) ss call ≡ lefts_among n (s ∷ ss) call
+  later_lefts n s ss call le =
+      let first : Statement × Occurrence =
+      (s, at (statement_clock P here s) n (right_side s)) in
+      let rest = numbered (n + length (statement_sites s)) ss in
+      sym (ap (listed (λ s. left_names s.0))
+      (find_next (λ s. is_right_side call s.1) first rest
+      (by (is_site (ungrouped (right_side s))) refl)))
+    where
+      by : (b : Bool) → is_site (ungrouped (right_side s)) ≡ b →
+          (nat_eq n call && is_site (ungrouped (right_side s))) ≡ false
+      by false e = ap (λ b. nat_eq n call && b) e ∙ and-false (nat_eq n call)
+      by true e =
+          let some = statement_has_site P here s e in
+          let differs : nat_eq n call ≡ false = grind (arith, nat_tests) in
+          ap (λ b. b && is_site (ungrouped (right_side s))) differs
+
+  -- the left variables of a call that is a whole right side, and below of all else
+  pub own_is : (n : ℕ) (e : Expr) (lefts : List Name) → is_site (ungrouped e) ≡ true →
+      own_lefts n e lefts n ≡ lefts
+  own_is n e lefts is =
+      let own : nat_eq n n ≡ true = grind (arith, nat_tests) in
+      ap (λ b. cond (b && is_site (ungrouped e)) lefts []) own ∙ ap (λ b. cond b lefts []) is
+
+  pub no_own : (n : ℕ) (e : Expr) (lefts : List Name) (call : ℕ) →
+      is_site (ungrouped e) ≡ false → [] ≡ own_lefts n e lefts call
+  no_own n e lefts call is =
+      sym (ap (λ b. cond (nat_eq n call && b) lefts []) is
+      ∙ ap (λ b. cond b lefts []) (and-false (nat_eq n call)))
+
+  pub no_more : (n : ℕ) (e : Expr) (lefts : List Name) (call : ℕ) → n + 1 ≤ call →
+      [] ≡ own_lefts n e lefts call
+  no_more n e lefts call le =
+      let other : nat_eq n call ≡ false = grind (arith, nat_tests) in
+      sym (ap (λ b. cond (b && is_site (ungrouped e)) lefts []) other)

@@ -1,13 +1,11 @@
 -- The left sides and terms of a node from a place on.
-use Rattle.lb_check.proofs.Words.{◌≡◌, ◌⊎◌, inl, inr, ℕ, ◌+◌, ◌<◌, Bool, Box, List, length, drop}
-use Rattle.lb_check.proofs.Words.{get_or, Vec, Global, refl, ap, ◌∙◌, ◌&&◌, if◌then◌else◌, ◌==◌}
-use Rattle.lb_check.proofs.Words.{list_all, drop_more, ArrayIterator, BinaryOperator, UnaryOperator}
-use Rattle.lb_check.proofs.Words.{Reached, CallId, ResolvedNode, StaticId, VariableId}
-use Rattle.lb_check.proofs.Words.{ResolvedStatement, Term, IterateNode, IterateSymbol, Row_of-Term}
-use Rattle.lb_check.proofs.Words.{end_of-Term, more_of-Term, items-the_row-Term}
-use Rattle.lb_check.proofs.Words.{items_hidden-the_row-Term-0, count_left, count_statement}
-use Rattle.lb_check.proofs.Words.{count_statements, calls_function}
-use Rattle.lb_static.specs.declared.resolved.Term.{Group, Unary, When, Replicate, Index, Slice}
+use Rattle.lb_check.proofs.Words.{◌≡◌, ◌⊎◌, inl, inr, ℕ, ◌+◌, ◌<◌, Bool, List, length, drop, get_or}
+use Rattle.lb_check.proofs.Words.{Vec, Global, refl, ap, ◌∙◌, ◌&&◌, if◌then◌else◌, ◌==◌, list_all}
+use Rattle.lb_check.proofs.Words.{drop_more, ArrayIterator, BinaryOperator, Reached, CallId}
+use Rattle.lb_check.proofs.Words.{ResolvedNode, StaticId, VariableId, ResolvedStatement, Term}
+use Rattle.lb_check.proofs.Words.{IterateNode, IterateSymbol, Row_of-Term, end_of-Term}
+use Rattle.lb_check.proofs.Words.{more_of-Term, items-the_row-Term, items_hidden-the_row-Term-0}
+use Rattle.lb_check.proofs.Words.{count_left, count_statement, count_statements, calls_function}
 use Rattle.lb_static.specs.declared.resolved.Term.{Array, AtMostOne, Nor, Call}
 use Rattle.lb_check.specs.NodeDefinitions.{is_memoryless, is_row_memoryless}
 use Rattle.lb_check.proofs.typing.TypeRows.{row_in}
@@ -43,23 +41,6 @@ module _ (r : Reached) (n : ResolvedNode) where
   row_hidden : (t : Term) (es : Vec Term Global) → items-the_row-Term _ (row_in t).1 ≡ es.items →
       is_row_memoryless r n (row_in t).1 ≡ list_all free es.items
   row_hidden t es e = row_items _ (row_in t).1 ∙ ap (list_all free) e
-
-  -- a term that has no memory where its operand `e` has none
-  abbrev pub IsAround : Term → Box Term Global → Type 0
-  IsAround t e =
-      (t ≡ Group e) ⊎ (((op : UnaryOperator) × (t ≡ Unary op e))
-      ⊎ (((x : VariableId) × (sign : Bool) × (t ≡ When e x sign))
-      ⊎ (((n : StaticId) × (t ≡ Replicate e n)) ⊎ (((i : StaticId) × (t ≡ Index e i))
-      ⊎ ((i : StaticId) × (j : StaticId) × (t ≡ Slice e i j))))))
-
-  pub memoryless_part : (t : Term) (e : Box Term Global) → IsAround t e → free t ≡ free e.value
-  unfolding is_memoryless
-  memoryless_part t e (inl is) = rw is refl
-  memoryless_part t e (inr (inl (op, is))) = rw is refl
-  memoryless_part t e (inr (inr (inl (x, sign, is)))) = rw is refl
-  memoryless_part t e (inr (inr (inr (inl (m, is))))) = rw is refl
-  memoryless_part t e (inr (inr (inr (inr (inl (i, is)))))) = rw is refl
-  memoryless_part t e (inr (inr (inr (inr (inr (i, j, is)))))) = rw is refl
 
   -- a term whose operands stand in this row, and which calls nothing
   abbrev pub IsPlainRow : Term → Vec Term Global → Type 0

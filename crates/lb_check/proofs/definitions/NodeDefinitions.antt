@@ -1,38 +1,29 @@
 -- A node with resolved names keeps the rules of definitions exactly where the code finds it.
-use Rattle.lb_check.proofs.Words.{◌≡◌, ℕ, ◌+◌, ◌-◌, ◌<◌, ◌≤◌, Bool, true, false, cond, List, []}
-use Rattle.lb_check.proofs.Words.{◌∷◌, ◌++◌, length, map, Option, Some, None, refl, ap, sym, ◌∙◌}
-use Rattle.lb_check.proofs.Words.{subst, arith, ◌&&◌, ◌||◌, not, nat_lt, nat_eq, option_map}
-use Rattle.lb_check.proofs.Words.{slice_get, ◌==◌, if◌then◌else◌, list_all, bytes_eq, nat_tests}
-use Rattle.lb_check.proofs.Words.{length-map, list_all-append, slice_get-map, slice_get_within}
-use Rattle.lb_check.proofs.Words.{get_or_from_slice_get, and-true, and-false, either_or, holds}
-use Rattle.lb_check.proofs.Words.{listed, Name, Node, Declaration, Expr, Statement, Static}
-use Rattle.lb_check.proofs.Words.{get_first, get_later, item_at, all_at, all_from, and_first}
-use Rattle.lb_check.proofs.Words.{and_second, NodeId, Reached, CallId, ResolvedNode, VariableId}
-use Rattle.lb_check.proofs.Words.{ResolvedStatement, Term, Value, Group', Unary', Binary', If'}
-use Rattle.lb_check.proofs.Words.{When', Replicate', Index', Slice', Join', Array', AtMostOne'}
-use Rattle.lb_check.proofs.Words.{Nor', Call', IterateNode', IterateSymbol', Row_of-Term}
-use Rattle.lb_check.proofs.Words.{end_of-Term, more_of-Term, Program, node_sites, are_distinct}
-use Rattle.lb_check.proofs.Words.{keeps_names, left_names, node_parts, parts, parts_in, right_side}
-use Rattle.lb_check.proofs.Words.{variable_names, IsReached, source_names, tree_at, trees}
-use Rattle.lb_check.proofs.Words.{IsResolved, node_of, texts_of, counts_of, Texts, Counts}
-use Rattle.lb_check.proofs.Words.{is_variable, is_call, is_static, is_within, are_within}
-use Rattle.lb_check.proofs.Words.{is_statement_within, name_at, static_at, named_value, expr_of}
-use Rattle.lb_check.proofs.Words.{row_of, statement_of, site_at, variables, Part, at_place}
-use Rattle.lb_check.proofs.Words.{first_broken, is_part_defined, if_node, is_defined, IsIllDefined}
-use Rattle.lb_check.proofs.Words.{count_left, count_statement, count_statements, calls_function}
-use Rattle.lb_check.proofs.Words.{is_statement_memoryless, is_defined_at}
-use Rattle.std.proofs.Common.{length-append}
-use Rattle.std.specs.Prelude.{flat_map, ◌≢◌}
-use Rattle.std.proofs.lemmas.List.Recursion.{is_count_by}
-use Rattle.std.proofs.lemmas.Bool.{ltb-true, eq-eqb, eqb-true, lt-ltb, le-ltb, ne_eqb}
-use Rattle.lb_check.specs.BrokenParts.{is_defined_right}
-use Rattle.lb_check.specs.DefinitionRules.{definition_count, defines_once, is_memoryless}
-use Rattle.lb_check.specs.FoundParts.{IsDefinedPlace}
+use Rattle.lb_check.proofs.Words
+use Words.{◌≡◌, ℕ, ◌+◌, ◌-◌, ◌<◌, ◌≤◌, Bool, true, false, cond, List, [], ◌∷◌, ◌++◌, length, map}
+use Words.{Option, Some, None, refl, ap, sym, ◌∙◌, subst, arith, ◌&&◌, ◌||◌, not, nat_lt, nat_eq}
+use Words.{option_map, slice_get, if◌then◌else◌, list_all, bytes_eq, nat_tests, length-map}
+use Words.{list_all-append, slice_get-map, slice_get_within, get_or_from_slice_get, and-true}
+use Words.{and-false, either_or, holds, listed, Name, Node, Declaration, Expr, Statement, Static}
+use Words.{get_first, get_later, item_at, all_at, all_from, and_first, and_second, NodeId, Reached}
+use Words.{CallId, ResolvedNode, VariableId, ResolvedStatement, Term, Value, Group', Unary'}
+use Words.{Binary', If', When', Replicate', Index', Slice', Join', Array', AtMostOne', Nor', Call'}
+use Words.{IterateNode', IterateSymbol', Row_of-Term, end_of-Term, more_of-Term, Program}
+use Words.{node_sites, are_distinct, keeps_names, left_names, node_parts, parts, parts_in}
+use Words.{right_side, variable_names, IsReached, source_names, tree_at, trees, IsResolved, node_of}
+use Words.{texts_of, counts_of, Texts, Counts, is_variable, is_call, is_static, is_within}
+use Words.{are_within, is_statement_within, name_at, static_at, named_value, expr_of, row_of}
+use Words.{statement_of, site_at, variables, Part, at_place, first_broken, is_part_defined, if_node}
+use Words.{is_defined, IsIllDefined, count_left, count_statement, count_statements, calls_function}
+use Words.{is_statement_memoryless, is_defined_at, flat_map, ◌≢◌, length-append, ltb-true, eq-eqb}
+use Words.{eqb-true, lt-ltb, le-ltb}
+use Rattle.std.proofs.lemmas.{Bool.ne_eqb, List.Recursion.is_count_by}
+use Rattle.lb_check.specs.{BrokenParts.is_defined_right, DefinitionRules.definition_count}
+use Rattle.lb_check.specs.{DefinitionRules.{defines_once, is_memoryless}, FoundParts.IsDefinedPlace}
 use Rattle.lb_check.specs.NodeDefinitions.{memory_in_function, wanted_count}
-use Rattle.lb_check.proofs.lists.DistinctNames.{distinct_at}
-use Rattle.lb_check.proofs.lists.FirstBroken.{all_pass, fails_at, found_item, not_all_pass}
-use Rattle.lb_check.proofs.definitions.NodePlaces.{distinct_variables}
-use Rattle.lb_check.proofs.programs.SiteCallees.{callee_found}
+use Rattle.lb_check.proofs.definitions.NodePlaces.{distinct_variables, callee_found}
+use Rattle.lb_check.proofs.lists.ListPairs.{all_pass, fails_at, found_item, not_all_pass}
+use Rattle.lb_check.proofs.lists.Members.{distinct_at}
 use Rattle.lb_syntax.specs.Tree as tree
 use Rattle.lb_static.specs.declared.resolved.ResolvedStatement.TheVariants as statement
 use Rattle.lb_check.specs.declared.part.Part.TheVariants as part

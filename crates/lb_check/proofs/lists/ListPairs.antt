@@ -1,7 +1,13 @@
--- The items of two lists, place by place.
+-- Two lists item by item, lists that are read backwards, and searches through a list.
 use Rattle.lb_check.proofs.Words.{◌≡◌, ℕ, zero, suc, ◌+◌, ◌<◌, Bool, true, List, [], ◌∷◌, take}
 use Rattle.lb_check.proofs.Words.{drop, map, Some, refl, ap, sym, ◌∙◌, arith, ◌&&◌, slice_get}
-use Rattle.lb_check.proofs.Words.{and_from, and_first, and_second}
+use Rattle.lb_check.proofs.Words.{and_from, and_first, and_second, ◌++◌, subst, Every, ◌-◌, ◌≤◌}
+use Rattle.lb_check.proofs.Words.{length, get_or, reverse, append_assoc, drop_all, drop_more}
+use Rattle.lb_check.proofs.Words.{reverse-append, false, cond, Option, None, is_some, not}
+use Rattle.lb_check.proofs.Words.{option_map, and-true, listed, at_place, first_broken, list_all}
+use Rattle.std.specs.List.{position_from}
+
+-- The items of two lists, place by place.
 
 -- ## Lists
 
@@ -76,3 +82,186 @@ same_pairs f g (x ∷ xs) [] h = refl
 same_pairs f g (x ∷ xs) (y ∷ ys) h =
     ap (λ b. b && each_pair f xs ys) (h 0 x y refl refl)
     ∙ ap (λ b. g x y && b) (same_pairs f g xs ys (λ i a b p q. h (suc i) a b p q))
+
+-- Two lists whose items are in a relation, place by place.
+
+abbrev pub Pairs : {A B : Type 0} → (A → B → Type 0) → List A → List B → Type 0
+Pairs R [] [] = Unit {0}
+Pairs R [] (y ∷ ys) = ⊥
+Pairs R (x ∷ xs) [] = ⊥
+Pairs R (x ∷ xs) (y ∷ ys) = R x y × Pairs R xs ys
+
+module _ {A B : Type 0} (R : A → B → Type 0) where
+  pub Pairs-append :
+      (xs xs' : List A) (ys ys' : List B) → Pairs R xs ys → Pairs R xs' ys' →
+      Pairs R (xs ++ xs') (ys ++ ys')
+  Pairs-append [] xs' [] ys' h g = g
+  Pairs-append [] xs' (y ∷ ys) ys' h g = absurd h
+  Pairs-append (x ∷ xs) xs' [] ys' h g = absurd h
+  Pairs-append (x ∷ xs) xs' (y ∷ ys) ys' h g = (h.0, Pairs-append xs xs' ys ys' h.1 g)
+
+  -- the items are in relation `S`, where they are in `R`, and each of the first list has `Q`, which
+  -- leads from `R` to `S`
+  pub Pairs-with :
+      (S : A → B → Type 0) (Q : A → Type 0) → ((x : A) (y : B) → Q x → R x y → S x y) →
+      (xs : List A) (ys : List B) → Every Q xs → Pairs R xs ys → Pairs S xs ys
+  Pairs-with S Q f [] [] q h = tt
+  Pairs-with S Q f [] (y ∷ ys) q h = absurd h
+  Pairs-with S Q f (x ∷ xs) [] q h = absurd h
+  Pairs-with S Q f (x ∷ xs) (y ∷ ys) q h =
+      (f x y q.0 h.0, Pairs-with S Q f xs ys q.1 h.1)
+
+  -- the item that is paired with the one at place `i`
+  pub paired_at :
+      (xs : List A) (ys : List B) (i : ℕ) (x : A) → Pairs R xs ys → slice_get xs i ≡ Some x →
+      (y : B) × (slice_get ys i ≡ Some y) × R x y
+  paired_at [] ys i x h e = absurd cc
+  paired_at (z ∷ xs) [] i x h e = absurd h
+  paired_at (z ∷ xs) (y ∷ ys) zero x h e =
+      let same : z ≡ x = cc in (y, refl, subst (λ w. R w y) same h.0)
+  paired_at (z ∷ xs) (y ∷ ys) (suc i) x h e = paired_at xs ys i x h.1 e
+
+-- Lists that are read, or that grow, from the last item to the first.
+
+-- a list grows by `ys`, and then by the items `xs` that stand before them
+pub further :
+    {A : Type 0} (before mid after xs ys : List A) → mid ≡ before ++ reverse ys →
+    after ≡ mid ++ reverse xs → after ≡ before ++ reverse (xs ++ ys)
+further before mid after xs ys m a =
+    a ∙ ap (λ l. l ++ reverse xs) m ∙ append_assoc before (reverse ys) (reverse xs)
+    ∙ ap (λ l. before ++ l) (sym (reverse-append xs ys))
+
+-- ## The last items, such as the last two of `[a, b, c]`
+
+pub none_last : {A : Type 0} (all : List A) → drop (length all - 0) all ≡ []
+none_last all = drop_all (length all - 0) all (omega arith)
+
+pub more_last :
+    {A : Type 0} (all : List A) (seen : ℕ) (x : A) → seen < length all →
+    x ≡ get_or all (length all - 1 - seen) x →
+    drop (length all - (seen + 1)) all ≡ x ∷ drop (length all - seen) all
+more_last all seen x lt is =
+    let at = length all - 1 - seen in
+    let place : length all - (seen + 1) ≡ at = omega arith in
+    let later : at + 1 ≡ length all - seen = omega (arith, lt) in
+    ap (λ i. drop i all) place ∙ drop_more all at x (omega (arith, lt))
+    ∙ ap (λ y. y ∷ drop (at + 1) all) (sym is) ∙ ap (λ i. x ∷ drop i all) later
+
+pub all_last : {A : Type 0} (all : List A) (seen : ℕ) → length all ≤ seen →
+    drop (length all - seen) all ≡ all
+all_last all seen le =
+    let none : length all - seen ≡ 0 = omega (arith, le) in ap (λ i. drop i all) none
+
+-- The first item of a list that fails a test, and the steps of a loop that searches for it.
+
+module _ {A : Type 0} (f : A → Bool) where
+  -- the place of the first item that fails the test, in a list that begins at place `i`
+  abbrev pub broken_from : ℕ → List A → Option ℕ
+  broken_from i xs = position_from (λ x. not (f x)) i xs
+
+  next : (whole : Option ℕ) (all : List A) (i : ℕ) (x : A) (b : Bool) →
+      whole ≡ broken_from i (drop i all) → i < length all → x ≡ get_or all i x → f x ≡ b
+      → whole ≡ cond (not b) (Some i) (broken_from (i + 1) (drop (i + 1) all))
+  next whole all i x b known lt is e =
+      known ∙ ap (broken_from i) (drop_more all i x lt)
+      ∙ ap (λ c. cond (not c) (Some i) (broken_from (i + 1) (drop (i + 1) all)))
+      (sym (ap f is) ∙ e)
+
+  -- after an item that passes, the first item that fails is found from the next place on
+  pub broken_more : (whole : Option ℕ) (all : List A) (i : ℕ) (x : A) →
+      whole ≡ broken_from i (drop i all) → i < length all → x ≡ get_or all i x → f x ≡ true
+      → whole ≡ broken_from (i + 1) (drop (i + 1) all)
+  broken_more whole all i x known lt is e = next whole all i x true known lt is e
+
+  -- ## The item that is found
+
+  all_from : (k : ℕ) (xs : List A) → broken_from k xs ≡ None → list_all f xs ≡ true
+  all_from k [] e = refl
+  all_from k (x ∷ xs) e = by (f x) (all_from (k + 1) xs) e
+    where
+      by : (b : Bool) → (broken_from (k + 1) xs ≡ None → list_all f xs ≡ true) →
+          cond (not b) (Some k) (broken_from (k + 1) xs) ≡ None → (b && list_all f xs) ≡ true
+      by true rest e = rest e
+      by false rest e = absurd cc
+
+  -- each item passes, where none is found that fails
+  pub all_pass : (xs : List A) → first_broken f xs ≡ None → list_all f xs ≡ true
+  all_pass xs e = all_from 0 xs e
+
+  abbrev IsFailing : (k : ℕ) → List A → (m : ℕ) → Type 0
+  IsFailing k xs m =
+      (i : ℕ) × (m ≡ k + i) × (x : A) × (slice_get xs i ≡ Some x) × (f x ≡ false)
+
+  found_from : (k : ℕ) (xs : List A) (m : ℕ) → broken_from k xs ≡ Some m → IsFailing k xs m
+  found_from k [] m e = absurd cc
+  found_from k (x ∷ xs) m e = by (f x) (found_from (k + 1) xs m) refl e
+    where
+      by : (b : Bool) → (broken_from (k + 1) xs ≡ Some m → IsFailing (k + 1) xs m) → f x ≡ b →
+          cond (not b) (Some k) (broken_from (k + 1) xs) ≡ Some m → IsFailing k (x ∷ xs) m
+      by true later is e =
+          let h = later e in
+          let moved : m ≡ k + suc h.0 = omega (arith, h.1) in
+          (suc h.0, moved, h.2, h.3, h.4)
+      by false later is e =
+          let same : k ≡ m = cc in
+          (0, omega (arith, same), x, refl, is)
+
+  -- the item that is found stands in the list, and fails
+  pub found_item : (xs : List A) (i : ℕ) → first_broken f xs ≡ Some i →
+      (x : A) × (slice_get xs i ≡ Some x) × (f x ≡ false)
+  found_item xs i e =
+      let h = found_from 0 xs i e in
+      let same : h.0 ≡ i = omega (arith, h.1) in
+      (h.2, subst (λ k. slice_get xs k ≡ Some h.2) same h.3, h.4)
+
+  -- ## A place
+
+  pub fails_at : (xs : List A) (i : ℕ) (x : A) → slice_get xs i ≡ Some x → f x ≡ false →
+      at_place f xs i ≡ false
+  fails_at xs i x is e = ap (λ o. list_all f (listed (λ x. x ∷ []) o)) is ∙ and-true (f x) ∙ e
+
+  pub fails_there : (xs : List A) (i : ℕ) → first_broken f xs ≡ Some i → at_place f xs i ≡ false
+  fails_there xs i e = let h = found_item xs i e in fails_at xs i h.0 h.1 h.2
+
+  -- not all items pass, where one fails
+  pub one_fails : (xs : List A) (i : ℕ) (x : A) → slice_get xs i ≡ Some x → f x ≡ false →
+      list_all f xs ≡ false
+  one_fails [] i x e fails = absurd cc
+  one_fails (y ∷ xs) zero x e fails = let same : y ≡ x = cc in rw (same, fails) refl
+  one_fails (y ∷ xs) (suc i) x e fails = by (f y) (one_fails xs i x e fails)
+    where
+      by : (b : Bool) → list_all f xs ≡ false → (b && list_all f xs) ≡ false
+      by true rest = rest
+      by false rest = refl
+
+  pub not_all_pass : (xs : List A) (i : ℕ) → first_broken f xs ≡ Some i → list_all f xs ≡ false
+  not_all_pass xs i e = let h = found_item xs i e in one_fails xs i h.0 h.1 h.2
+
+  -- at a place that fails stands an item that fails
+  pub item_there : (xs : List A) (i : ℕ) → at_place f xs i ≡ false →
+      (x : A) × (slice_get xs i ≡ Some x) × (f x ≡ false)
+  item_there xs i e = by (slice_get xs i) e
+    where
+      by : (o : Option A) → list_all f (listed (λ x. x ∷ []) o) ≡ false →
+          (x : A) × (o ≡ Some x) × (f x ≡ false)
+      by None e = absurd cc
+      by (Some x) e = (x, refl, sym (and-true (f x)) ∙ e)
+
+  -- an item that fails is found exactly where not all pass
+  pub is_found : {B : Type 0} (o : Option B) (g : B → ℕ) (xs : List A) →
+      option_map g o ≡ first_broken f xs → is_some o ≡ not (list_all f xs)
+  is_found None g xs e = sym (ap not (all_pass xs (sym e)))
+  is_found (Some b) g xs e = sym (ap not (not_all_pass xs (g b) (sym e)))
+
+  -- the answer is `true` where all items pass
+  pub is_none_found : (xs : List A) (o : Option ℕ) (b : Bool) → o ≡ first_broken f xs →
+      is_some o ≡ not b → list_all f xs ≡ true → b ≡ true
+  is_none_found xs None true e h all = refl
+  is_none_found xs None false e h all = absurd cc
+  is_none_found xs (Some i) b e h all =
+      absurd (let no = sym (not_all_pass xs i (sym e)) ∙ all in cc)
+
+pub none_found : (o : Option ℕ) (b : Bool) → is_some o ≡ not b → b ≡ true → o ≡ None
+none_found None b h e = refl
+none_found (Some i) true h e = absurd cc
+none_found (Some i) false h e = absurd cc

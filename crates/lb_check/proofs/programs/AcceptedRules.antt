@@ -1,13 +1,18 @@
--- The rules that each instance of an accepted program keeps.
+-- The rules and properties of the instances of an accepted program.
 use Rattle.lb_check.proofs.Words.{◌≡◌, ℕ, suc, Bool, true, None, List, [], ◌∷◌, list_all, Every, In}
 use Rattle.lb_check.proofs.Words.{E5, E6, E9, E10, E12, unless, and_first, and_second, Program}
 use Rattle.lb_check.proofs.Words.{Instance, instances, static_refusal, has_values, is_in_range}
 use Rattle.lb_check.proofs.Words.{may_enter, instance_refusal, instantiation_refusal, variables}
 use Rattle.lb_check.proofs.Words.{check_refusal, is_clocked, are_declared_clocks, is_typed}
-use Rattle.lb_check.proofs.Words.{is_clock_typed, is_statement_typed}
-use Rattle.lb_check.proofs.lists.ApartLists.{Every-at}
-use Rattle.lb_check.proofs.definitions.Checks.{first_none, second_none, kept, instantiation_kept}
-use Rattle.lb_check.proofs.lists.Every.{Every-map, Every-tested}
+use Rattle.lb_check.proofs.Words.{is_clock_typed, is_statement_typed, node_sites}
+use Rattle.lb_check.proofs.clocking.NamedClocks.{OfCalled, Sited}
+use Rattle.lb_check.proofs.definitions.BrokenRules.{first_none, second_none, kept}
+use Rattle.lb_check.proofs.{definitions.BrokenRules.instantiation_kept, lists.Members.Every-at}
+use Rattle.lb_check.proofs.lists.Members.{Every-map, Every-tested, Every-both}
+use Rattle.lb_check.proofs.programs.SameHistories.{IsEntered, Low, all_entered, all_children}
+use Rattle.lb_check.proofs.programs.SameHistories.{all_called}
+
+-- The rules that each instance of an accepted program keeps.
 
 -- the static values of an instance are there, and are in range
 pub record IsValued (P : Program) (here : Instance) : Type 0 where
@@ -73,3 +78,21 @@ module _ (P : Program) (checked : check_refusal P ≡ None) where
   pub clocked : (here : Instance) → In here (instances P) → is_clocked P here.node ≡ true
   clocked here i =
       Every-at (λ here. is_clocked P here.node ≡ true) (instances P) here all_clocked i
+
+-- A property of all instances of an accepted program holds of the instances of each of their calls.
+
+module _ (P : Program) (elaborated : static_refusal P ≡ None) (Q : Instance → Type 0)
+    (all : Every Q (instances P)) where
+  entered : Every (IsEntered P) (instances P)
+  entered = all_entered P 0 (instances P) (instantiation_kept P elaborated)
+
+  -- the calls of each instance have instances, of which the property holds
+  pub calls_have :
+      Every (λ here. Sited (OfCalled P here Q) 0 (node_sites here.node)) (instances P)
+  calls_have =
+      Every-map _ (λ here. Sited (OfCalled P here Q) 0 (node_sites here.node))
+      (λ here z. all_called P Q here z.1 z.0.1) (instances P)
+      (Every-both _ _ (instances P) entered
+      (all_children P Q
+      (Every-map _ (Low P Q) (λ c h. (h.0.0, h.1)) (instances P)
+      (Every-both _ _ (instances P) entered all))))

@@ -1,14 +1,11 @@
 -- The calls among the occurrences of a node whose types are right are numbered one after another.
-use Rattle.lb_check.proofs.Words.{◌≡◌, ℕ, zero, suc, ◌+◌, Bool, true, Option, Some, None, List, []}
-use Rattle.lb_check.proofs.Words.{◌∷◌, map, refl, ap, sym, ◌∙◌, subst, arith, ◌&&◌, filter, is_some}
-use Rattle.lb_check.proofs.Words.{nat_eq, slice_get, list_all, nat_tests, and_from, In, some_of}
-use Rattle.lb_check.proofs.Words.{Node, and_first, and_second, variables, Program, Instance, Site}
-use Rattle.lb_check.proofs.Words.{node_sites, numbered_sites, in_filter, place_in, call_at, is_site}
-use Rattle.lb_check.proofs.Words.{Occurrence, node_occurrences, is_clock_typed, is_typed}
-use Rattle.std.proofs.Common.{option_map}
-use Rattle.std.specs.Prelude.{cond}
-use Rattle.lb_check.proofs.definitions.CallNumbers.{found_in}
-use Rattle.lb_check.proofs.lists.ListPairs.{cons_same}
+use Rattle.lb_check.proofs.Words
+use Words.{◌≡◌, ℕ, zero, suc, ◌+◌, Bool, true, Option, Some, None, List, [], ◌∷◌, map, refl, ap}
+use Words.{sym, ◌∙◌, subst, arith, ◌&&◌, filter, is_some, nat_eq, slice_get, list_all, nat_tests}
+use Words.{and_from, In, some_of, Node, and_first, and_second, variables, Program, Instance, Site}
+use Words.{node_sites, numbered_sites, in_filter, place_in, call_at, is_site, Occurrence}
+use Words.{node_occurrences, is_clock_typed, is_typed, cond, option_map}
+use Rattle.lb_check.proofs.{definitions.CallNumbers.found_in, lists.ListPairs.cons_same}
 use Rattle.lb_check.proofs.programs.OccurrenceSites.{own_site, site_test}
 use Rattle.lb_check.proofs.programs.SiteOccurrences.{own_call, calls_among, AreCallsOf, body_calls}
 

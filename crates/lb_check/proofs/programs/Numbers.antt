@@ -1,23 +1,19 @@
 -- The numbers of scalar elements: each variable of an instance has as many as it is wide, and all
 -- together are the numbers from 0 on, in the order of the elements.
-use Rattle.lb_check.proofs.Words.{◌≡◌, inl, inr, ℕ, zero, suc, ◌+◌, ◌<◌, Bool, true, false, Option}
-use Rattle.lb_check.proofs.Words.{Some, None, List, [], ◌∷◌, ◌++◌, flat_map, map, length, refl, ap}
-use Rattle.lb_check.proofs.Words.{ap₂, sym, subst, ◌∙◌, arith, not, slice_get, bytes_eq}
-use Rattle.lb_check.proofs.Words.{range_with_len, length-append, length-map, map-append}
-use Rattle.lb_check.proofs.Words.{bytes_eq-Decides, slice_get_within, same_Some, false_from_ne_true}
-use Rattle.lb_check.proofs.Words.{not-true, Every, In, listed, Name, Declaration, and_first}
-use Rattle.lb_check.proofs.Words.{and_second, or_first, or_second, variables, width, Program}
-use Rattle.lb_check.proofs.Words.{Instance, Path, is_path, instances, are_distinct, among, place_in}
-use Rattle.lb_check.proofs.Words.{in_map, instance_elements, program_elements, numbers_of, Element}
-use Rattle.lb_check.proofs.Words.{elements}
-use Rattle.std.proofs.lemmas.List.FromFn.{length-range_with_len}
-use Rattle.lb_check.specs.Elements.{found_from, numbers_from}
-use Rattle.lb_check.proofs.lists.Every.{Every-map, Every-all, flat_same}
-use Rattle.lb_check.proofs.lists.ListPairs.{get_mapped}
-use Rattle.lb_check.proofs.lists.ApartLists.{Every-at, Every-from, AreApart, to_pieces, in_range}
+use Rattle.lb_check.proofs.Words
+use Words.{◌≡◌, inl, inr, ℕ, zero, suc, ◌+◌, ◌<◌, Bool, true, false, Option, Some, None, List, []}
+use Words.{◌∷◌, ◌++◌, flat_map, map, length, refl, ap, ap₂, sym, subst, ◌∙◌, arith, not, slice_get}
+use Words.{bytes_eq, range_with_len, length-append, length-map, map-append, bytes_eq-Decides}
+use Words.{slice_get_within, same_Some, false_from_ne_true, not-true, Every, In, listed, Name}
+use Words.{Declaration, and_first, and_second, or_first, or_second, variables, width, Program}
+use Words.{Instance, Path, is_path, instances, are_distinct, among, place_in, in_map}
+use Words.{instance_elements, program_elements, numbers_of, Element, elements}
+use Rattle.{std.proofs.lemmas.List.FromFn.length-range_with_len, lb_check.specs.Elements.found_from}
+use Rattle.lb_check.{specs.Elements.numbers_from, proofs.lists.ListPairs.get_mapped}
+use Rattle.lb_check.proofs.lists.Members.{Every-map, Every-all, flat_same, Every-at, Every-from}
+use Rattle.lb_check.proofs.lists.Members.{AreApart, to_pieces, in_range}
 use Rattle.lb_check.proofs.programs.InstancePaths.{is_path-same, same_path, IsAt, all_at}
-use Rattle.lb_check.proofs.programs.InstancePaths.{same_instance}
-use Rattle.lb_check.proofs.programs.InstancePaths.{instances_apart}
+use Rattle.lb_check.proofs.programs.InstancePaths.{same_instance, instances_apart}
 
 -- ## Ranges and places
 

@@ -1,24 +1,134 @@
--- The occurrences of a node whose types are right are its parts, in text order.
-use Rattle.lb_check.proofs.Words.{◌≡◌, ℕ, suc, ◌+◌, true, Option, Some, None, List, [], ◌∷◌, ◌++◌}
-use Rattle.lb_check.proofs.Words.{map, flat_map, length, refl, ap, ap₂, sym, ◌∙◌, arith, list_all}
-use Rattle.lb_check.proofs.Words.{length-map, map-append, all_some, and_first, and_second, DataType}
-use Rattle.lb_check.proofs.Words.{truth, is_type, are_types, variable_type, variables, Program}
-use Rattle.lb_check.proofs.Words.{Instance, statement_sites, node_named, static_count, are_same}
-use Rattle.lb_check.proofs.Words.{node_parts, parts, parts_in, right_side, length-all_some, Clock}
-use Rattle.lb_check.proofs.Words.{clock_of, clock_or, declared_clock, given_inputs, base_clock}
-use Rattle.lb_check.proofs.Words.{outer, Occurrence, call_count, call_clocks, occurrences}
-use Rattle.lb_check.proofs.Words.{occurrences_in, occurrences_each, node_occurrences, right_sides}
-use Rattle.lb_check.proofs.Words.{statement_clock, is_clock_typed, is_statement_typed, is_typed}
-use Rattle.lb_check.proofs.Words.{type_of_name, data_types, all_types, singly, name_data_type}
-use Rattle.lb_check.proofs.Words.{from_one, from_truths, unary_type, binary_type, common_type}
-use Rattle.lb_check.proofs.Words.{array_of, index_type, slice_type, join_type, operator_types}
-use Rattle.lb_syntax.specs.Tree.{Name, Static, Node_named, Symbol, Expr, Literal, Truth, Variable}
-use Rattle.lb_syntax.specs.Tree.{Group, Unary, Binary, If, Arrow, Fby, Pre, Current, When}
-use Rattle.lb_syntax.specs.Tree.{Replicate, Index, Slice, Join, Array, AtMostOne, Nor, Call}
-use Rattle.lb_syntax.specs.Tree.{Iterate, Exprs, Nil, Cons, Statement, Equation, Assertion}
+-- The occurrences of an expression and of a node, part by part.
+use Rattle.lb_check.proofs.Words
+use Words.{ℕ, ◌+◌, List, [], ◌∷◌, ◌++◌, flat_map, Every, Node_named, Symbol, Expr, Group, Unary}
+use Words.{Binary, If, Arrow, Fby, Pre, Current, When, Replicate, Index, Slice, Join, Array}
+use Words.{AtMostOne, Nor, Call, Iterate, Exprs, Nil, Cons, Node, Program, node_named, Clock}
+use Words.{clock_of, clock_or, declared_clock, Occurrence, call_count, call_clocks, occurrences}
+use Words.{occurrences_in, occurrences_each, right_sides, node_occurrences, ◌≡◌, suc, true, Option}
+use Words.{Some, None, map, length, refl, ap, ap₂, sym, ◌∙◌, arith, list_all, length-map}
+use Words.{map-append, and_first, and_second, DataType, truth, are_types, variable_type, variables}
+use Words.{Instance, statement_sites, static_count, are_same, node_parts, parts, parts_in}
+use Words.{right_side, length-all_some, given_inputs, base_clock, outer, statement_clock}
+use Words.{is_clock_typed, is_statement_typed, is_typed, data_types, all_types, singly}
+use Words.{name_data_type, from_one, from_truths, unary_type, binary_type, common_type, array_of}
+use Words.{index_type, slice_type, join_type, operator_types, Name, Static, Statement, Equation}
+use Words.{Assertion}
+use Rattle.lb_syntax.specs.Tree.{Literal, Truth, Variable}
+use Rattle.lb_check.proofs.lists.Members.{Every-append, Every-first, Every-second}
 use Rattle.lb_check.proofs.typing.OperandTypes.{bound, one, two, from_true, truly, first_of_all}
-use Rattle.lb_check.proofs.typing.OperandTypes.{called}
-use Rattle.lb_check.proofs.typing.OperandTypes.{placed}
+use Rattle.lb_check.proofs.typing.OperandTypes.{called, placed}
+
+-- A property of all occurrences of an expression holds of those of the operands of operators with
+-- memory.
+
+module _ (P : Program) (here : Node) (Q : Occurrence → Type 0) where
+  abbrev pub AllHave : List Occurrence → Type 0
+  AllHave os = Every Q os
+
+  -- the property holds of the operands of an operator with memory
+  abbrev pub OperandsHave : Clock → ℕ → Expr → Type 0
+  OperandsHave k n (Pre a) = AllHave (occurrences P here k n a)
+  OperandsHave k n (Current a) = AllHave (occurrences P here (clock_or (clock_of P here a)) n a)
+  OperandsHave k n (Arrow a b) = AllHave (occurrences P here k n a)
+  OperandsHave k n (Fby a b) =
+      AllHave (occurrences P here k n a) × AllHave (occurrences P here k (n + call_count a) b)
+  OperandsHave k n e = Unit {0}
+
+  abbrev pub OperandHas : Occurrence → Type 0
+  OperandHas o = OperandsHave o.clock o.calls_before o.expr
+
+  abbrev Below : List Occurrence → Type 0
+  Below os = Every OperandHas os
+
+  two_below : (os os' : List Occurrence) → (AllHave os → Below os) → (AllHave os' → Below os') →
+      AllHave (os ++ os') → Below (os ++ os')
+  two_below os os' f g h =
+      Every-append OperandHas os os' (f (Every-first Q os os' h)) (g (Every-second Q os os' h))
+
+  mutual
+    below : (k : Clock) (n : ℕ) (e : Expr) → AllHave (occurrences P here k n e) →
+        Below (occurrences P here k n e)
+    below k n (Literal m) h = (tt, tt)
+    below k n (Truth b) h = (tt, tt)
+    below k n (Variable x) h = (tt, tt)
+    below k n (Group a) h = below k n a h
+    below k n (Unary op a) h = (tt, below k n a h.1)
+    below k n (Binary op a b) h = (
+      tt,
+      two_below (occurrences P here k n a) (occurrences P here k (n + call_count a) b)
+          (below k n a) (below k (n + call_count a) b) h.1,
+    )
+    below k n (If c a b) h =
+        let na = n + call_count c in
+        let oc = occurrences P here k n c in
+        let oa = occurrences P here k na a in
+        let ob = occurrences P here k (na + call_count a) b in (
+          tt,
+          two_below oc (oa ++ ob) (below k n c)
+              (two_below oa ob (below k na a) (below k (na + call_count a) b)) h.1,
+        )
+    below k n (Arrow a b) h = (
+      Every-first Q (occurrences P here k n a) (occurrences P here k (n + call_count a) b) h.1,
+      two_below (occurrences P here k n a) (occurrences P here k (n + call_count a) b)
+          (below k n a) (below k (n + call_count a) b) h.1,
+    )
+    below k n (Fby a b) h =
+        let oa = occurrences P here k n a in
+        let ob = occurrences P here k (n + call_count a) b in (
+          (Every-first Q oa ob h.1, Every-second Q oa ob h.1),
+          two_below oa ob (below k n a) (below k (n + call_count a) b) h.1,
+        )
+    below k n (Pre a) h = (h.1, below k n a h.1)
+    below k n (Current a) h = (h.1, below (clock_or (clock_of P here a)) n a h.1)
+    below k n (When a x sign) h = (tt, below (declared_clock here x) n a h.1)
+    below k n (Replicate a m) h = (tt, below k n a h.1)
+    below k n (Index a i) h = (tt, below k n a h.1)
+    below k n (Slice a i j) h = (tt, below k n a h.1)
+    below k n (Join a b) h = (
+      tt,
+      two_below (occurrences P here k n a) (occurrences P here k (n + call_count a) b)
+          (below k n a) (below k (n + call_count a) b) h.1,
+    )
+    below k n (Array es) h = (tt, row_below k n es h.1)
+    below k n (AtMostOne es) h = (tt, row_below k n es h.1)
+    below k n (Nor es) h = (tt, row_below k n es h.1)
+    below k n (Call f statics es) h =
+        (tt, each_below (call_clocks k (node_named P f) es) (n + 1) es h.1)
+    below k n (Iterate it (Node_named f statics) m es) h = (tt, row_below k (n + 1) es h.1)
+    below k n (Iterate it (Symbol op) m es) h = (tt, row_below k n es h.1)
+
+    row_below : (k : Clock) (n : ℕ) (es : Exprs) → AllHave (occurrences_in P here k n es) →
+        Below (occurrences_in P here k n es)
+    row_below k n Nil h = tt
+    row_below k n (Cons e es) h =
+        two_below (occurrences P here k n e) (occurrences_in P here k (n + call_count e) es)
+        (below k n e) (row_below k (n + call_count e) es) h
+
+    each_below :
+        (ks : List Clock) (n : ℕ) (es : Exprs) → AllHave (occurrences_each P here ks n es) →
+        Below (occurrences_each P here ks n es)
+    each_below ks n Nil h = tt
+    each_below [] n (Cons e es) h = tt
+    each_below (k ∷ ks) n (Cons e es) h =
+        two_below (occurrences P here k n e) (occurrences_each P here ks (n + call_count e) es)
+        (below k n e) (each_below ks (n + call_count e) es) h
+
+  body_below :
+      (rs : List Occurrence) →
+      AllHave (flat_map (λ r. occurrences P here r.clock r.calls_before r.expr) rs) →
+      Below (flat_map (λ r. occurrences P here r.clock r.calls_before r.expr) rs)
+  body_below [] h = tt
+  body_below (r ∷ rs) h =
+      two_below (occurrences P here r.clock r.calls_before r.expr)
+      (flat_map (λ r. occurrences P here r.clock r.calls_before r.expr) rs)
+      (below r.clock r.calls_before r.expr) (body_below rs) h
+
+  -- a property of all occurrences of a node holds of those of operands that memories keep
+  pub operands_have :
+      AllHave (node_occurrences P here) → Every OperandHas (node_occurrences P here)
+  operands_have h = body_below (right_sides P here 0 here.body) h
+
+-- The occurrences of a node whose types are right are its parts, in text order.
 
 -- two lists of the same types are of one length
 pub as_many_types : (ss ts : List DataType) → are_types ss ts ≡ true → length ss ≡ length ts

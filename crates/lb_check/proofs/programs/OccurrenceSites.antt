@@ -1,20 +1,17 @@
 -- The calls in the text of a node by their numbers: the occurrence of a call stands at the number
 -- of its site, and is the first that has this number.
-use Rattle.lb_check.proofs.Words.{◌≡◌, inl, inr, ℕ, suc, ◌+◌, ◌<◌, ◌≤◌, Bool, true, false, cond}
-use Rattle.lb_check.proofs.Words.{Option, Some, None, List, [], ◌∷◌, ◌++◌, length, flat_map, refl}
-use Rattle.lb_check.proofs.Words.{ap, sym, subst, ◌∙◌, arith, ◌&&◌, nat_eq, is_some, find}
-use Rattle.lb_check.proofs.Words.{slice_get, nat_tests, and-false, and_from, Every, In, Node_named}
-use Rattle.lb_check.proofs.Words.{Symbol, Expr, Group, Unary, Binary, If, Arrow, Fby, Pre, Current}
-use Rattle.lb_check.proofs.Words.{When, Replicate, Index, Slice, Join, Array, AtMostOne, Nor, Call}
-use Rattle.lb_check.proofs.Words.{Iterate, Exprs, Nil, Cons, Node, Statement, Equation, Assertion}
-use Rattle.lb_check.proofs.Words.{Program, Site, call_site, sites, sites_in, node_named, node_sites}
-use Rattle.lb_check.proofs.Words.{numbered_sites, statement_sites, right_side, Clock, clock_of}
-use Rattle.lb_check.proofs.Words.{clock_or, declared_clock, is_site, Occurrence, at, call_count}
-use Rattle.lb_check.proofs.Words.{call_clocks, occurrences, occurrences_in, occurrences_each}
-use Rattle.lb_check.proofs.Words.{statement_clock, right_sides, node_occurrences}
-use Rattle.lb_syntax.specs.Tree.{Literal, Truth, Variable}
-use Rattle.lb_check.proofs.lists.ApartLists.{in_first, in_second, Every-at}
-use Rattle.lb_check.proofs.lists.Every.{Every-map, Every-append, Every-both}
+use Rattle.lb_check.proofs.Words
+use Words.{◌≡◌, inl, inr, ℕ, suc, ◌+◌, ◌<◌, ◌≤◌, Bool, true, false, cond, Option, Some, None, List}
+use Words.{[], ◌∷◌, ◌++◌, length, flat_map, refl, ap, sym, subst, ◌∙◌, arith, ◌&&◌, nat_eq, is_some}
+use Words.{find, slice_get, nat_tests, and-false, and_from, Every, In, Node_named, Symbol, Expr}
+use Words.{Group, Unary, Binary, If, Arrow, Fby, Pre, Current, When, Replicate, Index, Slice, Join}
+use Words.{Array, AtMostOne, Nor, Call, Iterate, Exprs, Nil, Cons, Node, Statement, Equation}
+use Words.{Assertion, Program, Site, call_site, sites, sites_in, node_named, node_sites}
+use Words.{numbered_sites, statement_sites, right_side, Clock, clock_of, clock_or, declared_clock}
+use Words.{is_site, Occurrence, at, call_count, call_clocks, occurrences, occurrences_in}
+use Words.{occurrences_each, statement_clock, right_sides, node_occurrences}
+use Rattle.{lb_syntax.specs.Tree.{Literal, Truth, Variable}, lb_check.proofs.lists.Members.in_first}
+use Rattle.lb_check.proofs.lists.Members.{in_second, Every-at, Every-map, Every-append, Every-both}
 use Rattle.lb_check.proofs.programs.InstancePaths.{numbered_stand}
 
 -- ## The call that an expression is

@@ -1,44 +1,33 @@
 -- Two histories that agree on an instance and on those that it calls have the same streams of each
 -- expression in its text.
-use Rattle.lb_check.proofs.Words.{◌≡◌, ℕ, suc, ◌+◌, ◌-◌, ◌*◌, ◌<◌, true, Option, Some, None, List}
-use Rattle.lb_check.proofs.Words.{[], ◌∷◌, ◌++◌, map, drop, take, refl, ap, ap₂, sym, ◌∙◌, subst}
-use Rattle.lb_check.proofs.Words.{arith, IfSome, option_map, range_with_len, ArrayIterator, Map}
-use Rattle.lb_check.proofs.Words.{Red, Fill, Every, zip2, either_or, listed, Name, Static}
-use Rattle.lb_check.proofs.Words.{Node_named, Symbol, Expr, Group, Unary, Binary, If, Arrow, Fby}
-use Rattle.lb_check.proofs.Words.{Pre, Current, When, Replicate, Index, Slice, Join, Array}
-use Rattle.lb_check.proofs.Words.{AtMostOne, Nor, Call, Iterate, Exprs, Nil, Cons, Declaration}
-use Rattle.lb_check.proofs.Words.{Node, and_first, Program, Instance, Child, Site, call_site, sites}
-use Rattle.lb_check.proofs.Words.{sites_in, node_named, name_value, static_count, DataType}
-use Rattle.lb_check.proofs.Words.{variables, named, are_declared_clocks, are_given_variables}
-use Rattle.lb_check.proofs.Words.{is_call_clocked, is_on_clock, Clock, On, clock_of, clock_or}
-use Rattle.lb_check.proofs.Words.{declared_clock, Occurrence, call_count, call_clocks, occurrences}
-use Rattle.lb_check.proofs.Words.{occurrences_in, occurrences_each, AgreeAt, streams_at, History}
-use Rattle.lb_check.proofs.Words.{presence, signed, all_streams, number, part_count, data_types}
-use Rattle.lb_check.proofs.Words.{all_types, singly, name_data_type, from_one, from_truths}
-use Rattle.lb_check.proofs.Words.{unary_type, binary_type, common_type, array_of, index_type}
-use Rattle.lb_check.proofs.Words.{slice_type, join_type, operator_types, memory_operand}
-use Rattle.std.proofs.Common.{pos}
-use Rattle.lb_syntax.specs.Lists.{copies, joined}
-use Rattle.lb_syntax.specs.Tree.{Literal, Truth, Variable}
-use Rattle.lb_check.specs.Clocks.{Base}
-use Rattle.lb_check.specs.Scalars.{or_fault, Integer, Boolean, two_scalars, one_scalar, at_most_one}
-use Rattle.lb_check.specs.Scalars.{none_true, first_value}
+use Rattle.lb_check.proofs.Words
+use Words.{◌≡◌, ℕ, suc, ◌+◌, ◌-◌, ◌*◌, ◌<◌, true, Option, Some, None, List, [], ◌∷◌, ◌++◌, map}
+use Words.{drop, take, refl, ap, ap₂, sym, ◌∙◌, subst, arith, IfSome, option_map, ArrayIterator}
+use Words.{Map, Red, Fill, Every, zip2, either_or, listed, Name, Static, Node_named, Symbol, Expr}
+use Words.{Group, Unary, Binary, If, Arrow, Fby, Pre, Current, When, Replicate, Index, Slice, Join}
+use Words.{Array, AtMostOne, Nor, Call, Iterate, Exprs, Nil, Cons, Declaration, Node, and_first}
+use Words.{Program, Instance, Child, Site, call_site, sites, sites_in, node_named, name_value}
+use Words.{static_count, DataType, variables, named, are_declared_clocks, are_given_variables}
+use Words.{is_call_clocked, is_on_clock, Clock, On, clock_of, clock_or, declared_clock, Occurrence}
+use Words.{call_count, call_clocks, occurrences, occurrences_in, occurrences_each, AgreeAt}
+use Words.{streams_at, History, presence, signed, all_streams, number, part_count, data_types}
+use Words.{all_types, singly, name_data_type, from_one, from_truths, unary_type, binary_type}
+use Words.{common_type, array_of, index_type, slice_type, join_type, operator_types, memory_operand}
+use Words.{pos}
+use Rattle.lb_syntax.specs.{Lists.{copies, joined}, Tree.{Literal, Truth, Variable}}
+use Rattle.lb_check.specs.{Clocks.Base, Scalars.{or_fault, Integer, Boolean, two_scalars}}
+use Rattle.lb_check.specs.Scalars.{one_scalar, at_most_one, none_true, first_value}
 use Rattle.lb_check.specs.Streams.{constantly, along, along_two, choices, across, first_then}
 use Rattle.lb_check.specs.Streams.{previous, sample, latest, gathered, last_of, iterated, symbols}
 use Rattle.lb_check.specs.Streams.{streams, outputs_of, name_streams}
-use Rattle.lb_check.proofs.clocking.ClockTests.{clock_same}
-use Rattle.lb_check.proofs.clocking.DeterminedClocks.{count_of, AllLawful, AreSited, OfCalled, fore}
-use Rattle.lb_check.proofs.clocking.DeterminedClocks.{aft}
-use Rattle.lb_check.proofs.clocking.DeterminedClocks.{sited_first, sited_second, sited_after}
-use Rattle.lb_check.proofs.clocking.DeterminedClocks.{called_passes}
-use Rattle.lb_check.proofs.clocking.DeterminedClocks.{left, right, determined}
-use Rattle.lb_check.proofs.lists.Every.{Every-first, Every-second, Every-append, Every-of_range}
-use Rattle.lb_check.proofs.lists.Every.{flat_same}
-use Rattle.lb_check.proofs.clocking.NamedClocks.{if_some, named_every, IsOver, clock_or_over}
-use Rattle.lb_check.proofs.clocking.NamedClocks.{arguments_over}
-use Rattle.lb_check.proofs.typing.OperandTypes.{bound, one, two, from_true, first_of_all, Placed}
-use Rattle.lb_check.proofs.typing.OperandTypes.{called}
-use Rattle.lb_check.proofs.typing.OperandTypes.{placed}
+use Rattle.lb_check.proofs.clocking.{ClockTests.clock_same, NamedClocks.{count_of, AllLawful}}
+use Rattle.lb_check.proofs.clocking.NamedClocks.{AreSited, OfCalled, fore, aft, sited_first}
+use Rattle.lb_check.proofs.clocking.NamedClocks.{sited_second, sited_after, called_passes, left}
+use Rattle.lb_check.proofs.clocking.NamedClocks.{right, determined, if_some, named_every, IsOver}
+use Rattle.lb_check.proofs.clocking.NamedClocks.{clock_or_over, arguments_over}
+use Rattle.lb_check.proofs.lists.Members.{Every-first, Every-second, Every-append, Every-of_range}
+use Rattle.lb_check.proofs.{lists.Members.flat_same, typing.OperandTypes.{bound, one, two}}
+use Rattle.lb_check.proofs.typing.OperandTypes.{from_true, first_of_all, Placed, called, placed}
 
 -- ## Iterators
 

@@ -1,29 +1,39 @@
+-- The calls in the text of an instance: their occurrences, their instances, and what passes to
+-- these.
+use Rattle.lb_check.proofs.Words
+use Words.{slice_get, list_all, same_Some, In, some_of, Node_named, Symbol, Expr, Group, Unary}
+use Words.{Binary, If, Arrow, Fby, Pre, Current, When, Replicate, Index, Slice, Join, Array}
+use Words.{AtMostOne, Nor, Call, Iterate, Exprs, Nil, Cons, Statement, Equation, Assertion}
+use Words.{and_first, and_second, DataType, are_types, variables, Program, Instance, Site}
+use Words.{call_site, sites, sites_in, statement_sites, node_sites, numbered_sites, node_named}
+use Words.{static_count, instances, right_side, check_refusal, Clock, clock_of, clock_or}
+use Words.{declared_clock, Occurrence, call_count, call_clocks, occurrences, occurrences_in}
+use Words.{occurrences_each, statement_clock, node_occurrences, is_clock_typed, is_statement_typed}
+use Words.{is_typed, data_types, all_types, singly, name_data_type, from_one, from_truths}
+use Words.{unary_type, binary_type, common_type, array_of, index_type, slice_type, join_type}
+use Words.{operator_types, zero, ◌<◌, IfSome, range_with_len, Every, either_or, listed, Root}
+use Words.{Observer, instance_count, callee_of, instance_at, site_instances, children}
+use Words.{instances_from, ◌&&◌, is_some, zip, ◌>>=◌, all_some, Static, Node, all_in, Child}
+use Words.{static_value, static_refusal, node_parts, node_sizes, in_map, ◌≡◌, ℕ, suc, ◌+◌, true}
+use Words.{Option, Some, None, option_map, List, [], ◌∷◌, ◌++◌, length, map, flat_map, refl, ap}
+use Words.{ap₂, sym, ◌∙◌, subst, arith, ℤ}
+use Rattle.{lb_syntax.specs.Tree.{Literal, Truth, Variable}, lb_static.specs.Parts.node_indexes}
+use Rattle.lb_static.{specs.Parts.{node_statics, own_arguments}, proofs.Members.from_all}
+use Rattle.lb_check.proofs.clocking.NamedClocks.{if_some, count_of}
+use Rattle.lb_check.proofs.{definitions.BrokenRules.instantiation_kept, lists.Members.some_in}
+use Rattle.lb_check.proofs.lists.Members.{Every-from, Every-map, Every-both, Every-append}
+use Rattle.lb_check.proofs.lists.Members.{Every-first, Every-second, Every-piece, Every-of_pieces}
+use Rattle.lb_check.proofs.lists.Members.{Every-found, Every-of_range, in_second, Every-at}
+use Rattle.lb_check.proofs.{lists.Members.to_pieces, programs.AcceptedRules.{typed, valued}}
+use Rattle.lb_check.proofs.programs.InstancePaths.{numbered_in, child_in, kept_children}
+use Rattle.lb_check.proofs.programs.OccurrenceParts.{as_many_clocks, right_typed, never_as_many}
+use Rattle.lb_check.proofs.programs.OccurrenceParts.{one_less, node_occurrence_parts}
+use Rattle.lb_check.proofs.programs.OccurrenceSites.{own_site, numbered_append, body_occurrences}
+use Rattle.lb_check.proofs.{programs.OccurrenceSites.site_is, typing.OperandTypes.{bound, one, two}}
+use Rattle.lb_check.proofs.typing.OperandTypes.{from_true, truly, first_of_all}
+
 -- In an accepted program each call in the text of an instance is an occurrence, at the number of
 -- its site.
-use Rattle.lb_check.proofs.Words.{slice_get, list_all, same_Some, In, some_of, Node_named, Symbol}
-use Rattle.lb_check.proofs.Words.{Expr, Group, Unary, Binary, If, Arrow, Fby, Pre, Current, When}
-use Rattle.lb_check.proofs.Words.{Replicate, Index, Slice, Join, Array, AtMostOne, Nor, Call}
-use Rattle.lb_check.proofs.Words.{Iterate, Exprs, Nil, Cons, Statement, Equation, Assertion}
-use Rattle.lb_check.proofs.Words.{and_first, and_second, DataType, are_types, variables, Program}
-use Rattle.lb_check.proofs.Words.{Instance, Site, call_site, sites, sites_in, statement_sites}
-use Rattle.lb_check.proofs.Words.{node_sites, numbered_sites, node_named, static_count, instances}
-use Rattle.lb_check.proofs.Words.{right_side, check_refusal, Clock, clock_of, clock_or}
-use Rattle.lb_check.proofs.Words.{declared_clock, Occurrence, call_count, call_clocks, occurrences}
-use Rattle.lb_check.proofs.Words.{occurrences_in, occurrences_each, statement_clock}
-use Rattle.lb_check.proofs.Words.{node_occurrences, is_clock_typed, is_statement_typed, is_typed}
-use Rattle.lb_check.proofs.Words.{data_types, all_types, singly, name_data_type, from_one}
-use Rattle.lb_check.proofs.Words.{from_truths, unary_type, binary_type, common_type, array_of}
-use Rattle.lb_check.proofs.Words.{index_type, slice_type, join_type, operator_types}
-use Rattle.std.proofs.Common.{◌≡◌, ℕ, suc, ◌+◌, true, Option, Some, None, option_map, List, [], ◌∷◌}
-use Rattle.std.proofs.Common.{◌++◌, length, map, flat_map, refl, ap, ap₂, sym, ◌∙◌, subst, arith}
-use Rattle.lb_syntax.specs.Tree.{Literal, Truth, Variable}
-use Rattle.lb_check.proofs.programs.AcceptedRules.{typed}
-use Rattle.lb_check.proofs.lists.ApartLists.{some_in}
-use Rattle.lb_check.proofs.programs.InstancePaths.{numbered_in}
-use Rattle.lb_check.proofs.programs.OccurrenceParts.{as_many_clocks, right_typed, never_as_many}
-use Rattle.lb_check.proofs.programs.OccurrenceParts.{one_less}
-use Rattle.lb_check.proofs.programs.OccurrenceSites.{own_site, numbered_append, body_occurrences}
-use Rattle.lb_check.proofs.typing.OperandTypes.{bound, one, two, from_true, truly, first_of_all}
 
 -- the number and the site of a call
 abbrev pub own_call : Occurrence → Option (ℕ × Site)
@@ -256,3 +266,186 @@ site_occurs P checked here stands n s e =
     call_occurs P here (typed P checked here stands) n s
     (subst (λ m. In (m, s) (numbered_sites 0 (node_sites here.node))) number
     (numbered_in P (node_sites here.node) 0 n s e))
+
+-- A property of the starts of a program that passes from an instance to those of each call in its
+-- text holds of all instances.
+
+module _ (P : Program) (Q : Instance → Type 0) where
+  -- `Q` passes from an instance to the instances of each call in its text
+  abbrev pub Passes : Instance → Type 0
+  Passes here =
+      (o : Occurrence) (s : Site) (i : ℕ) (c : Instance) → In o (node_occurrences P here.node) →
+      own_site o.expr ≡ Some s → i < either_or (instance_count P here s.count) 0 →
+      callee_of P here s o.calls_before i ≡ Some c → Q c
+
+  site_have :
+      (here : Instance) → Passes here → (s : ℕ × Site) →
+      IsCallAt P here s.0 s.1 → Every Q (site_instances P here s)
+  site_have here passes s call =
+      Every-found Q (callee_of P here s.1 s.0)
+      (listed (range_with_len 0) (instance_count P here s.1.count))
+      (by (instance_count P here s.1.count) refl)
+    where
+      one : (i : ℕ) → i < either_or (instance_count P here s.1.count) 0 → (c : Instance) →
+          callee_of P here s.1 s.0 i ≡ Some c → Q c
+      one i lt c gives =
+          passes call.occurrence s.1 i c call.stands call.site lt
+          (subst (λ n. callee_of P here s.1 n i ≡ Some c) (sym call.number) gives)
+
+      by : (n : Option ℕ) → instance_count P here s.1.count ≡ n →
+          Every (λ i. IfSome (callee_of P here s.1 s.0 i) Q) (listed (range_with_len 0) n)
+      by None is = tt
+      by (Some m) is =
+          Every-of_range (λ i. IfSome (callee_of P here s.1 s.0 i) Q) 0 m
+          (λ i lt.
+          let none : i ≡ 0 + i = omega arith in
+          let within : i < either_or (instance_count P here s.1.count) 0 =
+          subst (λ n. i < either_or n 0) (sym is) lt in
+          subst (λ i. IfSome (callee_of P here s.1 s.0 i) Q) none
+          (if_some Q (callee_of P here s.1 s.0 i) (λ c e. one i within c e)))
+
+  children_have :
+      (here : Instance) → is_typed P here ≡ true → Passes here → Every Q (children P here)
+  children_have here typed passes =
+      Every-of_pieces Q (site_instances P here) (numbered_sites 0 (node_sites here.node))
+      (Every-from (λ (s : ℕ × Site). Every Q (site_instances P here s))
+      (numbered_sites 0 (node_sites here.node))
+      (λ s i. site_have here passes s (call_occurs P here typed s.0 s.1 i)))
+
+  -- an instance keeps the rules of types, and passes `Q` on where `Q` holds of it
+  abbrev pub IsPassed : Instance → Type 0
+  IsPassed c = (is_typed P c ≡ true) × (Q c → Passes c)
+
+  all_from : (n : ℕ) (c : Instance) → Every IsPassed (instances_from P n c) → Q c →
+      Every Q (instances_from P n c)
+  all_from zero c passed q = tt
+  all_from (suc n) c passed q = (
+    q,
+    Every-of_pieces Q (instances_from P n) (children P c)
+        (Every-map _ (λ d. Every Q (instances_from P n d)) (λ d z. all_from n d z.0 z.1)
+        (children P c)
+        (Every-both (λ d. Every IsPassed (instances_from P n d)) Q (children P c)
+        (Every-piece IsPassed (instances_from P n) (children P c) passed.1)
+        (children_have c passed.0.0 (passed.0.1 q)))),
+  )
+
+  from_start :
+      (o : Option Instance) → ((c : Instance) → o ≡ Some c → Q c) →
+      Every IsPassed (listed (instances_from P 65) o) →
+      Every Q (listed (instances_from P 65) o)
+  from_start None top passed = tt
+  from_start (Some c) top passed = all_from 65 c passed (top c refl)
+
+  -- `Q` holds of all instances
+  pub inherited :
+      Every IsPassed (instances P) → ((c : Instance) → instance_at P Root ≡ Some c → Q c) →
+      ((c : Instance) → instance_at P Observer ≡ Some c → Q c) → Every Q (instances P)
+  inherited passed root observer =
+      let of_root = listed (instances_from P 65) (instance_at P Root) in
+      let of_observer = listed (instances_from P 65) (instance_at P Observer) in
+      Every-append Q of_root of_observer
+      (from_start (instance_at P Root) root (Every-first IsPassed of_root of_observer passed))
+      (from_start (instance_at P Observer) observer
+      (Every-second IsPassed of_root of_observer passed))
+
+-- In an accepted program each call in the text of an instance has its instances, as many as its
+-- count says: each is of the node that the call names, and stands below the instance.
+
+-- all results are there, where each is
+all_there :
+    {A B : Type 0} (f : A → Option B) (xs : List A) → list_all (λ x. is_some (f x)) xs ≡ true →
+    (ys : List B) × (all_some (map f xs) ≡ Some ys)
+all_there f [] e = ([], refl)
+all_there {A = A} {B = B} f (x ∷ xs) e = by (f x) (all_there f xs) e
+  where
+    more : (y : B) (o : Option (List B)) → (ys : List B) × (o ≡ Some ys) →
+        (zs : List B) × (option_map (λ ys. y ∷ ys) o ≡ Some zs)
+    more y o h = (y ∷ h.0, ap (option_map (λ ys. y ∷ ys)) h.1)
+
+    by : (o : Option B) →
+        (list_all (λ x. is_some (f x)) xs ≡ true → (ys : List B) × (all_some (map f xs) ≡ Some ys))
+        → (is_some o && list_all (λ x. is_some (f x)) xs) ≡ true →
+        (zs : List B) × (all_some (o ∷ map f xs) ≡ Some zs)
+    by None rest e = absurd cc
+    by (Some y) rest e = more y (all_some (map f xs)) (rest e)
+
+own_are : (e : Expr) (s : Site) → own_site e ≡ Some s → own_arguments e ≡ s.arguments
+own_are (Call f statics es) s e = ap (λ (t : Site). t.arguments) (same_Some _ s e)
+own_are (Iterate it (Node_named f statics) m es) s e =
+    ap (λ (t : Site). t.arguments) (same_Some _ s e)
+own_are (Iterate it (Symbol op) m es) s e = absurd cc
+own_are _ s e = absurd cc
+
+-- instance `i` of the call with number `n` and site `s`, which is of node `callee`
+pub record IsInstanceOf (P : Program) (here : Instance) (s : Site) (n i : ℕ) (callee : Node) :
+    Type 0 where
+  pub instance : Instance
+  pub is : callee_of P here s n i ≡ Some instance
+  pub node : instance.node ≡ callee
+  pub path : instance.path ≡ Child here.path n i
+  pub stands : In instance (instances P)
+
+module _ (P : Program) (accepted : static_refusal P ≡ None) (checked : check_refusal P ≡ None)
+    (here : Instance) (stands : In here (instances P)) where
+  -- an occurrence is a part of the node
+  pub part_of_node : (o : Occurrence) → In o (node_occurrences P here.node) →
+      In o.expr (node_parts here.node)
+  part_of_node o i =
+      subst (λ es. In o.expr es) (node_occurrence_parts P here (typed P checked here stands))
+      (in_map (λ o. o.expr) (node_occurrences P here.node) o i)
+
+  -- the static arguments of a call have values
+  arguments_there :
+      (o : Occurrence) (s : Site) → In o (node_occurrences P here.node) →
+      own_site o.expr ≡ Some s →
+      (values : List ℤ) × (all_some (map (static_value P here) s.arguments) ≡ Some values)
+  arguments_there o s i e =
+      all_there (static_value P here) s.arguments
+      (from_all (λ x. is_some (static_value P here x)) s.arguments
+      (λ x on. all_in (λ x. is_some (static_value P here x)) (node_statics here.node) x
+      (and_first _ _ (valued P accepted here stands).values) (static_there x on)))
+    where
+      static_there : (x : Static) → In x s.arguments → In x (node_statics here.node)
+      static_there x on =
+          in_second x (node_sizes here.node)
+          (node_indexes here.node ++ flat_map own_arguments (node_parts here.node))
+          (in_second x (node_indexes here.node) (flat_map own_arguments (node_parts here.node))
+          (to_pieces own_arguments x o.expr (node_parts here.node) (part_of_node o i)
+          (subst (λ xs. In x xs) (sym (own_are o.expr s e)) on)))
+
+  counted : (o : Option ℕ) (i : ℕ) → i < either_or o 0 → (n : ℕ) × (o ≡ Some n) × (i < n)
+  counted None i lt = absurd (omega (arith, lt))
+  counted (Some n) i lt = (n, refl, lt)
+
+  -- a call has an instance at each of its indexes
+  pub instance_there :
+      (o : Occurrence) (s : Site) (callee : Node) (i : ℕ) → In o (node_occurrences P here.node) →
+      own_site o.expr ≡ Some s → node_named P s.callee ≡ Some callee → i < count_of P here s →
+      IsInstanceOf P here s o.calls_before i callee
+  instance_there o s callee i on e named lt =
+      let values = arguments_there o s on e in
+      let c : Instance = record {
+        path = Child here.path o.calls_before i;
+        node = callee;
+        values = zip callee.parameters values.0;
+      } in
+      let gives : callee_of P here s o.calls_before i ≡ Some c =
+      ap₂ (λ (m : Option Node) (vs : Option (List ℤ)).
+      m >>= λ node. vs >>= λ values.
+      Some (record {
+        path = Child here.path o.calls_before i;
+        node = node;
+        values = zip node.parameters values;
+      })) named values.1 in
+      let count = counted (instance_count P here s.count) i lt in
+      let child = child_in P here o.calls_before i count.0 s c
+      (site_is P here.node o s on e) count.1 count.2 gives in
+      record {
+        instance = c;
+        is = gives;
+        node = refl;
+        path = refl;
+        stands =
+            Every-at (λ d. In d (instances P)) (children P here) c
+            (kept_children P (instantiation_kept P accepted) here stands) child;
+      }

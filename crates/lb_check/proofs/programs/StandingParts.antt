@@ -1,38 +1,29 @@
 -- Each part of a text that keeps the rules of types and clocks keeps them where it stands. Its
 -- clock is over names with a property that the variables of the node have.
-use Rattle.lb_check.proofs.Words.{option_map, list_all, Every, all_some, Name, Static, Node_named}
-use Rattle.lb_check.proofs.Words.{Symbol, Expr, Group, Unary, Binary, If, Arrow, Fby, Pre, Current}
-use Rattle.lb_check.proofs.Words.{When, Replicate, Index, Slice, Join, Array, AtMostOne, Nor, Call}
-use Rattle.lb_check.proofs.Words.{Iterate, Exprs, Nil, Cons, Statement, Equation, Assertion}
-use Rattle.lb_check.proofs.Words.{and_first, and_second, Program, Instance, Child, call_site, sites}
-use Rattle.lb_check.proofs.Words.{sites_in, statement_sites, node_sites, node_named, static_count}
-use Rattle.lb_check.proofs.Words.{DataType, variables, variable_type, are_same, left_names, named}
-use Rattle.lb_check.proofs.Words.{are_declared_clocks, are_given_variables, is_call_clocked}
-use Rattle.lb_check.proofs.Words.{is_on_clock, is_clocked, is_occurrence_clocked, Clock, On}
-use Rattle.lb_check.proofs.Words.{clock_of, clock_or, declared_clock, Occurrence, call_count}
-use Rattle.lb_check.proofs.Words.{call_clocks, occurrences, occurrences_in, occurrences_each}
-use Rattle.lb_check.proofs.Words.{statement_clock, right_sides, statements, node_occurrences}
-use Rattle.lb_check.proofs.Words.{type_of_name, is_statement_typed, is_clock_typed, is_typed}
-use Rattle.lb_check.proofs.Words.{data_types, all_types, from_one, from_truths, singly}
-use Rattle.lb_check.proofs.Words.{name_data_type, unary_type, binary_type, common_type, array_of}
-use Rattle.lb_check.proofs.Words.{index_type, slice_type, join_type, operator_types}
-use Rattle.std.proofs.Common.{◌≡◌, ℕ, ◌+◌, true, Option, Some, None, List, [], ◌∷◌, ◌++◌, map}
-use Rattle.std.proofs.Common.{flat_map, zip, refl, sym, subst, arith}
-use Rattle.lb_syntax.specs.Tree.{Literal, Truth, Variable}
-use Rattle.lb_check.proofs.clocking.ClockTests.{clock_same}
-use Rattle.lb_check.proofs.clocking.DeterminedClocks.{AllLawful, AreSited, OfCalled, fore, aft}
-use Rattle.lb_check.proofs.clocking.DeterminedClocks.{sited_first}
-use Rattle.lb_check.proofs.clocking.DeterminedClocks.{sited_second, sited_after, called_passes}
-use Rattle.lb_check.proofs.clocking.DeterminedClocks.{left, right}
-use Rattle.lb_check.proofs.clocking.DeterminedClocks.{determined}
-use Rattle.lb_check.proofs.lists.Every.{Every-append, Every-tested}
-use Rattle.lb_check.proofs.clocking.NamedClocks.{IsOver, clock_or_over, declared_over}
-use Rattle.lb_check.proofs.clocking.NamedClocks.{arguments_over}
-use Rattle.lb_check.proofs.clocking.NamedClocks.{named_has}
-use Rattle.lb_check.proofs.typing.OperandTypes.{bound, one, two, from_true, first_of_all, Placed}
-use Rattle.lb_check.proofs.typing.OperandTypes.{called}
+use Rattle.lb_check.proofs.Words
+use Words.{option_map, list_all, Every, all_some, Name, Static, Node_named, Symbol, Expr, Group}
+use Words.{Unary, Binary, If, Arrow, Fby, Pre, Current, When, Replicate, Index, Slice, Join, Array}
+use Words.{AtMostOne, Nor, Call, Iterate, Exprs, Nil, Cons, Statement, Equation, Assertion}
+use Words.{and_first, and_second, Program, Instance, Child, call_site, sites, sites_in}
+use Words.{statement_sites, node_sites, node_named, static_count, DataType, variables, are_same}
+use Words.{left_names, are_declared_clocks, are_given_variables, is_call_clocked, is_on_clock}
+use Words.{is_clocked, is_occurrence_clocked, Clock, On, clock_of, clock_or, declared_clock}
+use Words.{Occurrence, call_count, call_clocks, occurrences, occurrences_in, occurrences_each}
+use Words.{statement_clock, right_sides, statements, node_occurrences, type_of_name}
+use Words.{is_statement_typed, is_clock_typed, is_typed, data_types, all_types, from_one}
+use Words.{from_truths, singly, name_data_type, unary_type, binary_type, common_type, array_of}
+use Words.{index_type, slice_type, join_type, operator_types, ◌≡◌, ℕ, ◌+◌, true, Option, Some, None}
+use Words.{List, [], ◌∷◌, ◌++◌, map, flat_map, refl, sym, subst, arith}
+use Rattle.{std.proofs.Common.zip, lb_syntax.specs.Tree.{Literal, Truth, Variable}}
+use Rattle.lb_check.proofs.clocking.{ClockTests.clock_same, NamedClocks.{AllLawful, AreSited}}
+use Rattle.lb_check.proofs.clocking.NamedClocks.{OfCalled, fore, aft, sited_first, sited_second}
+use Rattle.lb_check.proofs.clocking.NamedClocks.{sited_after, called_passes, left, right}
+use Rattle.lb_check.proofs.clocking.NamedClocks.{determined, IsOver, clock_or_over, declared_over}
+use Rattle.lb_check.proofs.clocking.NamedClocks.{arguments_over, named_has}
+use Rattle.lb_check.proofs.lists.Members.{Every-append, Every-tested}
+use Rattle.lb_check.proofs.{programs.SameHistories.typed_truth, typing.OperandTypes.{bound, one}}
+use Rattle.lb_check.proofs.typing.OperandTypes.{two, from_true, first_of_all, Placed, called}
 use Rattle.lb_check.proofs.typing.OperandTypes.{placed}
-use Rattle.lb_check.proofs.programs.SamePlaces.{typed_truth}
 
 -- ## The types of statements
 

@@ -1,12 +1,11 @@
 -- The types of the operands and of the callee of an expression, from the types of its results.
-use Rattle.lb_check.proofs.Words.{list_all, zip, same_Some, ◌>>=◌, all_some, where_true, Name}
-use Rattle.lb_check.proofs.Words.{Static, Node_named, Expr, Exprs, Call, Cons, Declaration, Node}
-use Rattle.lb_check.proofs.Words.{Program, Instance, Child, call_site, callee_of, node_named}
-use Rattle.lb_check.proofs.Words.{static_value, DataType, truth, is_type, are_types, input_types}
-use Rattle.lb_check.proofs.Words.{output_types, variable_type, data_types, all_types, only, singly}
-use Rattle.lb_check.proofs.Words.{from_one, from_two, from_truths, operator_types}
-use Rattle.std.proofs.Common.{◌≡◌, ℕ, Bool, true, false, ℤ, Option, Some, None, option_map, List}
-use Rattle.std.proofs.Common.{[], ◌∷◌, map, refl, sym, ap, ap₂, ◌∙◌}
+use Rattle.lb_check.proofs.Words
+use Words.{list_all, zip, same_Some, ◌>>=◌, all_some, where_true, Name, Static, Node_named, Expr}
+use Words.{Exprs, Call, Cons, Declaration, Node, Program, Instance, Child, call_site, callee_of}
+use Words.{node_named, static_value, DataType, truth, is_type, are_types, input_types, output_types}
+use Words.{variable_type, data_types, all_types, only, singly, from_one, from_two, from_truths}
+use Words.{operator_types, ◌≡◌, ℕ, Bool, true, false, ℤ, Option, Some, None, option_map, List, []}
+use Words.{◌∷◌, map, refl, sym, ap, ap₂, ◌∙◌}
 
 -- ## Inversions
 

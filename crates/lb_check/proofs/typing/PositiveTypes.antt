@@ -1,39 +1,92 @@
--- In an accepted program no length of the type of an expression is 0.
-use Rattle.lb_check.proofs.Words.{◌≡◌, inl, inr, ℕ, zero, suc, ◌+◌, ◌*◌, ◌-◌, ◌<◌, ◌≤◌, Bool, true}
-use Rattle.lb_check.proofs.Words.{false, Option, Some, None, List, [], ◌∷◌, ◌++◌, map, flat_map}
-use Rattle.lb_check.proofs.Words.{refl, ap, sym, ◌∙◌, subst, arith, cond, length, list_all}
-use Rattle.lb_check.proofs.Words.{bytes_eq, nat_tests, suc-mul, sum_by-cons, same_Some, ◌>>=◌}
-use Rattle.lb_check.proofs.Words.{Every, In, all_some, either_or, holds, tail_of, where_true, Name}
-use Rattle.lb_check.proofs.Words.{Static, Node_named, Symbol, Expr, Group, Unary, Binary, If, Arrow}
-use Rattle.lb_check.proofs.Words.{Fby, Pre, Current, When, Replicate, Index, Slice, Join, Array}
-use Rattle.lb_check.proofs.Words.{AtMostOne, Nor, Call, Iterate, Exprs, Nil, Cons, Declaration}
-use Rattle.lb_check.proofs.Words.{Statement, ArrayIterator, Map, Red, Fill, BinaryOperator}
-use Rattle.lb_check.proofs.Words.{UnaryOperator, Kind, all_in, and_first, is_int, DataType, int}
-use Rattle.lb_check.proofs.Words.{truth, product, element_count, variables, is_type, variable_type}
-use Rattle.lb_check.proofs.Words.{width, total, Program, Instance, Child, Site, static_count}
-use Rattle.lb_check.proofs.Words.{instances, instance_count, name_value, static_refusal, is_between}
-use Rattle.lb_check.proofs.Words.{declared_sizes, node_parts, node_sizes, own_sizes, parts}
-use Rattle.lb_check.proofs.Words.{parts_in, right_side, named, map_in, check_refusal}
-use Rattle.lb_check.proofs.Words.{node_occurrences, part_count, expression_size, instance_size}
-use Rattle.lb_check.proofs.Words.{is_small, size, constant_type, data_types, all_types, only}
-use Rattle.lb_check.proofs.Words.{singly, name_data_type, from_one, from_truths, unary_type}
-use Rattle.lb_check.proofs.Words.{binary_type, common_type, array_of, index_type, slice_type}
-use Rattle.lb_check.proofs.Words.{join_type, list_type, iterator_types, operator_types}
-use Rattle.lb_check.proofs.Words.{is_arithmetic, is_logical}
-use Rattle.std.specs.Prelude.{◌&&◌, ℤ, pos, nat_le, nat_lt, option_map, if◌then◌else◌, sum_by}
-use Rattle.lb_syntax.specs.Tree.{Literal, Truth, Variable}
+-- In an accepted program no size is 0, so each variable and each part has an element.
+use Rattle.lb_check.proofs.Words
+use Words.{◌≡◌, ℕ, zero, suc, ◌*◌, ◌<◌, true, Option, Some, None, List, [], ◌∷◌, map, flat_map}
+use Words.{arith, ◌&&◌, nat_le, nat_tests, Every, In, holds, either_or, all_some, Static}
+use Words.{Declaration, all_in, and_first, product, element_count, variables, width, Program}
+use Words.{Instance, static_count, instances, static_refusal, is_between, node_sizes, node_parts}
+use Words.{inl, inr, ◌+◌, ◌-◌, ◌≤◌, Bool, false, ◌++◌, refl, ap, sym, ◌∙◌, subst, cond, length}
+use Words.{list_all, bytes_eq, sum_by-cons, same_Some, ◌>>=◌, tail_of, where_true, Name, Node_named}
+use Words.{Symbol, Expr, Group, Unary, Binary, If, Arrow, Fby, Pre, Current, When, Replicate, Index}
+use Words.{Slice, Join, Array, AtMostOne, Nor, Call, Iterate, Exprs, Nil, Cons, Statement}
+use Words.{ArrayIterator, Map, Red, Fill, BinaryOperator, UnaryOperator, Kind, is_int, DataType}
+use Words.{int, truth, is_type, variable_type, total, Child, Site, instance_count, name_value}
+use Words.{parts, parts_in, right_side, named, map_in, check_refusal, node_occurrences, part_count}
+use Words.{expression_size, is_small, size, constant_type, data_types, all_types, only, singly}
+use Words.{name_data_type, from_one, from_truths, unary_type, binary_type, common_type, array_of}
+use Words.{index_type, slice_type, join_type, list_type, iterator_types, operator_types}
+use Words.{is_arithmetic, is_logical, min, slice_get, in_at, HasTypes, found_in, parts_of}
+use Words.{NodeTypes, ℤ, pos, nat_lt, if◌then◌else◌, sum_by, option_map, reverse}
+use Rattle.{std.proofs.Math.Nat.suc-mul, lb_syntax.specs.Tree.{Literal, Truth, Variable}}
 use Rattle.lb_syntax.specs.declared.tree.UnaryOperator.TheVariants.{Not, Negate}
-use Rattle.lb_check.specs.Types.{element_of, is_equality}
-use Rattle.lb_check.proofs.programs.AcceptedRules.{typed, valued}
-use Rattle.lb_check.proofs.lists.ApartLists.{in_first, in_second, to_pieces, Every-at}
-use Rattle.lb_check.proofs.programs.CalledInstances.{instance_there}
-use Rattle.lb_check.proofs.lists.Every.{Every-append}
-use Rattle.lb_check.proofs.programs.OccurrenceParts.{node_occurrence_parts}
-use Rattle.lb_check.proofs.programs.OccurrenceSites.{own_site}
+use Rattle.{lb_static.specs.Parts.{declared_sizes, own_sizes}, lb_check.specs.Types.element_of}
+use Rattle.lb_check.{specs.Types.is_equality, proofs.definitions.BrokenRules.instantiation_kept}
+use Rattle.lb_check.proofs.lists.Members.{in_first, to_pieces, Every-at, Every-from, Every-reverse}
+use Rattle.lb_check.proofs.{lists.Members.{in_second, Every-append}, programs.AcceptedRules.typed}
+use Rattle.lb_check.proofs.programs.{AcceptedRules.valued, OccurrenceParts.node_occurrence_parts}
+use Rattle.lb_check.proofs.programs.{OccurrenceSites.own_site, SameHistories.IsEntered}
+use Rattle.lb_check.proofs.programs.{SameHistories.all_entered, SiteOccurrences.instance_there}
 use Rattle.lb_check.proofs.typing.OperandTypes.{alone, bound, called, first_of_all, from_true, one}
-use Rattle.lb_check.proofs.typing.OperandTypes.{placed}
-use Rattle.lb_check.proofs.typing.OperandTypes.{truly, two}
-use Rattle.lb_check.proofs.typing.PositiveWidths.{width_positive, at_least_one}
+use Rattle.lb_check.proofs.typing.OperandTypes.{placed, truly, two}
+
+-- In an accepted program each variable has an element, since no size is 0.
+
+pub positive_times : (n m : ℕ) → 0 < n → 0 < m → 0 < n * m
+positive_times zero m p q = absurd (omega arith)
+positive_times (suc n) m p q = let e = suc-mul n m in omega (arith, q, e)
+
+pub at_least_one : (n : ℕ) → nat_le 1 n ≡ true → 0 < n
+at_least_one n e = grind (arith, nat_tests)
+
+module _ (P : Program) (here : Instance) where
+  -- a size has a value, which is not 0
+  abbrev IsPositive : Static → Type 0
+  IsPositive s = is_between P here 1 4096 s ≡ true
+
+  sizes_positive :
+      (ss : List Static) → Every IsPositive ss →
+      0 < either_or (option_map product (all_some (map (static_count P here) ss))) 0
+  sizes_positive [] h = omega arith
+  sizes_positive (s ∷ ss) h =
+      by (static_count P here s) h.0 (sizes_positive ss h.1)
+    where
+      both : (n : ℕ) (o : Option (List ℕ)) → 0 < n → 0 < either_or (option_map product o) 0 →
+          0 < either_or (option_map product (option_map (λ ns. n ∷ ns) o)) 0
+      both n None p q = absurd (omega (arith, q))
+      both n (Some ns) p q = positive_times n (product ns) p q
+
+      by : (o : Option ℕ) → holds (λ n. nat_le 1 n && nat_le n 4096) o ≡ true →
+          0 < either_or (option_map product (all_some (map (static_count P here) ss))) 0 →
+          0 < either_or (option_map product
+          (all_some (o ∷ map (static_count P here) ss))) 0
+      by None e q = absurd cc
+      by (Some n) e q =
+          both n (all_some (map (static_count P here) ss))
+          (at_least_one n (and_first (nat_le 1 n) (nat_le n 4096) e)) q
+
+  width_of :
+      (d : Declaration) (o : Option (List ℕ)) → 0 < either_or (option_map product o) 0 →
+      0 < either_or (option_map element_count
+      (option_map (λ ns. record { kind = d.kind; sizes = ns }) o)) 0
+  width_of d None q = q
+  width_of d (Some ns) q = q
+
+module _ (P : Program) (accepted : static_refusal P ≡ None) where
+  -- each variable has an element
+  pub width_positive :
+      (here : Instance) → In here (instances P) → (d : Declaration) →
+      In d (variables here.node) → 0 < width P here d
+  width_positive here i d j =
+      let entered = Every-at (IsEntered P) (instances P) here
+      (all_entered P 0 (instances P) (instantiation_kept P accepted)) i in
+      let others = flat_map own_sizes (node_parts here.node) in
+      let sizes = Every-from (IsPositive P here) d.sizes (λ s k.
+      all_in (is_between P here 1 4096) (node_sizes here.node) s entered.1
+      (in_first s (declared_sizes here.node) others
+      (to_pieces (λ (c : Declaration). c.sizes) s d (variables here.node) j k))) in
+      width_of P here d (all_some (map (static_count P here) (reverse d.sizes)))
+      (sizes_positive P here (reverse d.sizes) (Every-reverse (IsPositive P here) d.sizes sizes))
+
+-- In an accepted program no length of the type of an expression is 0.
 
 -- ## Types without a length that is 0
 
@@ -564,3 +617,19 @@ module _ (P : Program) (accepted : static_refusal P ≡ None) where
             let s = sum_by-cons element_count t [] in
             omega (arith, le, part, s)
         by (Some (t ∷ (u ∷ ts))) wide le = omega arith
+
+-- In a small program the number of scalar elements in each element of an array is exactly the one
+-- that a checked program lends.
+
+module _ (P : Program) (accepted : static_refusal P ≡ None) (checked : check_refusal P ≡ None)
+    (small : is_small P ≡ true) (here : Instance) (stands : In here (instances P))
+    (f : NodeTypes) (has : HasTypes P here f) where
+  exactly : (n k : ℕ) → n ≡ min k 65537 → k ≤ 65536 → n ≡ k
+  exactly n k e le = omega (arith, e, le)
+
+  -- in a small program `parts_of` is the number of scalar elements in each element of an array
+  pub parts_lent : (i : ℕ) (e : Expr) → slice_get (node_parts here.node) i ≡ Some e →
+      parts_of (found_in f) i ≡ part_count P here e
+  parts_lent i e at =
+      exactly (parts_of (found_in f) i) (part_count P here e) (has.parts i e at)
+      (part_small P accepted checked here stands small e (in_at (node_parts here.node) i e at))

@@ -1,27 +1,22 @@
 -- A statement that keeps the rules of types by what the specializations of a node share keeps them
 -- in each specialization.
-use Rattle.lb_check.proofs.Words.{◌≡◌, ◌⊎◌, inl, inr, ℕ, zero, suc, Bool, true, false, List, []}
-use Rattle.lb_check.proofs.Words.{◌∷◌, length, map, take, drop, Option, Some, None, refl, ap, sym}
-use Rattle.lb_check.proofs.Words.{◌∙◌, subst, list_all, zip, slice_get_past, ◌>>=◌, where_true}
-use Rattle.lb_check.proofs.Words.{all_some, either_or, holds, and_first, and_second, is_int}
-use Rattle.lb_check.proofs.Words.{DataType, int, truth, is_type, are_types, natural, naturals}
-use Rattle.lb_check.proofs.Words.{declared_type, Reached, CallId, CallSite, ResolvedNode}
-use Rattle.lb_check.proofs.Words.{ResolvedStatement, StaticId, Term, Literal, Truth, Value, Group'}
-use Rattle.lb_check.proofs.Words.{Unary', Binary', If', Arrow', Fby', Pre', Current', When'}
-use Rattle.lb_check.proofs.Words.{Replicate', Index', Slice', Join', Array', AtMostOne', Nor'}
-use Rattle.lb_check.proofs.Words.{Call', IterateNode', IterateSymbol', Row_of-Term, end_of-Term}
-use Rattle.lb_check.proofs.Words.{more_of-Term, VariableId, Specialization, Table, is_part_shared}
-use Rattle.lb_check.proofs.Words.{AreSettled, type_of, types_in, results, are_equal, row_results}
-use Rattle.lb_check.proofs.Words.{when_both, when_truth, constant_at, count_at, repeats_of}
-use Rattle.lb_check.proofs.Words.{callee_types, is_resolved_statement_typed, constant_type}
-use Rattle.lb_check.proofs.Words.{unary_type, binary_type, common_type, array_of, index_type}
-use Rattle.lb_check.proofs.Words.{slice_type, join_type, only, singly, symbol_types, iterator_types}
-use Rattle.std.specs.Prelude.{ℤ, ◌&&◌, ◌||◌, ◌==◌, option_map, slice_get, is_none, reverse}
-use Rattle.std.specs.Ordering.{int_eq}
-use Rattle.std.proofs.lemmas.Bool.{leb-true}
+use Rattle.lb_check.proofs.Words
+use Words.{◌≡◌, ◌⊎◌, inl, inr, ℕ, zero, suc, Bool, true, false, List, [], ◌∷◌, length, map, take}
+use Words.{drop, Option, Some, None, refl, ap, sym, ◌∙◌, subst, list_all, zip, slice_get_past}
+use Words.{◌>>=◌, where_true, all_some, either_or, holds, and_first, and_second, is_int, DataType}
+use Words.{int, truth, is_type, are_types, natural, naturals, declared_type, Reached, CallId}
+use Words.{CallSite, ResolvedNode, ResolvedStatement, StaticId, Term, Literal, Truth, Value, Group'}
+use Words.{Unary', Binary', If', Arrow', Fby', Pre', Current', When', Replicate', Index', Slice'}
+use Words.{Join', Array', AtMostOne', Nor', Call', IterateNode', IterateSymbol', Row_of-Term}
+use Words.{end_of-Term, more_of-Term, VariableId, Specialization, Table, is_part_shared, AreSettled}
+use Words.{type_of, types_in, results, are_equal, row_results, when_both, when_truth, constant_at}
+use Words.{count_at, repeats_of, callee_types, is_resolved_statement_typed, constant_type}
+use Words.{unary_type, binary_type, common_type, array_of, index_type, slice_type, join_type, only}
+use Words.{singly, symbol_types, iterator_types, ℤ, ◌&&◌, ◌||◌, ◌==◌, option_map, slice_get}
+use Words.{reverse, Declared}
+use Rattle.std.{specs.{Ordering.int_eq, Prelude.is_none}, proofs.lemmas.Bool.leb-true}
 use Rattle.std.proofs.lemmas.Bool.Decides.{Decides-eqb, Decides-int_eq}
 use Rattle.lb_static.specs.declared.resolved.Term.{Variable}
-use Rattle.lb_static.specs.declared.resolved.Variable.{Variable as Declared}
 use Rattle.lb_static.specs.declared.table.SpecializationId.{SpecializationId}
 use Rattle.lb_check.specs.SharedTypes.{all_paired, is_value_shared, is_callee_shared}
 use Rattle.lb_check.specs.TermTypes.{Context, context_of}

@@ -1,25 +1,28 @@
+-- The types of a row one at a time, the sizes of parts, and tests of declared types.
+use Rattle.lb_check.proofs.Words
+use Words.{◌≡◌, ◌≢◌, ℕ, suc, ◌+◌, ◌<◌, ◌≤◌, Bool, true, false, List, [], ◌∷◌, length, map, drop}
+use Words.{get_or, Option, Some, None, refl, ap, sym, ◌∙◌, arith, ℤ, ◌&&◌, nat_eq, option_map}
+use Words.{if◌then◌else◌, list_all, and-false, nat_tests, drop_all, drop_more, length-map}
+use Words.{slice_get-get_or, slice_get-map, ◌>>=◌, all_some, either_or, where_true, and_first}
+use Words.{and_second, CallId, ResolvedNode, Specialization, called_by, DataType, is_type, Kind}
+use Words.{length-all_some, context_in, Signature, are_met, are_one, arrays, calls_in, common}
+use Words.{evaluated, has_arity, like_later, list_of, type_at, callee_types, call_types_of}
+use Words.{when_both, array_of, common_type, list_type, only, ◌-◌, min, ◌++◌, reverse, sum_by}
+use Words.{append_assoc, append-nil, map-append, reverse-append, reverse-reverse, sum_by-cons}
+use Words.{element_count, total, FoundNode, FoundTypes, Kept, kept, noted, part_in, part_size}
+use Words.{with_parts, with_row, with_term, ◌==◌, nat_le, zip, and_assoc, eq-eqb, holds, both_ways}
+use Words.{natural, naturals, slice_get, Int_kind, Bool_kind}
+use denote.Enum.Bare.{sameb}
+use Rattle.std.proofs.Math.{Bool.and_comm, Dec.{eqb-suc-suc, eqb-suc-zero, eqb-zero-suc}}
+use Rattle.{lb_syntax.specs.contracts.tree.Kind.the_type, lb_static.specs.DataTypes.is_kind}
+use Rattle.{lb_static.specs.DataTypes.same_sizes, lb_check.specs.PlacedTypes.FoundPart}
+use Rattle.lb_check.specs.PlacedTypes.{found_part, noted_part, with_terms}
+use Rattle.lb_check.specs.TermSignatures.{callee_signature, declared_signature, nothing, are_sizes}
+use Rattle.lb_check.specs.{TermSignatures.{is_size, is_type_with, type_with}, TermTypes.context_of}
+use Rattle.lb_check.specs.declared.{part_types.PartType.PartType, type_env.TypeEnv.TypeEnv}
+
 -- The types of a row, one at a time: the types that the code makes of them, and the operands from
 -- the last to the first.
-use Rattle.lb_check.proofs.Words.{◌≡◌, ◌≢◌, ℕ, zero, suc, ◌+◌, ◌<◌, ◌≤◌, Bool, true, false, List}
-use Rattle.lb_check.proofs.Words.{[], ◌∷◌, length, map, drop, get_or, Option, Some, None, refl, ap}
-use Rattle.lb_check.proofs.Words.{sym, ◌∙◌, arith, ℤ, ◌&&◌, nat_eq, option_map, if◌then◌else◌}
-use Rattle.lb_check.proofs.Words.{list_all, and-false, nat_tests, drop_all, drop_more, length-map}
-use Rattle.lb_check.proofs.Words.{slice_get-get_or, slice_get-map, ◌>>=◌, all_some, either_or}
-use Rattle.lb_check.proofs.Words.{where_true, and_first, and_second, CallId, Variable, ResolvedNode}
-use Rattle.lb_check.proofs.Words.{Specialization, called_by, DataType, is_kind, is_type, same_sizes}
-use Rattle.lb_check.proofs.Words.{Kind, length-all_some, context_in, Signature, are_met, are_one}
-use Rattle.lb_check.proofs.Words.{arrays, calls_in, common, evaluated, has_arity, like_later}
-use Rattle.lb_check.proofs.Words.{list_of, rest_arrays, type_at, callee_types, call_types_of}
-use Rattle.lb_check.proofs.Words.{when_both, array_of, common_type, list_type, only}
-use Rattle.std.proofs.Common.{slice_get}
-use Rattle.std.specs.Prelude.{replicate}
-use Rattle.std.proofs.Math.Bool.{and_comm}
-use Rattle.lb_syntax.specs.declared.tree.Kind.TheVariants.{Int as Int_kind, Bool as Bool_kind}
-use Rattle.lb_check.specs.TermSignatures.{arrays_in, callee_signature, declared_signature, nothing}
-use Rattle.lb_check.specs.TermTypes.{context_of}
-use Rattle.lb_check.specs.declared.signature.Arrays.{Arrays}
-use Rattle.lb_check.specs.declared.signature.Arrays.TheVariants.{No, All, Rest}
-use Rattle.lb_check.specs.declared.type_env.TypeEnv.{TypeEnv}
 
 abbrev Types : Type 0
 Types = List (Option DataType)
@@ -252,3 +255,258 @@ list_is os = by (all_some os) refl ∙ ap (arrays (length os)) (common_is os)
         ap (λ n. where_true (list_all (is_type t) ts) t >>= array_of n)
         (length-all_some os (t ∷ ts) e)
         ∙ sym (ap (λ p. arrays (length os) (p >>= first_of)) e)
+
+-- The number of scalar elements with which parts count, and the parts that are kept.
+
+-- ## A row
+
+-- the number of elements of a row, with `n` before them, up to 65,537
+abbrev pub counted_from : ℕ → Option (List DataType) → ℕ
+counted_from n None = 0
+counted_from n (Some ts) = min (n + total ts) 65537
+
+pub none_before : (o : Option (List DataType)) → part_size o ≡ counted_from 0 o
+none_before None = refl
+none_before (Some ts) = let n = total ts in by n
+  where
+    by : (n : ℕ) → min n 65537 ≡ min (0 + n) 65537
+    by n = omega arith
+
+pub counted_next : (n m : ℕ) (t : DataType) (o : Option (List DataType)) →
+    m ≡ min (n + min (element_count t) 65537) 65537 →
+    counted_from n (option_map (λ ts. t ∷ ts) o) ≡ counted_from m o
+counted_next n m t None e = refl
+counted_next n m t (Some ts) e =
+    by (element_count t) (total ts) (total (t ∷ ts)) (sum_by-cons element_count t ts) e
+  where
+    by : (k s w : ℕ) → w ≡ k + s → m ≡ min (n + min k 65537) 65537 →
+        min (n + w) 65537 ≡ min (m + s) 65537
+    by k s w p e = omega (arith, p, e)
+
+module _ (row : List (Option DataType)) (place count : ℕ)
+    (known : part_size (all_some row) ≡ counted_from count (all_some (drop place row))) where
+  split : (o : Option DataType) → place < length row → o ≡ type_at row place →
+      part_size (all_some row) ≡ counted_from count (all_some (o ∷ drop (place + 1) row))
+  split o lt is =
+      known ∙ ap (λ l. counted_from count (all_some l)) (drop_at row place lt)
+      ∙ ap (λ p. counted_from count (all_some (p ∷ drop (place + 1) row))) (sym is)
+
+  -- one more type of the row is counted
+  pub size_more : (t : DataType) (m : ℕ) → place < length row → Some t ≡ type_at row place →
+      m ≡ min (count + min (element_count t) 65537) 65537 →
+      part_size (all_some row) ≡ counted_from m (all_some (drop (place + 1) row))
+  size_more t m lt is e =
+      split (Some t) lt is ∙ counted_next count m t (all_some (drop (place + 1) row)) e
+
+  -- a row with a type that is not there counts 0
+  pub size_none : place < length row → None ≡ type_at row place → 0 ≡ part_size (all_some row)
+  size_none lt is = sym (split None lt is)
+
+  -- no type is left
+  pub size_end : length row ≤ place → count ≤ 65537 → count ≡ part_size (all_some row)
+  size_end le within =
+      let all : min (count + 0) 65537 ≡ count = omega (arith, within) in
+      sym (known ∙ ap (λ l. counted_from count (all_some l)) (drop_all place row le) ∙ all)
+
+-- ## One more part
+
+abbrev part : DataType → ℕ → FoundPart
+part t n = record { data_type = t; elements = n }
+
+abbrev pub keeping : ℕ → List FoundPart → Kept
+keeping n ps = record { left = n; found = ps }
+
+-- no part is kept where there are too many
+pub none_kept : (k : Kept) (p : FoundPart) → k.left ≡ 0 → noted_part k p ≡ keeping 0 []
+none_kept k p e =
+    let left : k.left - p.elements ≡ 0 = omega (arith, e) in
+    ap (λ m. keeping m (if nat_eq m 0 then [] else (k.found ++ (p ∷ [])))) left
+
+-- ## Several parts
+
+pub kept_both : (k : Kept) (xs ys : List FoundTypes) → kept k (xs ++ ys) ≡ kept (kept k ys) xs
+kept_both k [] ys = refl
+kept_both k (x ∷ xs) ys = ap (λ j. noted j x) (kept_both k xs ys)
+
+pub kept_left : (k : Kept) (xs : List FoundTypes) → (kept k xs).left ≡ k.left - sum_by part_size xs
+kept_left k [] = omega arith
+kept_left k (x ∷ xs) =
+    let rest = kept_left k xs in
+    let all = sum_by-cons part_size x xs in
+    omega (arith, rest, all)
+
+pub kept_found : (k : Kept) (xs : List FoundTypes) → (kept k xs).left ≢ 0 →
+    (kept k xs).found ≡ k.found ++ reverse (map found_part xs)
+kept_found k [] some = sym (append-nil k.found)
+kept_found k (x ∷ xs) some =
+    let j = kept k xs in
+    let p = found_part x in
+    let more : nat_eq (j.left - p.elements) 0 ≡ false = grind (arith, nat_tests) in
+    let before : j.left ≢ 0 = λ e. some (omega (arith, e)) in
+    ap (λ b. if b then [] else (j.found ++ (p ∷ []))) more
+    ∙ ap (λ l. l ++ (p ∷ [])) (kept_found k xs before)
+    ∙ append_assoc k.found (reverse (map found_part xs)) (p ∷ [])
+    ∙ ap (λ l. k.found ++ l) (sym (reverse-append (p ∷ []) (map found_part xs)))
+
+-- no part is kept after parts that are too many
+pub kept_none : (k : Kept) (xs : List FoundTypes) → 0 < length xs → (kept k xs).left ≡ 0 →
+    kept k xs ≡ keeping 0 []
+kept_none k [] some e = absurd (omega (arith, some))
+kept_none k (x ∷ xs) some e =
+    let j = kept k xs in
+    ap (λ m. keeping m (if nat_eq m 0 then [] else (j.found ++ (found_part x ∷ [])))) e
+
+-- no part is kept after those that were too many
+pub kept_over : (k : Kept) (xs : List FoundTypes) → k ≡ keeping 0 [] → kept k xs ≡ k
+kept_over k [] over = refl
+kept_over k (x ∷ xs) over =
+    ap (λ j. noted j x) (kept_over k xs over) ∙ none_kept k (found_part x) (ap (λ j. j.left) over)
+    ∙ sym over
+
+-- the kept parts that are moved are the terms that were kept
+terms_are : (f : FoundNode) (xs : List FoundTypes) →
+    with_parts f (map found_part xs) ≡ with_terms f xs
+terms_are f [] = refl
+terms_are f (x ∷ xs) = terms_are (with_term f x) xs
+
+pub moved_terms : (f : FoundNode) (k : Kept) (xs : List FoundTypes) → k.found ≡ [] →
+    (kept k xs).left ≢ 0 → with_parts f (reverse (kept k xs).found) ≡ with_terms f xs
+moved_terms f k xs none some =
+    ap (λ l. with_parts f (reverse l))
+    (kept_found k xs some ∙ ap (λ l. l ++ reverse (map found_part xs)) none)
+    ∙ ap (with_parts f) (reverse-reverse (map found_part xs)) ∙ terms_are f xs
+
+-- the last part is moved
+pub part_moved : (f g : FoundNode) (xs ys : List PartType) (p : PartType) → xs ≡ ys ++ (p ∷ []) →
+    g ≡ with_row f p.data_type.kind p.data_type.sizes.items p.elements →
+    with_parts f (reverse (map part_in xs)) ≡ with_parts g (reverse (map part_in ys))
+part_moved f g xs ys p split e =
+    ap (λ l. with_parts f (reverse (map part_in l))) split
+    ∙ ap (λ l. with_parts f (reverse l)) (map-append part_in ys (p ∷ []))
+    ∙ ap (with_parts f) (reverse-append (map part_in ys) (part_in p ∷ []))
+    ∙ ap (λ l. with_parts (with_row f p.data_type.kind l p.elements) (reverse (map part_in ys)))
+    (reverse-reverse p.data_type.sizes.items)
+    ∙ ap (λ h. with_parts h (reverse (map part_in ys))) (sym e)
+
+-- ## The elements of some terms, as far as there are this many
+
+module _ (many left rest whole own later : ℕ) (under : left ≤ many)
+    (known : whole ≡ (many - left) + (own + later)) (next : rest ≡ left - own) where
+  -- fewer than `many` elements are counted
+  pub counted_more : rest ≢ 0 → whole ≡ (many - rest) + later
+  counted_more some = omega (arith, under, known, next, some)
+
+  -- `many` elements or more are counted
+  pub counted_enough : rest ≡ 0 → many ≤ whole
+  counted_enough none = omega (arith, under, known, next, none)
+
+-- Tests of whether a declared type, or an array of it, has given sizes: each size is compared with
+-- the declared value, and no type is made.
+
+same_kind_is : (k l : Kind) → sameb the_type k l ≡ is_kind k l
+same_kind_is Int_kind Int_kind = refl
+same_kind_is Int_kind Bool_kind = refl
+same_kind_is Bool_kind Int_kind = refl
+same_kind_is Bool_kind Bool_kind = refl
+
+-- ## Sizes
+
+itself : (ns : List ℕ) → same_sizes ns ns ≡ true
+itself [] = refl
+itself (n ∷ ns) = ap (λ b. b && same_sizes ns ns) (eq-eqb n n refl) ∙ itself ns
+
+turned_same : (ms ns : List ℕ) → same_sizes ms ns ≡ true →
+    same_sizes (reverse ms) (reverse ns) ≡ true
+turned_same ms ns e =
+    ap (λ l. same_sizes (reverse ms) (reverse l)) (sym (same_sizes_are ms ns e))
+    ∙ itself (reverse ms)
+
+turned : (ms ns : List ℕ) → same_sizes ms ns ≡ same_sizes (reverse ms) (reverse ns)
+turned ms ns =
+    both_ways _ _ (turned_same ms ns)
+    (λ e. ap (λ l. same_sizes l ns) (sym (reverse-reverse ms))
+    ∙ ap (same_sizes (reverse (reverse ms))) (sym (reverse-reverse ns))
+    ∙ turned_same (reverse ms) (reverse ns) e)
+
+-- values are sizes exactly where the first is and the others are
+one_more : (n : ℕ) (ns : List ℕ) (o : Option ℕ) (os : List (Option ℕ)) →
+    (holds (λ m. m == n) o && holds (λ ms. same_sizes ms ns) (all_some os))
+    ≡ holds (λ ms. same_sizes ms (n ∷ ns)) (all_some (o ∷ os))
+one_more n ns None os = refl
+one_more n ns (Some m) os = by (all_some os)
+  where
+    by : (p : Option (List ℕ)) →
+        ((m == n) && holds (λ ms. same_sizes ms ns) p)
+        ≡ holds (λ ms. same_sizes ms (n ∷ ns)) (option_map (λ ms. m ∷ ms) p)
+    by None = and-false (m == n)
+    by (Some ms) = refl
+
+none_left : (o : Option ℕ) (os : List (Option ℕ)) →
+    false ≡ holds (λ ms. same_sizes ms []) (all_some (o ∷ os))
+none_left None os = refl
+none_left (Some m) os = by (all_some os)
+  where
+    by : (p : Option (List ℕ)) →
+        false ≡ holds (λ ms. same_sizes ms []) (option_map (λ ms. m ∷ ms) p)
+    by None = refl
+    by (Some ms) = refl
+
+-- values are sizes exactly where they are so place by place
+sizes_found : (vs : List ℤ) (ns : List ℕ) →
+    are_sizes vs ns ≡ holds (λ ms. same_sizes ms ns) (naturals vs)
+sizes_found [] [] = refl
+sizes_found [] (n ∷ ns) = eqb-zero-suc (length ns)
+sizes_found (v ∷ vs) [] = eqb-suc-zero (length vs) ∙ none_left (natural v) (map natural vs)
+sizes_found (v ∷ vs) (n ∷ ns) =
+    let each = list_all (λ (p : ℤ × ℕ). is_size p.0 p.1) (zip vs ns) in
+    ap (λ b. (is_size v n && each) && b) (eqb-suc-suc (length vs) (length ns))
+    ∙ and_assoc (is_size v n) each (length vs == length ns)
+    ∙ ap (λ b. is_size v n && b) (sizes_found vs ns)
+    ∙ one_more n ns (natural v) (map natural vs)
+
+-- ## Types
+
+-- a type is the given one exactly where its kind and its sizes are
+pub type_is : (own k : Kind) (vs : List ℤ) (ns : List ℕ) (b : Bool) → sameb the_type own k ≡ b →
+    (b && are_sizes vs ns) ≡ is_type_with (type_with own vs) k ns
+type_is own k vs ns b e =
+    ap (λ c. c && are_sizes vs ns) (sym e ∙ same_kind_is own k)
+    ∙ ap (λ c. is_kind own k && c) (sizes_found vs ns) ∙ by (naturals vs)
+  where
+    by : (p : Option (List ℕ)) →
+        (is_kind own k && holds (λ ms. same_sizes ms ns) p)
+        ≡ is_type_with (option_map (λ ms. record { kind = own; sizes = reverse ms }) p) k ns
+    by None = and-false (is_kind own k)
+    by (Some ms) = ap (λ c. is_kind own k && c) (turned ms ns)
+
+swapped : (x y z : Bool) → (x && (y && z)) ≡ (y && (x && z))
+swapped x true z = refl
+swapped x false z = and-false x
+
+pub array_is : (n m : ℕ) (o : Option DataType) (k : Kind) (ns : List ℕ) →
+    ((n == m) && ((nat_le 1 n && nat_le n 4096) && is_type_with o k ns))
+    ≡ are_one (arrays n o) (Some (record { kind = k; sizes = m ∷ reverse ns }))
+array_is n m None k ns =
+    ap (λ b. (n == m) && b) (and-false (nat_le 1 n && nat_le n 4096)) ∙ and-false (n == m)
+array_is n m (Some t) k ns = by (nat_le 1 n && nat_le n 4096)
+  where
+    by : (b : Bool) →
+        ((n == m) && (b && is_type_with (Some t) k ns))
+        ≡ are_one (where_true b (record { kind = t.kind; sizes = n ∷ t.sizes }))
+        (Some (record { kind = k; sizes = m ∷ reverse ns }))
+    by true = swapped (n == m) (is_kind t.kind k) (same_sizes t.sizes (reverse ns))
+    by false = and-false (n == m)
+
+-- a scalar is no array
+pub scalar_is_none : (n : ℕ) (o : Option DataType) (k : Kind) (ns : List ℕ) → length ns ≡ 0 →
+    false ≡ are_one (arrays n o) (Some (record { kind = k; sizes = reverse ns }))
+scalar_is_none n o k (m ∷ ns) e = absurd (omega (arith, e))
+scalar_is_none n None k [] e = refl
+scalar_is_none n (Some t) k [] e = by (nat_le 1 n && nat_le n 4096)
+  where
+    by : (b : Bool) →
+        false
+        ≡ are_one (where_true b (record { kind = t.kind; sizes = n ∷ t.sizes }))
+        (Some (record { kind = k; sizes = [] }))
+    by true = sym (and-false (is_kind t.kind k))
+    by false = refl

@@ -1,31 +1,25 @@
 -- Where the rules of types hold, each call has one result, apart from one that is a whole right
 -- side.
-use Rattle.lb_check.proofs.Words.{◌≡◌, ℕ, Bool, true, false, List, [], ◌∷◌, ◌++◌, length, map, take}
-use Rattle.lb_check.proofs.Words.{drop, Option, Some, None, refl, ap, sym, ◌∙◌, arith, ◌&&◌}
-use Rattle.lb_check.proofs.Words.{is_some, slice_get, nat_eq, ℤ, list_all, nat_tests, length-map}
-use Rattle.lb_check.proofs.Words.{and_from, ◌>>=◌, all_some, holds, where_true, Node, bind_some}
-use Rattle.lb_check.proofs.Words.{all_at, and_first, and_second, Reached, CallId, ResolvedNode}
-use Rattle.lb_check.proofs.Words.{ResolvedStatement, Term, Literal, Truth, Value, Group', Unary'}
-use Rattle.lb_check.proofs.Words.{Binary', If', Arrow', Fby', Pre', Current', When', Replicate'}
-use Rattle.lb_check.proofs.Words.{Index', Slice', Join', Array', AtMostOne', Nor', Call'}
-use Rattle.lb_check.proofs.Words.{IterateNode', IterateSymbol', Row_of-Term, end_of-Term}
-use Rattle.lb_check.proofs.Words.{more_of-Term, Specialization, Table, instance_of, Program}
-use Rattle.lb_check.proofs.Words.{Instance, Root, Child, Site, callee_of, node_named, static_value}
-use Rattle.lb_check.proofs.Words.{called_by, source_names, IsResolved, node_of, counts_of, is_call}
-use Rattle.lb_check.proofs.Words.{is_static, is_variable, is_within, are_within}
-use Rattle.lb_check.proofs.Words.{is_statement_within, DataType, truth, is_type, are_types}
-use Rattle.lb_check.proofs.Words.{IsJudged, is_single, are_single, calls_single, is_single_within}
-use Rattle.lb_check.proofs.Words.{is_statement_single, declared_type, declared_types}
-use Rattle.lb_check.proofs.Words.{length-all_some, CallTypes, call_types_of, callee_types}
-use Rattle.lb_check.proofs.Words.{call_types_at, are_typed, is_specialization_typed}
-use Rattle.lb_check.proofs.Words.{is_variable_typed, is_resolved_statement_typed, is_node_typed}
-use Rattle.lb_check.proofs.Words.{are_equal, results, type_of, types_in, when_truth, only, singly}
-use Rattle.std.proofs.Common.{length-append, length-take, length-drop}
-use Rattle.lb_static.specs.declared.resolved.Term.{Variable}
-use Rattle.lb_check.specs.TermTypes.{Context, context_of}
-use Rattle.lb_check.proofs.typing.FittedCalls.{specialized_instance}
-use Rattle.lb_check.proofs.typing.OneType.{type_is_only}
-use Rattle.lb_check.proofs.programs.SiteCallees.{callee_found, node_resolved, site_found}
+use Rattle.lb_check.proofs.Words
+use Words.{◌≡◌, ℕ, Bool, true, false, List, [], ◌∷◌, ◌++◌, length, map, take, drop, Option, Some}
+use Words.{None, refl, ap, sym, ◌∙◌, arith, ◌&&◌, is_some, slice_get, nat_eq, ℤ, list_all}
+use Words.{nat_tests, length-map, and_from, ◌>>=◌, all_some, holds, where_true, Node, bind_some}
+use Words.{all_at, and_first, and_second, Reached, CallId, ResolvedNode, ResolvedStatement, Term}
+use Words.{Literal, Truth, Value, Group', Unary', Binary', If', Arrow', Fby', Pre', Current', When'}
+use Words.{Replicate', Index', Slice', Join', Array', AtMostOne', Nor', Call', IterateNode'}
+use Words.{IterateSymbol', Row_of-Term, end_of-Term, more_of-Term, Specialization, Table}
+use Words.{instance_of, Program, Instance, Root, Child, Site, callee_of, node_named, static_value}
+use Words.{called_by, source_names, IsResolved, node_of, counts_of, is_call, is_static, is_variable}
+use Words.{is_within, are_within, is_statement_within, DataType, truth, is_type, are_types}
+use Words.{IsJudged, is_single, are_single, calls_single, is_single_within, is_statement_single}
+use Words.{declared_type, declared_types, length-all_some, CallTypes, call_types_of, callee_types}
+use Words.{call_types_at, are_typed, is_specialization_typed, is_variable_typed}
+use Words.{is_resolved_statement_typed, is_node_typed, are_equal, results, type_of, types_in}
+use Words.{when_truth, only, singly, length-append, length-take, length-drop}
+use Rattle.{lb_static.specs.declared.resolved.Term.Variable, lb_check.specs.TermTypes.Context}
+use Rattle.lb_check.{specs.TermTypes.context_of, proofs.definitions.NodePlaces.callee_found}
+use Rattle.lb_check.proofs.definitions.NodePlaces.{node_resolved, site_found}
+use Rattle.lb_check.proofs.typing.{FittedTypes.specialized_instance, TypeRows.type_is_only}
 use Rattle.lb_static.specs.declared.resolved.ResolvedStatement.TheVariants as statement
 
 -- ## Results that are there

@@ -1,18 +1,16 @@
 -- The types of the results of a term with a row of operands are those that its signature gives.
-use Rattle.lb_check.proofs.Words.{◌≡◌, inl, inr, ℕ, Bool, true, false, List, [], ◌∷◌, length, map}
-use Rattle.lb_check.proofs.Words.{Option, Some, None, Vec, Global, refl, ap, sym, subst, ◌∙◌, arith}
-use Rattle.lb_check.proofs.Words.{list_all, and-false, nat_tests, ArrayIterator, Map, Red, Fill}
-use Rattle.lb_check.proofs.Words.{BinaryOperator, ◌>>=◌, all_some, holds, where_true, CallId, Term}
-use Rattle.lb_check.proofs.Words.{IterateNode, IterateSymbol, DataType, are_types, int, is_type}
-use Rattle.lb_check.proofs.Words.{truth, IsGiven, Signature, are_met, are_one, arrays, evaluated}
-use Rattle.lb_check.proofs.Words.{given_of, outcome, rest_arrays, type_at, CallTypes, are_equal}
-use Rattle.lb_check.proofs.Words.{results, row_results, type_of, array_of, is_arithmetic}
-use Rattle.lb_check.proofs.Words.{is_logical, iterator_types, symbol_types}
-use Rattle.std.specs.Prelude.{◌&&◌, nat_eq, nat_lt, option_map, replicate, if◌then◌else◌}
-use Rattle.lb_syntax.specs.declared.tree.Kind.TheVariants.{Int as Int_kind, Bool as Bool_kind}
+use Rattle.lb_check.proofs.Words
+use Words.{◌≡◌, inl, inr, ℕ, Bool, true, false, List, [], ◌∷◌, length, map, Option, Some, None, Vec}
+use Words.{Global, refl, ap, sym, subst, ◌∙◌, arith, list_all, and-false, nat_tests, ArrayIterator}
+use Words.{Map, Red, Fill, BinaryOperator, ◌>>=◌, all_some, holds, where_true, CallId, Term}
+use Words.{IterateNode, IterateSymbol, DataType, are_types, int, is_type, truth, IsGiven, Signature}
+use Words.{are_met, are_one, arrays, evaluated, given_of, outcome, type_at, CallTypes, are_equal}
+use Words.{results, row_results, type_of, array_of, is_arithmetic, is_logical, iterator_types}
+use Words.{symbol_types, ◌&&◌, nat_eq, nat_lt, option_map, replicate, if◌then◌else◌, Int_kind}
+use Words.{Bool_kind}
 use Rattle.lb_static.specs.declared.resolved.Term.{AtMostOne, Nor, Call}
-use Rattle.lb_check.specs.TermSignatures.{iterated, iterated_by, pair_of, scalars, symbol_signature}
-use Rattle.lb_check.specs.TermTypes.{Context, truth_results}
+use Rattle.lb_check.specs.TermSignatures.{rest_arrays, iterated, iterated_by, pair_of, scalars}
+use Rattle.lb_check.specs.{TermSignatures.symbol_signature, TermTypes.{Context, truth_results}}
 use Rattle.lb_check.specs.Types.{fill_types, map_types, red_types}
 use Rattle.lb_check.proofs.typing.TypeRows.{results_of_row}
 

@@ -1,10 +1,24 @@
+-- The types of a term, from those of its operands and rows.
+use Rattle.lb_check.proofs.Words
+use Words.{◌≡◌, ℕ, List, [], ◌∷◌, ◌++◌, reverse, reverse-append, inl, inr, map, Option, Some, None}
+use Words.{Vec, Global, refl, ap, ◌∙◌, option_map, Count, ◌>>=◌, all_some, Term, Array', AtMostOne'}
+use Words.{Nor', Call', IterateNode', IterateSymbol', Row_of-Term, end_of-Term, more_of-Term}
+use Words.{items-the_row-Term, items_hidden-the_row-Term-0, DataType, IsRow, ◌⊎◌, Bool, true, false}
+use Words.{Box, UnaryOperator, where_true, StaticId, VariableId, is_type, truth, IsPair, array_of}
+use Words.{index_type, slice_type, one_type, when_truth, ◌+◌, ◌<◌, ◌≤◌, length, drop, flat_map}
+use Words.{get_or, sym, drop_all, drop_more, IsSingle, IsLeaf, ◌≢◌, and-true, and-false, Group'}
+use Words.{list_type, only, singly, are_one, FoundNode, FoundTypes, with_term, placed_types}
+use Words.{placed_row_types, placed_all_types, type_of, types_in, results, row_results, are_equal}
+use Rattle.lb_static.specs.declared.resolved.Term.{Group, Unary, Pre, Current, When, Replicate}
+use Rattle.lb_static.specs.declared.resolved.Term.{Index, Slice, If, Array}
+use Rattle.lb_check.specs.{PlacedTypes.with_terms, TermTypes.{Context, types_of, two_types}}
+
+-- Sizes of a type, the outermost last.
+
+pub outermost : (ns : List ℕ) (n : ℕ) → reverse (ns ++ n ∷ []) ≡ n ∷ reverse ns
+outermost ns n = reverse-append ns (n ∷ [])
+
 -- A row of terms in a tree is the list in the vector, and so are its types.
-use Rattle.lb_check.proofs.Words.{◌≡◌, inl, inr, List, ◌∷◌, map, Option, Some, None, Vec, Global}
-use Rattle.lb_check.proofs.Words.{refl, ap, ◌∙◌, option_map, Count, ◌>>=◌, all_some, Term, Array'}
-use Rattle.lb_check.proofs.Words.{AtMostOne', Nor', Call', IterateNode', IterateSymbol'}
-use Rattle.lb_check.proofs.Words.{Row_of-Term, end_of-Term, more_of-Term, items-the_row-Term}
-use Rattle.lb_check.proofs.Words.{items_hidden-the_row-Term-0, DataType, IsRow}
-use Rattle.lb_check.specs.TermTypes.{Context, type_of, types_in, types_of, results, row_results}
 
 pub types_items : (ctx : Context) (n : _) (row : Row_of-Term n) →
     types_in ctx row ≡ types_of ctx (items-the_row-Term n row)
@@ -61,3 +75,240 @@ module _ (ctx : Context) where
       results_in t es is
       ∙ ap (λ o. o >>= row_results ctx t)
       (types_items ctx (row_in t).0 (row_in t).1 ∙ ap (types_of ctx) (row_is t es is))
+
+-- The type of a term from those of its one, two or three operands.
+
+-- a term with this one operand
+abbrev pub IsSinglePart : Term → Box Term Global → Type 0
+IsSinglePart t e =
+    (t ≡ Group e) ⊎ (((op : UnaryOperator) × (t ≡ Unary op e)) ⊎ ((t ≡ Pre e) ⊎ ((t ≡ Current e)
+    ⊎ (((x : VariableId) × (sign : Bool) × (t ≡ When e x sign))
+    ⊎ (((n : StaticId) × (t ≡ Replicate e n))
+    ⊎ (((i : StaticId) × (t ≡ Index e i))
+    ⊎ ((i : StaticId) × (j : StaticId) × (t ≡ Slice e i j))))))))
+
+pub single_type : (ctx : Context) (t : Term) (e : Box Term Global) (s : DataType) → IsSinglePart t e →
+    type_of ctx e.value ≡ Some s
+    → one_type ctx t s ≡ type_of ctx t
+unfolding type_of
+single_type ctx t e s (inl is) h = rw (is, h) refl
+single_type ctx t e s (inr (inl (op, is))) h = rw (is, h) refl
+single_type ctx t e s (inr (inr (inl is))) h = rw (is, h) refl
+single_type ctx t e s (inr (inr (inr (inl is)))) h = rw (is, h) refl
+single_type ctx t e s (inr (inr (inr (inr (inl (x, sign, is)))))) h = rw (is, h) refl
+single_type ctx t e s (inr (inr (inr (inr (inr (inl (n, is))))))) h = rw (is, h) refl
+single_type ctx t e s (inr (inr (inr (inr (inr (inr (inl (i, is)))))))) h = rw (is, h) refl
+single_type ctx t e s (inr (inr (inr (inr (inr (inr (inr (i, j, is)))))))) h = rw (is, h) refl
+
+no_truth : (o : Option DataType) → when_truth o None ≡ None
+no_truth None = refl
+no_truth (Some t) = by (is_type truth t) t
+  where
+    by : (b : Bool) (t : DataType) →
+        (where_true b t >>= λ _. let none : Option DataType = None in none) ≡ None
+    by true t = refl
+    by false t = refl
+
+no_count : (o : Option ℕ) → (o >>= λ _. let none : Option DataType = None in none) ≡ None
+no_count None = refl
+no_count (Some n) = refl
+
+no_slice : (o p : Option ℕ)
+    → (o >>= λ _. p >>= λ _. let none : Option DataType = None in none) ≡ None
+no_slice None p = refl
+no_slice (Some n) p = no_count p
+
+pub single_none : (ctx : Context) (t : Term) (e : Box Term Global) → IsSinglePart t e →
+    type_of ctx e.value ≡ None → type_of ctx t ≡ None
+unfolding type_of
+single_none ctx t e (inl is) h = rw (is, h) refl
+single_none ctx t e (inr (inl (op, is))) h = rw (is, h) refl
+single_none ctx t e (inr (inr (inl is))) h = rw (is, h) refl
+single_none ctx t e (inr (inr (inr (inl is)))) h = rw (is, h) refl
+single_none ctx t e (inr (inr (inr (inr (inl (x, sign, is)))))) h =
+    ap (type_of ctx) is ∙ ap (when_truth (ctx.variable x)) h ∙ no_truth (ctx.variable x)
+single_none ctx t e (inr (inr (inr (inr (inr (inl (n, is))))))) h =
+    ap (type_of ctx) is ∙ ap (λ o. ctx.count n >>= λ n. o >>= array_of n) h ∙ no_count (ctx.count n)
+single_none ctx t e (inr (inr (inr (inr (inr (inr (inl (i, is)))))))) h =
+    ap (type_of ctx) is ∙ ap (λ o. ctx.count i >>= λ i. o >>= index_type i) h
+    ∙ no_count (ctx.count i)
+single_none ctx t e (inr (inr (inr (inr (inr (inr (inr (i, j, is)))))))) h =
+    ap (type_of ctx) is ∙ ap (λ o. ctx.count i >>= λ i. ctx.count j >>= λ j. o >>= slice_type i j)
+    h ∙ no_slice (ctx.count i) (ctx.count j)
+
+pub pair_type : (ctx : Context) (t : Term) (a b : Box Term Global) (o p : Option DataType) →
+    IsPair t a b
+    → o ≡ type_of ctx a.value → p ≡ type_of ctx b.value → two_types t o p ≡ type_of ctx t
+unfolding type_of
+pair_type ctx t a b o p (inl (op, is)) e f = rw (is, e, f) refl
+pair_type ctx t a b o p (inr (inl is)) e f = rw (is, e, f) refl
+pair_type ctx t a b o p (inr (inr (inl is))) e f = rw (is, e, f) refl
+pair_type ctx t a b o p (inr (inr (inr is))) e f = rw (is, e, f) refl
+
+-- The types that are kept of the parts of a term, from those of its operands, and of rows of terms
+-- from a place on.
+
+-- ## Kept types grow
+
+-- two lists of terms are kept by keeping one after the other
+pub more_terms : (f : FoundNode) (xs ys : List FoundTypes) →
+    with_terms f (xs ++ ys) ≡ with_terms (with_terms f xs) ys
+more_terms f [] ys = refl
+more_terms f (x ∷ xs) ys = more_terms (with_term f x) xs ys
+
+module _ {A : Type 0} (f : A → List FoundTypes) (whole now : FoundNode) (all : List A) (i : ℕ)
+    (known : whole ≡ with_terms now (flat_map f (drop i all))) where
+  -- one more item is kept
+  pub flat_more : (more : FoundNode) (x : A) → i < length all → x ≡ get_or all i x →
+      more ≡ with_terms now (f x) → whole ≡ with_terms more (flat_map f (drop (i + 1) all))
+  flat_more more x lt is e =
+      let rest = flat_map f (drop (i + 1) all) in
+      known ∙ ap (λ l. with_terms now (flat_map f l)) (drop_more all i x lt)
+      ∙ ap (λ y. with_terms now (f y ++ rest)) (sym is)
+      ∙ more_terms now (f x) rest ∙ ap (λ g. with_terms g rest) (sym e)
+
+  -- no item is left
+  pub flat_end : length all ≤ i → whole ≡ now
+  flat_end le = known ∙ ap (λ l. with_terms now (flat_map f l)) (drop_all i all le)
+
+-- ## Terms by their forms
+
+module _ (ctx : Context) where
+  pub leaf_placed : (t : Term) → IsLeaf t → placed_types ctx t ≡ results ctx t ∷ []
+  unfolding placed_types
+  leaf_placed t (inl (n, e)) = rw e refl
+  leaf_placed t (inr (inl (b, e))) = rw e refl
+  leaf_placed t (inr (inr (inl (i, e)))) = rw e refl
+  leaf_placed t (inr (inr (inr (x, e)))) = rw e refl
+
+  pub group_placed : (t : Term) (e : Box Term Global) → t ≡ Group e →
+      placed_types ctx t ≡ placed_types ctx e.value
+  unfolding placed_types
+  group_placed t e is = rw is refl
+
+  pub operand_placed : (t : Term) (e : Box Term Global) → IsSingle t e →
+      placed_types ctx t ≡ results ctx t ∷ placed_types ctx e.value
+  unfolding placed_types
+  operand_placed t e (inl (op, is)) = rw is refl
+  operand_placed t e (inr (inl is)) = rw is refl
+  operand_placed t e (inr (inr (inl is))) = rw is refl
+  operand_placed t e (inr (inr (inr (inl (x, sign, is))))) = rw is refl
+  operand_placed t e (inr (inr (inr (inr (inl (n, is)))))) = rw is refl
+  operand_placed t e (inr (inr (inr (inr (inr (inl (i, is))))))) = rw is refl
+  operand_placed t e (inr (inr (inr (inr (inr (inr (i, j, is))))))) = rw is refl
+
+  pub operands_placed : (t : Term) (a b : Box Term Global) → IsPair t a b →
+      placed_types ctx t
+      ≡ results ctx t ∷ (placed_types ctx a.value ++ placed_types ctx b.value)
+  unfolding placed_types
+  operands_placed t a b (inl (op, is)) = rw is refl
+  operands_placed t a b (inr (inl is)) = rw is refl
+  operands_placed t a b (inr (inr (inl is))) = rw is refl
+  operands_placed t a b (inr (inr (inr is))) = rw is refl
+
+  pub choice_placed : (t : Term) (c a b : Box Term Global) → t ≡ If c a b →
+      placed_types ctx t
+      ≡ results ctx t
+      ∷ (placed_types ctx c.value ++ (placed_types ctx a.value ++ placed_types ctx b.value))
+  unfolding placed_types
+  choice_placed t c a b is = rw is refl
+
+  -- ## Rows
+
+  row_items : (n : _) (row : Row_of-Term n) →
+      placed_row_types ctx row ≡ placed_all_types ctx (items-the_row-Term n row)
+  unfolding placed_types
+  row_items n end_of-Term = refl
+  row_items n (more_of-Term e rest) = ap (λ l. placed_types ctx e ++ l) (row_items _ rest)
+
+  placed_in : (t : Term) (es : Vec Term Global) → IsRow t es →
+      placed_types ctx t ≡ results ctx t ∷ placed_row_types ctx (row_in t).1
+  unfolding placed_types
+  placed_in t es (inl e) = rw e refl
+  placed_in t es (inr (inl e)) = rw e refl
+  placed_in t es (inr (inr (inl e))) = rw e refl
+  placed_in t es (inr (inr (inr (inl (c, e))))) = rw e refl
+  placed_in t es (inr (inr (inr (inr (inl (it, c, e)))))) = rw e refl
+  placed_in t es (inr (inr (inr (inr (inr (it, op, n, e)))))) = rw e refl
+
+  pub row_placed : (t : Term) (es : Vec Term Global) → IsRow t es →
+      placed_types ctx t ≡ results ctx t ∷ placed_all_types ctx es.items
+  row_placed t es is =
+      placed_in t es is
+      ∙ ap (λ l. results ctx t ∷ l)
+      (row_items _ (row_in t).1 ∙ ap (placed_all_types ctx) (row_is t es is))
+
+-- The one type of a term is that of its results, so an equation of one variable is judged by types
+-- alone, without a list of them.
+
+-- the one type of a list of one type is this type
+only_singly : (o : Option DataType) → (singly o >>= only) ≡ o
+only_singly (Some t) = refl
+only_singly None = refl
+
+-- the one type of a term is that of its results
+pub type_is_only : (ctx : Context) (t : Term) → type_of ctx t ≡ (results ctx t >>= only)
+unfolding type_of results
+type_is_only ctx (Group' p e) = type_is_only ctx e
+type_is_only ctx (Array' arity all) = refl
+type_is_only ctx (AtMostOne' arity all) = refl
+type_is_only ctx (Nor' arity all) = refl
+type_is_only ctx (Call' c arity all) = refl
+type_is_only ctx (IterateNode' it c arity all) = refl
+type_is_only ctx (IterateSymbol' it op n arity all) = refl
+type_is_only ctx t = sym (only_singly (type_of ctx t))
+
+-- the results of an array come from the types of its elements
+pub list_results : (ctx : Context) (t : Term) (es : Vec Term Global) → t ≡ Array es →
+    results ctx t ≡ singly (types_of ctx es.items >>= list_type)
+list_results ctx t es is =
+    ap (results ctx) is ∙ results_of_row ctx (Array es) es (inl refl) ∙ by (types_of ctx es.items)
+  where
+    by : (o : Option (List DataType)) →
+        (o >>= row_results ctx (Array es)) ≡ singly (o >>= list_type)
+    by (Some ts) = refl
+    by None = refl
+
+pub list_type_is : (ctx : Context) (t : Term) (es : Vec Term Global) → t ≡ Array es →
+    type_of ctx t ≡ (types_of ctx es.items >>= list_type)
+list_type_is ctx t es is =
+    type_is_only ctx t ∙ ap (λ o. o >>= only) (list_results ctx t es is)
+    ∙ only_singly (types_of ctx es.items >>= list_type)
+
+-- results are the one type `v` exactly where their one type is `v`
+equal_one :
+    (o : Option (List DataType)) (v : Option DataType) →
+    are_equal o (all_some (v ∷ [])) ≡ are_one (o >>= only) v
+equal_one None v = refl
+equal_one (Some []) None = refl
+equal_one (Some []) (Some t) = refl
+equal_one (Some (s ∷ [])) None = refl
+equal_one (Some (s ∷ [])) (Some t) = and-true (is_type s t)
+equal_one (Some (s ∷ u ∷ us)) None = refl
+equal_one (Some (s ∷ u ∷ us)) (Some t) = and-false (is_type s t)
+
+pub results_are_one : (ctx : Context) (e : Term) (o v : Option DataType) → o ≡ type_of ctx e →
+    are_one o v ≡ are_equal (results ctx e) (all_some (v ∷ []))
+results_are_one ctx e o v is =
+    ap (λ o. are_one o v) (is ∙ type_is_only ctx e) ∙ sym (equal_one (results ctx e) v)
+
+-- one result differs from any other number of types
+pub single_apart : (o : Option DataType) (vs : List (Option DataType)) → length vs ≢ 1 →
+    false ≡ are_equal (singly o) (all_some vs)
+single_apart None vs apart = refl
+single_apart (Some s) [] apart = refl
+single_apart (Some s) (None ∷ vs) apart = refl
+single_apart (Some s) (Some t ∷ []) apart = absurd (apart refl)
+single_apart (Some s) (Some t ∷ (None ∷ vs)) apart = refl
+single_apart (Some s) (Some t ∷ (Some u ∷ vs)) apart = by (all_some vs)
+  where
+    by : (o : Option (List DataType)) →
+        false ≡ are_equal (Some (s ∷ [])) (option_map (λ l. t ∷ l) (option_map (λ l. u ∷ l) o))
+    by None = refl
+    by (Some l) = sym (and-false (is_type s t))
+
+-- one result is the one type `v` exactly where its type is `v`
+pub single_met : (o v : Option DataType) →
+    are_one o v ≡ are_equal (singly o) (all_some (v ∷ []))
+single_met o v =
+    ap (λ p. are_one p v) (sym (only_singly o)) ∙ sym (equal_one (singly o) v)

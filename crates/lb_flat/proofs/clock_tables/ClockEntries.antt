@@ -1,29 +1,25 @@
 -- The clocks of a table by the formula wait for elements of variables, on clocks of the table; each
 -- is the instants of its parent at which its element has its sign.
-use Rattle.lb_flat.proofs.Words.{◌≡◌, ◌⊎◌, inl, inr, ℕ, zero, suc, ◌+◌, ◌-◌, ◌*◌, ◌<◌, ◌≤◌, Bool}
-use Rattle.lb_flat.proofs.Words.{true, false, Option, Some, None, List, [], ◌∷◌, length, get_or}
-use Rattle.lb_flat.proofs.Words.{refl, ap, ap₂, sym, ◌∙◌, subst, arith, nat_lt, slice_get}
-use Rattle.lb_flat.proofs.Words.{length-map, take_all, get_or_from_slice_get, slice_get_within}
-use Rattle.lb_flat.proofs.Words.{same_Some, ltb-true, ltb-false, Every, In, Name, Declaration}
-use Rattle.lb_flat.proofs.Words.{item_at, variables, elaborated_program, Program, Instance, Path}
-use Rattle.lb_flat.proofs.Words.{Root, Observer, Child, instance_at, instances, static_refusal}
-use Rattle.lb_flat.proofs.Words.{variable_names, in_at, check_refusal, Clock, Base, On}
-use Rattle.lb_flat.proofs.Words.{declared_clock, program_elements, IsChecked, serving, site_clock}
-use Rattle.lb_flat.proofs.Words.{node_occurrences, Checking, numbers_below, IsOwn, declared_own}
-use Rattle.lb_flat.proofs.Words.{at_path, path_is, AreWhole, path_place, path_runs, path_before}
-use Rattle.lb_flat.proofs.Words.{sign_place, clock_place, IsClockTable, Where, flat_clock, layout}
-use Rattle.lb_flat.proofs.Words.{signs_of, count_at, element_total, IsLayoutOf, sources_of}
-use Rattle.lb_flat.proofs.Words.{all_clocks, all_runs, all_serving, clocks_among, clock_of, IsClock}
-use Rattle.lb_flat.proofs.Words.{IsTableClock, AreClocks, ClockId}
-use Rattle.lb_flat.specs.declared.layout.Layout.{Layout}
-use Rattle.lb_flat.proofs.clock_tables.AddedClocks.{AreCounted, clocks_long}
-use Rattle.lb_flat.proofs.clock_tables.ClockTable.{caller_of, clock_row, first_signed, site_is_own}
+use Rattle.lb_flat.proofs.Words
+use Words.{◌≡◌, ◌⊎◌, inl, inr, ℕ, zero, suc, ◌+◌, ◌-◌, ◌*◌, ◌<◌, ◌≤◌, Bool, true, false, Option}
+use Words.{Some, None, List, [], ◌∷◌, length, get_or, refl, ap, ap₂, sym, ◌∙◌, subst, arith, nat_lt}
+use Words.{slice_get, length-map, take_all, get_or_from_slice_get, slice_get_within, same_Some}
+use Words.{ltb-true, ltb-false, Every, In, Name, Declaration, item_at, variables}
+use Words.{elaborated_program, Program, Instance, Path, Root, Observer, Child, instance_at}
+use Words.{instances, static_refusal, variable_names, in_at, check_refusal, Base, On}
+use Words.{declared_clock, program_elements, IsChecked, serving, site_clock, node_occurrences}
+use Words.{Checking, numbers_below, IsOwn, declared_own, at_path, path_is, AreWhole, path_place}
+use Words.{path_runs, path_before, sign_place, clock_place, IsClockTable, Where, flat_clock, layout}
+use Words.{signs_of, count_at, element_total, IsLayoutOf, sources_of, all_clocks, all_runs}
+use Words.{all_serving, clocks_among, clock_of, IsClock, IsTableClock, AreClocks, ClockId}
+use Rattle.{lb_check.specs.Clocks.Clock, lb_flat.specs.declared.layout.Layout.Layout}
+use Rattle.lb_flat.proofs.clock_tables.{AddedClocks.{AreCounted, clocks_long}, ClockTable.caller_of}
+use Rattle.lb_flat.proofs.clock_tables.ClockTable.{clock_row, first_signed, site_is_own}
 use Rattle.lb_flat.proofs.clock_tables.FilledClocks.{filled_table, own_terms, nodes_found, counted}
-use Rattle.lb_flat.proofs.clock_tables.FilledClocks.{apart}
-use Rattle.lb_flat.proofs.numbering.NumberedPlaces.{signs_are}
+use Rattle.lb_flat.proofs.{clock_tables.FilledClocks.apart, numbering.NumberedPlaces.signs_are}
+use Rattle.lb_flat.proofs.numbering.NumberedRows.{row_count, variables_few}
+use Rattle.lb_flat.proofs.numbering.RowChildren.{row_number_is, variable_place_is}
 use Rattle.lb_flat.proofs.numbering.RowInstances.{IsRow, row_shown}
-use Rattle.lb_flat.proofs.numbering.RowPlaces.{row_number_is, variable_place_is}
-use Rattle.lb_flat.proofs.numbering.CountedRows.{row_count, variables_few}
 use Rattle.lb_flat.proofs.widths.TableSizes.{element_total_is}
 use Rattle.lb_static.specs.declared.table.Instance as row
 use Rattle.lb_flat.specs.declared.equation.Clock as table

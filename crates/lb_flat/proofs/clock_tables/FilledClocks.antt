@@ -1,55 +1,42 @@
 -- The table of clocks that is filled row by row is the table of the formula: each clock of a row is
 -- found in it at its place.
-use Rattle.lb_flat.proofs.Words.{◌≡◌, ℕ, ◌+◌, ◌-◌, ◌*◌, ◌<◌, ◌≤◌, Bool, true, Option, Some, None}
-use Rattle.lb_flat.proofs.Words.{List, [], ◌∷◌, length, map, get_or, refl, ap, ap₂, sym, ◌∙◌, subst}
-use Rattle.lb_flat.proofs.Words.{arith, find, nat_lt, slice_get, list_all, nat_tests, length-map}
-use Rattle.lb_flat.proofs.Words.{take_all, slice_get_within, same_Some, lt-ltb, ◌>>=◌, Every, In}
-use Rattle.lb_flat.proofs.Words.{holds, listed, Name, Expr, Call, Declaration, Node, all_in}
-use Rattle.lb_flat.proofs.Words.{mapped_from, all_at, and_first, and_second, variables, Program}
-use Rattle.lb_flat.proofs.Words.{Instance, Path, Root, Observer, Child, instance_at, instances}
-use Rattle.lb_flat.proofs.Words.{node_named, node_sites, Site, call_site, static_refusal, IsTable}
-use Rattle.lb_flat.proofs.Words.{paths_of, are_distinct, variable_names, IsReached, source_names}
-use Rattle.lb_flat.proofs.Words.{node_of, counts_of, is_variable, named, Reached, CallId}
-use Rattle.lb_flat.proofs.Words.{ResolvedNode, VariableId, InstanceId, Origin, Specialization}
-use Rattle.lb_flat.proofs.Words.{Table, in_at, place_in, check_refusal, are_declared_clocks, Given}
-use Rattle.lb_flat.proofs.Words.{declared_clock, HasFoundClocks, pair_names, Occurrence}
-use Rattle.lb_flat.proofs.Words.{node_occurrences, HasClocks, clock_in, is_clock_within, name_in}
-use Rattle.lb_flat.proofs.Words.{declared_in, CallClock, GivenVariable, NodeClocks, clocked}
-use Rattle.lb_flat.proofs.Words.{call_of, instantiation_kept, declared_within, get_name, IsOwn}
-use Rattle.lb_flat.proofs.Words.{callee_node, find_in, called, path_is, at_path, in_instances}
-use Rattle.lb_flat.proofs.Words.{call_of_site, own_site, site_occurs, row_number, variable_place}
-use Rattle.lb_flat.proofs.Words.{flat_clock, layout, row_numbers, numbers_at, count_at}
-use Rattle.lb_flat.proofs.Words.{variables_before, element_total, Sources, variable_number}
-use Rattle.lb_flat.proofs.Words.{clock_id, found_call, node_at, given_for, caller_number}
-use Rattle.lb_flat.proofs.Words.{no_element, own_element, signed_clock, all_runs, all_serving}
-use Rattle.lb_flat.proofs.Words.{all_clocks, clocks_among, clock_of, ClockId, ElementId}
-use Rattle.std.specs.Prelude.{nat_eq, option_map}
-use Rattle.lb_check.specs.Elements.{numbers_of}
-use Rattle.lb_check.specs.FoundTerms.{given_names, are_parameters, is_call_within, IsFoundCall}
-use Rattle.lb_check.specs.Needs.{call_at, given_to, given_at, serving, serves, site_clock}
-use Rattle.lb_check.specs.PlacedClocks.{call_in}
-use Rattle.lb_check.specs.declared.own_clock.Clock.{Clock}
-use Rattle.lb_check.specs.declared.own_clock.Clock.TheVariants.{Base, On}
-use Rattle.lb_check.proofs.clocking.ClockTests.{declared_is}
-use Rattle.lb_check.proofs.clocking.OwnTermClocks.{term_clocks_own}
-use Rattle.lb_check.proofs.programs.ServedNumbers.{has_first}
-use Rattle.lb_flat.specs.ClockTables.{sign_place, clock_place, IsClockRow, IsClockTable}
-use Rattle.lb_flat.proofs.clock_tables.AddedClocks.{AreCounted, runs_called, runs_first}
-use Rattle.lb_flat.proofs.clock_tables.AddedClocks.{runs_observer}
+use Rattle.lb_flat.proofs.Words
+use Words.{◌≡◌, ℕ, ◌+◌, ◌-◌, ◌*◌, ◌<◌, ◌≤◌, Bool, true, Option, Some, None, List, [], ◌∷◌, length}
+use Words.{map, get_or, refl, ap, ap₂, sym, ◌∙◌, subst, arith, find, nat_lt, slice_get, list_all}
+use Words.{nat_tests, length-map, take_all, slice_get_within, same_Some, lt-ltb, ◌>>=◌, Every, In}
+use Words.{holds, listed, Name, Expr, Call, Declaration, Node, all_in, mapped_from, all_at}
+use Words.{and_first, and_second, variables, Program, Instance, Path, Root, Observer, Child}
+use Words.{instance_at, instances, node_named, node_sites, Site, call_site, static_refusal, IsTable}
+use Words.{paths_of, are_distinct, variable_names, IsReached, source_names, node_of, counts_of}
+use Words.{is_variable, named, Reached, CallId, ResolvedNode, VariableId, InstanceId, Origin}
+use Words.{Specialization, Table, in_at, place_in, check_refusal, are_declared_clocks, Given}
+use Words.{declared_clock, HasFoundClocks, pair_names, Occurrence, node_occurrences, HasClocks}
+use Words.{clock_in, is_clock_within, name_in, declared_in, CallClock, GivenVariable, NodeClocks}
+use Words.{clocked, call_of, instantiation_kept, declared_within, get_name, IsOwn, callee_node}
+use Words.{find_in, called, path_is, at_path, in_instances, call_of_site, own_site, site_occurs}
+use Words.{row_number, variable_place, flat_clock, layout, row_numbers, numbers_at, count_at}
+use Words.{variables_before, element_total, Sources, variable_number, clock_id, found_call, node_at}
+use Words.{given_for, caller_number, no_element, own_element, signed_clock, all_runs, all_serving}
+use Words.{all_clocks, clocks_among, clock_of, ClockId, ElementId, nat_eq, option_map, call_at}
+use Words.{given_to, serving, site_clock, sign_place, clock_place, IsClockTable}
+use Rattle.lb_check.specs.{Elements.numbers_of, FoundTerms.{given_names, are_parameters}}
+use Rattle.lb_check.specs.{FoundTerms.{is_call_within, IsFoundCall}, Needs.{given_at, serves}}
+use Rattle.lb_check.specs.{PlacedClocks.call_in, declared.own_clock.Clock.{Clock, TheVariants.Base}}
+use Rattle.lb_check.specs.declared.own_clock.Clock.TheVariants.{On}
+use Rattle.lb_check.proofs.clocking.{ClockTests.declared_is, OwnTermClocks.term_clocks_own}
+use Rattle.lb_check.proofs.programs.ServedVariables.{has_first}
+use Rattle.lb_flat.{specs.ClockTables.IsClockRow, proofs.clock_tables.AddedClocks.AreCounted}
+use Rattle.lb_flat.proofs.clock_tables.AddedClocks.{runs_called, runs_first, runs_observer}
 use Rattle.lb_flat.proofs.clock_tables.AddedClocks.{serving_own, serving_given, clocks_long}
-use Rattle.lb_flat.proofs.clock_tables.AddedClocks.{clocks_read}
-use Rattle.lb_flat.proofs.clock_tables.ClockTable.{clock_row}
-use Rattle.lb_flat.proofs.numbering.CountedRows.{variables_few, next_before, row_count, count_next}
-use Rattle.lb_flat.proofs.numbering.CountedRows.{before_later}
-use Rattle.lb_flat.proofs.lists.GivenPairs.{found_pair}
-use Rattle.lb_flat.proofs.numbering.NumberedPlaces.{signs_are}
+use Rattle.lb_flat.proofs.clock_tables.{AddedClocks.clocks_read, ClockTable.clock_row}
+use Rattle.lb_flat.proofs.{frames.RowContexts.{own_resolved, own_names}, lists.Lists.found_pair}
+use Rattle.lb_flat.proofs.numbering.{NumberedPlaces.signs_are, NumberedRows.variables_few}
+use Rattle.lb_flat.proofs.numbering.NumberedRows.{next_before, row_count, count_next, before_later}
 use Rattle.lb_flat.proofs.numbering.NumberedRows.{variable_there, row_variables, own_numbers_are}
-use Rattle.lb_flat.proofs.numbering.RowChildren.{called_is, origin_called}
-use Rattle.lb_flat.proofs.frames.RowContexts.{own_resolved, own_names}
-use Rattle.lb_flat.proofs.numbering.RowInstances.{IsRow, origin_path, root_path, observer_path}
-use Rattle.lb_flat.proofs.numbering.RowInstances.{row_of}
+use Rattle.lb_flat.proofs.numbering.RowChildren.{called_is, origin_called, row_number_is}
+use Rattle.lb_flat.proofs.numbering.{RowChildren.variable_place_is, RowInstances.IsRow}
+use Rattle.lb_flat.proofs.numbering.RowInstances.{origin_path, root_path, observer_path, row_of}
 use Rattle.lb_flat.proofs.numbering.RowInstances.{row_shown}
-use Rattle.lb_flat.proofs.numbering.RowPlaces.{row_number_is, variable_place_is}
 use Rattle.lb_static.specs.declared.table.Instance as row
 use Rattle.lb_static.specs.declared.table.Origin.TheVariants as origin
 use Rattle.lb_flat.specs.ClockPlaces as places

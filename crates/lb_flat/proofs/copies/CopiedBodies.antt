@@ -1,45 +1,37 @@
 -- The copies of all instances match the definitions of left variables and of the inputs of callees:
 -- each copy is such a definition, and each definition has its copy.
-use Rattle.lb_flat.proofs.Words.{◌≡◌, ◌⊎◌, inl, inr, ℕ, ◌+◌, true, pos, Option, Some, None, List}
-use Rattle.lb_flat.proofs.Words.{[], ◌∷◌, ◌++◌, map, length, flat_map, zip, refl, sym, ap, ◌∙◌}
-use Rattle.lb_flat.proofs.Words.{subst, arith, list_all, append-nil, length-map, append_assoc}
-use Rattle.lb_flat.proofs.Words.{same_Some, flat_map-append, ArrayIterator, Map, Red, Fill, Every}
-use Rattle.lb_flat.proofs.Words.{In, all_some, where_true, Name, Node_named, Symbol, Expr, Literal}
-use Rattle.lb_flat.proofs.Words.{Truth, Variable, Group, Unary, Binary, If, Arrow, Fby, Pre}
-use Rattle.lb_flat.proofs.Words.{Current, When, Replicate, Index, Slice, Join, Array, AtMostOne}
-use Rattle.lb_flat.proofs.Words.{Nor, Call, Iterate, Statement, Equation, Assertion, and_first}
-use Rattle.lb_flat.proofs.Words.{and_second, Program, Instance, Path, Child, static_count}
-use Rattle.lb_flat.proofs.Words.{node_named, DataType, are_types, are_same, length-all_some}
-use Rattle.lb_flat.proofs.Words.{data_types, unary_type, binary_type, common_type, array_of}
-use Rattle.lb_flat.proofs.Words.{index_type, slice_type, join_type, list_type, iterator_types}
-use Rattle.lb_flat.proofs.Words.{all_types, name_data_type, singly, from_one, from_truths}
-use Rattle.lb_flat.proofs.Words.{operator_types, type_of_name, is_statement_typed, Clock}
-use Rattle.lb_flat.proofs.Words.{declared_clock, ungrouped, Element, Definition, elements_named}
-use Rattle.lb_flat.proofs.Words.{itself, needs, output_elements, defined_as, is_site}
-use Rattle.lb_flat.proofs.Words.{call_definitions, equation_definitions, Occurrence, at, call_count}
-use Rattle.lb_flat.proofs.Words.{call_clocks, occurrences, statement_clock, right_sides, statements}
-use Rattle.lb_flat.proofs.Words.{node_occurrences, History, number, outputs_of, iterated, in_first}
-use Rattle.lb_flat.proofs.Words.{in_second, in_either, truly, FlatClock, Always, FlatEquation}
-use Rattle.lb_flat.proofs.Words.{Layout, flat_clock, State, Target, targets, copied, joins, assert}
-use Rattle.lb_flat.proofs.Words.{call_copies, iterator_copies, emit, emit_all, emit_each, emit_body}
-use Rattle.lb_flat.proofs.Words.{emit_instances}
+use Rattle.lb_flat.proofs.Words
+use Words.{◌≡◌, ◌⊎◌, inl, inr, ℕ, ◌+◌, true, pos, Option, Some, None, List, [], ◌∷◌, ◌++◌, map}
+use Words.{length, flat_map, zip, refl, sym, ap, ◌∙◌, subst, arith, list_all, append-nil}
+use Words.{length-map, append_assoc, same_Some, flat_map-append, ArrayIterator, Map, Red, Fill}
+use Words.{Every, In, all_some, where_true, Name, Node_named, Symbol, Expr, Literal, Truth}
+use Words.{Variable, Group, Unary, Binary, If, Arrow, Fby, Pre, Current, When, Replicate, Index}
+use Words.{Slice, Join, Array, AtMostOne, Nor, Call, Iterate, Statement, Equation, Assertion}
+use Words.{and_first, and_second, Program, Instance, Path, Child, static_count, node_named}
+use Words.{DataType, are_types, are_same, length-all_some, data_types, unary_type, binary_type}
+use Words.{common_type, array_of, index_type, slice_type, join_type, list_type, iterator_types}
+use Words.{all_types, name_data_type, singly, from_one, from_truths, operator_types, type_of_name}
+use Words.{is_statement_typed, declared_clock, ungrouped, Element, Definition, elements_named}
+use Words.{itself, needs, output_elements, defined_as, is_site, call_definitions}
+use Words.{equation_definitions, Occurrence, at, call_count, call_clocks, occurrences}
+use Words.{statement_clock, right_sides, statements, node_occurrences, History, number, outputs_of}
+use Words.{iterated, in_first, in_second, in_either, truly, FlatClock, Always, FlatEquation, Layout}
+use Words.{flat_clock, State, Target, targets, copied, joins, assert, call_copies, iterator_copies}
+use Words.{emit, emit_all, emit_each, emit_body, emit_instances}
+use Rattle.{lb_check.specs.Clocks.Clock, lb_flat.proofs.copies.CopiedCalls.AreMatched}
+use Rattle.lb_flat.proofs.copies.CopiedCalls.{matched-none, matched-append, matched-moved}
+use Rattle.lb_flat.proofs.copies.CopiedCalls.{matched-pairs, IsDefinedBy, IsPassed, ArePassed}
+use Rattle.lb_flat.proofs.copies.CopiedCalls.{called_by, Defines, calls_defined}
 use Rattle.lb_flat.proofs.lists.Lists.{Every-append, Every-first, Every-second}
-use Rattle.lb_flat.proofs.solutions.Bodies.{assert_equations, assert_copies, occurrences_of}
-use Rattle.lb_flat.proofs.solutions.Emission.{joins_equations, joins_copies}
-use Rattle.lb_flat.proofs.widths.PlacedCalls.{lengths_same}
-use Rattle.lb_flat.proofs.widths.TypeFacts.{bound, one, two, from_true, alone, are_counts, constant}
-use Rattle.lb_flat.proofs.widths.TypeFacts.{symbolic}
-use Rattle.lb_flat.proofs.widths.Widths.{called, placed, AreVariablesWide}
 use Rattle.lb_flat.proofs.ordering.LinkSymbols.{iterated_pairs, joins_found, red_out}
-use Rattle.lb_flat.proofs.ordering.LinkWords.{Pairs, pairs-append, AllMeet, AreLinks, Link}
-use Rattle.lb_flat.proofs.ordering.LinkWords.{variable_links}
 use Rattle.lb_flat.proofs.ordering.LinkTerms.{AreNumbered, IsKnown, outputs_numbered, each_output}
-use Rattle.lb_flat.proofs.ordering.LinkTerms.{linked}
-use Rattle.lb_flat.proofs.ordering.LinkTerms.{term_before}
-use Rattle.lb_flat.proofs.copies.CopiedDefinitions.{AreMatched, matched-none, matched-append}
-use Rattle.lb_flat.proofs.copies.CopiedDefinitions.{matched-moved, matched-pairs, IsDefinedBy}
-use Rattle.lb_flat.proofs.copies.CopiedCalls.{IsPassed, ArePassed, called_by, Defines}
-use Rattle.lb_flat.proofs.copies.CopiedCalls.{calls_defined}
+use Rattle.lb_flat.proofs.ordering.{LinkTerms.{linked, term_before}, LinkWords.Pairs}
+use Rattle.lb_flat.proofs.ordering.LinkWords.{pairs-append, AllMeet, AreLinks, Link, variable_links}
+use Rattle.lb_flat.proofs.solutions.Emission.{joins_equations, joins_copies}
+use Rattle.lb_flat.proofs.solutions.Solving.{assert_equations, assert_copies, occurrences_of}
+use Rattle.lb_flat.proofs.widths.{PlacedCalls.lengths_same, TypeFacts.{bound, one, two, from_true}}
+use Rattle.lb_flat.proofs.widths.{TypeFacts.{alone, are_counts, constant, symbolic}, Widths.called}
+use Rattle.lb_flat.proofs.widths.Widths.{placed, AreVariablesWide}
 
 -- ## Expressions with several results
 

@@ -1,20 +1,17 @@
 -- The equations of an expansion give elements of the program: copies give the elements of
 -- variables, and the other equations give the elements after them.
-use Rattle.lb_flat.proofs.Words.{◌≡◌, ℕ, suc, ◌+◌, ◌<◌, ◌≤◌, Option, Some, None, List, [], ◌∷◌}
-use Rattle.lb_flat.proofs.Words.{◌++◌, map, length, flat_map, sym, subst, arith, range_with_len}
-use Rattle.lb_flat.proofs.Words.{ArrayIterator, Every, Name, Declaration, Node, Program, Instance}
-use Rattle.lb_flat.proofs.Words.{Path, Root, Observer, Child, instance_at, instances}
-use Rattle.lb_flat.proofs.Words.{declared_clock, iterator_inputs, FlatEquation, Layout, flat_clock}
-use Rattle.lb_flat.specs.Emit.{State, Target, assert, joins, copied, targets, received, call_copies}
-use Rattle.lb_flat.specs.Emit.{iterator_copies, emit_instances, from_inputs, input_targets}
-use Rattle.lb_flat.specs.Emit.{given_inputs, observed, observed_places, before_instances, expanded}
-use Rattle.lb_flat.proofs.solutions.Bodies.{IsLaidOut, assert_copies, all_closed}
-use Rattle.lb_flat.proofs.solutions.Closing.{Closed, Below}
-use Rattle.lb_flat.proofs.solutions.Emission.{joins_copies}
-use Rattle.lb_flat.proofs.runs.Filling.{Fresh}
-use Rattle.lb_flat.proofs.lists.Lists.{Every-map, Every-append, Every-pieces}
-use Rattle.lb_flat.proofs.emission.EmittedCopies.{add_copies, keep_copies}
-use Rattle.lb_flat.proofs.emission.EmissionSteps.{IsStep, AreJoined, instances_step}
+use Rattle.lb_flat.proofs.Words
+use Words.{◌≡◌, ℕ, suc, ◌+◌, ◌<◌, ◌≤◌, Option, Some, None, List, [], ◌∷◌, ◌++◌, map, length}
+use Words.{flat_map, sym, subst, arith, range_with_len, ArrayIterator, Every, Name, Declaration}
+use Words.{Node, Program, Instance, Path, Root, Observer, Child, instance_at, instances}
+use Words.{declared_clock, iterator_inputs, FlatEquation, Layout, flat_clock, State, Target, joins}
+use Words.{copied, targets, received, call_copies, iterator_copies, emit_instances, from_inputs}
+use Words.{given_inputs, observed, observed_places, before_instances, expanded}
+use Rattle.lb_flat.{specs.Emit.input_targets, proofs.emission.EmissionSteps.add_copies}
+use Rattle.lb_flat.proofs.emission.EmissionSteps.{keep_copies, IsStep, AreJoined, instances_step}
+use Rattle.lb_flat.proofs.{lists.Lists.{Every-map, Every-append, Every-pieces}, runs.Filling.Fresh}
+use Rattle.lb_flat.proofs.solutions.{Closing.{Closed, Below}, Emission.joins_copies}
+use Rattle.lb_flat.proofs.solutions.Solving.{IsLaidOut, assert_copies, all_closed}
 
 -- ## Copies
 

@@ -1,37 +1,36 @@
+-- The inputs that the copies of expressions and instances give.
+use Rattle.lb_flat.proofs.Words
+use Words.{◌≡◌, ℕ, suc, ◌+◌, ◌<◌, ◌≤◌, cond, nat_eq, Option, Some, None, List, [], ◌∷◌, ◌++◌, map}
+use Words.{length, flat_map, refl, sym, ap, ap₂, ◌∙◌, subst, arith, range_with_len, map-append}
+use Words.{length-map, ArrayIterator, Every, some_of, listed, Name, Static, Node_named, Symbol}
+use Words.{Expr, Literal, Truth, Variable, Group, Unary, Binary, If, Arrow, Fby, Pre, Current, When}
+use Words.{Replicate, Index, Slice, Join, Array, AtMostOne, Nor, Call, Iterate, Exprs, Nil, Cons}
+use Words.{Declaration, Node, heads_same, tails_same, named, Program, Instance, Path, Child, Site}
+use Words.{sites, sites_in, call_site, numbered_sites, static_count, instance_count, callee_of}
+use Words.{node_named, DataType, variables, variable_type, are_types, length-all_some, data_types}
+use Words.{all_types, operator_types, Stream, declared_clock, argument_clocks, Occurrence}
+use Words.{call_count, call_clocks, occurrences, occurrences_in, occurrences_each, History}
+use Words.{all_streams, number, iterator_inputs, first_of_all, truly, FlatClock, FlatEquation}
+use Words.{Layout, flat_clock, State, Target, targets, copied, received, call_copies}
+use Words.{iterator_copies, emit_name, emit, emit_all, emit_each, Statement, Equation, Assertion}
+use Words.{node_sites, statement_sites, children, left_names, at, statement_clock, right_sides}
+use Words.{joins, assert, emit_body, emit_instances}
+use Rattle.{std.specs.List.zip, lb_static.specs.Instances.site_instances}
+use Rattle.lb_check.{specs.Clocks.Clock, proofs.programs.OccurrenceSites.numbered_append}
+use Rattle.lb_flat.proofs.emission.EmissionSteps.{add_copies, keep_copies, nor_copies}
+use Rattle.lb_flat.proofs.emission.EmissionSteps.{at_most_one_copies, symbol_copies}
+use Rattle.lb_flat.proofs.lists.Lists.{map-pieces, Every-first, Every-second, Every-of_range, total}
+use Rattle.lb_flat.proofs.lists.Lists.{total-append, total-pieces, total-map, total-same, times}
+use Rattle.lb_flat.proofs.solutions.{Emission.joins_copies, Placing.AreAsWide, Solving.IsWide}
+use Rattle.lb_flat.proofs.solutions.Solving.{assert_copies, occurrences_of}
+use Rattle.lb_flat.proofs.widths.FoundWidths.{length-inputs, all_as_many, each_as_many}
+use Rattle.lb_flat.proofs.widths.{FoundWidths.{length-pieces, as_many}, PlacedCalls.call_as_wide}
+use Rattle.lb_flat.proofs.widths.{PlacedCalls.{iterator_as_wide, lengths_same}, TypeFacts.bound}
+use Rattle.lb_flat.proofs.widths.{TypeFacts.are_counts, Widths.{called, placed, number_is}}
+use Rattle.lb_flat.proofs.widths.Widths.{AreVariablesWide, IsOccurrenceWide, IsTypedAt}
+
 -- The copies that an expression emits give the inputs of the instances that its calls have: each
 -- element as often as it stands among these inputs.
-use Rattle.lb_flat.proofs.Words.{◌≡◌, ℕ, suc, ◌+◌, ◌<◌, ◌≤◌, cond, nat_eq, Option, Some, None, List}
-use Rattle.lb_flat.proofs.Words.{[], ◌∷◌, ◌++◌, map, length, flat_map, refl, sym, ap, ap₂, ◌∙◌}
-use Rattle.lb_flat.proofs.Words.{subst, arith, range_with_len, map-append, length-map}
-use Rattle.lb_flat.proofs.Words.{ArrayIterator, Every, some_of, listed, Name, Static, Node_named}
-use Rattle.lb_flat.proofs.Words.{Symbol, Expr, Literal, Truth, Variable, Group, Unary, Binary, If}
-use Rattle.lb_flat.proofs.Words.{Arrow, Fby, Pre, Current, When, Replicate, Index, Slice, Join}
-use Rattle.lb_flat.proofs.Words.{Array, AtMostOne, Nor, Call, Iterate, Exprs, Nil, Cons}
-use Rattle.lb_flat.proofs.Words.{Declaration, Node, heads_same, tails_same, named, Program}
-use Rattle.lb_flat.proofs.Words.{Instance, Path, Child, Site, sites, sites_in, call_site}
-use Rattle.lb_flat.proofs.Words.{numbered_sites, static_count, instance_count, callee_of}
-use Rattle.lb_flat.proofs.Words.{site_instances, node_named, DataType, variables, variable_type}
-use Rattle.lb_flat.proofs.Words.{are_types, length-all_some, data_types, all_types, operator_types}
-use Rattle.lb_flat.proofs.Words.{Stream, Clock, declared_clock, argument_clocks, Occurrence}
-use Rattle.lb_flat.proofs.Words.{call_count, call_clocks, occurrences, occurrences_in}
-use Rattle.lb_flat.proofs.Words.{occurrences_each, History, all_streams, number, iterator_inputs}
-use Rattle.lb_flat.proofs.Words.{numbered_append, first_of_all, truly, FlatClock, FlatEquation}
-use Rattle.lb_flat.proofs.Words.{Layout, flat_clock, State, Target, targets, copied, received}
-use Rattle.lb_flat.proofs.Words.{call_copies, iterator_copies, emit_name, emit, emit_all, emit_each}
-use Rattle.lb_flat.proofs.lists.Lists.{map-pieces, Every-first, Every-second, Every-of_range}
-use Rattle.lb_flat.proofs.solutions.Placing.{AreAsWide}
-use Rattle.lb_flat.proofs.solutions.Emission.{joins_copies}
-use Rattle.lb_flat.proofs.widths.TypeFacts.{bound, are_counts}
-use Rattle.lb_flat.proofs.widths.Widths.{called, placed, number_is, AreVariablesWide}
-use Rattle.lb_flat.proofs.widths.Widths.{IsOccurrenceWide}
-use Rattle.lb_flat.proofs.widths.PlacedCalls.{call_as_wide, iterator_as_wide, lengths_same}
-use Rattle.lb_flat.proofs.widths.TypedParts.{IsTypedAt}
-use Rattle.lb_flat.proofs.widths.FoundWidths.{length-inputs, all_as_many, each_as_many}
-use Rattle.lb_flat.proofs.emission.EmittedCopies.{add_copies, keep_copies, nor_copies}
-use Rattle.lb_flat.proofs.emission.EmittedCopies.{at_most_one_copies}
-use Rattle.lb_flat.proofs.emission.EmittedCopies.{symbol_copies}
-use Rattle.lb_flat.proofs.lists.Totals.{total, total-append, total-pieces, total-map, total-same}
-use Rattle.lb_flat.proofs.lists.Totals.{times}
 
 -- the elements that equations give
 abbrev pub element_numbers : List FlatEquation → List ℕ
@@ -388,3 +387,141 @@ module _ (Y : Layout) (P : Program) (H : History) (here : Instance)
         (calls_added k n s e (fore oa ob h))
         (each_added ks (n + call_count e) (emit Y P here k n s e).state es f.rest f.others
         (omega (arith, le, ap length f.all)) (aft oa ob h))
+
+-- The copies of all instances give the inputs of what each calls, and its left variables.
+
+-- how often element `i` stands among the elements of the variables `xs` of an instance
+abbrev pub in_names : Layout → ℕ → Instance → List Name → ℕ
+in_names Y i here xs = total (λ d. cond (nat_eq i d) 1 0) (flat_map (Y.places here.path) xs)
+
+-- how often the copies of an instance give element `i`
+abbrev pub in_instance : Layout → Program → ℕ → Instance → ℕ
+in_instance Y P i here =
+    total (in_inputs Y i) (children P here)
+    + in_names Y i here (flat_map left_names here.node.body)
+
+names-append :
+    (Y : Layout) (i : ℕ) (here : Instance) (xs ys : List Name) →
+    in_names Y i here (xs ++ ys) ≡ in_names Y i here xs + in_names Y i here ys
+names-append Y i here xs ys =
+    let one = λ (d : ℕ). cond (nat_eq i d) 1 0 in
+    total-pieces one (Y.places here.path) (xs ++ ys)
+    ∙ (total-append (λ x. total one (Y.places here.path x)) xs ys
+    ∙ ap₂ (λ a b. a + b) (sym (total-pieces one (Y.places here.path) xs))
+    (sym (total-pieces one (Y.places here.path) ys)))
+
+module _ (Y : Layout) (P : Program) (H : History)
+    (same : (p : Path) (x : Name) → length (Y.places p x) ≡ length (H.columns p x)) (i : ℕ) where
+  module _ (here : Instance) (wide : AreVariablesWide P H here here) where
+    abbrev left_targets : List Name → List Target
+    left_targets lefts = flat_map (targets Y here.node here.path) lefts
+
+    lefts_places : (lefts : List Name) →
+        map (λ t. t.place) (left_targets lefts) ≡ flat_map (Y.places here.path) lefts
+    lefts_places lefts =
+        sym (map-pieces (λ (t : Target). t.place) (targets Y here.node here.path)
+        (Y.places here.path) (λ x. target_places _ _) lefts)
+
+    -- the copies of these statements give their left variables and the inputs of their calls
+    record AddsBody (s t : State) (n : ℕ) (body : List Statement) : Type 0 where
+      sum :
+          given_in i t.copies
+          ≡ given_in i s.copies
+          + (total (in_site Y P i here) (numbered_sites n (flat_map statement_sites body))
+          + in_names Y i here (flat_map left_names body))
+
+    lefts_given :
+        (k : _) (n : ℕ) (s : State) (lefts : List Name) (e : _) →
+        IsWide P H here (Equation lefts e) (at k n e) →
+        given_in i (copied (left_targets lefts) (emit Y P here k n s e).found)
+        ≡ in_names Y i here lefts
+    lefts_given k n s lefts e w =
+        let found = (emit Y P here k n s e).found in
+        let as_long : length (left_targets lefts) ≡ length found =
+        sym (length-map (left_targets lefts) (λ t. t.place))
+        ∙ (ap length (lefts_places lefts)
+        ∙ (length-pieces (Y.places here.path) (H.columns here.path) (same here.path) lefts
+        ∙ (w ∙ sym (as_many Y P H here same k n s e)))) in
+        ap (total (λ d. cond (nat_eq i d) 1 0))
+        (copied_gives (left_targets lefts) found as_long ∙ lefts_places lefts)
+
+    body_added :
+        (n : ℕ) (s : State) (body : List Statement) →
+        Every (λ s. IsWide P H here s.0 s.1) (zip body (right_sides P here.node n body)) →
+        Every (IsTypedAt P H here) (occurrences_of P here.node (right_sides P here.node n body)) →
+        AddsBody s (emit_body Y P here n s body) n body
+    unfolding emit_body
+    body_added n s [] w h = record { sum = omega arith }
+    body_added n s (Assertion e ∷ rest) w h =
+        let k = statement_clock P here.node (Assertion e) in
+        let m = n + call_count e in
+        let x = emit Y P here k n s e in
+        let oa = occurrences P here.node k n e in
+        let ob = occurrences_of P here.node (right_sides P here.node m rest) in
+        let a = calls_added Y P H here same wide i k n s e
+        (Every-first (IsTypedAt P H here) oa ob h) in
+        let r = body_added m (assert x) rest w.1 (Every-second (IsTypedAt P H here) oa ob h) in
+        let more = numbered_sites m (flat_map statement_sites rest) in
+        let split : total (in_site Y P i here)
+        (numbered_sites n (sites e ++ flat_map statement_sites rest))
+        ≡ total (in_site Y P i here) (numbered_sites n (sites e))
+        + total (in_site Y P i here) more =
+        ap (total (in_site Y P i here))
+        (numbered_append n (sites e) (flat_map statement_sites rest))
+        ∙ total-append (in_site Y P i here) (numbered_sites n (sites e)) more in
+        let kept = ap (given_in i) (assert_copies x) in
+        let one = a.sum in let two = r.sum in
+        record { sum = omega (arith, one, two, split, kept) }
+    body_added n s (Equation lefts e ∷ rest) w h =
+        let k = statement_clock P here.node (Equation lefts e) in
+        let m = n + call_count e in
+        let x = emit Y P here k n s e in
+        let qs = copied (left_targets lefts) x.found in
+        let t = (joins x.state qs []).state in
+        let oa = occurrences P here.node k n e in
+        let ob = occurrences_of P here.node (right_sides P here.node m rest) in
+        let a = calls_added Y P H here same wide i k n s e
+        (Every-first (IsTypedAt P H here) oa ob h) in
+        let r = body_added m t rest w.1 (Every-second (IsTypedAt P H here) oa ob h) in
+        let more = numbered_sites m (flat_map statement_sites rest) in
+        let split : total (in_site Y P i here)
+        (numbered_sites n (sites e ++ flat_map statement_sites rest))
+        ≡ total (in_site Y P i here) (numbered_sites n (sites e))
+        + total (in_site Y P i here) more =
+        ap (total (in_site Y P i here))
+        (numbered_append n (sites e) (flat_map statement_sites rest))
+        ∙ total-append (in_site Y P i here) (numbered_sites n (sites e)) more in
+        let kept : given_in i t.copies ≡ given_in i x.state.copies + given_in i qs =
+        ap (given_in i) (joins_copies x.state qs []) ∙ given-append i x.state.copies qs in
+        let own = lefts_given k n s lefts e w.0 in
+        let names = names-append Y i here lefts (flat_map left_names rest) in
+        let one = a.sum in let two = r.sum in
+        record { sum = omega (arith, one, two, split, kept, own, names) }
+
+  -- an instance whose variables and statements are typed, with their widths
+  pub record IsReady (here : Instance) : Type 0 where
+    pub variables : AreVariablesWide P H here here
+    pub wide :
+        Every (λ s. IsWide P H here s.0 s.1)
+        (zip here.node.body (right_sides P here.node 0 here.node.body))
+    pub typed :
+        Every (IsTypedAt P H here)
+        (occurrences_of P here.node (right_sides P here.node 0 here.node.body))
+
+  -- the copies of some instances give what each calls and defines
+  pub instances_added :
+      (s : State) (is : List Instance) → Every IsReady is →
+      given_in i (emit_instances Y P s is).copies
+      ≡ given_in i s.copies + total (in_instance Y P i) is
+  unfolding emit_instances
+  instances_added s [] h = omega arith
+  instances_added s (here ∷ rest) h =
+      let t = emit_body Y P here 0 s here.node.body in
+      let a = body_added here h.0.variables 0 s here.node.body h.0.wide h.0.typed in
+      let r = instances_added t rest h.1 in
+      let calls : total (in_inputs Y i) (children P here)
+      ≡ total (in_site Y P i here) (numbered_sites 0 (node_sites here.node)) =
+      total-pieces (in_inputs Y i) (site_instances P here)
+      (numbered_sites 0 (node_sites here.node)) in
+      let one = a.sum in
+      omega (arith, one, r, calls)

@@ -1,47 +1,286 @@
+-- Each element of the expansion of an accepted program has exactly one equation.
+use Rattle.lb_flat.proofs.Words
+use Words.{◌≡◌, ℕ, zero, suc, ◌+◌, ◌≤◌, Option, Some, None, List, [], ◌∷◌, flat_map, refl, sym, ap}
+use Words.{ap₂, ◌∙◌, arith, Every, listed, Program, Instance, Root, Observer, instance_at, children}
+use Words.{instances, level, Every-map, Every-both, Every-first, Every-second, path_is, ◌⊎◌, inl}
+use Words.{inr, Bool, true, false, cond, nat_eq, ◌++◌, map, subst, list_all, bytes_eq, sum_by-cons}
+use Words.{bytes_eq-Decides, map-append, eqb-true, In, all_some, Name, Declaration, Node, Statement}
+use Words.{Equation, Assertion, and_first, and_second, named, DataType, variables, are_same}
+use Words.{are_distinct, among, left_names, variable_names, in_map, map_in, any_in, found_passes}
+use Words.{type_of_name, is_statement_typed, data_types, in_either, Every-at, find_in, bound, ◌<◌}
+use Words.{IfSome, length, range_with_len, cases_lt, length-map, holds, unless, width, Path}
+use Words.{static_refusal, is_root, check_refusal, declared_clock, program_elements, columns_at}
+use Words.{History, is_typed, Every-from, second_none, kept, instantiation_kept, Every-all}
+use Words.{Every-append, variables_distinct, IsEntered, all_entered, statements_typed, FlatEquation}
+use Words.{column, history_of, IsGiven, Layout, flat_clock, layout, clock_reads, reads, keeps}
+use Words.{equation_reads, State, Target, targets, before_instances, emit_instances, from_inputs}
+use Words.{given_inputs, observed_places, observed, expanded, not, count_by}
+use Rattle.{lb_syntax.specs.Refusals.{E9, E10, E11}, lb_static.specs.Instances.instances_from}
+use Rattle.lb_check.specs.{ClockRules.is_clocked, DefinitionRules.{definition_count, defines_once}}
+use Rattle.lb_check.{specs.DefinitionRules.is_defined, proofs.lists.Members.Every-tested}
+use Rattle.lb_check.proofs.{lists.Members.{Every-piece, flat_same}, programs.SameHistories.deeper}
+use Rattle.lb_flat.{specs.Emit.input_targets, proofs.copies.GivenCalls.{IsReady, in_names}}
+use Rattle.lb_flat.proofs.copies.GivenCalls.{in_instance, instances_added, element_numbers}
+use Rattle.lb_flat.proofs.copies.GivenCalls.{target_places, received_gives, in_inputs, given_in}
+use Rattle.lb_flat.proofs.{copies.GivenCalls.given-append, lists.Lists.{total, total-append}}
+use Rattle.lb_flat.proofs.lists.Lists.{total-plus, total-same, total-pieces, is_name, named_in}
+use Rattle.lb_flat.proofs.lists.Lists.{in_named, map-pieces, total-map, times, times_of, of_times}
+use Rattle.lb_flat.proofs.lists.Lists.{once_apart, range_low, range_high, range_once, same_sums}
+use Rattle.lb_flat.proofs.numbering.NumberedPlaces.{places_walk, places_width, is_laid_out}
+use Rattle.lb_flat.proofs.{runs.Filling.Fresh, solutions.{Closing.Closed, Placing.AreAsWide}}
+use Rattle.lb_flat.proofs.solutions.{Solving.all_closed, Watching.all_places}
+use Rattle.lb_flat.proofs.widths.{PlacedCalls.body_wide, PropertyOutput.rooted}
+use Rattle.lb_flat.proofs.widths.{SoundInstances.{body_typed, calls_wide}, TypeFacts.each}
+
+-- Every instance is a start or is called by exactly one instance. So the sum over all instances is
+-- the sum over the starts, plus the sum over the instances that each instance calls.
+
+module _ (P : Program) where
+  abbrev Low : Instance → Type 0
+  Low c = level P c.path ≤ 64
+
+  -- if all instances are low, n levels find the same instances as n + 1 levels
+  enough : (n : ℕ) (here : Instance) → level P here.path + n ≡ 65 →
+      Every Low (instances_from P (suc n) here) →
+      instances_from P (suc n) here ≡ instances_from P n here
+  enough zero here e h = let top = h.0 in absurd (omega (arith, e, top))
+  enough (suc n) here e h =
+      let each = Every-piece Low (instances_from P (suc n)) (children P here) h.1 in
+      ap (λ cs. here ∷ cs)
+      (flat_same (instances_from P (suc n)) (instances_from P n) (children P here)
+      (Every-map _ _ (λ c z. enough n c (below (level P here.path) (level P c.path) e z.0) z.1)
+      (children P here) (Every-both _ _ (children P here) (deeper P here) each)))
+    where
+      below : (l m : ℕ) → l + suc n ≡ 65 → m ≡ suc l → m + n ≡ 65
+      below l m e is = omega (arith, e, is)
+
+  module _ (f : Instance → ℕ) where
+    abbrev of_children : Instance → ℕ
+    of_children c = total f (children P c)
+
+    deeper_sums : (n : ℕ) (cs : List Instance) →
+        Every (λ c. total f (instances_from P (suc n) c)
+        ≡ f c + total of_children (instances_from P n c)) cs →
+        total f (flat_map (instances_from P (suc n)) cs)
+        ≡ total f cs + total of_children (flat_map (instances_from P n) cs)
+    deeper_sums n cs h =
+        total-pieces f (instances_from P (suc n)) cs
+        ∙ (total-same (λ c. total f (instances_from P (suc n) c))
+        (λ c. f c + total of_children (instances_from P n c)) cs h
+        ∙ (total-plus f (λ c. total of_children (instances_from P n c)) cs
+        ∙ ap (λ m. total f cs + m)
+        (sym (total-pieces of_children (instances_from P n) cs))))
+
+    no_sum : (cs : List Instance) → total f (flat_map (instances_from P 0) cs) ≡ 0
+    no_sum [] = refl
+    no_sum (c ∷ cs) = no_sum cs
+
+    each_sum :
+        (n : ℕ) →
+        ((c : Instance) → total f (instances_from P (suc n) c)
+        ≡ f c + total of_children (instances_from P n c)) → (cs : List Instance) →
+        Every (λ c. total f (instances_from P (suc n) c)
+        ≡ f c + total of_children (instances_from P n c)) cs
+    each_sum n h [] = tt
+    each_sum n h (c ∷ cs) = (h c, each_sum n h cs)
+
+    from_sum : (n : ℕ) (here : Instance) →
+        total f (instances_from P (suc n) here)
+        ≡ f here + total of_children (instances_from P n here)
+    from_sum zero here = ap (λ m. f here + m) (no_sum (children P here))
+    from_sum (suc n) here =
+        ap (λ m. f here + m)
+        (deeper_sums n (children P here) (each_sum n (from_sum n) (children P here)))
+
+    full_sum :
+        (n : ℕ) (here : Instance) → level P here.path + n ≡ 65 →
+        Every Low (instances_from P (suc n) here) →
+        total f (instances_from P (suc n) here)
+        ≡ f here + total of_children (instances_from P (suc n) here)
+    full_sum n here e h =
+        from_sum n here ∙ ap (λ cs. f here + total of_children cs) (sym (enough n here e h))
+
+    regrouped : (a b : ℕ) → a + b ≡ (a + 0) + b
+    regrouped a b = omega arith
+
+    crossed : (a b c d : ℕ) → (a + b) + (c + d) ≡ a + (c + (b + d))
+    crossed a b c d = omega arith
+
+    start_sum :
+        (o : Option Instance) → ((c : Instance) → o ≡ Some c → level P c.path ≡ 1) →
+        Every Low (listed (instances_from P 65) o) →
+        total f (listed (instances_from P 65) o)
+        ≡ total f (listed (λ c. c ∷ []) o) + total of_children (listed (instances_from P 65) o)
+    start_sum None top h = refl
+    start_sum (Some c) top h =
+        full_sum 64 c (deep (top c refl)) h
+        ∙ regrouped (f c) (total of_children (instances_from P 65 c))
+      where
+        deep : level P c.path ≡ 1 → level P c.path + 64 ≡ 65
+        deep e = omega (arith, e)
+
+    -- the sum over all instances
+    pub instances_sum :
+        Every Low (instances P) →
+        total f (instances P)
+        ≡ total f (listed (λ c. c ∷ []) (instance_at P Root))
+        + (total f (listed (λ c. c ∷ []) (instance_at P Observer))
+        + total of_children (instances P))
+    instances_sum h =
+        let of_root = listed (instances_from P 65) (instance_at P Root) in
+        let of_observer = listed (instances_from P 65) (instance_at P Observer) in
+        let root = start_sum (instance_at P Root)
+        (λ c e. ap (level P) (path_is P Root c e)) (Every-first Low of_root of_observer h) in
+        let observer = start_sum (instance_at P Observer)
+        (λ c e. ap (level P) (path_is P Observer c e)) (Every-second Low of_root of_observer h) in
+        total-append f of_root of_observer
+        ∙ (ap₂ (λ a b. a + b) root observer
+        ∙ (crossed (total f (listed (λ c. c ∷ []) (instance_at P Root)))
+        (total of_children of_root) (total f (listed (λ c. c ∷ []) (instance_at P Observer)))
+        (total of_children of_observer)
+        ∙ ap (λ m. total f (listed (λ c. c ∷ []) (instance_at P Root))
+        + (total f (listed (λ c. c ∷ []) (instance_at P Observer)) + m))
+        (sym (total-append of_children of_root of_observer))))
+
+-- In a node that defines each output and local once, and no input, the left variables are its
+-- outputs and locals, each once.
+
+-- ## The count of a name in a list
+
+count_is : (x : Name) (ys : List Name) → count_by (bytes_eq x) ys ≡ total (is_name x) ys
+count_is x [] = refl
+count_is x (y ∷ ys) =
+    sum_by-cons (λ z. cond (bytes_eq x z) 1 0) y ys ∙ ap (λ a. is_name x y + a) (count_is x ys)
+
+none_of : (n : ℕ) → (1 ≤ n → ⊥) → n ≡ 0
+none_of zero f = refl
+none_of (suc n) f = absurd (f (omega arith))
+
+absent : (x : Name) (ys : List Name) → (In x ys → ⊥) → total (is_name x) ys ≡ 0
+absent x ys f = none_of (total (is_name x) ys) (λ le. f (named_in x ys le))
+
+not_both : (b : Bool) → not b ≡ true → b ≡ true → ⊥
+not_both true p q = absurd cc
+not_both false p q = absurd cc
+
+-- a name stands at most once in a list of distinct names
+distinct_once :
+    (x : Name) (ys : List Name) → are_distinct ys ≡ true → total (is_name x) ys ≤ 1
+distinct_once x [] e = omega arith
+distinct_once x (y ∷ ys) e = by (bytes_eq x y) refl (distinct_once x ys (and_second _ _ e))
+  where
+    by : (b : Bool) → bytes_eq x y ≡ b → total (is_name x) ys ≤ 1 →
+        cond b 1 0 + total (is_name x) ys ≤ 1
+    by true is le =
+        let same = (bytes_eq-Decides x y).0 is in
+        let none = absent x ys (λ i.
+        not_both (among y ys) (and_first (not (among y ys)) _ e)
+        (any_in (bytes_eq y) ys x i ((bytes_eq-Decides y x).1 (sym same)))) in
+        omega (arith, none)
+    by false is le = omega (arith, le)
+
+-- ## Left variables
+
+module _ (P : Program) (here : Instance) where
+  known : (x : Name) (t : DataType) → type_of_name P here x ≡ Some t →
+      In x (variable_names here.node)
+  known x t e =
+      let test = λ (d : Declaration). bytes_eq d.name x in
+      let b = bound (named (λ d. d.name) x (variables here.node)) _ t e in
+      let is_in = find_in test (variables here.node) b.value b.is in
+      let same = (bytes_eq-Decides b.value.name x).0
+      (found_passes test (variables here.node) b.value b.is) in
+      subst (λ y. In y (variable_names here.node)) same
+      (in_map (λ d. d.name) (variables here.node) b.value is_in)
+
+  all_known : (xs : List Name) (ts : List DataType) →
+      all_some (map (type_of_name P here) xs) ≡ Some ts → (x : Name) → In x xs →
+      In x (variable_names here.node)
+  all_known [] ts e x i = absurd i
+  all_known (y ∷ xs) ts e x (inl same) =
+      let h = each (type_of_name P here y) (map (type_of_name P here) xs) ts e in
+      subst (λ z. In z (variable_names here.node)) same (known y h.first h.is)
+  all_known (y ∷ xs) ts e x (inr i) =
+      let h = each (type_of_name P here y) (map (type_of_name P here) xs) ts e in
+      all_known xs h.rest h.others x i
+
+  second_there : (o p : Option (List DataType)) → are_same P o p ≡ true →
+      (ts : List DataType) × (p ≡ Some ts)
+  second_there (Some ss) (Some ts) e = (ts, refl)
+  second_there _ _ e = absurd cc
+
+  -- the left variables of typed statements are variables
+  pub lefts_known :
+      (body : List Statement) → list_all (is_statement_typed P here) body ≡ true → (x : Name) →
+      In x (flat_map left_names body) → In x (variable_names here.node)
+  lefts_known [] e x i = absurd i
+  lefts_known (Assertion a ∷ rest) e x i =
+      lefts_known rest (and_second (is_statement_typed P here (Assertion a)) _ e) x i
+  lefts_known (Equation lefts a ∷ rest) e x i =
+      by (in_either x lefts (flat_map left_names rest) i)
+      (lefts_known rest (and_second (is_statement_typed P here (Equation lefts a)) _ e) x)
+    where
+      by : In x lefts ⊎ In x (flat_map left_names rest) →
+          (In x (flat_map left_names rest) → In x (variable_names here.node)) →
+          In x (variable_names here.node)
+      by (inl j) later =
+          let ts = second_there (data_types P here a) (all_some (map (type_of_name P here) lefts))
+          (and_first (is_statement_typed P here (Equation lefts a)) _ e) in
+          all_known lefts ts.0 ts.1 x j
+      by (inr j) later = later j
+
+module _ (n : Node) (distinct : are_distinct (variable_names n) ≡ true)
+    (once : defines_once n ≡ true)
+    (variable : (x : Name) → In x (flat_map left_names n.body) → In x (variable_names n)) where
+  abbrev lefts : List Name
+  lefts = flat_map left_names n.body
+
+  abbrev ins : List Name
+  ins = map (λ d. d.name) n.inputs
+
+  abbrev inner : List Name
+  inner = map (λ d. d.name) (n.outputs ++ n.locals)
+
+  split : (x : Name) →
+      total (is_name x) (variable_names n) ≡ total (is_name x) ins + total (is_name x) inner
+  split x =
+      ap (total (is_name x)) (map-append (λ d. d.name) n.inputs (n.outputs ++ n.locals))
+      ∙ total-append (is_name x) ins inner
+
+  defined : (x : Name) (m : ℕ) (ds : List Declaration) →
+      list_all (λ d. nat_eq (definition_count n d.name) m) ds ≡ true →
+      In x (map (λ d. d.name) ds) → total (is_name x) lefts ≡ m
+  defined x m ds all i =
+      let d = map_in (λ d. d.name) ds x i in
+      let test = Every-at (λ d. nat_eq (definition_count n d.name) m ≡ true) ds d.0
+      (Every-tested (λ d. nat_eq (definition_count n d.name) m) ds all) d.1 in
+      let count = eqb-true (definition_count n d.0.name) m test in
+      subst (λ y. total (is_name y) lefts ≡ m) d.2 (sym (count_is d.0.name lefts) ∙ count)
+
+  -- the left variables are the outputs and locals, each once
+  pub lefts_same : (x : Name) → total (is_name x) lefts ≡ total (is_name x) inner
+  lefts_same x = by (total (is_name x) inner) refl
+    where
+      by : (m : ℕ) → total (is_name x) inner ≡ m → total (is_name x) lefts ≡ m
+      by zero e = none_of (total (is_name x) lefts) (λ le.
+          let there = in_named x (variable_names n) (variable x (named_in x lefts le)) in
+          let parts = split x in
+          let input = named_in x ins (omega (arith, there, parts, e)) in
+          let none = defined x 0 n.inputs
+          (and_second (list_all (λ d. nat_eq (definition_count n d.name) 1) (n.outputs ++ n.locals))
+          _ once) input in
+          absurd (omega (arith, none, le)))
+      by (suc m) e =
+          let there = named_in x inner (omega (arith, e)) in
+          let one = defined x 1 (n.outputs ++ n.locals)
+          (and_first (list_all (λ d. nat_eq (definition_count n d.name) 1) (n.outputs ++ n.locals))
+          _ once) there in
+          let few = distinct_once x (variable_names n) distinct in
+          let parts = split x in
+          omega (arith, one, few, parts, e)
+
 -- Each element of the expansion of an accepted program whose rules hold has exactly one equation,
 -- and the equation of a temporary reads only lower elements.
-use Rattle.lb_flat.proofs.Words.{◌≡◌, ◌⊎◌, inl, inr, ℕ, suc, ◌+◌, ◌<◌, ◌≤◌, true, cond, nat_eq}
-use Rattle.lb_flat.proofs.Words.{Option, Some, None, IfSome, List, [], ◌∷◌, ◌++◌, map, length}
-use Rattle.lb_flat.proofs.Words.{flat_map, refl, sym, ap, ap₂, ◌∙◌, subst, arith, list_all}
-use Rattle.lb_flat.proofs.Words.{range_with_len, cases_lt, length-map, Every, In, listed, holds}
-use Rattle.lb_flat.proofs.Words.{unless, Name, Declaration, and_first, variables, width, Program}
-use Rattle.lb_flat.proofs.Words.{Instance, Path, Root, Observer, instance_at, children, instances}
-use Rattle.lb_flat.proofs.Words.{level, static_refusal, is_root, are_distinct, left_names}
-use Rattle.lb_flat.proofs.Words.{variable_names, in_map, check_refusal, declared_clock}
-use Rattle.lb_flat.proofs.Words.{defines_once, program_elements, columns_at, History, is_typed}
-use Rattle.lb_flat.proofs.Words.{Every-at, Every-from, second_none, kept, instantiation_kept}
-use Rattle.lb_flat.proofs.Words.{Every-map, Every-tested, Every-all, Every-append, Every-first}
-use Rattle.lb_flat.proofs.Words.{Every-second, variables_distinct, path_is, IsEntered, all_entered}
-use Rattle.lb_flat.proofs.Words.{statements_typed, FlatEquation, column, history_of, IsGiven}
-use Rattle.lb_flat.proofs.Words.{Layout, flat_clock, layout, clock_reads, reads, keeps}
-use Rattle.lb_flat.proofs.Words.{equation_reads, State, Target, targets, before_instances}
-use Rattle.lb_flat.proofs.Words.{emit_instances, from_inputs, given_inputs, observed_places}
-use Rattle.lb_flat.proofs.Words.{observed, expanded}
-use Rattle.lb_syntax.specs.Refusals.{E9, E10, E11}
-use Rattle.lb_check.specs.ClockRules.{is_clocked}
-use Rattle.lb_check.specs.DefinitionRules.{is_defined}
-use Rattle.lb_flat.specs.Emit.{input_targets}
-use Rattle.lb_flat.proofs.solutions.Bodies.{all_closed}
-use Rattle.lb_flat.proofs.copies.ChildSums.{instances_sum}
-use Rattle.lb_flat.proofs.solutions.Closing.{Closed}
-use Rattle.lb_flat.proofs.copies.DefinedNames.{lefts_known, lefts_same}
-use Rattle.lb_flat.proofs.runs.Filling.{Fresh}
-use Rattle.lb_flat.proofs.copies.GivenBodies.{IsReady, in_names, in_instance, instances_added}
-use Rattle.lb_flat.proofs.copies.GivenCalls.{element_numbers, target_places, received_gives}
-use Rattle.lb_flat.proofs.copies.GivenCalls.{in_inputs}
-use Rattle.lb_flat.proofs.copies.GivenCalls.{given_in, given-append}
-use Rattle.lb_flat.proofs.lists.Lists.{map-pieces}
-use Rattle.lb_flat.proofs.numbering.NumberedPlaces.{places_walk, places_width, is_laid_out}
-use Rattle.lb_flat.proofs.runs.Observing.{all_places}
-use Rattle.lb_flat.proofs.solutions.Placing.{AreAsWide}
-use Rattle.lb_flat.proofs.widths.SoundInstances.{body_typed}
-use Rattle.lb_flat.proofs.widths.TypedBodies.{body_wide}
-use Rattle.lb_flat.proofs.widths.WideInstances.{calls_wide}
-use Rattle.lb_flat.proofs.lists.Totals.{total, total-append, total-plus, total-same, total-map}
-use Rattle.lb_flat.proofs.lists.Totals.{total-pieces, times, times_of, of_times, once_apart}
-use Rattle.lb_flat.proofs.lists.Totals.{range_low}
-use Rattle.lb_flat.proofs.lists.Totals.{range_high, range_once, same_sums}
-use Rattle.lb_flat.proofs.widths.PropertyOutput.{rooted}
 
 -- ## Temporaries
 
@@ -91,11 +330,11 @@ each_count f g e (x ∷ xs) = ap₂ (λ a b. a ∷ b) (e x) (each_count f g e xs
 -- ## Variables of an instance
 
 module _ (Y : Layout) (i : ℕ) (here : Instance) where
-  abbrev inner : List Declaration
-  inner = here.node.outputs ++ here.node.locals
+  abbrev inner_declarations : List Declaration
+  inner_declarations = here.node.outputs ++ here.node.locals
 
   abbrev inner_names : List Name
-  inner_names = map (λ d. d.name) inner
+  inner_names = map (λ d. d.name) inner_declarations
 
   abbrev one : ℕ → ℕ
   one j = cond (nat_eq i j) 1 0
@@ -112,10 +351,10 @@ module _ (Y : Layout) (i : ℕ) (here : Instance) where
   variables_are =
       let own = λ (d : Declaration). Y.places here.path d.name in
       let inputs = here.node.inputs in
-      total-pieces one own (inputs ++ inner)
-      ∙ (total-append (λ d. total one (own d)) inputs inner
+      total-pieces one own (inputs ++ inner_declarations)
+      ∙ (total-append (λ d. total one (own d)) inputs inner_declarations
       ∙ ap₂ (λ a b. a + b) (sym (total-pieces one own inputs))
-      (sym (total-map (λ x. total one (Y.places here.path x)) (λ d. d.name) inner)
+      (sym (total-map (λ x. total one (Y.places here.path x)) (λ d. d.name) inner_declarations)
       ∙ sym (names_are inner_names)))
 
   -- the elements of left variables are the elements of the variables that are no inputs
@@ -156,8 +395,8 @@ module _ (P : Program) (accepted : static_refusal P ≡ None) (checked : check_r
       Every-map _ _ (λ d e. sym (same here.path d.name) ∙ e) (variables here.node)
       (places_width P accepted here j)
 
-  defined : Every (λ here. is_defined P here.node ≡ true) (instances P)
-  defined =
+  all_defined : Every (λ here. is_defined P here.node ≡ true) (instances P)
+  all_defined =
       let clocks = second_none (unless (list_all (is_typed P) (instances P)) E9) _ checked in
       let rest = second_none
       (unless (list_all (λ here. is_clocked P here.node) (instances P)) E10) _ clocks in
@@ -197,14 +436,14 @@ module _ (P : Program) (accepted : static_refusal P ≡ None) (checked : check_r
         (Every-at (λ c. are_distinct (variable_names c.node) ≡ true) (instances P) here
         (variables_distinct P accepted) j)
         (and_first (defines_once here.node) _
-        (Every-at (λ here. is_defined P here.node ≡ true) (instances P) here defined j))
+        (Every-at (λ here. is_defined P here.node ≡ true) (instances P) here all_defined j))
         (lefts_known P here here.node.body (statements_typed P checked here j)))
 
     abbrev starts : Option Instance → ℕ
     starts o = total (in_inputs Y i) (listed (λ c. c ∷ []) o)
 
-    regrouped : (a b c d : ℕ) → (a + (b + c)) + d ≡ a + (b + (c + d))
-    regrouped a b c d = omega arith
+    sums_regrouped : (a b c d : ℕ) → (a + (b + c)) + d ≡ a + (b + (c + d))
+    sums_regrouped a b c d = omega arith
 
     -- all elements of variables: the inputs of the starts, and what each instance gives
     places_are :
@@ -221,7 +460,7 @@ module _ (P : Program) (accepted : static_refusal P ≡ None) (checked : check_r
         (Every-all _ (λ here. variables_are Y i here) all)
         ∙ (total-plus (in_inputs Y i) of_inner all
         ∙ (ap (λ m. m + total of_inner all) (instances_sum P (in_inputs Y i) low)
-        ∙ (regrouped (starts (instance_at P Root)) (starts (instance_at P Observer))
+        ∙ (sums_regrouped (starts (instance_at P Root)) (starts (instance_at P Observer))
         (total of_calls all) (total of_inner all)
         ∙ ap (λ m. starts (instance_at P Root) + (starts (instance_at P Observer) + m))
         (sym (total-plus of_calls of_inner all)
@@ -312,8 +551,8 @@ module _ (P : Program) (accepted : static_refusal P ≡ None) (checked : check_r
   abbrev furthers : ℕ
   furthers = length final.equations
 
-  crossed : (a b c d : ℕ) → a + (b + (c + d)) ≡ (a + (b + c)) + d
-  crossed a b c d = omega arith
+  sums_crossed : (a b c d : ℕ) → a + (b + (c + d)) ≡ (a + (b + c)) + d
+  sums_crossed a b c d = omega arith
 
   -- the equations give the first elements and the temporaries
   equations_are :
@@ -324,7 +563,7 @@ module _ (P : Program) (accepted : static_refusal P ≡ None) (checked : check_r
       ∙ (ap (λ m. given_in i of_root + m)
       (given-append i of_observer (final.copies ++ final.equations)
       ∙ ap (λ m. given_in i of_observer + m) (given-append i final.copies final.equations))
-      ∙ (crossed (given_in i of_root) (given_in i of_observer) (given_in i final.copies)
+      ∙ (sums_crossed (given_in i of_root) (given_in i of_observer) (given_in i final.copies)
       (given_in i final.equations)
       ∙ ap₂ (λ a b. a + b) (firsts_are i)
       (ap (times i) (fresh_numbers count final.equations closed.fresh))))

@@ -1,18 +1,19 @@
+-- Relations of states that hold along each word of emission: what it keeps and what it adds.
+use Rattle.lb_flat.proofs.Words
+use Words.{ℕ, ◌+◌, false, Option, Some, None, List, [], ◌∷◌, flat_map, BinaryOperator, Or, And}
+use Words.{ArrayIterator, Map, Red, zip2, Name, Node_named, Symbol, Expr, Literal, Truth, Variable}
+use Words.{Group, Unary, Binary, If, Arrow, Fby, Pre, Current, When, Replicate, Index, Slice, Join}
+use Words.{Array, AtMostOne, Nor, Call, Iterate, Exprs, Nil, Cons, Declaration, Statement, Equation}
+use Words.{Assertion, Program, Instance, Path, Child, node_named, Boolean, call_count, call_clocks}
+use Words.{statement_clock, number, outputs_of, iterated, FlatClock, FlatEquation, Operation}
+use Words.{Constant, ApplyBinary, Layout, State, Emitted, add, keep, assert, joins, copied, targets}
+use Words.{push, chained, twice, emit_nor, emit_at_most_one, emit_symbol, emit_name, call_copies}
+use Words.{iterator_copies, emit, emit_all, emit_each, emit_body, emit_instances, ◌≡◌, refl, ◌∙◌}
+use Words.{◌++◌}
+use Rattle.lb_check.specs.Clocks.{Clock}
+
 -- If a relation of states holds along each word of emission, it holds between the states before and
 -- after emitting expressions, statements and instances.
-use Rattle.lb_flat.proofs.Words.{ℕ, ◌+◌, false, Option, Some, None, List, [], ◌∷◌, flat_map}
-use Rattle.lb_flat.proofs.Words.{BinaryOperator, Or, And, ArrayIterator, Map, Red, zip2, Name}
-use Rattle.lb_flat.proofs.Words.{Node_named, Symbol, Expr, Literal, Truth, Variable, Group, Unary}
-use Rattle.lb_flat.proofs.Words.{Binary, If, Arrow, Fby, Pre, Current, When, Replicate, Index}
-use Rattle.lb_flat.proofs.Words.{Slice, Join, Array, AtMostOne, Nor, Call, Iterate, Exprs, Nil}
-use Rattle.lb_flat.proofs.Words.{Cons, Declaration, Statement, Equation, Assertion, Program}
-use Rattle.lb_flat.proofs.Words.{Instance, Path, Child, node_named, Boolean, Clock, call_count}
-use Rattle.lb_flat.proofs.Words.{call_clocks, statement_clock, number, outputs_of, iterated}
-use Rattle.lb_flat.proofs.Words.{FlatClock, FlatEquation, Operation, Constant, ApplyBinary, Layout}
-use Rattle.lb_flat.proofs.Words.{State, Emitted, add, keep, assert, joins, copied, targets, push}
-use Rattle.lb_flat.proofs.Words.{chained, twice, emit_nor, emit_at_most_one, emit_symbol, emit_name}
-use Rattle.lb_flat.proofs.Words.{call_copies, iterator_copies, emit, emit_all, emit_each, emit_body}
-use Rattle.lb_flat.proofs.Words.{emit_instances}
 
 -- a relation that is reflexive and transitive, and that holds when elements are added
 pub record IsAdding (R : State → State → Type 0) : Type 0 where
@@ -200,3 +201,78 @@ module _ (Q : List FlatEquation → Type 0) (R : State → State → Type 0) (w 
     instances_step s (here ∷ is) =
         w.adding.both s _ _ (body_step here 0 s here.node.body)
         (instances_step (emit_body Y P here 0 s here.node.body) is)
+
+-- The small words of expansion copy nothing.
+
+pub add_copies : (k : FlatClock) (s : State) (os : List Operation) →
+    (add k s os).state.copies ≡ s.copies
+unfolding add
+add_copies k s os = refl
+
+pub keep_copies : (x : Emitted) → (keep x).state.copies ≡ x.state.copies
+unfolding keep
+keep_copies x = refl
+
+abbrev Copies : State → State → Type 0
+Copies s t = t.copies ≡ s.copies
+
+copying : IsAdding Copies
+copying = record { none = λ s. refl; both = λ s t u a b. b ∙ a; adds = add_copies }
+
+pub name_copies :
+    (Y : Layout) (P : Program) (here : Instance) (k : Clock) (s : State) (x : Name)
+    (d : Option Declaration) → (emit_name Y P here k s x d).state.copies ≡ s.copies
+name_copies = name_step Copies copying
+
+pub nor_copies : (k : FlatClock) (s : State) (is : List ℕ) →
+    (emit_nor k s is).state.copies ≡ s.copies
+nor_copies = nor_step Copies copying
+
+pub at_most_one_copies : (k : FlatClock) (s : State) (is : List ℕ) →
+    (emit_at_most_one k s is).state.copies ≡ s.copies
+at_most_one_copies = at_most_one_step Copies copying
+
+pub symbol_copies :
+    (k : FlatClock) (op : BinaryOperator) (s : State) (it : ArrayIterator)
+    (found : List (List ℕ)) → (emit_symbol k op s it found).state.copies ≡ s.copies
+symbol_copies = symbol_step Copies copying
+
+-- Expressions leave the list of asserted elements as it was.
+
+add_asserted :
+    (k : FlatClock) (s : State) (os : List Operation) → (add k s os).state.asserted ≡ s.asserted
+unfolding add
+add_asserted k s os = refl
+
+keep_asserted : (x : Emitted) → (keep x).state.asserted ≡ x.state.asserted
+unfolding keep
+keep_asserted x = refl
+
+pub joins_asserted :
+    (s : State) (qs : List FlatEquation) (is : List ℕ) →
+    (joins s qs is).state.asserted ≡ s.asserted
+unfolding joins
+joins_asserted s qs is = refl
+
+pub assert_asserted : (x : Emitted) → (assert x).asserted ≡ x.state.asserted ++ x.found
+unfolding assert
+assert_asserted x = refl
+
+pub assert_kept : (x : Emitted) → (assert x).memory_operands ≡ x.state.memory_operands
+unfolding assert
+assert_kept x = refl
+
+abbrev Asserts : State → State → Type 0
+Asserts s t = t.asserted ≡ s.asserted
+
+asserting : IsStep Any Asserts
+asserting = record {
+  adding = record { none = λ s. refl; both = λ s t u a b. b ∙ a; adds = add_asserted };
+  keeps = keep_asserted;
+  joining = λ s qs is q. joins_asserted s qs is;
+}
+
+pub asserts :
+    (Y : Layout) (P : Program) (here : Instance) (k : Clock) (n : ℕ) (s : State) (e : Expr) →
+    (emit Y P here k n s e).state.asserted ≡ s.asserted
+asserts Y P here = emit_step Any Asserts asserting Y (any_joined Y) P here

@@ -1,22 +1,25 @@
+-- The words of the code that expand calls and the beginning of a flat program.
+use Rattle.lb_flat.proofs.Words
+use Words.{◌≡◌, ◌<◌, ◌≤◌, ℕ, zero, suc, ◌+◌, ◌*◌, ◌-◌, List, [], ◌∷◌, ◌++◌, length, take, drop}
+use Words.{get_or, min, arith, refl, sym, ap, ap₂, subst, ◌∙◌, nat_le, range_with_len, nat_tests}
+use Words.{length-range_with_len, get_or-range_with_len, length-map-range_with_len}
+use Words.{get_or-map-range_with_len, ArrayIterator, Map, Red, Fill, Callee, State, Emitted, gives}
+use Words.{joins, Target, copied, Context, input_targets, part_copies, accumulator, index_copies}
+use Words.{gathered_at, index_outputs, call, iterate, FlatClock, FlatEquation, targets_of}
+use Words.{with_copies, onto, on_top, map, option_map, if◌then◌else◌, take-append_seam}
+use Words.{drop-append_seam, length-append, Reached, ResolvedNode, Table, Start, from_inputs}
+use Words.{variable_targets, parameter_targets, is_start, start_of, start_from, node_at, Bool, true}
+use Words.{false, flat_map, Option, Some, None, drop_more, drop_all, drop-drop, drop_min}
+use Words.{length-drop, length-map, append_assoc, append-nil, flat_map-append}
+use Rattle.std.proofs.lemmas.List.{map-id, FromFn.map-range_with_len_more}
+use Rattle.lb_flat.specs.EmitTerms.{call_copies, call_outputs, iterator_copies, iterator_outputs}
+use Rattle.lb_flat.specs.{EmitWhole.input_of, Frames.copy_of}
+use Rattle.lb_flat.proofs.emission.EmittedStacks.{equation_pushed, flat_pushed, elements_push}
+use Rattle.lb_flat.proofs.emission.EmittedStacks.{numbers_push}
+use Rattle.lb_static.specs.declared.table.Instance as row
+
 -- The words of the code that expands resolved terms which copy the operands of a call and put its
 -- outputs on the stack.
-use Rattle.lb_flat.proofs.Words.{◌≡◌, ◌<◌, ◌≤◌, ℕ, zero, suc, ◌+◌, ◌*◌, ◌-◌, List, [], ◌∷◌, ◌++◌}
-use Rattle.lb_flat.proofs.Words.{length, take, drop, get_or, min, arith, refl, sym, ap, ap₂, subst}
-use Rattle.lb_flat.proofs.Words.{◌∙◌, nat_le, range_with_len, nat_tests, length-range_with_len}
-use Rattle.lb_flat.proofs.Words.{get_or-range_with_len, length-map-range_with_len}
-use Rattle.lb_flat.proofs.Words.{get_or-map-range_with_len, map-range_with_len_more, ArrayIterator}
-use Rattle.lb_flat.proofs.Words.{Map, Red, Fill, Callee, State, Emitted, gives, joins, Target}
-use Rattle.lb_flat.proofs.Words.{copied, Context, input_targets, part_copies, accumulator}
-use Rattle.lb_flat.proofs.Words.{index_copies, gathered_at, index_outputs, call, iterate, FlatClock}
-use Rattle.lb_flat.proofs.Words.{FlatEquation, targets_of, with_copies, onto, on_top}
-use Rattle.std.specs.Prelude.{Bool, true, false, flat_map, Option, Some, None}
-use Rattle.std.proofs.lemmas.List.{drop_more, drop_all, drop-drop, drop_min, length-drop}
-use Rattle.std.proofs.lemmas.List.{length-map, append_assoc, append-nil, map-id}
-use Rattle.std.proofs.lemmas.List.Concat.{flat_map-append}
-use Rattle.lb_flat.specs.EmitTerms.{call_copies, call_outputs, iterator_copies, iterator_outputs}
-use Rattle.lb_flat.specs.Frames.{copy_of}
-use Rattle.lb_flat.proofs.emission.EmittedStacks.{equation_pushed, flat_pushed}
-use Rattle.lb_flat.proofs.emission.Emitting.{elements_push, numbers_push}
 
 -- ## Numbers in order
 
@@ -400,3 +403,171 @@ index_ends s whole f i n le h =
 pub ruleset puts = (elements_push, numbers_push)
 
 pub ruleset copies = (equation_pushed, flat_pushed)
+
+-- The words of the code that begin a flat program: the inputs of the node under test are those of
+-- the trace, and the observer receives what the node under test has.
+
+-- ## Inputs of the trace
+
+from_inputs_append : (j : ℕ) (ts us : List Target) →
+    from_inputs j (ts ++ us) ≡ from_inputs j ts ++ from_inputs (j + length ts) us
+from_inputs_append j [] us =
+    let same : j ≡ j + 0 = omega arith in cc
+from_inputs_append j (t ∷ ts) us =
+    let next : suc j + length ts ≡ j + suc (length ts) = omega arith in
+    cc (from_inputs_append (suc j) ts us)
+
+-- the copies `one`, and then the copies `new`, are the copies `all`
+with_more :
+    (s t u : State) (one new all : List FlatEquation) → t ≡ with_copies s one →
+    u ≡ with_copies t new → one ++ new ≡ all → u ≡ with_copies s all
+with_more s t u one new all h e is = cc (append_assoc s.copies one new)
+
+-- a step of the loop over the elements of an input of the trace
+pub give_step :
+    (k l : FlatClock) (s t u : State) (first i j e m : ℕ) →
+    t ≡ with_copies s (from_inputs j (targets_of k (range_with_len first i))) →
+    u ≡ with_copies t (input_of l e m ∷ []) → l ≡ k → e ≡ first + i → m ≡ j + i →
+    u ≡ with_copies s (from_inputs j (targets_of k (range_with_len first (i + 1))))
+give_step k l s t u first i j e m h step clock place number =
+    let f : ℕ → Target = λ i. record { place = i; clock = k } in
+    let ts = map f (range_with_len first i) in
+    let size = length-map-range_with_len f first i in
+    let pieces : from_inputs j (targets_of k (range_with_len first (i + 1))) ≡ from_inputs j ts
+    ++ input_of k (first + i) (j + i) ∷ [] = ap (from_inputs j)
+    (map-range_with_len_more f first i (first + i) refl) ∙ from_inputs_append j _ _ ∙ ap (λ n.
+    from_inputs j ts ++ input_of k (first + i) (j + n) ∷ []) size in
+    let one = ap (λ (l : FlatClock). input_of l e m) clock
+    ∙ ap₂ (λ e m. input_of k e m) place number in
+    with_more s t u _ _ _ h step (ap (λ (q : FlatEquation). from_inputs j ts ++ q ∷ []) one ∙ sym
+    pieces)
+
+module _ (ctx : Context) where
+  -- the targets of x + 1 parameters: those of x parameters, and then those of variable x
+  parameters_more : (x : ℕ) →
+      parameter_targets ctx (x + 1) ≡ parameter_targets ctx x ++ variable_targets ctx x
+  parameters_more x =
+      let f = variable_targets ctx in
+      let zero_x : 0 + x ≡ x = omega arith in
+      cc (range_last 0 x, flat_map-append f (range_with_len 0 x) (x ∷ []), append-nil (f x))
+
+  start_target_count : (x : ℕ) → length (variable_targets ctx x) ≡ length (ctx.places x)
+  start_target_count x =
+      length-map (ctx.places x) (λ p. record { place = p; clock = ctx.declared x })
+
+  pub parameters_count : (x : ℕ) →
+      length (parameter_targets ctx (x + 1))
+      ≡ length (parameter_targets ctx x) + length (ctx.places x)
+  parameters_count x =
+      ap (λ (ts : List Target). length ts) (parameters_more x)
+      ∙ length-append (parameter_targets ctx x) (variable_targets ctx x)
+      ∙ ap (λ n. length (parameter_targets ctx x) + n) (start_target_count x)
+
+  parameters_grow : (x k : ℕ) →
+      length (parameter_targets ctx x) ≤ length (parameter_targets ctx (x + k))
+  parameters_grow x zero =
+      let same : x ≡ x + 0 = omega arith in
+      let e = ap (λ x. length (parameter_targets ctx x)) same in omega (arith, e)
+  parameters_grow x (suc k) =
+      let same : x + k + 1 ≡ x + suc k = omega arith in
+      let e = ap (λ x. length (parameter_targets ctx x)) same in
+      omega (arith, e, parameters_count (x + k), parameters_grow x k)
+
+  pub parameters_within : (x inputs : ℕ) → x < inputs →
+      length (parameter_targets ctx (x + 1)) ≤ length (parameter_targets ctx inputs)
+  parameters_within x inputs lt =
+      let same : x + 1 + (inputs - (x + 1)) ≡ inputs = omega (arith, lt) in
+      let e = ap (λ x. length (parameter_targets ctx x)) same in
+      omega (arith, e, parameters_grow (x + 1) (inputs - (x + 1)))
+
+  pub given_step :
+      (s t u : State) (x j : ℕ) (ts : List Target) →
+      t ≡ with_copies s (from_inputs 0 (parameter_targets ctx x)) →
+      j ≡ length (parameter_targets ctx x) → u ≡ with_copies t (from_inputs j ts) →
+      ts ≡ variable_targets ctx x →
+      u ≡ with_copies s (from_inputs 0 (parameter_targets ctx (x + 1)))
+  given_step s t u x j ts h number step is =
+      let so = parameter_targets ctx x in
+      let zero_more : length so ≡ 0 + length so = omega arith in
+      with_more s t u _ _ _ h step (ap₂ (λ (n : ℕ) (ts : List Target). from_inputs 0 so
+      ++ from_inputs n ts) (number ∙ zero_more) is ∙ sym (ap (from_inputs 0) (parameters_more x)
+      ∙ from_inputs_append 0 _ _))
+
+  -- ## Copies
+
+  pub parameter_step :
+      (s t whole : State) (x inputs at to : ℕ) (all : List ℕ) → x < inputs → at ≤ length all →
+      with_copies s (copied (flat_map (variable_targets ctx) (drop x (range_with_len 0 inputs)))
+      (drop at all)) ≡ whole →
+      t ≡ with_copies s (copied (variable_targets ctx x) (drop at all)) →
+      to ≡ at + min (length (ctx.places x)) (length all - at) →
+      with_copies t (copied (flat_map (variable_targets ctx)
+      (drop (x + 1) (range_with_len 0 inputs))) (drop to all)) ≡ whole
+  parameter_step s t whole x inputs at to all lt within h et place =
+      let zero_x : 0 + x ≡ x = omega arith in
+      items_step (variable_targets ctx) s t whole x _ _ _ at to all (range_rest 0 _ x lt ∙ ap
+      (λ y. y ∷ drop (x + 1) (range_with_len 0 inputs)) zero_x) (start_target_count x) within h et place
+
+  pub parameter_ends :
+      (s whole : State) (x inputs at : ℕ) (all : List ℕ) → inputs ≤ x →
+      with_copies s (copied (flat_map (variable_targets ctx) (drop x (range_with_len 0 inputs)))
+      (drop at all)) ≡ whole → s ≡ whole
+  parameter_ends s whole x inputs at all le h =
+      items_end (variable_targets ctx) s whole _ (drop at all) (range_done 0 inputs x le) h
+
+-- ## What the observer receives
+
+-- elements that are put on a stack, copied and dropped leave only their copies
+pub observed_done :
+    (below ps : List ℕ) (from : ℕ) (ts : List Target) (s t u : State) (mid : Emitted) →
+    from ≡ length below → mid ≡ onto below (gives s ps) →
+    t ≡ with_copies mid.state (copied ts (drop from mid.found)) → u ≡ t →
+    u ≡ with_copies s (copied ts ps)
+observed_done below ps from ts s t u mid count put copies same = cc (drop-append_seam below ps)
+
+pub observed_gone :
+    (below ps found : List ℕ) (from : ℕ) (s : State) (mid : Emitted) → from ≡ length below →
+    mid ≡ onto below (gives s ps) → found ≡ take from mid.found → found ≡ below
+observed_gone below ps found from s mid count put h = cc (take-append_seam below ps)
+
+-- ## Rows that start
+
+module _ (r : Reached) (t : Table) (b : Bool) where
+  start_more :
+      (is : List row.Instance) (j : ℕ) (d : row.Instance) → j < length is →
+      start_from r t b j (drop j is)
+      ≡ (if is_start b (get_or is j d).origin
+      then option_map (start_of j) (node_at r t (get_or is j d))
+      else start_from r t b (j + 1) (drop (j + 1) is))
+  unfolding start_from
+  start_more is j d lt =
+      let next : suc j ≡ j + 1 = omega arith in
+      cc (drop_more is j d lt)
+
+  start_next : (is : List row.Instance) (j : ℕ) (i d : row.Instance) (c : Bool) → j < length is →
+      i ≡ get_or is j d → is_start b i.origin ≡ c →
+      start_from r t b j (drop j is)
+      ≡ (if c then option_map (start_of j) (node_at r t i)
+      else start_from r t b (j + 1) (drop (j + 1) is))
+  start_next is j i d c lt e h = cc (start_more is j d lt)
+
+  -- a row that starts nothing is passed over
+  pub start_passed :
+      (is : List row.Instance) (j : ℕ) (i d : row.Instance) (whole : Option Start) →
+      j < length is → i ≡ get_or is j d → is_start b i.origin ≡ false →
+      start_from r t b j (drop j is) ≡ whole →
+      start_from r t b (j + 1) (drop (j + 1) is) ≡ whole
+  start_passed is j i d whole lt e h all = sym (start_next is j i d false lt e h) ∙ all
+
+  -- a row that starts gives its node, if the node is found
+  pub start_here :
+      (is : List row.Instance) (j : ℕ) (i d : row.Instance) (o : Option ResolvedNode)
+      (whole : Option Start) → j < length is → i ≡ get_or is j d →
+      is_start b i.origin ≡ true → node_at r t i ≡ o → start_from r t b j (drop j is) ≡ whole →
+      option_map (start_of j) o ≡ whole
+  start_here is j i d o whole lt e h found all = cc (start_next is j i d true lt e h)
+
+  pub start_end : (is : List row.Instance) (j : ℕ) (whole : Option Start) → length is ≤ j →
+      start_from r t b j (drop j is) ≡ whole → None ≡ whole
+  unfolding start_from
+  start_end is j whole le all = cc (drop_all j is le)

@@ -1,15 +1,13 @@
 -- The words of the code that expands resolved terms which keep elements, and which go over them.
-use Rattle.lb_flat.proofs.Words.{◌≡◌, ◌<◌, ◌≤◌, ℕ, ◌+◌, ◌-◌, List, [], ◌∷◌, ◌++◌, false, length}
-use Rattle.lb_flat.proofs.Words.{map, take, drop, get_or, min, arith, All, sym, ap, ap₂, ◌∙◌}
-use Rattle.lb_flat.proofs.Words.{append_assoc, append-nil, drop_more, drop_all, take-map}
-use Rattle.lb_flat.proofs.Words.{map-append, drop-drop, drop_min, take_min, length-drop}
-use Rattle.lb_flat.proofs.Words.{length-take-le, All-take, All-push, BinaryOperator, Or, And, Not}
-use Rattle.lb_flat.proofs.Words.{Boolean, ElementId, State, Emitted, gives, push, add, keep}
-use Rattle.lb_flat.proofs.Words.{chained, twice, emit_nor, emit_at_most_one, each, memory}
-use Rattle.lb_flat.proofs.Words.{FlatClock, Constant, ApplyUnary, ApplyBinary, numbers_of}
-use Rattle.std.proofs.Math.Seq.{take-append-add}
-use Rattle.lb_flat.specs.TermEmissions.{kept, with_kept, with_asserted, on_top}
-use Rattle.lb_flat.proofs.emission.Emitting.{elements_push, numbers_push}
+use Rattle.lb_flat.proofs.Words
+use Words.{◌≡◌, ◌<◌, ◌≤◌, ℕ, ◌+◌, ◌-◌, List, [], ◌∷◌, ◌++◌, false, length, map, take, drop, get_or}
+use Words.{min, arith, All, sym, ap, ◌∙◌, append_assoc, append-nil, drop_more, drop_all, take-map}
+use Words.{map-append, drop-drop, drop_min, take_min, length-drop, length-take-le, All-take}
+use Words.{All-push, BinaryOperator, Or, And, Not, Boolean, ElementId, State, Emitted, gives, push}
+use Words.{add, keep, chained, twice, emit_nor, emit_at_most_one, each, memory, FlatClock, Constant}
+use Words.{ApplyUnary, ApplyBinary, numbers_of, with_kept, with_asserted, on_top}
+use Rattle.{std.proofs.Math.Seq.take-append-add, lb_flat.specs.TermEmissions.kept}
+use Rattle.lb_flat.proofs.emission.EmittedStacks.{elements_push, numbers_push}
 use Rattle.lb_flat.specs.Flat as flat
 
 -- ## Kept elements

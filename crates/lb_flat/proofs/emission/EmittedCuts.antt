@@ -1,14 +1,12 @@
 -- The words of the code that expands resolved terms which cut, pick and repeat what is on the
 -- stack.
-use Rattle.lb_flat.proofs.Words.{◌≡◌, ◌<◌, ◌≤◌, ℕ, zero, suc, ◌+◌, ◌-◌, List, [], ◌∷◌, ◌++◌, length}
-use Rattle.lb_flat.proofs.Words.{take, drop, get_or, min, arith, All, sym, ap, ap₂, ◌∙◌}
-use Rattle.lb_flat.proofs.Words.{slice_range, take-map, drop-map, map-append, drop-append-le}
-use Rattle.lb_flat.proofs.Words.{take-append-le, take_all, length-drop, append_assoc, append-nil}
-use Rattle.lb_flat.proofs.Words.{drop_more, drop_all, All-append, All-take, All-drop, copies}
-use Rattle.lb_flat.proofs.Words.{BinaryOperator, ElementId, Emitted, gives, chained, picked, red}
-use Rattle.lb_flat.proofs.Words.{FlatClock, numbers_of, onto, without, on_top}
-use Rattle.lb_flat.proofs.emission.EmittedStacks.{without_operands}
-use Rattle.lb_flat.proofs.emission.EmittedChains.{picked_is}
+use Rattle.lb_flat.proofs.Words
+use Words.{◌≡◌, ◌<◌, ◌≤◌, ℕ, zero, suc, ◌+◌, ◌-◌, List, [], ◌∷◌, ◌++◌, length, take, drop, get_or}
+use Words.{min, arith, All, sym, ap, ◌∙◌, slice_range, take-map, drop-map, map-append}
+use Words.{drop-append-le, take-append-le, take_all, length-drop, append_assoc, append-nil}
+use Words.{drop_more, drop_all, All-append, All-take, All-drop, copies, BinaryOperator, ElementId}
+use Words.{Emitted, gives, chained, picked, red, FlatClock, numbers_of, onto, without, on_top}
+use Rattle.lb_flat.proofs.emission.{EmittedChains.picked_is, EmittedStacks.without_operands}
 
 -- ## Fewer elements, and more
 

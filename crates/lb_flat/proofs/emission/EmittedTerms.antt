@@ -1,44 +1,124 @@
--- A term with resolved names emits what the expression that it stands for emits.
-use Rattle.lb_flat.proofs.Words.{◌≡◌, ◌<◌, ℕ, suc, ◌+◌, ◌-◌, ◌*◌, true, false, pos, Some, List, []}
-use Rattle.lb_flat.proofs.Words.{◌∷◌, ◌++◌, length, refl, sym, ap, ap₂, ◌∙◌, subst, arith}
-use Rattle.lb_flat.proofs.Words.{ArrayIterator, ◌>>=◌, Every, copies, either_or, joined, Name}
-use Rattle.lb_flat.proofs.Words.{Static, Expr, Exprs, and_first, and_second, DataType, int}
-use Rattle.lb_flat.proofs.Words.{variables, Program, Instance, Path, Site, static_count, call_site}
-use Rattle.lb_flat.proofs.Words.{sites, sites_in, node_named, node_sites, Texts, expr_of, name_at}
-use Rattle.lb_flat.proofs.Words.{named_value, static_at, site_at, is_variable, is_static, is_call}
-use Rattle.lb_flat.proofs.Words.{is_within, are_within, named, StaticId, VariableId, Term, Value}
-use Rattle.lb_flat.proofs.Words.{Group', Unary', Binary', If', Arrow', Fby', Pre', Current', When'}
-use Rattle.lb_flat.proofs.Words.{Replicate', Index', Slice', Join', Array', AtMostOne', Nor', Call'}
-use Rattle.lb_flat.proofs.Words.{IterateNode', IterateSymbol', Row_of-Term, end_of-Term}
-use Rattle.lb_flat.proofs.Words.{more_of-Term, Occurrence, call_count, call_clocks, occurrences}
-use Rattle.lb_flat.proofs.Words.{occurrences_in, occurrences_each, Integer, Boolean, Bad}
-use Rattle.lb_flat.proofs.Words.{first_value, History, data_type, number, part_count, data_types}
-use Rattle.lb_flat.proofs.Words.{all_types, index_type, only, slice_type, own_site, first_of_all}
-use Rattle.lb_flat.proofs.Words.{State, Emitted, EmittedAll, emit, emit_all, emit_each, emit_name}
-use Rattle.lb_flat.proofs.Words.{emit_at_most_one, emit_nor, gives, joins, Context, Cursor}
-use Rattle.lb_flat.proofs.Words.{PlacedEmitted, call, choose, constant, each, emit_row, emit_term}
-use Rattle.lb_flat.proofs.Words.{iterate, literal, memory, next_call, next_term, pairs, picked}
-use Rattle.lb_flat.proofs.Words.{placed, symbol, FlatClock, ApplyBinary, ApplyUnary, FirstThen}
-use Rattle.lb_flat.proofs.Words.{Latest, Previous, Sample, Layout, flat_clock}
-use Rattle.std.specs.Prelude.{◌&&◌, nat_le, slice_get, if◌then◌else◌}
+-- A term with resolved names emits what its expression emits.
+use Rattle.lb_flat.proofs.Words
+use Words.{◌≡◌, ◌⊎◌, inl, inr, ℕ, ◌*◌, true, Some, List, [], ◌∷◌, ◌++◌, map, length, take, drop}
+use Words.{sym, ap, ap₂, ◌∙◌, subst, arith, drop-append_seam, append-nil, take-append-le, take_all}
+use Words.{ArrayIterator, Map, Red, Fill, BinaryOperator, Every, joined, zip2, Name, Static, Symbol}
+use Words.{Iterate, Exprs, heads_same, Program, Instance, Path, static_count, DataType, int, truth}
+use Words.{element_count, occurrences_in, History, number, data_types, all_types, operator_types}
+use Words.{iterator_types, is_arithmetic, is_logical, symbol_types, State, add, chained, gives}
+use Words.{emit_all, emit_symbol, symbol, FlatClock, ApplyBinary, Layout, ◌<◌, suc, ◌+◌, ◌-◌, false}
+use Words.{pos, refl, ◌>>=◌, copies, either_or, Expr, and_first, and_second, variables, Site}
+use Words.{call_site, sites, sites_in, node_named, node_sites, Texts, expr_of, name_at, named_value}
+use Words.{static_at, site_at, is_variable, is_static, is_call, is_within, are_within, named}
+use Words.{StaticId, VariableId, Term, Value, Group', Unary', Binary', If', Arrow', Fby', Pre'}
+use Words.{Current', When', Replicate', Index', Slice', Join', Array', AtMostOne', Nor', Call'}
+use Words.{IterateNode', IterateSymbol', Row_of-Term, end_of-Term, more_of-Term, Occurrence}
+use Words.{call_count, call_clocks, occurrences, occurrences_each, Integer, Boolean, Bad}
+use Words.{first_value, data_type, part_count, index_type, only, slice_type, own_site, first_of_all}
+use Words.{Emitted, EmittedAll, emit, emit_each, emit_name, emit_at_most_one, emit_nor, joins}
+use Words.{Context, Cursor, PlacedEmitted, call, choose, constant, each, emit_row, emit_term}
+use Words.{iterate, literal, memory, next_call, next_term, pairs, picked, placed, ApplyUnary}
+use Words.{FirstThen, Latest, Previous, Sample, flat_clock, ◌&&◌, nat_le, slice_get, if◌then◌else◌}
+use Words.{clock_or, declared_clock}
 use mathlib.Core.Former.{Count}
 use Rattle.lb_static.specs.ResolvedTerms.{Counts, row_of, is_unhidden, are_unhidden}
 use Rattle.lb_static.specs.declared.resolved.Term.{Literal, Truth, Variable}
-use Rattle.lb_check.specs.Clocks.{Clock, clock_of, clock_or, declared_clock}
-use Rattle.lb_check.proofs.programs.OccurrenceParts.{never_as_many, one_less}
-use Rattle.lb_flat.proofs.widths.CallWidths.{called_wide, iterated_wide}
-use Rattle.lb_flat.proofs.emission.EmittedSymbols.{symbol_fed, symbol_is}
+use Rattle.lb_check.{specs.Clocks.{Clock, clock_of}, proofs.programs.OccurrenceParts.never_as_many}
+use Rattle.lb_check.proofs.programs.OccurrenceParts.{one_less}
+use Rattle.lb_flat.proofs.frames.TermPlaces.{IsContext, IsValue, Along, along_every, along_first}
+use Rattle.lb_flat.proofs.frames.TermPlaces.{along_second, past, past_call, past_leaf, past_none}
+use Rattle.lb_flat.proofs.frames.TermPlaces.{then_operand, with_branches, with_operand}
+use Rattle.lb_flat.proofs.{frames.TermPlaces.with_operands, numbering.ReceivedInputs.AreFed}
 use Rattle.lb_flat.proofs.numbering.ReceivedInputs.{call_given, call_received, iterator_given}
 use Rattle.lb_flat.proofs.numbering.ReceivedInputs.{iterator_received}
-use Rattle.lb_flat.proofs.frames.TermContexts.{IsContext, IsValue}
-use Rattle.lb_flat.proofs.frames.TermPlaces.{Along, along_every, along_first, along_second, past}
-use Rattle.lb_flat.proofs.frames.TermPlaces.{past_call, past_leaf, past_none, then_operand}
-use Rattle.lb_flat.proofs.frames.TermPlaces.{with_branches}
-use Rattle.lb_flat.proofs.frames.TermPlaces.{with_operand, with_operands}
-use Rattle.lb_flat.proofs.widths.TypeFacts.{bound, indexed, one, sliced}
-use Rattle.lb_flat.proofs.widths.Widths.{AreVariablesWide, IsOccurrenceWide}
+use Rattle.lb_flat.proofs.widths.{FoundWidths.all_as_many, PlacedCalls.{fed_by_types, called_wide}}
+use Rattle.lb_flat.proofs.widths.{PlacedCalls.iterated_wide, TypeFacts.{bound, symbolic, indexed}}
+use Rattle.lb_flat.proofs.widths.{TypeFacts.{one, sliced}, Widths.AreVariablesWide}
+use Rattle.lb_flat.proofs.widths.Widths.{IsOccurrenceWide, number_is, all_wide}
 use Rattle.lb_syntax.specs.Tree as tree
 use Rattle.lb_check.specs.Occurrences as text
+
+-- An iterated symbol that is typed emits the same over its operands in one list as over one list
+-- for each of them.
+
+-- the widths of the two operands of a symbol
+abbrev two_scalars : List ℕ
+two_scalars = 1 ∷ (1 ∷ [])
+
+-- a symbol over two arrays of length `m` pairs their elements
+zipped :
+    (k : FlatClock) (op : BinaryOperator) (m : ℕ) (s : State) (xs ys : List ℕ) →
+    length xs ≡ m * 1 → symbol k op m Map (gives s (xs ++ (ys ++ [])))
+    ≡ add k s (zip2 (ApplyBinary op) xs ys)
+zipped k op m s xs ys e =
+    let long : m ≡ length xs = omega (arith, e) in
+    ap (λ n. add k s (zip2 (ApplyBinary op) (take n (xs ++ (ys ++ [])))
+    (drop n (xs ++ (ys ++ []))))) long
+    ∙ ap₂ (λ (us vs : List ℕ). add k s (zip2 (ApplyBinary op) us vs))
+    (take-append-le (length xs) xs (ys ++ []) (omega arith)
+    ∙ take_all (length xs) xs (omega arith))
+    (drop-append_seam xs (ys ++ []) ∙ append-nil ys)
+
+pub symbol_is :
+    (k : FlatClock) (op : BinaryOperator) (m : ℕ) (it : ArrayIterator) (s : State)
+    (iss : List (List ℕ)) → AreFed it m two_scalars (map length iss) →
+    symbol k op m it (gives s (joined iss)) ≡ emit_symbol k op s it iss
+symbol_is k op m Map s [] e = cc
+symbol_is k op m Map s (xs ∷ []) e = cc
+symbol_is k op m Map s (xs ∷ (ys ∷ [])) e = zipped k op m s xs ys (heads_same _ _ _ _ e)
+symbol_is k op m Map s (xs ∷ (ys ∷ (zs ∷ iss))) e = cc
+symbol_is k op m Red s [] e = absurd e
+symbol_is k op m Red s ([] ∷ iss) e = absurd (omega (arith, e.0))
+symbol_is k op m Red s ((i ∷ (j ∷ is)) ∷ iss) e = absurd (omega (arith, e.0))
+symbol_is k op m Red s ((i ∷ []) ∷ []) e = no_operand e.1
+  where
+    no_operand : {A : Type 0} → [] ≡ m * 1 ∷ [] → A
+    no_operand e = cc
+symbol_is k op m Red s ((i ∷ []) ∷ (ys ∷ [])) e = ap (chained k op s i) (append-nil ys)
+symbol_is k op m Red s ((i ∷ []) ∷ (ys ∷ (zs ∷ iss))) e =
+    no_more (length ys) (length zs) (map length iss) e.1
+  where
+    no_more : {A : Type 0} (a b : ℕ) (bs : List ℕ) → a ∷ (b ∷ bs) ≡ m * 1 ∷ [] → A
+    no_more a b bs e = cc
+symbol_is k op m Fill s iss e = absurd e
+
+scalar_types :
+    (op : BinaryOperator) (types : List DataType × List DataType) →
+    symbol_types op ≡ Some types → map element_count types.0 ≡ two_scalars
+scalar_types op types e =
+    let y = symbolic op types e in
+    ap (λ (t : List DataType × List DataType). map element_count t.0) y.are ∙ by y.data_type y.of
+  where
+    by : (t : DataType) →
+        ((is_arithmetic op ≡ true) × (t ≡ int)) ⊎ ((is_logical op ≡ true) × (t ≡ truth)) →
+        element_count t ∷ (element_count t ∷ []) ≡ two_scalars
+    by t (inl z) = ap (λ (t : DataType). element_count t ∷ (element_count t ∷ [])) z.1
+    by t (inr z) = ap (λ (t : DataType). element_count t ∷ (element_count t ∷ [])) z.1
+
+module _ (Y : Layout) (P : Program) (H : History) (here : Instance)
+    (same : (p : Path) (x : Name) → length (Y.places p x) ≡ length (H.columns p x))
+    (variables_wide : AreVariablesWide P H here here) where
+  -- the operands of an iterated symbol are two, as wide as its types say
+  pub symbol_fed :
+      (k : Clock) (n : ℕ) (it : ArrayIterator) (op : BinaryOperator) (m : Static) (es : Exprs)
+      (ts : List DataType) → data_types P here (Iterate it (Symbol op) m es) ≡ Some ts →
+      Every (IsOccurrenceWide P H here) (occurrences_in P here.node k n es) → (s : State) →
+      AreFed it (number P here m) two_scalars (map length (emit_all Y P here k n s es).found)
+  symbol_fed k n it op m es ts e parts s =
+      let size = bound (static_count P here m) _ ts e in
+      let o = bound (operator_types P here (Symbol op)) _ ts size.gives in
+      let a = bound (all_types P here es) _ ts o.gives in
+      let types =
+      ap (λ count. iterator_types it count o.value.0 o.value.1 a.value)
+      (number_is P H here m size.value size.is) ∙ a.gives in
+      let found = all_as_many Y P H here same k n s es
+      ∙ all_wide P H here variables_wide k n es a.value a.is parts in
+      subst (λ ls. AreFed it (number P here m) two_scalars ls) (sym found)
+      (subst (λ ws. AreFed it (number P here m) ws (map element_count a.value))
+      (scalar_types op o.value o.is)
+      (fed_by_types it (number P here m) o.value.0 o.value.1 a.value ts types))
+
+-- A term with resolved names emits what the expression that it stands for emits.
 
 -- a literal is an `int`
 abbrev pub IsSmall : Expr → Type 0
@@ -99,9 +179,9 @@ module _ (Y : Layout) (P : Program) (H : History) (here : Instance) (texts : Tex
       AreTermsAt (t + length os) os'
   aft t os os' h = along_second (IsTermAt Y P H here ctx) t os os' h
 
-  all_wide : (t : ℕ) (os : List Occurrence) → AreTermsAt t os →
+  terms_wide : (t : ℕ) (os : List Occurrence) → AreTermsAt t os →
       Every (IsOccurrenceWide P H here) os
-  all_wide t os h =
+  terms_wide t os h =
       along_every (IsTermAt Y P H here ctx) (IsOccurrenceWide P H here) (λ t o z. z.wide) t os h
 
   -- the context has the parts of an operand that is an array
@@ -200,7 +280,7 @@ module _ (Y : Layout) (P : Program) (H : History) (here : Instance) (texts : Tex
       let own = context.call at.call (call_site f statics) (h.0.site (call_site f statics) refl) in
       let there : 0 < 1 = omega arith in
       let wide = called_wide Y P H here same variables_wide k at.call f statics es h.0.types
-      h.0.typed h.0.wide own.callee own.named (all_wide (suc at.term) parts h.1) s in
+      h.0.typed h.0.wide own.callee own.named (terms_wide (suc at.term) parts h.1) s in
       let rest = subst (λ m. AreTermsAt (suc at.term) (occurrences_each P here.node ks m es)) next
       h.1 in
       let found = emit_each Y P here ks (at.call + 1) s es in
@@ -233,7 +313,7 @@ module _ (Y : Layout) (P : Program) (H : History) (here : Instance) (texts : Tex
       let site : Site = record { callee = f; arguments = statics; count = Some m } in
       let own = context.call at.call site (h.0.site site refl) in
       let all = iterated_wide Y P H here same variables_wide k at.call it f statics m es h.0.types
-      h.0.typed h.0.wide.1 own.callee own.named (all_wide (suc at.term) parts h.1) s in
+      h.0.typed h.0.wide.1 own.callee own.named (terms_wide (suc at.term) parts h.1) s in
       let rest = subst (λ c. AreTermsAt (suc at.term) (occurrences_in P here.node k c es)) next
       h.1 in
       let found = emit_all Y P here k (at.call + 1) s es in
@@ -489,7 +569,7 @@ module _ (Y : Layout) (P : Program) (H : History) (here : Instance) (texts : Tex
         (context.count i (and_first _ (are_within n all) w))
         ∙ symbol_is (flat k) op (number P here m) it r.state r.found
         (symbol_fed Y P H here same variables_wide k at.call it op m es h.0.types h.0.typed
-        (all_wide (suc at.term) os h.1) s))
+        (terms_wide (suc at.term) os h.1) s))
 
     row_is :
         {m : Count} (k : Clock) (at : Cursor) (s : State) (row : Row_of-Term m) →

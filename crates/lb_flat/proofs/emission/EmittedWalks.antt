@@ -1,23 +1,242 @@
+-- The code that expands resolved terms: places, rows, and term after term.
+use Rattle.lb_flat.proofs.Words
+use Words.{◌≤◌, List, [], ◌∷◌, arith, Term, Value, Group', Unary', Binary', If', Arrow', Fby', Pre'}
+use Words.{Current', When', Replicate', Index', Slice', Join', Array', AtMostOne', Nor', Call'}
+use Words.{IterateNode', IterateSymbol', Row_of-Term, end_of-Term, more_of-Term, State, Context}
+use Words.{Cursor, next_term, next_call, emit_term, emit_row, emit_list, ◌≡◌, ◌<◌, ℕ, ◌+◌, ◌++◌}
+use Words.{length, drop, get_or, Vec, Box, Global, refl, sym, ap, ◌∙◌, inl, inr, drop_more}
+use Words.{append_assoc, append-nil, IterateNode, IterateSymbol, items-the_row-Term}
+use Words.{items_hidden-the_row-Term-0, Emitted, gives, PlacedEmitted, placed, row_place, choose}
+use Words.{with_one, with_two, with_all, onto, IsPair, IsRow, row_in, ◌^◌, ap₂, subst}
+use Words.{drop-append_seam, Scalar, Boolean, StaticId, VariableId, add, literal, constant}
+use Words.{HasPlaces, HasRoom, stacked, FlatClock, Constant, above, on_top, on_two, pushed, Bool}
+use Rattle.lb_static.specs.{TermForms.IsSingle, declared.resolved.Term.{Literal, Truth, Variable}}
+use Rattle.lb_static.specs.declared.resolved.Term.{If, Array, AtMostOne, Nor, Call, Group}
+use Rattle.lb_flat.proofs.emission.{EmittedStacks.{on_top_onto, on_two_onto}, TermSteps.next_grows}
+use Rattle.lb_flat.proofs.emission.TermSteps.{list_grows, one_grows, two_grows, all_grows}
+use Rattle.lb_flat.proofs.emission.TermSteps.{add_grows, next_of_add}
+
+-- The place after a term is not before the term. So a bound on the last place bounds all places.
+
+-- the place `from` is not after the place `to`
+pub record IsNotAfter (from to : Cursor) : Type 0 where
+  pub term : from.term ≤ to.term
+  pub call : from.call ≤ to.call
+
+pub same_place : (at : Cursor) → IsNotAfter at at
+same_place at = record { term = omega arith; call = omega arith }
+
+pub one_later : (at : Cursor) → IsNotAfter at (next_term at)
+one_later at = record { term = omega arith; call = omega arith }
+
+pub call_later : (at : Cursor) → IsNotAfter at (next_call at)
+call_later at = record { term = omega arith; call = omega arith }
+
+pub then_later : (at from to : Cursor) → IsNotAfter at from → IsNotAfter from to → IsNotAfter at to
+then_later at from to a b =
+    record { term = omega (arith, a.term, b.term); call = omega (arith, a.call, b.call) }
+
+-- a place is not after `to` if the place of the next term is not
+after_one : (at to : Cursor) → IsNotAfter (next_term at) to → IsNotAfter at to
+after_one at to h = then_later at (next_term at) to (one_later at) h
+
+-- a place is not after `to` if `from`, behind its first operand, lies between them
+after_two : (at from to : Cursor) → IsNotAfter (next_term at) from → IsNotAfter from to →
+    IsNotAfter at to
+after_two at from to h g = after_one at to (then_later (next_term at) from to h g)
+
+mutual
+  unfolding emit_term
+
+  pub place_grows : (ctx : Context) (at : Cursor) (s : State) (e : Term) →
+      IsNotAfter at (emit_term ctx at s e).place
+  place_grows ctx at s (Literal n) = one_later at
+  place_grows ctx at s (Truth b) = one_later at
+  place_grows ctx at s (Variable x) = one_later at
+  place_grows ctx at s (Value i) = one_later at
+  place_grows ctx at s (Group' p e) = place_grows ctx at s e
+  place_grows ctx at s (Unary' op p a) = after_one at _ (place_grows ctx _ s a)
+  place_grows ctx at s (Pre' p a) = after_one at _ (place_grows ctx _ s a)
+  place_grows ctx at s (Current' p a) = after_one at _ (place_grows ctx _ s a)
+  place_grows ctx at s (When' p a c sign) = after_one at _ (place_grows ctx _ s a)
+  place_grows ctx at s (Replicate' p a n) = after_one at _ (place_grows ctx _ s a)
+  place_grows ctx at s (Index' p a i) = after_one at _ (place_grows ctx _ s a)
+  place_grows ctx at s (Slice' p a i j) = after_one at _ (place_grows ctx _ s a)
+  place_grows ctx at s (Binary' op p a q b) =
+      after_two at _ _ (place_grows ctx _ s a) (place_grows ctx _ _ b)
+  place_grows ctx at s (Arrow' p a q b) =
+      after_two at _ _ (place_grows ctx _ s a) (place_grows ctx _ _ b)
+  place_grows ctx at s (Fby' p a q b) =
+      after_two at _ _ (place_grows ctx _ s a) (place_grows ctx _ _ b)
+  place_grows ctx at s (Join' p a q b) =
+      after_two at _ _ (place_grows ctx _ s a) (place_grows ctx _ _ b)
+  place_grows ctx at s (If' p c q a r b) =
+      let z = emit_term ctx (next_term at) s c in
+      let x = emit_term ctx z.place z.emitted.state a in
+      after_two at z.place _ (place_grows ctx _ s c)
+      (then_later z.place x.place _ (place_grows ctx _ z.emitted.state a)
+      (place_grows ctx _ x.emitted.state b))
+  place_grows ctx at s (Array' arity all) =
+      then_later at _ _ (one_later at) (row_later ctx _ s all)
+  place_grows ctx at s (AtMostOne' arity all) =
+      then_later at _ _ (one_later at) (row_later ctx _ s all)
+  place_grows ctx at s (Nor' arity all) =
+      then_later at _ _ (one_later at) (row_later ctx _ s all)
+  place_grows ctx at s (Call' c arity all) =
+      then_later at _ _ (call_later at) (row_later ctx _ s all)
+  place_grows ctx at s (IterateNode' it c arity all) =
+      then_later at _ _ (call_later at) (row_later ctx _ s all)
+  place_grows ctx at s (IterateSymbol' it op n arity all) =
+      then_later at _ _ (one_later at) (row_later ctx _ s all)
+
+  pub row_later : {m : _} (ctx : Context) (at : Cursor) (s : State) (row : Row_of-Term m) →
+      IsNotAfter at (emit_row ctx at s row).place
+  row_later ctx at s end_of-Term = same_place at
+  row_later ctx at s (more_of-Term e rest) =
+      let x = emit_term ctx at s e in
+      then_later at x.place (emit_row ctx x.place x.emitted.state rest).place
+      (place_grows ctx at s e) (row_later ctx x.place x.emitted.state rest)
+
+pub list_later : (ctx : Context) (at : Cursor) (s : State) (es : List Term) →
+    IsNotAfter at (emit_list ctx at s es).place
+unfolding emit_list
+list_later ctx at s [] = same_place at
+list_later ctx at s (e ∷ es) =
+    let x = emit_term ctx at s e in
+    then_later at x.place (emit_list ctx x.place x.emitted.state es).place
+    (place_grows ctx at s e) (list_later ctx x.place x.emitted.state es)
+
+-- A row of terms in a tree emits what the list of terms in its vector emits; and what a term emits,
+-- from what its operands emit.
+
+-- ## One operand, and two
+
+pub emitted_single :
+    (ctx : Context) (at : Cursor) (s : State) (t : Term) (e : Box Term Global) (x : PlacedEmitted) →
+    IsSingle t e → x ≡ emit_term ctx (next_term at) s e.value →
+    emit_term ctx at s t ≡ placed x.place (with_one ctx at t x.emitted)
+unfolding emit_term
+emitted_single ctx at s t e x (inl (op, is)) h = rw (is, h) refl
+emitted_single ctx at s t e x (inr (inl is)) h = rw (is, h) refl
+emitted_single ctx at s t e x (inr (inr (inl is))) h = rw (is, h) refl
+emitted_single ctx at s t e x (inr (inr (inr (inl (c, sign, is))))) h = rw (is, h) refl
+emitted_single ctx at s t e x (inr (inr (inr (inr (inl (n, is)))))) h = rw (is, h) refl
+emitted_single ctx at s t e x (inr (inr (inr (inr (inr (inl (i, is))))))) h = rw (is, h) refl
+emitted_single ctx at s t e x (inr (inr (inr (inr (inr (inr (i, j, is))))))) h = rw (is, h) refl
+
+pub emitted_pair :
+    (ctx : Context) (at : Cursor) (s : State) (t : Term) (a b : Box Term Global)
+    (x y : PlacedEmitted) → IsPair t a b → x ≡ emit_term ctx (next_term at) s a.value →
+    y ≡ emit_term ctx x.place x.emitted.state b.value →
+    emit_term ctx at s t ≡ placed y.place (with_two ctx at t x.emitted.found y.emitted)
+unfolding emit_term
+emitted_pair ctx at s t a b x y (inl (op, is)) h g = rw (is, g, h) refl
+emitted_pair ctx at s t a b x y (inr (inl is)) h g = rw (is, g, h) refl
+emitted_pair ctx at s t a b x y (inr (inr (inl is))) h g = rw (is, g, h) refl
+emitted_pair ctx at s t a b x y (inr (inr (inr is))) h g = rw (is, g, h) refl
+
+pub emitted_if :
+    (ctx : Context) (at : Cursor) (s : State) (c a b : Box Term Global) (z x y : PlacedEmitted) →
+    z ≡ emit_term ctx (next_term at) s c.value →
+    x ≡ emit_term ctx z.place z.emitted.state a.value →
+    y ≡ emit_term ctx x.place x.emitted.state b.value →
+    emit_term ctx at s (If c a b)
+    ≡ placed y.place (choose (ctx.clock at.term) z.emitted.found x.emitted.found y.emitted)
+unfolding emit_term
+emitted_if ctx at s c a b z x y ez ex ey = rw (ey, ex, ez) refl
+
+-- ## Rows
+
+list_of_row :
+    (ctx : Context) (at : Cursor) (s : State) (n : _) (row : Row_of-Term n) →
+    emit_row ctx at s row ≡ emit_list ctx at s (items-the_row-Term n row)
+unfolding emit_term emit_list
+list_of_row ctx at s n end_of-Term = refl
+list_of_row ctx at s n (more_of-Term e rest) =
+    let x = emit_term ctx at s e in
+    cc (list_of_row ctx x.place x.emitted.state _ rest)
+
+-- a term does the same with a row of operands as with their list
+row_is :
+    (ctx : Context) (at from : Cursor) (s : State) (t : Term) (es : Vec Term Global) →
+    items-the_row-Term (row_in t).0 (row_in t).1 ≡ es.items →
+    (let r = emit_row ctx from s (row_in t).1 in placed r.place (with_all ctx at t r.emitted))
+    ≡ (let r = emit_list ctx from s es.items in placed r.place (with_all ctx at t r.emitted))
+row_is ctx at from s t es is =
+    let row = row_in t in
+    cc (list_of_row ctx from s row.0 row.1)
+
+abbrev whole_row : Context → Cursor → State → Term → Vec Term Global → PlacedEmitted
+whole_row ctx at s t es =
+    let r = emit_list ctx (row_place at t) s es.items in
+    placed r.place (with_all ctx at t r.emitted)
+
+row_form :
+    (ctx : Context) (at : Cursor) (s : State) (t : Term) (es : Vec Term Global) → IsRow t es →
+    emit_term ctx at s t ≡ whole_row ctx at s t es
+unfolding emit_term
+row_form ctx at s t es (inl e) =
+    rw e (row_is ctx at (next_term at) s (Array es) es (items_hidden-the_row-Term-0 es))
+row_form ctx at s t es (inr (inl e)) =
+    rw e (row_is ctx at (next_term at) s (AtMostOne es) es (items_hidden-the_row-Term-0 es))
+row_form ctx at s t es (inr (inr (inl e))) =
+    rw e (row_is ctx at (next_term at) s (Nor es) es (items_hidden-the_row-Term-0 es))
+row_form ctx at s t es (inr (inr (inr (inl (c, e))))) =
+    rw e (row_is ctx at (next_call at) s (Call c es) es (items_hidden-the_row-Term-0 es))
+row_form ctx at s t es (inr (inr (inr (inr (inl (it, c, e)))))) =
+    rw e (row_is ctx at (next_call at) s (IterateNode it c es) es (items_hidden-the_row-Term-0 es))
+row_form ctx at s t es (inr (inr (inr (inr (inr (it, op, n, e)))))) =
+    rw e (row_is ctx at (next_term at) s (IterateSymbol it op n es) es
+    (items_hidden-the_row-Term-0 es))
+
+pub emitted_all :
+    (ctx : Context) (at : Cursor) (s : State) (t : Term) (es : Vec Term Global) (xs : List Term)
+    (r : PlacedEmitted) → IsRow t es → xs ≡ es.items →
+    r ≡ emit_list ctx (row_place at t) s xs →
+    emit_term ctx at s t ≡ placed r.place (with_all ctx at t r.emitted)
+emitted_all ctx at s t es xs r is items er = cc (row_form ctx at s t es is)
+
+-- ## A list of terms, one after another
+
+-- the emission of some terms, with their elements on a stack
+abbrev pub listed_onto : Context → Cursor → Emitted → List Term → PlacedEmitted
+listed_onto ctx at x es =
+    let r = emit_list ctx at x.state es in placed r.place (onto x.found r.emitted)
+
+pub listed_none : (ctx : Context) (at : Cursor) (x : Emitted) →
+    listed_onto ctx at x [] ≡ placed at x
+unfolding emit_list
+listed_none ctx at x =
+    ap (λ (is : List ℕ). placed at (record { state = x.state; found = is })) (append-nil x.found)
+
+pub listed_more :
+    (ctx : Context) (at : Cursor) (x : Emitted) (es : List Term) (i : ℕ) (d : Term) →
+    i < length es →
+    listed_onto ctx at x (drop i es)
+    ≡ (let y = emit_term ctx at x.state (get_or es i d) in
+    listed_onto ctx y.place (onto x.found y.emitted) (drop (i + 1) es))
+unfolding emit_list
+listed_more ctx at x es i d lt =
+    let y = emit_term ctx at x.state (get_or es i d) in
+    let r = emit_list ctx y.place y.emitted.state (drop (i + 1) es) in
+    cc (drop_more es i d lt, append_assoc x.found y.emitted.found r.emitted.found)
+
+-- a step of the loop over terms: after term i, the terms from i + 1 on are left
+pub listed_step :
+    (ctx : Context) (at after : Cursor) (x next : Emitted) (es : List Term) (i : ℕ) (e d : Term)
+    (whole : PlacedEmitted) → i < length es → e ≡ get_or es i d →
+    (let y = emit_term ctx at x.state e in
+    placed after next ≡ placed y.place (onto x.found y.emitted)) →
+    listed_onto ctx at x (drop i es) ≡ whole →
+    listed_onto ctx after next (drop (i + 1) es) ≡ whole
+listed_step ctx at after x next es i e d whole lt is h before =
+    ap (λ (y : PlacedEmitted). listed_onto ctx y.place y.emitted (drop (i + 1) es)) h
+    ∙ ap (λ (e : Term). let y = emit_term ctx at x.state e in
+    listed_onto ctx y.place (onto x.found y.emitted) (drop (i + 1) es)) is
+    ∙ sym (listed_more ctx at x es i d lt) ∙ before
+
 -- The code that expands resolved terms, term by term: if the term has room, so has each operand,
 -- and what the operands leave on the stack makes what the term leaves.
-use Rattle.lb_flat.proofs.Words.{◌≡◌, ◌<◌, ◌≤◌, ℕ, ◌+◌, ◌^◌, List, [], ◌∷◌, ◌++◌, length, drop}
-use Rattle.lb_flat.proofs.Words.{get_or, Vec, Box, Global, arith, refl, sym, ap, ap₂, subst, ◌∙◌}
-use Rattle.lb_flat.proofs.Words.{drop-append_seam, Scalar, Boolean, StaticId, VariableId, Term}
-use Rattle.lb_flat.proofs.Words.{Value, State, Emitted, gives, add, chosen_by, Context, Cursor}
-use Rattle.lb_flat.proofs.Words.{PlacedEmitted, placed, next_term, row_place, literal, constant}
-use Rattle.lb_flat.proofs.Words.{choose, with_one, with_two, with_all, emit_term, emit_list}
-use Rattle.lb_flat.proofs.Words.{HasPlaces, HasRoom, stacked, FlatClock, Constant, onto, above}
-use Rattle.lb_flat.proofs.Words.{on_top, on_two, pushed, IsSingle, IsPair, IsRow}
-use Rattle.std.specs.Prelude.{Bool}
-use Rattle.lb_static.specs.declared.resolved.Term.{Literal, Truth, Variable, Group, If}
-use Rattle.lb_flat.proofs.emission.EmittedNumbers.{next_grows, list_grows, one_grows, two_grows}
-use Rattle.lb_flat.proofs.emission.EmittedNumbers.{all_grows}
-use Rattle.lb_flat.proofs.emission.EmittedNumbers.{add_grows, next_of_add}
-use Rattle.lb_flat.proofs.emission.EmittedPlaces.{IsNotAfter, place_grows, list_later, same_place}
-use Rattle.lb_flat.proofs.emission.EmittedRows.{emitted_single, emitted_pair, emitted_if}
-use Rattle.lb_flat.proofs.emission.EmittedRows.{emitted_all}
-use Rattle.lb_flat.proofs.emission.EmittedRows.{listed_onto, listed_more}
-use Rattle.lb_flat.proofs.emission.EmittedStacks.{on_top_onto, on_two_onto}
 
 -- ## Room
 

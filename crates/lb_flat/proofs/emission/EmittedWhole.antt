@@ -1,32 +1,26 @@
 -- The whole flat program that is emitted from the rows of the table of instances is the expansion
 -- of the program, where the numbers of a row's variables are those of its instance.
-use Rattle.lb_flat.proofs.Words.{◌≡◌, ℕ, zero, suc, ◌+◌, Bool, true, false, cond, Option, Some}
-use Rattle.lb_flat.proofs.Words.{None, IfSome, option_map, List, [], ◌∷◌, ◌++◌, map, length}
-use Rattle.lb_flat.proofs.Words.{flat_map, get_or, refl, ap, ap₂, sym, ◌∙◌, subst, arith, slice_get}
-use Rattle.lb_flat.proofs.Words.{if◌then◌else◌, range_with_len, filter, append_assoc, length-append}
-use Rattle.lb_flat.proofs.Words.{length-map, same_Some, ◌>>=◌, or_else, listed, Name, Declaration}
-use Rattle.lb_flat.proofs.Words.{Node, get_first, get_later, variables, input_kinds, Program}
-use Rattle.lb_flat.proofs.Words.{Instance, Path, Root, Observer, Child, instance_at, start_at}
-use Rattle.lb_flat.proofs.Words.{instances, static_refusal, IsTable, paths_of, among, clock_names}
-use Rattle.lb_flat.proofs.Words.{IsReached, node_of, Reached, ResolvedNode, Origin, Table, in_at}
-use Rattle.lb_flat.proofs.Words.{place_in, element_kinds, declared_clock, columns_at, History}
-use Rattle.lb_flat.proofs.Words.{property_path, clock_variables, instantiation_kept, at_path}
-use Rattle.lb_flat.proofs.Words.{in_instances, path_is, clocks_named, is_among, clock_numbers}
-use Rattle.lb_flat.proofs.Words.{State, Target, targets, copied, received, from_inputs}
-use Rattle.lb_flat.proofs.Words.{given_inputs, observed, property_places, clock_places}
-use Rattle.lb_flat.proofs.Words.{before_instances, emit_instances, expanded, bodies, Context}
-use Rattle.lb_flat.proofs.Words.{emit_rows, variable_targets, parameter_targets, places_from}
-use Rattle.lb_flat.proofs.Words.{is_start, start_of, start_from, start_in, given_at, observed_at}
-use Rattle.lb_flat.proofs.Words.{outputs_at, clocks_in, row_clocks, whole, FlatEquation, column}
-use Rattle.lb_flat.proofs.Words.{history_of, targets_of, kinds_from, FlatProgram, Layout}
-use Rattle.lb_flat.proofs.Words.{flat_clock, layout, node_at}
-use Rattle.lb_flat.proofs.widths.ObserverWidths.{observer_wide}
-use Rattle.lb_flat.proofs.solutions.Placing.{AreAsWide}
-use Rattle.lb_flat.proofs.widths.PropertyOutput.{property_of}
-use Rattle.lb_flat.proofs.frames.RowContexts.{own_resolved}
-use Rattle.lb_flat.proofs.numbering.RowInstances.{IsRow, rows_many, row_shown, row_of, root_path}
-use Rattle.lb_flat.proofs.numbering.RowInstances.{observer_path, origin_path}
-use Rattle.lb_flat.proofs.numbering.ReceivedInputs.{by_number, copied_append}
+use Rattle.lb_flat.proofs.Words
+use Words.{◌≡◌, ℕ, zero, suc, ◌+◌, Bool, true, false, Option, Some, None, IfSome, option_map, List}
+use Words.{[], ◌∷◌, ◌++◌, map, length, flat_map, get_or, refl, ap, ap₂, sym, ◌∙◌, subst, arith}
+use Words.{slice_get, if◌then◌else◌, range_with_len, filter, append_assoc, length-append}
+use Words.{length-map, same_Some, ◌>>=◌, or_else, listed, Name, Declaration, Node, get_first}
+use Words.{get_later, variables, input_kinds, Program, Instance, Path, Root, Observer, Child}
+use Words.{instance_at, start_at, instances, static_refusal, IsTable, paths_of, among, clock_names}
+use Words.{IsReached, node_of, Reached, ResolvedNode, Origin, Table, in_at, place_in, element_kinds}
+use Words.{declared_clock, columns_at, History, property_path, clock_variables, instantiation_kept}
+use Words.{at_path, in_instances, path_is, clocks_named, is_among, clock_numbers, State, Target}
+use Words.{targets, copied, received, from_inputs, given_inputs, observed, property_places}
+use Words.{clock_places, before_instances, emit_instances, expanded, bodies, Context, emit_rows}
+use Words.{variable_targets, parameter_targets, places_from, is_start, start_of, start_from}
+use Words.{start_in, given_at, observed_at, outputs_at, clocks_in, row_clocks, whole, FlatEquation}
+use Words.{column, history_of, targets_of, kinds_from, FlatProgram, Layout, flat_clock, layout}
+use Words.{node_at}
+use Rattle.lb_flat.proofs.{frames.RowContexts.own_resolved, numbering.ReceivedInputs.by_number}
+use Rattle.lb_flat.proofs.numbering.{ReceivedInputs.copied_append, RowInstances.{IsRow, rows_many}}
+use Rattle.lb_flat.proofs.numbering.RowInstances.{row_shown, row_of, root_path, observer_path}
+use Rattle.lb_flat.proofs.{numbering.RowInstances.origin_path, solutions.Placing.AreAsWide}
+use Rattle.lb_flat.proofs.widths.{PropertyOutput.property_of, SoundPrograms.observer_wide_in}
 use Rattle.lb_static.specs.declared.table.Instance as row
 use Rattle.lb_static.specs.declared.table.Origin.TheVariants as origin
 
@@ -385,7 +379,7 @@ module _ (P : Program) (r : Reached) (t : Table) (reached : IsReached P r)
             (subst (λ o. IfSome o (λ root. IfSome (instance_at P Observer) (λ observer.
             AreAsWide (still (layout P)) Observer observer.node.inputs
             (columns_at (still (layout P)) Root (root.node.inputs ++ root.node.outputs))))) e
-            (observer_wide P accepted [] [])) in
+            (observer_wide_in P accepted [] [])) in
             ap₂ (observed_at cs) s.found o.found
             ∙ (ap₂ copied (inputs_are o.number o.line observer o.at
             ∙ ap (λ p. inputs_at (layout P) observer.node p ds) o.path)

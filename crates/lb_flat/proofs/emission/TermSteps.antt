@@ -1,18 +1,21 @@
--- A relation of states that every word of emission keeps also holds from before to after the
--- emission of terms with resolved names, of statements and of rows.
-use Rattle.lb_flat.proofs.Words.{ℕ, List, [], ◌∷◌, BinaryOperator, ArrayIterator, Map, Red, Fill}
-use Rattle.lb_flat.proofs.Words.{ResolvedStatement, Term, Value, Group', Unary', Binary', If'}
-use Rattle.lb_flat.proofs.Words.{Arrow', Fby', Pre', Current', When', Replicate', Index', Slice'}
-use Rattle.lb_flat.proofs.Words.{Join', Array', AtMostOne', Nor', Call', IterateNode'}
-use Rattle.lb_flat.proofs.Words.{IterateSymbol', Row_of-Term, end_of-Term, more_of-Term}
-use Rattle.lb_flat.proofs.Words.{first_value, FlatClock, Operation, Previous, State, Emitted, keep}
-use Rattle.lb_flat.proofs.Words.{assert, Context, Cursor, first_place, next_term, memory, red}
-use Rattle.lb_flat.proofs.Words.{symbol, with_one, with_two, with_all, emit_term, emit_row}
-use Rattle.lb_flat.proofs.Words.{emit_list, emit_statement, emit_statements, emit_rows}
+-- Relations of states that hold along a whole term: the equations that it adds, the numbers that it
+-- takes.
+use Rattle.lb_flat.proofs.Words
+use Words.{ℕ, List, [], ◌∷◌, BinaryOperator, ArrayIterator, Map, Red, Fill, ResolvedStatement, Term}
+use Words.{Value, Group', Unary', Binary', If', Arrow', Fby', Pre', Current', When', Replicate'}
+use Words.{Index', Slice', Join', Array', AtMostOne', Nor', Call', IterateNode', IterateSymbol'}
+use Words.{Row_of-Term, end_of-Term, more_of-Term, first_value, FlatClock, Operation, Previous}
+use Words.{State, Emitted, keep, assert, Context, Cursor, first_place, next_term, memory, red}
+use Words.{symbol, with_one, with_two, with_all, emit_term, emit_row, emit_list, emit_statement}
+use Words.{emit_statements, emit_rows, ◌≡◌, suc, ◌+◌, length, arith, refl, length-append}
+use Words.{FlatEquation, numbered, after, add, joins, before_instances, ◌≤◌}
 use Rattle.lb_static.specs.declared.resolved.Term.{Literal, Truth, Variable}
 use Rattle.lb_flat.proofs.emission.EmissionSteps.{IsStep, Any, chained_step, nor_step}
-use Rattle.lb_flat.proofs.emission.EmissionSteps.{at_most_one_step}
+use Rattle.lb_flat.proofs.{emission.EmissionSteps.at_most_one_step, solutions.Closing.after_is}
 use Rattle.lb_static.specs.declared.resolved.ResolvedStatement.TheVariants as statement
+
+-- A relation of states that every word of emission keeps also holds from before to after the
+-- emission of terms with resolved names, of statements and of rows.
 
 module _ (R : State → State → Type 0) (w : IsStep Any R) where
   both : (s t u : State) → R s t → R t u → R s u
@@ -173,3 +176,130 @@ module _ (R : State → State → Type 0) (w : IsStep Any R) where
     rows_step s (row ∷ rows) =
         both s _ _ (statements_step row.0 first_place s row.1)
         (rows_step (emit_statements row.0 first_place s row.1).state rows)
+
+-- Each new element has one equation: emission adds as many equations of temporaries as it
+-- takes numbers.
+
+-- between two states, as many equations are added as numbers are taken
+abbrev pub Adds : State → State → Type 0
+Adds s t = t.next + length s.equations ≡ s.next + length t.equations
+
+counted : (i : ℕ) (k : FlatClock) (os : List Operation) →
+    after i os ≡ i + length (numbered i k os)
+counted i k [] = omega arith
+counted i k (o ∷ os) =
+    let e = counted (suc i) k os in omega (arith, e)
+
+add_adds : (k : FlatClock) (s : State) (os : List Operation) → Adds s (add k s os).state
+unfolding add
+add_adds k s os =
+    let size = length-append s.equations (numbered s.next k os) in
+    let e = counted s.next k os in omega (arith, size, e)
+
+keep_adds : (x : Emitted) → Adds x.state (keep x).state
+unfolding keep
+keep_adds x = refl
+
+joins_adds : (s : State) (qs : List FlatEquation) (is : List ℕ) → Adds s (joins s qs is).state
+unfolding joins
+joins_adds s qs is = refl
+
+assert_adds : (x : Emitted) → Adds x.state (assert x)
+unfolding assert
+assert_adds x = refl
+
+adding : IsStep Any Adds
+adding = record {
+  adding = record {
+    none = λ s. refl;
+    both = λ s t u a b. omega (arith, a, b);
+    adds = add_adds;
+  };
+  keeps = keep_adds;
+  joining = λ s qs is q. joins_adds s qs is;
+}
+
+-- after the elements of variables there is one element for each equation
+pub next_of_rows : (count : ℕ) (rows : List (Context × List ResolvedStatement)) →
+    (emit_rows (before_instances count) rows).next
+    ≡ count + length (emit_rows (before_instances count) rows).equations
+next_of_rows count rows =
+    let e : Adds (before_instances count) (emit_rows (before_instances count) rows) =
+    rows_step Adds adding assert_adds (before_instances count) rows in omega (arith, e)
+
+-- Emission takes only new numbers: the next free element never goes down.
+
+-- ## Words
+
+-- `add` takes one number for each operation
+pub next_of_add : (k : FlatClock) (s : State) (os : List Operation) →
+    (add k s os).state.next ≡ s.next + length os
+unfolding add
+next_of_add k s os = after_is s.next os
+
+pub add_grows : (k : FlatClock) (s : State) (os : List Operation) →
+    s.next ≤ (add k s os).state.next
+add_grows k s os = let e = next_of_add k s os in omega (arith, e)
+
+pub next_of_keep : (x : Emitted) → (keep x).state.next ≡ x.state.next
+unfolding keep
+next_of_keep x = refl
+
+joins_grows : (s : State) (qs : List FlatEquation) (is : List ℕ) →
+    s.next ≤ (joins s qs is).state.next
+unfolding joins
+joins_grows s qs is = omega arith
+
+assert_grows : (x : Emitted) → x.state.next ≤ (assert x).next
+unfolding assert
+assert_grows x = omega arith
+
+abbrev Grows : State → State → Type 0
+Grows s t = s.next ≤ t.next
+
+grows : IsStep Any Grows
+grows = record {
+  adding = record {
+    none = λ s. omega arith;
+    both = λ s t u a b. omega (arith, a, b);
+    adds = add_grows;
+  };
+  keeps = λ x. let e = next_of_keep x in omega (arith, e);
+  joining = λ s qs is q. joins_grows s qs is;
+}
+
+-- ## Terms
+
+pub one_grows : (ctx : Context) (at : Cursor) (e : Term) (x : Emitted) →
+    x.state.next ≤ (with_one ctx at e x).state.next
+one_grows = one_step Grows grows
+
+pub two_grows : (ctx : Context) (at : Cursor) (e : Term) (xs : List ℕ) (y : Emitted) →
+    y.state.next ≤ (with_two ctx at e xs y).state.next
+two_grows = two_step Grows grows
+
+pub all_grows : (ctx : Context) (at : Cursor) (e : Term) (r : Emitted) →
+    r.state.next ≤ (with_all ctx at e r).state.next
+all_grows = all_step Grows grows
+
+pub next_grows : (ctx : Context) (at : Cursor) (s : State) (e : Term) →
+    s.next ≤ (emit_term ctx at s e).emitted.state.next
+next_grows = term_step Grows grows
+
+pub list_grows : (ctx : Context) (at : Cursor) (s : State) (es : List Term) →
+    s.next ≤ (emit_list ctx at s es).emitted.state.next
+list_grows = list_step Grows grows
+
+-- ## Statements and rows
+
+pub statement_grows : (ctx : Context) (at : Cursor) (s : State) (x : ResolvedStatement) →
+    s.next ≤ (emit_statement ctx at s x).state.next
+statement_grows = statement_step Grows grows assert_grows
+
+pub statements_grow : (ctx : Context) (at : Cursor) (s : State) (xs : List ResolvedStatement) →
+    s.next ≤ (emit_statements ctx at s xs).state.next
+statements_grow = statements_step Grows grows assert_grows
+
+pub rows_grow : (s : State) (rows : List (Context × List ResolvedStatement)) →
+    s.next ≤ (emit_rows s rows).next
+rows_grow = rows_step Grows grows assert_grows

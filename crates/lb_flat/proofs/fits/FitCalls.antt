@@ -1,26 +1,20 @@
 -- The inputs of what is called are copies that fit, and what it gives is on the clock of the call.
-use Rattle.lb_flat.proofs.Words.{◌≡◌, ℕ, zero, suc, ◌+◌, ◌-◌, ◌/◌, ◌*◌, ◌<◌, true, ◌&&◌, Option}
-use Rattle.lb_flat.proofs.Words.{Some, None, List, [], ◌∷◌, ◌++◌, map, length, flat_map, drop, refl}
-use Rattle.lb_flat.proofs.Words.{sym, ap, ◌∙◌, subst, arith, range_with_len, same_Some}
-use Rattle.lb_flat.proofs.Words.{ArrayIterator, Map, Red, Fill, Kind, Every, part, all_some}
-use Rattle.lb_flat.proofs.Words.{where_true, listed, Name, Static, Node_named, Exprs, Declaration}
-use Rattle.lb_flat.proofs.Words.{Node, heads_same, tails_same, and_first, and_second, Program}
-use Rattle.lb_flat.proofs.Words.{Instance, Child, node_named, DataType, is_type, are_types}
-use Rattle.lb_flat.proofs.Words.{variable_type, array_of, operator_types, iterator_types, Clock}
-use Rattle.lb_flat.proofs.Words.{declared_clock, outputs_of, gathered, last_of, iterated}
-use Rattle.lb_flat.proofs.Words.{accumulated, iterator_inputs, truly, FlatClock, Layout, flat_clock}
-use Rattle.lb_flat.proofs.Words.{targets, copied, received, call_copies, iterator_copies}
-use Rattle.lb_flat.proofs.lists.Lists.{Every-append, Every-first, Every-second, Every-take}
-use Rattle.lb_flat.proofs.lists.Lists.{Every-drop}
-use Rattle.lb_flat.proofs.lists.Lists.{Every-of_pieces, Every-of_range}
-use Rattle.lb_flat.proofs.widths.TypeFacts.{bound}
-use Rattle.lb_flat.proofs.widths.OutputWidths.{each}
-use Rattle.lb_flat.proofs.widths.Widths.{called, placed}
-use Rattle.lb_flat.proofs.fits.KindFacts.{type_kind, array_kind, variable_kind}
-use Rattle.lb_flat.proofs.fits.FitWords.{Sorts, AreOn, IsFit, AllFit, copy_fit}
-use Rattle.lb_flat.proofs.fits.FitPlaces.{IsVariableOn, AreVariablesOn, IsCalleeOn, seen_clock}
-use Rattle.lb_flat.proofs.fits.FitPlaces.{IsCallOn}
-use Rattle.lb_flat.proofs.fits.FitPlaces.{IsIteratorOn}
+use Rattle.lb_flat.proofs.Words
+use Words.{◌≡◌, ℕ, zero, suc, ◌+◌, ◌-◌, ◌<◌, true, ◌&&◌, Option, Some, None, List, [], ◌∷◌, ◌++◌}
+use Words.{map, flat_map, refl, sym, ap, ◌∙◌, subst, arith, range_with_len, same_Some}
+use Words.{ArrayIterator, Map, Red, Fill, Kind, Every, part, all_some, where_true, listed, Name}
+use Words.{Static, Node_named, Exprs, Declaration, Node, heads_same, tails_same, and_first}
+use Words.{and_second, Program, Instance, Child, node_named, DataType, is_type, are_types}
+use Words.{variable_type, array_of, operator_types, iterator_types, declared_clock, outputs_of}
+use Words.{gathered, last_of, iterated, accumulated, iterator_inputs, truly, FlatClock, Layout}
+use Words.{flat_clock, targets, copied, received, call_copies, iterator_copies}
+use Rattle.{lb_check.specs.Clocks.Clock, lb_flat.proofs.fits.FitWords.{Sorts, AreOn, IsFit, AllFit}}
+use Rattle.lb_flat.proofs.fits.FitWords.{copy_fit, IsVariableOn, AreVariablesOn, IsCalleeOn}
+use Rattle.lb_flat.proofs.fits.{FitWords.{seen_clock, IsCallOn, IsIteratorOn}, KindFacts.type_kind}
+use Rattle.lb_flat.proofs.{fits.KindFacts.{array_kind, variable_kind}, lists.Lists.Every-append}
+use Rattle.lb_flat.proofs.lists.Lists.{Every-first, Every-second, Every-take, Every-drop}
+use Rattle.lb_flat.proofs.{lists.Lists.{Every-of_pieces, Every-of_range}, widths.TypeFacts.bound}
+use Rattle.lb_flat.proofs.widths.{TypeFacts.each, Widths.{called, placed}}
 
 pub nothing_same : {A : Type 0} {B : Type 0} (x : A) (xs : List A) → [] ≡ x ∷ xs → B
 nothing_same x xs e = absurd cc

@@ -1,53 +1,41 @@
 -- The equations of an expression fit; its elements are on its clock and of the kind of its type.
-use Rattle.lb_flat.proofs.Words.{◌≡◌, ℕ, ◌+◌, Bool, true, false, ◌&&◌, ◌||◌, not, cond, ℤ, pos, ◌⊎◌}
-use Rattle.lb_flat.proofs.Words.{inl, inr, Option, Some, None, IfSome, option_map, List, [], ◌∷◌}
-use Rattle.lb_flat.proofs.Words.{◌++◌, map, refl, sym, ap, ◌∙◌, subst, subst₂, bytes_eq}
-use Rattle.lb_flat.proofs.Words.{bytes_eq-Decides, same_Some, BinaryOperator, Plus, Minus, Times}
-use Rattle.lb_flat.proofs.Words.{Divide, Modulo, ArrayIterator, Map, Red, Fill, Kind, Int, Every}
-use Rattle.lb_flat.proofs.Words.{joined, all_some, either_or, where_true, Name, Node_named, Symbol}
-use Rattle.lb_flat.proofs.Words.{Expr, Literal, Truth, Variable, Group, Unary, Binary, If, Arrow}
-use Rattle.lb_flat.proofs.Words.{Fby, Pre, Current, When, Replicate, Index, Slice, Join, Array}
-use Rattle.lb_flat.proofs.Words.{AtMostOne, Nor, Call, Iterate, Exprs, Nil, Cons, Declaration}
-use Rattle.lb_flat.proofs.Words.{implied, and_first, and_second, name_same, named, Program}
-use Rattle.lb_flat.proofs.Words.{Instance, static_count, node_named, name_value, DataType, int}
-use Rattle.lb_flat.proofs.Words.{truth, is_type, are_types, variables, variable_type, among}
-use Rattle.lb_flat.proofs.Words.{variable_names, data_types, all_types, singly, name_data_type}
-use Rattle.lb_flat.proofs.Words.{from_one, from_truths, unary_type, binary_type, common_type}
-use Rattle.lb_flat.proofs.Words.{array_of, index_type, slice_type, join_type, list_type}
-use Rattle.lb_flat.proofs.Words.{is_arithmetic, is_logical, constant_type, operator_types}
-use Rattle.lb_flat.proofs.Words.{iterator_types, Scalar, Integer, Boolean, or_fault, first_value}
-use Rattle.lb_flat.proofs.Words.{is_clock, Occurrence, call_count, call_clocks, occurrences}
-use Rattle.lb_flat.proofs.Words.{occurrences_in, occurrences_each, number, clock_same, first_of_all}
-use Rattle.lb_flat.proofs.Words.{truly, FlatClock, Where, Constant, ApplyUnary, ApplyBinary}
-use Rattle.lb_flat.proofs.Words.{FirstThen, Previous, Latest, Sample, FlatEquation, Layout}
-use Rattle.lb_flat.proofs.Words.{where_signed, flat_clock, State, Emitted, EmittedAll, add, joins}
-use Rattle.lb_flat.proofs.Words.{emit_symbol, emit_name, emit, emit_all, emit_each}
-use Rattle.lb_syntax.specs.declared.tree.Kind.TheVariants.{Bool as Truth_kind}
-use Rattle.lb_check.specs.Clocks.{Clock, On, clock_of, clock_or, declared_clock}
-use Rattle.lb_flat.proofs.lists.Lists.{Every-append, Every-first, Every-second, Every-take}
-use Rattle.lb_flat.proofs.lists.Lists.{Every-drop}
-use Rattle.lb_flat.proofs.lists.Lists.{Every-copies, Every-joined}
-use Rattle.lb_flat.proofs.solutions.Emission.{joins_equations}
-use Rattle.lb_flat.proofs.runs.ScalarKinds.{IsOf, nil_of, binary_kind}
-use Rattle.lb_flat.proofs.widths.TypeFacts.{bound, alone, one, two, from_true, Symbolic, constant}
-use Rattle.lb_flat.proofs.widths.TypeFacts.{symbolic}
-use Rattle.lb_flat.proofs.widths.OutputWidths.{found_in, each}
-use Rattle.lb_flat.proofs.widths.TypedBodies.{found_passes}
-use Rattle.lb_flat.proofs.fits.KindFacts.{AllOf, type_kind, kinds_alike, arrays_alike, unary_kinds}
-use Rattle.lb_flat.proofs.fits.KindFacts.{binary_kinds, common_kinds, array_kind, index_kind}
-use Rattle.lb_flat.proofs.fits.KindFacts.{slice_kind}
-use Rattle.lb_flat.proofs.fits.KindFacts.{join_kinds, list_kinds, variable_kind}
+use Rattle.lb_flat.proofs.Words
+use Words.{◌≡◌, ℕ, ◌+◌, Bool, true, false, ◌&&◌, ◌||◌, not, cond, ℤ, pos, ◌⊎◌, inl, inr, Option}
+use Words.{Some, None, IfSome, option_map, List, [], ◌∷◌, ◌++◌, map, refl, sym, ap, ◌∙◌, subst}
+use Words.{subst₂, bytes_eq, bytes_eq-Decides, same_Some, BinaryOperator, Plus, Minus, Times}
+use Words.{Divide, Modulo, ArrayIterator, Map, Red, Fill, Kind, Int, Every, joined, all_some}
+use Words.{either_or, where_true, Name, Node_named, Symbol, Expr, Literal, Truth, Variable, Group}
+use Words.{Unary, Binary, If, Arrow, Fby, Pre, Current, When, Replicate, Index, Slice, Join, Array}
+use Words.{AtMostOne, Nor, Call, Iterate, Exprs, Nil, Cons, Declaration, implied, and_first}
+use Words.{and_second, name_same, named, Program, Instance, static_count, node_named, name_value}
+use Words.{DataType, int, truth, is_type, are_types, variables, variable_type, among}
+use Words.{variable_names, data_types, all_types, singly, name_data_type, from_one, from_truths}
+use Words.{unary_type, binary_type, common_type, array_of, index_type, slice_type, join_type}
+use Words.{list_type, is_arithmetic, is_logical, constant_type, operator_types, iterator_types}
+use Words.{Scalar, Integer, Boolean, or_fault, first_value, is_clock, Occurrence, call_count}
+use Words.{call_clocks, occurrences, occurrences_in, occurrences_each, number, clock_same}
+use Words.{first_of_all, truly, FlatClock, Where, Constant, ApplyUnary, ApplyBinary, FirstThen}
+use Words.{Previous, Latest, Sample, FlatEquation, Layout, where_signed, flat_clock, State, Emitted}
+use Words.{EmittedAll, add, joins, emit_symbol, emit_name, emit, emit_all, emit_each, Truth_kind}
+use Words.{On, clock_or, declared_clock}
+use Rattle.{lb_check.specs.Clocks.{Clock, clock_of}, lb_flat.proofs.fits.FitCalls.AreArguments}
+use Rattle.lb_flat.proofs.fits.FitCalls.{AllOn, call_fit, call_found, iterator_fit, iterator_found}
 use Rattle.lb_flat.proofs.fits.FitWords.{Sorts, IsOn, AreOn, AllSorted, AllFit, IsFit, Gives}
 use Rattle.lb_flat.proofs.fits.FitWords.{integer_gives, boolean_gives, fault_gives, unary_sorted}
 use Rattle.lb_flat.proofs.fits.FitWords.{binary_sorted, first_then_sorted, previous_sorted}
 use Rattle.lb_flat.proofs.fits.FitWords.{latest_sorted, sample_sorted, Grown, Fit, not_grown}
-use Rattle.lb_flat.proofs.fits.FitWords.{then_grown}
-use Rattle.lb_flat.proofs.fits.FitWords.{then_fit, add_fit, keep_fit, one_fit, two_fit, choice_fit}
-use Rattle.lb_flat.proofs.fits.FitWords.{nor_before, nor_fit, at_most_one_before, at_most_one_fit}
-use Rattle.lb_flat.proofs.fits.FitWords.{symbol_before, symbol_fit}
-use Rattle.lb_flat.proofs.fits.FitPlaces.{IsVariableOn, AreVariablesOn, IsSet}
-use Rattle.lb_flat.proofs.fits.FitCalls.{AreArguments, AllOn, call_fit, call_found, iterator_fit}
-use Rattle.lb_flat.proofs.fits.FitCalls.{iterator_found}
+use Rattle.lb_flat.proofs.fits.FitWords.{then_grown, then_fit, add_fit, keep_fit, one_fit, two_fit}
+use Rattle.lb_flat.proofs.fits.FitWords.{choice_fit, nor_before, nor_fit, at_most_one_before}
+use Rattle.lb_flat.proofs.fits.FitWords.{at_most_one_fit, symbol_before, symbol_fit, IsVariableOn}
+use Rattle.lb_flat.proofs.fits.{FitWords.{AreVariablesOn, IsSet}, KindFacts.{AllOf, type_kind}}
+use Rattle.lb_flat.proofs.fits.KindFacts.{kinds_alike, arrays_alike, unary_kinds, binary_kinds}
+use Rattle.lb_flat.proofs.fits.KindFacts.{common_kinds, array_kind, index_kind, slice_kind}
+use Rattle.lb_flat.proofs.fits.KindFacts.{join_kinds, list_kinds, variable_kind}
+use Rattle.lb_flat.proofs.lists.Lists.{Every-append, Every-first, Every-second, Every-take}
+use Rattle.lb_flat.proofs.{lists.Lists.{Every-drop, Every-copies, Every-joined}, runs.Fitting.IsOf}
+use Rattle.lb_flat.proofs.{runs.Fitting.{nil_of, binary_kind}, solutions.Emission.joins_equations}
+use Rattle.lb_flat.proofs.widths.{PlacedCalls.found_passes, TypeFacts.{bound, alone, one, two}}
+use Rattle.lb_flat.proofs.widths.TypeFacts.{from_true, Symbolic, constant, symbolic, found_in, each}
 
 arithmetic_kind :
     (op : BinaryOperator) → is_arithmetic op ≡ true → binary_kind op Int Int ≡ Some Int

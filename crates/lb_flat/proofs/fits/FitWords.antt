@@ -1,18 +1,25 @@
--- The small words of expansion give elements on a clock and of a kind, and equations that fit.
-use Rattle.lb_flat.proofs.Words.{◌≡◌, ℕ, suc, Bool, false, ℤ, Some, List, [], ◌∷◌, map, length}
-use Rattle.lb_flat.proofs.Words.{refl, sym, ap, ap₂, ◌∙◌, subst, UnaryOperator, Not, Negate}
-use Rattle.lb_flat.proofs.Words.{BinaryOperator, Or, And, Plus, ArrayIterator, Map, Red, Kind, Int}
-use Rattle.lb_flat.proofs.Words.{Every, zip2, Scalar, Integer, Boolean, Bad, FlatClock, Where}
-use Rattle.lb_flat.proofs.Words.{Operation, Constant, Copy, ApplyUnary, ApplyBinary, Choose}
-use Rattle.lb_flat.proofs.Words.{FirstThen, Previous, Latest, Sample, FlatEquation, operation_kind}
-use Rattle.lb_flat.proofs.Words.{State, Emitted, numbered, numbers, add, keep, push, chosen_by}
-use Rattle.lb_flat.proofs.Words.{chained, twice, negated, emit_nor, emit_at_most_one, emit_symbol}
+-- The small words of expansion give equations that fit, under conditions on places and clocks.
+use Rattle.lb_flat.proofs.Words
+use Words.{◌≡◌, ℕ, suc, Bool, false, ℤ, Some, List, [], ◌∷◌, map, length, refl, sym, ap, ap₂, ◌∙◌}
+use Words.{subst, UnaryOperator, Not, Negate, BinaryOperator, Or, And, Plus, ArrayIterator, Map}
+use Words.{Red, Kind, Int, Every, zip2, Scalar, Integer, Boolean, Bad, FlatClock, Where, Operation}
+use Words.{Constant, Copy, ApplyUnary, ApplyBinary, Choose, FirstThen, Previous, Latest, Sample}
+use Words.{FlatEquation, operation_kind, State, Emitted, numbered, numbers, add, keep, push}
+use Words.{chosen_by, chained, twice, negated, emit_nor, emit_at_most_one, emit_symbol, ◌<◌, true}
+use Words.{pos, None, ◌++◌, zip, list_all, Name, Static, Node_named, Symbol, Expr, Literal}
+use Words.{Variable, When, Call, Iterate, Exprs, Declaration, Node, Statement, Equation, Assertion}
+use Words.{Program, Instance, Child, call_site, callee_of, node_named, name_value, named, variables}
+use Words.{width, or_fault, is_occurrence_clocked, is_statement_clocked, is_statement_typed}
+use Words.{is_arithmetic, Occurrence, node_occurrences, statements, number, Layout, flat_clock}
+use Words.{declared_clock, base_clock, outer, ungrouped}
 use Rattle.lb_syntax.specs.declared.tree.Kind.TheVariants.{Bool as Truth}
-use Rattle.lb_flat.specs.TemporaryKinds.{unary_result, binary_result}
-use Rattle.lb_flat.proofs.lists.Lists.{Every-append, Every-first, Every-second}
-use Rattle.lb_flat.proofs.runs.OnClock.{OperandsFit, ClockFits}
-use Rattle.lb_flat.proofs.runs.ScalarKinds.{IsOf, binary_kind, unary_kind}
-use Rattle.lb_flat.proofs.runs.Fitting.{OperandKinds, KindFits, IsFitting}
+use Rattle.{lb_check.specs.Clocks.{Clock, given_inputs}, lb_flat.specs.TemporaryKinds.unary_result}
+use Rattle.lb_flat.{specs.TemporaryKinds.binary_result, proofs.lists.Lists.Every-append}
+use Rattle.lb_flat.proofs.{lists.Lists.{Every-first, Every-second}, runs.Fitting.OperandsFit}
+use Rattle.lb_flat.proofs.runs.Fitting.{ClockFits, IsOf, binary_kind, unary_kind, OperandKinds}
+use Rattle.lb_flat.proofs.runs.Fitting.{KindFits, IsFitting}
+
+-- The small words of expansion give elements on a clock and of a kind, and equations that fit.
 
 -- the kinds of the inputs, and the clock and the kind that each element is to have
 pub record Sorts : Type 0 where
@@ -447,3 +454,112 @@ module _ (S : Sorts) where
   symbol_fit k c op e s Red ((init ∷ []) ∷ (ys ∷ [])) p h =
       chained_fit k c op e s init ys p.0.0 p.1.0 h
   symbol_fit k c op e s it found p h = record { grown = not_grown s h; found = tt }
+
+-- Conditions on the places and clocks of variables under which the equations of expansion fit: for
+-- an instance, for what it calls, and for each occurrence of an expression in it.
+
+module _ (S : Sorts) (Y : Layout) (P : Program) where
+  -- ## Variables
+
+  -- a variable of an instance has as many elements as it is wide, on its clock and of its kind
+  pub record IsVariableOn (c : Instance) (d : Declaration) : Type 0 where
+    pub wide : length (Y.places c.path d.name) ≡ width P c d
+    pub elements :
+        AreOn S (flat_clock Y c.path (declared_clock c.node d.name)) d.kind
+        (Y.places c.path d.name)
+
+  abbrev pub AreVariablesOn : Instance → Type 0
+  AreVariablesOn c = Every (IsVariableOn c) (variables c.node)
+
+  module _ (here : Instance) where
+    -- the variables of what is called have them too
+    abbrev pub IsCalleeOn : ℕ → Name → List Static → ℕ → Type 0
+    IsCalleeOn n f statics i =
+        (c : Instance) → callee_of P here (call_site f statics) n i ≡ Some c → AreVariablesOn c
+
+    -- ## The clocks of the variables of what is called
+
+    -- the clock of a variable of a callee, as its caller sees it
+    abbrev pub seen_clock : Clock → Exprs → Node → Declaration → Clock
+    seen_clock k es callee d =
+        outer (base_clock k callee) (given_inputs callee.inputs es) (declared_clock callee d.name)
+
+    -- the inputs of a call are on the clocks of its arguments; where it has exactly one output,
+    -- that one is on the clock of the call
+    pub record IsCallOn (k : Clock) (n : ℕ) (es : Exprs) (callee : Node) : Type 0 where
+      pub inputs :
+          Every (λ d.
+          flat_clock Y (Child here.path n 0) (declared_clock callee d.name)
+          ≡ flat_clock Y here.path (seen_clock k es callee d)) callee.inputs
+      pub result :
+          (d : Declaration) → callee.outputs ≡ d ∷ [] →
+          flat_clock Y (Child here.path n 0) (declared_clock callee d.name)
+          ≡ flat_clock Y here.path k
+
+    -- the inputs and outputs of an instance of an iterator are on its clock
+    abbrev pub IsIteratorOn : Clock → ℕ → ℕ → Node → Type 0
+    IsIteratorOn k n i callee =
+        Every (λ d.
+        flat_clock Y (Child here.path n i) (declared_clock callee d.name)
+        ≡ flat_clock Y here.path k) (callee.inputs ++ callee.outputs)
+
+    -- ## Left variables
+
+    -- the outputs of a call are on the clocks of left variables, pair by pair
+    abbrev pub AreLeftsOn : ℕ → List Name → Node → Type 0
+    AreLeftsOn n lefts callee =
+        Every (λ u.
+        flat_clock Y (Child here.path n 0) (declared_clock callee u.0.name)
+        ≡ flat_clock Y here.path (declared_clock here.node u.1)) (zip callee.outputs lefts)
+
+    -- the outputs are on these clocks, where the right side of an equation is a call
+    abbrev pub AreCallLeftsOn : ℕ → List Name → Expr → Type 0
+    AreCallLeftsOn n lefts e =
+        (f : Name) (statics : List Static) (es : Exprs) (callee : Node) →
+        ungrouped e ≡ Call f statics es → node_named P f ≡ Some callee → AreLeftsOn n lefts callee
+
+    abbrev pub CallLefts : ℕ → Statement → Type 0
+    CallLefts n (Equation lefts e) = AreCallLeftsOn n lefts e
+    CallLefts n (Assertion e) = Unit {0}
+
+    -- a statement keeps the rules of clocks, and its left variables are on the clocks of outputs
+    pub record IsStatementSet (s : Statement) (o : Occurrence) : Type 0 where
+      pub clocked : is_statement_clocked P here.node s o ≡ true
+      pub calls : CallLefts o.calls_before s
+
+    -- ## Occurrences
+
+    -- constants are of kind `int`, the variable of `when` has an element, a symbol takes what it
+    -- gives, and what is called has its places and clocks; an iterator has at least one instance
+    abbrev pub IsSetAt : Clock → ℕ → Expr → Type 0
+    IsSetAt k n (Literal m) = IsOf Int (Integer (pos m))
+    IsSetAt k n (Variable x) =
+        named (λ d. d.name) x (variables here.node) ≡ None →
+        IsOf Int (or_fault (name_value P here x))
+    IsSetAt k n (When a x sign) =
+        (i : ℕ) × (rest : List ℕ) × (Y.signs here.path x ≡ i ∷ rest)
+    IsSetAt k n (Call f statics es) =
+        IsCalleeOn n f statics 0
+        × ((callee : Node) → node_named P f ≡ Some callee → IsCallOn k n es callee)
+    IsSetAt k n (Iterate it (Node_named f statics) m es) =
+        (0 < number P here m)
+        × ((i : ℕ) → i < number P here m →
+        IsCalleeOn n f statics i
+        × ((callee : Node) → node_named P f ≡ Some callee → IsIteratorOn k n i callee))
+    IsSetAt k n (Iterate it (Symbol op) m es) =
+        is_arithmetic op ≡ false → binary_kind op Truth Truth ≡ Some Truth
+    IsSetAt k n e = Unit {0}
+
+    -- an occurrence has all of this, and keeps the rules of clocks
+    pub record IsSet (o : Occurrence) : Type 0 where
+      pub at_it : IsSetAt o.clock o.calls_before o.expr
+      pub clocked : is_occurrence_clocked P here.node o ≡ true
+
+    -- ## An instance
+
+    -- an instance has all of this, and its statements keep the rules of types
+    pub record IsInstanceSet : Type 0 where
+      pub variables_on : AreVariablesOn here
+      pub typed : list_all (is_statement_typed P here) here.node.body ≡ true
+      pub all_set : Every IsSet (node_occurrences P here.node)
+      pub bodies_set : Every (λ s. IsStatementSet s.0 s.1) (statements P here.node)

@@ -1,45 +1,77 @@
--- What a frame reads of a row of a checked program is what the numbers in the row's text stand for.
-use Rattle.lb_flat.proofs.Words.{◌≡◌, ℕ, zero, suc, ◌+◌, ◌<◌, ◌≤◌, Bool, true, false, Option, Some}
-use Rattle.lb_flat.proofs.Words.{None, List, [], ◌∷◌, ◌++◌, length, flat_map, take, get_or}
-use Rattle.lb_flat.proofs.Words.{option_map, refl, ap, ap₂, sym, ◌∙◌, subst, arith, range_with_len}
-use Rattle.lb_flat.proofs.Words.{length-append, length-range_with_len, sum_by-append, sum_by-cons}
-use Rattle.lb_flat.proofs.Words.{get_or_from_slice_get, same_Some, le-leb, lt-ltb, ◌>>=◌, either_or}
-use Rattle.lb_flat.proofs.Words.{In, listed, mapped_from, all_at, is_int, variables}
-use Rattle.lb_flat.proofs.Words.{elaborated_program, Program, Instance, Child, Site, node_named}
-use Rattle.lb_flat.proofs.Words.{node_sites, instances, keeps_names, variable_names, IsResolved}
-use Rattle.lb_flat.proofs.Words.{node_of, counts_of, is_variable, name_at, Reached, ResolvedNode}
-use Rattle.lb_flat.proofs.Words.{VariableId, Specialization, Table, in_at, place_in, declared_clock}
-use Rattle.lb_flat.proofs.Words.{IsChecked, Occurrence, node_occurrences, HasClocks, clock_in}
-use Rattle.lb_flat.proofs.Words.{is_clock_within, name_in, Bad, Integer, or_fault, declared_in}
-use Rattle.lb_flat.proofs.Words.{Checking, NodeClocks, instance_there, names_kept, declared_within}
-use Rattle.lb_flat.proofs.Words.{count_of, get_mapped, site_occurs, flat_clock, layout, row_context}
-use Rattle.lb_flat.proofs.Words.{parameters_of, value_at, held_below, held_value, frame_contexts}
-use Rattle.lb_flat.proofs.Words.{read_clocks, found_row, row_read, sum_of, widths_in, first_of_row}
-use Rattle.lb_flat.proofs.Words.{row_numbers, numbers_at, called_row, child_row, child_numbers}
-use Rattle.lb_flat.proofs.Words.{IsLayoutOf, sources_of, all_clocks, all_runs, clock_id, node_at}
-use Rattle.lb_flat.proofs.Words.{clock_of, Children, Clocks}
-use Rattle.std.specs.Prelude.{ℤ, nat_le, slice_get, if◌then◌else◌}
+-- What a frame reads of a row of a checked program, its clocks among it.
+use Rattle.lb_flat.proofs.Words
+use Words.{◌≡◌, ◌≤◌, ℕ, true, Option, List, ap₂, sym, ◌∙◌, subst, elaborated_program, Instance}
+use Words.{IsChecked, clock_in, is_clock_within, Checking, path_place, path_runs, path_before}
+use Words.{IsClockTable, flat_clock, layout, IsLayoutOf, sources_of, all_clocks, all_runs, clock_id}
+use Words.{clock_of, ClockId, zero, suc, ◌+◌, ◌<◌, Bool, false, Some, None, [], ◌∷◌, ◌++◌, length}
+use Words.{flat_map, take, get_or, option_map, refl, ap, arith, range_with_len, length-append}
+use Words.{length-range_with_len, sum_by-append, sum_by-cons, get_or_from_slice_get, same_Some}
+use Words.{le-leb, lt-ltb, ◌>>=◌, In, listed, mapped_from, all_at, is_int, variables, Program}
+use Words.{Child, Site, node_named, node_sites, instances, keeps_names, IsResolved, node_of}
+use Words.{counts_of, is_variable, Reached, ResolvedNode, VariableId, Specialization, Table, in_at}
+use Words.{place_in, declared_clock, Occurrence, node_occurrences, HasClocks, name_in, declared_in}
+use Words.{instance_there, names_kept, declared_within, count_of, get_mapped, site_occurs}
+use Words.{row_context, parameters_of, value_at, held_below, held_value, frame_contexts}
+use Words.{read_clocks, row_read, sum_of, widths_in, first_of_row, row_numbers, numbers_at}
+use Words.{called_row, child_row, child_numbers, Children, Clocks, ℤ, nat_le, slice_get}
+use Words.{if◌then◌else◌, IsReached, source_names, callee_in}
 use mathlib.Core.Path.{fun_ext}
-use Rattle.lb_static.specs.ReachedNodes.{IsReached, id_at, source_names, callee_in}
-use Rattle.lb_static.specs.declared.reachable.NodeId.{NodeId}
+use Rattle.lb_static.specs.{ReachedNodes.id_at, declared.reachable.NodeId.NodeId}
 use Rattle.lb_static.specs.declared.resolved.CallSite.{CallSite}
-use Rattle.lb_check.specs.declared.own_clock.Clock.{Clock}
-use Rattle.lb_check.specs.declared.own_clock.Clock.TheVariants.{Base, On}
-use Rattle.lb_check.proofs.clocking.ClockTests.{declared_is}
-use Rattle.lb_check.proofs.clocking.NodeClocks.{resolved_at}
+use Rattle.lb_check.specs.declared.own_clock.Clock.{Clock, TheVariants.{Base, On}}
+use Rattle.lb_check.proofs.clocking.{ClockTests.declared_is, WholeClocks.resolved_at}
 use Rattle.lb_flat.specs.RowFrames.{Read, held_callee, read_clock, read_context, read_id}
-use Rattle.lb_flat.specs.RowFrames.{read_numbers, found_terms, input_id, int_value, no_context}
-use Rattle.lb_flat.specs.RowFrames.{row_found_context}
-use Rattle.lb_flat.specs.Rows.{row_widths}
+use Rattle.lb_flat.specs.{RowFrames.{read_numbers, found_terms, input_id}, Rows.row_widths}
 use Rattle.lb_flat.specs.declared.layout.Layout.{Layout}
-use Rattle.lb_flat.proofs.clock_tables.FilledClocks.{node_found, own_clocks}
-use Rattle.lb_flat.proofs.clock_tables.FilledFrom.{clock_filled}
-use Rattle.lb_flat.proofs.numbering.NumberedRows.{row_variables}
-use Rattle.lb_flat.proofs.numbering.RowChildren.{child_found}
-use Rattle.lb_flat.proofs.frames.RowContexts.{callee_is}
+use Rattle.lb_flat.proofs.clock_tables.FilledClocks.{filled_table, row_clock, node_found}
+use Rattle.lb_flat.proofs.{clock_tables.FilledClocks.own_clocks, frames.RowContexts.callee_is}
+use Rattle.lb_flat.proofs.numbering.{NumberedRows.row_variables, RowChildren.child_found}
 use Rattle.lb_flat.proofs.numbering.RowInstances.{IsRow, row_of}
 use Rattle.lb_static.specs.declared.table.Instance as row
+use Rattle.lb_flat.specs.declared.equation.Clock as table
 use Rattle.lb_check.specs.Clocks as tree
+
+-- The clocks that are filled from a checked program and a layout of its rows are the program's.
+
+module _ (c : Checking) (lawful : IsChecked c) (l : Layout)
+    (laid : IsLayoutOf c.elab.reached c.elab.table l) where
+  -- a table and rows that are filled in this way are the clock table of the program
+  pub clocks_filled :
+      (clocks : List table.Clock) (runs : List (Option ClockId)) →
+      clocks ≡ all_clocks (sources_of c l) → runs ≡ all_runs (sources_of c l) →
+      IsClockTable (elaborated_program c.elab) clocks
+      (path_place (elaborated_program c.elab) l.variables.items)
+      (path_runs (elaborated_program c.elab) runs)
+      (path_before (elaborated_program c.elab) l.variables.items)
+  clocks_filled clocks runs e f =
+      let P = elaborated_program c.elab in
+      let small = subst (λ n. n ≤ 65536) laid.count laid.few in
+      subst (λ ks. IsClockTable P ks (path_place P l.variables.items) (path_runs P runs)
+      (path_before P l.variables.items)) (sym e)
+      (subst (λ rs. IsClockTable P (all_clocks (sources_of c l)) (path_place P l.variables.items)
+      (path_runs P rs) (path_before P l.variables.items)) (sym f)
+      (filled_table P c.elab.reached c.elab.table lawful.elaborated.reached lawful.elaborated.table
+      lawful.elaborated.accepted lawful.accepted c.clocks.items lawful.clocks l.variables.items
+      l.starts.items laid.numbers laid.variables small))
+
+  -- each clock of a row is found at its place
+  pub clock_filled :
+      (clocks : List table.Clock) (runs : List (Option ClockId)) →
+      clocks ≡ all_clocks (sources_of c l) → runs ≡ all_runs (sources_of c l) →
+      (k : ℕ) (i : row.Instance) (here : Instance)
+      (is : IsRow (elaborated_program c.elab) c.elab.reached c.elab.table lawful.elaborated.table k
+      i here) (own : Clock) → is_clock_within is.node own ≡ true →
+      clock_of clocks (clock_id l.variables.items runs k own)
+      ≡ flat_clock (layout (elaborated_program c.elab)) here.path (clock_in is.node own)
+  clock_filled clocks runs e f k i here is own w =
+      let P = elaborated_program c.elab in
+      let small = subst (λ n. n ≤ 65536) laid.count laid.few in
+      ap₂ (λ ks rs. clock_of ks (clock_id l.variables.items rs k own)) e f
+      ∙ row_clock P c.elab.reached c.elab.table lawful.elaborated.reached lawful.elaborated.table
+      lawful.elaborated.accepted lawful.accepted c.clocks.items lawful.clocks l.variables.items
+      l.starts.items laid.numbers laid.variables small k i here is own w
+
+-- What a frame reads of a row of a checked program is what the numbers in the row's text stand for.
 
 -- ## Numbers of elements
 
@@ -214,10 +246,6 @@ module _ (c : Checking) (lawful : IsChecked c) (l : Layout) (all : Children) (k 
   module _ (j : ℕ) (i : row.Instance) (here : Instance)
       (is : IsRow (elaborated_program c.elab) c.elab.reached c.elab.table
       lawful.elaborated.table j i here) where
-    -- the row that is found at number `j` is this row
-    row_found :
-        found_row c j ≡ Some (is.specialization, is.node)
-    row_found = cc (is.row_is, is.specialized, is.resolved)
 
     -- what a frame of the row reads stands for the numbers of the row
     pub frame_is :

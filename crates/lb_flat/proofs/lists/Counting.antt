@@ -2,11 +2,10 @@
 use Rattle.lb_flat.proofs.Words.{◌≡◌, ℕ, zero, suc, ◌+◌, Bool, true, false, nat_eq, Option, Some}
 use Rattle.lb_flat.proofs.Words.{None, IfSome, option_map, List, [], ◌∷◌, map, length, fold, cond}
 use Rattle.lb_flat.proofs.Words.{refl, sym, ap, ap₂, ◌∙◌, arith, sum_by-cons, Not, Or, And, Every}
-use Rattle.lb_flat.proofs.Words.{zip2, all_some, tail_of, Scalar, Integer, Boolean, Bad, Cell}
-use Rattle.lb_flat.proofs.Words.{Stream, two_scalars, one_scalar, at_most_one, none_true, strict}
-use Rattle.lb_flat.proofs.Words.{held, constantly, along, along_two, first_cell, across}
-use Rattle.std.proofs.Common.{nat_le, count_by}
-use Rattle.lb_check.specs.Scalars.{Nil, is_true}
+use Rattle.lb_flat.proofs.Words.{zip2, all_some, tail_of, Scalar, Integer, Boolean, Bad, Stream}
+use Rattle.lb_flat.proofs.Words.{two_scalars, one_scalar, at_most_one, none_true, strict, held}
+use Rattle.lb_flat.proofs.Words.{constantly, along, along_two, first_cell, across, nat_le, count_by}
+use Rattle.lb_check.specs.Scalars.{Cell, Nil, is_true}
 
 -- ## Counts of the operands that are true
 

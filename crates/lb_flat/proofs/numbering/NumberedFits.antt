@@ -1,54 +1,37 @@
 -- The clocks and kinds of the flat program of an accepted program fit, in the layout by numbers.
-use Rattle.lb_flat.proofs.Words.{◌≡◌, ℕ, ◌<◌, true, false, ◌&&◌, inl, Option, Some, None, List, []}
-use Rattle.lb_flat.proofs.Words.{◌∷◌, ◌++◌, map, length, take, flat_map, refl, sym, ap, ◌∙◌, subst}
-use Rattle.lb_flat.proofs.Words.{arith, nat_le, slice_get, list_all, nat_tests, same_Some, Kind}
-use Rattle.lb_flat.proofs.Words.{Int, Every, In, either_or, holds, Static, Node_named, Symbol, Expr}
-use Rattle.lb_flat.proofs.Words.{Literal, Variable, When, Call, Iterate, Declaration, Statement}
-use Rattle.lb_flat.proofs.Words.{Equation, Assertion, all_in, and_first, and_second, variables}
-use Rattle.lb_flat.proofs.Words.{width, signature, input_kinds, Program, Instance, Path, Root}
-use Rattle.lb_flat.proofs.Words.{Observer, Site, call_site, callee_of, name_value, node_named}
-use Rattle.lb_flat.proofs.Words.{static_count, instance_at, instances, static_refusal, is_between}
-use Rattle.lb_flat.proofs.Words.{has_plain_clocks, has_property, fits_observer, is_root, named}
-use Rattle.lb_flat.proofs.Words.{node_sizes, node_parts, check_refusal, are_declared_clocks}
-use Rattle.lb_flat.proofs.Words.{is_occurrence_clocked, is_statement_clocked, Clock, On}
-use Rattle.lb_flat.proofs.Words.{declared_clock, program_elements, element_kinds, serving}
-use Rattle.lb_flat.proofs.Words.{Occurrence, at, node_occurrences, statements, Integer, or_fault}
-use Rattle.lb_flat.proofs.Words.{number, is_clock_typed, is_arithmetic, clocked, Every-at}
-use Rattle.lb_flat.proofs.Words.{Every-from, in_second, to_pieces, instance_there}
-use Rattle.lb_flat.proofs.Words.{instantiation_kept, clock_same, count_of, length_kinds}
-use Rattle.lb_flat.proofs.Words.{kinds_at_numbers, element_values, values_at_numbers, at_path}
-use Rattle.lb_flat.proofs.Words.{in_instances, path_is, IsOver, IsVariable, occurrence_fits}
-use Rattle.lb_flat.proofs.Words.{own_site, emit_instances, before_instances, expanded, FlatClock}
-use Rattle.lb_flat.proofs.Words.{Always, FlatEquation, kinds_from, flat_clock, layout}
-use Rattle.std.proofs.Common.{length-append}
-use Rattle.std.specs.Prelude.{pos}
-use Rattle.std.proofs.lemmas.List.{take_at}
-use Rattle.lb_syntax.specs.declared.tree.Kind.TheVariants.{Bool as Truth_kind}
-use Rattle.lb_static.specs.Parts.{declared_sizes, own_sizes}
-use Rattle.lb_check.specs.Elements.{numbers_of}
-use Rattle.lb_check.proofs.programs.AcceptedRules.{valued, typed}
-use Rattle.lb_check.proofs.programs.CalledInstances.{part_of_node}
-use Rattle.lb_check.proofs.programs.ElementValues.{length_values}
+use Rattle.lb_flat.proofs.Words
+use Words.{◌≡◌, ℕ, ◌<◌, true, false, ◌&&◌, inl, Option, Some, None, List, [], ◌∷◌, ◌++◌, map}
+use Words.{length, take, flat_map, refl, sym, ap, ◌∙◌, subst, arith, nat_le, slice_get, list_all}
+use Words.{nat_tests, same_Some, Kind, Int, Every, In, either_or, holds, Static, Node_named, Symbol}
+use Words.{Expr, Literal, Variable, When, Call, Iterate, Declaration, Statement, Equation}
+use Words.{Assertion, all_in, and_first, and_second, variables, width, signature, input_kinds}
+use Words.{Program, Instance, Path, Root, Observer, Site, call_site, callee_of, name_value}
+use Words.{node_named, static_count, instance_at, instances, static_refusal, is_between}
+use Words.{has_plain_clocks, has_property, fits_observer, is_root, named, node_sizes, node_parts}
+use Words.{check_refusal, are_declared_clocks, is_occurrence_clocked, is_statement_clocked, On}
+use Words.{declared_clock, program_elements, element_kinds, serving, Occurrence, at}
+use Words.{node_occurrences, statements, Integer, or_fault, number, is_clock_typed, is_arithmetic}
+use Words.{clocked, Every-at, Every-from, in_second, to_pieces, instance_there, instantiation_kept}
+use Words.{clock_same, count_of, length_kinds, kinds_at_numbers, element_values, values_at_numbers}
+use Words.{at_path, in_instances, path_is, IsOver, IsVariable, occurrence_fits, own_site}
+use Words.{emit_instances, before_instances, expanded, FlatClock, Always, FlatEquation, kinds_from}
+use Words.{flat_clock, layout, pos, length-append, Truth_kind}
+use Rattle.{std.proofs.lemmas.List.take_at, lb_static.specs.Parts.{declared_sizes, own_sizes}}
+use Rattle.lb_check.specs.{Clocks.Clock, Elements.numbers_of}
 use Rattle.lb_check.proofs.clocking.GivenParameters.{on_base}
-use Rattle.lb_check.proofs.programs.InputNumbers.{input_kinds_are}
-use Rattle.lb_check.proofs.programs.ServedNumbers.{serving_first}
-use Rattle.lb_flat.proofs.solutions.Bodies.{all_closed}
-use Rattle.lb_flat.proofs.clock_tables.CalleeClocks.{CalleeClocks, ClocksAt, LeftClocks}
-use Rattle.lb_flat.proofs.clock_tables.CalleeClocks.{LeftClocksAt}
-use Rattle.lb_flat.proofs.clock_tables.CalleeClocks.{callee_clocks, left_clocks_of}
-use Rattle.lb_flat.proofs.runs.Filling.{Fresh}
-use Rattle.lb_flat.proofs.runs.Fitting.{IsFitting}
-use Rattle.lb_flat.proofs.numbering.NumberedPlaces.{places_width, signs_are, is_laid_out}
-use Rattle.lb_flat.proofs.numbering.NumberedPlacing.{clock_on}
-use Rattle.lb_flat.proofs.runs.ScalarKinds.{IsOf, binary_kind}
-use Rattle.lb_flat.proofs.widths.SoundPrograms.{root_kept}
+use Rattle.lb_check.proofs.programs.AcceptedElements.{length_values, input_kinds_are}
+use Rattle.lb_check.proofs.programs.{AcceptedRules.{valued, typed}, ServedVariables.serving_first}
+use Rattle.lb_check.proofs.programs.SiteOccurrences.{part_of_node}
+use Rattle.lb_flat.proofs.clock_tables.ClockTable.{CalleeClocks, ClocksAt, LeftClocks, LeftClocksAt}
+use Rattle.lb_flat.proofs.clock_tables.ClockTable.{callee_clocks, left_clocks_of}
+use Rattle.lb_flat.proofs.fits.{FitProgram.{IsStartSet, IsProgramSet, whole_fits}, FitWords.Sorts}
+use Rattle.lb_flat.proofs.fits.FitWords.{AllSorted, IsVariableOn, AreVariablesOn, IsSetAt}
+use Rattle.lb_flat.proofs.fits.{FitWords.{CallLefts, IsInstanceSet}, KindFacts.got_first}
+use Rattle.lb_flat.proofs.fits.KindFacts.{sorts_of, further_sorted, length-kinds_from}
+use Rattle.lb_flat.proofs.numbering.NumberedPlaces.{places_width, signs_are, is_laid_out, clock_on}
+use Rattle.lb_flat.proofs.runs.{Filling.Fresh, Fitting.{IsFitting, IsOf, binary_kind}}
+use Rattle.lb_flat.proofs.{solutions.Solving.all_closed, widths.SoundPrograms.root_kept}
 use Rattle.lb_flat.proofs.widths.TypeFacts.{bound}
-use Rattle.lb_flat.proofs.fits.FitWords.{Sorts, AllSorted}
-use Rattle.lb_flat.proofs.fits.TemporarySorts.{got_first, sorts_of, further_sorted}
-use Rattle.lb_flat.proofs.fits.TemporarySorts.{length-kinds_from}
-use Rattle.lb_flat.proofs.fits.FitPlaces.{IsVariableOn, AreVariablesOn, IsSetAt, CallLefts}
-use Rattle.lb_flat.proofs.fits.FitPlaces.{IsInstanceSet}
-use Rattle.lb_flat.proofs.fits.FitProgram.{IsStartSet, IsProgramSet, whole_fits}
 
 -- the equations of the temporaries
 abbrev pub further : Program → List FlatEquation

@@ -1,30 +1,28 @@
--- The numbers that counting the rows of the table gives are the numbers of elements.
-use Rattle.lb_flat.proofs.Words.{◌≡◌, ℕ, zero, suc, ◌+◌, true, false, List, [], ◌∷◌, ◌++◌, map}
-use Rattle.lb_flat.proofs.Words.{flat_map, take, get_or, length, Some, None, option_map, refl, ap}
-use Rattle.lb_flat.proofs.Words.{ap₂, sym, ◌∙◌, subst, arith, slice_get, bytes_eq, range_with_len}
-use Rattle.lb_flat.proofs.Words.{length-append, sum_by-append, sum_by-cons, get_or_from_slice_get}
-use Rattle.lb_flat.proofs.Words.{same_Some, ltb-true, Every, In, either_or, listed, zip2, Name}
-use Rattle.lb_flat.proofs.Words.{Static, Declaration, item_at, element_count, variables, width}
-use Rattle.lb_flat.proofs.Words.{Program, Instance, Path, is_path, instances, static_value}
-use Rattle.lb_flat.proofs.Words.{static_refusal, IsTable, IsSpecialized, instance_of, are_distinct}
-use Rattle.lb_flat.proofs.Words.{variable_names, IsReached, source_names, IsResolved, node_of}
-use Rattle.lb_flat.proofs.Words.{statics_of, counts_of, declaration_of, is_variable, Reached}
-use Rattle.lb_flat.proofs.Words.{ResolvedNode, VariableId, Specialization, Table, in_at}
-use Rattle.lb_flat.proofs.Words.{instance_elements, found_from, numbers_from, elements, name_in}
-use Rattle.lb_flat.proofs.Words.{Every-at, get_name, values_at, declared_is, variables_distinct}
-use Rattle.lb_flat.proofs.Words.{same_path, same_instance, instances_apart, get_mapped, sum_of}
-use Rattle.lb_flat.proofs.Words.{declared_width, widths_of, widths_in, first_of_row, row_numbers}
-use Rattle.std.specs.Prelude.{ℤ}
-use Rattle.std.proofs.lemmas.Bool.{false_from_ne_true}
-use Rattle.lb_static.specs.declared.resolved.Variable.{Variable as Declared}
-use Rattle.lb_check.specs.Elements.{numbers_of}
-use Rattle.lb_check.proofs.lists.ApartLists.{AreApart}
-use Rattle.lb_check.proofs.typing.FittedCalls.{node_at}
-use Rattle.lb_check.proofs.programs.InstancePaths.{IsAt, all_at}
-use Rattle.lb_check.proofs.programs.Numbers.{length_elements, numbers_first, numbers_later, others}
-use Rattle.lb_check.proofs.programs.Numbers.{distinct_rest, found_first, found_later, numbers_at}
+-- The numbers that counting the rows of the table gives.
+use Rattle.lb_flat.proofs.Words
+use Words.{◌≡◌, ℕ, zero, suc, ◌+◌, true, false, List, [], ◌∷◌, ◌++◌, map, flat_map, take, get_or}
+use Words.{length, Some, None, option_map, refl, ap, ap₂, sym, ◌∙◌, subst, arith, slice_get}
+use Words.{bytes_eq, range_with_len, length-append, sum_by-append, sum_by-cons}
+use Words.{get_or_from_slice_get, same_Some, ltb-true, Every, In, either_or, listed, zip2, Name}
+use Words.{Static, Declaration, item_at, element_count, variables, width, Program, Instance, Path}
+use Words.{is_path, instances, static_value, static_refusal, IsTable, IsSpecialized, instance_of}
+use Words.{are_distinct, variable_names, IsReached, source_names, IsResolved, node_of, counts_of}
+use Words.{declaration_of, is_variable, Reached, ResolvedNode, VariableId, Specialization, Table}
+use Words.{in_at, instance_elements, found_from, numbers_from, elements, name_in, Every-at}
+use Words.{get_name, values_at, declared_is, variables_distinct, same_path, same_instance}
+use Words.{instances_apart, get_mapped, sum_of, declared_width, widths_of, widths_in, first_of_row}
+use Words.{row_numbers, flat_map-append, append-nil, length-map, take_more, slice_get_within}
+use Words.{Every-from, variables_before, element_total, count_at, ℤ, ◌<◌, ◌≤◌, Declared, AreApart}
+use Words.{length_elements}
+use Rattle.{std.proofs.lemmas.Bool.false_from_ne_true, lb_check.specs.Elements.numbers_of}
+use Rattle.lb_check.proofs.programs.{InstancePaths.{IsAt, all_at}, Numbers.numbers_first}
+use Rattle.lb_check.proofs.programs.Numbers.{numbers_later, others, distinct_rest, found_first}
+use Rattle.lb_check.proofs.{programs.Numbers.{found_later, numbers_at}, typing.FittedTypes.node_at}
+use Rattle.lb_check.proofs.typing.PositiveTypes.{width_positive}
 use Rattle.lb_flat.proofs.numbering.RowInstances.{IsRow, rows_many, row_shown}
 use Rattle.lb_static.specs.declared.table.Instance as row
+
+-- The numbers that counting the rows of the table gives are the numbers of elements.
 
 -- ## Sums
 
@@ -266,3 +264,122 @@ module _ (P : Program) (r : Reached) (t : Table) (reached : IsReached P r)
         let same = ap (λ (c : Instance). c.node) is.same in
         row_numbers_are k i here is is.node
         (v.0 ∙ ap (λ n. length (variables n)) same) same x within
+
+-- The number of variables before a row, as a layout holds it: it grows by the variables of each
+-- row's instance, and is at most the number of elements.
+
+-- ## Lists of pieces
+
+module _ {A : Type 0} (f : A → List ℕ) where
+  -- the pieces of the first k + 1 items are longer by the piece of item k
+  pub piece_long :
+      (xs : List A) (k : ℕ) (x : A) → slice_get xs k ≡ Some x →
+      length (flat_map f (take (k + 1) xs)) ≡ length (flat_map f (take k xs)) + length (f x)
+  piece_long xs k x at =
+      let done = flat_map f (take k xs) in
+      let same : get_or xs k x ≡ x = get_or_from_slice_get xs k x x at in
+      ap (λ l. length (flat_map f l)) (take_more xs k x (slice_get_within xs k x at))
+      ∙ ap length (flat_map-append f (take k xs) (get_or xs k x ∷ []))
+      ∙ ap (λ y. length (done ++ (f y ++ []))) same
+      ∙ ap (λ l. length (done ++ l)) (append-nil (f x))
+      ∙ length-append done (f x)
+
+  -- if no piece is longer than its sum, the first k pieces are no longer than the whole sum
+  pub pieces_narrow :
+      (xs : List A) →
+      ((j : ℕ) (x : A) → slice_get xs j ≡ Some x → length (f x) ≤ sum_of (f x)) → (k : ℕ) →
+      length (flat_map f (take k xs)) ≤ sum_of (flat_map f xs)
+  pieces_narrow xs narrow zero = omega arith
+  pieces_narrow [] narrow (suc k) = omega arith
+  pieces_narrow (x ∷ xs) narrow (suc k) =
+      let rest = pieces_narrow xs (λ j y e. narrow (suc j) y e) k in
+      let first = narrow 0 x refl in
+      let long = length-append (f x) (flat_map f (take k xs)) in
+      let sums = sum_by-append (λ n. n) (f x) (flat_map f xs) in
+      omega (arith, rest, first, long, sums)
+
+some_wide :
+    (w : Declaration → ℕ) (ds : List Declaration) → Every (λ d. 0 < w d) ds →
+    length (map w ds) ≤ sum_of (map w ds)
+some_wide w [] h = omega arith
+some_wide w (d ∷ ds) h =
+    let rest = some_wide w ds h.1 in
+    let first = h.0 in
+    let sums = sum_by-cons (λ n. n) (w d) (map w ds) in
+    omega (arith, rest, first, sums)
+
+-- ## Rows
+
+module _ (P : Program) (r : Reached) (t : Table) (reached : IsReached P r)
+    (table : IsTable P r t) (accepted : static_refusal P ≡ None) where
+  -- a row has as many variables as its instance
+  pub row_long :
+      (k : ℕ) (i : row.Instance) (here : Instance) → IsRow P r t table k i here →
+      length (widths_in r t i) ≡ length (variables here.node)
+  row_long k i here is =
+      ap length (row_widths_are P r t reached table k i here is)
+      ∙ length-map (variables here.node) (width P here)
+
+  row_narrow :
+      (k : ℕ) (i : row.Instance) → slice_get t.instances.items k ≡ Some i →
+      length (widths_in r t i) ≤ sum_of (widths_in r t i)
+  row_narrow k i at =
+      let s = row_shown P r t table k i at in
+      let here = s.0 in
+      let stands = in_at (instances P) k here s.1.instance_is in
+      let some = Every-from (λ d. 0 < width P here d) (variables here.node)
+      (λ d on. width_positive P accepted here stands d on) in
+      subst (λ ws. length ws ≤ sum_of ws)
+      (sym (row_widths_are P r t reached table k i here s.1))
+      (some_wide (width P here) (variables here.node) some)
+
+  -- there are no more variables before a row than elements in all
+  pub variables_few : (k : ℕ) → variables_before r t k ≤ element_total r t
+  variables_few k = pieces_narrow (widths_in r t) t.instances.items row_narrow k
+
+  module _ (held_variables : List ℕ)
+      (kept : (j : ℕ) → j ≤ length t.instances.items →
+      get_or held_variables j 0 ≡ variables_before r t j) where
+    -- the variables before row k + 1 are those before row k and those of row k
+    pub next_before :
+        (k : ℕ) (i : row.Instance) (here : Instance) → IsRow P r t table k i here →
+        get_or held_variables (k + 1) 0
+        ≡ get_or held_variables k 0 + length (variables here.node)
+    next_before k i here is =
+        let within = slice_get_within t.instances.items k i is.row_is in
+        let next = kept (k + 1) (omega (arith, within)) in
+        let own = kept k (omega (arith, within)) in
+        let piece = piece_long (widths_in r t) t.instances.items k i is.row_is in
+        let long = row_long k i here is in
+        omega (arith, next, own, piece, long)
+
+    -- the number of variables held for a row is that of its instance
+    pub row_count :
+        (k : ℕ) (i : row.Instance) (here : Instance) → IsRow P r t table k i here →
+        count_at held_variables k ≡ length (variables here.node)
+    row_count k i here is = let next = next_before k i here is in omega (arith, next)
+
+    pub count_next :
+        (k : ℕ) → k < length t.instances.items →
+        get_or held_variables (k + 1) 0
+        ≡ get_or held_variables k 0 + count_at held_variables k
+    count_next k lt =
+        let i = item_at t.instances.items k lt in
+        let s = row_shown P r t table k i.0 i.1 in
+        let next = next_before k i.0 s.0 s.1 in
+        let own = row_count k i.0 s.0 s.1 in
+        omega (arith, next, own)
+
+    -- no more variables stand before row j than before row j + d
+    pub before_later :
+        (j d : ℕ) → j + d ≤ length t.instances.items →
+        get_or held_variables j 0 ≤ get_or held_variables (j + d) 0
+    before_later j zero le =
+        let same : j ≡ j + 0 = omega arith in
+        subst (λ m. get_or held_variables j 0 ≤ get_or held_variables m 0) same (omega arith)
+    before_later j (suc d) le =
+        let up = before_later j d (omega (arith, le)) in
+        let next = count_next (j + d) (omega (arith, le)) in
+        let same : (j + d) + 1 ≡ j + suc d = omega arith in
+        subst (λ m. get_or held_variables j 0 ≤ get_or held_variables m 0) same
+        (omega (arith, up, next))

@@ -1,19 +1,17 @@
 -- What the instances of a call receive and give is the same by the numbers of the callee's
 -- variables as by their names. The elements of the operands stand in one list, which is cut by the
 -- widths of the inputs.
-use Rattle.lb_flat.proofs.Words.{◌≡◌, ℕ, zero, suc, ◌+◌, ◌-◌, ◌*◌, ◌/◌, ◌<◌, ◌≤◌, Some, List, []}
-use Rattle.lb_flat.proofs.Words.{◌∷◌, ◌++◌, map, length, take, drop, flat_map, refl, sym, ap, ap₂}
-use Rattle.lb_flat.proofs.Words.{◌∙◌, subst, arith, slice_get, range_with_len, mul-div_cancel_left}
-use Rattle.lb_flat.proofs.Words.{mul-le-mul_right, drop-append_seam, length-map, length-drop}
-use Rattle.lb_flat.proofs.Words.{drop-append-le, ArrayIterator, Map, Red, Fill, joined, part}
-use Rattle.lb_flat.proofs.Words.{listed, Name, Declaration, Node, heads_same, tails_same, get_first}
-use Rattle.lb_flat.proofs.Words.{get_later, Program, Instance, Path, Child, Site, node_named}
-use Rattle.lb_flat.proofs.Words.{declared_clock, accumulated, iterator_inputs, gathered, iterated}
-use Rattle.lb_flat.proofs.Words.{outputs_of, count_of, Target, targets, copied, received}
-use Rattle.lb_flat.proofs.Words.{call_copies, iterator_copies, Context, input_targets, part_copies}
-use Rattle.lb_flat.proofs.Words.{accumulator, index_copies, gathered_at, index_outputs, FlatClock}
-use Rattle.lb_flat.proofs.Words.{FlatEquation, Copy, Layout, flat_clock}
-use Rattle.lb_flat.proofs.frames.TermContexts.{IsCallContext}
+use Rattle.lb_flat.proofs.Words
+use Words.{◌≡◌, ℕ, zero, suc, ◌+◌, ◌-◌, ◌*◌, ◌/◌, ◌<◌, ◌≤◌, Some, List, [], ◌∷◌, ◌++◌, map, length}
+use Words.{take, drop, flat_map, refl, sym, ap, ap₂, ◌∙◌, subst, arith, slice_get, range_with_len}
+use Words.{mul-div_cancel_left, mul-le-mul_right, drop-append_seam, length-map, length-drop}
+use Words.{drop-append-le, ArrayIterator, Map, Red, Fill, joined, part, listed, Name, Declaration}
+use Words.{Node, heads_same, tails_same, get_first, get_later, Program, Instance, Path, Child, Site}
+use Words.{node_named, declared_clock, accumulated, iterator_inputs, gathered, iterated, outputs_of}
+use Words.{count_of, Target, targets, copied, received, call_copies, iterator_copies, Context}
+use Words.{input_targets, part_copies, accumulator, index_copies, gathered_at, index_outputs}
+use Words.{FlatClock, FlatEquation, Copy, Layout, flat_clock}
+use Rattle.lb_flat.proofs.frames.TermPlaces.{IsCallContext}
 use Rattle.lb_flat.specs.EmitTerms as terms
 
 -- ## Lists by number

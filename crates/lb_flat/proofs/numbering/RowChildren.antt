@@ -1,23 +1,26 @@
--- A call of a row calls the instance at the path below the row, and the numbers of the elements of
--- the called row are the numbers of that instance.
-use Rattle.lb_flat.proofs.Words.{◌≡◌, ℕ, zero, suc, Bool, true, false, List, [], ◌∷◌, length}
-use Rattle.lb_flat.proofs.Words.{Option, Some, None, option_map, refl, ap, ap₂, sym, ◌∙◌, arith}
-use Rattle.lb_flat.proofs.Words.{eqb-true, and_from, slice_get_within, same_Some, listed, item_at}
-use Rattle.lb_flat.proofs.Words.{and_first, and_second, variables, Program, Instance, Path, Root}
-use Rattle.lb_flat.proofs.Words.{Observer, Child, instance_at, instances, static_refusal, IsTable}
-use Rattle.lb_flat.proofs.Words.{paths_of, IsReached, node_of, counts_of, is_variable, Reached}
-use Rattle.lb_flat.proofs.Words.{CallId, ResolvedNode, VariableId, InstanceId, Origin, Table, in_at}
-use Rattle.lb_flat.proofs.Words.{place_in, found_from, numbers_from, name_in, at_path, found_some}
-use Rattle.lb_flat.proofs.Words.{is_called, place_where, child_row, row_numbers, child_numbers}
-use Rattle.std.specs.Prelude.{◌&&◌, nat_eq, slice_get, if◌then◌else◌}
-use Rattle.std.proofs.lemmas.Bool.{eq-eqb}
-use Rattle.lb_check.specs.Elements.{numbers_of}
-use Rattle.lb_flat.proofs.numbering.NumberedRows.{row_numbers_are}
-use Rattle.lb_flat.proofs.numbering.RowInstances.{IsRow, origin_path, root_path, observer_path}
-use Rattle.lb_flat.proofs.numbering.RowInstances.{row_shown}
+-- The rows that a row calls, and the numbers of rows by paths and calls.
+use Rattle.lb_flat.proofs.Words
+use Words.{◌≡◌, ℕ, zero, suc, Bool, true, false, List, [], ◌∷◌, length, Option, Some, None}
+use Words.{option_map, refl, ap, ap₂, sym, ◌∙◌, arith, eqb-true, and_from, slice_get_within}
+use Words.{same_Some, listed, item_at, and_first, and_second, variables, Program, Instance, Path}
+use Words.{Root, Observer, Child, instance_at, instances, static_refusal, IsTable, paths_of}
+use Words.{IsReached, node_of, counts_of, is_variable, Reached, CallId, ResolvedNode, VariableId}
+use Words.{InstanceId, Origin, Table, in_at, place_in, found_from, numbers_from, name_in, at_path}
+use Words.{found_some, child_row, row_numbers, child_numbers, ◌==◌, bytes_eq, nat_tests}
+use Words.{bytes_eq-Decides, In, either_or, Name, is_path, are_distinct, variable_names}
+use Words.{distinct_at, same_path, ◌+◌, ◌<◌, cond, ◌++◌, take, get_or, take_more, or_else, ◌&&◌}
+use Words.{nat_eq, slice_get, if◌then◌else◌, is_some, row_number, variable_place, called_row}
+use Rattle.std.{specs.HashMap.{HashMap, get}, proofs.lemmas.Bool.eq-eqb}
+use Rattle.lb_check.{specs.Elements.numbers_of, proofs.programs.InstancePaths.is_path-same}
+use Rattle.lb_flat.specs.{ClockPlaces.name_number, Rows.{is_called, place_where, same_call}}
+use Rattle.lb_flat.proofs.numbering.{NumberedRows.row_numbers_are, RowInstances.IsRow}
+use Rattle.lb_flat.proofs.numbering.RowInstances.{origin_path, root_path, observer_path, row_shown}
 use Rattle.lb_flat.proofs.numbering.RowInstances.{row_of, one_place}
 use Rattle.lb_static.specs.declared.table.Instance as row
 use Rattle.lb_static.specs.declared.table.Origin.TheVariants as origin
+
+-- A call of a row calls the instance at the path below the row, and the numbers of the elements of
+-- the called row are the numbers of that instance.
 
 -- ## The first place at which a test holds
 
@@ -249,3 +252,182 @@ module _ (P : Program) (r : Reached) (t : Table) (table : IsTable P r t) where
           row_numbers_are P r t reached table accepted k found.row_there there found.stands m many
           (node there stands) x within
           ∙ ap (λ p. numbers_of P p (name_in m x)) found.below
+
+-- The number of the row at a path, and the number of a variable in its instance.
+
+-- the row number of the path of a row is its number
+pub row_number_is :
+    (P : Program) (r : Reached) (t : Table) (table : IsTable P r t) (k : ℕ) (i : row.Instance)
+    (here : Instance) → IsRow P r t table k i here → row_number P here.path ≡ k
+row_number_is P r t table k i here is =
+    let test = λ (c : Instance). is_path c.path here.path in
+    let found = place_found test (instances P) k here is.instance_is (is_path-same here.path) in
+    let place = place_holds test (instances P) found.0 found.1 in
+    let path = same_path place.item.path here.path place.passes in
+    ap (λ o. either_or o 0) found.1
+    ∙ one_place P r t table found.0 k place.item here place.stands is.instance_is path
+
+-- among distinct names, the number of a name is its place
+pub name_number_is :
+    (names : List Name) → are_distinct names ≡ true → (y : ℕ) (x : Name) →
+    slice_get names y ≡ Some x → name_number names x ≡ y
+name_number_is names apart y x at =
+    let own : bytes_eq x x ≡ true = itself in
+    let found = place_found (λ z. bytes_eq z x) names y x at own in
+    let place = place_holds (λ z. bytes_eq z x) names found.0 found.1 in
+    ap (λ o. either_or o 0) found.1 ∙ one found.0 place.item place.stands place.passes
+  where
+    itself : bytes_eq x x ≡ true
+    itself = (bytes_eq-Decides x x).1 refl
+
+    one : (j : ℕ) (z : Name) → slice_get names j ≡ Some z → bytes_eq z x ≡ true → j ≡ y
+    one j z e same =
+        let differ = distinct_at names j y z x apart e at in
+        let equal : (y == j) ≡ true = sym differ ∙ same in
+        grind (arith, nat_tests)
+
+-- the place of a variable of an instance is its number
+pub variable_place_is :
+    (P : Program) (here : Instance) → In here (instances P) →
+    are_distinct (variable_names here.node) ≡ true → (y : ℕ) (x : Name) →
+    slice_get (variable_names here.node) y ≡ Some x → variable_place P here.path x ≡ y
+variable_place_is P here stands apart y x at =
+    ap (λ o. name_number (listed (λ (c : Instance). variable_names c.node) o) x)
+    (at_path P here stands)
+    ∙ name_number_is (variable_names here.node) apart y x at
+
+-- The map of rows by their calls keeps, for each call, the first row with its origin.
+
+-- ## The first place among one item more
+
+place_last :
+    {A : Type 0} (test : A → Bool) (xs : List A) (x : A) →
+    place_where test (xs ++ x ∷ [])
+    ≡ or_else (place_where test xs) (if test x then Some (length xs) else None)
+place_last test [] x = by (test x)
+  where
+    by : (b : Bool) →
+        (if b then Some 0 else option_map suc None) ≡ or_else None (if b then Some 0 else None)
+    by true = refl
+    by false = refl
+place_last test (y ∷ xs) x = cc (place_last test xs x, by (test y) (place_where test xs) (test x))
+  where
+    over : (o : Option ℕ) (b : Bool) →
+        option_map suc (or_else o (if b then Some (length xs) else None))
+        ≡ or_else (option_map suc o) (if b then Some (suc (length xs)) else None)
+    over None true = refl
+    over None false = refl
+    over (Some k) b = refl
+
+    by : (a : Bool) (o : Option ℕ) (b : Bool) →
+        (if a then Some 0 else option_map suc (or_else o (if b then Some (length xs) else None)))
+        ≡ or_else (if a then Some 0 else option_map suc o)
+        (if b then Some (suc (length xs)) else None)
+    by true o b = refl
+    by false o b = over o b
+
+place_next :
+    {A : Type 0} (test : A → Bool) (xs : List A) (k : ℕ) (x : A) → k < length xs →
+    x ≡ get_or xs k x →
+    place_where test (take (k + 1) xs)
+    ≡ or_else (place_where test (take k xs)) (if test x then Some k else None)
+place_next test xs k x lt is =
+    cc (take_more xs k x lt, place_last test (take k xs) x, length_front xs k lt)
+  where
+    length_front : {A : Type 0} (xs : List A) (k : ℕ) → k < length xs → length (take k xs) ≡ k
+    length_front [] k lt = absurd (omega arith)
+    length_front (x ∷ xs) zero lt = refl
+    length_front (x ∷ xs) (suc k) lt = ap suc (length_front xs k (omega arith))
+
+-- ## Calls
+
+same_key : (x y : ℕ × ℕ × ℕ) → same_call x y ≡ true → x ≡ y
+same_key (a, b, c) (d, e, f) h =
+    let both = and_first (nat_eq a d && nat_eq b e) (nat_eq c f) h in
+    let p = eqb-true a d (and_first (nat_eq a d) (nat_eq b e) both) in
+    let q = eqb-true b e (and_second (nat_eq a d) (nat_eq b e) both) in
+    let s = eqb-true c f (and_second (nat_eq a d && nat_eq b e) (nat_eq c f) h) in
+    rw p (rw q (rw s refl))
+
+no_more : (o : Option ℕ) → o ≡ or_else o None
+no_more None = refl
+no_more (Some k) = refl
+
+kept_some : (o p : Option ℕ) → is_some o ≡ true → o ≡ or_else o p
+kept_some None p e = absurd cc
+kept_some (Some k) p e = refl
+
+is_none : (o : Option ℕ) → is_some o ≡ false → o ≡ None
+is_none None e = refl
+is_none (Some k) e = absurd cc
+
+not_called :
+    (o : Origin) →
+    ((caller : InstanceId) (call : CallId) (index : ℕ) → o ≡ origin.Called caller call index → ⊥) →
+    (j c i : ℕ) → is_called j c i o ≡ false
+not_called origin.UnderTest never j c i = refl
+not_called origin.Observer never j c i = refl
+not_called (origin.Called caller call index) never j c i = absurd (never caller call index refl)
+
+module _ {S : Type 0} where
+  -- the map keeps, for each call, the first of the rows that is called by it
+  abbrev pub HasCalls : HashMap (ℕ × ℕ × ℕ) ℕ S → List row.Instance → Type 0
+  HasCalls m done =
+      (j c i : ℕ) →
+      called_row m j c i ≡ place_where (λ (z : row.Instance). is_called j c i z.origin) done
+
+  module _ (m : HashMap (ℕ × ℕ × ℕ) ℕ S) (rows : List row.Instance) (k : ℕ) (own : row.Instance)
+      (lt : k < length rows) (is : own ≡ get_or rows k own) (h : HasCalls m (take k rows)) where
+    next_row : (j c i : ℕ) →
+        place_where (λ (z : row.Instance). is_called j c i z.origin) (take (k + 1) rows)
+        ≡ or_else (called_row m j c i) (if is_called j c i own.origin then Some k else None)
+    next_row j c i =
+        cc (place_next (λ (z : row.Instance). is_called j c i z.origin) rows k own lt is, h j c i)
+
+    -- a row that is a start changes nothing
+    pub start_passed :
+        ((caller : InstanceId) (call : CallId) (index : ℕ) →
+        own.origin ≡ origin.Called caller call index → ⊥) →
+        HasCalls m (take (k + 1) rows)
+    start_passed never j c i =
+        let no = not_called _ never j c i in
+        cc (no_more (called_row m j c i), next_row j c i)
+
+    module _ (caller : InstanceId) (call : CallId) (index : ℕ)
+        (same : own.origin ≡ origin.Called caller call index) where
+      -- a row whose call has a row already changes nothing
+      pub again_passed :
+          is_some (get same_call m (caller.0, call.0, index)) ≡ true →
+          HasCalls m (take (k + 1) rows)
+      again_passed there j c i =
+          by (is_called j c i own.origin) refl ∙ sym (next_row j c i)
+        where
+          by : (b : Bool) → is_called j c i own.origin ≡ b →
+              called_row m j c i ≡ or_else (called_row m j c i) (if b then Some k else None)
+          by true e =
+              let one = same_key _ _ (sym (ap (is_called j c i) same) ∙ e) in
+              kept_some _ _ (ap (λ q. is_some (get same_call m q)) (sym one) ∙ there)
+          by false e = no_more _
+
+      -- a row whose call has no row yet is added
+      pub call_added :
+          (n : HashMap (ℕ × ℕ × ℕ) ℕ S) →
+          is_some (get same_call m (caller.0, call.0, index)) ≡ false →
+          ((q : ℕ × ℕ × ℕ) → get same_call n q
+          ≡ cond (same_call (caller.0, call.0, index) q) (Some k) (get same_call m q)) →
+          HasCalls n (take (k + 1) rows)
+      call_added n absent updates j c i =
+          updates (j, c, i)
+          ∙ (by (same_call (caller.0, call.0, index) (j, c, i)) refl
+          ∙ (ap (λ b. or_else (called_row m j c i) (if b then Some k else None))
+          (sym (ap (is_called j c i) same)) ∙ sym (next_row j c i)))
+        where
+          by : (b : Bool) → same_call (caller.0, call.0, index) (j, c, i) ≡ b →
+              cond b (Some k) (called_row m j c i)
+              ≡ or_else (called_row m j c i) (if b then Some k else None)
+          by true e =
+              let one = same_key (caller.0, call.0, index) (j, c, i) e in
+              let none = is_none (called_row m j c i)
+              (ap (λ q. is_some (get same_call m q)) (sym one) ∙ absent) in
+              ap (λ o. or_else o (Some k)) (sym none)
+          by false e = no_more (called_row m j c i)

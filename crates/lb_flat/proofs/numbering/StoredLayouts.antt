@@ -3,24 +3,17 @@
 use Rattle.lb_flat.proofs.Words.{◌≡◌, ℕ, zero, suc, ◌+◌, ◌*◌, ◌-◌, ◌<◌, ◌≤◌, min, Bool, true, false}
 use Rattle.lb_flat.proofs.Words.{List, [], ◌∷◌, ◌++◌, map, flat_map, take, drop, get_or, length}
 use Rattle.lb_flat.proofs.Words.{Option, Some, None, option_map, refl, ap, ap₂, sym, ◌∙◌, subst}
-use Rattle.lb_flat.proofs.Words.{arith, slice_get, sum_by, nat_lt, if◌then◌else◌, range_with_len}
-use Rattle.lb_flat.proofs.Words.{flat_map-append, length-append, append_assoc, append-nil}
-use Rattle.lb_flat.proofs.Words.{map-append, take_more, take_all, ltb-true, ltb-false, lt-ltb}
-use Rattle.lb_flat.proofs.Words.{all_some, either_or, listed, element_count, product, times_sizes}
-use Rattle.lb_flat.proofs.Words.{sum_of, declared_width, AreAdded, numbers_between, numbers_at}
-use Rattle.std.proofs.Common.{reverse}
-use Rattle.std.specs.Prelude.{ℤ}
-use Rattle.std.proofs.lemmas.List.Sums.{sum_by-cons, sum_by_more, sum_by-take-le}
-use Rattle.std.proofs.lemmas.Bool.{le-ltb}
-use Rattle.lb_static.specs.StaticValues.{natural}
-use Rattle.lb_static.specs.declared.resolved.Variable.{Variable as Declared}
+use Rattle.lb_flat.proofs.Words.{arith, slice_get, sum_by, nat_lt, range_with_len, flat_map-append}
+use Rattle.lb_flat.proofs.Words.{length-append, append_assoc, append-nil, map-append, take_more}
+use Rattle.lb_flat.proofs.Words.{take_all, ltb-true, ltb-false, lt-ltb, all_some, either_or, listed}
+use Rattle.lb_flat.proofs.Words.{element_count, product, times_sizes, sum_of, declared_width}
+use Rattle.lb_flat.proofs.Words.{AreAdded, numbers_between, numbers_at, ℤ, sum_by-cons, sum_by_more}
+use Rattle.lb_flat.proofs.{Words.Declared, frames.FramedRows.past_end}
+use Rattle.lb_flat.proofs.numbering.NumberedRows.{piece_long, sum_cons, sum_append}
+use Rattle.std.proofs.{Common.reverse, lemmas.{Bool.le-ltb, List.Sums.sum_by-take-le}}
+use Rattle.lb_static.{specs.StaticValues.natural, proofs.Options.all_some-reverse}
 use Rattle.lb_static.proofs.Widths.{product_is, product_reverse, sizes_product, product_naturals}
-use Rattle.lb_static.proofs.Widths.{times_are}
-use Rattle.lb_static.proofs.Options.{all_some-reverse}
-use Rattle.lb_flat.specs.Rows.{sums_after}
-use Rattle.lb_flat.proofs.numbering.CountedRows.{piece_long}
-use Rattle.lb_flat.proofs.numbering.NumberedRows.{sum_cons, sum_append}
-use Rattle.lb_flat.proofs.frames.FramedRows.{past_end}
+use Rattle.{lb_static.proofs.Widths.times_are, lb_flat.specs.Rows.sums_after}
 
 -- ## The width of a variable
 
@@ -225,13 +218,6 @@ module _ {A : Type 0} (f : A → List ℕ) where
       omega (arith, count_is, done, all, more, part, over)
 
 -- ## Reading a stored layout
-
--- the numbers of variable `x`, where its row has the places from `first` to `next`
-abbrev chosen_numbers : List ℕ → ℕ → ℕ → ℕ → List ℕ
-chosen_numbers elements x first next =
-    if nat_lt x (next - first)
-    then numbers_between (get_or elements (first + x) 0) (get_or elements (first + x + 1) 0)
-    else []
 
 module _ (variables elements : List ℕ) (j x first next : ℕ) where
   nothing :

@@ -1,31 +1,82 @@
--- The flat program of all instances of an accepted program is emitted from the rows of its table,
--- where the numbers of each row stand for what its instance gives them.
-use Rattle.lb_flat.proofs.Words.{◌≡◌, ◌≤◌, ℕ, suc, ◌+◌, true, Some, None, List, [], ◌∷◌, ◌++◌}
-use Rattle.lb_flat.proofs.Words.{length, option_map, refl, ap, sym, ◌∙◌, subst, arith, slice_get}
-use Rattle.lb_flat.proofs.Words.{nat_le, nat_tests, slice_get-map, slice_get_within, same_Some}
-use Rattle.lb_flat.proofs.Words.{◌>>=◌, Every, either_or, listed, Name, Static, Named, Expr}
-use Rattle.lb_flat.proofs.Words.{Declaration, Node, is_int, input_kinds, variables, Program}
-use Rattle.lb_flat.proofs.Words.{Instance, instances, static_refusal, IsTable, are_distinct, among}
-use Rattle.lb_flat.proofs.Words.{clock_names, variable_names, IsReached, source_names, IsResolved}
-use Rattle.lb_flat.proofs.Words.{counts_of, node_of, is_no_variable, is_variable, Reached}
-use Rattle.lb_flat.proofs.Words.{ResolvedStatement, Table, in_at, check_refusal, declared_clock}
-use Rattle.lb_flat.proofs.Words.{element_kinds, Occurrence, node_occurrences, name_in, Every-at}
-use Rattle.lb_flat.proofs.Words.{Every-map, variables_distinct, clocks_named, is_among, State}
-use Rattle.lb_flat.proofs.Words.{emit_body, emit_instances, expanded, bodies, body_in, with_body}
-use Rattle.lb_flat.proofs.Words.{Context, emit_rows, emit_statements, first_place, whole}
-use Rattle.lb_flat.proofs.Words.{flat_clock, layout, RowClocks, row_context}
-use Rattle.std.specs.Prelude.{pos}
-use Rattle.lb_flat.proofs.frames.AcceptedScalars.{accepted_scalars}
-use Rattle.lb_flat.proofs.emission.EmittedTable.{IsRowContext, row_body_is}
-use Rattle.lb_flat.proofs.emission.EmittedTerms.{IsSmall}
-use Rattle.lb_flat.proofs.emission.EmittedWhole.{HasVariables, whole_is}
-use Rattle.lb_flat.proofs.numbering.NumberedFits.{IsScalarAt}
-use Rattle.lb_flat.proofs.frames.RowContexts.{own_resolved}
-use Rattle.lb_flat.proofs.numbering.RowInstances.{IsRow, row_shown, rows_many}
-use Rattle.lb_flat.proofs.frames.RowTexts.{AreRowClocks, context_is}
+-- The flat program of all instances is emitted from the rows of the table; the scalars in them are
+-- `int`s.
+use Rattle.lb_flat.proofs.Words
+use Words.{◌≡◌, ◌⊎◌, inl, inr, true, false, ℤ, pos, Option, Some, None, option_map, List, refl, sym}
+use Words.{ap, ◌∙◌, BinaryOperator, Int, Every, either_or, holds, Symbol, Expr, Literal, Variable}
+use Words.{Iterate, is_int, DataType, int, variable_type, Program, Instance, name_value}
+use Words.{static_count, instances, static_refusal, check_refusal, node_occurrences, or_fault}
+use Words.{data_types, constant_type, singly, operator_types, is_arithmetic, is_logical, Every-map}
+use Words.{HasTypes, occurrences_typed, ◌≤◌, ℕ, suc, ◌+◌, [], ◌∷◌, ◌++◌, length, subst, arith}
+use Words.{slice_get, nat_le, nat_tests, slice_get-map, slice_get_within, same_Some, Name, Static}
+use Words.{Named, Declaration, Node, input_kinds, variables, IsTable, are_distinct, among}
+use Words.{clock_names, variable_names, IsReached, source_names, IsResolved, counts_of, node_of}
+use Words.{is_no_variable, is_variable, Reached, ResolvedStatement, Table, in_at, declared_clock}
+use Words.{element_kinds, Occurrence, name_in, Every-at, variables_distinct, clocks_named, is_among}
+use Words.{State, emit_body, emit_instances, expanded, bodies, body_in, with_body, Context}
+use Words.{emit_rows, emit_statements, first_place, whole, flat_clock, layout, RowClocks}
+use Words.{row_context, class_of, Truth_kind, OperatorClass, Logical, class_on_truths}
+use Rattle.lb_syntax.specs.Operators.{is_class}
 use Rattle.lb_flat.proofs.clock_tables.ServingClocks.{serves_by_number}
+use Rattle.lb_flat.proofs.emission.{EmittedTable.{IsRowContext, row_body_is}, EmittedTerms.IsSmall}
+use Rattle.lb_flat.proofs.emission.EmittedWhole.{HasVariables, whole_is}
+use Rattle.lb_flat.proofs.frames.RowContexts.{own_resolved, AreRowClocks, context_is}
+use Rattle.lb_flat.proofs.numbering.{NumberedFits.{IsScalarAt, AreScalars}, RowInstances.IsRow}
+use Rattle.lb_flat.proofs.{numbering.RowInstances.{row_shown, rows_many}, runs.Fitting.IsOf}
+use Rattle.lb_flat.proofs.{runs.Fitting.binary_kind, widths.TypeFacts.{bound, constant, symbolic}}
 use Rattle.lb_syntax.specs.Tree as tree
 use Rattle.lb_static.specs.declared.table.Instance as row
+
+-- In an accepted program each number in an expression is in the range of `int`, and an iterated
+-- symbol takes what it gives: the rules of types say so.
+
+value_kind : (o : Option ℤ) → holds is_int o ≡ true → IsOf Int (or_fault o)
+value_kind None e = absurd cc
+value_kind (Some z) e = e
+
+logical_kind :
+    (op : BinaryOperator) → is_logical op ≡ true →
+    binary_kind op Truth_kind Truth_kind ≡ Some Truth_kind
+logical_kind op e = by (class_of op) e
+  where
+    by : (c : OperatorClass) → is_class Logical c ≡ true → class_on_truths c ≡ Some Truth_kind
+    by Logical is = refl
+    by _ is = absurd cc
+
+symbol_kind :
+    (op : BinaryOperator) (t : DataType) (u : DataType) →
+    ((is_arithmetic op ≡ true) × (t ≡ int)) ⊎ ((is_logical op ≡ true) × (t ≡ u)) →
+    is_arithmetic op ≡ false → binary_kind op Truth_kind Truth_kind ≡ Some Truth_kind
+symbol_kind op t u (inl (a, e)) other = absurd cc
+symbol_kind op t u (inr (l, e)) other = logical_kind op l
+
+module _ (P : Program) (here : Instance) where
+  -- an expression with types has numbers in the range of `int`
+  typed_scalar :
+      (e : Expr) (ts : List DataType) → data_types P here e ≡ Some ts → IsScalarAt P here e
+  typed_scalar (Literal m) ts e = (constant (Some (pos m)) ts e).within
+  typed_scalar (Variable x) ts e = λ none.
+      let own = ap (λ o. singly (either_or (option_map (variable_type P here) o)
+      (constant_type (name_value P here x)))) none in
+      value_kind (name_value P here x) (constant (name_value P here x) ts (sym own ∙ e)).within
+  typed_scalar (Iterate it (Symbol op) m es) ts e =
+      let c = bound (static_count P here m) _ ts e in
+      let o = bound (operator_types P here (Symbol op)) _ ts c.gives in
+      let y = symbolic op o.value o.is in
+      symbol_kind op y.data_type _ y.of
+  typed_scalar e ts h = tt
+
+-- `IsScalarAt` holds for each expression of an accepted program
+pub accepted_scalars :
+    (P : Program) → static_refusal P ≡ None → check_refusal P ≡ None → AreScalars P
+accepted_scalars P elaborated checked =
+    Every-map (λ here. Every (HasTypes P here) (node_occurrences P here.node))
+    (λ here. Every (λ o. IsScalarAt P here o.expr) (node_occurrences P here.node))
+    (λ here z. Every-map (HasTypes P here) (λ o. IsScalarAt P here o.expr)
+    (λ o t. typed_scalar P here o.expr t.types t.typed) (node_occurrences P here.node) z)
+    (instances P) (occurrences_typed P elaborated checked)
+
+-- The flat program of all instances of an accepted program is emitted from the rows of its table,
+-- where the numbers of each row stand for what its instance gives them.
 
 -- a static expression that is no variable is a name
 pub value_named :

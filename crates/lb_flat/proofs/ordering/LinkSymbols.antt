@@ -1,18 +1,16 @@
 -- The elements that iterated nodes and iterated symbols give, one by one.
-use Rattle.lb_flat.proofs.Words.{◌≡◌, inl, inr, ℕ, zero, suc, ◌+◌, ◌-◌, ◌<◌, ◌≤◌, true, ◌⊎◌, Some}
-use Rattle.lb_flat.proofs.Words.{List, [], ◌∷◌, ◌++◌, map, length, flat_map, refl, sym, ap, ◌∙◌}
-use Rattle.lb_flat.proofs.Words.{subst, arith, range_with_len, BinaryOperator, ArrayIterator, Map}
-use Rattle.lb_flat.proofs.Words.{Red, Fill, Every, zip2, joined, tail_of, all_some, Name}
-use Rattle.lb_flat.proofs.Words.{Declaration, DataType, int, truth, array_of, is_arithmetic}
-use Rattle.lb_flat.proofs.Words.{is_logical, red_types, symbol_types, Element, gathered, last_of}
-use Rattle.lb_flat.proofs.Words.{iterated, truly, FlatClock, FlatEquation, ApplyBinary, clock_reads}
-use Rattle.lb_flat.proofs.Words.{where_signed, State, Emitted, keep, joins, emit_symbol}
-use Rattle.lb_check.specs.Needs.{symbol_needs}
-use Rattle.lb_flat.proofs.widths.TypeFacts.{elements_in, bound, symbolic}
+use Rattle.lb_flat.proofs.Words
+use Words.{◌≡◌, inl, inr, ℕ, zero, suc, ◌+◌, ◌-◌, ◌<◌, ◌≤◌, true, ◌⊎◌, Some, List, [], ◌∷◌, ◌++◌}
+use Words.{map, length, flat_map, refl, sym, ap, ◌∙◌, subst, arith, range_with_len, BinaryOperator}
+use Words.{ArrayIterator, Map, Red, Fill, Every, zip2, joined, tail_of, all_some, Name, Declaration}
+use Words.{DataType, int, truth, array_of, is_arithmetic, is_logical, red_types, symbol_types}
+use Words.{Element, gathered, last_of, iterated, truly, FlatClock, FlatEquation, ApplyBinary}
+use Words.{clock_reads, where_signed, State, Emitted, keep, joins, emit_symbol}
+use Rattle.{lb_check.specs.Needs.symbol_needs, lb_flat.proofs.lists.Lists.SomeOf}
 use Rattle.lb_flat.proofs.ordering.LinkWords.{Pairs, pairs-append, pairs-pieces, AllMeet, AreLinks}
-use Rattle.lb_flat.proofs.ordering.LinkWords.{added}
-use Rattle.lb_flat.proofs.ordering.LinkWords.{each_two, all_links, two_links, step, chained_gives}
-use Rattle.lb_flat.proofs.lists.SomeLists.{SomeOf}
+use Rattle.lb_flat.proofs.ordering.LinkWords.{added, each_two, all_links, two_links, step}
+use Rattle.lb_flat.proofs.{ordering.LinkWords.chained_gives, widths.TypeFacts.{elements_in, bound}}
+use Rattle.lb_flat.proofs.widths.TypeFacts.{symbolic}
 
 -- ## What iterated nodes give
 

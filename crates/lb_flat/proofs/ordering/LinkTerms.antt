@@ -1,54 +1,41 @@
 -- The found elements of an expression come from the elements of the variables that it needs,
 -- element by element, or are left by what its clock reads.
-use Rattle.lb_flat.proofs.Words.{◌≡◌, ℕ, suc, ◌+◌, ◌-◌, ◌*◌, ◌<◌, true, false, pos, Option, Some}
-use Rattle.lb_flat.proofs.Words.{None, List, [], ◌∷◌, ◌++◌, map, length, flat_map, refl, sym, ap}
-use Rattle.lb_flat.proofs.Words.{◌∙◌, subst, arith, list_all, bytes_eq, bytes_eq-Decides}
-use Rattle.lb_flat.proofs.Words.{length-map, same_Some, found_passes, Not, BinaryOperator}
-use Rattle.lb_flat.proofs.Words.{ArrayIterator, Map, Red, Fill, ◌>>=◌, Every, In, zip2, joined}
-use Rattle.lb_flat.proofs.Words.{either_or, listed, Name, Static, Node_named, Symbol, Expr, Literal}
-use Rattle.lb_flat.proofs.Words.{Truth, Variable, Group, Unary, Binary, If, Arrow, Fby, Pre}
-use Rattle.lb_flat.proofs.Words.{Current, When, Replicate, Index, Slice, Join, Array, AtMostOne}
-use Rattle.lb_flat.proofs.Words.{Nor, Call, Iterate, Exprs, Nil, Cons, Declaration, and_first}
-use Rattle.lb_flat.proofs.Words.{named, Program, Instance, Path, Child, call_site, callee_of}
-use Rattle.lb_flat.proofs.Words.{static_count, name_value, node_named, DataType, truth, variables}
-use Rattle.lb_flat.proofs.Words.{is_type, data_types, all_types, from_one, from_truths, common_type}
-use Rattle.lb_flat.proofs.Words.{array_of, index_type, slice_type, join_type, operator_types}
-use Rattle.lb_flat.proofs.Words.{Integer, Boolean, or_fault, first_value, Element, elements}
-use Rattle.lb_flat.proofs.Words.{elements_named, itself, both, needs, all_needs, output_elements}
-use Rattle.lb_flat.proofs.Words.{waits_for, Occurrence, at, call_count, call_clocks, occurrences}
-use Rattle.lb_flat.proofs.Words.{occurrences_in, History, number, part_count, outputs_of, iterated}
-use Rattle.lb_flat.proofs.Words.{first_of_all, FlatClock, Operation, Constant, ApplyUnary}
-use Rattle.lb_flat.proofs.Words.{ApplyBinary, FirstThen, Previous, Latest, Sample, clock_reads}
-use Rattle.lb_flat.proofs.Words.{reads, Layout, flat_clock, State, Emitted, EmittedAll, call_copies}
-use Rattle.lb_flat.proofs.Words.{iterator_copies, add, keep, push, chosen_by, chained, negated}
-use Rattle.lb_flat.proofs.Words.{emit_symbol, emit_name, emit, emit_all, emit_each}
-use Rattle.lb_check.specs.Clocks.{Clock, On, clock_of, clock_or, declared_clock}
-use Rattle.lb_flat.proofs.lists.Lists.{Every-append, Every-take, Every-drop, Every-copies}
-use Rattle.lb_flat.proofs.lists.Lists.{Every-joined}
-use Rattle.lb_flat.proofs.lists.Lists.{Every-first, Every-second}
-use Rattle.lb_flat.proofs.solutions.Emission.{joins_equations}
-use Rattle.lb_flat.proofs.emission.EmissionSteps.{IsStep, Any, any_joined, symbol_step, emit_step}
-use Rattle.lb_flat.proofs.emission.EmissionSteps.{all_step}
-use Rattle.lb_flat.proofs.emission.EmissionSteps.{each_step}
-use Rattle.lb_flat.proofs.widths.TypeFacts.{elements_in, bound, one, two, from_true, alike}
-use Rattle.lb_flat.proofs.widths.TypeFacts.{truth_is}
-use Rattle.lb_flat.proofs.widths.Widths.{called, placed, AreVariablesWide, IsOccurrenceWide, wide}
-use Rattle.lb_flat.proofs.widths.TypedParts.{IsTypedAt}
-use Rattle.lb_flat.proofs.widths.FoundWidths.{as_many, add_count}
-use Rattle.lb_flat.proofs.ordering.LinkSymbols.{iterated_pairs, keep_found, keep_equations}
-use Rattle.lb_flat.proofs.ordering.LinkSymbols.{joins_found}
-use Rattle.lb_flat.proofs.ordering.LinkSymbols.{symbol_out, red_out, signed_wider, map_linked}
-use Rattle.lb_flat.proofs.ordering.LinkSymbols.{red_linked}
+use Rattle.lb_flat.proofs.Words
+use Words.{◌≡◌, ℕ, suc, ◌+◌, ◌-◌, ◌*◌, ◌<◌, true, false, pos, Option, Some, None, List, [], ◌∷◌}
+use Words.{◌++◌, map, length, flat_map, refl, sym, ap, ◌∙◌, subst, arith, list_all, bytes_eq}
+use Words.{bytes_eq-Decides, length-map, same_Some, found_passes, Not, BinaryOperator}
+use Words.{ArrayIterator, Map, Red, Fill, ◌>>=◌, Every, In, zip2, joined, either_or, listed, Name}
+use Words.{Static, Node_named, Symbol, Expr, Literal, Truth, Variable, Group, Unary, Binary, If}
+use Words.{Arrow, Fby, Pre, Current, When, Replicate, Index, Slice, Join, Array, AtMostOne, Nor}
+use Words.{Call, Iterate, Exprs, Nil, Cons, Declaration, and_first, named, Program, Instance, Path}
+use Words.{Child, call_site, callee_of, static_count, node_named, DataType, truth, variables}
+use Words.{is_type, data_types, all_types, from_one, from_truths, common_type, array_of, index_type}
+use Words.{slice_type, join_type, operator_types, Integer, Boolean, first_value, Element, elements}
+use Words.{elements_named, itself, both, needs, all_needs, output_elements, waits_for, Occurrence}
+use Words.{at, call_count, call_clocks, occurrences, occurrences_in, History, number, part_count}
+use Words.{outputs_of, iterated, first_of_all, FlatClock, Operation, Constant, ApplyUnary}
+use Words.{ApplyBinary, FirstThen, Previous, Latest, Sample, clock_reads, reads, Layout, flat_clock}
+use Words.{State, Emitted, EmittedAll, call_copies, iterator_copies, add, keep, push, chosen_by}
+use Words.{chained, negated, emit_symbol, emit_name, emit, emit_all, emit_each, On, clock_or}
+use Words.{declared_clock}
+use Rattle.{lb_check.specs.Clocks.{Clock, clock_of}, lb_flat.proofs.emission.EmissionSteps.IsStep}
+use Rattle.lb_flat.proofs.emission.EmissionSteps.{Any, any_joined, symbol_step, emit_step, all_step}
+use Rattle.lb_flat.proofs.{emission.EmissionSteps.each_step, lists.Lists.{Every-append, Every-take}}
+use Rattle.lb_flat.proofs.lists.Lists.{Every-drop, Every-copies, Every-joined, Every-first}
+use Rattle.lb_flat.proofs.{lists.Lists.Every-second, ordering.LinkSymbols.iterated_pairs}
+use Rattle.lb_flat.proofs.ordering.LinkSymbols.{keep_found, keep_equations, joins_found, symbol_out}
+use Rattle.lb_flat.proofs.ordering.LinkSymbols.{red_out, signed_wider, map_linked, red_linked}
 use Rattle.lb_flat.proofs.ordering.LinkWords.{Pairs, pairs-append, pairs-take, pairs-drop}
-use Rattle.lb_flat.proofs.ordering.LinkWords.{pairs-copies}
-use Rattle.lb_flat.proofs.ordering.LinkWords.{pairs-joined, AllMeet, AreLinks, Link, New, Waits}
-use Rattle.lb_flat.proofs.ordering.LinkWords.{Gives, step}
-use Rattle.lb_flat.proofs.ordering.LinkWords.{all_links, variable_links, added, each_one, each_two}
-use Rattle.lb_flat.proofs.ordering.LinkWords.{each_choice, each_first, memories, each_memory}
-use Rattle.lb_flat.proofs.ordering.LinkWords.{each_constant}
-use Rattle.lb_flat.proofs.ordering.LinkWords.{each_latest, each_sample, pushed, chained_gives}
-use Rattle.lb_flat.proofs.ordering.LinkWords.{nor_gives}
+use Rattle.lb_flat.proofs.ordering.LinkWords.{pairs-copies, pairs-joined, AllMeet, AreLinks, Link}
+use Rattle.lb_flat.proofs.ordering.LinkWords.{New, Waits, Gives, step, all_links, variable_links}
+use Rattle.lb_flat.proofs.ordering.LinkWords.{added, each_one, each_two, each_choice, each_first}
+use Rattle.lb_flat.proofs.ordering.LinkWords.{memories, each_memory, each_constant, each_latest}
+use Rattle.lb_flat.proofs.ordering.LinkWords.{each_sample, pushed, chained_gives, nor_gives}
 use Rattle.lb_flat.proofs.ordering.LinkWords.{at_most_one_gives, passed}
+use Rattle.lb_flat.proofs.{solutions.Emission.joins_equations, widths.FoundWidths.as_many}
+use Rattle.lb_flat.proofs.widths.{FoundWidths.add_count, TypeFacts.{elements_in, bound, one, two}}
+use Rattle.lb_flat.proofs.widths.{TypeFacts.{from_true, alike, truth_is}, Widths.{called, placed}}
+use Rattle.lb_flat.proofs.widths.Widths.{AreVariablesWide, IsOccurrenceWide, wide, IsTypedAt}
 
 module _ (Y : Layout) (P : Program) (H : History)
     (same : (p : Path) (x : Name) → length (Y.places p x) ≡ length (H.columns p x))

@@ -7,9 +7,8 @@ use Rattle.lb_flat.proofs.Words.{Element, both, itself, FlatClock, Operation, Co
 use Rattle.lb_flat.proofs.Words.{ApplyBinary, Choose, FlatEquation, clock_reads, reads}
 use Rattle.lb_flat.proofs.Words.{equation_reads, State, Emitted, numbered, numbers, add, chosen_by}
 use Rattle.lb_flat.proofs.Words.{push, chained, twice, negated, emit_nor, emit_at_most_one}
-use Rattle.lb_syntax.specs.Lists.{heads}
-use Rattle.lb_flat.proofs.lists.Lists.{Every-append, Every-first, Every-second}
-use Rattle.lb_flat.proofs.lists.SomeLists.{SomeOf, some_first, some_second, some_split}
+use Rattle.{lb_syntax.specs.Lists.heads, lb_flat.proofs.lists.Lists.{Every-append, Every-first}}
+use Rattle.lb_flat.proofs.lists.Lists.{Every-second, SomeOf, some_first, some_second, some_split}
 
 -- ## Two lists side by side
 

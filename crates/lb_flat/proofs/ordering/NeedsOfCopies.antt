@@ -1,37 +1,121 @@
+-- What an element reads by way of temporaries, it needs.
+use Rattle.lb_flat.proofs.Words
+use Words.{◌≡◌, ◌⊎◌, inl, inr, ℕ, ◌<◌, ◌≤◌, Some, length, refl, subst, sym, arith, slice_get}
+use Words.{slice_get_within, In, Program, program_elements, Element, Definition, definitions}
+use Words.{FlatEquation, IsGiven, FlatProgram, Leads, reads_it, by_way, NeedsAt, equation_reads}
+use Words.{suc, Option, None, List, [], ◌∷◌, ◌++◌, flat_map, ap, ◌∙◌, range_with_len, Every}
+use Words.{Declaration, item_at, variables, width, Instance, Root, Observer, instance_at, instances}
+use Words.{static_refusal, in_at, in_map, map_in, check_refusal, declared_clock, instance_elements}
+use Words.{elements, definitions_at, observer_definitions, equation_definitions, call_definitions}
+use Words.{clock_definitions, waits_for, statements, node_occurrences, in_first, in_second}
+use Words.{in_either, Every-at, Every-from, of_pieces, to_pieces, declared_over, IsVariable}
+use Words.{own_variables, FlatClock, history_of, Layout, flat_clock, layout, clock_reads, reads}
+use Words.{State, Target, from_inputs, given_inputs, observed, before_instances, emit_instances}
+use Words.{expanded}
+use Rattle.lb_check.{specs.Elements.numbers_of, proofs.lists.Members.apart_single}
+use Rattle.{lb_check.proofs.programs.AcceptedElements.number_in, lb_flat.specs.Emit.input_targets}
+use Rattle.lb_flat.proofs.clock_tables.KnownClocks.{reads_wait, clocks_known}
+use Rattle.lb_flat.proofs.copies.{CopiedCalls.IsDefinedBy, CopiedProgram.{made, copies_defined}}
+use Rattle.lb_flat.proofs.copies.CopiedProgram.{made_in, same, AreClocksKnown}
+use Rattle.lb_flat.proofs.{copies.GivenProgram.given_whole, lists.Lists.{SomeOf, some_of_in}}
+use Rattle.lb_flat.proofs.{lists.Lists.{in_some, some_split}, numbering.NumberedPlaces.is_laid_out}
+use Rattle.lb_flat.proofs.{ordering.LinkWords.{AllMeet, Meets}, runs.Filling.Fresh}
+use Rattle.lb_flat.proofs.solutions.{Closing.Closed, Solving.all_closed}
+use Rattle.lb_flat.proofs.widths.SoundPrograms.{observer_wide_in}
+
+-- Where an element of a variable reads another by way of temporaries, it needs that element.
+
+-- `Q` holds of the number of an element
+abbrev pub HasNumber : Program → (ℕ → Type 0) → Element → Type 0
+HasNumber P Q x = (i : ℕ) × (slice_get (program_elements P) i ≡ Some x) × Q i
+
+-- the element with number `i` has a definition that needs an element of which `Q` holds
+pub record IsNeeding (P : Program) (Q : ℕ → Type 0) (i : ℕ) : Type 0 where
+  pub definition : Definition
+  pub stands : In definition (definitions P)
+  pub is_at : slice_get (program_elements P) i ≡ Some definition.element
+  pub needed : SomeOf (HasNumber P Q) definition.needed
+
+-- a temporary that is left reads an element that is left
+abbrev pub PassesOn : FlatProgram → (ℕ → Type 0) → Type 0
+PassesOn f Left =
+    (q : FlatEquation) → In q f.equations → f.variables ≤ q.element → Left q.element →
+    SomeOf Left (equation_reads q)
+
+-- an element of a variable that reads an element that is left also needs one
+abbrev pub ReadsNeeds : Program → FlatProgram → (ℕ → Type 0) → Type 0
+ReadsNeeds P f Left =
+    (q : FlatEquation) → In q f.equations → q.element < f.variables →
+    SomeOf Left (equation_reads q) → IsNeeding P Left q.element
+
+module _ (P : Program) (f : FlatProgram) (given : IsGiven f)
+    (count : f.variables ≡ length (program_elements P))
+    (reading : (Left : ℕ → Type 0) → PassesOn f Left → ReadsNeeds P f Left) (j : ℕ)
+    (is_variable : j < f.variables) where
+  -- `j` itself, or a temporary to which `j` leads
+  abbrev Left : ℕ → Type 0
+  Left e = (e ≡ j) ⊎ ((f.variables ≤ e) × Leads f j e)
+
+  record IsFirstRead (i : ℕ) : Type 0 where
+    equation : FlatEquation
+    stands : In equation f.equations
+    is_of : equation.element ≡ i
+    reads : SomeOf Left (equation_reads equation)
+
+  first_read : (i : ℕ) → Leads f j i → IsFirstRead i
+  first_read _ (reads_it q is reads) = record {
+    equation = q;
+    stands = is;
+    is_of = refl;
+    reads = some_of_in Left (equation_reads q) j reads (inl refl);
+  }
+  first_read _ (by_way q e is reads high rest) = record {
+    equation = q;
+    stands = is;
+    is_of = refl;
+    reads = some_of_in Left (equation_reads q) e reads (inr (high, rest));
+  }
+
+  passes_on : PassesOn f Left
+  passes_on q is high (inl e) = absurd (omega (arith, e))
+  passes_on q is high (inr h) =
+      let r = first_read q.element h.1 in
+      let same : r.equation ≡ q =
+      apart_single (λ (q : FlatEquation). q.element) f.equations r.equation q given.once r.stands
+      is r.is_of in
+      subst (λ (q : FlatEquation). SomeOf Left (equation_reads q)) same r.reads
+
+  -- the only element of a variable that is `Left` is `j`
+  is_one : (i : ℕ) → i < length (program_elements P) → Left i → i ≡ j
+  is_one i lt (inl e) = e
+  is_one i lt (inr h) = let high = h.0 in absurd (omega (arith, count))
+
+  -- what leads from a variable's element to another is a need
+  pub needs_of : (i : ℕ) → i < f.variables → Leads f j i → NeedsAt P i j
+  needs_of i lt leads =
+      let r = first_read i leads in
+      let low : r.equation.element < f.variables = subst (λ k. k < f.variables) (sym r.is_of) lt in
+      let n = reading Left passes_on r.equation r.stands low r.reads in
+      let y = in_some (HasNumber P Left) n.definition.needed n.needed in
+      let number = y.2.0 in
+      let same : number ≡ j =
+      is_one number (slice_get_within (program_elements P) number y.0 y.2.1) y.2.2 in
+      record {
+        one = n.definition.element;
+        other = y.0;
+        is_one = subst (λ k. slice_get (program_elements P) k ≡ Some n.definition.element) r.is_of
+            n.is_at;
+        is_other = subst (λ k. slice_get (program_elements P) k ≡ Some y.0) same y.2.1;
+        needs = record {
+          by = n.definition;
+          stands = n.stands;
+          is_of = refl;
+          names = y.1;
+        };
+      }
+
 -- Where an element of a variable of an accepted program reads another, by way of temporaries,
 -- it needs that element: by the definition that its copy is, or by the clock of its variable.
-use Rattle.lb_flat.proofs.Words.{◌≡◌, ◌⊎◌, inl, inr, ℕ, suc, ◌<◌, ◌≤◌, Option, Some, None, List, []}
-use Rattle.lb_flat.proofs.Words.{◌∷◌, ◌++◌, length, flat_map, refl, sym, ap, ◌∙◌, subst, arith}
-use Rattle.lb_flat.proofs.Words.{slice_get, range_with_len, Every, In, Declaration, item_at}
-use Rattle.lb_flat.proofs.Words.{variables, width, Program, Instance, Root, Observer, instance_at}
-use Rattle.lb_flat.proofs.Words.{instances, static_refusal, in_at, in_map, map_in, check_refusal}
-use Rattle.lb_flat.proofs.Words.{declared_clock, program_elements, instance_elements, Element}
-use Rattle.lb_flat.proofs.Words.{Definition, elements, definitions, definitions_at}
-use Rattle.lb_flat.proofs.Words.{observer_definitions, equation_definitions, call_definitions}
-use Rattle.lb_flat.proofs.Words.{clock_definitions, waits_for, statements, node_occurrences}
-use Rattle.lb_flat.proofs.Words.{in_first, in_second, in_either, Every-at, Every-from, of_pieces}
-use Rattle.lb_flat.proofs.Words.{to_pieces, declared_over, IsVariable, own_variables, FlatClock}
-use Rattle.lb_flat.proofs.Words.{FlatEquation, history_of, FlatProgram, Layout, flat_clock, layout}
-use Rattle.lb_flat.proofs.Words.{Leads, NeedsAt, clock_reads, reads, equation_reads}
-use Rattle.lb_check.specs.Elements.{numbers_of}
-use Rattle.lb_check.proofs.programs.AcceptedNumbers.{number_in}
-use Rattle.lb_flat.specs.Emit.{State, Target, from_inputs, input_targets, given_inputs, observed}
-use Rattle.lb_flat.specs.Emit.{before_instances, emit_instances, expanded}
-use Rattle.lb_flat.proofs.solutions.Bodies.{all_closed}
-use Rattle.lb_flat.proofs.clock_tables.ClockNumbers.{reads_wait}
-use Rattle.lb_flat.proofs.solutions.Closing.{Closed}
-use Rattle.lb_flat.proofs.copies.CopiedDefinitions.{IsDefinedBy}
-use Rattle.lb_flat.proofs.copies.CopiedProgram.{made, copies_defined, made_in}
-use Rattle.lb_flat.proofs.runs.Filling.{Fresh}
-use Rattle.lb_flat.proofs.copies.GivenProgram.{given_whole}
-use Rattle.lb_flat.proofs.clock_tables.KnownClocks.{clocks_known}
-use Rattle.lb_flat.proofs.ordering.LinkWords.{AllMeet, Meets}
-use Rattle.lb_flat.proofs.ordering.NeedsOfReads.{HasNumber, IsNeeding, PassesOn, ReadsNeeds}
-use Rattle.lb_flat.proofs.ordering.NeedsOfReads.{needs_of}
-use Rattle.lb_flat.proofs.numbering.NumberedPlaces.{is_laid_out}
-use Rattle.lb_flat.proofs.widths.ObserverWidths.{observer_wide}
-use Rattle.lb_flat.proofs.ordering.SourcedInstances.{same, AreClocksKnown}
-use Rattle.lb_flat.proofs.lists.SomeLists.{SomeOf, some_split, some_of_in, in_some}
 
 -- equations of the elements from `n` on give no element below `n`
 fresh_high :
@@ -225,7 +309,7 @@ module _ (P : Program) (accepted : static_refusal P ≡ None) (checked : check_r
         (λ p x. same P accepted checked Under Left p x) IsAt Under Left q d
 
     abbrev made_all : List Definition
-    made_all = made P accepted checked (observer_wide P accepted [] []) Under Left known
+    made_all = made P accepted checked (observer_wide_in P accepted [] []) Under Left known
 
     abbrev every_copy : List FlatEquation
     every_copy = observed Y (instance_at P Root) (instance_at P Observer) ++ final.copies
@@ -243,7 +327,7 @@ module _ (P : Program) (accepted : static_refusal P ≡ None) (checked : check_r
         linked (inl h) = record {
           definition = d;
           stands =
-              made_in P accepted checked (observer_wide P accepted [] []) Under Left known d stands;
+              made_in P accepted checked (observer_wide_in P accepted [] []) Under Left known d stands;
           is_at = by.is_at;
           needed = h;
         }
@@ -264,7 +348,7 @@ module _ (P : Program) (accepted : static_refusal P ≡ None) (checked : check_r
         SomeOf Left (equation_reads q) → IsNeeding P Left q.element
     copied q i is low some =
         let whole =
-        copies_defined P accepted checked (observer_wide P accepted [] []) Under Left known met in
+        copies_defined P accepted checked (observer_wide_in P accepted [] []) Under Left known met in
         let d = in_some (λ d. Defined q d) made_all
         (Every-at (λ q. SomeOf (λ d. Defined q d) made_all) every_copy q whole.first i) in
         defined_needs q d.0 d.1 d.2 is low some
@@ -317,5 +401,5 @@ module _ (P : Program) (accepted : static_refusal P ≡ None) (checked : check_r
       (i j : ℕ) → i < length (program_elements P) → j < length (program_elements P) →
       Leads (expanded (layout P) P (length (program_elements P))) j i → NeedsAt P i j
   needs_by_copies i j lt is_variable leads =
-      needs_of P f (given_whole P accepted checked (observer_wide P accepted [] [])) refl reading j
+      needs_of P f (given_whole P accepted checked (observer_wide_in P accepted [] [])) refl reading j
       is_variable i lt leads

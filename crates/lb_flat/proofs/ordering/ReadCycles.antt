@@ -1,10 +1,18 @@
+-- Reads one after another, the cycles that they close, and what these are certificates of.
+use Rattle.lb_flat.proofs.Words
+use Words.{cases_eq, get_or-set_same, get_or-set_other, same_Some, Every, FlatProgram, Leads}
+use Words.{reads_it, by_way, IsReadCycle, In, Every-at, IsOrderingOf, FlatEquation, Chain, one_read}
+use Words.{more_reads, equation_reads, Ready, slice_get, Program, program_elements, NeedsAt}
+use Words.{IsCertificate, static_refusal, HasReads, IsExpansionOf, ◌≡◌, ℕ, zero, suc, ◌<◌, ◌≤◌}
+use Words.{Option, Some, None, List, [], ◌∷◌, ◌++◌, length, drop, get_or, set, refl, sym, ap, subst}
+use Words.{◌∙◌, arith, ⊎_elim, length-append, length-set, ◌⊎◌, inl, inr, ◌≢◌, true, false}
+use Words.{if◌then◌else◌, Element, Needs}
+use Rattle.{std.proofs.{Common.eqb, lemmas.Bool.Decides.eqb_tells}, lb_check.specs.Needs.Reaches}
+use Rattle.lb_check.specs.Needs.{at_once, through, IsCyclic, IsCausal}
+use Rattle.{lb_check.proofs.programs.AcceptedElements.number_is, lb_flat.specs.Reading.AreLinked}
+use Rattle.lb_flat.proofs.lists.Lists.{Every-append, Every-drop, Every-map}
+
 -- Reads one after another, the paths that they make, and where a path closes.
-use Rattle.lb_flat.proofs.Words.{cases_eq, get_or-set_same, get_or-set_other, same_Some, Every}
-use Rattle.lb_flat.proofs.Words.{FlatProgram, Leads, reads_it, by_way, AreLinked, IsReadCycle}
-use Rattle.std.proofs.Common.{◌≡◌, ℕ, zero, suc, ◌<◌, ◌≤◌, Option, Some, None, List, [], ◌∷◌, ◌++◌}
-use Rattle.std.proofs.Common.{length, drop, get_or, set, refl, sym, ap, subst, ◌∙◌, arith, ⊎_elim}
-use Rattle.std.proofs.Common.{length-append, length-set}
-use Rattle.lb_flat.proofs.lists.Lists.{Every-append, Every-drop}
 
 -- where `j` leads to a temporary `e`, and `e` leads to `i`, `j` leads to `i`
 pub leads_on :
@@ -196,3 +204,228 @@ module _ (f : FlatProgram) where
           let variable = w.is_variable in
           noted_more places is at (omega arith) w.noted;
     }
+
+-- If the equations of a flat program can be put in order, no element reads itself.
+
+-- ## Turns
+
+-- `eqb i j` is true and the numbers are equal, or it is false and they differ
+abbrev pub AreCompared : ℕ → ℕ → Type 0
+AreCompared i j = ((eqb i j ≡ true) × (i ≡ j)) ⊎ ((eqb i j ≡ false) × (i ≢ j))
+
+-- the number of equations before the first that gives the element `i`
+pub turn : List FlatEquation → ℕ → ℕ
+turn [] i = 0
+turn (q ∷ Q) i = if eqb q.element i then 0 else suc (turn Q i)
+
+at_turn : (q : FlatEquation) (Q : List FlatEquation) (i : ℕ) → q.element ≡ i → turn (q ∷ Q) i ≡ 0
+unfolding turn
+at_turn q Q i e = first (eqb_tells q.element i)
+  where
+    first : AreCompared q.element i → turn (q ∷ Q) i ≡ 0
+    first (inl h) = ap (λ b. if b then 0 else suc (turn Q i)) h.0
+    first (inr h) = absurd (h.1 e)
+
+later_turn :
+    (q : FlatEquation) (Q : List FlatEquation) (i : ℕ) → q.element ≢ i →
+    turn (q ∷ Q) i ≡ suc (turn Q i)
+unfolding turn
+later_turn q Q i e = later (eqb_tells q.element i)
+  where
+    later : AreCompared q.element i → turn (q ∷ Q) i ≡ suc (turn Q i)
+    later (inl h) = absurd (e h.1)
+    later (inr h) = ap (λ b. if b then 0 else suc (turn Q i)) h.0
+
+module _ (size : ℕ) where
+  -- in an order, no equation gives an element that is done
+  pub new_later :
+      (done : List ℕ) (Q : List FlatEquation) → Ready size done Q → (q : FlatEquation) → In q Q →
+      In q.element done → ⊥
+  new_later done [] ready q i d = absurd i
+  new_later done (p ∷ Q) ready q (inl e) d =
+      ready.0.is_new (subst (λ p. In p.element done) (sym e) d)
+  new_later done (p ∷ Q) ready q (inr i) d =
+      new_later (p.element ∷ done) Q ready.1 q i (inr d)
+
+  -- an equation reads only what is done, or what is given before its own element
+  turns :
+      (done : List ℕ) (Q : List FlatEquation) → Ready size done Q → (q : FlatEquation) → In q Q →
+      Every (λ i. In i done ⊎ (turn Q i < turn Q q.element)) (equation_reads q)
+  turns done [] ready q i = absurd i
+  turns done (p ∷ Q) ready q (inl e) =
+      Every-map (λ i. In i done) (λ i. In i done ⊎ (turn (p ∷ Q) i < turn (p ∷ Q) q.element))
+      (λ i d. inl d) (equation_reads q)
+      (subst (λ p. Every (λ i. In i done) (equation_reads p)) e ready.0.reads_done)
+  turns done (p ∷ Q) ready q (inr j) =
+      Every-map (λ i. In i (p.element ∷ done) ⊎ (turn Q i < turn Q q.element))
+      (λ i. In i done ⊎ (turn (p ∷ Q) i < turn (p ∷ Q) q.element)) next (equation_reads q)
+      (turns (p.element ∷ done) Q ready.1 q j)
+    where
+      own : turn (p ∷ Q) q.element ≡ suc (turn Q q.element)
+      own =
+          later_turn p Q q.element
+          (λ e. new_later (p.element ∷ done) Q ready.1 q j (inl e))
+
+      step :
+          (i : ℕ) → turn Q i < turn Q q.element → AreCompared p.element i →
+          turn (p ∷ Q) i < turn (p ∷ Q) q.element
+      step i lt (inl h) = let e = at_turn p Q i h.1 in omega (arith, e, own)
+      step i lt (inr h) = let e = later_turn p Q i h.1 in omega (arith, e, own)
+
+      next :
+          (i : ℕ) → In i (p.element ∷ done) ⊎ (turn Q i < turn Q q.element) →
+          In i done ⊎ (turn (p ∷ Q) i < turn (p ∷ Q) q.element)
+      next i (inl (inl e)) = let f = at_turn p Q i e in inr (omega (arith, f, own))
+      next i (inl (inr d)) = inl d
+      next i (inr lt) = inr (step i lt (eqb_tells p.element i))
+
+  -- in an order, an equation reads only elements that are given before its own
+  reads_before :
+      (Q : List FlatEquation) → Ready size [] Q → (q : FlatEquation) → In q Q →
+      Every (λ i. turn Q i < turn Q q.element) (equation_reads q)
+  reads_before Q ready q i =
+      Every-map (λ i. In i [] ⊎ (turn Q i < turn Q q.element))
+      (λ i. turn Q i < turn Q q.element) later (equation_reads q) (turns [] Q ready q i)
+    where
+      later : (i : ℕ) → In i [] ⊎ (turn Q i < turn Q q.element) → turn Q i < turn Q q.element
+      later i (inl none) = absurd none
+      later i (inr lt) = lt
+
+-- ## Chains
+
+module _ (f : FlatProgram) (Q : List FlatEquation) (ordering : IsOrderingOf f.equations Q)
+    (ready : Ready f.size [] Q) where
+  -- where a chain leads from j to i, j has its turn before i
+  pub chain_before : (j i : ℕ) → Chain f j i → turn Q j < turn Q i
+  chain_before j _ (one_read q is own) =
+      Every-at (λ i. turn Q i < turn Q q.element) (equation_reads q) j
+      (reads_before f.size Q ready q (ordering.there q is)) own
+  chain_before j _ (more_reads q e is own rest) =
+      let first = Every-at (λ i. turn Q i < turn Q q.element) (equation_reads q) e
+      (reads_before f.size Q ready q (ordering.there q is)) own in
+      let later = chain_before j e rest in
+      omega (arith, first, later)
+
+  -- if the equations are in an order, no element reads itself
+  pub no_cycle : (i : ℕ) → Chain f i i → ⊥
+  no_cycle i c = let lt = chain_before i i c in absurd (omega (arith, lt))
+
+-- A cycle of reads is a certificate where reading is needing, and a certificate is a cycle.
+
+-- numbers below n that are linked by R are linked by S, where R implies S below n
+linked_by :
+    (R S : ℕ → ℕ → Type 0) (n first : ℕ) (is : List ℕ) →
+    ((i j : ℕ) → i < n → j < n → R i j → S i j) → first < n → Every (λ i. i < n) is →
+    AreLinked R first is → AreLinked S first is
+linked_by R S n first [] f lt below h = h
+linked_by R S n first (i ∷ []) f lt below h = f i first below.0 lt h
+linked_by R S n first (i ∷ (j ∷ is)) f lt below h = (
+  f i j below.0 below.1.0 h.0,
+  linked_by R S n first (j ∷ is) f lt below.1 h.1,
+)
+
+-- a cycle of reads is a certificate, if a variable that leads to another is a need of it
+pub certificate_of :
+    (P : Program) (f : FlatProgram) (is : List ℕ) →
+    ((i j : ℕ) → i < f.variables → j < f.variables → Leads f j i → NeedsAt P i j) →
+    IsReadCycle f is → IsCertificate P is
+certificate_of P f [] needs h = h.1
+certificate_of P f (i ∷ is) needs h =
+    linked_by (λ i j. Leads f j i) (NeedsAt P) f.variables i (i ∷ is) needs h.0.0 h.0 h.1
+
+-- ## Needs one after another
+
+-- the element with number i reaches the element with number j
+record ReachesAt (P : Program) (i j : ℕ) : Type 0 where
+  one : Element
+  other : Element
+  is_one : slice_get (program_elements P) i ≡ Some one
+  is_other : slice_get (program_elements P) j ≡ Some other
+  reaches : Reaches P other one
+
+reach_once : (P : Program) (i j : ℕ) → NeedsAt P i j → ReachesAt P i j
+reach_once P i j h = record {
+  one = h.one;
+  other = h.other;
+  is_one = h.is_one;
+  is_other = h.is_other;
+  reaches = at_once h.one h.needs;
+}
+
+reach_through : (P : Program) (i j k : ℕ) → NeedsAt P i j → ReachesAt P j k → ReachesAt P i k
+reach_through P i j k h g =
+    let same : g.one ≡ h.other = same_Some g.one h.other (sym g.is_one ∙ h.is_other) in
+    record {
+      one = h.one;
+      other = g.other;
+      is_one = h.is_one;
+      is_other = g.is_other;
+      reaches = through h.one h.other h.needs (subst (Reaches P g.other) same g.reaches);
+    }
+
+linked_reach :
+    (P : Program) (first i : ℕ) (is : List ℕ) → AreLinked (NeedsAt P) first (i ∷ is) →
+    ReachesAt P i first
+linked_reach P first i [] h = reach_once P i first h
+linked_reach P first i (j ∷ is) h =
+    reach_through P i j first h.0 (linked_reach P first j is h.1)
+
+-- if there is a certificate, some element reaches itself
+pub cyclic_of : (P : Program) (is : List ℕ) → IsCertificate P is → IsCyclic P
+cyclic_of P [] h = absurd h
+cyclic_of P (i ∷ is) h =
+    let r = linked_reach P i i is h in
+    let same : r.other ≡ r.one = same_Some r.other r.one (sym r.is_other ∙ r.is_one) in
+    (r.one, subst (λ y. Reaches P y r.one) same r.reaches)
+
+-- The reads of a flat program and the needs of its program: if the equations have an order in which
+-- they can be computed, the program is causal, and a cycle of reads is a cycle of needs.
+
+-- two chains, joined, are a chain
+pub chained :
+    (f : FlatProgram) (j m i : ℕ) → Chain f j m → Chain f m i → Chain f j i
+chained f j m _ a (one_read q is own) = more_reads q m is own a
+chained f j m _ a (more_reads q e is own rest) = more_reads q e is own (chained f j m e a rest)
+
+-- an element of an accepted program has one number
+pub one_number :
+    (P : Program) → static_refusal P ≡ None → (i m : ℕ) (x : Element) →
+    slice_get (program_elements P) i ≡ Some x → slice_get (program_elements P) m ≡ Some x → i ≡ m
+one_number P accepted i m x e g =
+    same_Some i m (sym (number_is P accepted i x e) ∙ number_is P accepted m x g)
+
+module _ (P : Program) (accepted : static_refusal P ≡ None) (f : FlatProgram)
+    (reads : (x y : Element) → Needs P x y → HasReads P f x y) where
+  -- an element that reaches another reads it
+  reaches_read : (y x : Element) → Reaches P y x → HasReads P f x y
+  reaches_read y _ (at_once x n) = reads x y n
+  reaches_read y _ (through x z n rest) =
+      let a = reads x z n in
+      let b = reaches_read y z rest in
+      let same : b.one ≡ a.other = one_number P accepted b.one a.other z b.is_one a.is_other in
+      record {
+        one = a.one;
+        other = b.other;
+        is_one = a.is_one;
+        is_other = b.is_other;
+        chain = chained f b.other a.other a.one (subst (Chain f b.other) same b.chain) a.chain;
+      }
+
+  -- an element that reaches itself reads itself
+  pub cycle_read : (x : Element) → Reaches P x x → (i : ℕ) × Chain f i i
+  cycle_read x r =
+      let h = reaches_read x x r in
+      let same : h.other ≡ h.one = one_number P accepted h.other h.one x h.is_other h.is_one in
+      (h.one, subst (λ m. Chain f m h.one) same h.chain)
+
+module _ (P : Program) (f : FlatProgram) (e : IsExpansionOf P f) where
+  -- if the equations have an order in which they can be computed, the program is causal
+  pub expansion_causal :
+      (Q : List FlatEquation) → IsOrderingOf f.equations Q → Ready f.size [] Q → IsCausal P
+  expansion_causal Q ordering ready x reaches =
+      let loop = cycle_read P e.flat.accepted f e.reads x reaches in
+      no_cycle f Q ordering ready loop.0 loop.1
+
+  -- a cycle of elements of variables that read one another is a certificate
+  pub expansion_certified : (is : List ℕ) → IsReadCycle f is → IsCertificate P is
+  expansion_certified is cycle = certificate_of P f is e.needs cycle

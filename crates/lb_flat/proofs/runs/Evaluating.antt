@@ -1,18 +1,464 @@
+-- The state of the evaluator: selected equations, fixed cells, memories, and what each instant
+-- keeps.
+use Rattle.lb_flat.proofs.Words
+use Words.{◌≡◌, ◌≢◌, ℕ, ◌≤◌, Bool, true, false, cond, inl, inr, None, List, [], ◌∷◌, length, set}
+use Words.{refl, sym, ap, ◌∙◌, subst, arith, length-set, filter, get_or-set_same, get_or-set_other}
+use Words.{Every, In, contrary, Scalar, FlatEquation, Row, cell, now, Ready, filled, suc, not, ◌||◌}
+use Words.{map, ap₂, Where, FlatClock, Always, Operation, Input, Constant, FirstThen, Previous}
+use Words.{Latest, remembered, advanced, row_of, drop, All, add-one, drop-cons, length-map, Verdict}
+use Words.{Passed, Inputs, or_later, InputPlace, place_equation, run, FlatProgram, row_judged}
+use Words.{rows_judged, flat_verdict, cell_of, equation_of, IsWithin, zero, ◌+◌, ◌<◌, ◌++◌, get_or}
+use Words.{append_assoc, is_input, is_fixed, is_step, has_memory, fixed_in, steps_in, on_base}
+use Words.{inputs_in, memory_places, AreFixed, Cell, Clock}
+use Rattle.{std.proofs.lemmas.List.set-get_or, lb_flat.specs.Prepared.HoldsFixed}
+use Rattle.lb_flat.{specs.declared.equation.Equation.Equation, proofs.lists.Lists.Every-map}
+use Rattle.lb_flat.proofs.{lists.Lists.Every-both, runs.Running.{HoldsNow, filled_is}}
+use Rattle.lb_flat.proofs.runs.Running.{length-filled, row_holds, ready_advanced}
+
+-- Selected equations fill a row: what they change, and when they fill it as all equations do.
+
+pub by_test : {A : Type 0} (b : Bool) → (b ≡ true → A) → (b ≡ false → A) → A
+by_test true f g = f refl
+by_test false f g = g refl
+
+-- no later equation gives an element that is done
+pub later_new :
+    (size : ℕ) (done : List ℕ) (Q : List FlatEquation) → Ready size done Q →
+    (i : ℕ) → In i done → Every (λ q. q.element ≢ i) Q
+later_new size done [] ready i p = tt
+later_new size done (q ∷ Q) ready i p = (
+  (λ same. ready.0.is_new (subst (λ j. In j done) (sym same) p)),
+  later_new size (q.element ∷ done) Q ready.1 i (inr p),
+)
+
+module _ (given : List Scalar) (size : ℕ) (p : FlatEquation → Bool) where
+  -- a row with the cell of one equation
+  abbrev after : Row → FlatEquation → Row
+  after row q = set row q.element (now given row q.clock q.operation)
+
+  abbrev some_filled : Row → List FlatEquation → Row
+  some_filled row Q = filled given row (filter p Q)
+
+  fill_yes :
+      (row : Row) (q : FlatEquation) (Q : List FlatEquation) → p q ≡ true →
+      some_filled row (q ∷ Q) ≡ some_filled (after row q) Q
+  fill_yes row q Q e = ap (λ b. filled given row (cond b (q ∷ filter p Q) (filter p Q))) e
+
+  fill_no :
+      (row : Row) (q : FlatEquation) (Q : List FlatEquation) → p q ≡ false →
+      some_filled row (q ∷ Q) ≡ some_filled row Q
+  fill_no row q Q e = ap (λ b. filled given row (cond b (q ∷ filter p Q) (filter p Q))) e
+
+  kept_beside :
+      (row : Row) (q r : FlatEquation) → r.element ≢ q.element →
+      cell (after row q) r.element ≡ cell row r.element
+  kept_beside row q r other = get_or-set_other row q.element r.element _ None other
+
+  pub some_keep :
+      (done : List ℕ) (Q : List FlatEquation) (row : Row) → Ready size done Q →
+      (i : ℕ) → In i done → cell (some_filled row Q) i ≡ cell row i
+  some_keep done [] row ready i is = refl
+  some_keep done (q ∷ Q) row ready i is =
+      by_test _ (λ e. ap (λ r. cell r i) (fill_yes row q Q e) ∙ some_keep (q.element ∷ done) Q
+      (after row q) ready.1 i (inr is) ∙ get_or-set_other row q.element i _ None
+      (λ same. ready.0.is_new (rw (← same) is))) (λ e. ap (λ r. cell r i) (fill_no row q Q e)
+      ∙ some_keep (q.element ∷ done) Q row ready.1 i (inr is))
+
+  -- an element of an equation that is not selected keeps its cell
+  abbrev IsKept : Row → Row → FlatEquation → Type 0
+  IsKept new row q = p q ≡ false → cell new q.element ≡ cell row q.element
+
+  pub others_kept :
+      (done : List ℕ) (Q : List FlatEquation) (row : Row) → Ready size done Q →
+      Every (IsKept (some_filled row Q) row) Q
+  others_kept done [] row ready = tt
+  others_kept done (q ∷ Q) row ready = by_test _ (λ e. (
+    (λ no. absurd (contrary (p q) e no)),
+    Every-map _ (IsKept (some_filled row (q ∷ Q)) row) (λ r h no. ap (λ s. cell s r.element)
+        (fill_yes row q Q e) ∙ h.0 no ∙ kept_beside row q r h.1) Q (Every-both
+        (IsKept (some_filled (after row q) Q) (after row q)) (λ r. r.element ≢ q.element) Q
+        (others_kept (q.element ∷ done) Q (after row q) ready.1)
+        (later_new size _ Q ready.1 _ (inl refl))),
+  ))
+      (λ e. (
+        (λ no. ap (λ s. cell s q.element) (fill_no row q Q e) ∙ some_keep _ Q row ready.1 _
+            (inl refl)),
+        Every-map (IsKept (some_filled row Q) row) (IsKept (some_filled row (q ∷ Q)) row)
+            (λ r h no. ap (λ s. cell s r.element) (fill_no row q Q e) ∙ h no) Q
+            (others_kept (q.element ∷ done) Q row ready.1),
+      ))
+
+  -- a selected equation holds of the row
+  abbrev IsFilled : Row → FlatEquation → Type 0
+  IsFilled row q = p q ≡ true → HoldsNow given row q
+
+  module _ (stable : (q : FlatEquation) → p q ≡ true → (r s : Row) →
+      now given r q.clock q.operation ≡ now given s q.clock q.operation) where
+    pub some_hold :
+        (done : List ℕ) (Q : List FlatEquation) (row : Row) → Ready size done Q →
+        size ≤ length row → Every (IsFilled (some_filled row Q)) Q
+    some_hold done [] row ready le = tt
+    some_hold done (q ∷ Q) row ready le =
+        by_test (p q)
+        (λ e. (
+          (λ yes. ap (λ s. cell s q.element) (fill_yes row q Q e)
+              ∙ some_keep (q.element ∷ done) Q (after row q) ready.1 q.element (inl refl)
+              ∙ get_or-set_same row q.element _ None (omega (arith, ready.0.is_element))
+              ∙ stable q e row (some_filled row (q ∷ Q))),
+          Every-map (IsFilled (some_filled (after row q) Q)) (IsFilled (some_filled row (q ∷ Q)))
+              (λ r h yes. subst (λ s. HoldsNow given s r) (sym (fill_yes row q Q e)) (h yes)) Q
+              (some_hold (q.element ∷ done) Q (after row q) ready.1
+              (omega (arith, length-set row q.element (now given row q.clock q.operation)))),
+        ))
+        (λ e. (
+          (λ yes. absurd (contrary (p q) yes e)),
+          Every-map (IsFilled (some_filled row Q)) (IsFilled (some_filled row (q ∷ Q)))
+              (λ r h yes. subst (λ s. HoldsNow given s r) (sym (fill_no row q Q e)) (h yes)) Q
+              (some_hold (q.element ∷ done) Q row ready.1 le),
+        ))
+
+  -- an equation that is not selected holds of the row already
+  abbrev IsKnown : Row → FlatEquation → Type 0
+  IsKnown row q = p q ≡ false → HoldsNow given row q
+
+  -- where the other equations already hold, the selected ones fill the row as all do
+  pub some_fill_all :
+      (stable : (q : FlatEquation) → p q ≡ false → (r s : Row) →
+      now given r q.clock q.operation ≡ now given s q.clock q.operation) →
+      (done : List ℕ) (Q : List FlatEquation) (row : Row) → Ready size done Q →
+      Every (IsKnown row) Q → some_filled row Q ≡ filled given row Q
+  some_fill_all stable done [] row ready known = refl
+  some_fill_all stable done (q ∷ Q) row ready known =
+      by_test _ (λ e. fill_yes row q Q e ∙ some_fill_all stable (q.element ∷ done) Q (after row q)
+      ready.1 (Every-map _ (IsKnown (after row q)) (λ r h no. kept_beside row q r h.1 ∙ h.0 no
+      ∙ stable r no row (after row q)) Q (Every-both (IsKnown row) (λ r. r.element ≢ q.element) Q
+      known.1 (later_new size _ Q ready.1 _ (inl refl))))) (λ e. fill_no row q Q e ∙ some_fill_all
+      stable (q.element ∷ done) Q row ready.1 known.1 ∙ ap (λ r. filled given r Q) (sym (ap
+      (set row q.element) (sym (known.0 e)) ∙ set-get_or row q.element None)))
+
+-- A row whose constants are set and whose inputs were read is filled by the steps alone.
+
+-- ## Inputs and constants
+
+-- an operation that is an input
+pub record IsInput (o : Operation) : Type 0 where
+  pub number : ℕ
+  pub is : o ≡ Input number
+
+pub input_is : (o : Operation) → is_input o ≡ true → IsInput o
+input_is (Input j) e = record { number = j; is = refl }
+input_is _ e = absurd (cc)
+
+-- a constant on the base clock
+pub record IsFixed (k : FlatClock) (o : Operation) : Type 0 where
+  pub value : Scalar
+  pub clock : k ≡ Always
+  pub is : o ≡ Constant value
+
+pub fixed_is : (k : FlatClock) (o : Operation) → is_fixed k o ≡ true → IsFixed k o
+fixed_is Always (Constant v) e = record { value = v; clock = refl; is = refl }
+fixed_is (Where k i sign) (Constant v) e = absurd (cc)
+fixed_is k _ e = absurd (cc)
+
+module _ (given : List Scalar) where
+  input_now :
+      (k : FlatClock) (o : Operation) → is_input o ≡ true → (r s : Row) (l : FlatClock) →
+      now given r k o ≡ now given s l o
+  input_now k o e r s l =
+      let h = input_is o e in
+      subst (λ x. now given r k x ≡ now given s l x) (sym h.is) refl
+
+  fixed_now :
+      (k : FlatClock) (o : Operation) → is_fixed k o ≡ true → (r s : Row) (X : List Scalar) →
+      now given r k o ≡ now X s k o
+  fixed_now k o e r s X =
+      let h = fixed_is k o e in
+      rw h.is (subst (λ l. now given r l (Constant h.value) ≡ now X s l (Constant h.value))
+      (sym h.clock) refl)
+
+  -- an operation that is no input gives the same cell whatever the inputs are
+  no_input_now :
+      (r : Row) (k : FlatClock) (o : Operation) → is_input o ≡ false →
+      now given r k o ≡ now [] r k o
+  no_input_now r k (Input j) e = absurd (cc)
+  no_input_now r k _ e = refl
+
+fixed_left : (a b : Bool) → not (a || b) ≡ false → a ≡ false → b ≡ true
+fixed_left true b e f = absurd (cc)
+fixed_left false true e f = refl
+fixed_left false false e f = absurd (cc)
+
+no_input : (a b : Bool) → not (a || b) ≡ true → a ≡ false
+no_input true b e = absurd (cc)
+no_input false b e = refl
+
+-- ## The row of an instant
+
+module _ (given : List Scalar) where
+  abbrev reads_input : FlatEquation → Bool
+  reads_input q = is_input q.operation
+
+  input_stable :
+      (q : FlatEquation) → reads_input q ≡ true → (r s : Row) →
+      now given r q.clock q.operation ≡ now given s q.clock q.operation
+  input_stable q e r s = input_now given q.clock q.operation e r s q.clock
+
+  known_stable :
+      (q : FlatEquation) → is_step q ≡ false → (r s : Row) →
+      now given r q.clock q.operation ≡ now given s q.clock q.operation
+  known_stable q e r s =
+      by_test (reads_input q) (λ yes. input_stable q yes r s)
+      (λ no. fixed_now given q.clock q.operation (fixed_left _ _ e no) r s given)
+
+  -- inputs fill a row in the same way whatever their clocks are
+  inputs_fill :
+      (Q : List FlatEquation) (row : Row) →
+      filled given row (inputs_in Q) ≡ filled given row (filter reads_input Q)
+  inputs_fill [] row = refl
+  inputs_fill (q ∷ Q) row =
+      by_test (reads_input q)
+      (λ e. ap (λ b. filled given row
+      (map on_base (cond b (q ∷ filter reads_input Q) (filter reads_input Q)))) e
+      ∙ inputs_fill Q (set row q.element (now given row Always q.operation))
+      ∙ ap (λ v. filled given (set row q.element v) (filter reads_input Q))
+      (input_now given Always q.operation e row row q.clock)
+      ∙ ap (λ b. filled given row (cond b (q ∷ filter reads_input Q) (filter reads_input Q)))
+      (sym e))
+      (λ e. ap (λ b. filled given row
+      (map on_base (cond b (q ∷ filter reads_input Q) (filter reads_input Q)))) e
+      ∙ inputs_fill Q row
+      ∙ ap (λ b. filled given row (cond b (q ∷ filter reads_input Q) (filter reads_input Q)))
+      (sym e))
+
+  -- the steps read no input
+  steps_alone :
+      (Q : List FlatEquation) (row : Row) →
+      filled [] row (steps_in Q) ≡ filled given row (steps_in Q)
+  steps_alone [] row = refl
+  steps_alone (q ∷ Q) row =
+      by_test (is_step q)
+      (λ e. ap (λ b. filled [] row (cond b (q ∷ steps_in Q) (steps_in Q))) e
+      ∙ steps_alone Q (set row q.element (now [] row q.clock q.operation))
+      ∙ ap (λ v. filled given (set row q.element v) (steps_in Q))
+      (sym (no_input_now given row q.clock q.operation (no_input _ _ e)))
+      ∙ ap (λ b. filled given row (cond b (q ∷ steps_in Q) (steps_in Q))) (sym e))
+      (λ e. ap (λ b. filled [] row (cond b (q ∷ steps_in Q) (steps_in Q))) e
+      ∙ steps_alone Q row
+      ∙ ap (λ b. filled given row (cond b (q ∷ steps_in Q) (steps_in Q))) (sym e))
+
+  module _ (size : ℕ) (Q : List FlatEquation) (row : Row) (ready : Ready size [] Q)
+      (long : length row ≡ size) (fixed : AreFixed row Q) where
+    -- the row with its inputs
+    abbrev with_inputs : Row
+    with_inputs = filled given row (filter reads_input Q)
+
+    known_there :
+        Every (λ q. is_step q ≡ false → HoldsNow given with_inputs q) Q
+    known_there =
+        Every-map _ (λ q. is_step q ≡ false → HoldsNow given with_inputs q) (λ q h no. by_test _
+        (λ yes. h.0 yes) (λ other.
+        let is = fixed_left _ _ no other in
+        h.1.0 other ∙ h.1.1 is ∙ sym (fixed_now given _ _ is _ row []))) Q (Every-both
+        (λ q. reads_input q ≡ true → HoldsNow given with_inputs q) _ Q (some_hold given size
+        reads_input input_stable [] Q row ready (omega (arith, long))) (Every-both (λ q.
+        reads_input q ≡ false → cell with_inputs q.element ≡ cell row q.element) (HoldsFixed row)
+        Q (others_kept given size reads_input [] Q row ready) fixed))
+
+    pub instant_row :
+        filled [] (filled given row (inputs_in Q)) (steps_in Q) ≡ row_of size Q given
+    instant_row =
+        ap (λ r. filled [] r (steps_in Q)) (inputs_fill Q row)
+        ∙ steps_alone Q with_inputs
+        ∙ some_fill_all given size is_step known_stable [] Q with_inputs ready known_there
+        ∙ filled_is given size Q with_inputs ready
+        (length-filled given size (filter reads_input Q) row ∙ long)
+
+-- ## The constants
+
+-- setting the constants on the base clock gives a row that holds them
+pub constants_set :
+    (size : ℕ) (Q : List FlatEquation) (row : Row) → Ready size [] Q → size ≤ length row →
+    AreFixed (filled [] row (fixed_in Q)) Q
+constants_set size Q row ready le =
+    some_hold [] size (λ q. is_fixed q.clock q.operation)
+    (λ q e r s. fixed_now [] q.clock q.operation e r s []) [] Q row ready le
+
+-- ## The memories move on
+
+module _ (row : Row) where
+  input_same : (o : Operation) → is_input (remembered row o) ≡ is_input o
+  input_same (Input j) = refl
+  input_same _ = refl
+
+  fixed_same : (k : FlatClock) (o : Operation) → is_fixed k (remembered row o) ≡ is_fixed k o
+  fixed_same k (Input j) = refl
+  fixed_same k _ = refl
+
+  memory_same : (o : Operation) → has_memory (remembered row o) ≡ has_memory o
+  memory_same (Input j) = refl
+  memory_same _ = refl
+
+  pub no_memory : (o : Operation) → has_memory o ≡ false → remembered row o ≡ o
+  no_memory (FirstThen started a b) e = absurd (cc)
+  no_memory (Previous v a) e = absurd (cc)
+  no_memory (Latest v a) e = absurd (cc)
+  no_memory _ e = refl
+
+  step_same : (q : FlatEquation) → is_step (advanced row q) ≡ is_step q
+  step_same q = cc (input_same q.operation, fixed_same q.clock q.operation)
+
+  pub steps_advanced :
+      (Q : List FlatEquation) →
+      map (advanced row) (steps_in Q) ≡ steps_in (map (advanced row) Q)
+  steps_advanced [] = refl
+  steps_advanced (q ∷ Q) = cc (map_cond (is_step q), step_same q, steps_advanced Q)
+    where
+      map_cond :
+          (b : Bool) → map (advanced row) (cond b (q ∷ steps_in Q) (steps_in Q))
+          ≡ cond b (advanced row q ∷ map (advanced row) (steps_in Q))
+          (map (advanced row) (steps_in Q))
+      map_cond true = refl
+      map_cond false = refl
+
+  input_stays : (o : Operation) → is_input o ≡ true → remembered row o ≡ o
+  input_stays o e =
+      let h = input_is o e in
+      subst (λ x. remembered row x ≡ x) (sym h.is) refl
+
+  pub inputs_advanced :
+      (Q : List FlatEquation) → inputs_in (map (advanced row) Q) ≡ inputs_in Q
+  inputs_advanced [] = refl
+  inputs_advanced (q ∷ Q) =
+      ap (λ b. map on_base (cond b
+      (advanced row q ∷ filter (λ r. is_input r.operation) (map (advanced row) Q))
+      (filter (λ r. is_input r.operation) (map (advanced row) Q)))) (input_same q.operation)
+      ∙ by_test (is_input q.operation)
+      (λ e. ap (λ b. map on_base (cond b
+      (advanced row q ∷ filter (λ r. is_input r.operation) (map (advanced row) Q))
+      (filter (λ r. is_input r.operation) (map (advanced row) Q)))) e
+      ∙ ap₂ (λ o qs. record { element = q.element; clock = Always; operation = o } ∷ qs)
+      (input_stays q.operation e) (inputs_advanced Q)
+      ∙ ap (λ b. map on_base (cond b (q ∷ filter (λ r. is_input r.operation) Q)
+      (filter (λ r. is_input r.operation) Q))) (sym e))
+      (λ e. ap (λ b. map on_base (cond b
+      (advanced row q ∷ filter (λ r. is_input r.operation) (map (advanced row) Q))
+      (filter (λ r. is_input r.operation) (map (advanced row) Q)))) e
+      ∙ inputs_advanced Q
+      ∙ ap (λ b. map on_base (cond b (q ∷ filter (λ r. is_input r.operation) Q)
+      (filter (λ r. is_input r.operation) Q))) (sym e))
+
+  pub places_advanced :
+      (n : ℕ) (Q : List FlatEquation) →
+      memory_places n (map (advanced row) Q) ≡ memory_places n Q
+  places_advanced n [] = refl
+  places_advanced n (q ∷ Q) = cc (memory_same q.operation, places_advanced (suc n) Q)
+
+-- the row of an instant holds the constants, also for the equations of the next instant
+pub fixed_stay :
+    (given : List Scalar) (size : ℕ) (Q : List FlatEquation) (row : Row) → Ready size [] Q →
+    AreFixed (row_of size Q given) (map (advanced row) Q)
+fixed_stay given size Q row ready = stays Q (row_holds given size Q ready)
+  where
+    stays :
+        (R : List FlatEquation) → Every (HoldsNow given (row_of size Q given)) R →
+        AreFixed (row_of size Q given) (map (advanced row) R)
+    stays [] h = tt
+    stays (q ∷ R) h = (
+      (λ e.
+          let is = sym (fixed_same row q.clock q.operation) ∙ e in
+          let c = fixed_is q.clock q.operation is in
+          h.0 ∙ fixed_now given q.clock q.operation is _ (row_of size Q given) []
+          ∙ ap (now [] (row_of size Q given) q.clock)
+          (subst (λ o. o ≡ remembered row o) (sym c.is) refl)),
+      stays R h.1,
+    )
+
+-- The memories of equations move on, one place after the other.
+
+module _ (row : Row) where
+  -- the equations with the memory of the one at place `n` moved on
+  abbrev pub moved : ℕ → List FlatEquation → List FlatEquation
+  moved n [] = []
+  moved zero (q ∷ Q) = advanced row q ∷ Q
+  moved (suc n) (q ∷ Q) = q ∷ moved n Q
+
+  -- the equations with the memories at all places `ns` moved on
+  abbrev pub all_moved : List ℕ → List FlatEquation → List FlatEquation
+  all_moved [] Q = Q
+  all_moved (n ∷ ns) Q = all_moved ns (moved n Q)
+
+  pub moved_is :
+      {A : Type 0} (f : A → FlatEquation) (xs : List A) (n : ℕ) (d y : A) → n < length xs →
+      f y ≡ advanced row (f (get_or xs n d)) → map f (set xs n y) ≡ moved n (map f xs)
+  moved_is f [] n d y lt e = absurd (omega arith)
+  moved_is f (x ∷ xs) zero d y lt e = ap (λ q. q ∷ map f xs) e
+  moved_is f (x ∷ xs) (suc n) d y lt e =
+      ap (λ qs. f x ∷ qs) (moved_is f xs n d y (omega arith) e)
+
+  moved_next :
+      (P : List FlatEquation) (q : FlatEquation) (Q : List FlatEquation) →
+      moved (length P) (P ++ q ∷ Q) ≡ P ++ advanced row q ∷ Q
+  moved_next [] q Q = refl
+  moved_next (p ∷ P) q Q = ap (λ qs. p ∷ qs) (moved_next P q Q)
+
+  length-next :
+      (P : List FlatEquation) (q : FlatEquation) → length (P ++ q ∷ []) ≡ suc (length P)
+  length-next [] q = refl
+  length-next (p ∷ P) q = ap suc (length-next P q)
+
+  -- moving on the memories of `Q`, where the equations `P` stand before it
+  rest_moved :
+      (P Q : List FlatEquation) (n : ℕ) → n ≡ length P →
+      all_moved (memory_places n Q) (P ++ Q) ≡ P ++ map (advanced row) Q
+  rest_moved P [] n e = refl
+  rest_moved P (q ∷ Q) n e =
+      by_test (has_memory q.operation)
+      (λ yes.
+      ap (λ b. all_moved (cond b (n ∷ memory_places (suc n) Q) (memory_places (suc n) Q))
+      (P ++ q ∷ Q)) yes
+      ∙ ap (λ k. all_moved (memory_places (suc n) Q) (moved k (P ++ q ∷ Q))) e
+      ∙ ap (all_moved (memory_places (suc n) Q))
+      (moved_next P q Q ∙ sym (append_assoc P (advanced row q ∷ []) Q))
+      ∙ rest_moved (P ++ advanced row q ∷ []) Q (suc n) (ap suc e ∙ sym (length-next P _))
+      ∙ append_assoc P (advanced row q ∷ []) (map (advanced row) Q))
+      (λ no.
+      ap (λ b. all_moved (cond b (n ∷ memory_places (suc n) Q) (memory_places (suc n) Q))
+      (P ++ q ∷ Q)) no
+      ∙ ap (all_moved (memory_places (suc n) Q)) (sym (append_assoc P (q ∷ []) Q))
+      ∙ rest_moved (P ++ q ∷ []) Q (suc n) (ap suc e ∙ sym (length-next P q))
+      ∙ append_assoc P (q ∷ []) (map (advanced row) Q)
+      ∙ ap (λ o. P ++ record { element = q.element; clock = q.clock; operation = o }
+      ∷ map (advanced row) Q) (sym (no_memory row q.operation no)))
+
+  -- moving on all equations is moving on the equations with a memory
+  pub memories_moved :
+      (Q : List FlatEquation) → all_moved (memory_places 0 Q) Q ≡ map (advanced row) Q
+  memories_moved Q = rest_moved [] Q 0 refl
+
+-- the place of a memory is the place of one of the equations
+pub places_within :
+    (n : ℕ) (Q : List FlatEquation) →
+    Every (λ k. k < n + length Q) (memory_places n Q)
+places_within n [] = tt
+places_within n (q ∷ Q) =
+    let later =
+    Every-map (λ k. k < suc n + length Q) (λ k. k < n + suc (length Q)) (λ k lt. omega arith)
+    (memory_places (suc n) Q) (places_within (suc n) Q) in
+    by_test (has_memory q.operation)
+    (λ yes. subst (λ b. Every (λ k. k < n + suc (length Q))
+    (cond b (n ∷ memory_places (suc n) Q) (memory_places (suc n) Q))) (sym yes)
+    (omega arith, later))
+    (λ no. subst (λ b. Every (λ k. k < n + suc (length Q))
+    (cond b (n ∷ memory_places (suc n) Q) (memory_places (suc n) Q))) (sym no) later)
+
+pub every_at :
+    {A : Type 0} (P : A → Type 0) (xs : List A) (i : ℕ) (d : A) → Every P xs → i < length xs →
+    P (get_or xs i d)
+every_at P [] i d h lt = absurd (omega arith)
+every_at P (x ∷ xs) zero d h lt = h.0
+every_at P (x ∷ xs) (suc i) d h lt = every_at P xs i d h.1 (omega arith)
+
 -- The invariant that each instant of the evaluator keeps.
-use Rattle.lb_flat.proofs.Words.{◌≡◌, ◌≢◌, ℕ, suc, ◌+◌, ◌<◌, List, [], length, map, drop, get_or}
-use Rattle.lb_flat.proofs.Words.{All, refl, sym, ap, ap₂, ◌∙◌, subst, add-one, drop-cons}
-use Rattle.lb_flat.proofs.Words.{length-map, Verdict, Passed, Inputs, or_later, InputPlace}
-use Rattle.lb_flat.proofs.Words.{FlatEquation, inputs_in, steps_in, memory_places, place_equation}
-use Rattle.lb_flat.proofs.Words.{AreFixed, filled, advanced, Ready, row_of, run, FlatProgram}
-use Rattle.lb_flat.proofs.Words.{row_judged, rows_judged, flat_verdict, cell_of, equation_of}
-use Rattle.lb_flat.proofs.Words.{IsWithin}
-use Rattle.lb_flat.specs.declared.cell.Cell.{Cell}
-use Rattle.lb_flat.specs.declared.equation.Clock.{Clock}
-use Rattle.lb_flat.specs.declared.equation.Equation.{Equation}
-use Rattle.lb_flat.proofs.runs.FixedCells.{instant_row, inputs_advanced, steps_advanced}
-use Rattle.lb_flat.proofs.runs.FixedCells.{places_advanced}
-use Rattle.lb_flat.proofs.runs.FixedCells.{fixed_stay}
-use Rattle.lb_flat.proofs.runs.Running.{ready_advanced}
 
 -- before instant t the steps are the steps of the program with their memories moved on, the row
 -- holds the constants, and the verdict is up to the rest of the trace

@@ -1,15 +1,12 @@
 -- Equations that each name only elements before their own have streams, from any streams before.
-use Rattle.lb_flat.proofs.Words.{◌≡◌, ℕ, zero, suc, ◌+◌, ◌<◌, true, false, ◌&&◌, List, [], ◌∷◌}
-use Rattle.lb_flat.proofs.Words.{◌++◌, length, refl, sym, ap, ap₂, ◌∙◌, arith, inl, inr, subst}
-use Rattle.lb_flat.proofs.Words.{cases_lt, Every, zip2, Stream, two_scalars, one_scalar, constantly}
-use Rattle.lb_flat.proofs.Words.{along, along_two, choice, previous, first_then, sample, latest}
-use Rattle.lb_flat.proofs.Words.{shows, Inputs, FlatClock, Always, Where, Operation, Input}
-use Rattle.lb_flat.proofs.Words.{Constant, Copy, ApplyUnary, ApplyBinary, Choose, FirstThen}
-use Rattle.lb_flat.proofs.Words.{Previous, Latest, Sample, FlatEquation, column, instants, operate}
-use Rattle.lb_flat.proofs.Words.{Holds, AreLong, clock_reads, reads, keeps}
-use Rattle.std.proofs.Common.{length-append}
-use Rattle.lb_flat.proofs.lists.Lists.{Every-first, Every-second, Every-append}
-use Rattle.lb_flat.proofs.lists.Columns.{operate_long}
+use Rattle.lb_flat.proofs.Words
+use Words.{◌≡◌, ℕ, zero, suc, ◌+◌, ◌<◌, true, false, ◌&&◌, List, [], ◌∷◌, ◌++◌, length, refl, sym}
+use Words.{ap, ap₂, ◌∙◌, arith, inl, inr, subst, cases_lt, Every, zip2, Stream, two_scalars}
+use Words.{one_scalar, constantly, along, along_two, choice, previous, first_then, sample, latest}
+use Words.{shows, Inputs, FlatClock, Always, Where, Operation, Input, Constant, Copy, ApplyUnary}
+use Words.{ApplyBinary, Choose, FirstThen, Previous, Latest, Sample, FlatEquation, column, instants}
+use Words.{operate, Holds, AreLong, clock_reads, reads, keeps, length-append}
+use Rattle.lb_flat.proofs.lists.Lists.{Every-first, Every-second, Every-append, operate_long}
 
 -- the elements that an equation names: in its clock, and as operands that it reads or keeps
 abbrev pub names : FlatEquation → List ℕ

@@ -1,28 +1,262 @@
+-- In a solution of a flat program that fits, elements are present on their clocks and have their
+-- kinds.
+use Rattle.lb_flat.proofs.Words
+use Words.{◌≡◌, ◌≢◌, ℕ, zero, suc, ◌/◌, ◌<◌, ◌≤◌, Bool, true, false, ℤ, pos, Some, [], ◌∷◌, refl}
+use Words.{subst, arith, UnaryOperator, Not, Negate, BinaryOperator, Plus, Minus, Times, Divide}
+use Words.{Modulo, Kind, Int, where_true, is_int, ◌&&◌, inl, inr, None, is_some, List, sym, ap, ◌∙◌}
+use Words.{Every, In, held, one_cell, two_cells, sample, shows, FlatClock, Operation, Input}
+use Words.{Constant, Copy, ApplyUnary, ApplyBinary, Choose, FirstThen, Previous, Latest, Sample}
+use Words.{FlatEquation, Row, cell, is_now, chosen_cell, now, clock_reads, reads, Ready, IfSome}
+use Words.{map, length, ap₂, get_or-eq_default, length-map, cases_lt, Stream, is_given, newest}
+use Words.{first_cell, Inputs, fits, is_row, column, instants, FlatSolves, remembered, advanced}
+use Words.{slice_get, Scalar, Integer, Boolean, Bad, strict, or_fault, two_scalars, one_scalar}
+use Words.{is_of_kind}
+use Rattle.std.{specs.Int.Signed.{mag, mag_rem}, proofs.Common.{negsuc, neg_ℤ, ◌+ℤ◌, ◌-ℤ◌, ◌*ℤ◌}}
+use Rattle.std.proofs.{Common.{int_div, int_rem}, Math.Nat.{div-le_self, div-one}}
+use Rattle.std.proofs.{Math.Nat.{div-lt_iff_lt-mul, div-le_of_le-mul}, lemmas.Bool.and_parts}
+use Rattle.lb_syntax.specs.declared.tree.BinaryOperator.TheVariants.{Equal, Unequal, Less, AtMost}
+use Rattle.lb_syntax.specs.declared.tree.BinaryOperator.TheVariants.{Greater, AtLeast}
+use Rattle.lb_syntax.specs.declared.tree.Kind.TheVariants.{Bool as Truth}
+use Rattle.{lb_static.specs.Arithmetic.is_divisible, lb_check.specs.Scalars.{Cell, Nil, chosen}}
+use Rattle.lb_flat.{specs.Fitting.{integers_kind, truths_kind}, proofs.lists.Lists.Every-first}
+use Rattle.lb_flat.proofs.{lists.Lists.{column_long, instants_long}, runs.Running.HoldsNow}
+use Rattle.lb_flat.proofs.runs.Running.{first_row, after_first, column_step, instants_step}
+use Rattle.lb_flat.proofs.runs.Running.{NowAndLater, now_and_later, Step, step_of, ready_advanced}
+pub use Rattle.lb_flat.specs.Fitting.{IsOf, binary_kind, unary_kind, OperandsFit, ClockFits}
+pub use Rattle.lb_flat.specs.Fitting.{OperandKinds, KindFits, IsFitting}
+
+-- The operators give scalars of their kinds.
+
+-- ## Results in the range of `int`
+
+small_is_int : (z : ℤ) → mag z ≤ 2147483647 → is_int z ≡ true
+small_is_int (pos n) h = grind arith
+small_is_int (negsuc n) h = grind arith
+
+int_is_small : (z : ℤ) → is_int z ≡ true → mag z ≤ 2147483647
+int_is_small (pos n) h = grind arith
+int_is_small (negsuc n) h = grind arith
+
+lawful_int : (z : ℤ) (b : Bool) → is_int z ≡ b → is_of_kind Int (or_fault (where_true b z)) ≡ true
+lawful_int z true e = e
+lawful_int z false e = refl
+
+neg_small : (n m : ℕ) → n ≤ suc m → mag (neg_ℤ (pos n)) ≤ m
+neg_small zero m h = omega arith
+neg_small (suc n) m h = omega arith
+
+half_less : (n k : ℕ) → suc n / suc (suc k) ≤ n
+half_less zero k =
+    let both = div-lt_iff_lt-mul {k = suc (suc k)} {x = 1} {y = 1} (omega arith) in
+    let lt : 1 / suc (suc k) < 1 = both.1 (omega arith) in
+    omega (arith, lt)
+half_less (suc n) k = div-le_of_le-mul (suc (suc k)) (omega arith)
+
+not_least : (a : ℕ) → is_divisible (negsuc a) (negsuc 0) ≡ true → a ≢ 2147483647
+not_least a d e =
+    let never : is_divisible (negsuc 2147483647) (negsuc 0) ≡ true =
+    subst (λ n. is_divisible (negsuc n) (negsuc 0) ≡ true) e d in
+    absurd cc
+
+quotient_small :
+    (a b : ℤ) → mag a ≤ 2147483647 → is_divisible a b ≡ true → mag (int_div a b) ≤ 2147483647
+quotient_small (pos a) (pos b) h d = omega (arith, h, div-le_self a b)
+quotient_small (pos a) (negsuc b) h d =
+    neg_small (a / suc b) 2147483647 (omega (arith, h, div-le_self a (suc b)))
+quotient_small (negsuc a) (pos b) h d =
+    neg_small (suc a / b) 2147483647 (omega (arith, h, div-le_self (suc a) b))
+quotient_small (negsuc a) (negsuc zero) h d =
+    let other : a ≢ 2147483647 = not_least a d in
+    omega (arith, h, other, div-one (suc a))
+quotient_small (negsuc a) (negsuc (suc b)) h d = omega (arith, h, half_less a b)
+
+quotient_int :
+    (a b : ℤ) (c : Bool) → is_int a ≡ true → is_divisible a b ≡ c →
+    is_of_kind Int (or_fault (where_true c (int_div a b))) ≡ true
+quotient_int a b true i d =
+    small_is_int (int_div a b) (quotient_small a b (int_is_small a i) d)
+quotient_int a b false i d = refl
+
+remainder_int :
+    (a b : ℤ) (c : Bool) → is_int a ≡ true →
+    is_of_kind Int (or_fault (where_true c (int_rem a b))) ≡ true
+remainder_int a b true i =
+    small_is_int (int_rem a b) (omega (arith, int_is_small a i, mag_rem a b))
+remainder_int a b false i = refl
+
+-- ## Scalars of their kinds
+
+pub nil_of : (k : Kind) → IsOf k Nil
+nil_of Int = refl
+nil_of Truth = refl
+
+pub bad_of : (k : Kind) → IsOf k Bad
+bad_of Int = refl
+bad_of Truth = refl
+
+-- an operator on nil and another operand gives a scalar of every kind
+nil_and : (k : Kind) (v : Scalar) → IsOf k (strict (v ∷ []) Nil)
+nil_and k Bad = bad_of k
+nil_and k _ = nil_of k
+
+one_kind : (k l : Kind) (v : Scalar) → Some k ≡ Some l → IsOf k v → IsOf l v
+one_kind k l v e h = let same : k ≡ l = cc in subst (λ m. IsOf m v) same h
+
+of_integers :
+    (op : BinaryOperator) (r : Kind) (a b : ℤ) → integers_kind op ≡ Some r → is_int a ≡ true →
+    is_int b ≡ true → IsOf r (two_scalars op (Integer a) (Integer b))
+of_integers Plus r a b e i j = one_kind Int r _ e (lawful_int (a +ℤ b) _ refl)
+of_integers Minus r a b e i j = one_kind Int r _ e (lawful_int (a -ℤ b) _ refl)
+of_integers Times r a b e i j = one_kind Int r _ e (lawful_int (a *ℤ b) _ refl)
+of_integers Divide r a b e i j = one_kind Int r _ e (quotient_int a b _ i refl)
+of_integers Modulo r a b e i j = one_kind Int r _ e (remainder_int a b _ i)
+of_integers Equal r a b e i j = one_kind Truth r _ e refl
+of_integers Unequal r a b e i j = one_kind Truth r _ e refl
+of_integers Less r a b e i j = one_kind Truth r _ e refl
+of_integers AtMost r a b e i j = one_kind Truth r _ e refl
+of_integers Greater r a b e i j = one_kind Truth r _ e refl
+of_integers AtLeast r a b e i j = one_kind Truth r _ e refl
+of_integers _ r a b e i j = cc
+
+of_truths :
+    (op : BinaryOperator) (r : Kind) (a b : Bool) → truths_kind op ≡ Some r →
+    IsOf r (two_scalars op (Boolean a) (Boolean b))
+of_truths Plus r a b e = cc
+of_truths Minus r a b e = cc
+of_truths Times r a b e = cc
+of_truths Divide r a b e = cc
+of_truths Modulo r a b e = cc
+of_truths Less r a b e = cc
+of_truths AtMost r a b e = cc
+of_truths Greater r a b e = cc
+of_truths AtLeast r a b e = cc
+of_truths _ r a b e = one_kind Truth r _ e refl
+
+pub binary_of :
+    (op : BinaryOperator) (k l r : Kind) (v w : Scalar) → binary_kind op k l ≡ Some r →
+    IsOf k v → IsOf l w → IsOf r (two_scalars op v w)
+binary_of op Int Int r (Integer a) (Integer b) e i j = of_integers op r a b e i j
+binary_of op Int Int r (Integer a) Nil e i j = nil_of r
+binary_of op Int Int r (Integer a) Bad e i j = bad_of r
+binary_of op Int Int r Nil w e i j = nil_and r w
+binary_of op Int Int r Bad w e i j = bad_of r
+binary_of op Truth Truth r (Boolean a) (Boolean b) e i j = of_truths op r a b e
+binary_of op Truth Truth r (Boolean a) Nil e i j = nil_of r
+binary_of op Truth Truth r (Boolean a) Bad e i j = bad_of r
+binary_of op Truth Truth r Nil w e i j = nil_and r w
+binary_of op Truth Truth r Bad w e i j = bad_of r
+binary_of op _ _ r _ _ e i j = cc
+
+pub unary_of :
+    (op : UnaryOperator) (k r : Kind) (v : Scalar) → unary_kind op k ≡ Some r → IsOf k v →
+    IsOf r (one_scalar op v)
+unary_of Negate Int r (Integer a) e i = one_kind Int r _ e (lawful_int (neg_ℤ a) _ refl)
+unary_of Negate Int r Nil e i = nil_of r
+unary_of Negate Int r Bad e i = bad_of r
+unary_of Not Truth r (Boolean a) e i = one_kind Truth r _ e refl
+unary_of Not Truth r Nil e i = nil_of r
+unary_of Not Truth r Bad e i = bad_of r
+unary_of _ _ r _ e i = cc
+
+pub chosen_of :
+    (k : Kind) (c v w : Scalar) → IsOf k v → IsOf k w → IsOf k (chosen c v w)
+chosen_of k (Boolean true) v w i j = i
+chosen_of k (Boolean false) v w i j = j
+chosen_of k (Integer z) v w i j = bad_of k
+chosen_of k Nil v w i j = nil_of k
+chosen_of k Bad v w i j = bad_of k
+
+-- In a row of a flat program whose clocks fit, an element is present exactly where its clock has an
+-- instant.
+
+pub held_present : (v : Scalar) (b : Bool) → is_some (held v b) ≡ b
+held_present v true = refl
+held_present v false = refl
+
+pub one_present : (f : Scalar → Scalar) (x : Cell) → is_some (one_cell f x) ≡ is_some x
+one_present f None = refl
+one_present f (Some v) = refl
+
+pub two_present :
+    (f : Scalar → Scalar → Scalar) (x y : Cell) (b : Bool) → is_some x ≡ b → is_some y ≡ b →
+    is_some (two_cells f x y) ≡ b
+two_present f None y b p q = p
+two_present f (Some v) None b p q = q
+two_present f (Some v) (Some w) b p q = p
+
+pub choice_present :
+    (c x y : Cell) (b : Bool) → is_some c ≡ b → is_some x ≡ b → is_some y ≡ b →
+    is_some (chosen_cell c x y) ≡ b
+choice_present None x y b p q r = p
+choice_present (Some c) None y b p q r = q
+choice_present (Some c) (Some v) None b p q r = r
+choice_present (Some c) (Some v) (Some w) b p q r = p
+
+pub kept_present : (b c : Bool) (x : Cell) → is_some x ≡ b → is_some (sample (b && c) x) ≡ (b && c)
+kept_present true true x e = e
+kept_present true false x e = refl
+kept_present false c x e = refl
+
+module _ (inputs : ℕ) (K : ℕ → FlatClock) (given : List Scalar) (row : Row)
+    (all_given : (j : ℕ) → j < inputs → is_some (slice_get given j) ≡ true) where
+  abbrev pub IsOnClock : ℕ → Type 0
+  IsOnClock i = is_some (cell row i) ≡ is_now row (K i)
+
+  -- an element on clock `k` is present exactly where `k` has an instant
+  on : (k : FlatClock) (i : ℕ) → K i ≡ k → IsOnClock i → is_some (cell row i) ≡ is_now row k
+  on k i e h = h ∙ ap (is_now row) e
+
+  now_on :
+      (k : FlatClock) (o : Operation) → OperandsFit inputs K k o → Every IsOnClock (reads o) →
+      is_some (now given row k o) ≡ is_now row k
+  now_on k (Input j) f h = all_given j f.1 ∙ sym (ap (is_now row) f.0)
+  now_on k (Constant v) f h = held_present v (is_now row k)
+  now_on k (Copy a) f h = on k a f h.0
+  now_on k (ApplyUnary op a) f h = one_present _ (cell row a) ∙ on k a f h.0
+  now_on k (ApplyBinary op a b) f h = two_present _ _ _ _ (on k a f.0 h.0) (on k b f.1 h.1.0)
+  now_on k (Choose c a b) f h =
+      choice_present _ _ _ _ (on k c f.0 h.0) (on k a f.1 h.1.0) (on k b f.2 h.1.1.0)
+  now_on k (FirstThen true a b) f h = on k b f.1 h.1.0
+  now_on k (FirstThen false a b) f h = on k a f.0 h.0
+  now_on k (Previous v a) f h = held_present v (is_now row k)
+  now_on k (Latest v a) f h = held_present _ (is_now row k)
+  now_on k (Sample a) f h =
+      subst (λ c. is_some (sample (is_now row c) (cell row a)) ≡ is_now row c) (sym f.2)
+      (kept_present (is_now row (K a)) (shows f.1 (cell row f.0)) (cell row a) h.0)
+
+  each_on :
+      (done is : List ℕ) → ((i : ℕ) → In i done → IsOnClock i) →
+      Every (λ i. In i done) is → Every IsOnClock is
+  each_on done [] f h = tt
+  each_on done (i ∷ is) f h = (f i h.0, each_on done is f h.1)
+
+  -- where all equations hold of a row, each element of the row is on its clock
+  pub row_on :
+      (size : ℕ) (done : List ℕ) (Q : List FlatEquation) →
+      ((i : ℕ) → In i done → IsOnClock i) → Ready size done Q →
+      Every (HoldsNow given row) Q → Every (ClockFits inputs K) Q → (i : ℕ) → i < size → IsOnClock i
+  row_on size done [] f ready h fits i lt = f i (ready i lt)
+  row_on size done (q ∷ Q) f ready h fits i lt =
+      row_on size (q.element ∷ done) Q wider ready.1 h.1 fits.1 i lt
+    where
+      reads_done : Every (λ i. In i done) (reads q.operation)
+      reads_done =
+          Every-first (λ i. In i done) (reads q.operation) (clock_reads q.clock)
+          ready.0.reads_done
+
+      new : IsOnClock q.element
+      new =
+          ap is_some h.0
+          ∙ now_on q.clock q.operation fits.0.operands
+          (each_on done (reads q.operation) f reads_done)
+          ∙ sym (ap (is_now row) fits.0.own)
+
+      wider : (i : ℕ) → In i (q.element ∷ done) → IsOnClock i
+      wider i (inl e) = subst IsOnClock e new
+      wider i (inr p) = f i p
+
 -- In a solution of a flat program whose clocks and kinds fit, each element is present exactly at
 -- the instants of its clock, with scalars of its kind.
-use Rattle.lb_flat.proofs.Words.{◌≡◌, ℕ, zero, suc, ◌<◌, Bool, true, false, ◌&&◌, inl, inr, Some}
-use Rattle.lb_flat.proofs.Words.{None, IfSome, is_some, List, [], ◌∷◌, map, length, refl, sym, ap₂}
-use Rattle.lb_flat.proofs.Words.{◌∙◌, subst, arith, get_or-eq_default, length-map, cases_lt, Kind}
-use Rattle.lb_flat.proofs.Words.{Every, In, Scalar, Integer, Boolean, Bad, Cell, Stream}
-use Rattle.lb_flat.proofs.Words.{two_scalars, one_scalar, is_given, held, one_cell, two_cells}
-use Rattle.lb_flat.proofs.Words.{sample, newest, first_cell, Inputs, fits, is_row, FlatClock}
-use Rattle.lb_flat.proofs.Words.{Operation, Input, Constant, Copy, ApplyUnary, ApplyBinary, Choose}
-use Rattle.lb_flat.proofs.Words.{FirstThen, Previous, Latest, Sample, FlatEquation, column}
-use Rattle.lb_flat.proofs.Words.{instants, FlatSolves, Row, cell, is_now, chosen_cell, now}
-use Rattle.lb_flat.proofs.Words.{remembered, advanced, clock_reads, reads, Ready}
-use Rattle.std.proofs.Common.{slice_get}
-use Rattle.std.proofs.lemmas.Bool.{and_parts}
-use Rattle.lb_check.specs.Scalars.{Nil}
-use Rattle.lb_flat.specs.Fitting.{OperandsFit, ClockFits, IsOf}
-use Rattle.lb_flat.proofs.lists.Lists.{Every-first}
-use Rattle.lb_flat.proofs.lists.Columns.{column_long, instants_long}
-use Rattle.lb_flat.proofs.runs.Stepping.{HoldsNow, first_row, after_first, column_step}
-use Rattle.lb_flat.proofs.runs.Stepping.{instants_step}
-use Rattle.lb_flat.proofs.runs.Stepping.{NowAndLater, now_and_later}
-use Rattle.lb_flat.proofs.runs.Running.{Step, step_of, ready_advanced}
-use Rattle.lb_flat.proofs.runs.OnClock.{row_on}
-use Rattle.lb_flat.proofs.runs.ScalarKinds.{binary_of, unary_of, chosen_of}
-pub use Rattle.lb_flat.specs.Fitting.{OperandKinds, KindFits, IsFitting}
 
 -- a cell is absent or holds a scalar of a kind
 abbrev pub CellOf : Kind → Cell → Type 0

@@ -1,15 +1,13 @@
 -- The rows of a recorded trace are a trace of a program with its signature.
 use Rattle.lb_flat.proofs.Words.{slice_get-get_or, slice_get_past, and_from, Kind, Int, Every, zip2}
 use Rattle.lb_flat.proofs.Words.{is_int, Program, signature, Elements, kinds_of, is_given, is_row}
-use Rattle.lb_flat.proofs.Words.{length-both, scalar_in, scalars_in, inputs_of, IsTrace}
-use Rattle.std.proofs.Common.{◌≡◌, ℕ, ◌<◌, ◌≤◌, true, ℤ, pos, List, [], ◌∷◌, map, length, get_or}
-use Rattle.std.proofs.Common.{slice_get, Some, None, refl, sym, ap, subst, ◌∙◌, arith}
-use Rattle.std.specs.List.{All}
-use Rattle.std.proofs.lemmas.Int.{ints}
-use Rattle.std.proofs.lemmas.List.Elements.{All-head, All-tail}
-use Rattle.std.proofs.lemmas.Simd.{get_or-zip2}
-use Rattle.lb_syntax.specs.declared.tree.Kind.TheVariants.{Bool}
-use Rattle.lb_traces.specs.Traces.{Row, Recording, trace_at, IsCell, IsInt, IsRow, IsRecording}
+use Rattle.lb_flat.proofs.Words.{length-both, scalar_in, scalars_in, inputs_of, IsTrace, ◌≡◌, ℕ}
+use Rattle.lb_flat.proofs.Words.{◌<◌, ◌≤◌, true, ℤ, pos, List, [], ◌∷◌, map, length, get_or}
+use Rattle.lb_flat.proofs.Words.{slice_get, Some, None, refl, sym, ap, subst, ◌∙◌, arith, Recording}
+use Rattle.lb_flat.proofs.Words.{trace_at, IsCell, IsRecording}
+use Rattle.std.{specs.List.All, proofs.lemmas.{Int.ints, List.Elements.{All-head, All-tail}}}
+use Rattle.{std.proofs.lemmas.Simd.get_or-zip2, lb_syntax.specs.declared.tree.Kind.TheVariants.Bool}
+use Rattle.lb_traces.specs.Traces.{Row, IsInt, IsRow}
 use Rattle.lb_check.specs.Scalars as scalars
 
 -- ## The scalars of a row, one after the other

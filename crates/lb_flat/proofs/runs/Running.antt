@@ -1,16 +1,269 @@
+-- A flat program in order has one row at each instant and one solution on each trace.
+use Rattle.lb_flat.proofs.Words
+use Words.{◌≡◌, ℕ, zero, suc, true, false, ◌&&◌, Some, None, List, [], ◌∷◌, map, length, refl, sym}
+use Words.{ap, ap₂, ◌∙◌, arith, Every, zip2, tail_of, Scalar, Stream, two_scalars, one_scalar}
+use Words.{constantly, along, along_two, choice, previous, first_then, sample, latest, shows}
+use Words.{first_cell, Inputs, FlatClock, Always, Where, Operation, Input, Constant, Copy}
+use Words.{ApplyUnary, ApplyBinary, Choose, FirstThen, Previous, Latest, Sample, FlatEquation}
+use Words.{column, instants, operate, Holds, AreLong, Row, cell, is_now, now, remembered, advanced}
+use Words.{◌<◌, ◌≤◌, inl, inr, set, replicate, subst, length-set, get_or-set_same, get_or-set_other}
+use Words.{length-replicate, In, held, one_cell, two_cells, newest, chosen_cell, clock_reads, reads}
+use Words.{IsNext, Ready, filled, row_of, ◌++◌, length-map, FlatSolves, keeps, run, streams_of}
+use Rattle.{lb_check.specs.Scalars.Cell, lb_flat.specs.Run.started_by}
+use Rattle.lb_flat.proofs.lists.{Counting.tail_long, Lists.{choice_step, latest_step, Every-first}}
+use Rattle.lb_flat.proofs.lists.Lists.{Every-second, column_long, operate_long}
+
+-- An equation holds of streams exactly where it holds of their first row and, with its memory moved
+-- on, of the rest.
+
+-- an equation holds of a row
+abbrev pub HoldsNow : List Scalar → Row → FlatEquation → Type 0
+HoldsNow given row q = cell row q.element ≡ now given row q.clock q.operation
+
+-- the first row of streams, and the streams after it
+abbrev pub first_row : List Stream → Row
+first_row F = map first_cell F
+
+abbrev pub after_first : List Stream → List Stream
+after_first F = map tail_of F
+
+pub one_off :
+    (n : ℕ) (xs : Stream) → length xs ≡ suc n → xs ≡ first_cell xs ∷ tail_of xs
+one_off n [] e = absurd (omega arith)
+one_off n (x ∷ xs) e = refl
+
+first_then_step :
+    (X : Inputs) (G : List Stream) (k : FlatClock) (a b : ℕ) (x y : Cell) →
+    first_then (x ∷ column X G a) (y ∷ column X G b)
+    ≡ x ∷ operate X G k (FirstThen (started_by false x) a b)
+first_then_step X G k a b None y = refl
+first_then_step X G k a b (Some v) y = refl
+
+heads_equal : (x y : Cell) (xs ys : Stream) → x ∷ xs ≡ y ∷ ys → x ≡ y
+heads_equal x y xs ys e = cc
+
+tails_equal : (x y : Cell) (xs ys : Stream) → x ∷ xs ≡ y ∷ ys → xs ≡ ys
+tails_equal x y xs ys e = cc
+
+module _ (given : List Scalar) (X : Inputs) where
+  pub column_step :
+      (F : List Stream) → AreLong (given ∷ X) F → (i : ℕ) →
+      column (given ∷ X) F i ≡ cell (first_row F) i ∷ column X (after_first F) i
+  column_step [] long i = refl
+  column_step (xs ∷ F) long zero = one_off (length X) xs long.0
+  column_step (xs ∷ F) long (suc i) = column_step F long.1 i
+
+  module _ (F : List Stream) (long : AreLong (given ∷ X) F) where
+    at : (i : ℕ) → column (given ∷ X) F i ≡ cell (first_row F) i ∷ column X (after_first F) i
+    at i = column_step F long i
+
+    pub instants_step :
+        (k : FlatClock) →
+        instants (given ∷ X) F k ≡ is_now (first_row F) k ∷ instants X (after_first F) k
+    instants_step Always = refl
+    instants_step (Where k i sign) =
+        ap₂ (zip2 (λ b x. b && shows sign x)) (instants_step k) (at i)
+
+    -- an operation gives its cell of this instant, and then what it gives with its memory moved on
+    operate_step :
+        (k : FlatClock) (o : Operation) →
+        operate (given ∷ X) F k o
+        ≡ now given (first_row F) k o
+        ∷ operate X (after_first F) k (remembered (first_row F) o)
+    operate_step k (Input j) = refl
+    operate_step k (Constant v) = ap (constantly v) (instants_step k)
+    operate_step k (Copy a) = at a
+    operate_step k (ApplyUnary op a) = ap (along (one_scalar op)) (at a)
+    operate_step k (ApplyBinary op a b) = ap₂ (along_two (two_scalars op)) (at a) (at b)
+    operate_step k (Choose c a b) =
+        ap (λ cs. choice cs (column (given ∷ X) F a) (column (given ∷ X) F b)) (at c)
+        ∙ ap₂ (choice (cell (first_row F) c ∷ column X (after_first F) c)) (at a) (at b)
+        ∙ choice_step (cell (first_row F) c) (cell (first_row F) a) (cell (first_row F) b) _ _ _
+    operate_step k (FirstThen true a b) = at b
+    operate_step k (FirstThen false a b) =
+        ap₂ first_then (at a) (at b)
+        ∙ first_then_step X (after_first F) k a b (cell (first_row F) a) _
+    operate_step k (Previous v a) = ap₂ (previous v) (instants_step k) (at a)
+    operate_step k (Latest v a) =
+        ap₂ (latest v) (instants_step k) (at a)
+        ∙ latest_step v _ _ (cell (first_row F) a) _
+    operate_step k (Sample a) = ap₂ (zip2 sample) (instants_step k) (at a)
+
+    -- the equations hold at the first instant, and with memories moved on at the later ones
+    pub record NowAndLater (Q : List FlatEquation) : Type 0 where
+      pub holds_now : Every (HoldsNow given (first_row F)) Q
+      pub later : Every (Holds X (after_first F)) (map (advanced (first_row F)) Q)
+
+    both_sides :
+        (q : FlatEquation) → Holds (given ∷ X) F q →
+        cell (first_row F) q.element ∷ column X (after_first F) q.element
+        ≡ now given (first_row F) q.clock q.operation
+        ∷ operate X (after_first F) q.clock (remembered (first_row F) q.operation)
+    both_sides q e = sym (at q.element) ∙ e ∙ operate_step q.clock q.operation
+
+    pub now_and_later :
+        (Q : List FlatEquation) → Every (Holds (given ∷ X) F) Q → NowAndLater Q
+    now_and_later [] h = record { holds_now = tt; later = tt }
+    now_and_later (q ∷ Q) h =
+        let rest = now_and_later Q h.1 in
+        let e = both_sides q h.0 in
+        record {
+          holds_now = (heads_equal _ _ _ _ e, rest.holds_now);
+          later = (tails_equal _ _ _ _ e, rest.later);
+        }
+
+    pub from_now_and_later :
+        (Q : List FlatEquation) → Every (HoldsNow given (first_row F)) Q →
+        Every (Holds X (after_first F)) (map (advanced (first_row F)) Q) →
+        Every (Holds (given ∷ X) F) Q
+    from_now_and_later [] h l = tt
+    from_now_and_later (q ∷ Q) h l = (
+      at q.element ∙ ap₂ (λ x xs. x ∷ xs) h.0 l.0 ∙ sym (operate_step q.clock q.operation),
+      from_now_and_later Q h.1 l.1,
+    )
+
+-- At an instant the equations of a program in order have exactly one row: the row that is filled.
+
+-- ## What an operation reads
+
+chosen_same :
+    (c d x y z w : Cell) → c ≡ d → x ≡ y → z ≡ w → chosen_cell c x z ≡ chosen_cell d y w
+chosen_same c d x y z w p q r = cc
+
+-- two rows agree on the elements that are done
+abbrev pub AreSame : List ℕ → Row → Row → Type 0
+AreSame done r s = (i : ℕ) → In i done → cell r i ≡ cell s i
+
+module _ (done : List ℕ) (r s : Row) (same : AreSame done r s) where
+  abbrev AreDone : List ℕ → Type 0
+  AreDone is = Every (λ i. In i done) is
+
+  is_now_same : (k : FlatClock) → AreDone (clock_reads k) → is_now r k ≡ is_now s k
+  is_now_same Always h = refl
+  is_now_same (Where k i sign) h =
+      ap₂ (λ b x. b && shows sign x) (is_now_same k h.1) (same i h.0)
+
+  -- where two rows agree on the elements that are done, an operation that reads only those gives
+  -- the same cell in both
+  now_same :
+      (given : List Scalar) (k : FlatClock) (o : Operation) → AreDone (clock_reads k) →
+      AreDone (reads o) → now given r k o ≡ now given s k o
+  now_same given k (Input j) c h = refl
+  now_same given k (Constant v) c h = ap (held v) (is_now_same k c)
+  now_same given k (Copy a) c h = same a h.0
+  now_same given k (ApplyUnary op a) c h = ap (one_cell (one_scalar op)) (same a h.0)
+  now_same given k (ApplyBinary op a b) c h =
+      ap₂ (two_cells (two_scalars op)) (same a h.0) (same b h.1.0)
+  now_same given k (Choose z a b) c h =
+      chosen_same _ _ _ _ _ _ (same z h.0) (same a h.1.0) (same b h.1.1.0)
+  now_same given k (FirstThen true a b) c h = same b h.1.0
+  now_same given k (FirstThen false a b) c h = same a h.0
+  now_same given k (Previous v a) c h = ap (held v) (is_now_same k c)
+  now_same given k (Latest v a) c h = ap₂ held (ap (newest v) (same a h.0)) (is_now_same k c)
+  now_same given k (Sample a) c h = ap₂ sample (is_now_same k c) (same a h.0)
+
+  next_same :
+      (given : List Scalar) (size : ℕ) (q : FlatEquation) → IsNext size done q →
+      now given r q.clock q.operation ≡ now given s q.clock q.operation
+  next_same given size q n =
+      let in_done = λ (i : ℕ). In i done in
+      now_same given q.clock q.operation
+      (Every-second in_done (reads q.operation) (clock_reads q.clock) n.reads_done)
+      (Every-first in_done (reads q.operation) (clock_reads q.clock) n.reads_done)
+
+-- ## One row
+
+module _ (given : List Scalar) (size : ℕ) where
+  pub row_unique :
+      (done : List ℕ) (Q : List FlatEquation) (r s : Row) → AreSame done r s →
+      Ready size done Q → Every (HoldsNow given r) Q → Every (HoldsNow given s) Q →
+      (i : ℕ) → i < size → cell r i ≡ cell s i
+  row_unique done [] r s same all h g i lt = same i (all i lt)
+  row_unique done (q ∷ Q) r s same ready h g i lt =
+      row_unique (q.element ∷ done) Q r s wider ready.1 h.1 g.1 i lt
+    where
+      at_q : cell r q.element ≡ cell s q.element
+      at_q = h.0 ∙ next_same done r s same given size q ready.0 ∙ sym g.0
+
+      wider : (i : ℕ) → In i (q.element ∷ done) → cell r i ≡ cell s i
+      wider i (inl p) = subst (λ j. cell r j ≡ cell s j) p at_q
+      wider i (inr p) = same i p
+
+  filled_keeps :
+      (done : List ℕ) (Q : List FlatEquation) (row : Row) → Ready size done Q →
+      (i : ℕ) → In i done → cell (filled given row Q) i ≡ cell row i
+  filled_keeps done [] row ready i p = refl
+  filled_keeps done (q ∷ Q) row ready i p =
+      let v = now given row q.clock q.operation in
+      filled_keeps (q.element ∷ done) Q (set row q.element v) ready.1 i (inr p)
+      ∙ get_or-set_other row q.element i v None
+      (λ e. ready.0.is_new (subst (λ j. In j done) e p))
+
+  pub length-filled :
+      (Q : List FlatEquation) (row : Row) → length (filled given row Q) ≡ length row
+  length-filled [] row = refl
+  length-filled (q ∷ Q) row =
+      let v = now given row q.clock q.operation in
+      length-filled Q (set row q.element v) ∙ length-set row q.element v
+
+  filled_holds :
+      (done : List ℕ) (Q : List FlatEquation) (row : Row) → Ready size done Q →
+      size ≤ length row → Every (HoldsNow given (filled given row Q)) Q
+  filled_holds done [] row ready le = tt
+  filled_holds done (q ∷ Q) row ready le = (
+    filled_keeps (q.element ∷ done) Q row' ready.1 q.element (inl refl)
+        ∙ get_or-set_same row q.element v None (omega (arith, ready.0.is_element))
+        ∙ next_same done row (filled given row (q ∷ Q))
+        (λ i p. sym (filled_keeps done (q ∷ Q) row ready i p)) given size q ready.0,
+    filled_holds (q.element ∷ done) Q row' ready.1
+        (omega (arith, length-set row q.element v)),
+  )
+    where
+      v : Cell
+      v = now given row q.clock q.operation
+
+      row' : Row
+      row' = set row q.element v
+
+  pub length-row_of : (Q : List FlatEquation) → length (row_of size Q given) ≡ size
+  length-row_of Q = length-filled Q (replicate size None) ∙ length-replicate size None
+
+  -- the equations hold of the row of the instant
+  pub row_holds :
+      (Q : List FlatEquation) → Ready size [] Q →
+      Every (HoldsNow given (row_of size Q given)) Q
+  row_holds Q ready =
+      filled_holds [] Q (replicate size None) ready
+      (omega (arith, length-replicate {A = Cell} size None))
+
+rows_equal :
+    (r s : Row) → length r ≡ length s → ((i : ℕ) → i < length r → cell r i ≡ cell s i) →
+    r ≡ s
+rows_equal [] [] e h = refl
+rows_equal [] (y ∷ s) e h = absurd (omega arith)
+rows_equal (x ∷ r) [] e h = absurd (omega arith)
+rows_equal (x ∷ r) (y ∷ s) e h =
+    ap₂ (λ z zs. z ∷ zs) (h 0 (omega arith))
+    (rows_equal r s (omega arith) (λ i lt. h (suc i) (omega arith)))
+
+-- a row of which all equations hold is the row `row_of`
+pub row_is :
+    (given : List Scalar) (size : ℕ) (Q : List FlatEquation) (row : Row) → Ready size [] Q →
+    length row ≡ size → Every (HoldsNow given row) Q → row ≡ row_of size Q given
+row_is given size Q row ready e h =
+    rows_equal row (row_of size Q given) (e ∙ sym (length-row_of given size Q)) (λ i lt.
+    row_unique given size [] Q row (row_of size Q given) (λ j p. absurd p) ready h
+    (row_holds given size Q ready) i (omega arith))
+
+-- filling a row gives `row_of`, whatever the row held before
+pub filled_is :
+    (given : List Scalar) (size : ℕ) (Q : List FlatEquation) (row : Row) → Ready size [] Q →
+    length row ≡ size → filled given row Q ≡ row_of size Q given
+filled_is given size Q row ready e =
+    row_is given size Q (filled given row Q) ready (length-filled given size Q row ∙ e)
+    (filled_holds given size [] Q row ready (omega arith))
+
 -- A flat program in order has exactly one solution on each trace: the streams of its run.
-use Rattle.lb_flat.proofs.Words.{◌≡◌, ℕ, zero, suc, ◌<◌, List, [], ◌∷◌, ◌++◌, map, length}
-use Rattle.lb_flat.proofs.Words.{replicate, refl, sym, ap, ap₂, ◌∙◌, subst, arith, length-map}
-use Rattle.lb_flat.proofs.Words.{length-replicate, Every, In, zip2, tail_of, Scalar, Stream}
-use Rattle.lb_flat.proofs.Words.{first_cell, Inputs, Operation, Input, FlatEquation, Holds, AreLong}
-use Rattle.lb_flat.proofs.Words.{FlatSolves, Row, remembered, advanced, clock_reads, reads, keeps}
-use Rattle.lb_flat.proofs.Words.{IsNext, Ready, row_of, run, streams_of}
-use Rattle.lb_flat.proofs.lists.Columns.{column_long, operate_long}
-use Rattle.lb_flat.proofs.runs.Stepping.{HoldsNow, first_row, after_first, NowAndLater}
-use Rattle.lb_flat.proofs.runs.Stepping.{now_and_later}
-use Rattle.lb_flat.proofs.runs.Stepping.{from_now_and_later, one_off}
-use Rattle.lb_flat.proofs.runs.Rows.{row_is, row_holds, length-row_of}
-use Rattle.lb_flat.proofs.lists.Counting.{tail_long}
 
 -- ## The order stays
 

@@ -1,9 +1,7 @@
 -- A trace starts with the prepared state, whatever the room held before.
-use Rattle.lb_flat.proofs.Words.{◌≡◌, ℕ, List, InputPlace}
-use Rattle.lb_flat.specs.declared.cell.Cell.{Cell}
-use Rattle.lb_flat.specs.declared.equation.Equation.{Equation}
+use Rattle.lb_flat.proofs.Words.{◌≡◌, ℕ, List, InputPlace, Cell}
+use Rattle.lb_flat.specs.{PreparedPrograms.IsPrepared, declared.equation.Equation.Equation}
 use Rattle.lb_flat.specs.declared.program.FlatProgram.{FlatProgram}
-use Rattle.lb_flat.specs.PreparedPrograms.{IsPrepared}
 
 pub started :
     (p : FlatProgram) (inputs inputs_there : List InputPlace)

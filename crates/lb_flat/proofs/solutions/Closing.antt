@@ -1,24 +1,19 @@
 -- The emitted equations give elements one after another, each from elements before its own.
-use Rattle.lb_flat.proofs.Words.{◌≡◌, ℕ, suc, ◌+◌, ◌-◌, ◌<◌, ◌≤◌, false, Option, Some, None, List}
-use Rattle.lb_flat.proofs.Words.{[], ◌∷◌, ◌++◌, map, length, refl, ap, subst, arith, range_with_len}
-use Rattle.lb_flat.proofs.Words.{Not, BinaryOperator, Or, And, ArrayIterator, Map, Red, Fill, Every}
-use Rattle.lb_flat.proofs.Words.{zip2, tail_of, Name, Node_named, Symbol, Expr, Literal, Truth}
-use Rattle.lb_flat.proofs.Words.{Variable, Group, Unary, Binary, If, Arrow, Fby, Pre, Current, When}
-use Rattle.lb_flat.proofs.Words.{Replicate, Index, Slice, Join, Array, AtMostOne, Nor, Call}
-use Rattle.lb_flat.proofs.Words.{Iterate, Exprs, Nil, Cons, Declaration, Program, Instance, Path}
-use Rattle.lb_flat.proofs.Words.{Child, node_named, Boolean, first_value, Clock, On, declared_clock}
-use Rattle.lb_flat.proofs.Words.{call_clocks, number, outputs_of, gathered, last_of, iterated}
-use Rattle.lb_flat.proofs.Words.{FlatClock, Operation, Constant, ApplyUnary, ApplyBinary, Choose}
-use Rattle.lb_flat.proofs.Words.{FirstThen, Previous, Latest, Sample, FlatEquation, clock_reads}
-use Rattle.lb_flat.proofs.Words.{reads, keeps, Layout, flat_clock, State, Emitted, EmittedAll}
-use Rattle.lb_flat.proofs.Words.{numbered, numbers, after, add, joins, chosen_by, push, chained}
-use Rattle.lb_flat.proofs.Words.{twice, negated, keep, assert, emit_nor, emit_at_most_one}
-use Rattle.lb_flat.proofs.Words.{emit_symbol, emit_name, emit, emit_all, emit_each}
-use Rattle.std.proofs.Common.{length-append}
-use Rattle.lb_flat.proofs.lists.Lists.{Every-map, Every-append, Every-take, Every-drop}
-use Rattle.lb_flat.proofs.lists.Lists.{Every-copies}
-use Rattle.lb_flat.proofs.lists.Lists.{Every-joined, Every-pieces}
-use Rattle.lb_flat.proofs.runs.Filling.{Fresh}
+use Rattle.lb_flat.proofs.Words
+use Words.{◌≡◌, ℕ, suc, ◌+◌, ◌-◌, ◌<◌, ◌≤◌, false, Option, Some, None, List, [], ◌∷◌, ◌++◌, map}
+use Words.{length, refl, ap, subst, arith, Not, BinaryOperator, Or, And, ArrayIterator, Map, Red}
+use Words.{Fill, Every, zip2, tail_of, Name, Node_named, Symbol, Expr, Literal, Truth, Variable}
+use Words.{Group, Unary, Binary, If, Arrow, Fby, Pre, Current, When, Replicate, Index, Slice, Join}
+use Words.{Array, AtMostOne, Nor, Call, Iterate, Exprs, Nil, Cons, Declaration, Program, Instance}
+use Words.{Path, Child, node_named, Boolean, first_value, On, declared_clock, call_clocks, gathered}
+use Words.{last_of, iterated, FlatClock, Operation, Constant, ApplyUnary, ApplyBinary, Choose}
+use Words.{FirstThen, Previous, Latest, Sample, FlatEquation, clock_reads, reads, keeps, Layout}
+use Words.{flat_clock, State, Emitted, EmittedAll, numbered, numbers, after, add, joins, chosen_by}
+use Words.{push, chained, twice, negated, keep, assert, emit_nor, emit_at_most_one, emit_symbol}
+use Words.{emit_name, emit, emit_all, emit_each, length-append}
+use Rattle.{lb_check.specs.Clocks.Clock, lb_flat.proofs.lists.Lists.{Every-map, Every-append}}
+use Rattle.lb_flat.proofs.lists.Lists.{Every-take, Every-drop, Every-copies, Every-joined}
+use Rattle.lb_flat.proofs.{lists.Lists.Every-pieces, runs.Filling.Fresh}
 
 -- ## Elements below a number
 

@@ -1,33 +1,29 @@
 -- If the emitted equations hold, the elements found have the streams of their expression, and the
 -- copies hold exactly if every call in it is joined.
-use Rattle.lb_flat.proofs.Words.{◌≡◌, ℕ, ◌+◌, false, Option, Some, None, option_map, pos, List, []}
-use Rattle.lb_flat.proofs.Words.{◌∷◌, ◌++◌, map, take, drop, flat_map, refl, sym, ap, ap₂, ◌∙◌}
-use Rattle.lb_flat.proofs.Words.{subst, map-append, Every, zip2, copies, joined, either_or, Name}
-use Rattle.lb_flat.proofs.Words.{Node_named, Symbol, Expr, Literal, Truth, Variable, Group, Unary}
-use Rattle.lb_flat.proofs.Words.{Binary, If, Arrow, Fby, Pre, Current, When, Replicate, Index}
-use Rattle.lb_flat.proofs.Words.{Slice, Join, Array, AtMostOne, Nor, Call, Iterate, Exprs, Nil}
-use Rattle.lb_flat.proofs.Words.{Cons, Declaration, Program, Instance, Child, name_value}
-use Rattle.lb_flat.proofs.Words.{node_named, Scalar, Integer, Boolean, Stream, or_fault}
-use Rattle.lb_flat.proofs.Words.{two_scalars, one_scalar, none_true, at_most_one, first_value}
-use Rattle.lb_flat.proofs.Words.{Clock, On, declared_clock, Occurrence, at, call_count, call_clocks}
-use Rattle.lb_flat.proofs.Words.{occurrences, occurrences_in, occurrences_each, History, presence}
-use Rattle.lb_flat.proofs.Words.{constantly, along, along_two, choices, previous, first_then}
-use Rattle.lb_flat.proofs.Words.{sample, latest, across, symbols, streams, all_streams}
-use Rattle.lb_flat.proofs.Words.{argument_streams, number, outputs_of, iterated, Inputs, IsJoined}
-use Rattle.lb_flat.proofs.Words.{FlatClock, Operation, Constant, ApplyUnary, ApplyBinary, FirstThen}
-use Rattle.lb_flat.proofs.Words.{Previous, Latest, Sample, FlatEquation, column, instants, operate}
-use Rattle.lb_flat.proofs.Words.{AreLong, Layout, flat_clock, State, Emitted, EmittedAll, add}
-use Rattle.lb_flat.proofs.Words.{joins, keep, chosen_by, call_copies, iterator_copies, emit_name}
-use Rattle.lb_flat.proofs.Words.{emit, emit_all, emit_each}
-use Rattle.lb_flat.proofs.lists.Lists.{map-take, map-drop, map-copies, map-joined, map-pieces}
-use Rattle.lb_flat.proofs.lists.Lists.{Every-append, Every-first, Every-second}
-use Rattle.lb_flat.proofs.solutions.Adding.{IsMet, columns, AllMet, Added, add_sound, each_one}
-use Rattle.lb_flat.proofs.solutions.Adding.{each_two}
-use Rattle.lb_flat.proofs.solutions.Adding.{each_choice, nor_sound, at_most_one_sound, symbol_sound}
-use Rattle.lb_flat.proofs.solutions.Placing.{Agrees, IsPlaced, presence_flat, constantly_flat}
-use Rattle.lb_flat.proofs.solutions.Joining.{call_sound, call_holds, iterator_sound, iterator_holds}
-use Rattle.lb_flat.proofs.solutions.Joining.{iterated_flat}
-use Rattle.lb_flat.proofs.ordering.LinkSymbols.{joins_found}
+use Rattle.lb_flat.proofs.Words
+use Words.{◌≡◌, ℕ, ◌+◌, false, Option, Some, None, option_map, pos, List, [], ◌∷◌, ◌++◌, map, take}
+use Words.{drop, flat_map, refl, sym, ap, ap₂, ◌∙◌, subst, map-append, Every, zip2, copies, joined}
+use Words.{either_or, Name, Node_named, Symbol, Expr, Literal, Truth, Variable, Group, Unary}
+use Words.{Binary, If, Arrow, Fby, Pre, Current, When, Replicate, Index, Slice, Join, Array}
+use Words.{AtMostOne, Nor, Call, Iterate, Exprs, Nil, Cons, Declaration, Program, Instance, Child}
+use Words.{name_value, node_named, Scalar, Integer, Boolean, Stream, or_fault, two_scalars}
+use Words.{one_scalar, none_true, at_most_one, first_value, On, declared_clock, Occurrence, at}
+use Words.{call_count, call_clocks, occurrences, occurrences_in, occurrences_each, History}
+use Words.{presence, constantly, along, along_two, choices, previous, first_then, sample, latest}
+use Words.{across, symbols, streams, all_streams, argument_streams, number, outputs_of, iterated}
+use Words.{Inputs, IsJoined, FlatClock, Operation, Constant, ApplyUnary, ApplyBinary, FirstThen}
+use Words.{Previous, Latest, Sample, FlatEquation, column, instants, operate, AreLong, Layout}
+use Words.{flat_clock, State, Emitted, EmittedAll, add, joins, keep, chosen_by, call_copies}
+use Words.{iterator_copies, emit_name, emit, emit_all, emit_each}
+use Rattle.{lb_check.specs.Clocks.Clock, lb_flat.proofs.lists.Lists.{map-take, map-drop}}
+use Rattle.lb_flat.proofs.lists.Lists.{map-copies, map-joined, map-pieces, Every-append}
+use Rattle.lb_flat.proofs.lists.Lists.{Every-first, Every-second}
+use Rattle.lb_flat.proofs.{ordering.LinkSymbols.joins_found, solutions.Placing.{IsMet, columns}}
+use Rattle.lb_flat.proofs.solutions.Placing.{AllMet, Added, add_sound, each_one, each_two}
+use Rattle.lb_flat.proofs.solutions.Placing.{each_choice, nor_sound, at_most_one_sound}
+use Rattle.lb_flat.proofs.solutions.Placing.{symbol_sound, Agrees, IsPlaced, presence_flat}
+use Rattle.lb_flat.proofs.solutions.Placing.{constantly_flat, call_sound, call_holds}
+use Rattle.lb_flat.proofs.solutions.Placing.{iterator_sound, iterator_holds, iterated_flat}
 
 pub joins_equations :
     (s : State) (qs : List FlatEquation) (is : List ℕ) →

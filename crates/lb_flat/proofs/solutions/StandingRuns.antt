@@ -1,18 +1,267 @@
+-- A program for which a flat program in order stands: its solutions, runs and verdicts.
+use Rattle.lb_flat.proofs.Words
+use Words.{ℕ, List, Kind, Every, In, Expr, Arrow, Fby, Pre, Current, input_kinds, Program, Instance}
+use Words.{instances, Occurrence, node_occurrences, Stream, Inputs, History, IsOrderingOf}
+use Words.{Operation, FlatEquation, Holds, IsCellFit, IsFlatSolution, IsWatched, FlatProgram}
+use Words.{Layout, KeepsOperand, KeepsFlag, HasMemories, HasAllMemories, ◌≡◌, ◌<◌, true, None, []}
+use Words.{◌∷◌, ◌++◌, map, length, take, sym, ap, ◌∙◌, subst, signature, static_refusal, Verdict}
+use Words.{check_refusal, FlatClock, FlatSolves, history_of, IsTrace, inputs_of, flat_verdict}
+use Words.{Ready, run, streams_of, Recording, IsRecording, Option, Some, IfSome, replicate, refl}
+use Words.{holds, Root, Observer, instance_at, is_root, AgreeAt, path_is, solves_same, IsOrderOf}
+use Words.{IsFlatOf, kind_among, layout, ◌≤◌, inl, AreApart, HasReads, IsExpansionOf, IsGiven}
+use Words.{Chain, Leads, by_way, more_reads, one_read, reads_it, equation_reads, get_or, arith}
+use Words.{length-map-range_with_len, get_or-map-range_with_len, Passed, program_of, ◌↔◌, is_row}
+use Words.{Solves, AreSame}
+use Rattle.{std.proofs.Math.Logic.{∥∥₁_elim, ∥∥₁_map}, lb_check.specs.Clocks.Clock}
+use Rattle.lb_check.specs.{Solutions.HasOneHistory, Verdicts.{HasVerdict, IsOnlyVerdict}}
+use Rattle.lb_check.proofs.programs.SameHistories.{only_verdict, starts_agree}
+use Rattle.lb_flat.specs.{Correct.IsVerdictOf, FlatPrograms.IsStreamed, Prefixes.IsDetermined}
+use Rattle.lb_flat.specs.{Prefixes.IsPrefix, PreparedPrograms.prepared_props}
+use Rattle.lb_flat.specs.{RightVerdicts.{right_verdict, right_verdicts}, Standing.StandsForProgram}
+use Rattle.lb_flat.{specs.declared.flat.Ordered.Ordered, proofs.lists.Lists.Every-map}
+use Rattle.lb_flat.proofs.ordering.Ordering.{In-map, IsFrom, from_map, ready_of}
+use Rattle.lb_flat.proofs.{ordering.ReadCycles.new_later, runs.FilledFits.cells_fit}
+use Rattle.lb_flat.proofs.runs.{Fitting.{IsFitting, solution_fits}, Judging.flat_ends}
+use Rattle.lb_flat.proofs.runs.Judging.{streams_taken, instances_prefix}
+use Rattle.lb_flat.proofs.runs.{RecordedInputs.trace_given, Running.{unique, exists}}
+use Rattle.lb_flat.proofs.solutions.Solving.{Every-ordered, fitting_ordered}
+use Rattle.lb_flat.proofs.widths.SoundPrograms.{root_kept}
+
+-- A flat program put in order has the same solutions, watched elements and memories.
+
+-- a flat program with its equations in another order
+abbrev pub in_order : FlatProgram → List FlatEquation → FlatProgram
+in_order f Q = record f { equations = Q }
+
+module _ (wanted : List Kind) (kinds : ℕ → Kind) (f : FlatProgram) (Q : List FlatEquation)
+    (o : IsOrderingOf f.equations Q) (X : Inputs) (F : List Stream) where
+  -- a solution of a flat program is a solution of it in order
+  pub solution_there : IsFlatSolution wanted kinds f X F →
+      IsFlatSolution wanted kinds (in_order f Q) X F
+  solution_there s = record {
+    rows = s.rows;
+    equations = record {
+      elements = s.equations.elements;
+      as_long = s.equations.as_long;
+      equations = Every-ordered (Holds X F) Q f.equations o.back s.equations.equations;
+    };
+    cells = Every-ordered (IsCellFit kinds X F) Q f.equations o.back s.cells;
+  }
+
+  -- a solution of the flat program in order is a solution of the flat program
+  pub solution_back : IsFlatSolution wanted kinds (in_order f Q) X F →
+      IsFlatSolution wanted kinds f X F
+  solution_back s = record {
+    rows = s.rows;
+    equations = record {
+      elements = s.equations.elements;
+      as_long = s.equations.as_long;
+      equations = Every-ordered (Holds X F) f.equations Q o.there s.equations.equations;
+    };
+    cells = Every-ordered (IsCellFit kinds X F) f.equations Q o.there s.cells;
+  }
+
+-- what is watched does not depend on the order of the equations
+pub watched_there :
+    (P : Program) (f : FlatProgram) (Q : List FlatEquation) (X : Inputs) (F : List Stream)
+    (H : History) (t : ℕ) → IsWatched P f X F H t → IsWatched P (in_order f Q) X F H t
+watched_there P f Q X F H t w = record {
+  fault = w.fault;
+  undefined = w.undefined;
+  failed = w.failed;
+  violated = w.violated;
+}
+
+-- ## Memories
+
+module _ (P : Program) (Y : Layout) (kinds : ℕ → Kind) (f : FlatProgram) (Q : List FlatEquation)
+    (o : IsOrderingOf f.equations Q) where
+  abbrev g : FlatProgram
+  g = in_order f Q
+
+  among : (qs : List FlatEquation) → Every (λ q. In q f.equations) qs → Every (λ q. In q Q) qs
+  among qs h = Every-map (λ q. In q f.equations) (λ q. In q Q) o.there qs h
+
+  operand_there :
+      (here : Instance) (k : Clock) (a : Occurrence) (make : ℕ → Operation) →
+      KeepsOperand P Y kinds f here k a make → KeepsOperand P Y kinds g here k a make
+  operand_there here k a make h = record {
+    places = h.places;
+    operands = h.operands;
+    as_many = h.as_many;
+    equations = among _ h.equations;
+    streams = λ X F s. h.streams X F (solution_back (input_kinds P) kinds f Q o X F s);
+  }
+
+  flag_there :
+      (here : Instance) (k : Clock) (a : Occurrence) →
+      KeepsFlag P Y kinds f here k a → KeepsFlag P Y kinds g here k a
+  flag_there here k a h = record {
+    places = h.places;
+    firsts = h.firsts;
+    thens = h.thens;
+    as_many = h.as_many;
+    both = h.both;
+    equations = among _ h.equations;
+    streams = λ X F s. h.streams X F (solution_back (input_kinds P) kinds f Q o X F s);
+  }
+
+  memories_there :
+      (here : Instance) (k : Clock) (n : ℕ) (e : Expr) → HasMemories P Y kinds f here k n e →
+      HasMemories P Y kinds g here k n e
+  memories_there here k n (Pre a) h = operand_there here k _ _ h
+  memories_there here k n (Current a) h = operand_there here k _ _ h
+  memories_there here k n (Arrow a b) h = flag_there here k _ h
+  memories_there here k n (Fby a b) h =
+      (operand_there here k _ _ h.0, flag_there here k _ h.1)
+  memories_there here k n e h = tt
+
+  -- the memories of all operators are in the flat program in order too
+  pub all_memories_there : HasAllMemories P Y kinds f → HasAllMemories P Y kinds g
+  all_memories_there h =
+      Every-map _ (λ here.
+      Every (λ o. HasMemories P Y kinds g here o.clock o.calls_before o.expr)
+      (node_occurrences P here.node))
+      (λ here all.
+      Every-map (λ o. HasMemories P Y kinds f here o.clock o.calls_before o.expr)
+      (λ o. HasMemories P Y kinds g here o.clock o.calls_before o.expr)
+      (λ o m. memories_there here o.clock o.calls_before o.expr m)
+      (node_occurrences P here.node) all)
+      (instances P) h
+
+-- The run of a flat program in order computes its one solution, with presence and kinds; this
+-- decides what a program that it stands for does on a trace.
+
+-- equations in order give only elements below `size`
+pub ready_within : (size : ℕ) (done : List ℕ) (Q : List FlatEquation) → Ready size done Q →
+    Every (λ q. q.element < size) Q
+ready_within size done [] ready = tt
+ready_within size done (q ∷ Q) ready =
+    (ready.0.is_element, ready_within size (q.element ∷ done) Q ready.1)
+
+-- ## The one solution
+
+module _ (wanted : List Kind) (kinds : ℕ → Kind) (f : FlatProgram)
+    (ready : Ready f.size [] f.equations) (K : ℕ → FlatClock)
+    (fit : IsFitting wanted K kinds f.equations) (X : Inputs) where
+  -- streams that satisfy the equations have presence and kinds
+  pub solution_of : (F : List Stream) → Every (λ row. is_row wanted row ≡ true) X →
+      FlatSolves f.size f.equations X F → IsFlatSolution wanted kinds f X F
+  solution_of F rows s = record {
+    rows = rows;
+    equations = s;
+    cells =
+        cells_fit wanted K kinds f.size X F f.equations
+        (ready_within f.size [] f.equations ready) fit.clocks
+        (solution_fits wanted K kinds f.size X f.equations F ready s rows fit);
+  }
+
+  -- the streams of the run are a solution
+  pub run_solves : Every (λ row. is_row wanted row ≡ true) X →
+      IsFlatSolution wanted kinds f X (streams_of f.size (run f.size f.equations X))
+  run_solves rows = solution_of _ rows (exists f.size X f.equations ready)
+
+  -- each solution is what the run computes
+  pub only_run : (F : List Stream) → IsFlatSolution wanted kinds f X F →
+      F ≡ streams_of f.size (run f.size f.equations X)
+  only_run F s = unique f.size X f.equations F ready s.equations
+
+-- ## The program that a flat program stands for
+
+module _ (P : Program) (Y : Layout) (kinds : ℕ → Kind) (f : FlatProgram)
+    (ready : Ready f.size [] f.equations) (K : ℕ → FlatClock)
+    (fit : IsFitting (input_kinds P) K kinds f.equations)
+    (solves : (X : Inputs) (F : List Stream) → IsFlatSolution (input_kinds P) kinds f X F →
+    Solves P X (history_of Y X F))
+    (solved : (X : Inputs) (H : History) → Solves P X H →
+    (F : List Stream) × IsFlatSolution (input_kinds P) kinds f X F
+    × AreSame P (history_of Y X F) H)
+    (watched : (X : Inputs) (F : List Stream) → IsFlatSolution (input_kinds P) kinds f X F →
+    (t : ℕ) → t < length X → IsWatched P f X F (history_of Y X F) t) where
+  abbrev streams_on : Inputs → List Stream
+  streams_on X = streams_of f.size (run f.size f.equations X)
+
+  module _ (X : Inputs) (trace : IsTrace P X) where
+    own : IsFlatSolution (input_kinds P) kinds f X (streams_on X)
+    own = run_solves (input_kinds P) kinds f ready K fit X trace
+
+    -- the verdict of the flat program is that of the program
+    pub run_verdict : HasVerdict P X (flat_verdict f X)
+    run_verdict = (
+      history_of Y X (streams_on X),
+      solves X (streams_on X) own,
+      flat_ends P f X (streams_on X) (history_of Y X (streams_on X)) ready own.equations
+          (watched X (streams_on X) own),
+    )
+
+    -- the program has exactly one history
+    pub run_alone : HasOneHistory P X
+    run_alone = record {
+      history = history_of Y X (streams_on X);
+      solves = solves X (streams_on X) own;
+      only = λ H h.
+          let g = solved X H h in
+          subst (λ F. AreSame P (history_of Y X F) H)
+          (only_run (input_kinds P) kinds f ready K fit X g.0 g.1) g.2;
+    }
+
+  -- what happens up to an instant does not depend on what comes after it
+  pub run_prefix :
+      (X Z : Inputs) (H H' : History) → Solves P (X ++ Z) H → Solves P X H' →
+      IsPrefix P H' H (length X)
+  run_prefix X Z H H' whole part =
+      let r = solved (X ++ Z) H whole in
+      let s = solved X H' part in
+      let same =
+      only_run (input_kinds P) kinds f ready K fit X s.0 s.1
+      ∙ streams_taken Z f.size f.equations X ready
+      ∙ sym (ap (map (take (length X)))
+      (only_run (input_kinds P) kinds f ready K fit (X ++ Z) r.0 r.1)) in
+      instances_prefix Z X Y r.0 s.0 same H' H (instances P) s.2 r.2
+
+  pub run_determined : IsDetermined P
+  run_determined = record { one = run_alone; prefix = run_prefix }
+
+  -- the verdict of a recorded trace is the only one
+  module _ (accepted : static_refusal P ≡ None) (checked : check_refusal P ≡ None)
+      (r : Recording) (k : ℕ) (same : signature P ≡ r.signature) (lawful : IsRecording r)
+      (below : k < length r.traces) where
+    -- the verdict of the flat program on a recorded trace is the only verdict of the program
+    pub run_recorded :
+        (v : Verdict) → v ≡ flat_verdict f (inputs_of r k) → IsOnlyVerdict P (inputs_of r k) v
+    run_recorded v e =
+        let trace = trace_given P r k same lawful below in
+        only_verdict P accepted checked (inputs_of r k) (run_alone (inputs_of r k) trace) v
+        (subst (HasVerdict P (inputs_of r k)) (sym e) (run_verdict (inputs_of r k) trace))
+
+-- A history that agrees with a solution of an accepted program is a solution too, where an observer
+-- would run at every instant.
+
+-- an accepted program has a node under test
+root_there : (P : Program) (o : Option Instance) → holds (is_root P) o ≡ true →
+    (c : Instance) × (o ≡ Some c)
+root_there P None e = absurd cc
+root_there P (Some c) e = (c, refl)
+
+-- the node under test runs at the same instants in two histories that agree
+root_alike : (P : Program) → static_refusal P ≡ None → (H G : History) → AreSame P H G →
+    H.ticks Root ≡ G.ticks Root
+root_alike P elaborated H G same =
+    let c = root_there P (instance_at P Root) (root_kept P elaborated) in
+    let agree = subst (λ o. IfSome o (AgreeAt H G)) c.1 (starts_agree P H G same).0 in
+    subst (λ p. H.ticks p ≡ G.ticks p) (path_is P Root c.0 c.1) agree.ticks
+
+-- a history in which an observer would run at every instant is a solution, if it agrees with one
+pub same_solves :
+    (P : Program) → static_refusal P ≡ None → check_refusal P ≡ None → (X : Inputs)
+    (H G : History) → AreSame P H G → G.ticks Observer ≡ replicate (length X) true →
+    Solves P X H → Solves P X G
+same_solves P elaborated checked X H G same observer_runs h =
+    solves_same P elaborated checked X H G same
+    (sym (root_alike P elaborated H G same) ∙ h.root_runs) observer_runs h
+
 -- A program for which a flat program stands: the histories that solve it and its verdicts. Nothing
 -- of this depends on the order of the equations.
-use Rattle.lb_flat.proofs.Words.{signature, input_kinds, Program, Verdict, Stream, Inputs, Solves}
-use Rattle.lb_flat.proofs.Words.{AreSame, History, HasVerdict, IsOnlyVerdict, IsOrderingOf}
-use Rattle.lb_flat.proofs.Words.{IsOrderOf, IsFitting, FlatEquation, IsFlatOf, IsFlatSolution}
-use Rattle.lb_flat.proofs.Words.{history_of, IsTrace, IsWatched, kind_among, inputs_of, FlatProgram}
-use Rattle.lb_flat.proofs.Words.{flat_verdict, layout, IsDetermined, Ready, Recording, IsRecording}
-use Rattle.std.proofs.Common.{◌≡◌, ◌↔◌, ℕ, ◌<◌, List, [], length, sym, subst}
-use Rattle.lb_flat.specs.FlatPrograms.{IsStreamed}
-use Rattle.lb_flat.proofs.solutions.FlatEquivalence.{same_solves}
-use Rattle.lb_flat.proofs.solutions.OrderedSolutions.{in_order, solution_there, solution_back}
-use Rattle.lb_flat.proofs.solutions.OrderedSolutions.{watched_there}
-use Rattle.lb_flat.proofs.solutions.OrderedSolutions.{all_memories_there}
-use Rattle.lb_flat.proofs.solutions.RunSolutions.{run_verdict, run_determined, run_recorded}
-use Rattle.lb_flat.proofs.solutions.Solving.{fitting_ordered}
 
 module _ (P : Program) (f : FlatProgram) (s : IsFlatOf P f) where
   -- ## Other orders
@@ -113,3 +362,141 @@ module _ (P : Program) (f : FlatProgram) (s : IsFlatOf P f) where
     standing_recorded r k same lawful below v e =
         run_recorded P (layout P) (kind_among f.kinds) f ready s.fitting.0 own_fitting own_solves
         own_solved own_watched s.accepted s.checked r k same lawful below v e
+
+-- A flat program that is put in order is an expansion of the same programs as before.
+
+-- the element of an equation
+abbrev element : FlatEquation → ℕ
+element q = q.element
+
+-- equations in order give no element twice
+given_apart :
+    (size : ℕ) (done : List ℕ) (Q : List FlatEquation) → Ready size done Q →
+    AreApart (map element Q)
+given_apart size done [] ready = tt
+given_apart size done (q ∷ Q) ready = (
+  λ again.
+      let from : IsFrom element q.element Q = from_map element q.element Q again in
+      new_later size (q.element ∷ done) Q ready.1 from.source from.is_in (inl (sym from.is)),
+  given_apart size (q.element ∷ done) Q ready.1,
+)
+
+module _ (f : FlatProgram) (Q : List FlatEquation) (o : IsOrderingOf f.equations Q) where
+  -- each element still has exactly one equation
+  given_in_order : Ready f.size [] Q → IsGiven f → IsGiven (in_order f Q)
+  given_in_order ready given = record {
+    each = λ i lt.
+        let from : IsFrom element i f.equations =
+        from_map element i f.equations (given.each i lt) in
+        subst (λ j. In j (map element Q)) from.is
+        (In-map element from.source Q (o.there from.source from.is_in));
+    once = given_apart f.size [] Q ready;
+    lower = Every-ordered
+        (λ q. f.variables ≤ q.element → Every (λ i. i < q.element) (equation_reads q)) Q f.equations
+        o.back given.lower;
+  }
+
+  -- an element leads to another in order only where it did before
+  leads_back : (j i : ℕ) → Leads (in_order f Q) j i → Leads f j i
+  leads_back j _ (reads_it q is own) = reads_it q (o.back q is) own
+  leads_back j _ (by_way q e is own further rest) =
+      by_way q e (o.back q is) own further (leads_back j e rest)
+
+  chain_there : (j i : ℕ) → Chain f j i → Chain (in_order f Q) j i
+  chain_there j _ (one_read q is own) = one_read q (o.there q is) own
+  chain_there j _ (more_reads q e is own rest) =
+      more_reads q e (o.there q is) own (chain_there j e rest)
+
+  -- a flat program is an expansion of a program in every order of its equations
+  pub expansion_ordered :
+      (P : Program) → Ready f.size [] Q → IsExpansionOf P f → IsExpansionOf P (in_order f Q)
+  expansion_ordered P ready e = record {
+    flat = flat_ordered P f e.flat Q o;
+    given = given_in_order ready e.given;
+    needs = λ i j below also leads. e.needs i j below also (leads_back j i leads);
+    reads = λ x y needs.
+        let r : HasReads P f x y = e.reads x y needs in
+        record {
+          one = r.one;
+          other = r.other;
+          is_one = r.is_one;
+          is_other = r.is_other;
+          chain = chain_there r.other r.one r.chain;
+        };
+  }
+
+-- `order` keeps that a flat program is an expansion of a program
+pub expansion_in_order :
+    (P : Program) (f g : FlatProgram) → IsOrderOf f g → IsExpansionOf P f → IsExpansionOf P g
+expansion_in_order P f g o e =
+    subst (λ h. IsExpansionOf P h) (sym o.same)
+    (expansion_ordered f g.equations o.ordering P
+    (subst (λ n. Ready n [] g.equations) (ap (λ (h : FlatProgram). h.size) o.same) o.ready) e)
+
+-- The right verdict of a trace is its verdict, and no other is.
+
+-- any two proofs that two verdicts are the same are equal
+pub verdicts_prop : (v w : Verdict) → IsProp (v ≡ w)
+verdicts_prop v w = Prim.hlevel prepared_props
+
+-- ## That a flat program stands for a program
+
+pub stands_for : (P : Program) (f : FlatProgram) → IsFlatOf P f → StandsForProgram f
+stands_for P f flat = ∣ (P, flat) ∣₁
+
+-- where a flat program stands for a program, so does the flat program in order
+pub stands_in_order :
+    (f g : FlatProgram) → IsOrderOf f g → StandsForProgram f → StandsForProgram g
+stands_in_order f g order stands =
+    ∥∥₁_map stands (λ s. (s.0, flat_in_order s.0 f s.1 g order))
+
+-- the equations of an ordered program can be computed one after the other
+pub ordered_ready :
+    (o : Ordered) → Ready o.program.size [] (program_of o.program).equations
+ordered_ready o = ready_of o.program.size (program_of o.program).equations o.in_order
+
+-- ## Verdicts
+
+-- a verdict that is right if clocks and kinds fit is right if the flat program stands for a program
+pub right_where_fitting :
+    (f : FlatProgram) (r : Recording) (k : ℕ) (v : Verdict) →
+    ((K : ℕ → FlatClock) → IsFitting f.inputs K (kind_among f.kinds) f.equations →
+    v ≡ right_verdict f r k) →
+    StandsForProgram f → v ≡ right_verdict f r k
+right_where_fitting f r k v is stands =
+    ∥∥₁_elim stands (verdicts_prop v (right_verdict f r k))
+    (λ s. is s.1.fitting.0 s.1.fitting.1)
+
+-- the right verdict of a trace is its verdict
+pub right_is_verdict :
+    (f : FlatProgram) (r : Recording) (k : ℕ) → Ready f.size [] f.equations → IsRecording r →
+    k < length r.traces → IsVerdictOf f r k (right_verdict f r k)
+right_is_verdict f r k ready lawful below = record {
+  only_verdict = λ P flat same.
+      standing_recorded P f flat ready r k same lawful below (right_verdict f r k) refl;
+  has_one_history = λ P flat same.
+      let determined = standing_determined P f flat ready in
+      determined.one (inputs_of r k) (trace_given P r k same lawful below);
+  is_right = λ stands kinds. refl;
+}
+
+-- ## Lists of them
+
+pub length-right_verdicts :
+    (f : FlatProgram) (r : Recording) → length (right_verdicts f r) ≡ length r.traces
+length-right_verdicts f r = length-map-range_with_len (right_verdict f r) 0 (length r.traces)
+
+pub right_verdict_at :
+    (f : FlatProgram) (r : Recording) (k : ℕ) → k < length r.traces →
+    get_or (right_verdicts f r) k Passed ≡ right_verdict f r k
+right_verdict_at f r k below =
+    get_or-map-range_with_len (right_verdict f r) 0 (length r.traces) k k Passed below
+    (omega arith)
+
+-- item `k` of the right verdicts is the verdict of trace `k`
+pub right_verdicts_are :
+    (f : FlatProgram) (r : Recording) → Ready f.size [] f.equations → IsRecording r →
+    (k : ℕ) → k < length r.traces → IsVerdictOf f r k (get_or (right_verdicts f r) k Passed)
+right_verdicts_are f r ready lawful k below =
+    subst (IsVerdictOf f r k) (sym (right_verdict_at f r k below))
+    (right_is_verdict f r k ready lawful below)

@@ -1,42 +1,33 @@
 -- A flat program has at most five times as many elements as the size of its program.
-use Rattle.lb_flat.proofs.Words.{◌≡◌, ℕ, ◌+◌, ◌*◌, ◌≤◌, false, true, pos, Option, Some, None}
-use Rattle.lb_flat.proofs.Words.{option_map, List, [], ◌∷◌, ◌++◌, map, length, flat_map, refl, sym}
-use Rattle.lb_flat.proofs.Words.{ap, ◌∙◌, subst, arith, sum_by, list_all, range_with_len}
-use Rattle.lb_flat.proofs.Words.{length-map, sum_by-cons, sum_by-append, length-range_with_len}
-use Rattle.lb_flat.proofs.Words.{same_Some, Not, BinaryOperator, Or, ArrayIterator, Map, Red, Every}
-use Rattle.lb_flat.proofs.Words.{zip2, joined, either_or, Name, Node_named, Symbol, Expr, Literal}
-use Rattle.lb_flat.proofs.Words.{Truth, Variable, Group, Unary, Binary, If, Arrow, Fby, Pre}
-use Rattle.lb_flat.proofs.Words.{Current, When, Replicate, Index, Slice, Join, Array, AtMostOne}
-use Rattle.lb_flat.proofs.Words.{Nor, Call, Iterate, Exprs, Nil, Cons, Declaration, Statement}
-use Rattle.lb_flat.proofs.Words.{Equation, Assertion, and_first, and_second, DataType}
-use Rattle.lb_flat.proofs.Words.{element_count, variables, variable_type, width, Program, Instance}
-use Rattle.lb_flat.proofs.Words.{name_value, node_named, static_count, instances, parts, parts_in}
-use Rattle.lb_flat.proofs.Words.{node_parts, right_side, named, check_refusal, Clock, On, clock_or}
-use Rattle.lb_flat.proofs.Words.{declared_clock, instance_elements, program_elements, elements}
-use Rattle.lb_flat.proofs.Words.{Occurrence, call_count, call_clocks, occurrences, occurrences_in}
-use Rattle.lb_flat.proofs.Words.{occurrences_each, statement_clock, right_sides, node_occurrences}
-use Rattle.lb_flat.proofs.Words.{Boolean, first_value, is_clock_typed, is_statement_typed, is_typed}
-use Rattle.lb_flat.proofs.Words.{expression_size, instance_size, size, data_types, all_types}
-use Rattle.lb_flat.proofs.Words.{singly, name_data_type, from_one, from_truths, unary_type}
-use Rattle.lb_flat.proofs.Words.{binary_type, common_type, array_of, index_type, slice_type}
-use Rattle.lb_flat.proofs.Words.{join_type, operator_types, constant_type, all_typed, bound}
-use Rattle.lb_flat.proofs.Words.{first_of_all, State, Emitted, add, push, chained, twice, emit_nor}
-use Rattle.lb_flat.proofs.Words.{emit_at_most_one, keep, assert, joins, copied, targets, chosen_by}
-use Rattle.lb_flat.proofs.Words.{emit_symbol, emit_name, emit, emit_all, emit_each, emit_body}
-use Rattle.lb_flat.proofs.Words.{emit_instances, before_instances, expanded, FlatClock, Operation}
-use Rattle.lb_flat.proofs.Words.{Constant, ApplyUnary, ApplyBinary, Choose, FirstThen, Previous}
-use Rattle.lb_flat.proofs.Words.{Latest, Sample, FlatEquation, Layout, flat_clock}
-use Rattle.std.proofs.Common.{length-append}
-use Rattle.lb_static.specs.DataTypes.{total}
-use Rattle.lb_check.specs.Clocks.{clock_of}
-use Rattle.lb_check.proofs.programs.OccurrenceParts.{right_typed}
-use Rattle.lb_check.proofs.typing.OperandTypes.{one, two, from_true}
-use Rattle.lb_flat.proofs.solutions.Bodies.{occurrences_of}
-use Rattle.lb_flat.proofs.lists.Lists.{Every-map, Every-both, Every-first, Every-second}
-use Rattle.lb_flat.proofs.widths.TypeFacts.{elements_in, constant}
-use Rattle.lb_flat.proofs.emission.EmittedNumbers.{next_of_add, next_of_keep}
-use Rattle.lb_flat.proofs.widths.FoundWidths.{keep_count}
+use Rattle.lb_flat.proofs.Words
+use Words.{◌≡◌, ℕ, ◌+◌, ◌*◌, ◌≤◌, false, true, pos, Option, Some, None, option_map, List, [], ◌∷◌}
+use Words.{◌++◌, map, length, flat_map, refl, sym, ap, ◌∙◌, subst, arith, sum_by, list_all}
+use Words.{range_with_len, length-map, sum_by-cons, sum_by-append, length-range_with_len, same_Some}
+use Words.{Not, BinaryOperator, Or, ArrayIterator, Map, Red, Every, zip2, joined, either_or, Name}
+use Words.{Node_named, Symbol, Expr, Literal, Truth, Variable, Group, Unary, Binary, If, Arrow, Fby}
+use Words.{Pre, Current, When, Replicate, Index, Slice, Join, Array, AtMostOne, Nor, Call, Iterate}
+use Words.{Exprs, Nil, Cons, Declaration, Statement, Equation, Assertion, and_first, and_second}
+use Words.{DataType, element_count, variables, variable_type, width, Program, Instance, name_value}
+use Words.{node_named, static_count, instances, parts, parts_in, node_parts, right_side, named}
+use Words.{check_refusal, On, clock_or, declared_clock, instance_elements, program_elements}
+use Words.{elements, Occurrence, call_count, call_clocks, occurrences, occurrences_in}
+use Words.{occurrences_each, statement_clock, right_sides, node_occurrences, Boolean, first_value}
+use Words.{is_clock_typed, is_statement_typed, is_typed, expression_size, instance_size, size}
+use Words.{data_types, all_types, singly, name_data_type, from_one, from_truths, unary_type}
+use Words.{binary_type, common_type, array_of, index_type, slice_type, join_type, operator_types}
+use Words.{constant_type, all_typed, bound, first_of_all, State, Emitted, add, push, chained, twice}
+use Words.{emit_nor, emit_at_most_one, keep, assert, joins, copied, targets, chosen_by, emit_symbol}
+use Words.{emit_name, emit, emit_all, emit_each, emit_body, emit_instances, before_instances}
+use Words.{expanded, FlatClock, Operation, Constant, ApplyUnary, ApplyBinary, Choose, FirstThen}
+use Words.{Previous, Latest, Sample, FlatEquation, Layout, flat_clock, length-append}
+use Rattle.{lb_static.specs.DataTypes.total, lb_check.specs.Clocks.{Clock, clock_of}}
+use Rattle.lb_check.proofs.{programs.OccurrenceParts.right_typed, typing.OperandTypes.{one, two}}
+use Rattle.lb_check.proofs.typing.OperandTypes.{from_true}
 use Rattle.lb_flat.proofs.emission.EmittedRooms.{chained_next, chained_one, twice_next, twice_one}
+use Rattle.lb_flat.proofs.{emission.TermSteps.{next_of_add, next_of_keep}, lists.Lists.Every-map}
+use Rattle.lb_flat.proofs.lists.Lists.{Every-both, Every-first, Every-second}
+use Rattle.lb_flat.proofs.{solutions.Solving.occurrences_of, widths.FoundWidths.keep_count}
+use Rattle.lb_flat.proofs.widths.TypeFacts.{elements_in, constant}
 
 -- ## New elements
 

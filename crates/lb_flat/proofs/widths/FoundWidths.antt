@@ -1,26 +1,20 @@
 -- Expansion finds as many elements for an expression as the expression has streams in a history
 -- that has a stream for each element of a variable.
-use Rattle.lb_flat.proofs.Words.{◌≡◌, ℕ, zero, suc, ◌+◌, ◌-◌, ◌*◌, ◌/◌, false, Option, Some, None}
-use Rattle.lb_flat.proofs.Words.{option_map, List, [], ◌∷◌, map, length, take, drop, flat_map, refl}
-use Rattle.lb_flat.proofs.Words.{sym, ap, ap₂, ◌∙◌, arith, range_with_len, length-map, Not}
-use Rattle.lb_flat.proofs.Words.{BinaryOperator, Or, ArrayIterator, Map, Red, Fill, zip2, copies}
-use Rattle.lb_flat.proofs.Words.{joined, part, tail_of, either_or, Name, Node_named, Symbol, Expr}
-use Rattle.lb_flat.proofs.Words.{Literal, Truth, Variable, Group, Unary, Binary, If, Arrow, Fby}
-use Rattle.lb_flat.proofs.Words.{Pre, Current, When, Replicate, Index, Slice, Join, Array}
-use Rattle.lb_flat.proofs.Words.{AtMostOne, Nor, Call, Iterate, Exprs, Nil, Cons, Declaration}
-use Rattle.lb_flat.proofs.Words.{heads_same, tails_same, named, Program, Instance, Path, Child}
-use Rattle.lb_flat.proofs.Words.{name_value, node_named, variables, Boolean, Stream, or_fault}
-use Rattle.lb_flat.proofs.Words.{Clock, On, clock_or, declared_clock, call_count, call_clocks}
-use Rattle.lb_flat.proofs.Words.{History, presence, constantly, choice, choices, gathered, last_of}
-use Rattle.lb_flat.proofs.Words.{iterated, symbols, streams, all_streams, argument_streams, number}
-use Rattle.lb_flat.proofs.Words.{part_count, outputs_of, accumulated, iterator_inputs, FlatClock}
-use Rattle.lb_flat.proofs.Words.{Operation, Constant, ApplyUnary, ApplyBinary, Choose, Layout}
-use Rattle.lb_flat.proofs.Words.{flat_clock, State, Emitted, numbers, add, joins, keep, chosen_by}
-use Rattle.lb_flat.proofs.Words.{push, chained, twice, negated, emit_nor, emit_at_most_one}
-use Rattle.lb_flat.proofs.Words.{emit_symbol, emit_name, emit, emit_all, emit_each}
-use Rattle.std.proofs.Common.{length-append}
-use Rattle.lb_check.specs.Clocks.{clock_of}
-use Rattle.lb_check.proofs.clocking.ClockedNodes.{same_taken, same_dropped}
+use Rattle.lb_flat.proofs.Words
+use Words.{◌≡◌, ℕ, zero, suc, ◌+◌, ◌-◌, ◌*◌, ◌/◌, Option, Some, None, option_map, List, [], ◌∷◌}
+use Words.{map, length, drop, flat_map, refl, sym, ap, ap₂, ◌∙◌, arith, length-map, Not}
+use Words.{BinaryOperator, Or, ArrayIterator, Map, Red, Fill, zip2, copies, joined, part, tail_of}
+use Words.{either_or, Name, Node_named, Symbol, Expr, Literal, Truth, Variable, Group, Unary}
+use Words.{Binary, If, Arrow, Fby, Pre, Current, When, Replicate, Index, Slice, Join, Array}
+use Words.{AtMostOne, Nor, Call, Iterate, Exprs, Nil, Cons, Declaration, heads_same, tails_same}
+use Words.{Program, Instance, Path, Child, name_value, Stream, or_fault, On, clock_or}
+use Words.{declared_clock, call_count, History, presence, constantly, choice, choices, gathered}
+use Words.{last_of, iterated, symbols, streams, all_streams, argument_streams, accumulated}
+use Words.{iterator_inputs, FlatClock, Operation, ApplyUnary, ApplyBinary, Choose, Layout}
+use Words.{flat_clock, State, Emitted, numbers, add, joins, keep, chosen_by, negated, emit_nor}
+use Words.{emit_at_most_one, emit_symbol, emit_name, emit, emit_all, emit_each, length-append}
+use Rattle.lb_check.{specs.Clocks.{Clock, clock_of}, proofs.clocking.ClockDepths.same_taken}
+use Rattle.lb_check.proofs.clocking.ClockDepths.{same_dropped}
 use Rattle.lb_flat.proofs.emission.EmittedRooms.{chained_one, twice_one}
 
 -- ## Lists of one length

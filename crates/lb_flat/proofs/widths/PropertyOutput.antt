@@ -1,18 +1,14 @@
 -- The property of an accepted program is the one output, a truth value, of an instance.
-use Rattle.lb_flat.proofs.Words.{nat_le, list_all, ◌>>=◌, Every, holds, either_or, listed, all_some}
-use Rattle.lb_flat.proofs.Words.{E4, E7, E8, unless, Name, Node, Declaration, and_first, and_second}
-use Rattle.lb_flat.proofs.Words.{DataType, truth, is_kind, same_sizes, product, element_count}
-use Rattle.lb_flat.proofs.Words.{variable_type, width, signature, Program, Instance, Root, Observer}
-use Rattle.lb_flat.proofs.Words.{node_named, start_at, instance_at, instances, static_refusal}
-use Rattle.lb_flat.proofs.Words.{instantiation_refusal, has_no_parameters, has_plain_clocks}
-use Rattle.lb_flat.proofs.Words.{fits_observer, has_property, is_root, keeps_names, is_well_founded}
-use Rattle.lb_flat.proofs.Words.{property_path, second_none, kept, names_kept}
-use Rattle.std.proofs.Common.{◌≡◌, ℕ, true, Option, Some, None, option_map, List, [], ◌∷◌, map}
-use Rattle.std.proofs.Common.{length, flat_map, refl, ap, sym, ◌∙◌, arith, length-append}
-use Rattle.std.specs.Prelude.{is_some}
-use Rattle.lb_static.specs.DataTypes.{output_types}
-use Rattle.lb_static.specs.Instantiation.{is_one_truth}
-use Rattle.lb_static.specs.Names.{starts}
+use Rattle.lb_flat.proofs.Words
+use Words.{nat_le, list_all, ◌>>=◌, Every, holds, either_or, listed, all_some, E4, E7, E8, unless}
+use Words.{Name, Node, Declaration, and_first, and_second, DataType, truth, is_kind, same_sizes}
+use Words.{product, element_count, variable_type, width, signature, Program, Instance, Root}
+use Words.{Observer, node_named, start_at, instance_at, instances, static_refusal}
+use Words.{instantiation_refusal, has_no_parameters, has_plain_clocks, fits_observer, has_property}
+use Words.{is_root, keeps_names, is_well_founded, property_path, second_none, kept, names_kept}
+use Words.{is_some, ◌≡◌, ℕ, true, Option, Some, None, option_map, List, [], ◌∷◌, map, length}
+use Words.{flat_map, refl, ap, sym, ◌∙◌, arith, length-append}
+use Rattle.lb_static.specs.{DataTypes.output_types, Instantiation.is_one_truth, Names.starts}
 
 module _ (P : Program) where
   scalar_width :

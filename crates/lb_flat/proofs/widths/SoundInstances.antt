@@ -1,20 +1,70 @@
+-- The widths of typed instances, in histories with a stream for each element.
+use Rattle.lb_flat.proofs.Words
+use Words.{◌≡◌, ℕ, ◌≤◌, Some, None, length, refl, Every, In, Node_named, Expr, Call, Iterate}
+use Words.{Program, Instance, Site, node_sites, numbered_sites, children, instances, level}
+use Words.{static_refusal, variables, width, node_occurrences, History, Every-at, Every-from}
+use Words.{instantiation_kept, OfCalled, Every-map, Every-both, own_site, node_calls, IsEntered}
+use Words.{all_entered, all_children, all_called, ◌+◌, ◌<◌, true, Option, List, [], ◌∷◌, map, subst}
+use Words.{list_all, all_some, Node, Statement, Equation, Assertion, and_first, and_second, Child}
+use Words.{node_named, DataType, truth, data_types, base_clock, Occurrence, call_count, call_clocks}
+use Words.{occurrences, occurrences_each, statement_clock, right_sides, number, Layout, flat_clock}
+use Words.{type_of_name, is_clock_typed, is_statement_typed, is_typed}
+use Rattle.{lb_check.specs.Clocks.Clock, lb_flat.proofs.lists.Lists.{Every-append, Every-first}}
+use Rattle.lb_flat.proofs.{lists.Lists.Every-second, solutions.Placing.IsCallPlaced}
+use Rattle.lb_flat.proofs.solutions.Placing.{IsIteratorPlaced, IsPlacedAt, IsPlaced}
+use Rattle.lb_flat.proofs.{solutions.Solving.{IsSound, occurrences_of}, widths.PlacedCalls.Typed}
+use Rattle.lb_flat.proofs.widths.PlacedCalls.{typed_same, body_wide, call_as_wide, iterator_as_wide}
+use Rattle.lb_flat.proofs.widths.Widths.{AreVariablesWide, IsWideAt, IsOccurrenceWide, IsTypedAt}
+use Rattle.lb_flat.proofs.widths.Widths.{typed}
+pub use Rattle.lb_check.proofs.programs.AcceptedRules.{all_typed}
+
+-- In an accepted program whose rules hold, and in a history with a stream for each element of a
+-- variable, what each call of an instance calls is as wide as its types.
+
+module _ (P : Program) (H : History) (here : Instance) where
+  -- the variables of an instance that `here` calls are as wide as their types
+  abbrev Wide : Instance → Type 0
+  Wide c = AreVariablesWide P H here c
+
+  abbrev IsSited : ℕ → Expr → Type 0
+  IsSited n e = (s : Site) → own_site e ≡ Some s → OfCalled P here Wide (n, s)
+
+  wide_at : (n : ℕ) (e : Expr) → IsSited n e → IsWideAt P H here n e
+  wide_at n (Call f statics es) h = let z = h _ refl in z.1 0 z.0
+  wide_at n (Iterate it (Node_named f statics) m es) h = let z = h _ refl in (z.0, z.1)
+  wide_at n _ h = tt
+
+module _ (P : Program) (accepted : static_refusal P ≡ None) (H : History)
+    (wide : (here : Instance) → In here (instances P) →
+    Every (λ d. length (H.columns here.path d.name) ≡ width P here d) (variables here.node)) where
+  abbrev Kept : Instance → Type 0
+  Kept c = Every (λ d. length (H.columns c.path d.name) ≡ width P c d) (variables c.node)
+
+  entered : Every (IsEntered P) (instances P)
+  entered = all_entered P 0 (instances P) (instantiation_kept P accepted)
+
+  called_wide : Every (λ i. Every Kept (children P i)) (instances P)
+  called_wide =
+      all_children P Kept
+      (Every-both (λ c. level P c.path ≤ 64) Kept (instances P)
+      (Every-map _ _ (λ c h. h.0) (instances P) entered)
+      (Every-from Kept (instances P) wide))
+
+  -- what the calls of an instance call is as wide as its types
+  pub calls_wide :
+      (here : Instance) → In here (instances P) →
+      Every (IsOccurrenceWide P H here) (node_occurrences P here.node)
+  calls_wide here i =
+      let sizes = Every-at (IsEntered P) (instances P) here entered i in
+      let below = Every-at (λ i. Every Kept (children P i)) (instances P) here called_wide i in
+      let called = all_called P Kept here below sizes.1 in
+      Every-map _ (IsOccurrenceWide P H here)
+      (λ o stands. wide_at P H here o.calls_before o.expr
+      (λ s is. Every-at (OfCalled P here Kept) (numbered_sites 0 (node_sites here.node))
+      (o.calls_before, s) called (stands s is)))
+      (node_occurrences P here.node) (node_calls P here.node).stand
+
 -- An instance that is typed is sound: its equations and its calls have the widths of their types.
-use Rattle.lb_flat.proofs.Words.{◌≡◌, ℕ, ◌+◌, ◌<◌, true, Option, Some, None, List, [], ◌∷◌, map}
-use Rattle.lb_flat.proofs.Words.{refl, subst, list_all, Every, all_some, Node_named, Expr, Call}
-use Rattle.lb_flat.proofs.Words.{Iterate, Node, Statement, Equation, Assertion, and_first}
-use Rattle.lb_flat.proofs.Words.{and_second, Program, Instance, Child, node_named, DataType, truth}
-use Rattle.lb_flat.proofs.Words.{variables, data_types, Clock, base_clock, Occurrence, call_count}
-use Rattle.lb_flat.proofs.Words.{call_clocks, occurrences, occurrences_each, statement_clock}
-use Rattle.lb_flat.proofs.Words.{right_sides, node_occurrences, History, number, Layout, flat_clock}
-use Rattle.lb_check.specs.TypeRules.{type_of_name, is_clock_typed, is_statement_typed, is_typed}
-use Rattle.lb_flat.proofs.lists.Lists.{Every-map, Every-both, Every-append, Every-first}
-use Rattle.lb_flat.proofs.lists.Lists.{Every-second}
-use Rattle.lb_flat.proofs.solutions.Placing.{IsCallPlaced, IsIteratorPlaced, IsPlacedAt, IsPlaced}
-use Rattle.lb_flat.proofs.solutions.Bodies.{IsSound, occurrences_of}
-use Rattle.lb_flat.proofs.widths.Widths.{AreVariablesWide, IsOccurrenceWide}
-use Rattle.lb_flat.proofs.widths.TypedBodies.{Typed, typed_same, body_wide}
-use Rattle.lb_flat.proofs.widths.TypedParts.{IsTypedAt, typed}
-use Rattle.lb_flat.proofs.widths.PlacedCalls.{call_as_wide, iterator_as_wide}
 
 module _ (Y : Layout) (P : Program) (H : History) (here : Instance) where
   -- the instances of a call run on the flat clock of the call

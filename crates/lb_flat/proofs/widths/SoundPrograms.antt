@@ -1,30 +1,74 @@
+-- The widths of an accepted program, its observer among them, and the number of its elements.
+use Rattle.lb_flat.proofs.Words
+use Words.{◌≡◌, Option, Some, None, IfSome, option_map, List, [], ◌∷◌, map, length, flat_map, refl}
+use Words.{sym, ap, ◌∙◌, length-map, Kind, Every, either_or, listed, Name, Declaration, Program}
+use Words.{Instance, Root, instance_at, DataType, width, variable_type, element_count}
+use Words.{scalar_elements, signature, input_kinds, pieces_count, Layout, true, ◌++◌, ap₂, nat_le}
+use Words.{same_Some, all_some, holds, E4, E7, E8, unless, and_first, and_second, heads_same}
+use Words.{tails_same, Path, Observer, instances, are_types, variables, input_types, static_refusal}
+use Words.{instantiation_refusal, has_no_parameters, has_plain_clocks, has_property, fits_observer}
+use Words.{are_same, is_root, keeps_names, is_well_founded, check_refusal, node_occurrences, Stream}
+use Words.{Inputs, columns_at, History, all_typed, Every-at, Every-from, second_none, kept}
+use Words.{instantiation_kept, in_instances, path_is, column, history_of, layout, ℕ, ◌*◌, ◌≤◌}
+use Words.{arith, nat_tests, program_elements, size, is_small, expanded, targets}
+use Rattle.lb_static.{specs.DataTypes.element_names, proofs.ElementNames.length-element_names}
+use Rattle.{lb_check.proofs.clocking.NamedClocks.if_some, lb_flat.specs.Emit.input_targets}
+use Rattle.lb_flat.proofs.lists.Lists.{Every-map, Every-both, Every-append, Every-first}
+use Rattle.lb_flat.proofs.lists.Lists.{Every-second, Every-in}
+use Rattle.lb_flat.proofs.numbering.NumberedPlaces.{variables_wide, found_wide}
+use Rattle.lb_flat.proofs.solutions.{Placing.AreAsWide, Solving.{IsSound, IsProgramSound}}
+use Rattle.lb_flat.proofs.widths.{ElementBound.{IsCounted, few_elements}, SoundInstances.RunsAt}
+use Rattle.lb_flat.proofs.widths.{SoundInstances.{instance_sound, calls_wide}, TypeFacts.each}
+use Rattle.lb_flat.proofs.widths.{TypeFacts.{width_of, are_counts}, Widths.AreVariablesWide}
+use Rattle.lb_flat.proofs.widths.Widths.{IsOccurrenceWide}
+
+-- The inputs of the node under test have as many elements as the signature, and the inputs of the
+-- observer are as wide as what it observes.
+
+-- ## The signature
+
+elements_count :
+    (x : Name) (o : Option DataType) →
+    length {A = Name × Kind} (listed (λ t. map (λ y. (y, t.kind)) (element_names x t.sizes)) o)
+    ≡ either_or (option_map element_count o) 0
+elements_count x None = refl
+elements_count x (Some t) = length-map (element_names x t.sizes) _ ∙ length-element_names x t.sizes
+
+-- a declaration has as many scalars as elements
+pub scalars_count :
+    (P : Program) (here : Instance) (d : Declaration) →
+    length (scalar_elements P here d) ≡ width P here d
+scalars_count P here d = elements_count d.name (variable_type P here d)
+
+module _ (Y : Layout) (P : Program) where
+  -- the variables of an instance at a root have the elements of their types
+  abbrev ArePlaced : Instance → List Declaration → Type 0
+  ArePlaced root ds = Every (λ d. length (Y.places Root d.name) ≡ width P root d) ds
+
+  each_count :
+      (root : Instance) (ds : List Declaration) → ArePlaced root ds →
+      Every (λ d.
+      length (targets Y root.node Root d.name) ≡ length (scalar_elements P root d)) ds
+  each_count root [] h = tt
+  each_count root (d ∷ ds) h = (
+    length-map (Y.places Root d.name) _ ∙ h.0 ∙ sym (scalars_count P root d),
+    each_count root ds h.1,
+  )
+
+  -- the elements of the inputs are as many as the scalar inputs
+  pub inputs_count :
+      (o : Option Instance) → instance_at P Root ≡ o →
+      IfSome o (λ root. ArePlaced root root.node.inputs) →
+      IfSome o (λ root. length (input_targets Y root) ≡ length (input_kinds P))
+  inputs_count None is h = tt
+  inputs_count (Some root) is h =
+      pieces_count (λ d. targets Y root.node Root d.name) (scalar_elements P root)
+      root.node.inputs (each_count root root.node.inputs h)
+      ∙ ap (λ p. length (listed (λ r. flat_map (scalar_elements P r) r.node.inputs) p)) (sym is)
+      ∙ sym (length-map (signature P) _)
+
 -- An accepted program is sound in each history in which the variables of its instances are as wide
 -- as their types, where what is called runs on the clocks of the calls.
-use Rattle.lb_flat.proofs.Words.{◌≡◌, true, Option, Some, None, IfSome, List, [], ◌∷◌, ◌++◌, map}
-use Rattle.lb_flat.proofs.Words.{length, refl, sym, ap, ap₂, ◌∙◌, subst, nat_le, length-map}
-use Rattle.lb_flat.proofs.Words.{same_Some, Every, all_some, holds, E4, E7, E8, unless, Declaration}
-use Rattle.lb_flat.proofs.Words.{and_first, and_second, heads_same, tails_same, Program, Instance}
-use Rattle.lb_flat.proofs.Words.{Path, Root, Observer, instance_at, instances, DataType, are_types}
-use Rattle.lb_flat.proofs.Words.{element_count, variable_type, variables, width, input_types}
-use Rattle.lb_flat.proofs.Words.{signature, static_refusal, instantiation_refusal}
-use Rattle.lb_flat.proofs.Words.{has_no_parameters, has_plain_clocks, has_property, fits_observer}
-use Rattle.lb_flat.proofs.Words.{are_same, is_root, keeps_names, is_well_founded, check_refusal}
-use Rattle.lb_flat.proofs.Words.{node_occurrences, Stream, Inputs, columns_at, History, all_typed}
-use Rattle.lb_flat.proofs.Words.{Every-at, Every-from, second_none, kept, instantiation_kept}
-use Rattle.lb_flat.proofs.Words.{in_instances, path_is, column, history_of, Layout}
-use Rattle.lb_check.proofs.clocking.NamedClocks.{if_some}
-use Rattle.lb_flat.proofs.solutions.Bodies.{IsSound}
-use Rattle.lb_flat.proofs.lists.Lists.{Every-map, Every-both, Every-append, Every-first}
-use Rattle.lb_flat.proofs.lists.Lists.{Every-second}
-use Rattle.lb_flat.proofs.lists.Lists.{Every-in}
-use Rattle.lb_flat.proofs.widths.OutputWidths.{each, width_of}
-use Rattle.lb_flat.proofs.solutions.Placing.{AreAsWide}
-use Rattle.lb_flat.proofs.widths.RootWidths.{inputs_count}
-use Rattle.lb_flat.proofs.widths.SoundInstances.{RunsAt, instance_sound}
-use Rattle.lb_flat.proofs.widths.TypeFacts.{are_counts}
-use Rattle.lb_flat.proofs.solutions.Whole.{IsProgramSound}
-use Rattle.lb_flat.proofs.widths.WideInstances.{calls_wide}
-use Rattle.lb_flat.proofs.widths.Widths.{AreVariablesWide, IsOccurrenceWide}
 
 -- ## The observer
 
@@ -188,3 +232,40 @@ module _ (P : Program) (elaborated : static_refusal P ≡ None)
     pub program_sound : (X : Inputs) (F : List Stream) → IsProgramSound Y P (history_of Y X F)
     program_sound X F =
         sound_where_wide _ (history_wide X F) Y (runs (history_of Y X F)) inputs_placed
+
+-- The observer of an accepted program has inputs as wide as what it observes, in the history of any
+-- streams in the layout by numbers.
+
+-- the observer's inputs are as wide as what it observes
+pub observer_wide_in :
+    (P : Program) → static_refusal P ≡ None → (X : Inputs) (F : List Stream) →
+    IfSome (instance_at P Root) (λ root. IfSome (instance_at P Observer) (λ observer.
+    AreAsWide (history_of (layout P) X F) Observer observer.node.inputs
+    (columns_at (history_of (layout P) X F) Root (root.node.inputs ++ root.node.outputs))))
+observer_wide_in P accepted X F =
+    observer_wide P accepted (history_of (layout P) X F) (variables_wide P accepted X F)
+
+-- The elements of the flat program of an accepted program, in the layout by numbers, are few: at
+-- most five times as many as the size of the program, so that a small program has few numbers.
+
+module _ (P : Program) (accepted : static_refusal P ≡ None) (checked : check_refusal P ≡ None)
+  where
+    -- the flat program has at most five times as many elements as the size of the program
+    pub program_few : (expanded (layout P) P (length (program_elements P))).size ≤ 5 * size P
+    program_few =
+        let nothing = history_of (layout P) [] [] in
+        few_elements P (layout P) (λ here. IsOccurrenceWide P nothing here) checked
+        (all_wide P accepted checked nothing (variables_wide P accepted [] []))
+        (Every-from (IsCounted P (layout P) (λ here. IsOccurrenceWide P nothing here)) (instances P)
+        (λ here i k n s e ts typed w.
+        found_wide P accepted [] [] here i k n s e ts typed w))
+
+    -- the flat program of a small program has at most 5 * 65,536 elements
+    pub small_few :
+        is_small P ≡ true →
+        (expanded (layout P) P (length (program_elements P))).size ≤ 5 * 65536
+    small_few small =
+        by (size P) (expanded (layout P) P (length (program_elements P))).size program_few small
+      where
+        by : (n m : ℕ) → m ≤ 5 * n → nat_le n 65536 ≡ true → m ≤ 5 * 65536
+        by n m few e = grind (arith, nat_tests)

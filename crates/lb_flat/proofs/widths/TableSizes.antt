@@ -1,17 +1,22 @@
--- The size that counting the rows of the table gives is the size of the program.
-use Rattle.lb_flat.proofs.Words.{◌≡◌, ℕ, suc, ◌+◌, ◌<◌, ◌≤◌, min, Bool, true, false, List, [], ◌∷◌}
-use Rattle.lb_flat.proofs.Words.{flat_map, take, get_or, length, Some, refl, ap, sym, ◌∙◌, subst}
-use Rattle.lb_flat.proofs.Words.{arith, slice_get, sum_by, nat_le, nat_lt, nat_tests, length-append}
-use Rattle.lb_flat.proofs.Words.{take_all, sum_by-cons, sum_by_more, same_Some, variables, width}
-use Rattle.lb_flat.proofs.Words.{Program, Instance, instances, IsTable, node_parts, IsReached}
-use Rattle.lb_flat.proofs.Words.{Reached, Table, instance_elements, program_elements}
-use Rattle.lb_flat.proofs.Words.{expression_size, size, is_small, specialized_instance, sum_of}
-use Rattle.lb_flat.proofs.Words.{widths_in, element_total, term_total, HasTermSizes}
-use Rattle.std.specs.Prelude.{◌-◌}
-use Rattle.lb_flat.proofs.numbering.NumberedRows.{elements_wide, first_is}
-use Rattle.lb_flat.proofs.numbering.RowInstances.{IsRow, rows_many, row_shown}
-use Rattle.lb_flat.proofs.numbering.StoredLayouts.{sum_mapped}
+-- The size of a program, as the rows of its table and the found types of its terms count it.
+use Rattle.lb_flat.proofs.Words
+use Words.{◌≡◌, ℕ, suc, ◌+◌, ◌<◌, ◌≤◌, min, Bool, true, false, List, [], ◌∷◌, flat_map, take}
+use Words.{get_or, length, Some, refl, ap, sym, ◌∙◌, subst, arith, slice_get, sum_by, nat_le}
+use Words.{nat_lt, nat_tests, length-append, take_all, sum_by-cons, sum_by_more, same_Some}
+use Words.{variables, width, Program, Instance, instances, IsTable, node_parts, IsReached, Reached}
+use Words.{Table, instance_elements, program_elements, expression_size, size, is_small}
+use Words.{specialized_instance, sum_of, widths_in, element_total, term_total, Option, None}
+use Words.{option_map, Vec, Global, map, ap₂, slice_get_within, In, either_or, elaborated_program}
+use Words.{IsChecked, Checking, NodeTypes, lent_size, Counts, inl, inr, ◌-◌, ◌^◌}
+use Rattle.{std.proofs.Common.max, lb_static.proofs.Members.contains_in}
+use Rattle.lb_check.specs.{FoundTerms.HasFoundTypes, declared.found_types.TermType.TermType}
+use Rattle.lb_check.proofs.typing.FoundTypes.{types_lent, size_found}
+use Rattle.lb_flat.{specs.TableSizes.HasTermSizes, proofs.numbering.NumberedRows.elements_wide}
+use Rattle.lb_flat.proofs.numbering.{NumberedRows.first_is, RowInstances.{IsRow, rows_many}}
+use Rattle.lb_flat.proofs.numbering.{RowInstances.row_shown, StoredLayouts.sum_mapped}
 use Rattle.lb_static.specs.declared.table.Instance as row
+
+-- The size that counting the rows of the table gives is the size of the program.
 
 -- sums of counts that stop at 65,537 are equal as far as 65,537
 capped_sums :
@@ -196,3 +201,154 @@ module _ (P : Program) where
         let terms = lesser_sums (λ (i : row.Instance). sizes i.specialization.0) parts_size
         t.instances.items (instances P) (rows_many P r t table) (row_size sizes has) in
         omega (arith, total, both, terms)
+
+-- Whether a program is small, from the found types of its terms.
+
+past : (a b : ℕ) → 65536 < b → nat_le (a + b) 65536 ≡ false
+past a b lt = grind (arith, nat_tests)
+
+module _ (P : Program) (r : Reached) (t : Table) (reached : IsReached P r) (table : IsTable P r t)
+  where
+    -- what is found of each specialization has the size of the expressions of its instances
+    pub sizes_found :
+        (found : Vec NodeTypes Global) → HasFoundTypes P r t (Some found) →
+        HasTermSizes P r t (lent_size (Some found))
+    sizes_found found has i s at p here e =
+        let l = types_lent P r t reached table found has i s at p here e in
+        ap (λ (o : Option NodeTypes). either_or (option_map
+        (λ (f : NodeTypes). min (sum_by (λ (t : TermType). t.elements) f.terms.items) 65537) o)
+        65537) l.1
+        ∙ size_found P here l.0 l.2
+
+    -- where there are no rows, there are no specializations
+    pub no_sizes : t.instances.items ≡ [] → (size : ℕ → ℕ) → HasTermSizes P r t size
+    no_sizes empty size i s at p here e =
+        let used = contains_in (map (λ (k : row.Instance). k.specialization.0) t.instances.items) i
+        (table.used i (slice_get_within t.specializations.items i s at)) in
+        absurd (subst (λ (rows : List row.Instance).
+        In i (map (λ (k : row.Instance). k.specialization.0) rows)) empty used)
+
+    -- a program is small exactly where its elements and the sizes of its terms are at most 65,536
+    pub lent_small :
+        (types : Option (Vec NodeTypes Global)) → HasFoundTypes P r t types →
+        nat_le (element_total r t + term_total t (lent_size types)) 65536 ≡ is_small P
+    lent_small (Some found) has =
+        counted_small P r t reached table (lent_size (Some found)) (sizes_found found has)
+    lent_small None has = by t.instances.items refl
+      where
+        by : (rows : List row.Instance) → t.instances.items ≡ rows →
+            nat_le (element_total r t + term_total t (lent_size None)) 65536 ≡ is_small P
+        by [] is = counted_small P r t reached table (lent_size None) (no_sizes is (lent_size None))
+        by (i ∷ rows) is =
+            let size = λ (k : row.Instance). lent_size None k.specialization.0 in
+            let total : term_total t (lent_size None) ≡ 65537 + sum_by size rows =
+            ap (sum_by size) is ∙ sum_by-cons size i rows in
+            past (element_total r t) (term_total t (lent_size None)) (omega (arith, total))
+            ∙ sym has
+
+-- a checked program is small exactly where something is left after all its rows are subtracted
+pub left_small :
+    (c : Checking) → IsChecked c → (rows : List row.Instance) →
+    rows ≡ c.elab.table.instances.items → (elements left i : ℕ) →
+    elements ≡ element_total c.elab.reached c.elab.table → length rows ≤ i →
+    left
+    ≡ 65537 - (elements
+    + sum_by (λ (k : row.Instance). lent_size c.types k.specialization.0) (take i rows)) →
+    nat_lt 0 left ≡ is_small (elaborated_program c.elab)
+left_small c is rows same elements left i own end known =
+    let size = λ (k : row.Instance). lent_size c.types k.specialization.0 in
+    some_left size rows i elements left end known
+    ∙ ap₂ (λ (n : ℕ) (ks : List row.Instance). nat_le (n + sum_by size ks) 65536) own same
+    ∙ lent_small (elaborated_program c.elab) c.elab.reached c.elab.table is.elaborated.reached
+    is.elaborated.table c.types is.types
+
+-- The size counted for a program that is too large is over the limit, and at most its real size.
+
+-- ## Counts
+
+pub nothing_counted : Counts 0 0
+nothing_counted = record { no_more = omega arith; as_many = omega arith }
+
+-- the sum of two counts, cut off at 2 ^ 64 - 1, counts both
+pub both_counted :
+    (m n next a b : ℕ) → Counts m a → Counts n b → next ≡ min (m + n) (2 ^ 64 - 1) →
+    Counts next (a + b)
+both_counted m n next a b p q e = record {
+  no_more = omega (arith, e, p.no_more, q.no_more);
+  as_many = omega (arith, e, p.no_more, p.as_many, q.no_more, q.as_many);
+}
+
+module _ {A : Type 0} (f : A → ℕ) where
+  pub all_counted :
+      (xs : List A) (i m : ℕ) → length xs ≤ i → Counts m (sum_by f (take i xs)) →
+      Counts m (sum_by f xs)
+  all_counted xs i m le p = subst (λ l. Counts m (sum_by f l)) (take_all i xs le) p
+
+-- ## The size of a program
+
+over_limit : (n : ℕ) → nat_le n 65536 ≡ false → 65536 < n
+over_limit n e = grind (arith, nat_tests)
+
+module _ (c : Checking) (checked : IsChecked c)
+    (large : is_small (elaborated_program c.elab) ≡ false) where
+  abbrev P : Program
+  P = elaborated_program c.elab
+
+  abbrev r : Reached
+  r = c.elab.reached
+
+  abbrev t : Table
+  t = c.elab.table
+
+  reached : IsReached P r
+  reached = checked.elaborated.reached
+
+  table : IsTable P r t
+  table = checked.elaborated.table
+
+  size_over : 65536 < size P
+  size_over = over_limit (size P) large
+
+  -- the sizes lent of specializations are those of their expressions, where there are rows
+  sizes_lent :
+      (types : Option (Vec NodeTypes Global)) → HasFoundTypes P r t types →
+      (types ≡ None → length t.instances.items ≡ 0) → HasTermSizes P r t (lent_size types)
+  sizes_lent (Some found) has none = sizes_found P r t reached table found has
+  sizes_lent None has none =
+      no_sizes P r t reached table (nothing t.instances.items (none refl)) (lent_size None)
+    where
+      nothing : (rows : List row.Instance) → length rows ≡ 0 → rows ≡ []
+      nothing [] e = refl
+      nothing (i ∷ rows) e = absurd (omega (arith, e))
+
+  -- the counted variables and expressions are over the limit, and at most the size
+  pub both_over :
+      (m n next : ℕ) → Counts m (element_total r t) → Counts n (term_total t (lent_size c.types)) →
+      (c.types ≡ None → length t.instances.items ≡ 0) → next ≡ min (m + n) (2 ^ 64 - 1) →
+      (65536 < next) × (next ≤ size P)
+  both_over m n next p q none e =
+      let both = both_counted m n next _ _ p q e in
+      let within = counted_within P r t reached table (lent_size c.types)
+      (sizes_lent c.types checked.types none) in
+      let over = over_limit _ (lent_small P r t reached table c.types checked.types ∙ large) in (
+        omega (arith, over, both.as_many),
+        omega (arith, within, both.no_more),
+      )
+
+  -- the counted variables alone are over the limit, and at most the size
+  pub variables_over :
+      (m next : ℕ) → Counts m (element_total r t) → next ≡ max m 65537 →
+      (65536 < next) × (next ≤ size P)
+  variables_over m next p e =
+      let within = variables_within P r t reached table in
+      let over = size_over in
+      (omega (arith, e), omega (arith, e, within, over, p.no_more))
+
+-- In a program within the limit of size no array in an expression has elements of more scalars than
+-- the limit, so that a number that stops there is the number itself.
+
+-- each summand is at most the sum
+pub in_sum : {A : Type 0} (f : A → ℕ) (xs : List A) (x : A) → In x xs → f x ≤ sum_by f xs
+in_sum f [] x i = absurd i
+in_sum f (y ∷ xs) x (inl e) = omega (arith, sum_by-cons f y xs, ap f e)
+in_sum f (y ∷ xs) x (inr i) = omega (arith, sum_by-cons f y xs, in_sum f xs x i)

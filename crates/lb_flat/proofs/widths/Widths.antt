@@ -1,41 +1,34 @@
--- An expression has as many streams as its types have scalar elements.
-use Rattle.lb_flat.proofs.Words.{◌≡◌, ℕ, suc, ◌+◌, ◌-◌, ◌*◌, ◌<◌, ◌≤◌, true, ◌&&◌, ◌⊎◌, inl, inr}
-use Rattle.lb_flat.proofs.Words.{pos, Option, Some, None, IfSome, option_map, List, [], ◌∷◌, ◌++◌}
-use Rattle.lb_flat.proofs.Words.{map, length, take, drop, flat_map, refl, sym, ap, ap₂, ◌∙◌, arith}
-use Rattle.lb_flat.proofs.Words.{list_all, bytes_eq, length-map, same_Some, BinaryOperator}
-use Rattle.lb_flat.proofs.Words.{ArrayIterator, Map, Red, Fill, ◌>>=◌, Every, joined, tail_of}
-use Rattle.lb_flat.proofs.Words.{all_some, either_or, where_true, listed, Name, Static, Node_named}
-use Rattle.lb_flat.proofs.Words.{Symbol, Expr, Literal, Truth, Variable, Group, Unary, Binary, If}
-use Rattle.lb_flat.proofs.Words.{Arrow, Fby, Pre, Current, When, Replicate, Index, Slice, Join}
-use Rattle.lb_flat.proofs.Words.{Array, AtMostOne, Nor, Call, Iterate, Exprs, Nil, Cons}
-use Rattle.lb_flat.proofs.Words.{Declaration, Node, and_first, and_second, heads_same, tails_same}
-use Rattle.lb_flat.proofs.Words.{Program, Instance, Child, static_count, call_site, callee_of}
-use Rattle.lb_flat.proofs.Words.{node_named, name_value, DataType, int, truth, variables, width}
-use Rattle.lb_flat.proofs.Words.{variable_type, element_count, product, is_type, are_types}
-use Rattle.lb_flat.proofs.Words.{data_types, all_types, only, singly, list_type, from_one}
-use Rattle.lb_flat.proofs.Words.{from_truths, name_data_type, array_of, operator_types}
-use Rattle.lb_flat.proofs.Words.{iterator_types, unary_type, binary_type, common_type, index_type}
-use Rattle.lb_flat.proofs.Words.{slice_type, join_type, constant_type, is_arithmetic, is_logical}
-use Rattle.lb_flat.proofs.Words.{Stream, or_fault, Occurrence, call_count, occurrences}
-use Rattle.lb_flat.proofs.Words.{occurrences_in, History, presence, constantly, gathered, last_of}
-use Rattle.lb_flat.proofs.Words.{iterated, symbols, streams, all_streams, number, part_count}
-use Rattle.lb_flat.proofs.Words.{outputs_of, data_type, first_of_all, truly, length-both}
-use Rattle.std.proofs.Common.{length-append}
-use Rattle.lb_check.specs.Types.{map_types}
-use Rattle.lb_check.specs.Clocks.{Clock, clock_of, clock_or, declared_clock}
-use Rattle.lb_flat.proofs.lists.Lists.{Every-first, Every-second}
+-- An expression has as many streams as its types have elements, and so has every part of it.
+use Rattle.lb_flat.proofs.Words
+use Words.{◌≡◌, ℕ, suc, ◌+◌, ◌-◌, ◌*◌, ◌<◌, ◌≤◌, true, ◌&&◌, ◌⊎◌, inl, inr, pos, Option, Some, None}
+use Words.{IfSome, option_map, List, [], ◌∷◌, ◌++◌, map, length, take, drop, flat_map, refl, sym}
+use Words.{ap, ap₂, ◌∙◌, arith, list_all, bytes_eq, length-map, same_Some, BinaryOperator}
+use Words.{ArrayIterator, Map, Red, Fill, ◌>>=◌, Every, joined, all_some, either_or, where_true}
+use Words.{listed, Name, Static, Node_named, Symbol, Expr, Literal, Truth, Variable, Group, Unary}
+use Words.{Binary, If, Arrow, Fby, Pre, Current, When, Replicate, Index, Slice, Join, Array}
+use Words.{AtMostOne, Nor, Call, Iterate, Exprs, Nil, Cons, Declaration, Node, and_first}
+use Words.{and_second, heads_same, tails_same, Program, Instance, Child, static_count, call_site}
+use Words.{callee_of, node_named, name_value, DataType, int, truth, variables, width, variable_type}
+use Words.{element_count, product, is_type, are_types, data_types, all_types, only, singly}
+use Words.{list_type, from_one, from_truths, name_data_type, array_of, operator_types}
+use Words.{iterator_types, unary_type, binary_type, common_type, index_type, slice_type, join_type}
+use Words.{constant_type, is_arithmetic, is_logical, Stream, or_fault, Occurrence, call_count}
+use Words.{occurrences, occurrences_in, History, presence, constantly, gathered, last_of, iterated}
+use Words.{symbols, streams, all_streams, number, part_count, outputs_of, data_type, first_of_all}
+use Words.{truly, length-both, call_clocks, occurrences_each, length-append, clock_or}
+use Words.{declared_clock}
+use Rattle.lb_check.specs.{Clocks.{Clock, clock_of}, Types.map_types}
+use Rattle.lb_flat.proofs.lists.Lists.{Every-first, Every-second, Every-append}
 use Rattle.lb_flat.proofs.widths.TypeFacts.{One, elements_in, bound, alone, one, two, from_true}
 use Rattle.lb_flat.proofs.widths.TypeFacts.{unary_count, binary_count, alike, array_count, indexed}
-use Rattle.lb_flat.proofs.widths.TypeFacts.{sliced}
-use Rattle.lb_flat.proofs.widths.TypeFacts.{joined_count, truth_is, same_count, are_counts}
-use Rattle.lb_flat.proofs.widths.TypeFacts.{Symbolic}
-use Rattle.lb_flat.proofs.widths.TypeFacts.{constant, symbolic}
-use Rattle.lb_flat.proofs.widths.OutputWidths.{length-copies, length-choices, length-part}
-use Rattle.lb_flat.proofs.widths.OutputWidths.{length-index}
-use Rattle.lb_flat.proofs.widths.OutputWidths.{found_in, each, arrays_count, width_of, outputs_wide}
-use Rattle.lb_flat.proofs.widths.OutputWidths.{gathered_wide, last_wide}
-use Rattle.lb_flat.proofs.widths.IteratedTypes.{red_of, fill_of}
+use Rattle.lb_flat.proofs.widths.TypeFacts.{sliced, joined_count, truth_is, same_count, are_counts}
+use Rattle.lb_flat.proofs.widths.TypeFacts.{Symbolic, constant, symbolic, length-copies}
+use Rattle.lb_flat.proofs.widths.TypeFacts.{length-choices, length-part, length-index, found_in}
+use Rattle.lb_flat.proofs.widths.TypeFacts.{each, arrays_count, width_of, outputs_wide}
+use Rattle.lb_flat.proofs.widths.TypeFacts.{gathered_wide, last_wide, red_of, fill_of}
 pub use Rattle.lb_check.proofs.typing.OperandTypes.{Called, called, Placed, placed}
+
+-- An expression has as many streams as its types have scalar elements.
 
 module _ (P : Program) (H : History) (here : Instance) where
   -- the variables of an instance are as wide as their types
@@ -517,3 +510,149 @@ module _ (P : Program) (H : History) (here : Instance) where
           (only_one _ i.first (wide k n e (i.first ∷ []) i.is (fore oa ob w)))
           (all_wide k m es i.rest i.others (aft oa ob w))
           ∙ sym (ap (map element_count) i.all)
+
+-- Where an expression is typed, so is every part of it.
+
+module _ (P : Program) (H : History) (here : Instance) where
+  -- an occurrence has types, and what is called in it is as wide as its types
+  pub record IsTypedAt (o : Occurrence) : Type 0 where
+    pub types : List DataType
+    pub are : data_types P here o.expr ≡ Some types
+    pub parts :
+        Every (IsOccurrenceWide P H here)
+        (occurrences P here.node o.clock o.calls_before o.expr)
+
+  abbrev AllTyped : List Occurrence → Type 0
+  AllTyped os = Every IsTypedAt os
+
+  abbrev AllPartsWide : List Occurrence → Type 0
+  AllPartsWide os = Every (IsOccurrenceWide P H here) os
+
+  fore_parts : (os os' : List Occurrence) → AllPartsWide (os ++ os') → AllPartsWide os
+  fore_parts os os' w = Every-first (IsOccurrenceWide P H here) os os' w
+
+  aft_parts : (os os' : List Occurrence) → AllPartsWide (os ++ os') → AllPartsWide os'
+  aft_parts os os' w = Every-second (IsOccurrenceWide P H here) os os' w
+
+  join : (os os' : List Occurrence) → AllTyped os → AllTyped os' → AllTyped (os ++ os')
+  join os os' a b = Every-append IsTypedAt os os' a b
+
+  mutual
+    pub typed :
+        (k : Clock) (n : ℕ) (e : Expr) (ts : List DataType) → data_types P here e ≡ Some ts →
+        AllPartsWide (occurrences P here.node k n e) → AllTyped (occurrences P here.node k n e)
+    typed k n (Literal m) ts e w = (record { types = ts; are = e; parts = w }, tt)
+    typed k n (Truth b) ts e w = (record { types = ts; are = e; parts = w }, tt)
+    typed k n (Variable x) ts e w = (record { types = ts; are = e; parts = w }, tt)
+    typed k n (Group a) ts e w = typed k n a ts e w
+    typed k n (Unary op a) ts e w =
+        let i = one (data_types P here a) (unary_type op) ts e in
+        (record { types = ts; are = e; parts = w }, typed k n a (i.data_type ∷ []) i.is w.1)
+    typed k n (Binary op a b) ts e w =
+        let i = two (data_types P here a) (data_types P here b) (binary_type op) ts e in (
+          record { types = ts; are = e; parts = w },
+          join _ _ (typed k n a (i.first ∷ []) i.is_first (fore_parts _ _ w.1)) (typed k
+              (n + call_count a) b (i.second ∷ []) i.is_second (aft_parts _ _ w.1)),
+        )
+    typed k n (If c a b) ts e w =
+        let na = n + call_count c in let nb = na + call_count a in
+        let t = bound (from_truths (from_one (data_types P here c) Some)) _ ts e in
+        let truths = from_true (from_one (data_types P here c) Some) t.value t.is in
+        let z = one (data_types P here c) Some truths.data_types truths.is in
+        let i = two (data_types P here a) (data_types P here b) common_type ts t.gives in
+        let branches = aft_parts _ _ w.1 in (
+          record { types = ts; are = e; parts = w },
+          join _ _ (typed k n c (z.data_type ∷ []) z.is (fore_parts _ _ w.1)) (join _ _
+              (typed k na a (i.first ∷ []) i.is_first (fore_parts _ _ branches)) (typed k nb b
+              (i.second ∷ []) i.is_second (aft_parts _ _ branches))),
+        )
+    typed k n (Arrow a b) ts e w =
+        let i = two (data_types P here a) (data_types P here b) common_type ts e in (
+          record { types = ts; are = e; parts = w },
+          join _ _ (typed k n a (i.first ∷ []) i.is_first (fore_parts _ _ w.1)) (typed k
+              (n + call_count a) b (i.second ∷ []) i.is_second (aft_parts _ _ w.1)),
+        )
+    typed k n (Fby a b) ts e w =
+        let i = two (data_types P here a) (data_types P here b) common_type ts e in (
+          record { types = ts; are = e; parts = w },
+          join _ _ (typed k n a (i.first ∷ []) i.is_first (fore_parts _ _ w.1)) (typed k
+              (n + call_count a) b (i.second ∷ []) i.is_second (aft_parts _ _ w.1)),
+        )
+    typed k n (Pre a) ts e w =
+        let i = one (data_types P here a) Some ts e in
+        (record { types = ts; are = e; parts = w }, typed k n a (i.data_type ∷ []) i.is w.1)
+    typed k n (When a x sign) ts e w =
+        let t = bound (from_truths (singly (name_data_type P here x))) _ ts e in
+        let i = one (data_types P here a) Some ts t.gives in (
+          record { types = ts; are = e; parts = w },
+          typed (declared_clock here.node x) n a (i.data_type ∷ []) i.is w.1,
+        )
+    typed k n (Current a) ts e w =
+        let i = one (data_types P here a) Some ts e in (
+          record { types = ts; are = e; parts = w },
+          typed (clock_or (clock_of P here.node a)) n a (i.data_type ∷ []) i.is w.1,
+        )
+    typed k n (Replicate a m) ts e w =
+        let c = bound (static_count P here m) _ ts e in
+        let i = one (data_types P here a) (array_of c.value) ts c.gives in
+        (record { types = ts; are = e; parts = w }, typed k n a (i.data_type ∷ []) i.is w.1)
+    typed k n (Index a s) ts e w =
+        let c = bound (static_count P here s) _ ts e in
+        let i = one (data_types P here a) (index_type c.value) ts c.gives in
+        (record { types = ts; are = e; parts = w }, typed k n a (i.data_type ∷ []) i.is w.1)
+    typed k n (Slice a s t) ts e w =
+        let c = bound (static_count P here s) _ ts e in
+        let d = bound (static_count P here t) _ ts c.gives in
+        let i = one (data_types P here a) (slice_type c.value d.value) ts d.gives in
+        (record { types = ts; are = e; parts = w }, typed k n a (i.data_type ∷ []) i.is w.1)
+    typed k n (Join a b) ts e w =
+        let i = two (data_types P here a) (data_types P here b) join_type ts e in (
+          record { types = ts; are = e; parts = w },
+          join _ _ (typed k n a (i.first ∷ []) i.is_first (fore_parts _ _ w.1)) (typed k
+              (n + call_count a) b (i.second ∷ []) i.is_second (aft_parts _ _ w.1)),
+        )
+    typed k n (Array es) ts e w =
+        let b = bound (all_types P here es) _ ts e in
+        (record { types = ts; are = e; parts = w }, typed_all k n es b.value b.is w.1)
+    typed k n (AtMostOne es) ts e w =
+        let t = from_true (all_types P here es) ts e in
+        (record { types = ts; are = e; parts = w }, typed_all k n es t.data_types t.is w.1)
+    typed k n (Nor es) ts e w =
+        let t = from_true (all_types P here es) ts e in
+        (record { types = ts; are = e; parts = w }, typed_all k n es t.data_types t.is w.1)
+    typed k n (Call f statics es) ts e w =
+        let o = bound (operator_types P here (Node_named f statics)) _ ts e in
+        let a = bound (all_types P here es) _ ts o.gives in (
+          record { types = ts; are = e; parts = w },
+          typed_each (call_clocks k (node_named P f) es) (n + 1) es a.value a.is w.1,
+        )
+    typed k n (Iterate it (Node_named f statics) m es) ts e w =
+        let c = bound (static_count P here m) _ ts e in
+        let o = bound (operator_types P here (Node_named f statics)) _ ts c.gives in
+        let a = bound (all_types P here es) _ ts o.gives in
+        (record { types = ts; are = e; parts = w }, typed_all k (n + 1) es a.value a.is w.1)
+    typed k n (Iterate it (Symbol op) m es) ts e w =
+        let c = bound (static_count P here m) _ ts e in
+        let o = bound (operator_types P here (Symbol op)) _ ts c.gives in
+        let a = bound (all_types P here es) _ ts o.gives in
+        (record { types = ts; are = e; parts = w }, typed_all k n es a.value a.is w.1)
+
+    typed_all :
+        (k : Clock) (n : ℕ) (es : Exprs) (ts : List DataType) → all_types P here es ≡ Some ts →
+        AllPartsWide (occurrences_in P here.node k n es) → AllTyped (occurrences_in P here.node k n es)
+    typed_all k n Nil ts h w = tt
+    typed_all k n (Cons e es) ts h w =
+        let i = first_of_all P here e es ts h in
+        join _ _ (typed k n e (i.first ∷ []) i.is (fore_parts _ _ w)) (typed_all k (n + call_count e) es
+        i.rest i.others (aft_parts _ _ w))
+
+    typed_each :
+        (ks : List Clock) (n : ℕ) (es : Exprs) (ts : List DataType) →
+        all_types P here es ≡ Some ts → AllPartsWide (occurrences_each P here.node ks n es) →
+        AllTyped (occurrences_each P here.node ks n es)
+    typed_each ks n Nil ts h w = tt
+    typed_each [] n (Cons e es) ts h w = tt
+    typed_each (k ∷ ks) n (Cons e es) ts h w =
+        let i = first_of_all P here e es ts h in
+        join _ _ (typed k n e (i.first ∷ []) i.is (fore_parts _ _ w)) (typed_each ks (n + call_count e)
+        es i.rest i.others (aft_parts _ _ w))

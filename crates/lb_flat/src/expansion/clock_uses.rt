@@ -80,7 +80,7 @@ fn push_declared(names: &mut Vec<usize>, variable: &Variable) -> Result<(), Allo
 }
 
 /// Adds the variables that the declared clocks of some variables wait for.
-#[tactic(auto, using(crate::proofs::numbering::RowKinds::piece_added))]
+#[tactic(auto, using(crate::proofs::numbering::RowInstances::piece_added))]
 fn push_variables(names: &mut Vec<usize>, variables: &[Variable]) -> Result<(), AllocError>
     ensures { OnOk result (names.new.items
         ≡ names.old.items ++ flat_map mirror.declared_when variables.now) }
@@ -92,7 +92,7 @@ fn push_variables(names: &mut Vec<usize>, variables: &[Variable]) -> Result<(), 
 }
 
 /// Adds the variables that some `when` in a list of statements names.
-#[tactic(auto, using(crate::proofs::numbering::RowKinds::piece_added))]
+#[tactic(auto, using(crate::proofs::numbering::RowInstances::piece_added))]
 fn push_statements(
     names: &mut Vec<usize>,
     statements: &[ResolvedStatement],
@@ -117,7 +117,7 @@ fn clocks_named(alloc: Global, node: &ResolvedNode) -> Result<Vec<usize>, AllocE
 }
 
 /// Sets the flags of the variables `names`; no flag is set before.
-#[tactic(auto, using(crate::proofs::clock_tables::UsedClocks::marks))]
+#[tactic(auto, using(crate::proofs::clock_tables::ServingClocks::marks))]
 fn mark(flags: &mut [bool], names: &[usize])
     requires { flags.old ≡ replicate (length flags.old) false }
     ensures { mirror.HasFlags (length flags.old) names.now flags.new }

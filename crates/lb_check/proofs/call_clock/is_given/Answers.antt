@@ -1,4 +1,4 @@
-use Rattle.std.proofs.Common.{rules}
+use Rattle.lb_check.proofs.Words.{rules}
 use Rattle.lb_check.proofs.call_clock.is_given.Goals as goal
 
 pub returns-else-place-inputs : goal.returns-else-place-inputs

@@ -1,10 +1,9 @@
 -- The first of the rules that an elaborated program breaks, with the part of a node that breaks it.
 use Rattle.lb_check.proofs.Words.{ap, ◌∙◌, is_part_clocked, is_part_defined, is_part_typed}
 use Rattle.lb_check.proofs.Words.{is_clocked, is_defined, is_typed}
-use Rattle.std.specs.Prelude.{string_bytes}
-use Rattle.lb_check.proofs.definitions.BrokenRules.{broken_in, told}
-use Rattle.lb_check.proofs.definitions.Checks.{broken, kept_by, not_typed, not_clocked, not_defined}
-use Rattle.lb_check.proofs.definitions.Checks.{all_kept}
+use Rattle.{std.specs.Prelude.string_bytes, lb_check.proofs.definitions.BrokenRules.broken_in}
+use Rattle.lb_check.proofs.definitions.BrokenRules.{told, broken, kept_by, not_typed, not_clocked}
+use Rattle.lb_check.proofs.definitions.BrokenRules.{not_defined, all_kept}
 use Rattle.lb_check.proofs.checker.broken_rule.Goals as goal
 
 pub returns-in-Some : goal.returns-in-Some

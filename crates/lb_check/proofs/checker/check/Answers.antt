@@ -1,7 +1,6 @@
 -- The answer is the broken rule that is found; else what is found of clocks and types is kept.
-use Rattle.lb_static.specs.Elaborated.{elaborated_program}
-use Rattle.lb_check.proofs.definitions.Checks.{accepted, found, refused}
-use Rattle.lb_check.proofs.clocking.FoundClocks.{found_here}
+use Rattle.lb_check.proofs.{Words.elaborated_program, clocking.FoundClocks.found_here}
+use Rattle.lb_check.proofs.definitions.BrokenRules.{accepted, found, refused}
 use Rattle.lb_check.proofs.typing.FoundTypes.{types_found_here}
 use Rattle.lb_check.proofs.checker.check.Goals as goal
 

@@ -1,7 +1,6 @@
 use Rattle.lb_check.proofs.Words.{◌≡◌, ◌+◌, subst, arith, HasDepth}
 use Rattle.lb_check.proofs.clocking.ClockDepths.{awaits, awaits_none, known_depth, step_more}
-use Rattle.lb_check.proofs.clocking.ClockDepths.{stands_below}
-use Rattle.lb_check.proofs.clocking.ClockDepths.{stands_here, no_depth}
+use Rattle.lb_check.proofs.clocking.ClockDepths.{stands_below, stands_here, no_depth}
 use Rattle.lb_check.proofs.clock.depth_of.Goals as goal
 
 pub returns-then-depth-variables-clause-circle : goal.returns-then-depth-variables-clause-circle

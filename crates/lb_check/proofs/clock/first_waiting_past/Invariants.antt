@@ -1,5 +1,5 @@
 use Rattle.lb_check.proofs.Words.{◌≡◌, drop, first_broken, waits_below}
-use Rattle.lb_check.proofs.lists.FirstBroken.{broken_from}
+use Rattle.lb_check.proofs.lists.ListPairs.{broken_from}
 use Rattle.lb_check.proofs.clock.first_waiting_past.Given as goal
 
 abbrev pub invariant-loop-i : goal.invariant-loop-i

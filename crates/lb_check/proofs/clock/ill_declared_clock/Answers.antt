@@ -1,6 +1,5 @@
-use Rattle.std.proofs.Common.{sym, ◌∙◌}
-use Rattle.lb_check.proofs.clocking.BrokenClocks.{circle_found, input_broken, output_broken}
-use Rattle.lb_check.proofs.definitions.BrokenRules.{if_found}
+use Rattle.lb_check.proofs.{Words.{sym, ◌∙◌}, clocking.WholeClocks.{circle_found, input_broken}}
+use Rattle.lb_check.proofs.{clocking.WholeClocks.output_broken, definitions.BrokenRules.if_found}
 use Rattle.lb_check.proofs.clock.ill_declared_clock.Goals as goal
 
 pub returns-in-Some : goal.returns-in-Some

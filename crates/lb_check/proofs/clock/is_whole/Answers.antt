@@ -1,7 +1,7 @@
 use Rattle.lb_check.proofs.Words.{◌≡◌, true, length, subst, ap, sym, ◌∙◌, list_all, counts_of}
 use Rattle.lb_check.proofs.Words.{first_broken, waits_below}
-use Rattle.lb_check.proofs.clocking.ClockedNodes.{all_awaited, within_all}
-use Rattle.lb_check.proofs.lists.FirstBroken.{all_pass, is_none_found, none_found}
+use Rattle.lb_check.proofs.clocking.ClockDepths.{all_awaited, within_all}
+use Rattle.lb_check.proofs.lists.ListPairs.{all_pass, is_none_found, none_found}
 use Rattle.lb_check.proofs.clock.is_whole.Goals as goal
 
 pub returns-then-node-count-2-clause-awaited : goal.returns-then-node-count-2-clause-awaited

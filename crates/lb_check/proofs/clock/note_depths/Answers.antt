@@ -1,4 +1,4 @@
-use Rattle.std.proofs.Common.{inl, inr, arith, ◌<◌, ◌+◌, ◌-◌, length}
+use Rattle.lb_check.proofs.Words.{inl, inr, arith, ◌<◌, ◌+◌, ◌-◌, length}
 use Rattle.lb_check.proofs.clocking.ClockDepths.{awaits, first_known, still_known, more_depths}
 use Rattle.lb_check.proofs.clocking.ClockDepths.{waits_deeper}
 use Rattle.lb_check.proofs.clock.note_depths.Goals as goal

@@ -1,7 +1,6 @@
-use Rattle.std.proofs.Common.{◌≡◌, IfOk, ap, sym, subst, ◌∙◌}
-use Rattle.lb_check.specs.StoredClocks.{context_in}
+use Rattle.lb_check.proofs.Words.{◌≡◌, IfOk, ap, sym, subst, ◌∙◌}
+use Rattle.lb_check.{specs.StoredClocks.context_in, proofs.clocking.WalkedClocks.equation_call}
 use Rattle.lb_check.specs.TermClocks as mirror
-use Rattle.lb_check.proofs.clocking.ClockRows.{equation_call}
 use Rattle.lb_check.proofs.clock_rules.+is_equation_clocked.Goals as goal
 
 pub returns-in-Call : goal.returns-in-Call

@@ -1,6 +1,5 @@
 use Rattle.lb_check.proofs.Words.{◌≡◌, drop, first_broken, is_resolved_statement_clocked}
-use Rattle.lb_check.specs.StoredClocks.{context_in}
-use Rattle.lb_check.proofs.lists.FirstBroken.{broken_from}
+use Rattle.lb_check.{specs.StoredClocks.context_in, proofs.lists.ListPairs.broken_from}
 use Rattle.lb_check.proofs.clock_rules.first_ill_clocked_statement.Given as goal
 
 abbrev pub invariant-loop-j : goal.invariant-loop-j

@@ -1,7 +1,6 @@
 use Rattle.lb_check.proofs.Words.{subst, sym, ◌∙◌, source_names, node_of, IsDeclaredClock}
-use Rattle.lb_check.proofs.clocking.NodeClocks.{all_clocked, declared_found, distinct_at}
-use Rattle.lb_check.proofs.clocking.NodeClocks.{resolved_at}
-use Rattle.lb_check.proofs.clocking.NodeClocks.{statement_found}
+use Rattle.lb_check.proofs.clocking.WholeClocks.{all_clocked, declared_found, distinct_at}
+use Rattle.lb_check.proofs.clocking.WholeClocks.{resolved_at, statement_found}
 use Rattle.lb_check.proofs.clock_rules.ill_clocked_part.Goals as goal
 
 pub returns-in-Some-2 : goal.returns-in-Some-2

@@ -1,4 +1,4 @@
-use Rattle.std.proofs.Common.{◌≡◌, drop}
+use Rattle.lb_check.proofs.Words.{◌≡◌, drop}
 use Rattle.lb_check.specs.TermClocks as mirror
 use Rattle.lb_check.proofs.clock_set.together.Given as goal
 

@@ -1,4 +1,4 @@
-use Rattle.lb_static.specs.declared.resolved.Term.{size-Term}
+use Rattle.lb_check.proofs.Words.{size-Term}
 use Rattle.lb_check.proofs.definition_cause.+memory_of.Given as goal
 
 abbrev pub decreases-memory_of : goal.decreases-memory_of

@@ -1,4 +1,4 @@
-use Rattle.std.proofs.Common.{◌≡◌, ◌+◌, ◌<◌, ℕ, min, length, slice_index, drop}
+use Rattle.lb_check.proofs.Words.{◌≡◌, ◌+◌, ◌<◌, ℕ, min, length, slice_index, drop}
 use Rattle.lb_check.specs.NodeDefinitions as mirror
 use Rattle.lb_check.proofs.definition_rules.count.Given as goal
 

@@ -1,4 +1,4 @@
-use Rattle.std.proofs.Common.{◌≡◌, ◌<◌, ℕ}
+use Rattle.lb_check.proofs.Words.{◌≡◌, ◌<◌, ℕ}
 use Rattle.lb_check.specs.NodeDefinitions as mirror
 use Rattle.lb_check.proofs.definition_rules.first_ill_defined_variable.Given as goal
 

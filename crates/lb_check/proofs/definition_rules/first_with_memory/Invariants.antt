@@ -1,5 +1,5 @@
 use Rattle.lb_check.proofs.Words.{◌≡◌, drop, first_broken, is_statement_memoryless}
-use Rattle.lb_check.proofs.lists.FirstBroken.{broken_from}
+use Rattle.lb_check.proofs.lists.ListPairs.{broken_from}
 use Rattle.lb_check.proofs.definition_rules.first_with_memory.Given as goal
 
 abbrev pub invariant-loop-j : goal.invariant-loop-j

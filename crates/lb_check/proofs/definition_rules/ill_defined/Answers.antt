@@ -1,9 +1,8 @@
 use Rattle.lb_check.proofs.Words.{ap, ◌∙◌, find, not, NodeId, Specialization, is_part_defined}
-use Rattle.lb_check.proofs.Words.{is_defined, IsIllDefined, is_defined_at}
-use Rattle.std.specs.Prelude.{List, map}
+use Rattle.lb_check.proofs.Words.{is_defined, IsIllDefined, is_defined_at, List, map}
 use Rattle.lb_check.proofs.definitions.BrokenRules.{both_found, find_mapped, if_found, not_all}
 use Rattle.lb_check.proofs.definitions.BrokenRules.{part_named}
-use Rattle.lb_check.proofs.definitions.Specializations.{all_specializations}
+use Rattle.lb_check.proofs.typing.Specializations.{all_specializations}
 use Rattle.lb_check.proofs.definition_rules.ill_defined.Goals as goal
 
 pub returns-clause-judged : goal.returns-clause-judged

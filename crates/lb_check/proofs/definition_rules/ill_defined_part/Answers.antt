@@ -1,4 +1,4 @@
-use Rattle.std.proofs.Common.{rules, ◌≡◌, length, sym}
+use Rattle.lb_check.proofs.Words.{rules, ◌≡◌, length, sym}
 use Rattle.lb_check.proofs.definitions.NodeDefinitions.{all_defined, memory_found, places_told}
 use Rattle.lb_check.proofs.definitions.NodeDefinitions.{variable_found}
 use Rattle.lb_check.proofs.definition_rules.ill_defined_part.Goals as goal

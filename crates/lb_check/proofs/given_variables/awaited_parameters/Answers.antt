@@ -1,6 +1,6 @@
 use Rattle.lb_check.proofs.Words.{◌≡◌, ◌<◌, ◌+◌, ℕ, Bool, List, false, drop, get_or, length, ap}
 use Rattle.lb_check.proofs.Words.{sym, ◌∙◌, subst, arith, rules, ◌||◌, places, with_items_is}
-use Rattle.lb_check.proofs.clocking.GivenRows.{is_waited, waited_more}
+use Rattle.lb_check.proofs.clocking.GivenVariables.{is_waited, waited_more}
 use Rattle.lb_check.proofs.given_variables.awaited_parameters.Goals as goal
 
 pub loop-variable-preserved : goal.loop-variable-preserved

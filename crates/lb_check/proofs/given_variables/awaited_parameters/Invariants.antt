@@ -1,5 +1,5 @@
 use Rattle.lb_check.proofs.Words.{◌≡◌, ◌<◌, ℕ, false, drop, get_or, length, ◌||◌}
-use Rattle.lb_check.proofs.clocking.GivenRows.{is_waited}
+use Rattle.lb_check.proofs.clocking.GivenVariables.{is_waited}
 use Rattle.lb_check.proofs.given_variables.awaited_parameters.Given as goal
 
 abbrev pub invariant-loop-variable : goal.invariant-loop-variable

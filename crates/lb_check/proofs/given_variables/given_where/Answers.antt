@@ -1,5 +1,5 @@
 use Rattle.lb_check.proofs.Words.{length, sym, arith, given_in}
-use Rattle.lb_check.proofs.clocking.GivenRows.{given_more, given_end}
+use Rattle.lb_check.proofs.clocking.GivenVariables.{given_more, given_end}
 use Rattle.lb_check.proofs.given_variables.given_where.Goals as goal
 
 pub loop-place-preserved : goal.loop-place-preserved

@@ -1,6 +1,5 @@
 use Rattle.lb_check.proofs.Words.{◌≡◌, ◌<◌, ◌≤◌, length, refl, ap, ◌∙◌, subst, arith, slice_get}
-use Rattle.lb_check.proofs.Words.{nat_tests, slice_get_read, clock_in}
-use Rattle.std.specs.Prelude.{Some}
+use Rattle.lb_check.proofs.Words.{nat_tests, slice_get_read, clock_in, Some}
 use Rattle.lb_check.proofs.clocking.ClockSetRows.{declared_nowhere, declared_there}
 use Rattle.lb_check.proofs.own_clock.declared_clock.Goals as goal
 

@@ -1,5 +1,5 @@
-use Rattle.lb_check.proofs.clocking.OwnClocks.{same_signs, other_variable}
 use Rattle.lb_check.proofs.clocking.ClockSetRows.{same_variable, two_variables}
+use Rattle.lb_check.proofs.clocking.OwnClocks.{same_signs, other_variable}
 use Rattle.lb_check.proofs.own_clock.is_same.Goals as goal
 
 pub returns-then-x-y-clause-mirror : goal.returns-then-x-y-clause-mirror

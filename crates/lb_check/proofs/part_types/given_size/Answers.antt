@@ -1,6 +1,6 @@
 use Rattle.lb_check.proofs.Words.{◌+◌, ap, min, sym, ◌∙◌, arith, option_map, view_type, all_some}
 use Rattle.lb_check.proofs.Words.{row_in}
-use Rattle.lb_check.proofs.typing.PartSizes.{none_before, size_end, size_more, size_none}
+use Rattle.lb_check.proofs.typing.SignatureRows.{none_before, size_end, size_more, size_none}
 use Rattle.lb_check.proofs.part_types.given_size.Goals as goal
 
 pub loop-place-init : goal.loop-place-init

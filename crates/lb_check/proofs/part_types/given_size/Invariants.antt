@@ -1,5 +1,5 @@
 use Rattle.lb_check.proofs.Words.{◌≡◌, ◌≤◌, drop, all_some, part_size, row_in}
-use Rattle.lb_check.proofs.typing.PartSizes.{counted_from}
+use Rattle.lb_check.proofs.typing.SignatureRows.{counted_from}
 use Rattle.lb_check.proofs.part_types.given_size.Given as goal
 
 abbrev pub invariant-loop-place : goal.invariant-loop-place

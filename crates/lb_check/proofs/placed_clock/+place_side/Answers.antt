@@ -1,9 +1,7 @@
 use Rattle.lb_check.proofs.Words.{◌≡◌, ◌++◌, OnOk, ap, sym, subst, ◌∙◌, placed_call, placed_side}
 use Rattle.lb_check.proofs.Words.{with_terms, operands_of, known_among, known_operands}
-use Rattle.lb_check.specs.PlacedClocks.{found_in}
-use Rattle.lb_check.specs.StoredClocks.{context_in}
-use Rattle.lb_check.proofs.clocking.PlacedRows.{side_group, side_placed}
-use Rattle.lb_check.proofs.clocking.WalkedClocks.{call_known, group_known}
+use Rattle.lb_check.specs.{PlacedClocks.found_in, StoredClocks.context_in}
+use Rattle.lb_check.proofs.clocking.WalkedClocks.{side_group, side_placed, call_known, group_known}
 use Rattle.lb_check.proofs.placed_clock.+place_side.Goals as goal
 
 pub returns-in-Group : goal.returns-in-Group

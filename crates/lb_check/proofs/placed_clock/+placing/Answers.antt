@@ -1,23 +1,19 @@
-use Rattle.lb_check.proofs.Words.{◌≡◌, ◌+◌, [], ◌∷◌, ◌++◌, drop, length, IfOk, ap, ap₂, refl, sym}
-use Rattle.lb_check.proofs.Words.{subst, ◌∙◌, arith, slice_get, drop_all, length-map, IsPlaced}
-use Rattle.lb_check.proofs.Words.{called, determined_clock, nested_call, part, placed_all}
-use Rattle.lb_check.proofs.Words.{placed_each, placed_terms, row_term, with_terms, listed}
-use Rattle.lb_check.proofs.Words.{infer_clock, operand_of, operands_of, known_among, known_operands}
-use Rattle.lb_check.proofs.Words.{Base}
+use Rattle.lb_check.proofs.Words
+use Words.{◌≡◌, ◌+◌, [], ◌∷◌, ◌++◌, drop, length, IfOk, ap, ap₂, refl, sym, subst, ◌∙◌, arith}
+use Words.{slice_get, drop_all, length-map, IsPlaced, called, determined_clock, nested_call, part}
+use Words.{placed_all, placed_each, placed_terms, row_term, with_terms, listed, infer_clock}
+use Words.{operand_of, operands_of, known_among, known_operands, Base}
 use Rattle.lb_check.specs.PlacedClocks.{call_clocks, current_clock, found_in, with_term}
-use Rattle.lb_check.specs.StoredClocks.{context_in}
+use Rattle.lb_check.{specs.StoredClocks.context_in, proofs.clocking.WalkedClocks.call_placed}
+use Rattle.lb_check.proofs.clocking.WalkedClocks.{choice_placed, current_placed, each_next}
+use Rattle.lb_check.proofs.clocking.WalkedClocks.{flat_next, group_placed, leaf_placed, left_end}
+use Rattle.lb_check.proofs.clocking.WalkedClocks.{left_more, left_past, left_start, operand_placed}
+use Rattle.lb_check.proofs.clocking.WalkedClocks.{operands_placed, placed_as, placed_both}
+use Rattle.lb_check.proofs.clocking.WalkedClocks.{placed_leaf, placed_noted, row_placed}
+use Rattle.lb_check.proofs.clocking.WalkedClocks.{taken_first, call_known, choice_known}
+use Rattle.lb_check.proofs.clocking.WalkedClocks.{current_known, group_known, leaf_known}
+use Rattle.lb_check.proofs.clocking.WalkedClocks.{pair_known, plain_known, row_known}
 use Rattle.lb_check.proofs.definitions.BrokenRules.{if_found}
-use Rattle.lb_check.proofs.clocking.PlacedRows.{call_placed, choice_placed, current_placed}
-use Rattle.lb_check.proofs.clocking.PlacedRows.{each_next}
-use Rattle.lb_check.proofs.clocking.PlacedRows.{flat_next, group_placed, leaf_placed, left_end}
-use Rattle.lb_check.proofs.clocking.PlacedRows.{left_more}
-use Rattle.lb_check.proofs.clocking.PlacedRows.{left_past, left_start, operand_placed}
-use Rattle.lb_check.proofs.clocking.PlacedRows.{operands_placed}
-use Rattle.lb_check.proofs.clocking.PlacedRows.{placed_as, placed_both, placed_leaf, placed_noted}
-use Rattle.lb_check.proofs.clocking.PlacedRows.{row_placed, taken_first}
-use Rattle.lb_check.proofs.clocking.WalkedClocks.{call_known, choice_known, current_known}
-use Rattle.lb_check.proofs.clocking.WalkedClocks.{group_known}
-use Rattle.lb_check.proofs.clocking.WalkedClocks.{leaf_known, pair_known, plain_known, row_known}
 use Rattle.lb_check.proofs.placed_clock.+placing.Goals as goal
 
 -- ## Rows

@@ -1,6 +1,5 @@
 use Rattle.lb_check.proofs.Words.{drop, known_among}
-use Rattle.lb_check.specs.StoredClocks.{context_in}
-use Rattle.lb_check.proofs.clocking.PlacedRows.{AreLeft}
+use Rattle.lb_check.{specs.StoredClocks.context_in, proofs.clocking.WalkedClocks.AreLeft}
 use Rattle.lb_check.specs.PlacedClocks as placed_mirror
 use Rattle.lb_check.proofs.placed_clock.+placing.Given as goal
 

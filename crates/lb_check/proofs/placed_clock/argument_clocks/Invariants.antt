@@ -1,5 +1,4 @@
-use Rattle.lb_check.proofs.Words.{◌≡◌, ◌++◌, map, drop, either_or, Variable, given_in}
-use Rattle.std.specs.Prelude.{Some}
+use Rattle.lb_check.proofs.Words.{◌≡◌, ◌++◌, map, drop, either_or, Variable, given_in, Some}
 use Rattle.lb_check.specs.TermClocks as mirror
 use Rattle.lb_check.proofs.placed_clock.argument_clocks.Given as goal
 

@@ -1,7 +1,6 @@
-use Rattle.lb_check.proofs.Words.{sym, node_terms, placed_statement, with_terms}
-use Rattle.lb_check.specs.PlacedClocks.{found_in, nothing_found}
-use Rattle.lb_check.specs.StoredClocks.{context_in}
-use Rattle.lb_check.proofs.clocking.PlacedRows.{flat_more, flat_end}
+use Rattle.lb_check.proofs.Words.{sym, node_terms, placed_statement, with_terms, nothing_found}
+use Rattle.lb_check.specs.{PlacedClocks.found_in, StoredClocks.context_in}
+use Rattle.lb_check.proofs.clocking.WalkedClocks.{flat_more, flat_end}
 use Rattle.lb_check.proofs.placed_clock.node_clocks.Goals as goal
 
 pub loop-statement-preserved : goal.loop-statement-preserved

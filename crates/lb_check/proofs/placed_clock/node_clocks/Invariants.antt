@@ -1,6 +1,6 @@
-use Rattle.std.proofs.Common.{◌≡◌, flat_map, drop}
-use Rattle.lb_check.specs.PlacedClocks as placed_mirror
+use Rattle.lb_check.proofs.Words.{◌≡◌, flat_map, drop}
 use Rattle.lb_check.specs.StoredClocks.{context_in}
+use Rattle.lb_check.specs.PlacedClocks as placed_mirror
 use Rattle.lb_check.proofs.placed_clock.node_clocks.Given as goal
 
 abbrev pub invariant-loop-statement : goal.invariant-loop-statement

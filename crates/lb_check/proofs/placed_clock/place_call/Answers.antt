@@ -1,9 +1,8 @@
 use Rattle.lb_check.proofs.Words.{◌≡◌, [], ap, ap₂, sym, ◌∙◌, arith, append-nil, length-map, called}
 use Rattle.lb_check.proofs.Words.{placed_each, side_call, side_clocks, with_terms, left_clock}
 use Rattle.lb_check.proofs.Words.{operand_of, operands_of, known_among}
-use Rattle.lb_check.specs.PlacedClocks.{found_in, with_term}
-use Rattle.lb_check.specs.StoredClocks.{context_in}
-use Rattle.lb_check.proofs.clocking.PlacedRows.{left_past, taken_first}
+use Rattle.lb_check.specs.{PlacedClocks.{found_in, with_term}, StoredClocks.context_in}
+use Rattle.lb_check.proofs.clocking.WalkedClocks.{left_past, taken_first}
 use Rattle.lb_check.proofs.placed_clock.place_call.Goals as goal
 
 pub returns : goal.returns

@@ -1,6 +1,5 @@
-use Rattle.lb_check.proofs.Words.{map, ResolvedNode, node_terms, with_terms}
-use Rattle.lb_check.specs.PlacedClocks.{found_in, nothing_found}
-use Rattle.lb_check.proofs.clocking.PlacedRows.{map_more}
+use Rattle.lb_check.proofs.Words.{map, ResolvedNode, node_terms, with_terms, nothing_found}
+use Rattle.lb_check.{specs.PlacedClocks.found_in, proofs.clocking.WalkedClocks.map_more}
 use Rattle.lb_check.proofs.placed_clock.placed_clocks.Goals as goal
 
 pub loop-node-preserved : goal.loop-node-preserved

@@ -1,5 +1,4 @@
-use Rattle.lb_check.proofs.Words.{ap, ◌∙◌, found_in, with_row}
-use Rattle.lb_check.proofs.typing.PartSizes.{part_moved}
+use Rattle.lb_check.proofs.{Words.{ap, ◌∙◌, found_in, with_row}, typing.SignatureRows.part_moved}
 use Rattle.lb_check.proofs.placed_types.move_all.Goals as goal
 
 pub loop-part-preserved : goal.loop-part-preserved

@@ -1,13 +1,10 @@
-use Rattle.std.proofs.Common.{◌≡◌, ◌≢◌, ℕ, ◌+◌, ◌-◌, drop, flat_map, ap, reverse, sym, ◌∙◌, arith}
-use Rattle.std.proofs.Common.{rules}
-use Rattle.std.specs.Prelude.{sum_by}
-use Rattle.std.proofs.lemmas.List.Sums.{sum_by-append}
-use Rattle.lb_check.specs.PlacedTypes.{Kept, found_in, kept, kept_in, node_types, nothing_found}
-use Rattle.lb_check.specs.PlacedTypes.{part_size, statement_types, with_parts, with_terms}
-use Rattle.lb_check.specs.StoredTypes.{context_in}
-use Rattle.lb_check.proofs.typing.PartSizes.{counted_enough, counted_more, kept_left, moved_terms}
-use Rattle.lb_check.proofs.clocking.PlacedRows.{flat_next}
-use Rattle.lb_check.proofs.typing.TypeWalks.{flat_more, flat_end}
+use Rattle.lb_check.proofs.Words.{sum_by, ◌≡◌, ◌≢◌, ℕ, ◌+◌, ◌-◌, drop, flat_map, ap, reverse, sym}
+use Rattle.lb_check.proofs.Words.{◌∙◌, arith, rules, Kept, found_in, kept, kept_in, node_types}
+use Rattle.lb_check.proofs.Words.{part_size, statement_types, with_parts, context_in}
+use Rattle.{std.proofs.lemmas.List.Sums.sum_by-append, lb_check.specs.PlacedTypes.nothing_found}
+use Rattle.lb_check.{specs.PlacedTypes.with_terms, proofs.clocking.WalkedClocks.flat_next}
+use Rattle.lb_check.proofs.typing.SignatureRows.{counted_enough, counted_more, kept_left}
+use Rattle.lb_check.proofs.typing.{SignatureRows.moved_terms, TypeRows.{flat_more, flat_end}}
 use Rattle.lb_check.proofs.placed_types.node_types.Goals as goal
 
 pub loop-statement-init : goal.loop-statement-init

@@ -2,9 +2,8 @@
 use Rattle.lb_check.proofs.Words.{◌≡◌, ◌<◌, ◌≤◌, ap, map, min, subst, sym, ◌∙◌, option_map, sum_by}
 use Rattle.lb_check.proofs.Words.{Specialization, FoundNode, found_in, found_of, part_size, size_of}
 use Rattle.lb_check.proofs.Words.{specialization_types}
-use Rattle.lb_check.specs.PlacedTypes.{AreNoted}
-use Rattle.lb_check.proofs.typing.KeptTypes.{less_left, none_left, none_left_by, size_kept}
-use Rattle.lb_check.proofs.clocking.PlacedRows.{map_more}
+use Rattle.lb_check.{specs.PlacedTypes.AreNoted, proofs.clocking.WalkedClocks.map_more}
+use Rattle.lb_check.proofs.typing.FoundTypes.{less_left, none_left, none_left_by, size_kept}
 use Rattle.lb_check.proofs.placed_types.placed_types.Goals as goal
 
 pub returns-in_default : goal.returns-in_default

@@ -1,5 +1,4 @@
-use Rattle.std.proofs.Common.{◌∙◌, false, sym, true}
-use Rattle.lb_check.proofs.typing.WantedTypes.{type_is}
+use Rattle.lb_check.proofs.{Words.{◌∙◌, false, sym, true}, typing.SignatureRows.type_is}
 use Rattle.lb_check.proofs.signature.is_type_of.Goals as goal
 
 pub returns-then-eq : goal.returns-then-eq

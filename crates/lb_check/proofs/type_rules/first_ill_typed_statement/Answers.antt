@@ -1,7 +1,6 @@
 use Rattle.lb_check.proofs.Words.{length, refl, sym, ◌∙◌, slice_get, slice_get_read, first_broken}
 use Rattle.lb_check.proofs.Words.{context_in, is_resolved_statement_typed}
-use Rattle.lb_check.proofs.lists.FirstBroken.{broken_more}
-use Rattle.lb_check.proofs.typing.SharedTypes.{is_there}
+use Rattle.lb_check.proofs.{lists.ListPairs.broken_more, typing.SharedTypes.is_there}
 use Rattle.lb_check.proofs.type_rules.first_ill_typed_statement.Goals as goal
 
 pub loop-j-preserved-then-is_settled : goal.loop-j-preserved-then-is_settled

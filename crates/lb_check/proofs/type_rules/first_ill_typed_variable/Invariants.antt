@@ -1,5 +1,5 @@
 use Rattle.lb_check.proofs.Words.{◌≡◌, drop, first_broken, context_in, is_variable_typed}
-use Rattle.lb_check.proofs.lists.FirstBroken.{broken_from}
+use Rattle.lb_check.proofs.lists.ListPairs.{broken_from}
 use Rattle.lb_check.proofs.type_rules.first_ill_typed_variable.Given as goal
 
 abbrev pub invariant-loop-i : goal.invariant-loop-i

@@ -1,7 +1,6 @@
 use Rattle.lb_check.proofs.Words.{[], ◌∷◌, map, ap, sym, ◌∙◌, option_map, length-map, all_some}
 use Rattle.lb_check.proofs.Words.{view_type, context_in, are_equal, left_types, singly}
-use Rattle.lb_check.proofs.typing.OneType.{single_apart, single_met}
-use Rattle.lb_check.proofs.typing.SignatureRows.{one_item}
+use Rattle.lb_check.proofs.typing.{SignatureRows.one_item, TypeRows.{single_apart, single_met}}
 use Rattle.lb_check.proofs.type_rules.has_type.Goals as goal
 
 pub returns-then-variables-ne1 : goal.returns-then-variables-ne1

@@ -1,7 +1,6 @@
 use Rattle.lb_check.proofs.Words.{is_specialization_typed, ap, ◌∙◌, not}
 use Rattle.lb_check.proofs.definitions.BrokenRules.{if_found, types_named}
-use Rattle.lb_check.proofs.lists.FirstBroken.{is_found}
-use Rattle.lb_check.proofs.typing.TypedSpecializations.{instances_typed}
+use Rattle.lb_check.proofs.{lists.ListPairs.is_found, typing.TypedSpecializations.instances_typed}
 use Rattle.lb_check.proofs.type_rules.ill_typed.Goals as goal
 
 pub returns-clause-judged : goal.returns-clause-judged

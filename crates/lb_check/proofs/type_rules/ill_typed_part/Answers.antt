@@ -1,6 +1,7 @@
 use Rattle.lb_check.proofs.Words.{ap, subst, sym, ◌∙◌, first_broken, AreSettled}
-use Rattle.lb_check.specs.TermTypes.{context_of, is_resolved_statement_typed, is_variable_typed}
-use Rattle.lb_check.proofs.typing.TypedNodes.{all_typed, statement_untyped, variable_untyped}
+use Rattle.lb_check.proofs.Words.{is_resolved_statement_typed, is_variable_typed}
+use Rattle.lb_check.{specs.TermTypes.context_of, proofs.typing.TypedSpecializations.all_typed}
+use Rattle.lb_check.proofs.typing.TypedSpecializations.{statement_untyped, variable_untyped}
 use Rattle.lb_check.proofs.type_rules.ill_typed_part.Goals as goal
 
 pub returns-in-Some-2 : goal.returns-in-Some-2

@@ -1,7 +1,6 @@
 use Rattle.lb_check.proofs.Words.{◌≡◌, IfOk, Option, map, ap, subst, sym, ◌∙◌, option_map, ◌>>=◌}
 use Rattle.lb_check.proofs.Words.{all_some, context_in, row_in, are_equal, left_types}
-use Rattle.lb_check.specs.TermSignatures.{results_in}
-use Rattle.lb_check.specs.declared.signature.TypeRow.{TypeRow}
+use Rattle.lb_check.specs.{TermSignatures.results_in, declared.signature.TypeRow.TypeRow}
 use Rattle.lb_check.proofs.typing.TermSignatures.{met}
 use Rattle.lb_check.proofs.type_rules.is_equation_typed.Goals as goal
 

@@ -1,6 +1,5 @@
 use Rattle.lb_check.proofs.Words.{None, Some, ap, sym, ◌∙◌, option_map, truth, view_type}
-use Rattle.lb_check.proofs.Words.{context_in}
-use Rattle.lb_check.proofs.typing.OneType.{results_are_one}
+use Rattle.lb_check.proofs.{Words.context_in, typing.TypeRows.results_are_one}
 use Rattle.lb_check.proofs.type_rules.is_one_truth.Goals as goal
 
 pub returns-in-Some : goal.returns-in-Some

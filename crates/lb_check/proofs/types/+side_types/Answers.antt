@@ -1,7 +1,6 @@
 use Rattle.lb_check.proofs.Words.{map, ap, sym, ◌∙◌, ◌>>=◌, all_some, context_in, calls_in}
 use Rattle.lb_check.proofs.Words.{given_of, list_of, type_of, singly}
-use Rattle.lb_check.proofs.typing.SignatureRows.{calls_are}
-use Rattle.lb_check.proofs.typing.TermSignatures.{results_given}
+use Rattle.lb_check.proofs.typing.{SignatureRows.calls_are, TermSignatures.results_given}
 use Rattle.lb_check.proofs.typing.WalkedTypes.{list_from, list_one}
 use Rattle.lb_check.proofs.types.+side_types.Goals as goal
 

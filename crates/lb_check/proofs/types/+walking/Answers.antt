@@ -5,21 +5,16 @@ use Rattle.lb_check.proofs.Words.{view_type, IsWalked, kept_in, placed_all_types
 use Rattle.lb_check.proofs.Words.{context_in, are_met, are_one, arrays, calls_in, common, given_of}
 use Rattle.lb_check.proofs.Words.{has_arity, like_later, list_of, outcome, row_in, signature_in}
 use Rattle.lb_check.proofs.Words.{type_at, one_type, type_of, when_both, when_truth, common_type}
-use Rattle.lb_check.specs.PlacedTypes.{IsRowWalked}
-use Rattle.lb_check.specs.TermSignatures.{signature}
-use Rattle.lb_check.proofs.definitions.BrokenRules.{if_found}
-use Rattle.lb_check.proofs.typing.DecidedRows.{list_decided, row_decided}
-use Rattle.lb_check.proofs.typing.SignatureRows.{calls_are, fits_end, fits_more, fits_start}
-use Rattle.lb_check.proofs.typing.SignatureRows.{like_next}
-use Rattle.lb_check.proofs.typing.TypeParts.{pair_type}
-use Rattle.lb_check.proofs.typing.TypeWalks.{choice_placed, operand_placed, operands_placed}
-use Rattle.lb_check.proofs.typing.TypeWalks.{row_placed}
-use Rattle.lb_check.proofs.typing.WalkedTypes.{choice_one, choice_type, further, later, later_all}
-use Rattle.lb_check.proofs.typing.WalkedTypes.{later_length, later_more, later_none, list_from}
-use Rattle.lb_check.proofs.typing.WalkedTypes.{list_one}
-use Rattle.lb_check.proofs.typing.WalkedTypes.{noted_all, noted_more, noted_none, pair_one}
-use Rattle.lb_check.proofs.typing.WalkedTypes.{returns_given}
-use Rattle.lb_check.proofs.typing.WalkedTypes.{returns_group, returns_one, single_from, single_one}
+use Rattle.lb_check.specs.{PlacedTypes.IsRowWalked, TermSignatures.signature}
+use Rattle.lb_check.proofs.{definitions.BrokenRules.if_found, typing.SignatureRows.calls_are}
+use Rattle.lb_check.proofs.typing.SignatureRows.{fits_end, fits_more, fits_start, like_next}
+use Rattle.lb_check.proofs.typing.TypeRows.{pair_type, choice_placed, operand_placed}
+use Rattle.lb_check.proofs.typing.{TypeRows.{operands_placed, row_placed}, WalkedTypes.list_decided}
+use Rattle.lb_check.proofs.typing.WalkedTypes.{row_decided, choice_one, choice_type, further, later}
+use Rattle.lb_check.proofs.typing.WalkedTypes.{later_all, later_length, later_more, later_none}
+use Rattle.lb_check.proofs.typing.WalkedTypes.{list_from, list_one, noted_all, noted_more}
+use Rattle.lb_check.proofs.typing.WalkedTypes.{noted_none, pair_one, returns_given, returns_group}
+use Rattle.lb_check.proofs.typing.WalkedTypes.{returns_one, single_from, single_one}
 use Rattle.lb_check.proofs.types.+walking.Goals as goal
 
 -- ## The elements of a list

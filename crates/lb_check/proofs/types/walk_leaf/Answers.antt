@@ -1,6 +1,6 @@
 use Rattle.lb_check.proofs.Words.{[], refl, ◌∙◌, option_map, view_type, kept_in, context_in}
-use Rattle.lb_check.proofs.typing.TypeWalks.{leaf_placed}
-use Rattle.lb_check.proofs.typing.WalkedTypes.{leaf_is, leaf_one, returns_one}
+use Rattle.lb_check.proofs.typing.{TypeRows.leaf_placed, WalkedTypes.{leaf_is, leaf_one}}
+use Rattle.lb_check.proofs.typing.WalkedTypes.{returns_one}
 use Rattle.lb_check.proofs.types.walk_leaf.Goals as goal
 
 pub returns : goal.returns

@@ -1,7 +1,6 @@
 use Rattle.lb_check.proofs.Words.{◌+◌, rules, sym, ap, ◌∙◌, subst, with_items_is, places}
-use Rattle.lb_check.proofs.definitions.UsedNodes.{AreFirst, AreThere, added_first, added_there}
-use Rattle.lb_check.proofs.definitions.UsedNodes.{known_first}
-use Rattle.lb_check.proofs.definitions.UsedNodes.{known_there}
+use Rattle.lb_check.proofs.typing.Specializations.{AreFirst, AreThere, added_first, added_there}
+use Rattle.lb_check.proofs.typing.Specializations.{known_first, known_there}
 use Rattle.lb_check.proofs.used_nodes.used_nodes.Goals.{then-flag+in_ok-push, else-flag}
 use Rattle.lb_check.proofs.used_nodes.used_nodes.Goals as goal
 

@@ -1,4 +1,4 @@
-use Rattle.lb_check.proofs.definitions.UsedNodes.{AreFirst, AreThere}
+use Rattle.lb_check.proofs.typing.Specializations.{AreFirst, AreThere}
 use Rattle.lb_check.proofs.used_nodes.used_nodes.Given as goal
 
 abbrev pub invariant-loop-specialization : goal.invariant-loop-specialization

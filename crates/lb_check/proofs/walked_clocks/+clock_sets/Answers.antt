@@ -1,12 +1,10 @@
 use Rattle.lb_check.proofs.Words.{◌≡◌, [], ◌++◌, ap, subst, ◌∙◌, rules, variable_of, both}
 use Rattle.lb_check.proofs.Words.{row_clock_set, IsRowWalked, OneClock}
-use Rattle.lb_check.specs.StoredClocks.{context_in}
-use Rattle.lb_check.specs.WalkedClocks.{IsWalked}
+use Rattle.lb_check.specs.{StoredClocks.context_in, WalkedClocks.IsWalked}
 use Rattle.lb_check.proofs.clocking.WalkedClocks.{row_end, row_more, row_start, walked_call}
-use Rattle.lb_check.proofs.clocking.WalkedClocks.{walked_choice}
-use Rattle.lb_check.proofs.clocking.WalkedClocks.{walked_current, walked_free, walked_pair}
-use Rattle.lb_check.proofs.clocking.WalkedClocks.{walked_plain}
-use Rattle.lb_check.proofs.clocking.WalkedClocks.{walked_row, walked_variable}
+use Rattle.lb_check.proofs.clocking.WalkedClocks.{walked_choice, walked_current, walked_free}
+use Rattle.lb_check.proofs.clocking.WalkedClocks.{walked_pair, walked_plain, walked_row}
+use Rattle.lb_check.proofs.clocking.WalkedClocks.{walked_variable}
 use Rattle.lb_check.proofs.walked_clocks.+clock_sets.Goals as goal
 
 -- ## Rows

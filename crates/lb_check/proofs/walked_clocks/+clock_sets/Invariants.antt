@@ -1,5 +1,4 @@
-use Rattle.lb_check.specs.StoredClocks.{context_in}
-use Rattle.lb_check.proofs.clocking.WalkedClocks.{AreWalked}
+use Rattle.lb_check.{specs.StoredClocks.context_in, proofs.clocking.WalkedClocks.AreWalked}
 use Rattle.lb_check.proofs.walked_clocks.+clock_sets.Given as goal
 
 abbrev pub invariant-walk_all-loop-seen : goal.invariant-walk_all-loop-seen

@@ -1,4 +1,4 @@
-use Rattle.std.proofs.Common.{rules}
+use Rattle.lb_flat.proofs.Words.{rules}
 use Rattle.lb_flat.proofs.cell.chosen_cell.Goals as goal
 
 pub returns-in_default : goal.returns-in_default

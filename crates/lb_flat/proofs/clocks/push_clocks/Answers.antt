@@ -1,7 +1,6 @@
 -- Each pass adds the clocks of one variable.
-use Rattle.std.proofs.Common.{◌++◌, get_or, ap, ap₂, ◌∙◌}
-use Rattle.lb_flat.specs.TableClocks.{clock_id, no_element, signed_clocks, variable_clocks}
-use Rattle.lb_flat.proofs.numbering.AddedPieces.{items_added}
+use Rattle.lb_flat.proofs.Words.{◌++◌, get_or, ap, ap₂, ◌∙◌, clock_id, no_element, variable_clocks}
+use Rattle.lb_flat.{specs.TableClocks.signed_clocks, proofs.clock_tables.AddedClocks.items_added}
 use Rattle.lb_flat.proofs.clocks.push_clocks.Goals as goal
 
 pub loop-x-preserved : goal.loop-x-preserved

@@ -1,7 +1,7 @@
 -- Each pass adds what serves for one variable.
 use Rattle.lb_flat.proofs.Words.{◌≡◌, ◌∷◌, ◌++◌, [], length, map, take, ap, ◌∙◌, rules}
 use Rattle.lb_flat.proofs.Words.{range_with_len, sources_of, serving_element}
-use Rattle.lb_flat.proofs.numbering.AddedPieces.{item_added, front_taken}
+use Rattle.lb_flat.proofs.clock_tables.AddedClocks.{item_added, front_taken}
 use Rattle.lb_flat.proofs.clocks.push_serving.Goals as goal
 
 pub loop-x-preserved : goal.loop-x-preserved

@@ -1,7 +1,6 @@
 -- Each pass adds the clocks of one row.
 use Rattle.lb_flat.proofs.Words.{◌++◌, ◌<◌, length, ap, ◌∙◌, rules, listed, node_clocks}
-use Rattle.lb_flat.specs.TableClocks.{row_clocks}
-use Rattle.lb_flat.proofs.numbering.AddedPieces.{next_added}
+use Rattle.lb_flat.{specs.TableClocks.row_clocks, proofs.clock_tables.AddedClocks.next_added}
 use Rattle.lb_static.specs.declared.table.Instance as row
 use Rattle.lb_flat.proofs.clocks.table_clocks.Goals as goal
 

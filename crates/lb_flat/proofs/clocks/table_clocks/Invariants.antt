@@ -1,4 +1,4 @@
-use Rattle.std.proofs.Common.{◌≡◌, take}
+use Rattle.lb_flat.proofs.Words.{◌≡◌, take}
 use Rattle.lb_flat.specs.TableClocks.{table_clocks}
 use Rattle.lb_flat.proofs.clocks.table_clocks.Given as goal
 

@@ -1,7 +1,6 @@
 -- Each pass adds the clock on which one row runs.
 use Rattle.lb_flat.proofs.Words.{◌≡◌, ◌∷◌, ◌++◌, ◌<◌, [], length, get_or, ap, ◌∙◌, subst, rules}
-use Rattle.lb_flat.proofs.Words.{Table, sources_of, row_runs}
-use Rattle.lb_flat.proofs.numbering.AddedPieces.{next_added}
+use Rattle.lb_flat.proofs.{Words.{Table, sources_of, row_runs}, clock_tables.AddedClocks.next_added}
 use Rattle.lb_static.specs.declared.table.Instance as row
 use Rattle.lb_flat.proofs.clocks.table_runs.Goals as goal
 

@@ -1,7 +1,6 @@
 -- Each pass adds what serves for the variables of one row.
 use Rattle.lb_flat.proofs.Words.{◌≡◌, ◌++◌, ◌<◌, length, get_or, ap, ◌∙◌, subst, rules, Table}
-use Rattle.lb_flat.proofs.Words.{sources_of, row_serving}
-use Rattle.lb_flat.proofs.numbering.AddedPieces.{next_added}
+use Rattle.lb_flat.proofs.{Words.{sources_of, row_serving}, clock_tables.AddedClocks.next_added}
 use Rattle.lb_static.specs.declared.table.Instance as row
 use Rattle.lb_flat.proofs.clocks.table_serving.Goals as goal
 

@@ -1,7 +1,6 @@
 -- Room that is restarted holds the prepared state.
 use Rattle.lb_flat.proofs.Words.{◌∙◌, flat_equations}
-use Rattle.lb_flat.proofs.ordering.InOrder.{ready_of}
-use Rattle.lb_flat.proofs.runs.Starting.{started}
+use Rattle.lb_flat.proofs.{ordering.Ordering.ready_of, runs.Starting.started}
 use Rattle.lb_flat.proofs.evaluate.evaluate.Goals as goal
 
 pub run-requires : goal.run-requires

@@ -1,5 +1,4 @@
-use Rattle.lb_flat.specs.Programs.{program_of}
-use Rattle.lb_flat.proofs.runs.Evaluating.{IsEvaluating}
+use Rattle.lb_flat.proofs.{Words.program_of, runs.Evaluating.IsEvaluating}
 use Rattle.lb_flat.proofs.evaluate.run.Given as goal
 
 abbrev pub invariant-loop-t : goal.invariant-loop-t

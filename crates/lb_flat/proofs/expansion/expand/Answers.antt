@@ -1,8 +1,7 @@
 -- A program that the layout finds too large is not small; a small one has its expansion.
 use Rattle.lb_flat.proofs.Words.{◌<◌, ◌∙◌, Err, ap, ap₂, subst, elaborated_program, program_of}
 use Rattle.lb_flat.proofs.Words.{element_total}
-use Rattle.lb_flat.proofs.runs.RightVerdicts.{stands_for}
-use Rattle.lb_flat.proofs.widths.TableSizes.{too_many}
+use Rattle.lb_flat.proofs.{solutions.StandingRuns.stands_for, widths.TableSizes.too_many}
 use Rattle.lb_flat.proofs.expansion.expand.Goals as goal
 
 pub size_fault-requires : goal.size_fault-requires

@@ -2,8 +2,7 @@
 use Rattle.lb_flat.proofs.Words.{◌≡◌, ℕ, ap, ap₂, refl, rules, sym, subst, ◌∙◌, elaborated_program}
 use Rattle.lb_flat.proofs.Words.{kinds_of, Table, IsBounded, IsExpansionOf, program_of, table_kinds}
 use Rattle.lb_flat.proofs.Words.{called_row, child_row, all_clocks, sources_of, AreClocks, Clocks}
-use Rattle.std.specs.Prelude.{false, true}
-use Rattle.std.proofs.lemmas.Result.{IfOk-weaker as then_ok}
+use Rattle.lb_flat.proofs.Words.{false, true, then_ok}
 use Rattle.lb_flat.specs.declared.layout.Layout.{Layout}
 use Rattle.lb_flat.proofs.clock_tables.ClockEntries.{filled_few, filled_whole}
 use Rattle.lb_flat.proofs.frames.ReadyProgram.{both_ok, emits_bounded, first_there, frame_emittable}

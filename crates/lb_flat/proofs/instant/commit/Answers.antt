@@ -1,4 +1,4 @@
-use Rattle.std.proofs.Common.{◌<◌, refl, subst, sym, length-set, get_or}
+use Rattle.lb_flat.proofs.Words.{◌<◌, refl, subst, sym, length-set, get_or}
 use Rattle.lb_flat.proofs.runs.Steps.{places_there, commit_step, within_step, all_committed}
 use Rattle.lb_flat.proofs.instant.commit.Goals as goal
 

@@ -1,5 +1,4 @@
-use Rattle.lb_flat.proofs.Words.{◌<◌, length, All, IsWithin}
-use Rattle.lb_flat.proofs.runs.Steps.{IsCommitting}
+use Rattle.lb_flat.proofs.{Words.{◌<◌, length, All, IsWithin}, runs.Steps.IsCommitting}
 use Rattle.lb_flat.proofs.instant.commit.Given as goal
 
 abbrev pub invariant-loop-i : goal.invariant-loop-i

@@ -1,9 +1,7 @@
 use Rattle.lb_flat.proofs.Words.{[], ◌+◌, List, None, get_or, sym, subst, equation_of, clock_of}
-use Rattle.lb_flat.specs.declared.cell.Cell.{Cell}
-use Rattle.lb_flat.specs.declared.equation.Equation.{Equation}
-use Rattle.lb_flat.specs.declared.equation.Operation.TheVariants.{Input}
+use Rattle.lb_flat.proofs.{Words.Cell, instant.compute.Goals.{in-Some, in_default}}
 use Rattle.lb_flat.proofs.runs.Steps.{IsFilling, fill_step, all_filled}
-use Rattle.lb_flat.proofs.instant.compute.Goals.{in-Some, in_default}
+use Rattle.lb_flat.specs.declared.equation.{Equation.Equation, Operation.TheVariants.Input}
 use Rattle.lb_flat.proofs.instant.compute.Goals as goal
 
 pub loop-i-preserved : goal.loop-i-preserved

@@ -1,5 +1,4 @@
-use Rattle.lb_flat.proofs.Words.{[], equation_of}
-use Rattle.lb_flat.proofs.runs.Steps.{IsFilling}
+use Rattle.lb_flat.proofs.{Words.{[], equation_of}, runs.Steps.IsFilling}
 use Rattle.lb_flat.proofs.instant.compute.Given as goal
 
 abbrev pub invariant-loop-i : goal.invariant-loop-i

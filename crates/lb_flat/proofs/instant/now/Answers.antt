@@ -1,4 +1,4 @@
-use Rattle.std.proofs.Common.{rules}
+use Rattle.lb_flat.proofs.Words.{rules}
 use Rattle.lb_flat.proofs.instant.now.Goals as goal
 
 pub returns-in-Latest : goal.returns-in-Latest

@@ -1,4 +1,4 @@
-use Rattle.std.proofs.Common.{rules}
+use Rattle.lb_flat.proofs.Words.{rules}
 use Rattle.lb_flat.proofs.instant.remember.Goals as goal
 
 pub returns-in-Previous : goal.returns-in-Previous

@@ -1,5 +1,4 @@
-use Rattle.std.proofs.Common.{sym, ◌∙◌}
-use Rattle.lb_flat.proofs.runs.Steps.{finds_bad, looks_on, finds_none}
+use Rattle.lb_flat.proofs.{Words.{sym, ◌∙◌}, runs.Steps.{finds_bad, looks_on, finds_none}}
 use Rattle.lb_flat.proofs.instant_verdict.first_bad.Goals as goal
 
 pub returns-then-is_bad : goal.returns-then-is_bad

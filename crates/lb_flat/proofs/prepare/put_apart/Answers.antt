@@ -1,12 +1,12 @@
 -- The next equation is put among the inputs, among the steps, or nowhere.
-use Rattle.std.proofs.Common.{◌≡◌, ◌+◌, length, ap, sym, ◌∙◌, rules}
-use Rattle.lb_flat.proofs.runs.Preparing.{apart_same, input_put, step_put, constant_passed_over}
-use Rattle.lb_flat.proofs.runs.Preparing.{one_memory_more, no_memory_more}
-use Rattle.lb_flat.proofs.prepare.put_apart.Goals as goal
+use Rattle.lb_flat.proofs.Words.{◌≡◌, ◌+◌, length, ap, sym, ◌∙◌, rules}
 use Rattle.lb_flat.proofs.prepare.put_apart.Goals.{in-Input+in_ok-push}
 use Rattle.lb_flat.proofs.prepare.put_apart.Goals.{in_default+then-is_step+in_ok-push-3}
 use Rattle.lb_flat.proofs.prepare.put_apart.Goals.{then-has_memory+in_ok-push-2, else-has_memory}
-use Rattle.lb_flat.proofs.prepare.put_apart.Goals.{in_default+else-is_step}
+use Rattle.lb_flat.proofs.{prepare.put_apart.Goals.in_default+else-is_step, runs.Steps.apart_same}
+use Rattle.lb_flat.proofs.runs.Steps.{input_put, step_put, constant_passed_over, one_memory_more}
+use Rattle.lb_flat.proofs.runs.Steps.{no_memory_more}
+use Rattle.lb_flat.proofs.prepare.put_apart.Goals as goal
 
 pub loop-i-preserved : goal.loop-i-preserved
 loop-i-preserved c =

@@ -1,4 +1,4 @@
-use Rattle.lb_flat.proofs.runs.Preparing.{AreApart}
+use Rattle.lb_flat.proofs.runs.Steps.{AreApart}
 use Rattle.lb_flat.proofs.prepare.put_apart.Given as goal
 
 abbrev pub invariant-loop-i : goal.invariant-loop-i

@@ -1,10 +1,8 @@
 use Rattle.lb_flat.proofs.Words.{◌≡◌, ◌+◌, [], is_some, List, drop, length, map, ap, sym, subst}
 use Rattle.lb_flat.proofs.Words.{◌∙◌, arith, drop_of_length-le, fixed_in, AreFixed, flat_equations}
-use Rattle.lb_flat.proofs.Words.{filled, cell_of, length-map}
-use Rattle.lb_flat.specs.declared.cell.Cell.{Cell}
-use Rattle.lb_flat.proofs.runs.FixedCells.{constants_set}
-use Rattle.lb_flat.proofs.runs.Preparing.{constant_set, constant_passed}
+use Rattle.lb_flat.proofs.Words.{filled, cell_of, length-map, Cell}
 use Rattle.lb_flat.proofs.prepare.set_constants.Goals.{in-Some, in_default}
+use Rattle.lb_flat.proofs.runs.{Evaluating.constants_set, Steps.{constant_set, constant_passed}}
 use Rattle.lb_flat.proofs.prepare.set_constants.Goals as goal
 
 pub loop-i-preserved : goal.loop-i-preserved

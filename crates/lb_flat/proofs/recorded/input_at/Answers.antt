@@ -2,19 +2,14 @@
 use Rattle.lb_flat.proofs.Words.{rules, ℕ, ◌≡◌, ◌<◌, ◌≤◌, ◌∙◌, [], List, ℤ, Some, None, pos, get_or}
 use Rattle.lb_flat.proofs.Words.{length, ap, sym, refl, arith, true, false, inl, inr, get_or-map}
 use Rattle.lb_flat.proofs.Words.{zip2, Kind, Int, kinds_of, Boolean, scalar_in, scalars_in}
-use Rattle.lb_flat.proofs.Words.{inputs_of, Recording, IsRecording, IsCell, trace_at}
-use Rattle.std.proofs.Common.{w32, slice_get, Bool as Truth}
-use Rattle.std.proofs.lemmas.Bool.{true≢false}
-use Rattle.std.specs.Prelude.{int_le, ◌↔◌, IsTrue}
-use Rattle.std.proofs.lemmas.Int.{to_z-of_z}
-use Rattle.std.proofs.lemmas.List.{get_or_default}
+use Rattle.lb_flat.proofs.Words.{inputs_of, Recording, IsRecording, IsCell, trace_at, ◌↔◌}
+use Rattle.lb_flat.proofs.{Words.slice_get, runs.RecordedInputs.{scalar_there, no_scalar}}
 use mir.Val.{SFits}
-use Rattle.lb_syntax.specs.declared.tree.Kind.TheVariants.{Bool}
-use Rattle.lb_traces.specs.Traces.{IsRow, cell_at}
-use Rattle.lb_traces.proofs.HeldRows.{length-kinds, lawful_cell}
-use Rattle.lb_flat.proofs.runs.RecordedInputs.{scalar_there, no_scalar}
-use Rattle.lb_traces.proofs.RowsFound.{row_follows}
-use Rattle.lb_traces.proofs.Storing.{length-row}
+use Rattle.std.{specs.Prelude.{int_le, IsTrue}, proofs.Common.{w32, Bool as Truth}}
+use Rattle.std.proofs.lemmas.{Bool.true≢false, Int.to_z-of_z, List.get_or_default}
+use Rattle.{lb_syntax.specs.declared.tree.Kind.TheVariants.Bool, lb_traces.specs.Traces.IsRow}
+use Rattle.lb_traces.{specs.Traces.cell_at, proofs.HeldRows.{length-kinds, lawful_cell}}
+use Rattle.lb_traces.proofs.{RowsFound.row_follows, Storing.length-row}
 use Rattle.lb_flat.proofs.recorded.input_at.Goals as goal
 
 -- a Boolean is true exactly where its cell is 1

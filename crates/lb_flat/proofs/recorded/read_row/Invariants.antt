@@ -1,5 +1,4 @@
-use Rattle.lb_flat.proofs.Words.{[], get_or, inputs_of, place_equation}
-use Rattle.lb_flat.proofs.runs.Steps.{IsFilling}
+use Rattle.lb_flat.proofs.{Words.{[], get_or, inputs_of, place_equation}, runs.Steps.IsFilling}
 use Rattle.lb_flat.proofs.recorded.read_row.Given as goal
 
 abbrev pub invariant-loop-i : goal.invariant-loop-i

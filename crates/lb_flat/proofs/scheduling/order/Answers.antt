@@ -1,17 +1,12 @@
 -- The scheduled equations are the equations of the program, in order.
 use Rattle.lb_flat.proofs.Words.{List, refl, err_from_is_err_and, IsOrderOf, AreOrdered}
 use Rattle.lb_flat.proofs.Words.{flat_equations, numbers_of, program_of}
-use Rattle.lb_flat.specs.Correct.{IsCycleFound}
-use Rattle.lb_flat.specs.CyclicPrograms.{AreOfCyclic}
-use Rattle.lb_flat.specs.declared.equation.Equation.{Equation}
-use Rattle.lb_flat.specs.declared.error.OrderError.{OrderError}
+use Rattle.lb_flat.specs.{Correct.IsCycleFound, CyclicPrograms.AreOfCyclic}
+use Rattle.lb_flat.specs.declared.{equation.Equation.Equation, error.OrderError.OrderError}
 use Rattle.lb_flat.specs.declared.error.OrderError.TheVariants.{Memory, Cycle}
 use Rattle.lb_flat.specs.declared.program.FlatProgram.{FlatProgram}
-use Rattle.lb_flat.proofs.ordering.Certificates.{cyclic_of}
-use Rattle.lb_flat.proofs.ordering.ExpansionReads.{expansion_causal}
-use Rattle.lb_flat.proofs.ordering.InOrder.{ready_of}
-use Rattle.lb_flat.proofs.ordering.OrderedExpansions.{expansion_in_order}
-use Rattle.lb_flat.proofs.runs.RightVerdicts.{stands_in_order}
+use Rattle.lb_flat.proofs.ordering.{Ordering.ready_of, ReadCycles.{cyclic_of, expansion_causal}}
+use Rattle.lb_flat.proofs.solutions.StandingRuns.{expansion_in_order, stands_in_order}
 use Rattle.lb_flat.proofs.solutions.StandingRuns.{flat_in_order, standing_determined}
 use Rattle.lb_flat.specs.Judging as judging
 use Rattle.lb_flat.proofs.scheduling.order.Goals as goal

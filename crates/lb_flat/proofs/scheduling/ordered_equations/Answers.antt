@@ -1,6 +1,5 @@
-use Rattle.std.proofs.lemmas.Result.{IfOk-weaker}
-use Rattle.lb_flat.specs.Ordering.{AreOrdered, AreScheduled}
-use Rattle.lb_flat.proofs.ordering.Tables.{are_ordered}
+use Rattle.lb_flat.proofs.Words.{AreOrdered, AreScheduled}
+use Rattle.{std.proofs.lemmas.Result.IfOk-weaker, lb_flat.proofs.ordering.Tables.are_ordered}
 use Rattle.lb_flat.proofs.scheduling.ordered_equations.Goals as goal
 
 pub scheduled-requires-clause-table : goal.scheduled-requires-clause-table

@@ -2,8 +2,7 @@
 use Rattle.lb_flat.proofs.Words.{◌≡◌, ◌≤◌, Some, map, length, refl, ap, ap₂, sym, subst, ◌∙◌}
 use Rattle.lb_flat.proofs.Words.{slice_get, slice_get_past, slice_get_read, listed, ResolvedNode}
 use Rattle.lb_flat.proofs.Words.{declared_width, sum_of, widths_in, widths_of, Counts}
-use Rattle.lb_flat.proofs.widths.CountedSizes.{nothing_counted}
-use Rattle.lb_flat.proofs.numbering.StoredLayouts.{sum_mapped}
+use Rattle.lb_flat.proofs.{numbering.StoredLayouts.sum_mapped, widths.TableSizes.nothing_counted}
 use Rattle.lb_flat.proofs.table_size.row_variables.Goals as goal
 
 pub returns-in-None : goal.returns-in-None

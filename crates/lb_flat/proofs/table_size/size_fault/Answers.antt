@@ -1,7 +1,7 @@
 -- The size that is reported is counted, or known to be too large.
 use Rattle.lb_flat.proofs.Words.{◌∙◌, ap, ap₂, length, refl, subst, sym, element_total, Counts}
 use Rattle.lb_flat.proofs.Words.{lent_size, term_total, Table}
-use Rattle.lb_flat.proofs.widths.CountedSizes.{both_over, variables_over}
+use Rattle.lb_flat.proofs.widths.TableSizes.{both_over, variables_over}
 use Rattle.lb_flat.proofs.table_size.size_fault.Goals as goal
 
 pub returns-in-Some : goal.returns-in-Some

@@ -1,6 +1,5 @@
 -- Each pass adds the kind of one equation.
-use Rattle.std.proofs.Common.{refl}
-use Rattle.lb_flat.proofs.fits.KindsFrom.{kind_next}
+use Rattle.lb_flat.proofs.{Words.refl, fits.KindFacts.kind_next}
 use Rattle.lb_flat.proofs.temporary_kinds.temporary_kinds.Goals as goal
 
 pub loop-equation-preserved : goal.loop-equation-preserved

@@ -1,5 +1,4 @@
-use Rattle.lb_flat.proofs.Words.{◌≡◌, ◌++◌, List, map, take, kinds_from, equation_of}
-use Rattle.lb_flat.specs.declared.equation.Clock.{Clock}
+use Rattle.lb_flat.proofs.Words.{◌≡◌, ◌++◌, List, map, take, kinds_from, equation_of, Clock}
 use Rattle.lb_flat.proofs.temporary_kinds.temporary_kinds.Given as goal
 
 abbrev pub invariant-loop-equation : goal.invariant-loop-equation

@@ -1,7 +1,6 @@
 -- The verdict of the flat program is that of the program.
 use Rattle.lb_flat.proofs.Words.{[], inputs_of, program_of, Ready}
-use Rattle.lb_flat.specs.declared.prepared.Prepared.{Prepared}
-use Rattle.lb_flat.proofs.ordering.InOrder.{ready_of}
+use Rattle.lb_flat.{specs.declared.prepared.Prepared.Prepared, proofs.ordering.Ordering.ready_of}
 use Rattle.lb_flat.proofs.runs.RecordedInputs.{trace_given}
 use Rattle.lb_flat.proofs.solutions.StandingRuns.{standing_determined, standing_recorded}
 use Rattle.lb_flat.proofs.trace_run.eval_prepared.Goals as goal

@@ -1,4 +1,4 @@
-use Rattle.std.proofs.Common.{◌≡◌, ◌++◌, replicate}
+use Rattle.lb_flat.proofs.Words.{◌≡◌, ◌++◌, replicate}
 use Rattle.lb_flat.proofs.variable_kinds.push_kind.Given as goal
 
 abbrev pub invariant-loop-copy : goal.invariant-loop-copy

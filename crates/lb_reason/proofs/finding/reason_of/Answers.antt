@@ -1,7 +1,7 @@
 use Rattle.std.proofs.Common.{◌<◌, ◌≤◌, arith, length, sym}
 use Rattle.lb_flat.specs.Programs.{program_of}
 use Rattle.lb_traces.specs.Traces.{trace_at}
-use Rattle.lb_flat.proofs.runs.RightVerdicts.{ordered_ready}
+use Rattle.lb_flat.proofs.solutions.StandingRuns.{ordered_ready}
 use Rattle.lb_reason.proofs.Steps.{none_first, none_past, steps_are}
 use Rattle.lb_reason.proofs.finding.reason_of.Goals as goal
 

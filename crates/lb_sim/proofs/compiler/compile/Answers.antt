@@ -1,5 +1,5 @@
 use Rattle.std.proofs.Common.{◌≤◌, ◌∙◌, [], length, sym, subst, rules}
-use Rattle.lb_flat.proofs.ordering.InOrder.{ready_of}
+use Rattle.lb_flat.proofs.ordering.Ordering.{ready_of}
 use Rattle.lb_flat.specs.Programs.{flat_equations, program_of}
 use Rattle.lb_sim.specs.Steady.{IsTableOf}
 use Rattle.lb_sim.proofs.Assembled.{code_within}

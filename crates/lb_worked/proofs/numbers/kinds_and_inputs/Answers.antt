@@ -1,5 +1,5 @@
-use Rattle.lb_check.proofs.programs.ElementKinds.{kinds_at_numbers, length_kinds}
-use Rattle.lb_check.proofs.programs.InputNumbers.{input_numbers, input_kinds_taken}
+use Rattle.lb_check.proofs.programs.AcceptedElements.{kinds_at_numbers, length_kinds, input_numbers}
+use Rattle.lb_check.proofs.programs.AcceptedElements.{input_kinds_taken}
 use Rattle.lb_worked.proofs.numbers.kinds_and_inputs.Goals as goal
 
 pub returns : goal.returns

@@ -1,5 +1,5 @@
-use Rattle.lb_check.proofs.programs.AcceptedNumbers.{numbers_walk, numbers_width, number_is}
-use Rattle.lb_check.proofs.programs.AcceptedNumbers.{number_of}
+use Rattle.lb_check.proofs.programs.AcceptedElements.{numbers_walk, numbers_width, number_is}
+use Rattle.lb_check.proofs.programs.AcceptedElements.{number_of}
 use Rattle.lb_worked.proofs.numbers.numbers_and_places.Goals as goal
 
 pub returns : goal.returns

@@ -1,4 +1,4 @@
-use Rattle.std.proofs.Common.{rules}
+use Rattle.lb_check.proofs.Words.{rules}
 use Rattle.lb_check.proofs.clock_set.ClockSet.both.Goals as goal
 
 pub returns-then-is_same : goal.returns-then-is_same

@@ -1,7 +1,7 @@
-use Rattle.lb_check.proofs.Words.{Some, ap, length, sym, ◌∙◌, ◌&&◌, ◌==◌, nat_le, reverse}
-use Rattle.lb_check.specs.TermSignatures.{are_one, arrays, elements_in, type_at}
-use Rattle.lb_check.proofs.typing.TypeLists.{outermost}
-use Rattle.lb_check.proofs.typing.WantedTypes.{array_is, scalar_is_none}
+use Rattle.lb_check.proofs.Words.{Some, ap, length, sym, ◌∙◌, ◌&&◌, ◌==◌, nat_le, reverse, are_one}
+use Rattle.lb_check.proofs.Words.{arrays, type_at}
+use Rattle.lb_check.{specs.TermSignatures.elements_in, proofs.typing.SignatureRows.array_is}
+use Rattle.lb_check.proofs.typing.{SignatureRows.scalar_is_none, TypeRows.outermost}
 use Rattle.lb_check.proofs.signature.Elements.is_array_at.Goals as goal
 
 pub returns-in-Some : goal.returns-in-Some

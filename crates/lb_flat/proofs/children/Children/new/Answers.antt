@@ -1,9 +1,9 @@
 -- Each pass keeps the next row under its call, unless it is a start or a row was kept there.
-use Rattle.std.proofs.Common.{◌+◌, ◌<◌, take, length, sym, subst, ◌∙◌, rules}
-use Rattle.lb_flat.proofs.numbering.StoredCalls.{HasCalls, start_passed, again_passed, call_added}
-use Rattle.lb_flat.proofs.children.Children.new.Goals as goal
+use Rattle.lb_flat.proofs.Words.{◌+◌, ◌<◌, take, length, sym, subst, ◌∙◌, rules}
 use Rattle.lb_flat.proofs.children.Children.new.Goals.{in-Called+then-not-contains_key+in_ok-insert}
 use Rattle.lb_flat.proofs.children.Children.new.Goals.{in-Called+else-not-contains_key, in_default}
+use Rattle.lb_flat.proofs.numbering.RowChildren.{HasCalls, start_passed, again_passed, call_added}
+use Rattle.lb_flat.proofs.children.Children.new.Goals as goal
 
 pub loop-row-preserved : goal.loop-row-preserved
 loop-row-preserved c =

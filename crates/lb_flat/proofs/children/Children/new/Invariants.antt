@@ -1,5 +1,4 @@
-use Rattle.std.proofs.Common.{take}
-use Rattle.lb_flat.proofs.numbering.StoredCalls.{HasCalls}
+use Rattle.lb_flat.proofs.{Words.take, numbering.RowChildren.HasCalls}
 use Rattle.lb_flat.proofs.children.Children.new.Given as goal
 
 abbrev pub invariant-loop-row : goal.invariant-loop-row

@@ -1,8 +1,7 @@
 -- The clocks that are filled are the table of clocks of the program, and in range.
 use Rattle.lb_flat.proofs.Words.{◌≡◌, sym, subst, rules, sources_of, all_clocks, all_runs}
 use Rattle.lb_flat.proofs.Words.{AreClocks}
-use Rattle.lb_flat.proofs.clock_tables.ClockEntries.{filled_within}
-use Rattle.lb_flat.proofs.clock_tables.FilledFrom.{clocks_filled}
+use Rattle.lb_flat.proofs.{clock_tables.ClockEntries.filled_within, frames.FramedRows.clocks_filled}
 use Rattle.lb_flat.proofs.clocks.Clocks.new.Goals as goal
 
 pub returns-clause-lawful : goal.returns-clause-lawful

@@ -1,4 +1,4 @@
-use Rattle.std.proofs.Common.{◌≡◌, length}
+use Rattle.lb_flat.proofs.Words.{◌≡◌, length}
 use Rattle.lb_flat.proofs.cycle_places.Places.cycle.Given as goal
 
 abbrev pub invariant-loop-element : goal.invariant-loop-element

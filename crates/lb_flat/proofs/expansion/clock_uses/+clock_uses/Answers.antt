@@ -1,9 +1,9 @@
 use Rattle.lb_flat.proofs.Words.{◌≡◌, ◌++◌, ◌∷◌, [], ℕ, List, OnOk, refl, sym, ap, ap₂, subst, ◌∙◌}
 use Rattle.lb_flat.proofs.Words.{append-nil, Term, whens_in, whens_in_all}
-use Rattle.lb_flat.proofs.numbering.RowKinds.{piece_added}
-use Rattle.lb_flat.proofs.clock_tables.UsedClocks.{single_whens, group_whens, when_whens}
-use Rattle.lb_flat.proofs.clock_tables.UsedClocks.{pair_whens, if_whens}
-use Rattle.lb_flat.proofs.clock_tables.UsedClocks.{row_whens, leaf_whens, tail_added}
+use Rattle.lb_flat.proofs.clock_tables.ServingClocks.{single_whens, group_whens, when_whens}
+use Rattle.lb_flat.proofs.clock_tables.ServingClocks.{pair_whens, if_whens, row_whens, leaf_whens}
+use Rattle.lb_flat.proofs.clock_tables.ServingClocks.{tail_added}
+use Rattle.lb_flat.proofs.numbering.RowInstances.{piece_added}
 use Rattle.lb_flat.proofs.expansion.clock_uses.+clock_uses.Goals as goal
 
 pub push_term-returns-in-Literal : goal.push_term-returns-in-Literal

@@ -1,5 +1,5 @@
 use Rattle.lb_flat.proofs.Words.{Bool, List, [], length, sym, subst, HasFlags}
-use Rattle.lb_flat.proofs.clock_tables.UsedClocks.{no_flag}
+use Rattle.lb_flat.proofs.clock_tables.ServingClocks.{no_flag}
 use Rattle.lb_flat.proofs.expansion.clock_uses.mark.Goals as goal
 
 pub loop-name-init : goal.loop-name-init

@@ -2,13 +2,10 @@ use Rattle.lb_flat.proofs.Words.{◌≡◌, ◌<◌, ◌^◌, ℕ, Bool, List, �
 use Rattle.lb_flat.proofs.Words.{sym, ap, ap₂, subst, subst₂, ◌∙◌, Every, State, before_instances}
 use Rattle.lb_flat.proofs.Words.{bodies, IsCounted, HasRows, Context, emit_rows, kinds_from}
 use Rattle.lb_flat.proofs.Words.{FlatProgram, numbers_of, flat_equations, program_of, state_of}
-use Rattle.lb_flat.proofs.Words.{IsWithin, AreClocks}
-use Rattle.std.proofs.lemmas.Result.{IfOk-weaker as then_ok}
-use Rattle.lb_flat.specs.declared.equation.Clock.{Clock}
-use Rattle.lb_flat.proofs.emission.EmittedBeginning.{clocks_later, kinds_counted, whole_made}
-use Rattle.lb_flat.proofs.emission.EmittedNumbers.{rows_grow}
-use Rattle.lb_flat.proofs.emission.EmittedStacks.{equations_later}
-use Rattle.lb_flat.proofs.emission.Emitting.{elements_later}
+use Rattle.lb_flat.proofs.Words.{IsWithin, AreClocks, then_ok, Clock}
+use Rattle.lb_flat.proofs.emission.EmittedProgram.{clocks_later, kinds_counted, whole_made}
+use Rattle.lb_flat.proofs.emission.EmittedStacks.{equations_later, elements_later}
+use Rattle.lb_flat.proofs.emission.TermSteps.{rows_grow}
 use Rattle.lb_flat.proofs.expansion.whole_emission.emit_program.Goals as goal
 
 pub rows-requires-clause-clocks : goal.rows-requires-clause-clocks

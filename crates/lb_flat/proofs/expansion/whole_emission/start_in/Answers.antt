@@ -1,6 +1,5 @@
-use Rattle.lb_flat.proofs.Words.{◌<◌, length, arith, Some, None, sym, ap, ◌∙◌, start_in}
-use Rattle.std.specs.Prelude.{option_map}
-use Rattle.lb_flat.proofs.emission.EmittedStarts.{start_passed, start_here, start_end}
+use Rattle.lb_flat.proofs.Words.{◌<◌, length, arith, Some, None, sym, ap, ◌∙◌, start_in, option_map}
+use Rattle.lb_flat.proofs.emission.EmittedCalls.{start_passed, start_here, start_end}
 use Rattle.lb_flat.proofs.expansion.whole_emission.start_in.Goals as goal
 
 pub loop-row-preserved : goal.loop-row-preserved

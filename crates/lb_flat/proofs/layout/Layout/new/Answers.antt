@@ -1,8 +1,7 @@
 -- Each pass adds one row, or finds too many elements; and what is read of all rows.
 use Rattle.lb_flat.proofs.Words.{◌≡◌, ◌+◌, ◌-◌, ◌<◌, ◌≤◌, [], ◌∷◌, ◌++◌, take, get_or, length}
 use Rattle.lb_flat.proofs.Words.{flat_map, ap, ◌∙◌, subst, rules, slice_get, range_with_len}
-use Rattle.lb_flat.proofs.Words.{err_from_is_err_and, listed, sum_of, widths_in}
-use Rattle.std.specs.Prelude.{Result, Err}
+use Rattle.lb_flat.proofs.Words.{err_from_is_err_and, listed, sum_of, widths_in, Result, Err}
 use Rattle.lb_flat.specs.declared.layout.LayoutError.TheVariants.{Large}
 use Rattle.lb_flat.proofs.numbering.StoredLayouts.{row_stored, rows_past, all_stored, starts}
 use Rattle.lb_flat.proofs.numbering.StoredLayouts.{read_numbers}

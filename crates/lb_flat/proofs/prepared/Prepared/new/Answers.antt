@@ -1,6 +1,5 @@
 -- The equations of a program in order can be computed one after the other.
-use Rattle.lb_flat.proofs.Words.{rules, ◌≡◌, length, flat_equations}
-use Rattle.lb_flat.proofs.ordering.InOrder.{ready_of}
+use Rattle.lb_flat.proofs.{Words.{rules, ◌≡◌, length, flat_equations}, ordering.Ordering.ready_of}
 use Rattle.lb_flat.proofs.prepared.Prepared.new.Goals as goal
 
 pub set_constants-requires-clause-in_order : goal.set_constants-requires-clause-in_order

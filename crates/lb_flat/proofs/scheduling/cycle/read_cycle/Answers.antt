@@ -1,10 +1,8 @@
 use Rattle.lb_flat.proofs.Words.{◌≡◌, ◌∙◌, Some, [], ◌∷◌, ◌++◌, drop, length, set, ap, sym, subst}
-use Rattle.lb_flat.proofs.Words.{arith, ElementId, numbers_of, program_of, IsReadCycle}
-use Rattle.std.proofs.Common.{vec_len}
-use Rattle.std.proofs.lemmas.List.{length-map, map-append, drop-map as map_drop}
-use Rattle.lb_flat.proofs.ordering.ReadCycles.{IsWay, way_closes, way_place, way_noted, way_less}
-use Rattle.lb_flat.proofs.ordering.ReadCycles.{way_free}
-use Rattle.lb_flat.proofs.ordering.ReadCycles.{way_more}
+use Rattle.lb_flat.proofs.Words.{arith, ElementId, numbers_of, program_of, IsReadCycle, length-map}
+use Rattle.lb_flat.proofs.{Words.map-append, ordering.ReadCycles.{IsWay, way_closes, way_place}}
+use Rattle.lb_flat.proofs.ordering.ReadCycles.{way_noted, way_less, way_free, way_more}
+use Rattle.std.proofs.{Common.vec_len, lemmas.List.drop-map as map_drop}
 use Rattle.lb_flat.proofs.scheduling.cycle.read_cycle.Goals as goal
 
 pub split_at-requires : goal.split_at-requires

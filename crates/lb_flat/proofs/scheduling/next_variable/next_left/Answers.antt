@@ -1,6 +1,5 @@
-use Rattle.std.proofs.Common.{sym}
-use Rattle.lb_flat.proofs.ordering.Ordering.{entry}
-use Rattle.lb_flat.proofs.ordering.NextVariable.{marks_within, left, leads, lower}
+use Rattle.lb_flat.proofs.Words.{sym}
+use Rattle.lb_flat.proofs.ordering.{Ordering.entry, Tables.{marks_within, left, leads, lower}}
 use Rattle.lb_flat.proofs.scheduling.next_variable.next_left.Goals as goal
 
 pub unreachable-requires : goal.unreachable-requires

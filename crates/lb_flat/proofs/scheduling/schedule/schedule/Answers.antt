@@ -1,6 +1,5 @@
 use Rattle.lb_flat.proofs.Words.{subst, sym, ◌∙◌, set, true, arith, IsScheduled}
-use Rattle.lb_flat.proofs.ordering.Awaiting.{found_none}
-use Rattle.lb_flat.proofs.ordering.Ordering.{schedules, left-set}
+use Rattle.lb_flat.proofs.ordering.Ordering.{found_none, schedules, left-set}
 use Rattle.lb_flat.proofs.scheduling.schedule.schedule.Goals as goal
 
 pub returns-clause-state : goal.returns-clause-state

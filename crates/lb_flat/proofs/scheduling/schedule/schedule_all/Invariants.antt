@@ -1,4 +1,4 @@
-use Rattle.lb_flat.specs.Ordering.{IsScheduled, left}
+use Rattle.lb_flat.proofs.Words.{IsScheduled, left}
 use Rattle.lb_flat.proofs.scheduling.schedule.schedule_all.Given as goal
 
 abbrev pub invariant-passes : goal.invariant-passes

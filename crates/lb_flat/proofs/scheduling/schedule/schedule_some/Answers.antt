@@ -1,7 +1,7 @@
-use Rattle.std.proofs.Common.{subst, sym, ◌+◌, Bool}
+use Rattle.lb_flat.proofs.Words.{subst, sym, ◌+◌, Bool}
 use Rattle.lb_flat.proofs.ordering.Ordering.{IsPassing, one_settled, none_settled}
-use Rattle.lb_flat.proofs.scheduling.schedule.schedule_some.Goals as goal
 use Rattle.lb_flat.proofs.scheduling.schedule.schedule_some.Goals.{then-branch, else-branch}
+use Rattle.lb_flat.proofs.scheduling.schedule.schedule_some.Goals as goal
 
 pub loop-e-preserved : goal.loop-e-preserved
 loop-e-preserved c =

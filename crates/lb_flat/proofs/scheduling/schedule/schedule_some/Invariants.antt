@@ -1,5 +1,4 @@
-use Rattle.lb_flat.specs.Ordering.{IsScheduled}
-use Rattle.lb_flat.proofs.ordering.Ordering.{IsPassing}
+use Rattle.lb_flat.proofs.{Words.IsScheduled, ordering.Ordering.IsPassing}
 use Rattle.lb_flat.proofs.scheduling.schedule.schedule_some.Given as goal
 
 abbrev pub invariant-loop-e : goal.invariant-loop-e

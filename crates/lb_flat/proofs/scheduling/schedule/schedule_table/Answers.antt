@@ -1,9 +1,7 @@
 use Rattle.lb_flat.proofs.Words.{◌≡◌, ◌∙◌, Global, Vec, ap, arith, subst, sym, Program}
 use Rattle.lb_flat.proofs.Words.{IsExpansionOf, numbers_of, program_of, IsCertificate, IsReadCycle}
-use Rattle.lb_flat.proofs.Words.{ElementId, Cycle}
-use Rattle.lb_flat.proofs.ordering.ExpansionReads.{expansion_certified}
-use Rattle.lb_flat.proofs.ordering.Ordering.{all_settled}
-use Rattle.lb_flat.proofs.ordering.Tables.{is_table}
+use Rattle.lb_flat.proofs.{Words.{ElementId, Cycle}, ordering.Ordering.all_settled}
+use Rattle.lb_flat.proofs.ordering.{ReadCycles.expansion_certified, Tables.is_table}
 use Rattle.lb_flat.proofs.scheduling.schedule.schedule_table.Goals as goal
 
 pub schedule_in_depth-requires-clause-table : goal.schedule_in_depth-requires-clause-table

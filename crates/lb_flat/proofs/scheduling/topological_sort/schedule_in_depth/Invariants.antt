@@ -1,4 +1,4 @@
-use Rattle.lb_flat.specs.Ordering.{IsScheduled}
+use Rattle.lb_flat.proofs.Words.{IsScheduled}
 use Rattle.lb_flat.proofs.scheduling.topological_sort.schedule_in_depth.Given as goal
 
 abbrev pub invariant-loop-entry : goal.invariant-loop-entry

@@ -1,4 +1,4 @@
-use Rattle.lb_flat.specs.Ordering.{IsScheduled}
+use Rattle.lb_flat.proofs.Words.{IsScheduled}
 use Rattle.lb_flat.proofs.scheduling.topological_sort.schedule_stack.Given as goal
 
 abbrev pub invariant-visits : goal.invariant-visits

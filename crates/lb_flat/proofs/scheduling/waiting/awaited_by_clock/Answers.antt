@@ -1,6 +1,5 @@
-use Rattle.lb_flat.proofs.ordering.Awaiting.{ends_base, ends_waiting, ends_settled, ends_past}
-use Rattle.lb_flat.proofs.ordering.Awaiting.{goes_on}
-use Rattle.lb_flat.proofs.ordering.Awaiting.{parent_in_table}
+use Rattle.lb_flat.proofs.ordering.Ordering.{ends_base, ends_waiting, ends_settled, ends_past}
+use Rattle.lb_flat.proofs.ordering.Ordering.{goes_on, parent_in_table}
 use Rattle.lb_flat.proofs.scheduling.waiting.awaited_by_clock.Goals as goal
 
 pub returns-in_default : goal.returns-in_default

@@ -1,5 +1,4 @@
-use Rattle.lb_flat.proofs.Words.{◌≡◌, ℕ, ◌+◌, length, IsClock}
-use Rattle.lb_flat.proofs.ordering.Awaiting.{clock_awaited}
+use Rattle.lb_flat.proofs.{Words.{◌≡◌, ℕ, ◌+◌, length, IsClock}, ordering.Ordering.clock_awaited}
 use Rattle.lb_flat.proofs.scheduling.waiting.awaited_by_clock.Given as goal
 
 -- the rest of the clock waits for the same element as the whole clock

@@ -1,4 +1,4 @@
-use Rattle.lb_flat.proofs.ordering.NextVariable.{number_below}
+use Rattle.lb_flat.proofs.ordering.Tables.{number_below}
 use Rattle.lb_flat.proofs.scheduling.waiting.first_left.Goals as goal
 
 pub bounds-done-a : goal.bounds-done-a

@@ -2,10 +2,8 @@ use Rattle.lb_flat.proofs.Words.{◌<◌, ℕ, Bool, true, false, List, ◌++◌
 use Rattle.lb_flat.proofs.Words.{arith, sym, ap, ap₂, subst, subst₂, ◌∙◌, ForSome, or_else}
 use Rattle.lb_flat.proofs.Words.{ElementId, Start, State, Emitted, HasRows, Context, start_in}
 use Rattle.lb_flat.proofs.Words.{begun_at, outputs_at, row_clocks, IsReady, numbers_of}
-use Rattle.lb_flat.proofs.Words.{flat_equations, IsWithin}
-use Rattle.std.specs.Prelude.{get_or}
-use Rattle.lb_flat.specs.declared.equation.Clock.{Clock}
-use Rattle.lb_flat.proofs.emission.EmittedBeginning.{watched_ready}
+use Rattle.lb_flat.proofs.Words.{flat_equations, IsWithin, get_or, Clock}
+use Rattle.lb_flat.proofs.emission.EmittedProgram.{watched_ready}
 use Rattle.lb_flat.proofs.expansion.begin_emission.Beginning.new.Goals as goal
 
 pub begin-requires-clause-clocks : goal.begin-requires-clause-clocks

@@ -1,12 +1,10 @@
-use Rattle.lb_flat.proofs.Words.{◌≡◌, ◌<◌, ◌≤◌, ◌+◌, ◌*◌, ◌^◌, List, length, get_or, ◌++◌, arith}
-use Rattle.lb_flat.proofs.Words.{rules, inl, inr, Vec, Global, IfOk, refl, sym, ap, ap₂, subst, ◌∙◌}
-use Rattle.lb_flat.proofs.Words.{length-map, drop_all, Boolean, ElementId, PlacedEmitted, placed}
-use Rattle.lb_flat.proofs.Words.{next_term, row_place, literal, choose, with_one, with_two}
-use Rattle.lb_flat.proofs.Words.{with_all, emit_term, emit_list, FlatClock, elements_of, place_of}
-use Rattle.lb_flat.proofs.Words.{stacked, HasRoom, numbers_of, state_of, emitted_of, above, on_top}
-use Rattle.lb_flat.proofs.Words.{on_two, on_three, clock_of}
+use Rattle.lb_flat.proofs.Words
+use Words.{◌≡◌, ◌<◌, ◌≤◌, ◌+◌, ◌*◌, ◌^◌, List, length, get_or, ◌++◌, arith, rules, inl, inr, Vec}
+use Words.{Global, IfOk, refl, sym, ap, ap₂, subst, ◌∙◌, length-map, drop_all, Boolean, ElementId}
+use Words.{PlacedEmitted, placed, next_term, row_place, literal, choose, with_one, with_two}
+use Words.{with_all, emit_term, emit_list, FlatClock, elements_of, place_of, stacked, HasRoom}
+use Words.{numbers_of, state_of, emitted_of, above, on_top, on_two, on_three, clock_of, Clock}
 use denote.Param.Weighed.{at_most}
-use Rattle.lb_static.proofs.resolved.Term.TheLaws.{the_size}
 use Rattle.lb_static.specs.declared.resolved.Term.TheViews.{sized-Group, sized-Unary, sized-Pre}
 use Rattle.lb_static.specs.declared.resolved.Term.TheViews.{sized-Current, sized-When}
 use Rattle.lb_static.specs.declared.resolved.Term.TheViews.{sized-Replicate, sized-Index}
@@ -15,24 +13,19 @@ use Rattle.lb_static.specs.declared.resolved.Term.TheViews.{sized-Fby, sized-Joi
 use Rattle.lb_static.specs.declared.resolved.Term.TheViews.{sized-Array, sized-AtMostOne, sized-Nor}
 use Rattle.lb_static.specs.declared.resolved.Term.TheViews.{sized-Call, sized-IterateNode}
 use Rattle.lb_static.specs.declared.resolved.Term.TheViews.{sized-IterateSymbol}
-use Rattle.lb_flat.specs.declared.equation.Clock.{Clock}
-use Rattle.lb_flat.specs.Values.{scalar_of}
+use Rattle.{lb_static.proofs.resolved.Term.TheLaws.the_size, lb_flat.specs.Values.scalar_of}
+use Rattle.lb_flat.proofs.emission.EmittedStatements.{start_room, list_start, next_fits, same_room}
+use Rattle.lb_flat.proofs.emission.EmittedStatements.{same_list, placed_as, listed_as, moved_room}
+use Rattle.lb_flat.proofs.emission.EmittedStatements.{then_operand, left_size, left_next, two_left}
+use Rattle.lb_flat.proofs.emission.EmittedStatements.{if_done, three_left}
 use Rattle.lb_flat.proofs.emission.EmittedWalks.{literal_is, truth_is, variable_is, value_is}
-use Rattle.lb_flat.proofs.emission.EmittedWalks.{group_is}
-use Rattle.lb_flat.proofs.emission.EmittedWalks.{leaf_room, leaf_places, leaf_done, variable_done}
-use Rattle.lb_flat.proofs.emission.EmittedWalks.{single_room, single_word, single_left, single_done}
-use Rattle.lb_flat.proofs.emission.EmittedWalks.{pair_room, pair_word, pair_done, row_room}
-use Rattle.lb_flat.proofs.emission.EmittedWalks.{row_word}
-use Rattle.lb_flat.proofs.emission.EmittedWalks.{row_left, row_done, first_room, second_room}
-use Rattle.lb_flat.proofs.emission.EmittedWalks.{third_room}
-use Rattle.lb_flat.proofs.emission.EmittedWalks.{if_word, listed_room}
-use Rattle.lb_flat.proofs.emission.EmittedOperands.{start_room, list_start, next_fits, same_room}
-use Rattle.lb_flat.proofs.emission.EmittedOperands.{same_list}
-use Rattle.lb_flat.proofs.emission.EmittedOperands.{placed_as, listed_as, moved_room, then_operand}
-use Rattle.lb_flat.proofs.emission.EmittedOperands.{left_size, left_next, two_left, if_done}
-use Rattle.lb_flat.proofs.emission.EmittedOperands.{three_left}
-use Rattle.lb_flat.proofs.emission.EmittedNumbers.{next_grows, list_grows}
-use Rattle.lb_flat.proofs.emission.EmittedRows.{listed_onto, listed_step, listed_none}
+use Rattle.lb_flat.proofs.emission.EmittedWalks.{group_is, leaf_room, leaf_places, leaf_done}
+use Rattle.lb_flat.proofs.emission.EmittedWalks.{variable_done, single_room, single_word}
+use Rattle.lb_flat.proofs.emission.EmittedWalks.{single_left, single_done, pair_room, pair_word}
+use Rattle.lb_flat.proofs.emission.EmittedWalks.{pair_done, row_room, row_word, row_left, row_done}
+use Rattle.lb_flat.proofs.emission.EmittedWalks.{first_room, second_room, third_room, if_word}
+use Rattle.lb_flat.proofs.emission.EmittedWalks.{listed_room, listed_onto, listed_step, listed_none}
+use Rattle.lb_flat.proofs.emission.TermSteps.{next_grows, list_grows}
 use Rattle.lb_flat.proofs.expansion.term_emission.TermEmission.+form_emission.Goals as goal
 
 -- ## Terms without parts

@@ -1,6 +1,5 @@
 use Rattle.lb_flat.proofs.Words.{◌≡◌, ◌≤◌, drop, place_of, stacked, emit_list, numbers_of, state_of}
-use Rattle.lb_flat.proofs.Words.{emitted_of}
-use Rattle.lb_flat.proofs.emission.EmittedRows.{listed_onto}
+use Rattle.lb_flat.proofs.{Words.emitted_of, emission.EmittedWalks.listed_onto}
 use Rattle.lb_flat.proofs.expansion.term_emission.TermEmission.+form_emission.Given as goal
 
 abbrev pub invariant-emit_all-loop-term : goal.invariant-emit_all-loop-term

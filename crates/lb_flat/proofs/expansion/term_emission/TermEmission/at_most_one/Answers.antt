@@ -1,7 +1,6 @@
 use Rattle.lb_flat.proofs.Words.{◌≡◌, ◌∷◌, [], take, drop, Vec, Global, OnOk, ap, subst, ◌∙◌, ℕ}
 use Rattle.lb_flat.proofs.Words.{List, Not, ElementId, gives, push, twice, FlatClock, ApplyUnary}
-use Rattle.lb_flat.proofs.Words.{numbers_of, state_of, emitted_of, onto, clock_of}
-use Rattle.lb_flat.specs.declared.equation.Clock.{Clock}
+use Rattle.lb_flat.proofs.Words.{numbers_of, state_of, emitted_of, onto, clock_of, Clock}
 use Rattle.lb_flat.proofs.emission.EmittedChains.{at_most_one_is}
 use Rattle.lb_flat.proofs.expansion.term_emission.TermEmission.at_most_one.Goals as goal
 

@@ -1,8 +1,7 @@
 use Rattle.lb_flat.proofs.Words.{◌<◌, ◌≤◌, length, get_or, arith, Vec, Global, ap, ◌∙◌, ℕ, List}
 use Rattle.lb_flat.proofs.Words.{length-map, ElementId, FlatClock, numbers_of, state_of, clock_of}
-use Rattle.lb_flat.specs.declared.equation.Clock.{Clock}
-use Rattle.lb_flat.proofs.emission.EmittedChains.{chain_step, chain_end}
-use Rattle.lb_flat.proofs.emission.EmittedStacks.{number_at}
+use Rattle.lb_flat.proofs.Words.{Clock}
+use Rattle.lb_flat.proofs.emission.{EmittedChains.{chain_step, chain_end}, EmittedStacks.number_at}
 use Rattle.lb_flat.proofs.expansion.term_emission.TermEmission.chain.Goals as goal
 
 pub loop-i-preserved : goal.loop-i-preserved

@@ -1,7 +1,6 @@
 use Rattle.lb_flat.proofs.Words.{◌<◌, ◌+◌, ◌-◌, ◌^◌, min, subst, arith, ap, ◌∙◌, length-map}
 use Rattle.lb_flat.proofs.Words.{ElementId, emitted_of, clock_of}
-use Rattle.lb_flat.proofs.emission.EmittedForms.{chosen_is, none_chosen}
-use Rattle.lb_flat.proofs.emission.EmittedRooms.{choose_room}
+use Rattle.lb_flat.proofs.emission.EmittedRooms.{chosen_is, none_chosen, choose_room}
 use Rattle.lb_flat.proofs.emission.EmittedStacks.{number_at}
 use Rattle.lb_flat.proofs.expansion.term_emission.TermEmission.choose.Goals as goal
 

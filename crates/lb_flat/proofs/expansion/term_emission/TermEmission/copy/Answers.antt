@@ -2,10 +2,8 @@ use Rattle.lb_flat.proofs.Words.{◌<◌, ◌≤◌, ◌+◌, ◌-◌, ℕ, List
 use Rattle.lb_flat.proofs.Words.{Global, refl, sym, ap, ◌∙◌, min-le_left, min-le_right, length-map}
 use Rattle.lb_flat.proofs.Words.{length-drop, get_or-drop, ElementId, copied, FlatClock}
 use Rattle.lb_flat.proofs.Words.{elements_of, targets_of, with_copies, numbers_of, state_of}
-use Rattle.lb_flat.proofs.Words.{clock_of}
-use Rattle.lb_flat.specs.declared.equation.Clock.{Clock}
-use Rattle.lb_flat.proofs.emission.EmittedCalls.{copy_step, copy_ends}
-use Rattle.lb_flat.proofs.emission.EmittedStacks.{number_at}
+use Rattle.lb_flat.proofs.Words.{clock_of, Clock}
+use Rattle.lb_flat.proofs.emission.{EmittedCalls.{copy_step, copy_ends}, EmittedStacks.number_at}
 use Rattle.lb_flat.proofs.expansion.term_emission.TermEmission.copy.Goals as goal
 
 pub loop-i-preserved : goal.loop-i-preserved

@@ -1,7 +1,6 @@
 use Rattle.lb_flat.proofs.Words.{ℕ, List, drop, arith, sym, ap, subst, ◌∙◌, copied, input_targets}
 use Rattle.lb_flat.proofs.Words.{FlatClock, elements_of, with_copies, numbers_of, state_of}
-use Rattle.lb_flat.proofs.Words.{clock_of, IsClock}
-use Rattle.lb_flat.specs.declared.equation.Clock.{Clock}
+use Rattle.lb_flat.proofs.Words.{clock_of, IsClock, Clock}
 use Rattle.lb_flat.proofs.emission.EmittedCalls.{child_copied, first_accumulator, next_accumulator}
 use Rattle.lb_flat.proofs.expansion.term_emission.TermEmission.copy_accumulator.Goals as goal
 

@@ -1,7 +1,6 @@
 use Rattle.lb_flat.proofs.Words.{◌<◌, ℕ, List, drop, arith, Vec, Global, ap, ◌∙◌, range_with_len}
 use Rattle.lb_flat.proofs.Words.{ElementId, index_copies, with_copies, numbers_of, state_of}
-use Rattle.std.specs.Prelude.{flat_map}
-use Rattle.lb_flat.proofs.emission.EmittedCalls.{index_step, index_ends}
+use Rattle.lb_flat.proofs.{Words.flat_map, emission.EmittedCalls.{index_step, index_ends}}
 use Rattle.lb_flat.proofs.expansion.term_emission.TermEmission.copy_all.Goals as goal
 
 pub loop-index-preserved : goal.loop-index-preserved

@@ -1,6 +1,5 @@
 use Rattle.lb_flat.proofs.Words.{◌≡◌, drop, range_with_len, index_copies, with_copies, numbers_of}
-use Rattle.lb_flat.proofs.Words.{state_of}
-use Rattle.std.specs.Prelude.{flat_map}
+use Rattle.lb_flat.proofs.Words.{state_of, flat_map}
 use Rattle.lb_flat.proofs.expansion.term_emission.TermEmission.copy_all.Given as goal
 
 abbrev pub invariant-loop-index : goal.invariant-loop-index

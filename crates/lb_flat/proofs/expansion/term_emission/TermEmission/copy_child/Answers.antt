@@ -1,6 +1,5 @@
 use Rattle.lb_flat.proofs.Words.{◌≡◌, ◌+◌, ◌-◌, ℕ, List, length, min, arith, IfOk, sym, ap, subst}
-use Rattle.lb_flat.proofs.Words.{◌∙◌, length-range_with_len, IsClock}
-use Rattle.lb_flat.specs.declared.equation.Clock.{Clock}
+use Rattle.lb_flat.proofs.Words.{◌∙◌, length-range_with_len, IsClock, Clock}
 use Rattle.lb_flat.proofs.expansion.term_emission.TermEmission.copy_child.Goals as goal
 
 pub copy-requires-clause-targets : goal.copy-requires-clause-targets

@@ -1,8 +1,7 @@
 use Rattle.lb_flat.proofs.Words.{◌<◌, ◌≤◌, length, min, arith, Vec, Global, refl, sym, ap, ◌∙◌}
 use Rattle.lb_flat.proofs.Words.{min-le_left, min-le_right, length-range_with_len}
 use Rattle.lb_flat.proofs.Words.{get_or-range_with_len, copied, FlatClock, elements_of, targets_of}
-use Rattle.lb_flat.proofs.Words.{with_copies, state_of, clock_of}
-use Rattle.lb_flat.specs.declared.equation.Clock.{Clock}
+use Rattle.lb_flat.proofs.Words.{with_copies, state_of, clock_of, Clock}
 use Rattle.lb_flat.proofs.emission.EmittedCalls.{copy_step, copy_ends}
 use Rattle.lb_flat.proofs.expansion.term_emission.TermEmission.copy_elements.Goals as goal
 

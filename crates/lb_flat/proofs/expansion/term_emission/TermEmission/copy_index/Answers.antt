@@ -1,8 +1,7 @@
 use Rattle.lb_flat.proofs.Words.{◌≡◌, ◌≤◌, ◌+◌, ◌-◌, ℕ, List, length, drop, min, arith, Vec, Global}
 use Rattle.lb_flat.proofs.Words.{OnOk, refl, sym, ap, ap₂, subst, ◌∙◌, range_with_len, length-map}
 use Rattle.lb_flat.proofs.Words.{length-range_with_len, ArrayIterator, ElementId, index_copies}
-use Rattle.lb_flat.proofs.Words.{part_copies, with_copies, numbers_of, state_of}
-use Rattle.lb_flat.specs.declared.equation.Clock.{Clock}
+use Rattle.lb_flat.proofs.Words.{part_copies, with_copies, numbers_of, state_of, Clock}
 use Rattle.lb_flat.proofs.emission.EmittedCalls.{red_copied}
 use Rattle.lb_flat.proofs.expansion.term_emission.TermEmission.copy_index.Goals as goal
 

@@ -1,9 +1,7 @@
 use Rattle.lb_flat.proofs.Words.{◌≡◌, ◌<◌, ◌≤◌, ◌+◌, ◌-◌, ℕ, List, length, drop, min, arith, Vec}
 use Rattle.lb_flat.proofs.Words.{Global, sym, ap, ◌∙◌, range_with_len, min-le_right, length-map}
 use Rattle.lb_flat.proofs.Words.{ElementId, copied, input_targets, with_copies, numbers_of}
-use Rattle.lb_flat.proofs.Words.{state_of}
-use Rattle.std.specs.Prelude.{flat_map}
-use Rattle.lb_flat.specs.declared.equation.Clock.{Clock}
+use Rattle.lb_flat.proofs.Words.{state_of, flat_map, Clock}
 use Rattle.lb_flat.proofs.emission.EmittedCalls.{input_step, input_ends}
 use Rattle.lb_flat.proofs.expansion.term_emission.TermEmission.copy_inputs.Goals as goal
 

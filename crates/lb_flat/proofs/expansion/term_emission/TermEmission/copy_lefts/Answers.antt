@@ -2,9 +2,7 @@ use Rattle.lb_flat.proofs.Words.{◌≡◌, ◌≤◌, ◌+◌, ◌-◌, ℕ, Li
 use Rattle.lb_flat.proofs.Words.{refl, sym, ap, ap₂, subst, ◌∙◌, min-le_right, length-map}
 use Rattle.lb_flat.proofs.Words.{length-range_with_len, ElementId, copied, left_targets, FlatClock}
 use Rattle.lb_flat.proofs.Words.{elements_of, targets_of, with_copies, numbers_of, state_of}
-use Rattle.lb_flat.proofs.Words.{clock_of, IsClock}
-use Rattle.std.specs.Prelude.{flat_map}
-use Rattle.lb_flat.specs.declared.equation.Clock.{Clock}
+use Rattle.lb_flat.proofs.Words.{clock_of, IsClock, flat_map, Clock}
 use Rattle.lb_flat.proofs.emission.EmittedStatements.{left_step, left_ends}
 use Rattle.lb_flat.proofs.expansion.term_emission.TermEmission.copy_lefts.Goals as goal
 

@@ -1,6 +1,5 @@
 use Rattle.lb_flat.proofs.Words.{◌≡◌, ◌≤◌, drop, length, copied, left_targets, with_copies}
-use Rattle.lb_flat.proofs.Words.{numbers_of, state_of}
-use Rattle.std.specs.Prelude.{flat_map}
+use Rattle.lb_flat.proofs.Words.{numbers_of, state_of, flat_map}
 use Rattle.lb_flat.proofs.expansion.term_emission.TermEmission.copy_lefts.Given as goal
 
 abbrev pub invariant-loop-x : goal.invariant-loop-x

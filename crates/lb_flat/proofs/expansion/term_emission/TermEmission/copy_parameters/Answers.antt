@@ -2,9 +2,8 @@ use Rattle.lb_flat.proofs.Words.{◌≡◌, ◌<◌, ◌≤◌, ◌+◌, ◌-◌
 use Rattle.lb_flat.proofs.Words.{Global, sym, ap, ap₂, subst, ◌∙◌, min-le_right, length-map}
 use Rattle.lb_flat.proofs.Words.{length-range_with_len, ElementId, copied, parameter_targets}
 use Rattle.lb_flat.proofs.Words.{FlatClock, elements_of, targets_of, with_copies, numbers_of}
-use Rattle.lb_flat.proofs.Words.{state_of, clock_of, IsClock}
-use Rattle.lb_flat.specs.declared.equation.Clock.{Clock}
-use Rattle.lb_flat.proofs.emission.EmittedStarts.{parameter_step, parameter_ends}
+use Rattle.lb_flat.proofs.Words.{state_of, clock_of, IsClock, Clock}
+use Rattle.lb_flat.proofs.emission.EmittedCalls.{parameter_step, parameter_ends}
 use Rattle.lb_flat.proofs.expansion.term_emission.TermEmission.copy_parameters.Goals as goal
 
 pub copy-requires-clause-targets : goal.copy-requires-clause-targets

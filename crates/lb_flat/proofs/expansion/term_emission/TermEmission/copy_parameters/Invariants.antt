@@ -1,6 +1,5 @@
 use Rattle.lb_flat.proofs.Words.{◌≡◌, ◌≤◌, drop, length, range_with_len, copied, variable_targets}
-use Rattle.lb_flat.proofs.Words.{parameter_targets, with_copies, numbers_of, state_of}
-use Rattle.std.specs.Prelude.{flat_map}
+use Rattle.lb_flat.proofs.Words.{parameter_targets, with_copies, numbers_of, state_of, flat_map}
 use Rattle.lb_flat.proofs.expansion.term_emission.TermEmission.copy_parameters.Given as goal
 
 abbrev pub invariant-loop-x : goal.invariant-loop-x

@@ -2,8 +2,7 @@ use Rattle.lb_flat.proofs.Words.{◌≡◌, ◌<◌, ◌≤◌, ◌+◌, ◌-◌
 use Rattle.lb_flat.proofs.Words.{Vec, Global, refl, sym, ap, ap₂, ◌∙◌, range_with_len, min-le_right}
 use Rattle.lb_flat.proofs.Words.{length-map, length-range_with_len, ElementId, copied}
 use Rattle.lb_flat.proofs.Words.{input_targets, part_copies, with_copies, numbers_of, state_of}
-use Rattle.lb_flat.specs.declared.equation.Clock.{Clock}
-use Rattle.lb_flat.proofs.emission.EmittedCalls.{part_step, part_ends}
+use Rattle.lb_flat.proofs.{Words.Clock, emission.EmittedCalls.{part_step, part_ends}}
 use Rattle.lb_flat.proofs.expansion.term_emission.TermEmission.copy_parts.Goals as goal
 
 pub loop-x-init : goal.loop-x-init

@@ -1,7 +1,6 @@
 use Rattle.lb_flat.proofs.Words.{◌≡◌, ◌<◌, ◌≤◌, length, map, drop, arith, Vec, Global, ap, ◌∙◌}
 use Rattle.lb_flat.proofs.Words.{length-map, ElementId, FlatClock, unary_of, numbers_of, emitted_of}
-use Rattle.lb_flat.proofs.Words.{without, clock_of, operation_of}
-use Rattle.lb_flat.specs.declared.equation.Clock.{Clock}
+use Rattle.lb_flat.proofs.Words.{without, clock_of, operation_of, Clock}
 use Rattle.lb_flat.proofs.emission.EmittedStacks.{each_step, below_at, adding_ends, map_all}
 use Rattle.lb_flat.proofs.expansion.term_emission.TermEmission.each.Goals as goal
 

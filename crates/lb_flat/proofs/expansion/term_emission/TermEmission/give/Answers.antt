@@ -1,8 +1,7 @@
 use Rattle.lb_flat.proofs.Words.{◌≡◌, ◌+◌, List, arith, Vec, Global, refl, sym, ap, ◌∙◌}
 use Rattle.lb_flat.proofs.Words.{range_with_len, append-nil, from_inputs, FlatClock, FlatEquation}
-use Rattle.lb_flat.proofs.Words.{targets_of, with_copies, state_of, clock_of}
-use Rattle.lb_flat.specs.declared.equation.Clock.{Clock}
-use Rattle.lb_flat.proofs.emission.EmittedStarts.{give_step}
+use Rattle.lb_flat.proofs.Words.{targets_of, with_copies, state_of, clock_of, Clock}
+use Rattle.lb_flat.proofs.emission.EmittedCalls.{give_step}
 use Rattle.lb_flat.proofs.expansion.term_emission.TermEmission.give.Goals as goal
 
 pub loop-i-init : goal.loop-i-init

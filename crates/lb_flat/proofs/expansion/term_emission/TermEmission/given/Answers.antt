@@ -1,9 +1,8 @@
 use Rattle.lb_flat.proofs.Words.{◌≡◌, ◌<◌, ℕ, List, length, arith, Vec, Global, refl, sym, ap, ap₂}
 use Rattle.lb_flat.proofs.Words.{subst, ◌∙◌, append-nil, length-range_with_len, from_inputs}
 use Rattle.lb_flat.proofs.Words.{parameter_targets, FlatClock, FlatEquation, elements_of}
-use Rattle.lb_flat.proofs.Words.{targets_of, with_copies, state_of, clock_of, IsClock}
-use Rattle.lb_flat.specs.declared.equation.Clock.{Clock}
-use Rattle.lb_flat.proofs.emission.EmittedStarts.{parameters_count, parameters_within, given_step}
+use Rattle.lb_flat.proofs.Words.{targets_of, with_copies, state_of, clock_of, IsClock, Clock}
+use Rattle.lb_flat.proofs.emission.EmittedCalls.{parameters_count, parameters_within, given_step}
 use Rattle.lb_flat.proofs.expansion.term_emission.TermEmission.given.Goals as goal
 
 pub give-requires-clause-targets : goal.give-requires-clause-targets

@@ -1,7 +1,6 @@
 use Rattle.lb_flat.proofs.Words.{◌<◌, ◌≤◌, ℕ, List, length, get_or, arith, Vec, Global, ap, ◌∙◌}
 use Rattle.lb_flat.proofs.Words.{length-map, ElementId, numbers_of, emitted_of}
-use Rattle.lb_flat.specs.TermEmissions.{kept}
-use Rattle.lb_flat.proofs.emission.EmittedChains.{keep_more, keep_ends}
+use Rattle.lb_flat.{specs.TermEmissions.kept, proofs.emission.EmittedChains.{keep_more, keep_ends}}
 use Rattle.lb_flat.proofs.emission.EmittedStacks.{number_at}
 use Rattle.lb_flat.proofs.expansion.term_emission.TermEmission.keep.Goals as goal
 

@@ -1,6 +1,5 @@
 use Rattle.lb_flat.proofs.Words.{◌≡◌, Vec, Global, OnOk, ap, subst, ◌∙◌, each, FlatClock, unary_of}
-use Rattle.lb_flat.proofs.Words.{emitted_of, on_top, clock_of}
-use Rattle.lb_flat.specs.declared.equation.Clock.{Clock}
+use Rattle.lb_flat.proofs.Words.{emitted_of, on_top, clock_of, Clock}
 use Rattle.lb_flat.proofs.emission.EmittedChains.{kept_each}
 use Rattle.lb_flat.proofs.expansion.term_emission.TermEmission.memory.Goals as goal
 

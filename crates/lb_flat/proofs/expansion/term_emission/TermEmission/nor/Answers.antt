@@ -1,8 +1,7 @@
 use Rattle.lb_flat.proofs.Words.{◌≡◌, ◌∷◌, [], take, drop, Vec, Global, OnOk, ap, subst, ◌∙◌, ℕ}
 use Rattle.lb_flat.proofs.Words.{List, Not, Or, ElementId, gives, push, chained, FlatClock}
 use Rattle.lb_flat.proofs.Words.{ApplyUnary, numbers_of, state_of, emitted_of, onto, clock_of}
-use Rattle.lb_flat.specs.declared.equation.Clock.{Clock}
-use Rattle.lb_flat.proofs.emission.EmittedChains.{nor_is}
+use Rattle.lb_flat.proofs.{Words.Clock, emission.EmittedChains.nor_is}
 use Rattle.lb_flat.proofs.expansion.term_emission.TermEmission.nor.Goals as goal
 
 pub returns-clause-emitted : goal.returns-clause-emitted

@@ -1,10 +1,8 @@
 use Rattle.lb_flat.proofs.Words.{◌≡◌, ◌+◌, ◌-◌, ℕ, List, length, take, drop, arith, Vec, Global}
 use Rattle.lb_flat.proofs.Words.{sym, ap, ap₂, ◌∙◌, length-map, length-append, ElementId, Emitted}
 use Rattle.lb_flat.proofs.Words.{gives, copied, Context, parameter_targets, places_from}
-use Rattle.lb_flat.proofs.Words.{with_copies, numbers_of, state_of, emitted_of, onto}
-use Rattle.std.specs.Prelude.{Bool}
-use Rattle.lb_flat.specs.declared.equation.Clock.{Clock}
-use Rattle.lb_flat.proofs.emission.EmittedStarts.{observed_done, observed_gone}
+use Rattle.lb_flat.proofs.Words.{with_copies, numbers_of, state_of, emitted_of, onto, Bool, Clock}
+use Rattle.lb_flat.proofs.emission.EmittedCalls.{observed_done, observed_gone}
 use Rattle.lb_flat.proofs.expansion.term_emission.TermEmission.observe.Goals as goal
 
 pub enter-requires-2 : goal.enter-requires-2

@@ -1,11 +1,9 @@
 use Rattle.lb_flat.proofs.Words.{◌≡◌, ◌<◌, ◌≤◌, ◌+◌, ◌-◌, length, drop, min, arith, Vec, Global, ap}
 use Rattle.lb_flat.proofs.Words.{sym, ◌∙◌, min-le_left, min-le_right, length-map, length-drop}
 use Rattle.lb_flat.proofs.Words.{get_or-drop, slice_range, zip2, ElementId, FlatClock, pair_of}
-use Rattle.lb_flat.proofs.Words.{numbers_of, emitted_of, without, clock_of, operation_of}
-use Rattle.lb_flat.specs.declared.equation.Clock.{Clock}
+use Rattle.lb_flat.proofs.Words.{numbers_of, emitted_of, without, clock_of, operation_of, Clock}
 use Rattle.lb_flat.proofs.emission.EmittedStacks.{pairs_step, below_at, part_at, length_of_part}
-use Rattle.lb_flat.proofs.emission.EmittedStacks.{adding_ends}
-use Rattle.lb_flat.proofs.emission.EmittedStacks.{zip_done}
+use Rattle.lb_flat.proofs.emission.EmittedStacks.{adding_ends, zip_done}
 use Rattle.lb_flat.proofs.expansion.term_emission.TermEmission.pairs.Goals as goal
 
 pub loop-i-preserved : goal.loop-i-preserved

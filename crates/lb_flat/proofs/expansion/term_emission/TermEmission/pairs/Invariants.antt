@@ -1,6 +1,5 @@
 use Rattle.lb_flat.proofs.Words.{◌≡◌, ◌+◌, drop, slice_range, zip2, emitted_of, pair_of, numbers_of}
-use Rattle.lb_flat.proofs.Words.{clock_of}
-use Rattle.lb_flat.proofs.emission.EmittedStacks.{IsAdding}
+use Rattle.lb_flat.proofs.{Words.clock_of, emission.EmittedStacks.IsAdding}
 use Rattle.lb_flat.proofs.expansion.term_emission.TermEmission.pairs.Given as goal
 
 abbrev pub invariant-loop-i : goal.invariant-loop-i

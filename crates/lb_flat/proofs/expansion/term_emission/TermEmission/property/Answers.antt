@@ -1,6 +1,6 @@
 use Rattle.lb_flat.proofs.Words.{◌≡◌, ◌<◌, ◌≤◌, length, arith, ap, ◌∙◌, length-map, ElementId}
 use Rattle.lb_flat.proofs.Words.{Emitted, outputs_at, numbers_of, state_of, emitted_of}
-use Rattle.lb_flat.proofs.emission.EmittedBeginning.{first_above, none_above, gone_above}
+use Rattle.lb_flat.proofs.emission.EmittedProgram.{first_above, none_above, gone_above}
 use Rattle.lb_flat.proofs.expansion.term_emission.TermEmission.property.Goals.{then-from-len}
 use Rattle.lb_flat.proofs.expansion.term_emission.TermEmission.property.Goals.{else-from-len}
 use Rattle.lb_flat.proofs.expansion.term_emission.TermEmission.property.Goals as goal

@@ -1,8 +1,7 @@
 use Rattle.lb_flat.proofs.Words.{◌<◌, ℕ, length, arith, refl, sym, ap, subst, ◌∙◌, slice_get_read}
 use Rattle.lb_flat.proofs.Words.{gives, HasRow, Context, clocks_in, row_clocks, numbers_of}
-use Rattle.lb_flat.proofs.Words.{state_of, emitted_of, onto}
-use Rattle.std.specs.Prelude.{Bool}
-use Rattle.lb_flat.proofs.clock_tables.ClockElements.{clocks_step, clocks_end}
+use Rattle.lb_flat.proofs.Words.{state_of, emitted_of, onto, Bool}
+use Rattle.lb_flat.proofs.clock_tables.ServingClocks.{clocks_step, clocks_end}
 use Rattle.lb_flat.proofs.expansion.term_emission.TermEmission.put_clocks.Goals as goal
 
 pub put_row_clocks-requires-clause-variables : goal.put_row_clocks-requires-clause-variables

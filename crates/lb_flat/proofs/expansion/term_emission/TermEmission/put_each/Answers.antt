@@ -1,8 +1,6 @@
 use Rattle.lb_flat.proofs.Words.{◌≡◌, ◌+◌, ℕ, List, arith, refl, sym, ap, ◌∙◌, range_with_len}
 use Rattle.lb_flat.proofs.Words.{append-nil, gives, elements_of, numbers_of, state_of, emitted_of}
-use Rattle.lb_flat.proofs.Words.{onto}
-use Rattle.std.specs.Prelude.{flat_map}
-use Rattle.lb_flat.proofs.emission.EmittedCalls.{put_flat}
+use Rattle.lb_flat.proofs.{Words.{onto, flat_map}, emission.EmittedCalls.put_flat}
 use Rattle.lb_flat.proofs.expansion.term_emission.TermEmission.put_each.Goals as goal
 
 pub loop-index-init : goal.loop-index-init

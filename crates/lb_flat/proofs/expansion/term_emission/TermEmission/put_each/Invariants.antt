@@ -1,5 +1,5 @@
 use Rattle.lb_flat.proofs.Words.{◌≡◌, range_with_len, gives, numbers_of, state_of, emitted_of, onto}
-use Rattle.std.specs.Prelude.{flat_map}
+use Rattle.lb_flat.proofs.Words.{flat_map}
 use Rattle.lb_flat.proofs.expansion.term_emission.TermEmission.put_each.Given as goal
 
 abbrev pub invariant-loop-index : goal.invariant-loop-index

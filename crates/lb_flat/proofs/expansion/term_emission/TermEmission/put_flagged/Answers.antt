@@ -1,11 +1,9 @@
 use Rattle.lb_flat.proofs.Words.{◌<◌, ℕ, List, length, arith, refl, sym, ap, ◌∙◌, append-nil}
 use Rattle.lb_flat.proofs.Words.{TermEmission, gives, elements_of, numbers_of, state_of, emitted_of}
-use Rattle.lb_flat.proofs.clock_tables.ClockElements.{flag_put, flag_skipped}
+use Rattle.lb_flat.proofs.clock_tables.ServingClocks.{flag_put, flag_skipped}
 use Rattle.lb_flat.proofs.expansion.term_emission.TermEmission.put_flagged.Goals.{else-flags-x}
+use Rattle.lb_flat.proofs.expansion.term_emission.TermEmission.put_flagged.Goals.{then-flags-x+in_ok-put}
 use Rattle.lb_flat.proofs.expansion.term_emission.TermEmission.put_flagged.Goals as goal
-use Rattle.lb_flat.proofs.expansion.term_emission.TermEmission.put_flagged.Goals.{
-  then-flags-x+in_ok-put,
-}
 
 pub loop-x-init : goal.loop-x-init
 loop-x-init g c =

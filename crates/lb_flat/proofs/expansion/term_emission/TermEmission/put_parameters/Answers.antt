@@ -1,7 +1,6 @@
 use Rattle.lb_flat.proofs.Words.{◌≡◌, ◌+◌, ◌-◌, ℕ, List, arith, refl, sym, ap, ◌∙◌, append-nil}
 use Rattle.lb_flat.proofs.Words.{gives, places_from, elements_of, numbers_of, state_of, emitted_of}
-use Rattle.lb_flat.proofs.Words.{onto}
-use Rattle.lb_flat.proofs.emission.EmittedCalls.{put_flat}
+use Rattle.lb_flat.proofs.{Words.onto, emission.EmittedCalls.put_flat}
 use Rattle.lb_flat.proofs.expansion.term_emission.TermEmission.put_parameters.Goals as goal
 
 pub loop-x-init : goal.loop-x-init

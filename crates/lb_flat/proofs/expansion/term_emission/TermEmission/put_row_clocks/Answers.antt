@@ -1,9 +1,7 @@
 -- The node of the row is found, so its clocks can be put.
 use Rattle.lb_flat.proofs.Words.{◌≡◌, ℕ, Bool, List, length, OnOk, arith, sym, ap, subst, ◌∙◌}
 use Rattle.lb_flat.proofs.Words.{clocks_named, HasFlags, gives, numbers_of, state_of, emitted_of}
-use Rattle.lb_flat.proofs.Words.{onto}
-use Rattle.std.specs.Prelude.{option_map}
-use Rattle.lb_flat.proofs.clock_tables.ClockElements.{clocks_found}
+use Rattle.lb_flat.proofs.{Words.{onto, option_map}, clock_tables.ServingClocks.clocks_found}
 use Rattle.lb_flat.proofs.expansion.term_emission.TermEmission.put_row_clocks.Goals as goal
 
 pub enter-requires : goal.enter-requires

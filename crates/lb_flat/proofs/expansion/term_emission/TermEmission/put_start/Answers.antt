@@ -1,6 +1,6 @@
 use Rattle.lb_flat.proofs.Words.{◌≡◌, ◌<◌, ◌+◌, ◌^◌, OnOk, arith, subst, Emitted, numbers_of}
 use Rattle.lb_flat.proofs.Words.{state_of, emitted_of}
-use Rattle.lb_flat.proofs.emission.EmittedBeginning.{outputs_none, outputs_found}
+use Rattle.lb_flat.proofs.emission.EmittedProgram.{outputs_none, outputs_found}
 use Rattle.lb_flat.proofs.expansion.term_emission.TermEmission.put_start.Goals as goal
 
 pub enter-requires : goal.enter-requires

@@ -1,7 +1,6 @@
 use Rattle.lb_flat.proofs.Words.{◌<◌, ℕ, List, length, arith, Vec, Global, ap, ◌∙◌, length-map}
 use Rattle.lb_flat.proofs.Words.{ElementId, numbers_of, emitted_of, clock_of}
-use Rattle.lb_flat.proofs.emission.EmittedCuts.{red_is, red_none}
-use Rattle.lb_flat.proofs.emission.EmittedStacks.{number_at}
+use Rattle.lb_flat.proofs.emission.{EmittedCuts.{red_is, red_none}, EmittedStacks.number_at}
 use Rattle.lb_flat.proofs.expansion.term_emission.TermEmission.red.Goals as goal
 
 pub returns-in_ok-replace-clause-emitted : goal.returns-in_ok-replace-clause-emitted

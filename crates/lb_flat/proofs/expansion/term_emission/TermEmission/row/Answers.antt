@@ -1,7 +1,7 @@
 -- A row has the statements of its node; a row without a node has none.
 use Rattle.lb_flat.proofs.Words.{◌≡◌, ◌<◌, ◌^◌, arith, OnOk, sym, ap, subst, ◌∙◌, State, state_of}
-use Rattle.std.specs.Prelude.{option_map}
-use Rattle.lb_flat.proofs.emission.EmittingRows.{row_is, row_none, row_places}
+use Rattle.lb_flat.proofs.Words.{option_map}
+use Rattle.lb_flat.proofs.emission.EmittedStatements.{row_is, row_none, row_places}
 use Rattle.lb_flat.proofs.expansion.term_emission.TermEmission.row.Goals as goal
 
 pub enter-requires : goal.enter-requires

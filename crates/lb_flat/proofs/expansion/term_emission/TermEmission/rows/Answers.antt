@@ -1,11 +1,8 @@
 use Rattle.lb_flat.proofs.Words.{◌<◌, ◌^◌, ℕ, length, arith, Vec, Global, refl, sym, ap, subst, ◌∙◌}
 use Rattle.lb_flat.proofs.Words.{slice_get_read, Every, State, body_in, bodies, IsCounted, HasRow}
-use Rattle.lb_flat.proofs.Words.{Context, emit_rows, state_of}
-use Rattle.std.specs.Prelude.{Bool}
-use Rattle.lb_flat.specs.declared.equation.Clock.{Clock}
-use Rattle.lb_flat.proofs.emission.EmittingRows.{row_step, rows_end, row_room, row_counted}
-use Rattle.lb_flat.proofs.emission.EmittingRows.{rest_counted}
-use Rattle.lb_flat.proofs.emission.EmittedNumbers.{rows_grow}
+use Rattle.lb_flat.proofs.Words.{Context, emit_rows, state_of, Bool, Clock}
+use Rattle.lb_flat.proofs.emission.EmittedStatements.{row_step, rows_end, row_room, row_counted}
+use Rattle.lb_flat.proofs.emission.{EmittedStatements.rest_counted, TermSteps.rows_grow}
 use Rattle.lb_flat.proofs.expansion.term_emission.TermEmission.rows.Goals as goal
 
 pub row-requires-clause-clocks : goal.row-requires-clause-clocks

@@ -1,12 +1,10 @@
 use Rattle.lb_flat.proofs.Words.{◌≡◌, ℕ, List, length, take, drop, arith, Vec, Global, ap, ◌∙◌}
 use Rattle.lb_flat.proofs.Words.{length-map, VariableId, ElementId, Emitted, copied, left_targets}
 use Rattle.lb_flat.proofs.Words.{emit_term, place_of, with_copies, numbers_of, state_of, emitted_of}
-use Rattle.lb_flat.proofs.Words.{with_asserted}
-use Rattle.std.specs.Prelude.{flat_map}
-use Rattle.lb_flat.proofs.emission.EmittedNumbers.{next_grows}
-use Rattle.lb_flat.proofs.emission.EmittedOperands.{left_next}
-use Rattle.lb_flat.proofs.emission.EmittedStatements.{equation_room, equation_done, assertion_room}
-use Rattle.lb_flat.proofs.emission.EmittedStatements.{assertion_done, stack_kept}
+use Rattle.lb_flat.proofs.Words.{with_asserted, flat_map}
+use Rattle.lb_flat.proofs.emission.EmittedStatements.{left_next, equation_room, equation_done}
+use Rattle.lb_flat.proofs.emission.EmittedStatements.{assertion_room, assertion_done, stack_kept}
+use Rattle.lb_flat.proofs.emission.TermSteps.{next_grows}
 use Rattle.lb_flat.proofs.expansion.term_emission.TermEmission.statement.Goals as goal
 
 pub emit-requires-clause-room : goal.emit-requires-clause-room

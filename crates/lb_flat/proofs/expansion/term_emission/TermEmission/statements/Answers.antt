@@ -1,9 +1,8 @@
 use Rattle.lb_flat.proofs.Words.{arith, Vec, Global, sym, ap, ◌∙◌, PlacedState, first_place}
-use Rattle.lb_flat.proofs.Words.{emit_statements, place_of, state_of}
-use Rattle.lb_flat.specs.declared.equation.Clock.{Clock}
-use Rattle.lb_flat.proofs.emission.EmittingRows.{statement_step, statements_end, statement_room}
-use Rattle.lb_flat.proofs.emission.EmittingRows.{statement_places}
-use Rattle.lb_flat.proofs.emission.EmittedNumbers.{statement_grows}
+use Rattle.lb_flat.proofs.Words.{emit_statements, place_of, state_of, Clock}
+use Rattle.lb_flat.proofs.emission.EmittedStatements.{statement_step, statements_end}
+use Rattle.lb_flat.proofs.emission.EmittedStatements.{statement_room, statement_places}
+use Rattle.lb_flat.proofs.emission.TermSteps.{statement_grows}
 use Rattle.lb_flat.proofs.expansion.term_emission.TermEmission.statements.Goals as goal
 
 pub statement-requires-clause-clocks : goal.statement-requires-clause-clocks

@@ -1,7 +1,6 @@
 use Rattle.lb_flat.proofs.Words.{◌≡◌, ◌<◌, ◌≤◌, ◌+◌, ◌-◌, ◌^◌, length, min, arith, subst, ap, ◌∙◌}
 use Rattle.lb_flat.proofs.Words.{length-map, ArrayIterator, ElementId, symbol, emitted_of, above}
-use Rattle.lb_flat.proofs.Words.{clock_of}
-use Rattle.lb_flat.proofs.emission.EmittedRooms.{map_room, red_room}
+use Rattle.lb_flat.proofs.{Words.clock_of, emission.EmittedRooms.{map_room, red_room}}
 use Rattle.lb_flat.proofs.expansion.term_emission.TermEmission.symbol.Goals as goal
 
 pub pairs-requires-clause-room : goal.pairs-requires-clause-room

@@ -1,9 +1,7 @@
 use Rattle.lb_flat.proofs.Words.{◌<◌, ◌≤◌, ℕ, length, get_or, arith, Vec, Global, ap, ap₂, ◌∙◌}
 use Rattle.lb_flat.proofs.Words.{List, length-map, Or, And, ElementId, push, FlatClock, ApplyBinary}
-use Rattle.lb_flat.proofs.Words.{numbers_of, state_of, clock_of}
-use Rattle.lb_flat.specs.declared.equation.Clock.{Clock}
-use Rattle.lb_flat.proofs.emission.EmittedChains.{twice_step, twice_end}
-use Rattle.lb_flat.proofs.emission.EmittedStacks.{number_at}
+use Rattle.lb_flat.proofs.Words.{numbers_of, state_of, clock_of, Clock}
+use Rattle.lb_flat.proofs.emission.{EmittedChains.{twice_step, twice_end}, EmittedStacks.number_at}
 use Rattle.lb_flat.proofs.expansion.term_emission.TermEmission.two_true.Goals as goal
 
 pub loop-i-preserved : goal.loop-i-preserved

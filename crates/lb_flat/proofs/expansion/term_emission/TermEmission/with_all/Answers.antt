@@ -1,7 +1,6 @@
 use Rattle.lb_flat.proofs.Words.{inl, inr, refl, sym, ◌∙◌, with_all, place_of, emitted_of, above}
-use Rattle.lb_flat.proofs.emission.EmittedForms.{one_form, nor_form, array_form, top_form}
-use Rattle.lb_flat.proofs.emission.EmittedForms.{same_stays}
-use Rattle.lb_flat.proofs.emission.EmittedRooms.{nor_room, one_room, same_clock}
+use Rattle.lb_flat.proofs.emission.EmittedRooms.{one_form, nor_form, array_form, top_form}
+use Rattle.lb_flat.proofs.emission.EmittedRooms.{same_stays, nor_room, one_room, same_clock}
 use Rattle.lb_flat.proofs.expansion.term_emission.TermEmission.with_all.Goals as goal
 
 pub at_most_one-requires-clause-room : goal.at_most_one-requires-clause-room

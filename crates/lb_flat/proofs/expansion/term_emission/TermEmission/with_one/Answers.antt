@@ -1,6 +1,6 @@
 use Rattle.lb_flat.proofs.Words.{inl, inr, first_value, with_one, ApplyUnary, Previous, Latest}
 use Rattle.lb_flat.proofs.Words.{Sample, place_of, emitted_of, above}
-use Rattle.lb_flat.proofs.emission.EmittedForms.{unary_form, pre_form, current_form, when_form}
+use Rattle.lb_flat.proofs.emission.EmittedRooms.{unary_form, pre_form, current_form, when_form}
 use Rattle.lb_flat.proofs.emission.EmittedRooms.{each_room, memory_room, same_clock}
 use Rattle.lb_flat.proofs.expansion.term_emission.TermEmission.with_one.Goals as goal
 

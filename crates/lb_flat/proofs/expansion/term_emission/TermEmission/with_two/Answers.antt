@@ -2,12 +2,10 @@ use Rattle.lb_flat.proofs.Words.{◌≡◌, ◌<◌, ◌+◌, ◌-◌, ◌^◌, 
 use Rattle.lb_flat.proofs.Words.{Global, OnOk, false, refl, sym, ap, subst, ◌∙◌, slice_range}
 use Rattle.lb_flat.proofs.Words.{length-map, first_value, ElementId, Emitted, gives, memory, pairs}
 use Rattle.lb_flat.proofs.Words.{with_two, FlatClock, ApplyBinary, FirstThen, Previous, place_of}
-use Rattle.lb_flat.proofs.Words.{emitted_of, above, on_two, clock_of}
-use Rattle.lb_flat.specs.declared.equation.Clock.{Clock}
-use Rattle.lb_flat.proofs.emission.EmittedForms.{binary_form, arrow_form, fby_form, join_form}
-use Rattle.lb_flat.proofs.emission.EmittedForms.{two_form}
-use Rattle.lb_flat.proofs.emission.EmittedForms.{joined_stays, pairs_after}
-use Rattle.lb_flat.proofs.emission.EmittedRooms.{two_room, fby_rooms, same_clock}
+use Rattle.lb_flat.proofs.Words.{emitted_of, above, on_two, clock_of, Clock}
+use Rattle.lb_flat.proofs.emission.EmittedRooms.{binary_form, arrow_form, fby_form, join_form}
+use Rattle.lb_flat.proofs.emission.EmittedRooms.{two_form, joined_stays, pairs_after, two_room}
+use Rattle.lb_flat.proofs.emission.EmittedRooms.{fby_rooms, same_clock}
 use Rattle.lb_flat.proofs.expansion.term_emission.TermEmission.with_two.Goals as goal
 
 pub pairs-requires-clause-room : goal.pairs-requires-clause-room
