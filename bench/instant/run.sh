@@ -9,9 +9,9 @@ here=$(cd "$(dirname "$0")" && pwd)
 top=$(cd "$here/../.." && pwd)
 . "$here/../workspace.sh"
 
-workspace "$(grep -E '^lb_(syntax|static|check|traces|flat|lanes|machine|sim|trace):' "$top/crates.txt")
-instant_bench: lb_sim lb_trace lb_flat lb_traces lb_machine lb_lanes lb_check lb_static lb_syntax" \
-    "$top"/crates/lb_{syntax,static,check,traces,flat,lanes,machine,sim,trace} "$here/instant_bench"
+workspace "$(grep -E '^lb_(syntax|static|check|traces|flat|expand|lanes|machine|sim|trace):' "$top/crates.txt")
+instant_bench: lb_sim lb_trace lb_expand lb_flat lb_traces lb_machine lb_lanes lb_check lb_static lb_syntax" \
+    "$top"/crates/lb_{syntax,static,check,traces,flat,expand,lanes,machine,sim,trace} "$here/instant_bench"
 cp "$top/HANDLES" "$work/"
 (cd "$work/crates/instant_bench" && quietly rt run)
 

@@ -9,7 +9,7 @@ use std::fmt;
 /// The rule of types, clocks or definitions that a program breaks first.
 ///
 /// Names, static values and instances were judged before, by `lb_static`. What comes later, the
-/// size of the program and its cycles, is judged by `lb_flat`.
+/// size of the program and its cycles, is judged by `lb_expand` and `lb_flat`.
 #[derive(Drop, thiserror::Error)]
 pub enum CheckError {
     /// Memory ran out (E0).

@@ -4,7 +4,7 @@ use crate::counts::put_count;
 use crate::declared::node_named;
 use crate::excerpt::{put_excerpt, put_place};
 use crate::texts::{Stretch, Text, spot};
-use lb_flat::SizeFault;
+use lb_expand::SizeFault;
 use std::alloc::AllocError;
 
 /// The place of the name of a node, or else the start of the text.

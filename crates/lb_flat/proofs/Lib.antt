@@ -2,11 +2,4 @@ pub mod Words
 pub mod lists
 pub mod solutions
 pub mod runs
-pub mod widths
 pub mod ordering
-pub mod emission
-pub mod numbering
-pub mod frames
-pub mod copies
-pub mod fits
-pub mod clock_tables

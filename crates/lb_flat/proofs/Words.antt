@@ -1,243 +1,71 @@
 -- The words that the proof files of this crate share, each from where it is defined.
-pub use Rattle.std.specs.{List.{filter, list_all, range_with_len, slice_range}, Option.ForSome}
-pub use Rattle.std.specs.Prelude.{Result, count_by, find, if◌then◌else◌, nat_le, nat_lt, slice_get}
-pub use Rattle.std.{specs.{Prelude.{sum_by, ◌==◌, ◌↔◌}, Str.bytes_eq}, proofs.Common.{All, Bool}}
-pub use Rattle.std.proofs.Common.{Box, Err, Global, IfOk, IfSome, List, None, OnOk, Option, Some}
-pub use Rattle.std.proofs.Common.{Vec, [], add-one, ap, ap₂, arith, cond, drop, false, flat_map}
-pub use Rattle.std.proofs.Common.{fold, get_or, inl, inr, is_some, length, length-set, map, min}
-pub use Rattle.std.proofs.Common.{nat_eq, not, option_map, pos, refl, replicate, rules, set, subst}
-pub use Rattle.std.proofs.Common.{subst₂, suc, sym, take, true, zero, zip, ℕ, ℤ, ⊎_elim, ◌&&◌, ◌*◌}
-pub use Rattle.std.proofs.Common.{◌++◌, ◌+◌, ◌-◌, ◌/◌, ◌<◌, ◌^◌, ◌||◌, ◌∙◌, ◌∷◌, ◌≡◌, ◌≢◌, ◌≤◌, ◌⊎◌}
-pub use Rattle.std.proofs.Math.{Bool.or-true, ListN.{drop_of_length-le, get_or-eq_default}}
-pub use Rattle.std.proofs.Math.Nat.{add-sub_cancel_left, min-le_left, min-le_right}
-pub use Rattle.std.proofs.Math.{Nat.{mul-div_cancel_left, mul-le-mul_right}, Seq.drop-append_seam}
-pub use Rattle.std.proofs.{Math.Seq.{drop-cons, take-append_seam}, lemmas.Bool.{and_from, cases_eq}}
-pub use Rattle.std.proofs.lemmas.Bool.{cases_lt, eqb-true, le-leb, leb-true, lt-ltb, ltb-false}
-pub use Rattle.std.proofs.lemmas.Bool.{ltb-true, not-true, Decides.nat_tests}
-pub use Rattle.std.proofs.lemmas.{Grind.flat_map-append, List.{append-nil, append_assoc}}
-pub use Rattle.std.proofs.lemmas.List.{drop-append-le, drop-drop, drop-map, drop_all, drop_min}
-pub use Rattle.std.proofs.lemmas.List.{drop_more, get_or-append-add, get_or-drop, get_or-map}
-pub use Rattle.std.proofs.lemmas.List.{get_or-set_other, get_or-set_same, length-append}
-pub use Rattle.std.proofs.lemmas.List.{length-drop, length-map, length-replicate, length-take-le}
-pub use Rattle.std.proofs.lemmas.List.{map-append, take-append-drop, take-append-le, take-map}
-pub use Rattle.std.proofs.lemmas.List.{take_all, take_min, take_more, Elements.All-append}
-pub use Rattle.std.proofs.lemmas.List.Elements.{All-drop, All-push, All-take, All-weaker}
-pub use Rattle.std.proofs.lemmas.List.FromFn.{get_or-map-range_with_len, get_or-range_with_len}
-pub use Rattle.std.proofs.lemmas.List.FromFn.{length-map-range_with_len, length-range_with_len}
-pub use Rattle.std.proofs.lemmas.List.Sums.{sum_by-append, sum_by-cons, sum_by_more}
+pub use Rattle.std.specs.{List.{filter, list_all, range_with_len}, Prelude.{if◌then◌else◌, nat_lt}}
+pub use Rattle.std.{specs.Prelude.{slice_get, ◌↔◌}, proofs.Common.{All, Bool, Global, IfSome, List}}
+pub use Rattle.std.proofs.Common.{None, Option, Some, Vec, [], add-one, ap, ap₂, arith, cond, drop}
+pub use Rattle.std.proofs.Common.{false, get_or, inl, inr, is_some, length, length-set, map, not}
+pub use Rattle.std.proofs.Common.{pos, refl, replicate, rules, set, subst, suc, sym, take, true}
+pub use Rattle.std.proofs.Common.{zero, ℕ, ℤ, ⊎_elim, ◌&&◌, ◌++◌, ◌+◌, ◌-◌, ◌/◌, ◌<◌, ◌||◌, ◌∙◌}
+pub use Rattle.std.proofs.{Common.{◌∷◌, ◌≡◌, ◌≢◌, ◌≤◌, ◌⊎◌}, Math.ListN.drop_of_length-le}
+pub use Rattle.std.proofs.{Math.{ListN.get_or-eq_default, Seq.drop-cons}, lemmas.Bool.and_from}
+pub use Rattle.std.proofs.lemmas.Bool.{cases_eq, cases_lt, lt-ltb, ltb-true, not-true}
+pub use Rattle.std.proofs.lemmas.List.{append-nil, append_assoc, get_or-map, get_or-set_other}
+pub use Rattle.std.proofs.lemmas.List.{get_or-set_same, length-append, length-map, length-replicate}
+pub use Rattle.std.proofs.lemmas.List.{map-append, take_more, Elements.All-push}
+pub use Rattle.std.proofs.lemmas.List.FromFn.{get_or-map-range_with_len, length-map-range_with_len}
 pub use Rattle.std.proofs.lemmas.Option.{get_or_from_slice_get, same_Some, slice_get-get_or}
-pub use Rattle.std.proofs.lemmas.Option.{slice_get-map, slice_get_past, slice_get_read}
-pub use Rattle.std.proofs.lemmas.{Option.slice_get_within, Result.err_from_is_err_and}
-pub use Rattle.std.proofs.lemmas.{Result.IfOk-weaker as then_ok, Slice.Eq.bytes_eq-Decides}
-pub use Rattle.lb_syntax.specs.Lists.{AreApart, Every, In, all_some, copies, either_or, holds}
-pub use Rattle.lb_syntax.specs.Lists.{joined, listed, or_else, part, some_of, tail_of, where_true}
-pub use Rattle.lb_syntax.specs.{Lists.{zip2, ◌>>=◌}, Operators.class_of, Refusals.{E4, E7, E8}}
-pub use Rattle.lb_syntax.specs.{Refusals.unless, Tree.{Array, Arrow, Assertion, AtMostOne, Binary}}
-pub use Rattle.lb_syntax.specs.Tree.{Call, Cons, Current, Declaration, Equation, Expr, Exprs, Fby}
-pub use Rattle.lb_syntax.specs.Tree.{Group, If, Index, Iterate, Join, Literal, Name, Named, Nil}
-pub use Rattle.lb_syntax.specs.Tree.{Node, Node_named, Nor, Pre, Replicate, Slice, Statement}
-pub use Rattle.lb_syntax.specs.Tree.{Static, Symbol, Truth, Unary, Variable, When, Whole}
-pub use Rattle.lb_syntax.specs.declared.tree.ArrayIterator.{ArrayIterator, TheVariants.{Fill, Map}}
-pub use Rattle.lb_syntax.specs.declared.tree.ArrayIterator.TheVariants.{Red}
-pub use Rattle.lb_syntax.specs.declared.tree.BinaryOperator.{BinaryOperator, TheVariants.And}
-pub use Rattle.lb_syntax.specs.declared.tree.BinaryOperator.TheVariants.{Divide, Minus, Modulo, Or}
+pub use Rattle.std.proofs.lemmas.Option.{slice_get_past, slice_get_within}
+pub use Rattle.{std.proofs.lemmas.Result.err_from_is_err_and, lb_syntax.specs.Lists.AreApart}
+pub use Rattle.lb_syntax.specs.Lists.{Every, In, copies, holds, joined, tail_of, where_true, zip2}
+pub use Rattle.lb_syntax.specs.{Refusals.{E4, E7, E8, unless}, Tree.{Arrow, Current, Declaration}}
+pub use Rattle.lb_syntax.specs.{Tree.{Expr, Fby, Pre}, declared.tree.BinaryOperator.BinaryOperator}
+pub use Rattle.lb_syntax.specs.declared.tree.BinaryOperator.TheVariants.{Divide, Minus, Modulo}
 pub use Rattle.lb_syntax.specs.declared.tree.{BinaryOperator.TheVariants.{Plus, Times}, Kind.Kind}
-pub use Rattle.lb_syntax.specs.declared.tree.Kind.TheVariants.{Int, Bool as Truth_kind}
-pub use Rattle.lb_syntax.specs.declared.tree.OperatorClass.{OperatorClass, TheVariants.Logical}
-pub use Rattle.lb_syntax.specs.declared.tree.UnaryOperator.{UnaryOperator, TheVariants.Negate}
-pub use Rattle.lb_syntax.specs.declared.tree.UnaryOperator.TheVariants.{Not}
-pub use Rattle.lb_syntax.proofs.ListPlaces.{all_at, all_in, get_first, get_later, heads_same}
-pub use Rattle.lb_syntax.proofs.{ListPlaces.{item_at, mapped_from, tails_same}, SameNames.name_same}
-pub use Rattle.lb_syntax.proofs.TruthValues.{and_first, and_second, contrary, implied}
-pub use Rattle.lb_static.specs.{Arithmetic.is_int, DataTypes.{DataType, are_types, element_count}}
-pub use Rattle.lb_static.specs.DataTypes.{input_kinds, input_types, int, is_kind, is_type, product}
-pub use Rattle.lb_static.specs.DataTypes.{same_sizes, scalar_elements, signature, truth}
-pub use Rattle.lb_static.specs.DataTypes.{variable_type, variables, width}
-pub use Rattle.lb_static.specs.{Elaborated.elaborated_program, InstanceTable.IsSpecialized}
-pub use Rattle.lb_static.specs.InstanceTable.{IsTable, instance_of, paths_of, specialized_at}
-pub use Rattle.lb_static.specs.Instances.{Child, Instance, Observer, Path, Program, Root, Site}
-pub use Rattle.lb_static.specs.Instances.{call_site, callee_of, children, instance_at}
-pub use Rattle.lb_static.specs.Instances.{instance_count, instances, is_path, name_value}
-pub use Rattle.lb_static.specs.Instances.{node_named, node_sites, numbered_sites, sites, sites_in}
-pub use Rattle.lb_static.specs.Instances.{start_at, statement_sites, static_count, static_value}
-pub use Rattle.lb_static.specs.Instantiation.{are_same, fits_observer, has_no_parameters}
-pub use Rattle.lb_static.specs.Instantiation.{has_plain_clocks, has_property, instantiation_refusal}
-pub use Rattle.lb_static.specs.Instantiation.{is_between, is_root, level, static_refusal}
-pub use Rattle.lb_static.specs.{Names.{are_distinct, is_well_founded, keeps_names}, Parts.among}
-pub use Rattle.lb_static.specs.Parts.{clock_names, left_names, node_parts, node_sizes, parts}
-pub use Rattle.lb_static.specs.Parts.{parts_in, right_side, variable_names}
-pub use Rattle.lb_static.specs.ReachedNodes.{IsReached, callee_in, source_names}
-pub use Rattle.lb_static.specs.ResolvedNodes.{IsResolved, counts_of, node_of, statics_of, texts_of}
-pub use Rattle.lb_static.specs.ResolvedTerms.{Texts, are_within, declaration_of, expr_of, is_call}
-pub use Rattle.lb_static.specs.ResolvedTerms.{is_no_variable, is_statement_within, is_static}
-pub use Rattle.lb_static.specs.ResolvedTerms.{is_variable, is_within, name_at, named_value, site_at}
-pub use Rattle.lb_static.specs.{ResolvedTerms.{statement_of, static_at}, Signature.Elements}
-pub use Rattle.lb_static.specs.{Signature.kinds_of, Specialized.times_sizes, StaticValues.named}
-pub use Rattle.lb_static.specs.{TermForms.{IsPair, IsRow}, declared.reachable.Reached.Reached}
-pub use Rattle.lb_static.specs.declared.resolved.{CallId.CallId, ResolvedNode.ResolvedNode}
-pub use Rattle.lb_static.specs.declared.resolved.ResolvedStatement.{ResolvedStatement}
-pub use Rattle.lb_static.specs.declared.resolved.{StaticId.StaticId, Term.{Array', Arrow'}}
-pub use Rattle.lb_static.specs.declared.resolved.Term.{AtMostOne', Binary', Call', Current', Fby'}
-pub use Rattle.lb_static.specs.declared.resolved.Term.{Group', If', Index', IterateNode}
-pub use Rattle.lb_static.specs.declared.resolved.Term.{IterateNode', IterateSymbol, IterateSymbol'}
-pub use Rattle.lb_static.specs.declared.resolved.Term.{Join', Nor', Pre', Replicate', Row_of-Term}
-pub use Rattle.lb_static.specs.declared.resolved.Term.{Slice', Term, Unary', Value, When'}
-pub use Rattle.lb_static.specs.declared.resolved.Term.{end_of-Term, items-the_row-Term}
-pub use Rattle.lb_static.specs.declared.resolved.Term.{items_hidden-the_row-Term-0, more_of-Term}
-pub use Rattle.lb_static.specs.declared.resolved.Variable.{Variable as Declared}
-pub use Rattle.lb_static.specs.declared.resolved.VariableId.{VariableId}
-pub use Rattle.lb_static.specs.declared.table.{InstanceId.InstanceId, Origin.Origin}
-pub use Rattle.lb_static.specs.declared.table.{Specialization.Specialization, Table.Table}
-pub use Rattle.lb_static.proofs.{DeclaredTypes.declared_is, Members.{any_in, in_at, in_map, map_in}}
-pub use Rattle.lb_static.proofs.{Members.place_in, Options.length-all_some}
-pub use Rattle.{lb_static.proofs.TestedItems.found_passes, lb_traces.specs.Traces.IsCell}
-pub use Rattle.lb_traces.specs.Traces.{IsRecording, Recording, trace_at}
-pub use Rattle.lb_check.specs.{Acceptance.check_refusal, ClockRules.are_declared_clocks}
-pub use Rattle.lb_check.specs.ClockRules.{are_on_results, is_clock, is_occurrence_clocked}
-pub use Rattle.lb_check.specs.{ClockRules.{is_statement_clocked, left_clocks}, Clocks.{Base, Given}}
-pub use Rattle.lb_check.specs.Clocks.{On, argument_clocks, as_variable, base_clock, clock_or}
-pub use Rattle.lb_check.specs.Clocks.{declared_clock, given_outputs, outer, ungrouped}
-pub use Rattle.lb_check.specs.Elements.{found_from, instance_elements, numbers_from}
-pub use Rattle.lb_check.specs.{FoundTerms.{HasFoundClocks, pair_names}, LawfulPrograms.IsChecked}
-pub use Rattle.lb_check.specs.Needs.{Always as Always_whole, Definition, Element, Needs}
-pub use Rattle.lb_check.specs.Needs.{Where as Where_whole, WholeClock, all_needs, both, call_at}
-pub use Rattle.lb_check.specs.Needs.{call_definitions, clock_definitions, defined_as, definitions}
-pub use Rattle.lb_check.specs.Needs.{definitions_at, elements, elements_named, equation_definitions}
-pub use Rattle.lb_check.specs.Needs.{given_to, is_site, itself, observer_definitions}
-pub use Rattle.lb_check.specs.Needs.{output_elements, runs_on, serving, site_clock, waits_for}
-pub use Rattle.lb_check.specs.{Needs.whole_clock, Occurrences.{Occurrence, at, call_clocks}}
-pub use Rattle.lb_check.specs.Occurrences.{call_count, node_occurrences, occurrences}
-pub use Rattle.lb_check.specs.Occurrences.{occurrences_each, occurrences_in, right_sides}
-pub use Rattle.lb_check.specs.{Occurrences.{statement_clock, statements}, OwnClocks.HasClocks}
-pub use Rattle.lb_check.specs.{OwnClocks.{clock_in, is_clock_within, name_in}, Scalars.Bad}
-pub use Rattle.lb_check.specs.Scalars.{Boolean, Integer, Scalar, Stream, at_most_one, first_value}
-pub use Rattle.lb_check.specs.Scalars.{is_given, is_of_kind, none_true, one_scalar, or_fault}
-pub use Rattle.lb_check.specs.{Scalars.{strict, two_scalars}, Solutions.{AgreeAt, AreEqual}}
-pub use Rattle.lb_check.specs.Solutions.{AreSame, Fits, Inputs, IsCallJoined, IsIteratorJoined}
-pub use Rattle.lb_check.specs.Solutions.{IsJoined, Receives, Solves, SolvesAt, accumulated}
-pub use Rattle.lb_check.specs.Solutions.{column_of, columns_at, fits, is_row, iterator_inputs}
-pub use Rattle.lb_check.specs.{Solutions.{streams_at, variable_presence}, Streams.{History, across}}
-pub use Rattle.lb_check.specs.Streams.{all_streams, along, along_two, argument_streams, choice}
-pub use Rattle.lb_check.specs.Streams.{choices, constantly, data_type, first_cell, first_then}
-pub use Rattle.lb_check.specs.Streams.{gathered, held, iterated, last_of, latest, newest, number}
-pub use Rattle.lb_check.specs.Streams.{one_cell, outputs_of, part_count, presence, previous, sample}
-pub use Rattle.lb_check.specs.Streams.{shows, signed, streams, symbols, two_cells}
-pub use Rattle.lb_check.specs.{TermClocks.declared_in, TypeRules.{expression_size, instance_size}}
-pub use Rattle.lb_check.specs.TypeRules.{is_clock_typed, is_small, is_statement_typed, is_typed}
-pub use Rattle.lb_check.specs.{TypeRules.{size, type_of_name}, Types.{all_types, are_ints}}
-pub use Rattle.lb_check.specs.Types.{are_truths, array_of, binary_type, common_type, constant_type}
-pub use Rattle.lb_check.specs.Types.{data_types, element_of, element_with, from_one, from_truths}
-pub use Rattle.lb_check.specs.Types.{index_type, is_arithmetic, is_logical, iterator_types}
-pub use Rattle.lb_check.specs.Types.{join_type, list_type, name_data_type, only, operator_types}
-pub use Rattle.lb_check.specs.Types.{red_types, singly, slice_type, symbol_types, unary_type}
-pub use Rattle.lb_check.specs.Verdicts.{clock_variables, is_bad, is_false, is_nil, or_later}
-pub use Rattle.lb_check.specs.Verdicts.{property_path, variable_columns}
-pub use Rattle.lb_check.specs.declared.{checked.Checking.Checking, found_clocks.CallClock.CallClock}
-pub use Rattle.lb_check.specs.declared.found_clocks.GivenVariable.{GivenVariable}
-pub use Rattle.lb_check.specs.declared.found_clocks.NodeClocks.{NodeClocks}
-pub use Rattle.lb_check.specs.declared.{found_types.NodeTypes.NodeTypes, verdict.Verdict.Verdict}
-pub use Rattle.lb_check.specs.declared.verdict.Verdict.TheVariants.{Passed}
-pub use Rattle.lb_check.proofs.clocking.{ClockDepths.get_name, ClockTests.clock_same}
-pub use Rattle.lb_check.proofs.clocking.{ClockTests.declared_within, DeclaredClocks.IsOwn}
-pub use Rattle.lb_check.proofs.clocking.{DeclaredClocks.declared_own, GivenParameters.found_in}
-pub use Rattle.lb_check.proofs.clocking.NamedClocks.{IsOver, OfCalled, count_of, declared_over}
-pub use Rattle.lb_check.proofs.definitions.BrokenRules.{instantiation_kept, kept, names_kept}
-pub use Rattle.lb_check.proofs.definitions.{BrokenRules.second_none, CallNumbers.call_of}
-pub use Rattle.lb_check.proofs.{definitions.CallNumbers.own_right, lists.ListPairs.get_mapped}
-pub use Rattle.lb_check.proofs.lists.Members.{Every-all, Every-append, Every-at, Every-both}
-pub use Rattle.lb_check.proofs.lists.Members.{Every-first, Every-from, Every-map, Every-second}
-pub use Rattle.lb_check.proofs.lists.Members.{distinct_at, held_at, in_either, in_first, in_second}
-pub use Rattle.lb_check.proofs.lists.Members.{of_pieces, to_pieces}
-pub use Rattle.lb_check.proofs.programs.AcceptedElements.{element_values, kinds_at_numbers}
-pub use Rattle.lb_check.proofs.programs.AcceptedElements.{length_kinds, number_of, numbers_below}
-pub use Rattle.lb_check.proofs.programs.AcceptedElements.{pieces_count, values_at_numbers}
-pub use Rattle.lb_check.proofs.programs.AcceptedRules.{all_typed, clocked, statements_typed}
-pub use Rattle.lb_check.proofs.programs.InstancePaths.{at_path, called, callee_node, find_in}
-pub use Rattle.lb_check.proofs.programs.InstancePaths.{in_instances, instances_apart, path_is}
-pub use Rattle.lb_check.proofs.programs.InstancePaths.{same_instance, same_path, variables_distinct}
-pub use Rattle.lb_check.proofs.programs.Numbers.{found_some, length_elements}
-pub use Rattle.lb_check.proofs.programs.OccurrenceSites.{call_of_site, node_calls, own_site}
-pub use Rattle.lb_check.proofs.programs.SameHistories.{IsEntered, all_called, all_children}
-pub use Rattle.lb_check.proofs.programs.{SameHistories.all_entered, SiteOccurrences.IsInstanceOf}
-pub use Rattle.lb_check.proofs.programs.SiteOccurrences.{instance_there, site_occurs}
-pub use Rattle.lb_check.proofs.programs.SolutionStreams.{length-both, solves_same}
-pub use Rattle.lb_check.proofs.programs.TypedOccurrences.{HasTypes, IsVariable, found_name}
-pub use Rattle.lb_check.proofs.programs.TypedOccurrences.{occurrence_fits, occurrences_typed}
-pub use Rattle.lb_check.proofs.programs.TypedOccurrences.{own_variables}
-pub use Rattle.lb_check.proofs.typing.FittedTypes.{specialized_instance, unfound, values_at}
-pub use Rattle.lb_check.proofs.typing.{OperandTypes.{bound, first_of_all, truly}, TypeRows.row_in}
-pub use Rattle.lb_flat.specs.{Bounds.{AreWhole, IsBounded}, ClockPlaces.{path_before, path_place}}
-pub use Rattle.lb_flat.specs.ClockPlaces.{path_runs, row_number, variable_place}
-pub use Rattle.lb_flat.specs.ClockTables.{IsClockTable, clock_place, sign_place}
-pub use Rattle.lb_flat.specs.ClockUses.{HasFlags, clock_numbers, clocks_named, declared_when}
-pub use Rattle.lb_flat.specs.ClockUses.{flagged_below, is_among, statement_whens, whens_in}
-pub use Rattle.lb_flat.specs.{ClockUses.whens_in_all, Correct.{HasReads, IsExpansionOf, IsOrderOf}}
-pub use Rattle.lb_flat.specs.{Correct.IsOrderingOf, Emit.{Emitted, EmittedAll, State, Target}}
-pub use Rattle.lb_flat.specs.Emit.{after, before_instances, call_copies, chosen_by, clock_places}
-pub use Rattle.lb_flat.specs.Emit.{copied, emit_all, emit_at_most_one, emit_each, emit_name}
-pub use Rattle.lb_flat.specs.Emit.{emit_nor, emit_symbol, expanded, from_inputs, given_inputs}
-pub use Rattle.lb_flat.specs.Emit.{gives, iterator_copies, negated, numbered, numbers, observed}
-pub use Rattle.lb_flat.specs.Emit.{observed_places, property_places, push, received, targets}
-pub use Rattle.lb_flat.specs.EmitRows.{HasRow, HasRows, IsCounted, body_in, with_body}
-pub use Rattle.lb_flat.specs.EmitTerms.{Context, Cursor, PlacedEmitted, PlacedState, accumulator}
-pub use Rattle.lb_flat.specs.EmitTerms.{call, choose, constant, each, emit_row, first_place}
-pub use Rattle.lb_flat.specs.EmitTerms.{gathered_at, index_copies, index_outputs, input_targets}
-pub use Rattle.lb_flat.specs.EmitTerms.{iterate, left_targets, literal, memory, next_call}
-pub use Rattle.lb_flat.specs.EmitTerms.{next_term, pairs, part_copies, picked, placed, red}
-pub use Rattle.lb_flat.specs.EmitTerms.{row_place, symbol, with_all, with_one, with_two}
-pub use Rattle.lb_flat.specs.EmitWhole.{IsReady, begun_at, clocks_in, given_at, is_start}
-pub use Rattle.lb_flat.specs.EmitWhole.{observed_at, outputs_at, parameter_targets, places_from}
-pub use Rattle.lb_flat.specs.EmitWhole.{start_in, start_of, variable_targets, whole}
-pub use Rattle.lb_flat.specs.{Fitting.class_on_truths, Flat.{Always, ApplyBinary, ApplyUnary}}
-pub use Rattle.lb_flat.specs.Flat.{AreLong, Choose, Constant, Copy, FirstThen, FlatClock}
-pub use Rattle.lb_flat.specs.Flat.{FlatEquation, FlatSolves, Holds, Input, Latest, Operation}
-pub use Rattle.lb_flat.specs.Flat.{Previous, Sample, Where, column, instants, operate}
-pub use Rattle.lb_flat.specs.{FlatPrograms.IsFlatOf, FlatSolutions.{IsCellFit, IsFlatSolution}}
-pub use Rattle.lb_flat.specs.{Flattening.{IsTrace, IsWatched, history_of}, Frames.HasPlaces}
-pub use Rattle.lb_flat.specs.Frames.{HasRoom, elements_of, place_of, stacked, targets_of}
-pub use Rattle.lb_flat.specs.{Frames.with_copies, GivenOnce.IsGiven, InOrder.is_done}
+pub use Rattle.lb_syntax.specs.declared.tree.{Kind.TheVariants.Int, UnaryOperator.UnaryOperator}
+pub use Rattle.lb_syntax.specs.declared.tree.UnaryOperator.TheVariants.{Negate, Not}
+pub use Rattle.lb_syntax.proofs.TruthValues.{and_first, and_second, contrary}
+pub use Rattle.lb_static.specs.{Arithmetic.is_int, DataTypes.{input_kinds, signature, variables}}
+pub use Rattle.lb_static.specs.Instances.{Instance, Observer, Path, Program, Root, instance_at}
+pub use Rattle.lb_static.specs.{Instances.instances, Instantiation.has_no_parameters}
+pub use Rattle.lb_static.specs.Instantiation.{instantiation_refusal, is_root, static_refusal}
+pub use Rattle.lb_static.specs.{Names.{is_well_founded, keeps_names}, Signature.Elements}
+pub use Rattle.{lb_static.specs.Signature.kinds_of, lb_traces.specs.Traces.{IsCell, IsRecording}}
+pub use Rattle.lb_traces.specs.Traces.{Recording, trace_at}
+pub use Rattle.lb_check.specs.{Acceptance.check_refusal, Needs.{Element, Needs}}
+pub use Rattle.lb_check.specs.{Occurrences.{Occurrence, node_occurrences}, Scalars.{Bad, Boolean}}
+pub use Rattle.lb_check.specs.Scalars.{Integer, Scalar, Stream, is_given, is_of_kind, one_scalar}
+pub use Rattle.lb_check.specs.{Scalars.{or_fault, strict, two_scalars}, Solutions.AgreeAt}
+pub use Rattle.lb_check.specs.{Solutions.{AreSame, Inputs, Solves, fits, is_row}, Streams.History}
+pub use Rattle.lb_check.specs.Streams.{along, along_two, choice, constantly, first_cell, first_then}
+pub use Rattle.lb_check.specs.Streams.{held, latest, newest, one_cell, previous, sample, shows}
+pub use Rattle.lb_check.specs.{Streams.two_cells, Verdicts.{is_bad, is_false, is_nil, or_later}}
+pub use Rattle.lb_check.specs.declared.verdict.Verdict.{Verdict, TheVariants.Passed}
+pub use Rattle.lb_check.proofs.{definitions.BrokenRules.{kept, second_none}, lists.Members.Every-at}
+pub use Rattle.lb_check.proofs.lists.Members.{Every-from, in_first}
+pub use Rattle.lb_check.proofs.programs.{InstancePaths.path_is, SolutionStreams.length-both}
+pub use Rattle.lb_check.proofs.programs.SolutionStreams.{solves_same}
+pub use Rattle.lb_flat.specs.Correct.{HasReads, IsExpansionOf, IsOrderOf, IsOrderingOf}
+pub use Rattle.lb_flat.specs.Flat.{Always, ApplyBinary, ApplyUnary, AreLong, Choose, Constant, Copy}
+pub use Rattle.lb_flat.specs.Flat.{FirstThen, FlatClock, FlatEquation, FlatSolves, Holds, Input}
+pub use Rattle.lb_flat.specs.Flat.{Latest, Operation, Previous, Sample, Where, column, instants}
+pub use Rattle.lb_flat.specs.{Flat.operate, FlatPrograms.IsFlatOf, FlatSolutions.IsCellFit}
+pub use Rattle.lb_flat.specs.{FlatSolutions.IsFlatSolution, Flattening.{IsTrace, IsWatched}}
+pub use Rattle.lb_flat.specs.{Flattening.history_of, GivenOnce.IsGiven, InOrder.is_done}
 pub use Rattle.lb_flat.specs.{Inputs.{inputs_of, scalar_in, scalars_in}, Judging.FlatProgram}
 pub use Rattle.lb_flat.specs.Judging.{flat_verdict, row_judged, rows_judged, some_in}
-pub use Rattle.lb_flat.specs.Layouts.{Layout, flat_clock, where_signed}
-pub use Rattle.lb_flat.specs.MemoryPlaces.{HasAllMemories, HasMemories, KeepsFlag, KeepsOperand}
-pub use Rattle.lb_flat.specs.{NumberedLayouts.{layout, numbered_clock, signs_of}, Operators.pair_of}
-pub use Rattle.lb_flat.specs.{Operators.unary_of, Ordering.{AreOrdered, AreScheduled, IsLeft}}
-pub use Rattle.lb_flat.specs.Ordering.{IsScheduled, IsStuckAt, IsTableOf, awaited, first_left, left}
-pub use Rattle.lb_flat.specs.Prepared.{AreFixed, fixed_in, has_memory, inputs_in, is_fixed}
-pub use Rattle.lb_flat.specs.Prepared.{is_input, is_step, memory_places, on_base, place_equation}
-pub use Rattle.lb_flat.specs.{Prepared.steps_in, Programs.{flat_equations, numbers_of, program_of}}
-pub use Rattle.lb_flat.specs.Reading.{Chain, IsCertificate, IsReadCycle, Leads, NeedsAt, by_way}
-pub use Rattle.lb_flat.specs.{Reading.{more_reads, one_read, reads_it}, RowContexts.RowClocks}
-pub use Rattle.lb_flat.specs.RowContexts.{parameters_of, row_context, value_at}
-pub use Rattle.lb_flat.specs.RowFrames.{found_row, frame_contexts, held_below, held_value}
-pub use Rattle.lb_flat.specs.{RowFrames.{read_clocks, row_read}, RowKinds.declared_kinds}
-pub use Rattle.lb_flat.specs.{RowKinds.{kinds_in, table_kinds}, Rows.{AreAdded, called_row}}
-pub use Rattle.lb_flat.specs.Rows.{child_numbers, child_row, count_at, declared_width}
-pub use Rattle.lb_flat.specs.Rows.{element_total, first_of_row, numbers_at, numbers_between}
-pub use Rattle.lb_flat.specs.Rows.{row_numbers, sum_of, variables_before, widths_in, widths_of}
-pub use Rattle.lb_flat.specs.Run.{IsNext, Ready, Row, advanced, cell, chosen_cell, clock_reads}
-pub use Rattle.lb_flat.specs.Run.{equation_reads, filled, is_now, keeps, now, reads, remembered}
-pub use Rattle.lb_flat.specs.{Run.{row_of, run, streams_of}, SizeFaults.Counts}
-pub use Rattle.lb_flat.specs.TableClocks.{IsLayoutOf, Sources, all_clocks, all_runs, all_serving}
-pub use Rattle.lb_flat.specs.TableClocks.{caller_number, clock_id, clocks_among, found_call}
-pub use Rattle.lb_flat.specs.TableClocks.{given_for, no_element, node_at, node_clocks, own_element}
-pub use Rattle.lb_flat.specs.TableClocks.{row_runs, row_serving, serving_element, signed_clock}
-pub use Rattle.lb_flat.specs.TableClocks.{sources_of, table_runs, table_serving, variable_clocks}
-pub use Rattle.lb_flat.specs.{TableClocks.variable_number, TableSizes.{lent_size, term_total}}
-pub use Rattle.lb_flat.specs.TemporaryKinds.{kind_among, kinds_from, operation_kind}
-pub use Rattle.lb_flat.specs.TermEmissions.{above, emitted_of, on_three, on_top, on_two, onto}
-pub use Rattle.lb_flat.specs.TermEmissions.{pushed, state_of, with_asserted, with_kept, without}
-pub use Rattle.lb_flat.specs.Values.{cell_of, clock_from, clock_of, clock_within, equation_of}
-pub use Rattle.lb_flat.specs.{Values.operation_of, Within.{AreClocks, IsClock, IsTableClock}}
-pub use Rattle.lb_flat.specs.{Within.IsWithin, declared.cell.Cell.Cell}
-pub use Rattle.lb_flat.specs.declared.{children.Children.Children, clocks.Clocks.Clocks}
+pub use Rattle.lb_flat.specs.{Layouts.Layout, MemoryPlaces.{HasAllMemories, HasMemories, KeepsFlag}}
+pub use Rattle.lb_flat.specs.{MemoryPlaces.KeepsOperand, NumberedLayouts.layout}
+pub use Rattle.lb_flat.specs.Ordering.{AreOrdered, AreScheduled, IsLeft, IsScheduled, IsStuckAt}
+pub use Rattle.lb_flat.specs.{Ordering.{IsTableOf, awaited, first_left, left}, Prepared.AreFixed}
+pub use Rattle.lb_flat.specs.Prepared.{fixed_in, has_memory, inputs_in, is_fixed, is_input, is_step}
+pub use Rattle.lb_flat.specs.Prepared.{memory_places, on_base, place_equation, steps_in}
+pub use Rattle.lb_flat.specs.{Programs.{flat_equations, numbers_of, program_of}, Reading.Chain}
+pub use Rattle.lb_flat.specs.Reading.{IsCertificate, IsReadCycle, Leads, NeedsAt, by_way}
+pub use Rattle.lb_flat.specs.{Reading.{more_reads, one_read, reads_it}, Run.{IsNext, Ready, Row}}
+pub use Rattle.lb_flat.specs.Run.{advanced, cell, chosen_cell, clock_reads, equation_reads, filled}
+pub use Rattle.lb_flat.specs.Run.{is_now, keeps, now, reads, remembered, row_of, run, streams_of}
+pub use Rattle.lb_flat.specs.{TemporaryKinds.kind_among, Values.{cell_of, clock_from, clock_of}}
+pub use Rattle.lb_flat.specs.{Values.{clock_within, equation_of, operation_of}, Within.AreClocks}
+pub use Rattle.lb_flat.specs.{Within.{IsClock, IsWithin}, declared.cell.Cell.Cell}
 pub use Rattle.lb_flat.specs.declared.equation.{Clock.Clock, ClockId.ClockId, ElementId.ElementId}
 pub use Rattle.lb_flat.specs.declared.{equation.InputPlace.InputPlace, error.Cycle.Cycle}
-pub use Rattle.lb_flat.specs.declared.expansion.{frame.Callee.Callee, start.Start.Start}
-pub use Rattle.lb_flat.specs.declared.expansion.term_emission.TermEmission.{TermEmission}
-unfoldable pub use Rattle.lb_check.specs.{Elements.{element_kinds, program_elements}, Needs.needs}
-unfoldable pub use Rattle.lb_flat.specs.Emit.{add, assert, chained, emit, emit_body, emit_instances}
-unfoldable pub use Rattle.lb_flat.specs.{Emit.{joins, keep, twice}, EmitRows.bodies}
-unfoldable pub use Rattle.lb_flat.specs.EmitTerms.{emit_list, emit_rows, emit_statement}
-unfoldable pub use Rattle.lb_flat.specs.EmitTerms.{emit_statements, emit_term}
-unfoldable pub use Rattle.lb_flat.specs.EmitWhole.{row_clocks, start_from}
+unfoldable pub use Rattle.lb_check.specs.Elements.{program_elements}

@@ -1,3 +1,2 @@
 -- Lists in general.
 pub mod Lists
-pub mod Counting

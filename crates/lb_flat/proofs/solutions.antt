@@ -1,10 +1,3 @@
--- Solutions of a flat program and histories of its program: each comes from the other.
-pub mod Placing
-pub mod Emission
-pub mod Closing
-pub mod Solving
-pub mod Watching
-pub mod FlatHistories
+-- Solutions of a flat program, and the histories and verdicts of the program that it stands
+-- for. Nothing here depends on how the program was expanded.
 pub mod StandingRuns
-pub mod KeptMemories
-pub mod FlatStanding

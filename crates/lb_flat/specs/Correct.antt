@@ -1,33 +1,27 @@
--- The promises of `expand`, `order` and `eval_trace`.
+-- The promises of `order` and `eval_trace`, and what it is to be the expansion of a program.
 -- This file says what data of the program mean; no definition of the language stands on it.
-use Rattle.std.specs.Prelude.{◌≡◌, ℕ, ◌<◌, true, false, Some, slice_get, List, [], length}
-use Rattle.std.specs.Prelude.{Result, Ok, Err}
+use Rattle.std.specs.Prelude.{◌≡◌, ℕ, ◌<◌, Some, slice_get, List, []}
 use Rattle.lb_syntax.specs.Lists.{In}
 use Rattle.lb_static.specs.Instances.{Program}
 use Rattle.lb_static.specs.DataTypes.{signature}
 use Rattle.lb_check.specs.Elements.{program_elements}
 use Rattle.lb_check.specs.Needs.{Element, Needs}
 use Rattle.lb_check.specs.Solutions.{HasOneHistory}
-use Rattle.lb_check.specs.TypeRules.{is_small}
 use Rattle.lb_check.specs.Verdicts.{IsOnlyVerdict}
 use Rattle.lb_check.specs.declared.verdict.Verdict.{Verdict}
-use Rattle.lb_flat.specs.declared.flat.Flat.{Flat}
-use Rattle.lb_flat.specs.declared.error.FlatError.{FlatError}
-use Rattle.lb_flat.specs.declared.error.FlatError.TheVariants as error
 use Rattle.lb_flat.specs.declared.error.OrderError.{OrderError}
-use Rattle.lb_flat.specs.declared.error.OrderError.TheVariants as order_error
 use Rattle.lb_flat.specs.Flat.{FlatEquation}
 use Rattle.lb_flat.specs.FlatPrograms.{IsFlatOf}
 use Rattle.lb_flat.specs.GivenOnce.{IsGiven}
 use Rattle.lb_flat.specs.Inputs.{inputs_of}
 use Rattle.lb_flat.specs.Judging.{FlatProgram}
-use Rattle.lb_flat.specs.Programs.{numbers_of, program_of}
+use Rattle.lb_flat.specs.Programs.{numbers_of}
 use Rattle.lb_flat.specs.Reading.{Leads, Chain, NeedsAt, IsReadCycle, IsCertificate}
 use Rattle.lb_flat.specs.RightVerdicts.{right_verdict}
 use Rattle.lb_flat.specs.Run.{Ready}
-use Rattle.lb_flat.specs.SizeFaults.{IsSizeFault}
 use Rattle.lb_flat.specs.Standing.{HasKindsOf, StandsForProgram}
 use Rattle.lb_traces.specs.Traces.{Recording}
+use Rattle.lb_flat.specs.declared.error.OrderError.TheVariants as order_error
 
 -- ## Expansion
 
@@ -49,12 +43,6 @@ pub record IsExpansionOf (P : Program) (f : FlatProgram) : Type 0 where
       (i j : ℕ) → i < f.variables → j < f.variables → Leads f j i → NeedsAt P i j
   pub reads : (x y : Element) → Needs P x y → HasReads P f x y
 
--- the answer to an accepted program is its expansion, unless it is too large or memory ran out
-abbrev pub IsExpansionAnswer : Program → Result Flat FlatError → Type 0
-IsExpansionAnswer P (Ok f) = (is_small P ≡ true) × IsExpansionOf P (program_of f.program)
-IsExpansionAnswer P (Err error.Memory) = Unit {0}
-IsExpansionAnswer P (Err (error.Large fault)) = (is_small P ≡ false) × IsSizeFault P fault
-
 -- ## Order
 
 -- two lists hold the same equations, in any order
@@ -75,14 +63,6 @@ IsCycleFound f order_error.Memory = Unit {0}
 IsCycleFound f (order_error.Cycle c) =
     let is = numbers_of c.value.elements.items in
     IsReadCycle f is × ((P : Program) → IsExpansionOf P f → IsCertificate P is)
-
--- the second error is the cycle of the first with a place for each element; or memory ran out
-abbrev pub IsPlaced : OrderError → OrderError → Type 0
-IsPlaced e order_error.Memory = Unit {0}
-IsPlaced order_error.Memory (order_error.Cycle d) = ⊥
-IsPlaced (order_error.Cycle c) (order_error.Cycle d) =
-    (d.value.elements.items ≡ c.value.elements.items)
-    × (length d.value.places.items ≡ length d.value.elements.items)
 
 -- ## Verdicts
 

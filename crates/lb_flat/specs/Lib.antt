@@ -2,7 +2,6 @@ pub mod Flat
 pub mod Run
 pub mod Layouts
 pub mod NumberedLayouts
-pub mod Emit
 pub mod Reading
 pub mod Judging
 pub mod Flattening
@@ -20,16 +19,6 @@ pub mod Correct
 pub mod CyclicPrograms
 pub mod Prefixes
 pub mod Ordering
-pub mod EmitTerms
-pub mod Operators
-pub mod TermEmissions
-pub mod Frames
-pub mod Emissions
-pub mod Rows
-pub mod TableSizes
-pub mod SizeFaults
-pub mod RowContexts
-pub mod RowKinds
 pub mod FlatSolutions
 pub mod Fitting
 pub mod FlatPrograms
@@ -37,12 +26,3 @@ pub mod Standing
 pub mod RightVerdicts
 pub mod MemoryPlaces
 pub mod TemporaryKinds
-pub mod ClockTables
-pub mod ClockUses
-pub mod EmitRows
-pub mod EmitWhole
-pub mod TableClocks
-pub mod ClockPlaces
-pub mod RowFrames
-pub mod EquationKinds
-pub mod AssembledPrograms

@@ -1,4 +1,4 @@
-//! Why a program is refused here, and where.
+//! Why the equations of a program are not put in order, and where.
 //!
 //! Each place is a byte offset in the text of the source.
 
@@ -7,29 +7,6 @@ ghost use Rattle.std.specs.Prelude.{◌≡◌};
 use crate::equation::ElementId;
 use lb_static::CallPath;
 use std::alloc::{AllocError, AllocFailed, Global};
-
-/// The size of a program that is too large (E12).
-#[derive(Clone, Copy, PartialEq, Eq, Debug)]
-pub struct SizeFault {
-    /// How many scalar elements its variables and expressions have together, in all instances.
-    pub size: u64,
-    /// Whether the true size may be greater: expressions whose elements alone are over the limit
-    /// are not counted.
-    pub is_least: bool,
-    /// The greatest size that is accepted.
-    pub limit: u32,
-}
-
-/// Why a program is not expanded.
-#[derive(Debug, Drop, thiserror::Error)]
-pub enum FlatError {
-    /// Memory ran out (E0).
-    #[error("memory ran out")]
-    Memory,
-    /// The size of the expanded program is over 65,536 (E12).
-    #[error("the expanded program is too large")]
-    Large(SizeFault),
-}
 
 /// An element of a cycle, and where it is defined.
 #[derive(Debug, Drop)]
@@ -76,26 +53,6 @@ pub enum OrderError {
     /// An element needs itself at the same instant (E13).
     #[error("an element needs itself at the same instant")]
     Cycle(Box<Cycle>),
-}
-
-impl From<AllocError> for FlatError {
-    ghost use Rattle.lb_flat.specs.declared.error.FlatError.TheVariants.{Memory};
-
-    ghost from_gives = { λ _ e. e ≡ Memory };
-
-    fn from(_e: AllocError) -> FlatError {
-        FlatError::Memory
-    }
-}
-
-impl<T: Drop> From<AllocFailed<T>> for FlatError {
-    ghost use Rattle.lb_flat.specs.declared.error.FlatError.TheVariants.{Memory};
-
-    ghost from_gives = { λ _ e. e ≡ Memory };
-
-    fn from(_e: AllocFailed<T>) -> FlatError {
-        FlatError::Memory
-    }
 }
 
 impl From<AllocError> for OrderError {

@@ -53,7 +53,7 @@ fn read_row(set: &TraceSet, kinds: &[Kind], k: u32, t: u32, inputs: &[InputPlace
 }
 
 /// The kind of each column.
-pub(crate) fn kinds_of(alloc: Global, signature: &Signature) -> Result<Vec<Kind>, AllocError>
+pub fn kinds_of(alloc: Global, signature: &Signature) -> Result<Vec<Kind>, AllocError>
     ensures { IfOk result (λ kinds. kinds.items ≡ kinds_of signature.now) }
 {
     let mut kinds = Vec::new(alloc);

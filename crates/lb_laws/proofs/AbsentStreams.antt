@@ -46,9 +46,10 @@ use Rattle.lb_check.proofs.typing.OperandTypes.{placed, one_output}
 use Rattle.lb_flat.specs.Flat.{instants}
 use Rattle.lb_flat.specs.Layouts.{flat_clock}
 use Rattle.lb_flat.specs.NumberedLayouts.{layout}
-use Rattle.lb_flat.proofs.clock_tables.ClockTable.{CalleeClocks, callee_clocks}
-use Rattle.lb_flat.proofs.clock_tables.SignStreams.{clock_instants, runs_history}
-use Rattle.lb_flat.proofs.{lists.Lists.{Every-take, Every-drop}, solutions.Placing.columns}
+use Rattle.lb_expand.proofs.clock_tables.ClockTable.{CalleeClocks, callee_clocks}
+use Rattle.lb_expand.proofs.clock_tables.SignStreams.{clock_instants, runs_history}
+use Rattle.lb_flat.proofs.lists.Lists.{Every-take, Every-drop}
+use Rattle.lb_expand.proofs.solutions.Placing.{columns}
 use Rattle.lb_laws.specs.Ticks.{IsOff, IsAbsent, AreAbsent}
 use Rattle.lb_laws.proofs.AbsentCells.{all_constant, all_one, all_two, all_choices, all_first_then}
 use Rattle.lb_laws.proofs.AbsentCells.{all_previous, all_sampled, all_latest, all_fitting}

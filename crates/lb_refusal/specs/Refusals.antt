@@ -7,8 +7,8 @@ use Rattle.lb_static.specs.declared.error.StaticError.{StaticError}
 use Rattle.lb_static.specs.declared.error.StaticError.TheVariants as static
 use Rattle.lb_check.specs.declared.error.CheckError.{CheckError}
 use Rattle.lb_check.specs.declared.error.CheckError.TheVariants as check
-use Rattle.lb_flat.specs.declared.error.FlatError.{FlatError}
-use Rattle.lb_flat.specs.declared.error.FlatError.TheVariants as flat
+use Rattle.lb_expand.specs.declared.error.FlatError.{FlatError}
+use Rattle.lb_expand.specs.declared.error.FlatError.TheVariants as flat
 use Rattle.lb_flat.specs.declared.error.OrderError.{OrderError}
 use Rattle.lb_flat.specs.declared.error.OrderError.TheVariants as order
 use Rattle.lb_trace.specs.Errors.{error_number}

@@ -5,7 +5,8 @@ ghost use Rattle.lb_refusal.specs.Refusals as spec;
 
 use crate::refusal::word;
 use lb_check::CheckError;
-use lb_flat::{FlatError, OrderError};
+use lb_expand::FlatError;
+use lb_flat::OrderError;
 use lb_static::StaticError;
 use lb_syntax::SyntaxError;
 use lb_trace::TraceError;

@@ -20,7 +20,7 @@ use Rattle.lb_check.specs.Correct.{IsAnswer}
 use Rattle.lb_check.specs.TypeRules.{is_small}
 use Rattle.lb_check.specs.declared.error.CheckError.{CheckError}
 use Rattle.lb_check.specs.declared.error.CheckError.TheVariants as check
-use Rattle.lb_flat.specs.declared.error.FlatError.TheVariants as flat
+use Rattle.lb_expand.specs.declared.error.FlatError.TheVariants as flat
 use Rattle.lb_flat.specs.declared.error.OrderError.{OrderError}
 use Rattle.lb_flat.specs.declared.error.OrderError.TheVariants as order
 use Rattle.lb_report.specs.Bench.{IsBenchReport, IsCycle, IsRefused, program_of}

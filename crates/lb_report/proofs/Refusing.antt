@@ -11,14 +11,15 @@ use Rattle.lb_static.specs.Instantiation.{static_refusal}
 use Rattle.lb_check.specs.Acceptance.{check_refusal, refusal, IsAccepted}
 use Rattle.lb_check.specs.Needs.{IsCausal}
 use Rattle.lb_check.specs.TypeRules.{is_small}
-use Rattle.lb_flat.specs.Correct.{IsCycleFound, IsExpansionAnswer, IsExpansionOf, IsPlaced}
+use Rattle.lb_flat.specs.Correct.{IsCycleFound, IsExpansionOf}
+use Rattle.lb_expand.specs.Correct.{IsExpansionAnswer, IsPlaced}
 use Rattle.lb_flat.specs.CyclicPrograms.{AreOfCyclic}
 use Rattle.lb_flat.specs.FlatPrograms.{IsFlatOf}
 use Rattle.lb_flat.specs.Judging.{FlatProgram}
 use Rattle.lb_flat.specs.Programs.{numbers_of}
 use Rattle.lb_flat.specs.Reading.{IsCertificate}
-use Rattle.lb_flat.specs.declared.error.FlatError.{FlatError}
-use Rattle.lb_flat.specs.declared.error.FlatError.TheVariants as flat
+use Rattle.lb_expand.specs.declared.error.FlatError.{FlatError}
+use Rattle.lb_expand.specs.declared.error.FlatError.TheVariants as flat
 use Rattle.lb_flat.specs.declared.error.OrderError.{OrderError}
 use Rattle.lb_flat.specs.declared.error.OrderError.TheVariants.{Memory, Cycle}
 use Rattle.lb_report.specs.Bench.{IsCycle, IsTooLarge, program_of}

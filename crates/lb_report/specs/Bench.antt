@@ -20,10 +20,10 @@ use Rattle.lb_check.specs.declared.verdict.Verdict.TheVariants.{Passed}
 use Rattle.lb_flat.specs.Inputs.{inputs_of}
 use Rattle.lb_flat.specs.Programs.{numbers_of}
 use Rattle.lb_flat.specs.Reading.{IsCertificate}
-use Rattle.lb_flat.specs.SizeFaults.{IsSizeFault}
+use Rattle.lb_expand.specs.SizeFaults.{IsSizeFault}
 use Rattle.lb_traces.specs.Traces.{Recording, Traces, trace_names}
-use Rattle.lb_flat.specs.declared.error.FlatError.{FlatError}
-use Rattle.lb_flat.specs.declared.error.FlatError.TheVariants as flat
+use Rattle.lb_expand.specs.declared.error.FlatError.{FlatError}
+use Rattle.lb_expand.specs.declared.error.FlatError.TheVariants as flat
 use Rattle.lb_flat.specs.declared.error.OrderError.{OrderError}
 use Rattle.lb_flat.specs.declared.error.OrderError.TheVariants as order
 use Rattle.lb_trace.specs.Errors.{Refuses}

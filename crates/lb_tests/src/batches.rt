@@ -10,7 +10,8 @@ use crate::sources::checked_of;
 use crate::texts::{around, expect, first_line, is_same};
 use crate::{forms, random, runs};
 use lb_check::Verdict;
-use lb_flat::{Ordered, eval_trace, expand, order};
+use lb_expand::expand;
+use lb_flat::{Ordered, eval_trace, order};
 use lb_lanes::Plane;
 use lb_report::split_case;
 use lb_sim::{

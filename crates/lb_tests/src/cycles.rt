@@ -4,7 +4,8 @@
 //! cycle needs the next one at the same instant, and the last one the first.
 
 use crate::sources::checked_of;
-use lb_flat::{ElementId, OrderError, expand, order};
+use lb_expand::expand;
+use lb_flat::{ElementId, OrderError, order};
 use lb_syntax::parse;
 use std::alloc::{AllocError, Global};
 

@@ -7,7 +7,8 @@
 
 use crate::sources::checked_of;
 use lb_check::Checked;
-use lb_flat::{Cycle, FlatError, OrderError, expand, order, with_places};
+use lb_expand::{FlatError, expand, with_places};
+use lb_flat::{Cycle, OrderError, order};
 use lb_static::CallPath;
 use lb_syntax::{line_column, parse};
 use std::alloc::{AllocError, Global};

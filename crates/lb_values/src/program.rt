@@ -8,7 +8,8 @@ ghost use Rattle.lb_report.specs.Bench.{IsRefused, program_of};
 ghost use Rattle.lb_values.specs.Programs.{IsProgram};
 
 use lb_check::{Checked, check};
-use lb_flat::{Ordered, expand, order, with_places};
+use lb_expand::{expand, with_places};
+use lb_flat::{Ordered, order};
 use lb_report::{BenchError, Options};
 use lb_static::elaborate;
 use lb_syntax::Source;

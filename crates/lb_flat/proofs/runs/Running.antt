@@ -10,7 +10,7 @@ use Words.{◌<◌, ◌≤◌, inl, inr, set, replicate, subst, length-set, get_
 use Words.{length-replicate, In, held, one_cell, two_cells, newest, chosen_cell, clock_reads, reads}
 use Words.{IsNext, Ready, filled, row_of, ◌++◌, length-map, FlatSolves, keeps, run, streams_of}
 use Rattle.{lb_check.specs.Scalars.Cell, lb_flat.specs.Run.started_by}
-use Rattle.lb_flat.proofs.lists.{Counting.tail_long, Lists.{choice_step, latest_step, Every-first}}
+use Rattle.lb_flat.proofs.lists.Lists.{tail_long, choice_step, latest_step, Every-first}
 use Rattle.lb_flat.proofs.lists.Lists.{Every-second, column_long, operate_long}
 
 -- An equation holds of streams exactly where it holds of their first row and, with its memory moved

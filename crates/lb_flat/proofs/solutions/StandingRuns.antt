@@ -11,23 +11,39 @@ use Words.{holds, Root, Observer, instance_at, is_root, AgreeAt, path_is, solves
 use Words.{IsFlatOf, kind_among, layout, ◌≤◌, inl, AreApart, HasReads, IsExpansionOf, IsGiven}
 use Words.{Chain, Leads, by_way, more_reads, one_read, reads_it, equation_reads, get_or, arith}
 use Words.{length-map-range_with_len, get_or-map-range_with_len, Passed, program_of, ◌↔◌, is_row}
-use Words.{Solves, AreSame}
+use Words.{Solves, AreSame, fits, column, instants, Every-from, E4, E7, E8, unless}
+use Words.{instantiation_refusal, has_no_parameters, keeps_names, is_well_founded, second_none}
+use Words.{kept}
 use Rattle.{std.proofs.Math.Logic.{∥∥₁_elim, ∥∥₁_map}, lb_check.specs.Clocks.Clock}
 use Rattle.lb_check.specs.{Solutions.HasOneHistory, Verdicts.{HasVerdict, IsOnlyVerdict}}
 use Rattle.lb_check.proofs.programs.SameHistories.{only_verdict, starts_agree}
-use Rattle.lb_flat.specs.{Correct.IsVerdictOf, FlatPrograms.IsStreamed, Prefixes.IsDetermined}
-use Rattle.lb_flat.specs.{Prefixes.IsPrefix, PreparedPrograms.prepared_props}
-use Rattle.lb_flat.specs.{RightVerdicts.{right_verdict, right_verdicts}, Standing.StandsForProgram}
-use Rattle.lb_flat.{specs.declared.flat.Ordered.Ordered, proofs.lists.Lists.Every-map}
-use Rattle.lb_flat.proofs.ordering.Ordering.{In-map, IsFrom, from_map, ready_of}
-use Rattle.lb_flat.proofs.{ordering.ReadCycles.new_later, runs.FilledFits.cells_fit}
-use Rattle.lb_flat.proofs.runs.{Fitting.{IsFitting, solution_fits}, Judging.flat_ends}
-use Rattle.lb_flat.proofs.runs.Judging.{streams_taken, instances_prefix}
-use Rattle.lb_flat.proofs.runs.{RecordedInputs.trace_given, Running.{unique, exists}}
-use Rattle.lb_flat.proofs.solutions.Solving.{Every-ordered, fitting_ordered}
-use Rattle.lb_flat.proofs.widths.SoundPrograms.{root_kept}
+use Rattle.lb_flat.specs.{Correct.IsVerdictOf, Fitting.{IsFitting, ClockFits, KindFits}}
+use Rattle.lb_flat.specs.{FlatPrograms.IsStreamed, Prefixes.{IsDetermined, IsPrefix}}
+use Rattle.lb_flat.specs.{PreparedPrograms.prepared_props, RightVerdicts.right_verdict}
+use Rattle.lb_flat.specs.{RightVerdicts.right_verdicts, Standing.StandsForProgram}
+use Rattle.lb_flat.{specs.declared.flat.Ordered.Ordered, proofs.lists.Lists.{Every-map, Every-both}}
+use Rattle.lb_flat.proofs.{lists.Lists.Every-in, ordering.Ordering.{In-map, IsFrom, from_map}}
+use Rattle.lb_flat.proofs.ordering.{Ordering.ready_of, ReadCycles.new_later}
+use Rattle.lb_flat.proofs.runs.{Fitting.solution_fits, Judging.{flat_ends, streams_taken}}
+use Rattle.lb_flat.proofs.runs.{Judging.instances_prefix, RecordedInputs.trace_given}
+use Rattle.lb_flat.proofs.runs.Running.{unique, exists}
 
 -- A flat program put in order has the same solutions, watched elements and memories.
+
+-- what holds of all equations of a list holds of all in another order
+pub Every-ordered :
+    (P : FlatEquation → Type 0) (Q Q' : List FlatEquation) →
+    ((q : FlatEquation) → In q Q → In q Q') → Every P Q' → Every P Q
+Every-ordered P Q Q' there h = Every-from P Q (λ q i. Every-in P q Q' h (there q i))
+
+-- where clocks and kinds fit, they fit in every order of the equations
+pub fitting_ordered :
+    (inputs : List Kind) (K : ℕ → FlatClock) (N : ℕ → Kind) (Q Q' : List FlatEquation) →
+    IsOrderingOf Q Q' → IsFitting inputs K N Q → IsFitting inputs K N Q'
+fitting_ordered inputs K N Q Q' o fit = record {
+  clocks = Every-ordered (ClockFits (length inputs) K) Q' Q o.back fit.clocks;
+  kinds = Every-ordered (KindFits inputs N) Q' Q o.back fit.kinds;
+}
 
 -- a flat program with its equations in another order
 abbrev pub in_order : FlatProgram → List FlatEquation → FlatProgram
@@ -141,6 +157,17 @@ ready_within size done (q ∷ Q) ready =
 
 -- ## The one solution
 
+-- where all elements fit their clocks and kinds, so do the cells of equations whose clocks fit
+pub cells_fit :
+    (inputs : List Kind) (K : ℕ → FlatClock) (N : ℕ → Kind) (size : ℕ) (X : Inputs)
+    (F : List Stream) (Q : List FlatEquation) → Every (λ q. q.element < size) Q →
+    Every (ClockFits (length inputs) K) Q →
+    ((i : ℕ) → i < size → fits (N i) (instants X F (K i)) (column X F i) ≡ true) →
+    Every (IsCellFit N X F) Q
+cells_fit inputs K N size X F Q within clocks all =
+    Every-map _ (IsCellFit N X F) (λ q h. rw (← h.1.own) (all q.element h.0)) Q (Every-both
+    (λ q. q.element < size) (ClockFits (length inputs) K) Q within clocks)
+
 module _ (wanted : List Kind) (kinds : ℕ → Kind) (f : FlatProgram)
     (ready : Ready f.size [] f.equations) (K : ℕ → FlatClock)
     (fit : IsFitting wanted K kinds f.equations) (X : Inputs) where
@@ -236,6 +263,16 @@ module _ (P : Program) (Y : Layout) (kinds : ℕ → Kind) (f : FlatProgram)
 
 -- A history that agrees with a solution of an accepted program is a solution too, where an observer
 -- would run at every instant.
+
+-- the node under test is there and passes `is_root`, where the static rules hold
+pub root_kept : (P : Program) → static_refusal P ≡ None →
+    holds (is_root P) (instance_at P Root) ≡ true
+root_kept P e =
+    let calls = second_none (unless (keeps_names P) E4) _ e in
+    let parameters = second_none (unless (is_well_founded P) E7) _ calls in
+    let inside = second_none (unless (has_no_parameters P) E8) _ parameters in
+    kept (holds (is_root P) (instance_at P Root)) E8
+    (second_none (instantiation_refusal P 0 (instances P)) _ inside)
 
 -- an accepted program has a node under test
 root_there : (P : Program) (o : Option Instance) → holds (is_root P) o ≡ true →

@@ -1,6 +1,6 @@
 use Rattle.std.proofs.Common.{◌≡◌, ◌+◌, ◌++◌, ◌∷◌, ℕ, List, [], ap, ap₂, sym, ◌∙◌, arith}
 use Rattle.std.specs.List.{range_with_len}
-use Rattle.lb_flat.proofs.emission.EmittedCalls.{range_last}
+use Rattle.lb_flat.proofs.lists.Lists.{range_last}
 use Rattle.lb_sim.proofs.columns.numbers_below.Goals as goal
 
 pub loop-n-preserved : goal.loop-n-preserved

@@ -1,0 +1,11 @@
+pub mod Words
+pub mod lists
+pub mod solutions
+pub mod widths
+pub mod reads
+pub mod emission
+pub mod numbering
+pub mod frames
+pub mod copies
+pub mod fits
+pub mod clock_tables

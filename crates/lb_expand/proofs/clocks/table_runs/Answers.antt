@@ -1,0 +1,25 @@
+-- Each pass adds the clock on which one row runs.
+use Rattle.lb_expand.proofs.Words.{◌≡◌, ◌∷◌, ◌++◌, ◌<◌, [], length, get_or, ap, ◌∙◌, subst, rules}
+use Rattle.lb_expand.proofs.Words.{Table, sources_of, row_runs}
+use Rattle.lb_expand.proofs.clock_tables.AddedClocks.{next_added}
+use Rattle.lb_static.specs.declared.table.Instance as row
+use Rattle.lb_expand.proofs.clocks.table_runs.Goals as goal
+
+pub loop-row-preserved : goal.loop-row-preserved
+loop-row-preserved c =
+    let l = c.loop-row in
+    let from = sources_of c.args.checked.now c.args.layout.now in
+    let t = c.args.checked.now.elab.table in
+    let i = c.index.result.now in
+    let same : c.table-table.result.now ≡ t =
+    c.table-table.ensures.value ∙ ap (λ e. e.table) c.elab.ensures.value in
+    let within : l.row < length c.table-table.result.now.instances.items = search rules in
+    let lt = subst (λ (t : Table). l.row < length t.instances.items) same within in
+    let is = c.index.ensures ∙ ap (λ (t : Table). get_or t.instances.items l.row i) same in
+    next_added (λ j i before. row_runs from before i.origin ∷ []) t.instances.items l.row i
+    l.runs.items c.push.new.self.items lt l.invariant
+    (c.in_ok-push.ensures.items
+    ∙ ap (λ k. l.runs.items ++ k ∷ [])
+    (c.row_runs-clock.ensures
+    ∙ ap (λ before. row_runs from before i.origin) c.deref.ensures.value)
+    ∙ ap (λ (z : row.Instance). l.runs.items ++ row_runs from l.runs.items z.origin ∷ []) is)

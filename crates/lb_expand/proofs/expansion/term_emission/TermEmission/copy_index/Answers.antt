@@ -1,0 +1,78 @@
+use Rattle.lb_expand.proofs.Words.{◌≡◌, ◌≤◌, ◌+◌, ◌-◌, ℕ, List, length, drop, min, arith, Vec}
+use Rattle.lb_expand.proofs.Words.{Global, OnOk, refl, sym, ap, ap₂, subst, ◌∙◌, range_with_len}
+use Rattle.lb_expand.proofs.Words.{length-map, length-range_with_len, ArrayIterator, ElementId}
+use Rattle.lb_expand.proofs.Words.{index_copies, part_copies, with_copies, numbers_of, state_of}
+use Rattle.lb_expand.proofs.Words.{Clock}
+use Rattle.lb_expand.proofs.emission.EmittedCalls.{red_copied}
+use Rattle.lb_expand.proofs.expansion.term_emission.TermEmission.copy_index.Goals as goal
+
+pub returns-in-Map-clause-state : goal.returns-in-Map-clause-state
+returns-in-Map-clause-state g c =
+    let ctx = g.F.Frame.context c.args.frame.now in
+    let old = c.args.self.now in
+    let is = drop c.args.from (numbers_of old.found.items) in
+    let m = ctx.repeats c.args.call in
+    subst (λ r. OnOk c.copy_parts.result (state_of c.copy_parts.new.self ≡ r))
+    (ap (λ n. with_copies (state_of old)
+    (part_copies ctx c.args.call m c.args.index (range_with_len 0 n) is))
+    (all_inputs c.args.callee.inputs)
+    ∙ ap (λ (it : ArrayIterator). with_copies (state_of old)
+    (index_copies ctx c.args.call m it c.args.callee is c.args.index)) (sym c.in-Map.is))
+    c.copy_parts.ensures.state
+  where
+    all_inputs : (n : ℕ) → n - 0 ≡ n
+    all_inputs n = omega arith
+
+pub returns-in-Fill-clause-state : goal.returns-in-Fill-clause-state
+returns-in-Fill-clause-state g c =
+    let ctx = g.F.Frame.context c.args.frame.now in
+    let old = c.args.self.now in
+    let is = drop c.args.from (numbers_of old.found.items) in
+    let m = ctx.repeats c.args.call in
+    let r = c.copy_accumulator-in-Fill in
+    subst (λ s. OnOk r.result (state_of r.new.self ≡ s))
+    (ap (λ (it : ArrayIterator). with_copies (state_of old)
+    (index_copies ctx c.args.call m it c.args.callee is c.args.index)) (sym c.in-Fill.is))
+    r.ensures.state
+
+pub copy_parts-requires-in-Red-clause-clocks : goal.copy_parts-requires-in-Red-clause-clocks
+copy_parts-requires-in-Red-clause-clocks g c =
+    c.requires.clocks
+    ∙ sym (ap (λ (cs : Vec Clock Global). cs.items) c.in_ok-copy_accumulator-in-Red.ensures.clocks)
+
+pub returns-in_ok-copy_accumulator-in-Red-clause-state :
+    goal.returns-in_ok-copy_accumulator-in-Red-clause-state
+returns-in_ok-copy_accumulator-in-Red-clause-state g c =
+    let ctx = g.F.Frame.context c.args.frame.now in
+    let old = c.args.self.now in
+    let mid = c.copy_accumulator.new.self in
+    let first = c.in_ok-copy_accumulator-in-Red.ensures in
+    let call = c.args.call in
+    let i = c.args.index in
+    let callee = c.args.callee in
+    let m = ctx.repeats call in
+    let numbers : Vec ElementId Global → List ℕ = λ xs. numbers_of xs.items in
+    let all = numbers old.found in
+    let size = length-map old.found.items (λ (a : ElementId). a.0) in
+    let same = ap (λ (xs : Vec ElementId Global). length xs.items) first.found in
+    let within : c.args.from ≤ length all = omega (arith, size, c.requires.from) in
+    let count : c.child-count.result.count ≡ length (ctx.child call i 0) =
+    sym (length-range_with_len c.child-count.result.first c.child-count.result.count)
+    ∙ ap (λ (is : List ℕ). length is) c.child-count.ensures.places in
+    let left : c.len.result - c.args.from ≡ length all - c.args.from =
+    omega (arith, size, same, c.len.ensures) in
+    let to = c.args.from + c.min-taken.result in
+    let place : to ≡ c.args.from + min (length (ctx.child call i 0)) (length all - c.args.from) =
+    ap (λ n. c.args.from + n) (c.min-taken.ensures ∙ ap₂ min count left) in
+    let r = c.copy_parts-in-Red in
+    let xs = range_with_len 1 (callee.inputs - 1) in
+    let later = ap (λ js. with_copies (state_of mid)
+    (part_copies ctx call m i xs (drop to (numbers js))))
+    first.found in
+    let whole = red_copied ctx call (state_of old) (state_of mid)
+    (with_copies (state_of mid) (part_copies ctx call m i xs (drop to all))) m i c.args.from to
+    callee all within first.state refl place in
+    subst (λ s. OnOk r.result (state_of r.new.self ≡ s))
+    (later ∙ whole ∙ ap (λ (it : ArrayIterator). with_copies (state_of old)
+    (index_copies ctx call m it callee (drop c.args.from all) i)) (sym c.in-Red.is))
+    r.ensures.state

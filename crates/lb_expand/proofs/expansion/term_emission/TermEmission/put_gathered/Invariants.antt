@@ -1,0 +1,15 @@
+use Rattle.lb_expand.proofs.Words.{◌≡◌, ◌-◌, ◌≤◌, range_with_len, gives, gathered_at, numbers_of}
+use Rattle.lb_expand.proofs.Words.{state_of, emitted_of, onto}
+use Rattle.lb_expand.proofs.expansion.term_emission.TermEmission.put_gathered.Given as goal
+
+abbrev pub invariant-loop-x : goal.invariant-loop-x
+invariant-loop-x g l =
+    let ctx = g.F.Frame.context l.frame in
+    record {
+      emitted : emitted_of l.self
+          ≡ onto (numbers_of l.fn.self.found.items) (gives (state_of l.fn.self)
+          (gathered_at ctx l.call l.repeats (range_with_len l.first (l.x - l.first))));
+      within : l.x - l.first ≤ l.end - l.first;
+      next : l.self.next ≡ l.fn.self.next;
+      clocks : l.self.clocks ≡ l.fn.self.clocks;
+    }

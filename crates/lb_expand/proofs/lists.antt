@@ -1,0 +1,3 @@
+-- Lists in general.
+pub mod Lists
+pub mod Counting

@@ -1,0 +1,177 @@
+-- The flat program of an accepted program, in the layout by numbers, stands for it and is its
+-- expansion.
+use Rattle.lb_expand.proofs.Words
+use Words.{◌≡◌, ℕ, None, List, [], ◌++◌, length, refl, subst, sym, Every, In, Name, Declaration}
+use Words.{variables, input_kinds, Program, Instance, Path, Root, Observer, instance_at, instances}
+use Words.{static_refusal, map_in, check_refusal, program_elements, node_occurrences, Stream}
+use Words.{Inputs, Solves, History, in_first, in_second, Every-at, Every-from, at_path, IsVariable}
+use Words.{given_inputs, observed, before_instances, emit_instances, expanded, FlatEquation, Holds}
+use Words.{instants, IsFlatOf, IsFlatSolution, layout, ◌<◌, Element, Needs, HasReads, IsExpansionOf}
+use Words.{IsGiven, Leads, NeedsAt, FlatProgram}
+use Rattle.lb_check.proofs.programs.SolutionStreams.{presence_long}
+use Rattle.lb_expand.proofs.clock_tables.{ClockTable.runs_at, SignStreams.signs_history}
+use Rattle.lb_expand.proofs.clock_tables.SignStreams.{runs_history, signs_flat}
+use Rattle.lb_expand.proofs.copies.{CallCopies.{HasCopies, all_copied}, GivenProgram.given_whole}
+use Rattle.lb_expand.proofs.numbering.NumberedFits.{program_sorts, AreScalars, clocks_first}
+use Rattle.lb_expand.proofs.numbering.NumberedFits.{kinds_first, all_kinds_counted}
+use Rattle.lb_expand.proofs.numbering.NumberedFits.{variable_kinds_taken, program_fits}
+use Rattle.lb_expand.proofs.numbering.NumberedPlaces.{count_within, is_placing, is_in_order}
+use Rattle.lb_expand.proofs.numbering.TableProgram.{accepted_scalars}
+use Rattle.lb_expand.proofs.reads.NumberedReads.{given_once, needs_are, needs_reads}
+use Rattle.lb_expand.proofs.solutions.FlatHistories.{all_gathered, filled_columns}
+use Rattle.lb_expand.proofs.solutions.{FlatStanding.{StandsFor, stands_for}, Placing.columns}
+use Rattle.lb_expand.proofs.{solutions.Solving.IsPlacing, widths.SoundInstances.RunsAt}
+use Rattle.lb_expand.proofs.widths.SoundPrograms.{observer_wide_in}
+
+-- The flat program of an accepted program, in the layout by numbers, stands for it.
+
+module _ (P : Program) (accepted : static_refusal P ≡ None)
+    (checked : check_refusal P ≡ None) where
+  abbrev count : ℕ
+  count = length (program_elements P)
+
+  abbrev size : ℕ
+  size = (expanded (layout P) P (length (program_elements P))).size
+
+  abbrev equations : List FlatEquation
+  equations = (expanded (layout P) P (length (program_elements P))).equations
+
+  -- each variable has its elements, on its clock and of its kind
+  pub placing :
+      IsPlacing (layout P) P (length (program_elements P)) (program_sorts P).clock_of
+      (program_sorts P).kind_of size
+  placing =
+      is_placing P accepted (program_sorts P).clock_of (program_sorts P).kind_of size
+      (count_within P accepted) (clocks_first P accepted) (kinds_first P accepted)
+
+  -- what is called runs on the clock of the call
+  pub runs :
+      (H : History) →
+      Every (λ here. Every (RunsAt (layout P) P H here) (node_occurrences P here.node))
+      (instances P)
+  runs H = Every-from _ (instances P) (λ here i. runs_at P accepted checked here i H)
+
+  -- a variable that serves for another in a clock has the streams of the other
+  pub signs :
+      (X : Inputs) (F : List Stream) →
+      IsFlatSolution (input_kinds P) (program_sorts P).kind_of
+      (expanded (layout P) P (length (program_elements P))) X F →
+      (p : Path) (x : Name) →
+      columns X F ((layout P).places p x) ≡ columns X F ((layout P).signs p x)
+  signs X F s p x =
+      let final = emit_instances (layout P) P (before_instances count) (instances P) in
+      let given = given_inputs (layout P) (instance_at P Root) in
+      let seen = observed (layout P) (instance_at P Root) (instance_at P Observer) in
+      let holds : (q : FlatEquation) → In q final.copies → Holds X F q =
+      λ q i.
+      Every-at (Holds X F) equations q s.equations.equations
+      (in_second q given (seen ++ (final.copies ++ final.equations))
+      (in_second q seen (final.copies ++ final.equations)
+      (in_first q final.copies final.equations i))) in
+      let there : Every (HasCopies (layout P) P final.copies) (instances P) =
+      (all_copied (layout P) P final.copies (before_instances count) (instances P)
+      (Every-from _ final.copies (λ q i. i))).1 in
+      signs_flat P accepted checked X F final.copies holds there p x
+
+  module _ (X : Inputs) (H : History) (h : Solves P X H) where
+    -- the streams of all elements, from a history that solves the program
+    abbrev pub filled : List Stream
+    filled =
+        all_gathered P (layout P) (length (program_elements P)) (program_sorts P).clock_of
+        (program_sorts P).kind_of size placing (is_in_order P accepted).variables X H h
+
+    abbrev HasColumns : Instance → Declaration → Type 0
+    HasColumns here d =
+        columns X filled ((layout P).places here.path d.name) ≡ H.columns here.path d.name
+
+    -- a variable has the streams of its elements
+    own : (here : Instance) → In here (instances P) → (x : Name) → IsVariable here.node x →
+        columns X filled ((layout P).places here.path x) ≡ H.columns here.path x
+    own here i x v =
+        let d = map_in (λ (d : Declaration). d.name) (variables here.node) x v in
+        let all = Every-at (λ here. Every (HasColumns here) (variables here.node)) (instances P)
+        here
+        (filled_columns P (layout P) (length (program_elements P)) (program_sorts P).clock_of
+        (program_sorts P).kind_of size placing (is_in_order P accepted).variables X H h) i in
+        subst (λ y. columns X filled ((layout P).places here.path y) ≡ H.columns here.path y) d.2
+        (Every-at (HasColumns here) (variables here.node) d.0 all d.1)
+
+    -- a variable that serves for another in a clock has the streams of the other here too
+    served : (p : Path) (x : Name) →
+        columns X filled ((layout P).places p x) ≡ columns X filled ((layout P).signs p x)
+    served p x = signs_history P accepted checked X H h filled own p x
+
+    -- each instance has the instants of its flat clock
+    ticks : Every (λ here. instants X filled ((layout P).runs here.path) ≡ H.ticks here.path)
+        (instances P)
+    ticks =
+        Every-from (λ here. instants X filled ((layout P).runs here.path) ≡ H.ticks here.path)
+        (instances P)
+        (λ here i.
+        sym (runs_history P accepted checked X H h filled own here.path here (at_path P here i)))
+
+  module _ (scalars : AreScalars P) where
+    standing : StandsFor P (layout P) (program_sorts P).kind_of
+        (expanded (layout P) P (length (program_elements P)))
+    standing =
+        stands_for P accepted checked (layout P) (length (program_elements P))
+        (program_sorts P).clock_of (program_sorts P).kind_of
+        (given_whole P accepted checked (observer_wide_in P accepted [] [])).each
+        (program_fits P accepted checked scalars) placing (is_in_order P accepted) runs signs
+        (presence_long P accepted checked) ticks served
+
+    -- the flat program of an accepted program stands for it
+    pub numbered_flat :
+        IsFlatOf P (expanded (layout P) P (length (program_elements P)))
+    numbered_flat = record {
+      accepted = accepted;
+      checked = checked;
+      signature = refl;
+      variables = refl;
+      as_many = all_kinds_counted P accepted;
+      variable_kinds = variable_kinds_taken P accepted;
+      fitting = ((program_sorts P).clock_of, program_fits P accepted checked scalars);
+      solves = standing.solves;
+      solved = standing.solved;
+      watched = standing.watched;
+      memories = standing.memories;
+    }
+
+-- The flat program of an accepted program, in the layout by numbers, is its expansion.
+
+-- the flat program is an expansion, where each element is given once and its reads are its needs
+pub numbered_expansion :
+    (P : Program) → static_refusal P ≡ None → check_refusal P ≡ None → AreScalars P →
+    IsGiven (expanded (layout P) P (length (program_elements P))) →
+    ((i j : ℕ) → i < length (program_elements P) → j < length (program_elements P) →
+    Leads (expanded (layout P) P (length (program_elements P))) j i → NeedsAt P i j) →
+    ((x y : Element) → Needs P x y →
+    HasReads P (expanded (layout P) P (length (program_elements P))) x y) →
+    IsExpansionOf P (expanded (layout P) P (length (program_elements P)))
+numbered_expansion P accepted checked scalars given needs reads = record {
+  flat = numbered_flat P accepted checked scalars;
+  given = given;
+  needs = needs;
+  reads = reads;
+}
+
+-- The flat program of an accepted program, in the layout by numbers, is its expansion.
+
+-- the flat program, expanded in the layout by numbers, is an expansion of its accepted program
+pub program_expansion :
+    (P : Program) → static_refusal P ≡ None → check_refusal P ≡ None → AreScalars P →
+    IsExpansionOf P (expanded (layout P) P (length (program_elements P)))
+program_expansion P accepted checked scalars =
+    numbered_expansion P accepted checked scalars (given_once P accepted checked)
+    (needs_are P accepted checked scalars) (needs_reads P accepted checked scalars)
+
+-- The flat program that is emitted for an accepted program, in the layout by numbers, is its
+-- expansion.
+
+-- the flat program that is emitted is the expansion of `P`
+pub expansion_of :
+    (P : Program) → static_refusal P ≡ None → check_refusal P ≡ None → (f : FlatProgram) →
+    f ≡ expanded (layout P) P (length (program_elements P)) → IsExpansionOf P f
+expansion_of P accepted checked f is =
+    subst (IsExpansionOf P) (sym is)
+    (program_expansion P accepted checked (accepted_scalars P accepted checked))

@@ -1,5 +1,0 @@
-use Rattle.lb_flat.proofs.{Words.take, numbering.RowChildren.HasCalls}
-use Rattle.lb_flat.proofs.children.Children.new.Given as goal
-
-abbrev pub invariant-loop-row : goal.invariant-loop-row
-invariant-loop-row l = HasCalls l.rows (take l.row l.table.instances.items)

@@ -1,5 +1,0 @@
-use Rattle.lb_flat.proofs.Words.{◌≡◌, length}
-use Rattle.lb_flat.proofs.cycle_places.Places.cycle.Given as goal
-
-abbrev pub invariant-loop-element : goal.invariant-loop-element
-invariant-loop-element l = length l.places.items ≡ l.element-index
