@@ -5,6 +5,7 @@ pub mod InstancePaths
 pub mod Numbers
 pub mod AcceptedElements
 pub mod OccurrenceSites
+pub mod Operands
 pub mod OccurrenceParts
 pub mod CountedCalls
 pub mod StandingParts

@@ -2,30 +2,28 @@
 use Rattle.lb_check.proofs.Words
 use Words.{◌≡◌, ℕ, zero, suc, ◌+◌, ◌<◌, ◌≤◌, ◌⊎◌, inl, inr, Bool, true, false, List, [], ◌∷◌, ◌++◌}
 use Words.{take, drop, length, map, Option, Some, None, refl, ap, sym, ◌∙◌, subst, arith, ◌&&◌}
-use Words.{◌||◌, not, option_map, slice_get, nat_eq, nat_lt, if◌then◌else◌, list_all, nat_tests}
-use Words.{append-nil, slice_get_within, and-true, and_from, false_from_ne_true, ◌>>=◌, either_or}
-use Words.{listed, Expr, Declaration, and_first, and_second, both_ways, mapped_from, Program, Site}
-use Words.{node_named, node_of, texts_of, counts_of, expr_of, exprs_of, is_within, is_unhidden}
-use Words.{ResolvedNode, Sampling, Term, VariableId, is_clock, are_clocks, is_occurrence_clocked}
-use Words.{is_call_clocked, clock_of, each_clock, given_inputs, given_outputs, outer, above}
-use Words.{own_depth, declared_clock, depth, base_clock, base_from, base_from_arguments}
-use Words.{first_result_clock, called_clock, result_clocks, argument_clocks, occurrences_each}
-use Words.{call_clocks, HasClocks, clock_in, IsClockSet, AreClockSets, is_clocked_on, Context}
-use Words.{declared_in, infer_clock, operands_of, given_at, clock_sets, are_given, input_clocks}
-use Words.{output_clocks, base_of, expected, all_fit, clock_set_on, first_result, call_clock_set}
-use Words.{ClockSet, NoClock, AnyClock, OneClock, Declared}
+use Words.{option_map, slice_get, if◌then◌else◌, append-nil, slice_get_within, and-true, and_from}
+use Words.{false_from_ne_true, ◌>>=◌, either_or, Expr, Declaration, and_first, and_second}
+use Words.{both_ways, mapped_from, Program, Site, node_named, node_of, texts_of, expr_of, exprs_of}
+use Words.{ResolvedNode, Sampling, Term, VariableId, is_clock, is_call_clocked, clock_of}
+use Words.{each_clock, given_inputs, given_outputs, outer, above, own_depth, declared_clock, depth}
+use Words.{base_clock, base_from, base_from_arguments, first_result_clock, called_clock}
+use Words.{result_clocks, argument_clocks, clock_in, IsClockSet, is_clocked_on, Context}
+use Words.{infer_clock, operands_of, given_at, clock_sets, are_given, input_clocks, output_clocks}
+use Words.{base_of, expected, all_fit, clock_set_on, first_result, call_clock_set, ClockSet}
+use Words.{NoClock, AnyClock, OneClock, Declared}
 use Rattle.lb_check.specs.declared.own_clock.Clock.{Clock}
-use Rattle.lb_check.proofs.clocking.CallOperands.{are_given_is, operand_within, operand_stands}
-use Rattle.lb_check.proofs.clocking.CallOperands.{clock_set_within, waited_given, input_waits}
+use Rattle.lb_check.proofs.clocking.CallOperands.{KnownOperands, are_given_is, operand_within}
+use Rattle.lb_check.proofs.clocking.CallOperands.{operand_stands, waited_given, input_waits}
 use Rattle.lb_check.proofs.clocking.CallOperands.{output_waits, not_itself, each_stood, stands_at}
 use Rattle.lb_check.proofs.clocking.CallOperands.{stood_clock, clock_there, clock_from, inputs_seen}
-use Rattle.lb_check.proofs.clocking.CallOperands.{inputs_is_given, code_known, same_fits}
+use Rattle.lb_check.proofs.clocking.CallOperands.{inputs_of, code_known, same_fits}
 use Rattle.lb_check.proofs.clocking.{ClockTests.clock_same, GivenNames.{term_at, clock_set_at}}
 use Rattle.lb_check.proofs.clocking.GivenNames.{input_held, output_at, variable_held}
-use Rattle.lb_check.proofs.clocking.OuterClocks.{IsGiven, IsWithin, base_found, fits_on, fit_some}
+use Rattle.lb_check.proofs.clocking.OuterClocks.{IsGiven, AreOfNode, base_found, fits_on, fit_some}
 use Rattle.lb_check.proofs.clocking.OuterClocks.{fit_none, base_within, base_is, expects, stood}
 use Rattle.lb_check.proofs.clocking.OuterClocks.{clock_equal, above_outer, place_name, variable_at}
-use Rattle.lb_check.proofs.clocking.OuterClocks.{seen, expected_on, AreGiven}
+use Rattle.lb_check.proofs.clocking.OuterClocks.{seen, expected_on, AreGiven, place_split}
 use Rattle.lb_check.proofs.{clocking.OwnClocks.clock_of_free, lists.ListPairs.get_mapped}
 use Rattle.lb_check.proofs.lists.ListPairs.{get_taken, each_pair, pair_at}
 use Rattle.lb_syntax.specs.Tree as text
@@ -75,13 +73,9 @@ from_arguments n (d ∷ ds) (None ∷ ks) b h =
     more rest zero c o p q = cc
     more rest (suc i) c o p q = rest i c o p q
 
-module _ (P : Program) (here callee : ResolvedNode) (h : HasClocks here) (hc : HasClocks callee)
-    (site : Site)
-    (named : node_named P site.callee ≡ Some (node_of callee)) (ctx : Context)
-    (declares : ctx.variable ≡ declared_in here)
-    (es : List Term) (w : list_all (is_within (counts_of here)) es ≡ true)
-    (u : list_all (is_unhidden (texts_of here)) es ≡ true)
-    (stand : AreClockSets P here ctx es) where
+module _ {P : Program} {here callee : ResolvedNode} {ctx : Context} {es : List Term}
+    (ops : KnownOperands P here callee ctx es) (site : Site)
+    (named : node_named P site.callee ≡ Some (node_of callee)) where
   abbrev args : text.Exprs
   args = exprs_of (texts_of here) es
 
@@ -98,15 +92,9 @@ module _ (P : Program) (here callee : ResolvedNode) (h : HasClocks here) (hc : H
       ≡ (is_call_clocked (node_of here) k args (node_of callee)
       && each_pair (stood here) (argument_clocks k (node_of callee) args) ss)
   clocked_call k n =
-      let rest = λ (o : Option text.Node). list_all (is_occurrence_clocked P (node_of here))
-      (occurrences_each P (node_of here) (call_clocks k o args) (n + 1) args) in
-      let first = λ (o : Option text.Node). list_all (is_call_clocked (node_of here) k args)
-      (listed (λ n. n ∷ []) o) in
-      ap (λ o. first o && rest o) named
-      ∙ ap (λ b. b && rest (Some (node_of callee)))
-      (and-true (is_call_clocked (node_of here) k args (node_of callee)))
-      ∙ ap (λ b. is_call_clocked (node_of here) k args (node_of callee) && b)
-      (each_stood P here ctx es stand _ (n + 1))
+      rw (named, and-true (is_call_clocked (node_of here) k args (node_of callee)))
+      (ap (λ b. is_call_clocked (node_of here) k args (node_of callee) && b)
+      (each_stood P here ctx es ops.stand _ (n + 1)))
 
   -- ## One result
 
@@ -118,17 +106,17 @@ module _ (P : Program) (here callee : ResolvedNode) (h : HasClocks here) (hc : H
     Y = given_at (operands_of ctx es)
 
     pub the_output : (d : Declaration) × ((node_of callee).outputs ≡ d ∷ [])
-    the_output = one_of (node_of callee).outputs (sym hc.resolved.outputs ∙ single)
+    the_output = one_of (node_of callee).outputs (sym ops.called.resolved.outputs ∙ single)
 
     pub result : (o : Declared) × (slice_get callee.variables.items callee.inputs ≡ Some o)
-    result = variable_held callee hc callee.inputs (omega (arith, single))
+    result = variable_held callee ops.called callee.inputs (omega (arith, single))
 
     output_name : the_output.0.name ≡ place_name callee callee.inputs
     output_name =
         let first : slice_get (node_of callee).outputs 0 ≡ Some the_output.0 =
         ap (λ l. slice_get l 0) the_output.1 in
         let place : callee.inputs + 0 ≡ callee.inputs = omega arith in
-        (output_at callee hc 0 the_output.0 first).0 ∙ ap (place_name callee) place
+        (output_at callee ops.called 0 the_output.0 first).0 ∙ ap (place_name callee) place
 
     -- the base clock of the callee, from the clock of its result
     abbrev pub up : tree.Clock → tree.Clock
@@ -156,34 +144,17 @@ module _ (P : Program) (here callee : ResolvedNode) (h : HasClocks here) (hc : H
         ≡ (are_given callee (operands_of ctx es)
         && is_clock (seen callee given (up k) callee.inputs) k)
     one_result k =
-        let g = are_given callee (operands_of ctx es) in
-        let many : length (node_of callee).outputs ≡ 1 = sym hc.resolved.outputs ∙ single in
-        ap
-        (λ b. b && (not (nat_eq (length (node_of callee).outputs) 1)
-        || are_clocks (result_clocks k (node_of callee) args []) (k ∷ [])))
-        (are_given_is P here callee h hc ctx declares es w u stand)
-        ∙ ap
-        (λ m. g && (not (nat_eq m 1)
-        || are_clocks (result_clocks k (node_of callee) args []) (k ∷ []))) many
-        ∙ ap (λ ks. g && are_clocks ks (k ∷ [])) (results_seen k)
-        ∙ ap (λ b. g && b) (and-true (is_clock (seen callee given (up k) callee.inputs) k))
+        let many : length (node_of callee).outputs ≡ 1 = sym ops.called.resolved.outputs ∙ single in
+        rw (are_given_is ops, many, results_seen k)
+        (ap (λ b. are_given callee (operands_of ctx es) && b) (and-true _))
 
     -- a call keeps the rules on `k` where variables are given, its result is on `k`, and its
     -- operands stand on their clocks
     called : (k : tree.Clock) (n : ℕ) → is_clocked_on P here k n call_of
         ≡ ((are_given callee (operands_of ctx es)
         && is_clock (seen callee given (up k) callee.inputs) k)
-        && each_pair (stood here) (inputs_seen P here callee h hc ctx declares es w u stand (up k))
-        ss)
-    called k n =
-        clocked_call k n
-        ∙ ap (λ b. b && each_pair (stood here) (argument_clocks k (node_of callee) args) ss)
-        (one_result k)
-        ∙ ap
-        (λ c. (are_given callee (operands_of ctx es)
-        && is_clock (seen callee given (up k) callee.inputs) k)
-        && each_pair (stood here) (inputs_seen P here callee h hc ctx declares es w u stand c) ss)
-        (base_up k)
+        && each_pair (stood here) (inputs_seen ops (up k)) ss)
+    called k n = clocked_call k n ∙ rw (one_result k, base_up k) refl
 
     results : output_clocks callee ≡ result.0.clock ∷ []
     results =
@@ -191,77 +162,54 @@ module _ (P : Program) (here callee : ResolvedNode) (h : HasClocks here) (hc : H
         ∙ ap (map (λ v. v.clock)) (take_one callee.inputs callee.variables.items result.0 result.1)
 
     module _ (all : are_given callee (operands_of ctx es) ≡ true) where
-      -- the output waits for an input, if it waits for a variable
-      output_input : (v : Declared) (s : Sampling) →
-          slice_get callee.variables.items callee.inputs ≡ Some v → v.clock ≡ Some s → (b : Bool)
-          → nat_lt s.variable.0 callee.inputs ≡ b → s.variable.0 < callee.inputs
-      output_input v s at is true lt = grind (arith, nat_tests)
-      output_input v s at is false lt =
-          let place : callee.inputs ≡ callee.inputs + 0 = omega arith in
-          let there : slice_get callee.variables.items (callee.inputs + 0) ≡ Some v =
-          ap (slice_get callee.variables.items) (sym place) ∙ at in
-          let small = output_waits callee hc 0 v s (omega (arith, single)) there is in
-          let low : callee.inputs ≤ s.variable.0 = grind (arith, nat_tests) in
-          let same : s.variable.0 ≡ callee.inputs = omega (arith, single) in
-          absurd (not_itself callee hc _ v s at
-          (slice_get_within callee.variables.items callee.inputs v at) is same)
-
+      -- each parameter waits for an input, if it waits for a variable
       waits_input : (i : ℕ) (v : Declared) (s : Sampling) → i < callee.inputs + 1 →
-          slice_get callee.variables.items i ≡ Some v → v.clock ≡ Some s → (b : Bool)
-          → nat_lt i callee.inputs ≡ b → s.variable.0 < callee.inputs
-      waits_input i v s lt at is true less =
-          input_waits callee hc i v s (grind (arith, nat_tests)) at is
-      waits_input i v s lt at is false more =
-          let low : callee.inputs ≤ i = grind (arith, nat_tests) in
-          let same : i ≡ callee.inputs = omega arith in
-          output_input v s (subst (λ j. slice_get callee.variables.items j ≡ Some v) same at) is
-          _ refl
+          slice_get callee.variables.items i ≡ Some v → v.clock ≡ Some s →
+          s.variable.0 < callee.inputs
+      waits_input i v s lt at is =
+          elim (place_split i callee.inputs 1 lt) [
+            | inl less ↦ input_waits callee ops.called i v s less at is
+            | inr p ↦
+                let small = output_waits callee ops.called p.0 v s (omega (arith, p.2, single))
+                (ap (slice_get callee.variables.items) (sym p.1) ∙ at) is in
+                let other = not_itself callee ops.called (variable_at i) v s at
+                (slice_get_within callee.variables.items i v at) is in
+                omega (arith, small, other, p.1, p.2, single)
+          ]
 
       pub waits : AreGiven callee Y callee.inputs (callee.inputs + 1)
       waits i v s lt at is =
-          let less = waits_input i v s lt at is _ refl in (
-            less,
-            waited_given P here callee h hc ctx declares es w u stand all i v s
-                (omega (arith, single)) at is less,
-          )
+          let less = waits_input i v s lt at is in
+          (less, waited_given ops all i v s (omega (arith, single)) at is less)
 
       pub few : callee.inputs ≤ callee.inputs + 1
       few = omega arith
 
       abbrev fits : tree.Clock → Bool
-      fits b = fits_on here h Y b (input_clocks callee) ss
+      fits b = fits_on here Y b (input_clocks callee) ss
 
       abbrev fits_outer : tree.Clock → Bool
-      fits_outer b = each_pair (stood here)
-          (inputs_seen P here callee h hc ctx declares es w u stand b) ss
+      fits_outer b = each_pair (stood here) (inputs_seen ops b) ss
 
       fits_same : (b : tree.Clock) → fits_outer b ≡ fits b
-      fits_same b = same_fits P here callee h hc ctx declares es w u stand Y (λ i lt. refl)
-          (callee.inputs + 1) few waits b
+      fits_same b = same_fits ops Y (λ i lt. refl) (callee.inputs + 1) few waits b
 
-      params_given : (i : ℕ) (c : Option Sampling) → slice_get (input_clocks callee) i ≡ Some c →
-          IsGiven here Y c
-      params_given = inputs_is_given P here callee h hc ctx declares es w u stand Y (λ i lt. refl)
-          (callee.inputs + 1) few waits
-
-      within : (i : ℕ) (s : ClockSet) → slice_get ss i ≡ Some s → IsWithin here s
-      within = clock_set_within P here callee h hc ctx declares es w u stand
+      row : AreOfNode here Y (input_clocks callee) ss
+      row = inputs_of ops Y (λ i lt. refl) (callee.inputs + 1) few waits
 
       -- the clock that the code expects of the result is the one that the caller sees
       on_result : (b : tree.Clock) → fits b ≡ true →
           expected_on here Y b result.0.clock ≡ seen callee given b callee.inputs
       on_result b ok =
-          code_known P here callee h hc ctx declares es w u stand Y (λ i lt. refl)
-          (callee.inputs + 1) few waits b ok (variable_at callee.inputs) result.0
-          (omega arith) result.1
+          code_known ops Y (λ i lt. refl) (callee.inputs + 1) few waits b ok
+          (variable_at callee.inputs) result.0 (omega arith) result.1
 
       result_given : IsGiven here Y result.0.clock
       result_given s is =
           let z = waits callee.inputs result.0 s (omega arith) result.1 is in (
             z.1.0,
             z.1.1,
-            operand_within P here callee h hc ctx declares es w u stand s.variable.0
-                z.1.0 z.1.1,
+            operand_within ops s.variable.0 z.1.0 z.1.1,
           )
 
       -- ## The clock that the call determines
@@ -298,7 +246,7 @@ module _ (P : Program) (here callee : ResolvedNode) (h : HasClocks here) (hc : H
           (fits_same b ∙ ok) there (clock_set_at ctx es i t.0 t.1) in
           let same : k ≡ f d =
           stood_clock P here (expr_of (texts_of here) t.0) (infer_clock ctx t.0)
-          (stands_at P here ctx es i t.0 stand t.1) (f d) k stands t.2 in
+          (stands_at P here ctx es i t.0 ops.stand t.1) (f d) k stands t.2 in
           ap (above (own_depth (node_of callee) d)) same
           ∙ above_outer b given (declared_clock (node_of callee) d.name))
 
@@ -309,8 +257,8 @@ module _ (P : Program) (here callee : ResolvedNode) (h : HasClocks here) (hc : H
           let t = term_at ctx es i _ e in
           let x = expr_of (texts_of here) t.0 in
           let stands : IsClockSet P here x (OneClock l) =
-          subst (IsClockSet P here x) t.2 (stands_at P here ctx es i t.0 stand t.1) in
-          let d = input_held callee hc i lt in
+          subst (IsClockSet P here x) t.2 (stands_at P here ctx es i t.0 ops.stand t.1) in
+          let d = input_held callee ops.called i lt in
           let gone = none i d.0 (clock_of P (node_of here) x) d.1
           (clock_there P here es i t.0 t.1) in
           let there : clock_of P (node_of here) x ≡ Some (clock_in here l) = stands.1 in
@@ -339,16 +287,10 @@ module _ (P : Program) (here callee : ResolvedNode) (h : HasClocks here) (hc : H
       result_free none None is = refl
       result_free none (Some s) is =
           let z = waits callee.inputs result.0 s (omega arith) result.1 is in
-          absurd (some_determines none s.variable.0 _ z.0
-          (operand_stands P here callee h hc ctx declares es w u stand s.variable.0 z.1.0
+          absurd (some_determines none s.variable.0 _ z.0 (operand_stands ops s.variable.0 z.1.0
           z.1.1))
 
       -- ## The clock set of the call
-
-      -- the clock of the result determines the base clock
-      up_seen : (b : tree.Clock) → up (seen callee given b callee.inputs) ≡ b
-      up_seen b = above_outer b given
-          (declared_clock (node_of callee) (place_name callee callee.inputs))
 
       on_clock : (k : tree.Clock) (n : ℕ) →
           is_clocked_on P here k n call_of ≡
@@ -384,7 +326,8 @@ module _ (P : Program) (here callee : ResolvedNode) (h : HasClocks here) (hc : H
               (is_clock (seen callee given (up k) callee.inputs) k && fits (up k)) ≡ true
           back t =
               let on : k ≡ seen callee given b callee.inputs = clock_same k _ t in
-              let same : up k ≡ b = ap up on ∙ up_seen b in
+              let same : up k ≡ b = ap up on ∙ above_outer b given
+              (declared_clock (node_of callee) (place_name callee callee.inputs)) in
               and_from _ (fits (up k))
               (clock_equal _ k (ap (λ c. seen callee given c callee.inputs) same ∙ sym on))
               (ap fits same ∙ ok)
@@ -394,12 +337,10 @@ module _ (P : Program) (here callee : ResolvedNode) (h : HasClocks here) (hc : H
           → IsClockSet P here call_of (clock_set_on (expected (Some k) Y result.0.clock))
       some_stands k e ok =
           let b = clock_in here k in
-          let known = base_within here h Y (input_clocks callee) ss params_given within k e in
-          let r = expects here h Y k known result.0.clock result_given in
+          let r = expects here Y k (base_within ops.own row k e) result.0.clock result_given in
           let clock : clock_in here r.0 ≡ seen callee given b callee.inputs = r.2
           ∙ on_result b ok in
-          let one = λ (c : tree.Clock) (ok : fits c ≡ true). base_is here h Y
-          (input_clocks callee) ss params_given within k c e ok in
+          let one = λ (c : tree.Clock) (ok : fits c ≡ true). base_is ops.own row k c e ok in
           let determines : clock_of P (node_of here) call_of ≡ Some (clock_in here r.0) =
           call_clock ∙ ap (option_map (λ c. seen callee given c callee.inputs))
           (base_determined k b e ok) ∙ ap Some (sym clock) in
@@ -412,7 +353,7 @@ module _ (P : Program) (here callee : ResolvedNode) (h : HasClocks here) (hc : H
       anywhere ok free none =
           let lt = slice_get_within callee.variables.items callee.inputs result.0 result.1 in
           let base : tree.Base ≡ declared_clock (node_of callee) (place_name callee callee.inputs) =
-          clock_of_free callee hc (variable_at callee.inputs) result.0 result.1 lt free in
+          clock_of_free callee ops.called (variable_at callee.inputs) result.0 result.1 lt free in
           let itself = λ (k : tree.Clock). subst
           (λ c. outer (above (depth c) k) given c ≡ k) base refl in (
             call_clock ∙ ap (option_map (λ k. seen callee given k callee.inputs)) none,
@@ -424,8 +365,7 @@ module _ (P : Program) (here callee : ResolvedNode) (h : HasClocks here) (hc : H
           all_fit None Y (input_clocks callee) ss ≡ true
           → IsClockSet P here call_of (clock_set_on (expected None Y result.0.clock))
       none_stands e ok =
-          let every = λ (b : tree.Clock). sym
-          (fit_none here h Y (input_clocks callee) ss params_given within e b) ∙ ok in
+          let every = λ (b : tree.Clock). sym (fit_none ops.own row e b) ∙ ok in
           let z = none_determined every in
           let free = result_free z.1 result.0.clock refl in
           subst (λ c. IsClockSet P here call_of (clock_set_on (expected None Y c))) (sym free)
@@ -435,23 +375,19 @@ module _ (P : Program) (here callee : ResolvedNode) (h : HasClocks here) (hc : H
           all_fit base Y (input_clocks callee) ss ≡ f
           → IsClockSet P here call_of (if f then clock_set_on
           (expected base Y result.0.clock) else NoClock)
-      by_base (Some k) e true fit =
-          let known = base_within here h Y (input_clocks callee) ss params_given within k e in
-          some_stands k e
-          (sym (fit_some here h Y (input_clocks callee) ss params_given within k known) ∙ fit)
+      by_base (Some k) e true fit = some_stands k e
+          (sym (fit_some ops.own row k (base_within ops.own row k e)) ∙ fit)
       by_base (Some k) e false misfit =
           nowhere (λ b ok.
-          let known = base_within here h Y (input_clocks callee) ss params_given within k e in
-          let one = base_is here h Y (input_clocks callee) ss params_given within k b e ok in
           let fit : all_fit (Some k) Y (input_clocks callee) ss ≡ true =
-          fit_some here h Y (input_clocks callee) ss params_given within k known ∙ ap fits (sym one)
-          ∙ ok in
+          fit_some ops.own row k (base_within ops.own row k e)
+          ∙ ap fits (sym (base_is ops.own row k b e ok)) ∙ ok in
           absurd cc)
       by_base None e true fit = none_stands e fit
       by_base None e false misfit =
           nowhere (λ b ok.
           let fit : all_fit None Y (input_clocks callee) ss ≡ true =
-          fit_none here h Y (input_clocks callee) ss params_given within e b ∙ ok in
+          fit_none ops.own row e b ∙ ok in
           absurd cc)
 
     by_given : (g : Bool) → are_given callee (operands_of ctx es) ≡ g
@@ -459,16 +395,17 @@ module _ (P : Program) (here callee : ResolvedNode) (h : HasClocks here) (hc : H
         (if g && all_fit (base_of (input_clocks callee) ss) Y
         (input_clocks callee) ss then clock_set_on
         (expected (base_of (input_clocks callee) ss) Y result.0.clock) else NoClock)
-    by_given true all = by_base all (base_of (input_clocks callee) ss) refl
-        (all_fit (base_of (input_clocks callee) ss) Y (input_clocks callee) ss) refl
+    by_given true all = by_base all _ refl _ refl
     by_given false missing = λ k n.
         called k n
         ∙ ap (λ g. (g && is_clock (seen callee given (up k) callee.inputs) k)
-        && each_pair (stood here) (inputs_seen P here callee h hc ctx declares es w u stand
-        (up k)) ss) missing
+        && each_pair (stood here) (inputs_seen ops (up k)) ss) missing
 
-    one_stands : IsClockSet P here call_of (call_clock_set callee (operands_of ctx es))
-    one_stands =
+    -- a call with one result stands where the code finds, if its operands do
+    pub call_stands : IsClockSet P here
+        (text.Call site.callee site.arguments (exprs_of (texts_of here) es))
+        (call_clock_set callee (operands_of ctx es))
+    call_stands =
         let base = base_of (input_clocks callee) ss in
         let g = are_given callee (operands_of ctx es) in
         let f = all_fit base Y (input_clocks callee) ss in
@@ -481,16 +418,14 @@ module _ (P : Program) (here callee : ResolvedNode) (h : HasClocks here) (hc : H
         (kept : is_clocked_on P here (clock_in here k) n call_of ≡ true) where
       judged : ((are_given callee (operands_of ctx es)
           && is_clock (seen callee given (up (clock_in here k)) callee.inputs) (clock_in here k))
-          && each_pair (stood here)
-          (inputs_seen P here callee h hc ctx declares es w u stand (up (clock_in here k))) ss)
+          && each_pair (stood here) (inputs_seen ops (up (clock_in here k))) ss)
           ≡ true
       judged = sym (called (clock_in here k) n) ∙ kept
 
       pub runs_given : are_given callee (operands_of ctx es) ≡ true
       runs_given =
           and_first (are_given callee (operands_of ctx es)) _ (and_first _ (each_pair (stood here)
-          (inputs_seen P here callee h hc ctx declares es w u stand (up (clock_in here k))) ss)
-          judged)
+          (inputs_seen ops (up (clock_in here k))) ss) judged)
 
       runs_fit : fits runs_given (up (clock_in here k)) ≡ true
       runs_fit =
@@ -500,17 +435,15 @@ module _ (P : Program) (here callee : ResolvedNode) (h : HasClocks here) (hc : H
       up_is : (o : Option Clock) → base_of (input_clocks callee) ss ≡ o →
           up (clock_in here k) ≡ clock_in here (either_or o k)
       up_is (Some l) e =
-          base_is here h Y (input_clocks callee) ss (params_given runs_given) (within runs_given) l
-          (up (clock_in here k)) e runs_fit
+          base_is ops.own (row runs_given) l (up (clock_in here k)) e runs_fit
       up_is None e =
-          let none = λ (b : tree.Clock). fit_none here h Y (input_clocks callee) ss
-          (params_given runs_given) (within runs_given) e b in
+          let none = λ (b : tree.Clock). fit_none ops.own (row runs_given) e b in
           let every = λ (b : tree.Clock). sym (none b) ∙ none (up (clock_in here k)) ∙ runs_fit in
           let free = result_free runs_given (none_determined runs_given every).1
           result.0.clock refl in
           let lt = slice_get_within callee.variables.items callee.inputs result.0 result.1 in
           let top : tree.Base ≡ declared_clock (node_of callee) (place_name callee callee.inputs) =
-          clock_of_free callee hc (variable_at callee.inputs) result.0 result.1 lt free in
+          clock_of_free callee ops.called (variable_at callee.inputs) result.0 result.1 lt free in
           subst (λ c. above (depth c) (clock_in here k) ≡ clock_in here k) top refl
 
       pub runs_base : base_clock (clock_in here k) (node_of callee)
@@ -518,21 +451,9 @@ module _ (P : Program) (here callee : ResolvedNode) (h : HasClocks here) (hc : H
       runs_base =
           base_up (clock_in here k) ∙ up_is (base_of (input_clocks callee) ss) refl
 
-      pub runs_fitting : fits_on here h Y
+      pub runs_fitting : fits_on here Y
           (clock_in here (either_or (base_of (input_clocks callee) ss) k)) (input_clocks callee) ss
           ≡ true
       runs_fitting =
-          subst (λ b. fits_on here h Y b (input_clocks callee) ss ≡ true)
+          subst (λ b. fits_on here Y b (input_clocks callee) ss ≡ true)
           (up_is (base_of (input_clocks callee) ss) refl) runs_fit
-
--- a call with one result stands where the code finds, if its operands do
-pub call_stands : (P : Program) (here callee : ResolvedNode) → HasClocks here → HasClocks callee
-    → (site : Site) → node_named P site.callee ≡ Some (node_of callee) → callee.outputs ≡ 1
-    → (ctx : Context) → ctx.variable ≡ declared_in here
-    → (es : List Term) → list_all (is_within (counts_of here)) es ≡ true →
-    list_all (is_unhidden (texts_of here)) es ≡ true
-    → AreClockSets P here ctx es
-    → IsClockSet P here (text.Call site.callee site.arguments (exprs_of (texts_of here) es))
-    (call_clock_set callee (operands_of ctx es))
-call_stands P here callee h hc site named single ctx declares es w u stand =
-    one_stands P here callee h hc site named ctx declares es w u stand single

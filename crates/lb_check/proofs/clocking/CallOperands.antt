@@ -18,7 +18,8 @@ use Rattle.lb_check.proofs.clocking.{ClockTests.clock_same, GivenNames.{all_give
 use Rattle.lb_check.proofs.clocking.GivenNames.{clock_set_at, term_at, variable_stands}
 use Rattle.lb_check.proofs.clocking.GivenNames.{variable_within, input_held, input_at}
 use Rattle.lb_check.proofs.clocking.{GivenNames.{variable_held, given_in}, OuterClocks.IsGiven}
-use Rattle.lb_check.proofs.clocking.OuterClocks.{IsWithin, fits_on, stood, place_name, variable_at}
+use Rattle.lb_check.proofs.clocking.OuterClocks.{AreOfNode, IsWithin, fits_on, stood, place_name}
+use Rattle.lb_check.proofs.clocking.OuterClocks.{variable_at}
 use Rattle.lb_check.proofs.clocking.OuterClocks.{seen, expected_on, AreGiven, StandFor, HaveNames}
 use Rattle.lb_check.proofs.clocking.{OuterClocks.outer_all, OwnClocks.clock_of_waiting}
 use Rattle.lb_check.proofs.lists.ListPairs.{taken, get_taken, get_mapped, each_pair, pair_at}
@@ -47,9 +48,7 @@ all_same : (ctx : Context) (inputs : ℕ) (es : List Term) (vs : List Declared)
     (code.is_given inputs es) vs
 all_same ctx inputs es [] = refl
 all_same ctx inputs es (v ∷ vs) =
-    ap (λ b. b && list_all (λ v. is_given inputs (operands_of ctx es) v.clock) vs)
-    (same_given ctx inputs es v.clock)
-    ∙ ap (λ b. code.is_given inputs es v && b) (all_same ctx inputs es vs)
+    ap₂ (λ b c. b && c) (same_given ctx inputs es v.clock) (all_same ctx inputs es vs)
 
 some_of : {A : Type 0} (o : Option A) → is_some o ≡ true → (x : A) × (o ≡ Some x)
 some_of None e = absurd cc
@@ -145,9 +144,7 @@ module _ (P : Program) (here : ResolvedNode) where
       (exprs_of (texts_of here) es) in
       list_all-append (is_occurrence_clocked P (node_of here))
       (occurrences P (node_of here) k n e) more
-      ∙ ap (λ b. b && list_all (is_occurrence_clocked P (node_of here)) more)
-      (stood_is e _ all.0 k n)
-      ∙ ap (λ b. stood here k (infer_clock ctx t) && b) (each_stood ctx es all.1 ks _)
+      ∙ ap₂ (λ b c. b && c) (stood_is e _ all.0 k n) (each_stood ctx es all.1 ks _)
 
   -- the clock that each operand determines, at the place of the operand
   pub clock_there : (es : List Term) (i : ℕ) (t : Term) → slice_get es i ≡ Some t
@@ -166,17 +163,25 @@ module _ (P : Program) (here : ResolvedNode) where
   clock_from (u ∷ es) zero o e = (u, refl, cc)
   clock_from (u ∷ es) (suc i) o e = clock_from es i o e
 
-module _ (P : Program) (here callee : ResolvedNode) (h : HasClocks here) (hc : HasClocks callee)
-    (ctx : Context) (declares : ctx.variable ≡ declared_in here)
-    (es : List Term) (w : list_all (is_within (counts_of here)) es ≡ true)
-    (u : list_all (is_unhidden (texts_of here)) es ≡ true)
-    (stand : AreClockSets P here ctx es) where
+-- the operands `es` of a call of `callee`, which have the clock sets that the code infers
+pub record KnownOperands (P : Program) (here callee : ResolvedNode) (ctx : Context)
+    (es : List Term) : Type 0 where
+  pub own : HasClocks here
+  pub called : HasClocks callee
+  pub declares : ctx.variable ≡ declared_in here
+  pub within : list_all (is_within (counts_of here)) es ≡ true
+  pub unhidden : list_all (is_unhidden (texts_of here)) es ≡ true
+  pub stand : AreClockSets P here ctx es
+
+module _ {P : Program} {here callee : ResolvedNode} {ctx : Context} {es : List Term}
+    (ops : KnownOperands P here callee ctx es) where
   -- each awaited input is given a variable exactly where the code finds it
   pub are_given_is : are_given_variables (node_of here) (node_of callee)
       (exprs_of (texts_of here) es) ≡ are_given callee (operands_of ctx es)
   are_given_is =
-      all_given here callee hc.nodes hc.resolved hc.distinct
-      (as_many_names h.nodes here h.resolved h.distinct) es w u
+      all_given here callee ops.called.nodes ops.called.resolved ops.called.distinct
+      (as_many_names ops.own.nodes here ops.own.resolved ops.own.distinct) es ops.within
+      ops.unhidden
       ∙ sym (all_same ctx callee.inputs es
       (take (callee.inputs + callee.outputs) callee.variables.items))
 
@@ -184,20 +189,20 @@ module _ (P : Program) (here callee : ResolvedNode) (h : HasClocks here) (hc : H
       is_variable (counts_of here) y ≡ true
   operand_within i y e =
       let t = operand_at ctx es i y e in
-      variable_within _ t.0 y t.2 (all_at _ es i t.0 w t.1)
+      variable_within _ t.0 y t.2 (all_at _ es i t.0 ops.within t.1)
 
   pub operand_stands : (i : ℕ) (y : VariableId) → given_at (operands_of ctx es) i ≡ Some y →
       slice_get (clock_sets (operands_of ctx es)) i ≡ Some (OneClock (declared_in here y))
   operand_stands i y e =
       let t = operand_at ctx es i y e in
       clock_set_at ctx es i t.0 t.1 ∙ ap Some (variable_stands ctx t.0 y t.2)
-      ∙ ap (λ f. Some (OneClock (f y))) declares
+      ∙ ap (λ f. Some (OneClock (f y))) ops.declares
 
-  pub clock_set_within : (i : ℕ) (s : ClockSet) →
+  clock_set_within : (i : ℕ) (s : ClockSet) →
       slice_get (clock_sets (operands_of ctx es)) i ≡ Some s → IsWithin here s
   clock_set_within i s e l only =
       let t = term_at ctx es i s e in
-      let there = stands_at P here ctx es i t.0 stand t.1 in
+      let there = stands_at P here ctx es i t.0 ops.stand t.1 in
       let stands : IsClockSet P here (expr_of (texts_of here) t.0) (OneClock l) =
       subst (IsClockSet P here (expr_of (texts_of here) t.0)) (t.2 ∙ only) there in
       stands.0
@@ -237,10 +242,10 @@ module _ (P : Program) (here callee : ResolvedNode) (h : HasClocks here) (hc : H
     pub names_inputs : HaveNames here callee Y
         (given_inputs (node_of callee).inputs (exprs_of (texts_of here) es)) callee.inputs
     names_inputs i y lt e = ap (λ o. either_or o (place_name callee i))
-        (given_in callee hc here ctx es i y lt (sym (Y_is i lt) ∙ e))
+        (given_in callee ops.called here ctx es i y lt (sym (Y_is i lt) ∙ e))
 
     module _ (m : ℕ) (few : callee.inputs ≤ m) (waits : AreGiven callee Y callee.inputs m) where
-      pub inputs_is_given : (i : ℕ) (c : Option Sampling) →
+      inputs_is_given : (i : ℕ) (c : Option Sampling) →
           slice_get (input_clocks callee) i ≡ Some c → IsGiven here Y c
       inputs_is_given i c e s is =
           let v = mapped_from _ _ i c e in
@@ -250,6 +255,10 @@ module _ (P : Program) (here callee : ResolvedNode) (h : HasClocks here) (hc : H
           let small = z.0 in
           (z.1.0, z.1.1, (own_inputs s.variable.0 z.1.0 small z.1.1).1)
 
+      -- the inputs are given variables of the caller, and the operands stand on clocks of it
+      pub inputs_of : AreOfNode here Y (input_clocks callee) (clock_sets (operands_of ctx es))
+      inputs_of = record { given = inputs_is_given; within = clock_set_within }
+
       abbrev S : ℕ → Option ClockSet
       S = λ i. slice_get (clock_sets (operands_of ctx es)) i
 
@@ -258,16 +267,16 @@ module _ (P : Program) (here callee : ResolvedNode) (h : HasClocks here) (hc : H
           → (i : ℕ) (s : ClockSet) → i < callee.inputs → S i ≡ Some s →
           stood here (seen callee inputs_given b i) s ≡ true
       outer_stand b fits i s lt e =
-          let d = input_held callee hc i lt in
+          let d = input_held callee ops.called i lt in
           let here_seen = get_mapped _ _ i d.0 d.1 in
           let k = outer b inputs_given (declared_clock (node_of callee) d.0.name) in
           let stands : stood here k s ≡ true =
           pair_at _ _ _ i k s fits here_seen e in
           subst (λ n. stood here (outer b inputs_given (declared_clock (node_of callee) n))
-          s ≡ true) (input_at callee hc i d.0 d.1).0 stands
+          s ≡ true) (input_at callee ops.called i d.0 d.1).0 stands
 
       pub code_stand : (b : tree.Clock) →
-          fits_on here h Y b (input_clocks callee) (clock_sets (operands_of ctx es)) ≡ true
+          fits_on here Y b (input_clocks callee) (clock_sets (operands_of ctx es)) ≡ true
           → (i : ℕ) (v : Declared) (s : ClockSet) → i < callee.inputs →
           slice_get callee.variables.items i ≡ Some v → S i ≡ Some s
           → stood here (expected_on here Y b v.clock) s ≡ true
@@ -281,23 +290,23 @@ module _ (P : Program) (here callee : ResolvedNode) (h : HasClocks here) (hc : H
           slice_get callee.variables.items x.0 ≡ Some v →
           expected_on here Y b v.clock ≡ seen callee inputs_given b x.0
       outer_known b fits =
-          outer_all here callee h hc Y S callee.inputs m few waits own_inputs inputs_given
-          names_inputs b
+          outer_all here callee ops.own ops.called Y S callee.inputs m few waits own_inputs
+          inputs_given names_inputs b
           (λ i v s lt at e. inl (outer_stand b fits i s lt e))
 
       pub code_known : (b : tree.Clock) →
-          fits_on here h Y b (input_clocks callee) (clock_sets (operands_of ctx es)) ≡ true
+          fits_on here Y b (input_clocks callee) (clock_sets (operands_of ctx es)) ≡ true
           → (x : VariableId) (v : Declared) → x.0 < m →
           slice_get callee.variables.items x.0 ≡ Some v →
           expected_on here Y b v.clock ≡ seen callee inputs_given b x.0
       code_known b fits =
-          outer_all here callee h hc Y S callee.inputs m few waits own_inputs inputs_given
-          names_inputs b
+          outer_all here callee ops.own ops.called Y S callee.inputs m few waits own_inputs
+          inputs_given names_inputs b
           (λ i v s lt at e. inr (code_stand b fits i v s lt at e))
 
       pub to_code : (b : tree.Clock) →
           each_pair (stood here) (inputs_seen b) (clock_sets (operands_of ctx es)) ≡ true
-          → fits_on here h Y b (input_clocks callee) (clock_sets (operands_of ctx es)) ≡ true
+          → fits_on here Y b (input_clocks callee) (clock_sets (operands_of ctx es)) ≡ true
       to_code b fits =
           pairs_from (λ c s. stood here (expected_on here Y b c) s) (input_clocks callee)
           (clock_sets (operands_of ctx es)) (λ i c s p q.
@@ -309,15 +318,15 @@ module _ (P : Program) (here callee : ResolvedNode) (h : HasClocks here) (hc : H
           ∙ outer_stand b fits i s less q)
 
       pub to_outer : (b : tree.Clock) →
-          fits_on here h Y b (input_clocks callee) (clock_sets (operands_of ctx es)) ≡ true
+          fits_on here Y b (input_clocks callee) (clock_sets (operands_of ctx es)) ≡ true
           → each_pair (stood here) (inputs_seen b) (clock_sets (operands_of ctx es)) ≡ true
       to_outer b fits =
           pairs_from (stood here) (inputs_seen b) (clock_sets (operands_of ctx es)) (λ i k s p q.
           let d = mapped_from (λ (d : Declaration). outer b inputs_given
           (declared_clock (node_of callee) d.name)) (node_of callee).inputs i k p in
-          let place = input_at callee hc i d.0 d.1 in
+          let place = input_at callee ops.called i d.0 d.1 in
           let less = place.1 in
-          let v = variable_held callee hc i (omega arith) in
+          let v = variable_held callee ops.called i (omega arith) in
           let known = code_known b fits (variable_at i) v.0 (omega arith) v.1 in
           let same : k ≡ seen callee inputs_given b i = sym d.2
           ∙ ap (λ n. outer b inputs_given (declared_clock (node_of callee) n)) place.0 in
@@ -327,7 +336,7 @@ module _ (P : Program) (here callee : ResolvedNode) (h : HasClocks here) (hc : H
       -- the code expects
       pub same_fits : (b : tree.Clock) →
           each_pair (stood here) (inputs_seen b) (clock_sets (operands_of ctx es))
-          ≡ fits_on here h Y b (input_clocks callee) (clock_sets (operands_of ctx es))
+          ≡ fits_on here Y b (input_clocks callee) (clock_sets (operands_of ctx es))
       same_fits b = both_ways _ _ (to_code b) (to_outer b)
 
 -- The clocks on which the code places the arguments of a call are those that the caller sees.
@@ -354,24 +363,20 @@ clock_expected here Y b (Some s) given =
     ap (λ o. clock_in here (either_or (option_map (λ y. On y s.sign) o) b)) y.1
     ∙ sym (ap (λ o. either_or (option_map (λ y. clock_in here (On y s.sign)) o) tree.Base) y.1)
 
-module _ (P : Program) (here callee : ResolvedNode) (h : HasClocks here) (hc : HasClocks callee)
-    (ctx : Context) (declares : ctx.variable ≡ declared_in here)
-    (es : List Term) (w : list_all (is_within (counts_of here)) es ≡ true)
-    (u : list_all (is_unhidden (texts_of here)) es ≡ true)
-    (stand : AreClockSets P here ctx es)
+module _ {P : Program} {here callee : ResolvedNode} {ctx : Context} {es : List Term}
+    (ops : KnownOperands P here callee ctx es)
     (Y : ℕ → Option VariableId)
     (Y_is : (i : ℕ) → i < callee.inputs → Y i ≡ given_at (operands_of ctx es) i)
     (all : are_given callee (operands_of ctx es) ≡ true) (b : Clock)
-    (fits : fits_on here h Y (clock_in here b) (input_clocks callee)
+    (fits : fits_on here Y (clock_in here b) (input_clocks callee)
     (clock_sets (operands_of ctx es)) ≡ true) where
   few : callee.inputs ≤ callee.inputs
   few = omega arith
 
   waits : AreGiven callee Y callee.inputs callee.inputs
   waits i v s lt at is =
-      let less = input_waits callee hc i v s lt at is in
-      let y = waited_given P here callee h hc ctx declares es w u stand all i v s (omega arith) at
-      is less in
+      let less = input_waits callee ops.called i v s lt at is in
+      let y = waited_given ops all i v s (omega arith) at is less in
       (less, (y.0, Y_is s.variable.0 less ∙ y.1))
 
   abbrev seen_of : Declaration → tree.Clock
@@ -388,7 +393,7 @@ module _ (P : Program) (here callee : ResolvedNode) (h : HasClocks here) (hc : H
   variables_there : (n : ℕ) → n ≤ callee.inputs → n ≤ length callee.variables.items
   variables_there zero le = omega arith
   variables_there (suc n) le =
-      let v = variable_held callee hc n (omega (arith, le)) in
+      let v = variable_held callee ops.called n (omega (arith, le)) in
       let lt = slice_get_within callee.variables.items n v.0 v.1 in
       omega (arith, lt)
 
@@ -401,11 +406,11 @@ module _ (P : Program) (here callee : ResolvedNode) (h : HasClocks here) (hc : H
       let v = mapped_from placed_of params i c.0 c.1 in
       let t = get_taken callee.inputs callee.variables.items i v.0 v.1 in
       let less = t.1 in
-      let given = inputs_is_given P here callee h hc ctx declares es w u stand Y Y_is callee.inputs
-      few waits i v.0.clock (get_mapped (λ v. v.clock) params i v.0 v.1) in
-      let known = code_known P here callee h hc ctx declares es w u stand Y Y_is callee.inputs few
+      let inputs = inputs_of ops Y Y_is callee.inputs few waits in
+      let given = inputs.given i v.0.clock (get_mapped (λ v. v.clock) params i v.0 v.1) in
+      let known = code_known ops Y Y_is callee.inputs few
       waits (clock_in here b) fits (variable_at i) v.0 less t.0 in
-      let name = (input_at callee hc i d.0 d.1).0 in
+      let name = (input_at callee ops.called i d.0 d.1).0 in
       sym d.2
       ∙ ap (λ x. outer (clock_in here b)
       (given_inputs (node_of callee).inputs (exprs_of (texts_of here) es))
@@ -414,12 +419,12 @@ module _ (P : Program) (here callee : ResolvedNode) (h : HasClocks here) (hc : H
       ∙ ap (clock_in here) v.2 ∙ c.2
 
   pub arguments_placed :
-      inputs_seen P here callee h hc ctx declares es w u stand (clock_in here b)
+      inputs_seen ops (clock_in here b)
       ≡ map (clock_in here) (argument_clocks b Y callee)
   arguments_placed =
       same_items (map seen_of (node_of callee).inputs)
       (map (clock_in here) (map placed_of params))
-      (length-map (node_of callee).inputs seen_of ∙ sym hc.resolved.inputs
+      (length-map (node_of callee).inputs seen_of ∙ sym ops.called.resolved.inputs
       ∙ sym (length-map (map placed_of params) (clock_in here) ∙ length-map params placed_of
       ∙ length-take-le callee.inputs callee.variables.items
       (variables_there callee.inputs (omega arith))))

@@ -1,9 +1,9 @@
 -- The depths of the declared clocks of a node.
 use Rattle.lb_check.proofs.Words
-use Words.{◌≡◌, ℕ, zero, suc, ◌+◌, ◌<◌, ◌≤◌, ◌-◌, ◌⊎◌, inl, inr, List, [], ◌∷◌, ◌++◌, take, drop}
-use Words.{length, get_or, Option, Some, None, refl, ap, sym, ◌∙◌, subst, arith, option_map}
+use Words.{◌≡◌, ap₂, ℕ, zero, suc, ◌+◌, ◌<◌, ◌≤◌, ◌-◌, ◌⊎◌, inl, inr, List, [], ◌∷◌, ◌++◌, take}
+use Words.{drop, length, get_or, Option, Some, None, refl, ap, sym, ◌∙◌, subst, arith, option_map}
 use Words.{slice_get, set, take-append_seam, slice_get-get_or, ◌>>=◌, Variable, Sampling, awaited}
-use Words.{LeadsTo, HasDepth, AreDepths, IsKnown, min, Bool, true, false, map, ◌&&◌, not, is_some}
+use Words.{LeadsTo, HasDepth, AreDepths, IsKnown, min, Bool, true, false, map, ◌&&◌, is_some}
 use Words.{nat_lt, list_all, bytes_eq, nat_tests, bytes_eq-Decides, slice_get_within, length-take}
 use Words.{length-drop, length-map, length-append, append_assoc, drop_more, and-true, and-false}
 use Words.{not-true, zip2, either_or, Name, Static, Declaration, Node, all_from, item_at, and_first}
@@ -212,9 +212,9 @@ found_at (c ∷ ds) zero d u e =
     let z = (bytes_eq-Decides d.name d.name).1 refl in
     subst (λ (w : Declaration). named (λ d. d.name) d.name (w ∷ ds) ≡ Some d) (sym same) (rw z refl)
 found_at (c ∷ ds) (suc i) d u e =
-    let a = not-true _ (and_first (not (among c.name (map (λ d. d.name) ds))) _ u) in
+    let a = not-true _ (and_first _ _ u) in
     let no = not_among c.name (map (λ d. d.name) ds) i d.name a (get_name ds i d e) in
-    rw no (found_at ds i d (and_second (not (among c.name (map (λ d. d.name) ds))) _ u) e)
+    rw no (found_at ds i d (and_second _ _ u) e)
 
 -- ## The declarations of variables
 
@@ -243,9 +243,9 @@ among_first (n ∷ names) (suc k) zero x u e =
     let z : bytes_eq x n ≡ true = (bytes_eq-Decides x n).1 (sym same) in
     rw z (grind (arith, nat_tests))
 among_first (n ∷ names) (suc k) (suc y) x u e =
-    let a = not-true _ (and_first (not (among n names)) _ u) in
+    let a = not-true _ (and_first _ _ u) in
     let no : bytes_eq x n ≡ false = unequal n x (not_among n names y x a e) in
-    let next = among_first names k y x (and_second (not (among n names)) _ u) e in
+    let next = among_first names k y x (and_second _ _ u) e in
     let shift : nat_lt y k ≡ nat_lt (suc y) (suc k) = grind (arith, nat_tests) in
     rw no (next ∙ shift)
 
@@ -261,6 +261,18 @@ zip_split f (x ∷ xs) (y ∷ ys) (a ∷ firsts) lasts e =
     let rest : zip2 f xs ys ≡ firsts ++ lasts = cc in
     let next = zip_split f xs ys firsts lasts rest in
     (ap (λ z. z ∷ firsts) (sym head) ∙ ap (λ l. f x y ∷ l) next.0, next.1)
+
+-- pairs pass `f` exactly where their second items pass `h`, if that is so of each pair whose second
+-- item passes `known`
+pub zip_all : {A B C : Type 0} (g : A → B → C) (f : C → Bool) (h known : B → Bool) →
+    ((x : A) (y : B) → known y ≡ true → f (g x y) ≡ h y) → (xs : List A) (ys : List B) →
+    length xs ≡ length ys → list_all known ys ≡ true → list_all f (zip2 g xs ys) ≡ list_all h ys
+zip_all g f h known each [] [] len w = refl
+zip_all g f h known each (x ∷ xs) [] len w = absurd (omega (arith, len))
+zip_all g f h known each [] (y ∷ ys) len w = absurd (omega (arith, len))
+zip_all g f h known each (x ∷ xs) (y ∷ ys) len w =
+    ap₂ (λ b c. b && c) (each x y (and_first (known y) _ w))
+    (zip_all g f h known each xs ys (omega (arith, len)) (and_second (known y) _ w))
 
 module _ (names : List Name) (statics : List Static) (vs : List Variable) (ds : List Declaration)
     (declared : zip2 (declaration_of names statics) names vs ≡ ds)
@@ -347,16 +359,10 @@ module _ (names : List Name) (statics : List Static) (vs : List Variable) (ds : 
       → list_all (waits_below (length names)) us ≡ true
       → list_all (is_clocked_by allowed) (zip2 (declaration_of names statics) xs us) ≡ list_all
       (waits_below k) us
-  clocked_list k allowed [] [] len first w = refl
-  clocked_list k allowed (x ∷ xs) [] len first w = absurd (omega arith)
-  clocked_list k allowed [] (u ∷ us) len first w = absurd (omega arith)
-  clocked_list k allowed (x ∷ xs) (u ∷ us) len first w =
-      let one = clocked_one k allowed x u u.clock refl first
-      (and_first _ (list_all (waits_below (length names)) us) w) in
-      let more = clocked_list k allowed xs us (omega arith) first
-      (and_second (waits_below (length names) u) _ w) in
-      ap (λ b. b && list_all (is_clocked_by allowed) (zip2 (declaration_of names statics) xs us))
-      one ∙ ap (λ b. waits_below k u && b) more
+  clocked_list k allowed xs us len first w =
+      zip_all (declaration_of names statics) (is_clocked_by allowed) (waits_below k)
+      (waits_below (length names)) (λ x v w. clocked_one k allowed x v v.clock refl first w) xs us
+      len w
 
 pub waits_next : (k : ℕ) (vs : List Variable) (i : ℕ) (d : Variable) → i < length vs
     → list_all (waits_below k) (drop i vs) ≡ waits_below k (get_or vs i d)
@@ -374,13 +380,13 @@ pub all_taken : {A : Type 0} (f : A → Bool) (k : ℕ) (xs : List A) → list_a
     list_all f (take k xs) ≡ true
 all_taken f zero xs e = refl
 all_taken f (suc k) [] e = refl
-all_taken f (suc k) (x ∷ xs) e = rw (and_first (f x) _ e) (all_taken f k xs (and_second (f x) _ e))
+all_taken f (suc k) (x ∷ xs) e = rw (and_first (f x) _ e) (all_taken f k xs (and_second _ _ e))
 
 all_dropped : {A : Type 0} (f : A → Bool) (k : ℕ) (xs : List A) → list_all f xs ≡ true →
     list_all f (drop k xs) ≡ true
 all_dropped f zero xs e = e
 all_dropped f (suc k) [] e = refl
-all_dropped f (suc k) (x ∷ xs) e = all_dropped f k xs (and_second (f x) _ e)
+all_dropped f (suc k) (x ∷ xs) e = all_dropped f k xs (and_second _ _ e)
 
 pub same_taken : {A B : Type 0} (k : ℕ) (xs : List A) (ys : List B) → length xs ≡ length ys →
     length (take k xs) ≡ length (take k ys)
@@ -402,8 +408,7 @@ pub within_all : (n : Counts) (vs : List Variable) → list_all (is_declared_wit
     list_all (waits_below n.variables) vs ≡ true
 within_all n [] e = refl
 within_all n (v ∷ vs) e =
-    rw (within_one n v v.clock refl (and_first _ (list_all (is_declared_within n) vs) e))
-    (within_all n vs (and_second (is_declared_within n v) _ e))
+    rw (within_one n v v.clock refl (and_first _ _ e)) (within_all n vs (and_second _ _ e))
 
 waits_there : (k : ℕ) (vs : List Variable) (x y : ℕ) → list_all (waits_below k) vs ≡ true →
     awaited vs x ≡ Some y → y < k
@@ -418,7 +423,7 @@ waits_there k (v ∷ vs) zero y w e = by v.clock refl
         let lt : nat_lt s.variable.0 k ≡ true =
         rw is at (and_first (waits_below k v) (list_all (waits_below k) vs) w) in
         subst (λ z. z < k) same (grind (arith, nat_tests))
-waits_there k (v ∷ vs) (suc x) y w e = waits_there k vs x y (and_second (waits_below k v) _ w) e
+waits_there k (v ∷ vs) (suc x) y w e = waits_there k vs x y (and_second _ _ w) e
 
 -- ## Variables of a test
 
@@ -434,7 +439,7 @@ are_awaited names r e x y h =
     waits_there _ r.variables.items x y
     (within_all (counts_of r) r.variables.items e.declared_within) h
 
-is_some_map : {A B : Type 0} (f : A → B) (o : Option A) → is_some o ≡ is_some (option_map f o)
+pub is_some_map : {A B : Type 0} (f : A → B) (o : Option A) → is_some o ≡ is_some (option_map f o)
 is_some_map f None = refl
 is_some_map f (Some a) = refl
 
@@ -455,6 +460,27 @@ module _ (nodes : List Name) (r : ResolvedNode) (e : IsResolved nodes r)
   pub within_names : list_all (waits_below (length names_here)) vs_here ≡ true
   within_names = subst (λ k. list_all (waits_below k) vs_here ≡ true) as_many_names
       (within_all (counts_of r) r.variables.items e.declared_within)
+
+  -- the inputs and outputs are the declarations of the first variables, each of which waits for a
+  -- variable of the node, if it waits for one
+  pub parameters_are :
+      ((node_of r).inputs ++ (node_of r).outputs
+      ≡ zip2 (declaration_of names_here (statics_of r)) (take (r.inputs + r.outputs) names_here)
+      (take (r.inputs + r.outputs) vs_here))
+      × (length (take (r.inputs + r.outputs) names_here)
+      ≡ length (take (r.inputs + r.outputs) vs_here))
+      × (list_all (waits_below (length names_here)) (take (r.inputs + r.outputs) vs_here) ≡ true)
+  parameters_are =
+      let f = declaration_of names_here (statics_of r) in
+      let split = zip_split f names_here vs_here ((node_of r).inputs ++ (node_of r).outputs)
+      (node_of r).locals (e.declared
+      ∙ sym (append_assoc (node_of r).inputs (node_of r).outputs (node_of r).locals)) in
+      let size : length ((node_of r).inputs ++ (node_of r).outputs) ≡ r.inputs + r.outputs =
+      omega (arith, length-append (node_of r).inputs (node_of r).outputs, e.inputs, e.outputs) in (
+        split.0 ∙ ap (λ m. zip2 f (take m names_here) (take m vs_here)) size,
+        same_taken _ names_here vs_here (sym as_many_names),
+        all_taken _ _ vs_here within_names,
+      )
 
   place_is : (i : ℕ) (x : Name) → i < length r.variables.items → slice_get names_here i ≡ Some x
       → option_map depth (variable_clock (node_of r) x) ≡ depth_within

@@ -1,17 +1,15 @@
 -- Tests of whether two clocks of a node are the same, and the declared clock of a variable.
 use Rattle.lb_check.proofs.Words
-use Words.{◌≡◌, ◌≢◌, ℕ, zero, suc, ◌<◌, Bool, true, false, List, [], ◌∷◌, ◌++◌, length, Option}
-use Words.{Some, None, refl, ap, sym, ◌∙◌, subst, arith, ◌&&◌, is_some, slice_get, nat_eq, list_all}
-use Words.{bytes_eq, nat_tests, bytes_eq-Decides, ◌>>=◌, either_or, Name, all_at, item_at}
-use Words.{and_first, and_second, both_ways, among, variable_names, is_variable, is_declared_within}
-use Words.{is_sampling_within, are_statics, node_of, counts_of, ResolvedNode, Sampling, Variable}
-use Words.{VariableId, is_clocked_by, is_clock, same, HasClocks, name_in, clock_in, is_clock_within}
-use Words.{clock_with, declared_in, is_same, Clock, On, clock_or, variable_clock, declared_clock}
-use Words.{Compared}
+use Words.{◌==◌, ◌≡◌, ℕ, zero, suc, ◌<◌, Bool, true, false, List, [], ◌∷◌, length, Option, Some}
+use Words.{None, refl, ap, sym, ◌∙◌, subst, arith, ◌&&◌, is_some, slice_get, nat_eq, bytes_eq}
+use Words.{nat_tests, bytes_eq-Decides, ◌>>=◌, Name, all_at, item_at, and_first, and_second}
+use Words.{both_ways, among, variable_names, is_variable, is_declared_within, is_sampling_within}
+use Words.{are_statics, node_of, counts_of, ResolvedNode, Sampling, Variable, VariableId, is_clock}
+use Words.{same, HasClocks, name_in, clock_in, is_clock_within, clock_with, declared_in, is_same}
+use Words.{Clock, On, clock_or, variable_clock, declared_clock, Compared}
 use Rattle.{std.proofs.Math.Bool.{and_self, or-true}, lb_check.specs.Clocks.Base}
-use Rattle.lb_check.proofs.clocking.{ClockDepths.as_many_names, ClockSetRows.same_is as same_one}
-use Rattle.lb_check.proofs.clocking.OwnClocks.{clock_of_free, clock_of_waiting, same_signs}
-use Rattle.lb_check.proofs.clocking.OwnClocks.{other_variable, beq_same, clock_itself}
+use Rattle.lb_check.proofs.clocking.ClockSetRows.{declared_there, same_is as same_one}
+use Rattle.lb_check.proofs.clocking.OwnClocks.{clock_itself, has_clock, name_of_place, same_clock}
 use Rattle.lb_check.specs.declared.own_clock.Clock.TheVariants as code
 
 -- ## Clocks of a text
@@ -66,19 +64,9 @@ module _ (r : ResolvedNode) (h : HasClocks r) where
   same_is code.Base code.Base wc wd = refl
   same_is code.Base (code.On y other) wc wd = refl
   same_is (code.On x sign) code.Base wc wd = refl
-  same_is (code.On x sign) (code.On y other) wc wd = by (nat_eq x.0 y.0) refl
-    where
-      by : (b : Bool) → nat_eq x.0 y.0 ≡ b
-          → (b && same sign other) ≡ is_clock (clock_in r (code.On x sign))
-          (clock_in r (code.On y other))
-      by true e =
-          let one : x.0 ≡ y.0 = grind (arith, nat_tests) in
-          sym (beq_same sign other) ∙ same_signs r h (code.On x sign)
-          (code.On y other) x y sign other refl refl wc wd one
-      by false e =
-          let two : x.0 ≢ y.0 = grind (arith, nat_tests) in
-          sym e ∙ other_variable r h (code.On x sign)
-          (code.On y other) x y sign other refl refl wc wd two
+  same_is (code.On x sign) (code.On y other) wc wd =
+      let turned : nat_eq x.0 y.0 ≡ (y.0 == x.0) = grind (arith, nat_tests) in
+      ap (λ b. b && same sign other) turned ∙ same_clock r h x y sign other wc wd
 
   module _ (x : VariableId) (w : is_variable (counts_of r) x ≡ true) where
     below : x.0 < length r.variables.items
@@ -88,12 +76,7 @@ module _ (r : ResolvedNode) (h : HasClocks r) where
     variable = item_at r.variables.items x.0 below
 
     name_there : slice_get (variable_names (node_of r)) x.0 ≡ Some (name_in r x)
-    name_there =
-        let names = variable_names (node_of r) in
-        let as_many = as_many_names h.nodes r h.resolved h.distinct in
-        let lt = below in
-        let z = item_at names x.0 (omega (arith, as_many, lt)) in
-        z.1 ∙ ap Some (sym (ap (λ o. either_or o []) z.1))
+    name_there = let v = variable in (name_of_place r h x v.0 v.1 below).0
 
     -- the name of a variable is among the names of the node
     pub name_among : among (name_in r x) (variable_names (node_of r)) ≡ true
@@ -103,13 +86,8 @@ module _ (r : ResolvedNode) (h : HasClocks r) where
     pub declared_is : clock_in r (declared_in r x) ≡ declared_clock (node_of r) (name_in r x)
     declared_is =
         let v = variable in
-        ap (λ o. clock_in r (clock_with (o >>= λ v. v.clock))) v.1 ∙ by v.0 v.1 v.0.clock refl
-      where
-        by : (v : Variable) → slice_get r.variables.items x.0 ≡ Some v → (o : Option Sampling) →
-            v.clock ≡ o
-            → clock_in r (clock_with o) ≡ declared_clock (node_of r) (name_in r x)
-        by v at None is = clock_of_free r h x v at below is
-        by v at (Some s) is = clock_of_waiting r h x v s at below is
+        ap (λ o. clock_in r (clock_with (o >>= λ v. v.clock))) v.1
+        ∙ declared_there r h x v.0 v.1 below
 
     pub declared_within : is_clock_within r (declared_in r x) ≡ true
     declared_within =
@@ -130,9 +108,4 @@ module _ (r : ResolvedNode) (h : HasClocks r) where
     pub has_declared : variable_clock (node_of r) (name_in r x) ≡ Some
         (declared_clock (node_of r) (name_in r x))
     has_declared =
-        let n = node_of r in
-        let last = and_second (list_all (is_clocked_by (n.inputs ++ n.outputs)) n.outputs) _
-        (and_second (list_all (is_clocked_by n.inputs) n.inputs) _ h.declared) in
-        some_is (variable_clock n (name_in r x))
-        (all_at (λ x. is_some (variable_clock n x)) (variable_names n) x.0
-        (name_in r x) last name_there)
+        some_is (variable_clock (node_of r) (name_in r x)) (has_clock r h x name_there)

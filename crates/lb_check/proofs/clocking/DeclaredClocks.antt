@@ -1,58 +1,29 @@
 -- The declared clocks of a node: their depth, and that the clock of a variable is on the declared
 -- clock of the variable that it waits for.
 use Rattle.lb_check.proofs.Words
-use Words.{◌≡◌, ℕ, zero, suc, ◌*◌, ◌<◌, ◌≤◌, Option, Some, None, List, [], ◌∷◌, length, map, refl}
-use Words.{ap, sym, ◌∙◌, subst, arith, bytes_eq, same_Some, ◌>>=◌, In, Name, Declaration, Node}
-use Words.{bind_some, variables, variable_names, named, in_map, Clock, On, sampled, clock_within}
-use Words.{variable_clock, clock_or, declared_clock, depth, above, base_from, base_clock, own_depth}
-use Rattle.{lb_syntax.specs.Tree.Sampling, lb_check.specs.Clocks.Base}
+use Words.{inl, inr, ◌≡◌, ℕ, zero, suc, ◌*◌, ◌<◌, ◌≤◌, Option, Some, None, List, [], ◌∷◌, length}
+use Words.{map, refl, ap, sym, ◌∙◌, subst, arith, bytes_eq, ◌>>=◌, In, Name, Declaration, Node}
+use Words.{variables, variable_names, named, in_map, Clock, On, clock_within, variable_clock}
+use Words.{clock_or, declared_clock, depth, above, base_from, base_clock, own_depth}
+use Rattle.lb_check.{specs.Clocks.Base, proofs.clocking.OwnClocks.{clock_found, more_steps}}
 use Rattle.lb_check.proofs.programs.{InstancePaths.find_in, TypedOccurrences.IsVariable}
 use Rattle.lb_check.proofs.programs.TypedOccurrences.{found_name}
 
 -- ## Steps within which a clock is found
 
 module _ (vars : List Declaration) where
-  -- a clock that is found within `m` steps is found within one more
-  within_more :
-      (m : ℕ) (d : Declaration) (k : Clock) → clock_within m vars d ≡ Some k →
-      clock_within (suc m) vars d ≡ Some k
-  within_more zero d k e = absurd cc
-  within_more (suc m) d k e = by (within_more m) d.clock e
-    where
-      by : ((v : Declaration) (l : Clock) → clock_within m vars v ≡ Some l →
-          clock_within (suc m) vars v ≡ Some l) → (o : Option Sampling) →
-          sampled (clock_within m vars) vars o ≡ Some k →
-          sampled (clock_within (suc m) vars) vars o ≡ Some k
-      by again None h = h
-      by again (Some s) h =
-          let v = bind_some (named (λ v. v.name) s.variable vars)
-          (λ v. clock_within m vars v >>= λ l. Some (On l s.variable s.sign)) k h in
-          let up = bind_some (clock_within m vars v.0) (λ l. Some (On l s.variable s.sign)) k v.2 in
-          ap (λ o. o >>= λ v. clock_within (suc m) vars v >>= λ l. Some (On l s.variable
-          s.sign)) v.1
-          ∙ ap (λ o. o >>= λ l. Some (On l s.variable s.sign)) (again v.0 up.0 up.1) ∙ up.2
-
   -- a clock that is found within `m` steps is less than `m` deep
   within_deep :
       (m : ℕ) (d : Declaration) (k : Clock) → clock_within m vars d ≡ Some k → depth k < m
   within_deep zero d k e = absurd cc
-  within_deep (suc m) d k e = by (within_deep m) d.clock e
-    where
-      by : ((v : Declaration) (l : Clock) → clock_within m vars v ≡ Some l → depth l < m) →
-          (o : Option Sampling) → sampled (clock_within m vars) vars o ≡ Some k →
-          depth k < suc m
-      by again None h =
-          let base : Base ≡ k = same_Some Base k h in
-          let none : 0 ≡ depth k = ap depth base in
-          omega (arith, none)
-      by again (Some s) h =
-          let v = bind_some (named (λ v. v.name) s.variable vars)
-          (λ v. clock_within m vars v >>= λ l. Some (On l s.variable s.sign)) k h in
-          let up = bind_some (clock_within m vars v.0) (λ l. Some (On l s.variable s.sign)) k v.2 in
-          let on : On up.0 s.variable s.sign ≡ k = same_Some _ k up.2 in
-          let deep : suc (depth up.0) ≡ depth k = ap depth on in
-          let below = again v.0 up.0 up.1 in
-          omega (arith, deep, below)
+  within_deep (suc m) d k e =
+      elim (clock_found m vars d k e) [
+        | inl free ↦ let none : 0 ≡ depth k = ap depth free.1 in omega (arith, none)
+        | inr w ↦
+            let deep : suc (depth w.clock) ≡ depth k = ap depth w.on in
+            let below = within_deep m w.variable w.clock w.is in
+            omega (arith, deep, below)
+      ]
 
 module _ (n : Node) where
   -- a name that is found among the variables of a node is one of a variable
@@ -73,58 +44,48 @@ module _ (n : Node) where
   within_own :
       (d : Declaration) (k : Clock) →
       clock_within (suc (length (variables n))) (variables n) d ≡ Some k → IsOwn k
-  within_own d k e = by d.clock e
+  within_own d k e =
+      let vars = variables n in
+      elim (clock_found (length vars) vars d k e) [
+        | inl free ↦ subst IsOwn free.1 tt
+        | inr w ↦
+            let found : variable_clock n w.waits.variable ≡ Some w.clock =
+            ap (λ o. o >>= clock_within (suc (length vars)) vars) w.found
+            ∙ more_steps (length vars) vars w.variable w.clock w.is in
+            subst IsOwn w.on (
+              sym (ap clock_or found),
+              found_variable w.waits.variable w.variable w.found,
+            )
+      ]
+
+  -- what holds of the base clock and of each clock that is found holds of each declared clock
+  of_declared : (Q : Clock → Type 0) → Q Base →
+      ((d : Declaration) (k : Clock) →
+      clock_within (suc (length (variables n))) (variables n) d ≡ Some k → Q k) →
+      (x : Name) → Q (declared_clock n x)
+  of_declared Q base each x = by (named (λ d. d.name) x (variables n))
     where
-      by : (o : Option Sampling) →
-          sampled (clock_within (length (variables n)) (variables n)) (variables n) o ≡ Some k →
-          IsOwn k
-      by None h = subst IsOwn (same_Some Base k h) tt
-      by (Some s) h =
-          let vars = variables n in
-          let m = length (variables n) in
-          let v = bind_some (named (λ v. v.name) s.variable vars)
-          (λ v. clock_within m vars v >>= λ l. Some (On l s.variable s.sign)) k h in
-          let up = bind_some (clock_within m vars v.0) (λ l. Some (On l s.variable s.sign)) k v.2 in
-          let more = within_more vars m v.0 up.0 up.1 in
-          let found : variable_clock n s.variable ≡ Some up.0 =
-          ap (λ o. o >>= clock_within (suc m) vars) v.1 ∙ more in
-          let declared : up.0 ≡ declared_clock n s.variable = sym (ap clock_or found) in
-          let own : IsOwn (On up.0 s.variable s.sign) =
-          (declared, found_variable s.variable v.0 v.1) in
-          subst IsOwn (same_Some (On up.0 s.variable s.sign) k up.2) own
+      found : (d : Declaration) (o : Option Clock) →
+          clock_within (suc (length (variables n))) (variables n) d ≡ o → Q (clock_or o)
+      found d None e = base
+      found d (Some k) e = each d k e
+
+      by : (o : Option Declaration) →
+          Q (clock_or (o >>= clock_within (suc (length (variables n))) (variables n)))
+      by None = base
+      by (Some d) = found d (clock_within (suc (length (variables n))) (variables n) d) refl
 
   -- each declared clock is a clock of the node
   pub declared_own : (x : Name) → IsOwn (declared_clock n x)
-  declared_own x =
-      by (named (λ d. d.name) x (variables n))
-    where
-      found : (d : Declaration) (o : Option Clock) →
-          clock_within (suc (length (variables n))) (variables n) d ≡ o → IsOwn (clock_or o)
-      found d None e = tt
-      found d (Some k) e = within_own d k e
-
-      by : (o : Option Declaration) →
-          IsOwn (clock_or (o >>= clock_within (suc (length (variables n))) (variables n)))
-      by None = tt
-      by (Some d) = found d (clock_within (suc (length (variables n))) (variables n) d) refl
+  declared_own x = of_declared IsOwn tt within_own x
 
   -- a declared clock is at most as deep as there are variables
   pub declared_deep : (x : Name) → depth (declared_clock n x) ≤ length (variables n)
-  declared_deep x = by (named (λ d. d.name) x (variables n))
-    where
-      found : (d : Declaration) (o : Option Clock) →
-          clock_within (suc (length (variables n))) (variables n) d ≡ o →
-          depth (clock_or o) ≤ length (variables n)
-      found d None e = omega arith
-      found d (Some k) e =
-          let below = within_deep (variables n) (suc (length (variables n))) d k e in
-          omega (arith, below)
-
-      by : (o : Option Declaration) →
-          depth (clock_or (o >>= clock_within (suc (length (variables n))) (variables n)))
-          ≤ length (variables n)
-      by None = omega arith
-      by (Some d) = found d (clock_within (suc (length (variables n))) (variables n) d) refl
+  declared_deep x =
+      of_declared (λ k. depth k ≤ length (variables n)) (omega arith)
+      (λ d k e.
+      let below = within_deep (variables n) (suc (length (variables n))) d k e in
+      omega (arith, below)) x
 
   some_variable : (x : Name) → IsVariable n x → 0 < length (variables n)
   some_variable x i = by (variables n) i

@@ -1,30 +1,31 @@
 -- A call that is a whole right side keeps the rules of clocks exactly where the code finds so.
 use Rattle.lb_check.proofs.Words
-use Words.{◌≡◌, ℕ, suc, ◌+◌, ◌-◌, ◌<◌, ◌≤◌, ◌⊎◌, inl, inr, Bool, true, false, List, [], ◌∷◌, ◌++◌}
-use Words.{length, map, Option, Some, None, refl, ap, sym, ◌∙◌, subst, arith, ◌&&◌, ◌||◌, not}
-use Words.{slice_get, nat_eq, nat_lt, if◌then◌else◌, list_all, nat_tests, length-map, lt-ltb}
-use Words.{and_from, add-sub_cancel_left, and-true, either_or, listed, or_else, Name, Expr}
-use Words.{Declaration, and_first, and_second, both_ways, item_at, all_at, mapped_from, Program}
-use Words.{Site, node_named, node_of, texts_of, counts_of, exprs_of, is_within, is_unhidden}
-use Words.{is_variable, ResolvedNode, Sampling, Term, VariableId, is_clock, are_clocks, left_clocks}
-use Words.{are_on_results, given_inputs, given_outputs, given_name, outer, above, own_depth, depth}
-use Words.{declared_clock, base_clock, base_from, argument_clocks, result_clocks, statement_clock}
-use Words.{HasClocks, name_in, clock_in, is_clock_within, AreClockSets, is_clocked_on, Context}
-use Words.{declared_in, operands_of, given_at, clock_sets, are_given, input_clocks, output_clocks}
-use Words.{base_of, all_fit, left_clock_sets, stands_for, result_base, Base, ClockSet, OneClock}
-use Words.{Declared}
+use Words.{◌≡◌, ap₂, ℕ, suc, ◌+◌, ◌-◌, ◌<◌, ◌≤◌, ◌⊎◌, inl, inr, Bool, true, false, List, [], ◌∷◌}
+use Words.{◌++◌, length, map, Option, Some, None, refl, ap, sym, ◌∙◌, subst, arith, ◌&&◌, ◌||◌, not}
+use Words.{slice_get, nat_eq, nat_lt, if◌then◌else◌, list_all, nat_tests, length-map, and_from}
+use Words.{and-true, either_or, listed, or_else, Name, Expr, Declaration, and_first, and_second}
+use Words.{both_ways, item_at, all_at, mapped_from, Program, Site, node_named, node_of, texts_of}
+use Words.{counts_of, exprs_of, is_variable, ResolvedNode, Sampling, Term, VariableId, is_clock}
+use Words.{are_clocks, left_clocks, are_on_results, given_inputs, given_outputs, given_name, outer}
+use Words.{above, own_depth, depth, declared_clock, base_clock, base_from, argument_clocks}
+use Words.{result_clocks, statement_clock, name_in, clock_in, is_clock_within, is_clocked_on}
+use Words.{Context, declared_in, operands_of, given_at, clock_sets, are_given, input_clocks}
+use Words.{output_clocks, base_of, all_fit, left_clock_sets, stands_for, result_base, Base}
+use Words.{ClockSet, OneClock, Declared}
 use Rattle.{std.proofs.lemmas.List.nil_from_length, lb_check.specs.TermClocks.is_call_clocked}
 use Rattle.lb_check.specs.declared.own_clock.Clock.{Clock}
-use Rattle.lb_check.proofs.clocking.CallOperands.{are_given_is, own_inputs, clock_set_within}
+use Rattle.lb_check.proofs.clocking.CallOperands.{KnownOperands, are_given_is, own_inputs}
 use Rattle.lb_check.proofs.clocking.CallOperands.{waited_given, input_waits, output_waits}
-use Rattle.lb_check.proofs.clocking.CallOperands.{inputs_seen, inputs_is_given, code_known}
-use Rattle.lb_check.proofs.clocking.{CallOperands.{code_stand, same_fits}, ClockTests.clock_same}
-use Rattle.lb_check.proofs.clocking.{ClockTests.clock_turned, GivenNames.{given_in, given_out}}
+use Rattle.lb_check.proofs.clocking.CallOperands.{inputs_seen, inputs_of, code_known, code_stand}
+use Rattle.lb_check.proofs.clocking.{CallOperands.same_fits, GivenNames.{given_in, given_out}}
+use Rattle.lb_check.proofs.clocking.ClockTests.{clock_same, clock_turned, declared_is}
+use Rattle.lb_check.proofs.clocking.ClockTests.{declared_within}
 use Rattle.lb_check.proofs.clocking.GivenNames.{found_before, output_at, output_held, variable_held}
 use Rattle.lb_check.proofs.clocking.OuterClocks.{clocks_length, clocks_at, clocks_from, place_split}
-use Rattle.lb_check.proofs.clocking.OuterClocks.{later_place, IsGiven, IsWithin, fits_on, fit_some}
+use Rattle.lb_check.proofs.clocking.OuterClocks.{first_part, second_part, IsGiven, IsWithin}
+use Rattle.lb_check.proofs.clocking.OuterClocks.{fits_on, fit_some}
 use Rattle.lb_check.proofs.clocking.OuterClocks.{fit_none, base_within, base_is, stood, clock_equal}
-use Rattle.lb_check.proofs.clocking.OuterClocks.{above_outer, declared_is, place_name, variable_at}
+use Rattle.lb_check.proofs.clocking.OuterClocks.{above_outer, AreOfNode, place_name, variable_at}
 use Rattle.lb_check.proofs.clocking.OuterClocks.{seen, expected_on, AreGiven, StandFor, HaveNames}
 use Rattle.lb_check.proofs.{clocking.OuterClocks.outer_all, lists.ListPairs.{get_mapped, get_taken}}
 use Rattle.lb_check.proofs.lists.ListPairs.{taken, get_dropped, each_pair, pair_at, pairs_from}
@@ -32,12 +33,9 @@ use Rattle.lb_syntax.specs.Tree as text
 use Rattle.lb_check.specs.Clocks as tree
 use Rattle.lb_check.proofs.clocking.CallClockSets as one
 
-module _ (P : Program) (here callee : ResolvedNode) (h : HasClocks here) (hc : HasClocks callee)
-    (site : Site)
-    (named : node_named P site.callee ≡ Some (node_of callee)) (ctx : Context)
-    (declares : ctx.variable ≡ declared_in here)
-    (es : List Term) (w : list_all (is_within (counts_of here)) es ≡ true)
-    (u : list_all (is_unhidden (texts_of here)) es ≡ true) (stand : AreClockSets P here ctx es)
+module _ {P : Program} {here callee : ResolvedNode} {ctx : Context} {es : List Term}
+    (ops : KnownOperands P here callee ctx es) (site : Site)
+    (named : node_named P site.callee ≡ Some (node_of callee))
     (lefts : List VariableId) (wl : list_all (is_variable (counts_of here)) lefts ≡ true) where
   abbrev args : text.Exprs
   args = exprs_of (texts_of here) es
@@ -55,20 +53,20 @@ module _ (P : Program) (here callee : ResolvedNode) (h : HasClocks here) (hc : H
   Y = stands_for callee.inputs (operands_of ctx es) lefts
 
   pub Y_in : (i : ℕ) → i < callee.inputs → Y i ≡ given_at (operands_of ctx es) i
-  Y_in i lt = rw (lt-ltb i callee.inputs lt) refl
+  Y_in i lt = first_part callee.inputs (given_at (operands_of ctx es)) (slice_get lefts) i lt
 
   Y_out : (j : ℕ) → Y (callee.inputs + j) ≡ slice_get lefts j
-  Y_out j = rw (later_place callee.inputs j, add-sub_cancel_left callee.inputs j) refl
+  Y_out j = second_part callee.inputs (given_at (operands_of ctx es)) (slice_get lefts) j
 
   -- the clock set of what stands for variable `i` of the callee
   abbrev S : ℕ → Option ClockSet
   S i = if nat_lt i callee.inputs then slice_get ss i else slice_get ls (i - callee.inputs)
 
   S_in : (i : ℕ) → i < callee.inputs → S i ≡ slice_get ss i
-  S_in i lt = rw (lt-ltb i callee.inputs lt) refl
+  S_in i lt = first_part callee.inputs (slice_get ss) (slice_get ls) i lt
 
   S_out : (j : ℕ) → S (callee.inputs + j) ≡ slice_get ls j
-  S_out j = rw (later_place callee.inputs j, add-sub_cancel_left callee.inputs j) refl
+  S_out j = second_part callee.inputs (slice_get ss) (slice_get ls) j
 
   abbrev inner : tree.Given
   inner = given_inputs (node_of callee).inputs args
@@ -85,13 +83,13 @@ module _ (P : Program) (here callee : ResolvedNode) (h : HasClocks here) (hc : H
   left_stands : (j : ℕ) (x : VariableId) → slice_get lefts j ≡ Some x →
       slice_get ls j ≡ Some (OneClock (declared_in here x))
   left_stands j x e = get_mapped _ lefts j x e
-      ∙ ap (λ f. Some (OneClock (f x))) declares
+      ∙ ap (λ f. Some (OneClock (f x))) ops.declares
 
   left_from : (j : ℕ) (s : ClockSet) → slice_get ls j ≡ Some s →
       (x : VariableId) × (slice_get lefts j ≡ Some x) × (s ≡ OneClock (declared_in here x))
   left_from j s e =
       let x = mapped_from _ lefts j s e in
-      (x.0, x.1, sym x.2 ∙ ap (λ f. OneClock (f x.0)) declares)
+      (x.0, x.1, sym x.2 ∙ ap (λ f. OneClock (f x.0)) ops.declares)
 
   lefts_within : (j : ℕ) (s : ClockSet) → slice_get ls j ≡ Some s → IsWithin here s
   lefts_within j s e l only =
@@ -99,13 +97,7 @@ module _ (P : Program) (here callee : ResolvedNode) (h : HasClocks here) (hc : H
       let both : OneClock l ≡ OneClock (declared_in here x.0) = sym only ∙ x.2 in
       let same : l ≡ declared_in here x.0 = cc in
       subst (λ k. is_clock_within here k ≡ true) (sym same)
-      (declared_is here h x.0 (left_within j x.0 x.1)).1
-
-  left_clock_at : (j : ℕ) (x : VariableId) → slice_get lefts j ≡ Some x →
-      slice_get (left_clocks (node_of here) xs) j ≡ Some
-      (declared_clock (node_of here) (name_in here x))
-  left_clock_at j x e = get_mapped _ xs j _
-      (get_mapped _ lefts j x e)
+      (declared_within here ops.own x.0 (left_within j x.0 x.1))
 
   left_clock_from : (j : ℕ) (k : tree.Clock) → slice_get (left_clocks (node_of here) xs) j ≡ Some k
       → (x : VariableId) × (slice_get lefts j ≡ Some x)
@@ -119,7 +111,7 @@ module _ (P : Program) (here callee : ResolvedNode) (h : HasClocks here) (hc : H
   left_stood : (j : ℕ) (x : VariableId) (k : tree.Clock) → slice_get lefts j ≡ Some x →
       stood here k (OneClock (declared_in here x)) ≡ is_clock k
       (declared_clock (node_of here) (name_in here x))
-  left_stood j x k e = ap (is_clock k) (declared_is here h x (left_within j x e)).0
+  left_stood j x k e = ap (is_clock k) (declared_is here ops.own x (left_within j x e))
 
   -- ## The variables that stand for those of the callee
 
@@ -127,7 +119,7 @@ module _ (P : Program) (here callee : ResolvedNode) (h : HasClocks here) (hc : H
   all_stand i y lt e =
       elim (place_split i callee.inputs callee.outputs lt) [
         | inl less ↦
-            let z = own_inputs P here callee h hc ctx declares es w u stand Y Y_in i y less e in
+            let z = own_inputs ops Y Y_in i y less e in
             (S_in i less ∙ z.0, z.1)
         | inr p ↦
             let there : slice_get lefts p.0 ≡ Some y = sym (Y_out p.0) ∙ ap Y (sym p.1) ∙ e in
@@ -138,12 +130,12 @@ module _ (P : Program) (here callee : ResolvedNode) (h : HasClocks here) (hc : H
   all_names i y lt e =
       elim (place_split i callee.inputs callee.outputs lt) [
         | inl less ↦
-            let there = given_in callee hc here ctx es i y less (sym (Y_in i less) ∙ e) in
+            let there = given_in callee ops.called here ctx es i y less (sym (Y_in i less) ∙ e) in
             ap (λ o. either_or o (place_name callee i)) (found_before inner _ _ _ there)
         | inr p ↦
             let there : slice_get lefts p.0 ≡ Some y = sym (Y_out p.0) ∙ ap Y (sym p.1) ∙ e in
             let x = get_mapped _ lefts p.0 y there in
-            let here_given = given_out callee hc args xs p.0 _ p.2 x in
+            let here_given = given_out callee ops.called args xs p.0 _ p.2 x in
             let at : given_name given (place_name callee (callee.inputs + p.0)) ≡ name_in here y =
             ap (λ o. either_or o (place_name callee (callee.inputs + p.0))) here_given in
             ap (λ i. given_name given (place_name callee i)) p.1 ∙ at
@@ -158,14 +150,6 @@ module _ (P : Program) (here callee : ResolvedNode) (h : HasClocks here) (hc : H
       let t = get_taken callee.outputs _ j v.0 v.1 in
       (v.0, sym (get_dropped callee.inputs callee.variables.items j) ∙ t.0, v.2, t.1)
 
-  clock_out : (j : ℕ) (v : Declared) → j < callee.outputs →
-      slice_get callee.variables.items (callee.inputs + j) ≡ Some v →
-      slice_get (output_clocks callee) j ≡ Some v.clock
-  clock_out j v lt e =
-      let there = get_dropped callee.inputs callee.variables.items j ∙ e in
-      get_mapped _ _ j
-      v (taken callee.outputs _ j v there lt)
-
   module _ (all : are_given callee (operands_of ctx es) ≡ true)
       (many : length lefts ≡ callee.outputs) where
     what_waits : (i : ℕ) (v : Declared) (s : Sampling) → i < callee.inputs + callee.outputs →
@@ -173,8 +157,8 @@ module _ (P : Program) (here callee : ResolvedNode) (h : HasClocks here) (hc : H
         → s.variable.0 < callee.inputs + callee.outputs
     what_waits i v s lt at is =
         elim (place_split i callee.inputs callee.outputs lt) [
-          | inl less ↦ let small = input_waits callee hc i v s less at is in omega arith
-          | inr p ↦ output_waits callee hc p.0 v s p.2
+          | inl less ↦ let small = input_waits callee ops.called i v s less at is in omega arith
+          | inr p ↦ output_waits callee ops.called p.0 v s p.2
               (ap (slice_get callee.variables.items) (sym p.1) ∙ at) is
         ]
 
@@ -185,8 +169,7 @@ module _ (P : Program) (here callee : ResolvedNode) (h : HasClocks here) (hc : H
           below,
           elim (place_split s.variable.0 callee.inputs callee.outputs below) [
             | inl less ↦
-                let y = waited_given P here callee h hc ctx declares es w u stand all i v s lt at is
-                less in
+                let y = waited_given ops all i v s lt at is less in
                 (y.0, Y_in s.variable.0 less ∙ y.1)
             | inr p ↦
                 let small = p.2 in
@@ -197,20 +180,18 @@ module _ (P : Program) (here callee : ResolvedNode) (h : HasClocks here) (hc : H
 
     waits_in : AreGiven callee Y callee.inputs callee.inputs
     waits_in i v s lt at is =
-        let less = input_waits callee hc i v s lt at is in
-        let y = waited_given P here callee h hc ctx declares es w u stand all i v s
-        (omega arith) at is less in
+        let less = input_waits callee ops.called i v s lt at is in
+        let y = waited_given ops all i v s (omega arith) at is less in
         (less, (y.0, Y_in s.variable.0 less ∙ y.1))
 
     abbrev fits_in : tree.Clock → Bool
-    fits_in b = fits_on here h Y b (input_clocks callee) ss
+    fits_in b = fits_on here Y b (input_clocks callee) ss
 
     abbrev fits_out : tree.Clock → Bool
-    fits_out b = fits_on here h Y b (output_clocks callee) ls
+    fits_out b = fits_on here Y b (output_clocks callee) ls
 
     abbrev outer_in : tree.Clock → Bool
-    outer_in b = each_pair (stood here)
-        (inputs_seen P here callee h hc ctx declares es w u stand b) ss
+    outer_in b = each_pair (stood here) (inputs_seen ops b) ss
 
     -- the clocks of the results, where the callee runs on clock `b`
     abbrev outputs_seen : tree.Clock → List tree.Clock
@@ -224,16 +205,10 @@ module _ (P : Program) (here callee : ResolvedNode) (h : HasClocks here) (hc : H
     few = omega arith
 
     in_same : (b : tree.Clock) → outer_in b ≡ fits_in b
-    in_same b = same_fits P here callee h hc ctx declares es w u stand Y Y_in callee.inputs few
-        waits_in b
+    in_same b = same_fits ops Y Y_in callee.inputs few waits_in b
 
-    params_in : (i : ℕ) (c : Option Sampling) → slice_get (input_clocks callee) i ≡ Some c →
-        IsGiven here Y c
-    params_in = inputs_is_given P here callee h hc ctx declares es w u stand Y Y_in callee.inputs
-        few waits_in
-
-    within_in : (i : ℕ) (s : ClockSet) → slice_get ss i ≡ Some s → IsWithin here s
-    within_in = clock_set_within P here callee h hc ctx declares es w u stand
+    row_in : AreOfNode here Y (input_clocks callee) ss
+    row_in = inputs_of ops Y Y_in callee.inputs few waits_in
 
     params_out : (j : ℕ) (c : Option Sampling) → slice_get (output_clocks callee) j ≡ Some c →
         IsGiven here Y c
@@ -243,14 +218,16 @@ module _ (P : Program) (here callee : ResolvedNode) (h : HasClocks here) (hc : H
         let z = waits (callee.inputs + j) v.0 s (omega arith) v.1 (v.2 ∙ is) in
         (z.1.0, z.1.1, (all_stand s.variable.0 z.1.0 z.0 z.1.1).1)
 
+    row_out : AreOfNode here Y (output_clocks callee) ls
+    row_out = record { given = params_out; within = lefts_within }
+
     -- ## The clocks of the results
 
     inputs_stand : (b : tree.Clock) → fits_in b ≡ true → (i : ℕ) (v : Declared) (s : ClockSet) →
         i < callee.inputs → slice_get callee.variables.items i ≡ Some v
         → S i ≡ Some s → stood here (expected_on here Y b v.clock) s ≡ true
     inputs_stand b ok i v s lt at e =
-        code_stand P here callee h hc ctx declares es w u stand Y Y_in callee.inputs few waits_in b
-        ok i v s lt at (sym (S_in i lt) ∙ e)
+        code_stand ops Y Y_in callee.inputs few waits_in b ok i v s lt at (sym (S_in i lt) ∙ e)
 
     known : (b : tree.Clock) → fits_in b ≡ true
         → ((j : ℕ) (v : Declared) (x : VariableId) → j < callee.outputs →
@@ -263,20 +240,14 @@ module _ (P : Program) (here callee : ResolvedNode) (h : HasClocks here) (hc : H
         slice_get callee.variables.items x.0 ≡ Some v
         → expected_on here Y b v.clock ≡ seen callee given b x.0
     known b ok out =
-        outer_all here callee h hc Y S (callee.inputs + callee.outputs)
-        (callee.inputs + callee.outputs) (omega arith) waits all_stand given all_names b
-        (λ i v s lt at e. elim (place_split i callee.inputs callee.outputs lt) [
+        outer_all here callee ops.own ops.called Y S _ _ (omega arith) waits all_stand given
+        all_names b (λ i v s lt at e. elim (place_split i callee.inputs callee.outputs lt) [
           | inl less ↦ inr (inputs_stand b ok i v s less at e)
           | inr p ↦
               let x = left_from p.0 s (sym (S_out p.0) ∙ ap S (sym p.1) ∙ e) in
               let there = out p.0 v x.0 p.2
               (ap (slice_get callee.variables.items) (sym p.1) ∙ at) x.1 in
-              subst (λ z. (stood here (seen callee given b i) z ≡ true)
-              ⊎ (stood here (expected_on here Y b v.clock) z ≡ true)) (sym x.2)
-              (subst (λ i. (stood here (seen callee given b i) (OneClock (declared_in here x.0))
-              ≡ true)
-              ⊎ (stood here (expected_on here Y b v.clock)
-              (OneClock (declared_in here x.0)) ≡ true)) (sym p.1) there)
+              rw (p.1, x.2) there
         ])
 
     -- each left variable is on the clock of its result, where all are
@@ -285,13 +256,14 @@ module _ (P : Program) (here callee : ResolvedNode) (h : HasClocks here) (hc : H
         → is_clock (declared_clock (node_of here) (name_in here x))
         (seen callee given b (callee.inputs + j)) ≡ true
     result_at b ok j x lt e =
-        let d = output_held callee hc j lt in
+        let d = output_held callee ops.called j lt in
         let f = λ (d : Declaration). outer b given (declared_clock (node_of callee) d.name) in
         let there = get_mapped f _ j d.0 d.1 in
         let k = declared_clock (node_of here) (name_in here x) in
-        let same = clocks_at _ _ j k (f d.0) ok (left_clock_at j x e) there in
+        let left = get_mapped _ xs j _ (get_mapped _ lefts j x e) in
+        let same = clocks_at _ _ j k (f d.0) ok left there in
         subst (λ n. is_clock k (outer b given (declared_clock (node_of callee) n)) ≡ true)
-        (output_at callee hc j d.0 d.1).0 same
+        (output_at callee ops.called j d.0 d.1).0 same
 
     known_outer : (b : tree.Clock) → fits_in b ≡ true → outer_out b ≡ true →
         (x : VariableId) (v : Declared) → x.0 < callee.inputs + callee.outputs
@@ -308,7 +280,9 @@ module _ (P : Program) (here callee : ResolvedNode) (h : HasClocks here) (hc : H
         → slice_get lefts j ≡ Some x →
         stood here (expected_on here Y b v.clock) (OneClock (declared_in here x)) ≡ true
     left_fits b ok j v x lt at e =
-        pair_at _ _ ls j v.clock _ ok (clock_out j v lt at) (left_stands j x e)
+        let there = get_dropped callee.inputs callee.variables.items j ∙ at in
+        let clock = get_mapped _ _ j v (taken callee.outputs _ j v there lt) in
+        pair_at _ _ ls j v.clock _ ok clock (left_stands j x e)
 
     known_code : (b : tree.Clock) → fits_in b ≡ true → fits_out b ≡ true →
         (x : VariableId) (v : Declared) → x.0 < callee.inputs + callee.outputs
@@ -335,14 +309,14 @@ module _ (P : Program) (here callee : ResolvedNode) (h : HasClocks here) (hc : H
     from_out : (b : tree.Clock) → fits_in b ≡ true → fits_out b ≡ true → outer_out b ≡ true
     from_out b ok out =
         let count : length (left_clocks (node_of here) xs) ≡ length (outputs_seen b) =
-        simp length-map (many ∙ hc.resolved.outputs) in
+        simp length-map (many ∙ ops.called.resolved.outputs) in
         clocks_from (left_clocks (node_of here) xs) (outputs_seen b) count (λ j k l p q.
         let x = left_clock_from j k p in
         let d = mapped_from (λ (d : Declaration). outer b given
         (declared_clock (node_of callee) d.name)) (node_of callee).outputs j l q in
-        let place = output_at callee hc j d.0 d.1 in
+        let place = output_at callee ops.called j d.0 d.1 in
         let less = place.1 in
-        let v = variable_held callee hc (callee.inputs + j) (omega arith) in
+        let v = variable_held callee ops.called (callee.inputs + j) (omega arith) in
         let own = declared_clock (node_of here) (name_in here x.0) in
         let z = seen callee given b (callee.inputs + j) in
         let at : expected_on here Y b v.0.clock ≡ z =
@@ -364,11 +338,11 @@ module _ (P : Program) (here callee : ResolvedNode) (h : HasClocks here) (hc : H
 
     in_code : (k : Clock) → is_clock_within here k ≡ true →
         code_in (Some k) ≡ fits_in (clock_in here k)
-    in_code = fit_some here h Y (input_clocks callee) ss params_in within_in
+    in_code = fit_some ops.own row_in
 
     out_code : (k : Clock) → is_clock_within here k ≡ true →
         code_out (Some k) ≡ fits_out (clock_in here k)
-    out_code = fit_some here h Y (output_clocks callee) ls params_out lefts_within
+    out_code = fit_some ops.own row_out
 
     on_base : (k : Clock) (b : tree.Clock) → is_clock_within here k ≡ true → b ≡ clock_in here k →
         fits_in b ≡ true → fits_out b ≡ true
@@ -384,14 +358,12 @@ module _ (P : Program) (here callee : ResolvedNode) (h : HasClocks here) (hc : H
         → (b : tree.Clock) → fits_in b ≡ true → fits_out b ≡ true →
         (code_in (or_else o p) ≡ true) × (code_out (or_else o p) ≡ true)
     to_base (Some k) p eo ep b ok out =
-        on_base k b (base_within here h Y (output_clocks callee) ls params_out lefts_within k eo)
-        (base_is here h Y (output_clocks callee) ls params_out lefts_within k b eo out) ok out
+        on_base k b (base_within ops.own row_out k eo) (base_is ops.own row_out k b eo out) ok out
     to_base None (Some k) eo ep b ok out =
-        on_base k b (base_within here h Y (input_clocks callee) ss params_in within_in k ep)
-        (base_is here h Y (input_clocks callee) ss params_in within_in k b ep ok) ok out
+        on_base k b (base_within ops.own row_in k ep) (base_is ops.own row_in k b ep ok) ok out
     to_base None None eo ep b ok out = (
-      fit_none here h Y (input_clocks callee) ss params_in within_in ep b ∙ ok,
-      fit_none here h Y (output_clocks callee) ls params_out lefts_within eo b ∙ out,
+      fit_none ops.own row_in ep b ∙ ok,
+      fit_none ops.own row_out eo b ∙ out,
     )
 
     abbrev FitsSome : Type 0
@@ -405,14 +377,13 @@ module _ (P : Program) (here callee : ResolvedNode) (h : HasClocks here) (hc : H
         base_of (input_clocks callee) ss ≡ p
         → code_in (or_else o p) ≡ true → code_out (or_else o p) ≡ true → FitsSome
     from_base (Some k) p eo ep ok out =
-        off_base k (base_within here h Y (output_clocks callee) ls params_out lefts_within k eo) ok
-        out
+        off_base k (base_within ops.own row_out k eo) ok out
     from_base None (Some k) eo ep ok out =
-        off_base k (base_within here h Y (input_clocks callee) ss params_in within_in k ep) ok out
+        off_base k (base_within ops.own row_in k ep) ok out
     from_base None None eo ep ok out = (
       tree.Base,
-      sym (fit_none here h Y (input_clocks callee) ss params_in within_in ep tree.Base) ∙ ok,
-      sym (fit_none here h Y (output_clocks callee) ls params_out lefts_within eo tree.Base) ∙ out,
+      sym (fit_none ops.own row_in ep tree.Base) ∙ ok,
+      sym (fit_none ops.own row_out eo tree.Base) ∙ out,
     )
 
     -- ## The clock of the equation
@@ -433,7 +404,7 @@ module _ (P : Program) (here callee : ResolvedNode) (h : HasClocks here) (hc : H
     no_left : lefts ≡ [] → from_left ≡ tree.Base
     no_left none =
         let count : length (node_of callee).outputs ≡ 0 =
-        sym (ap length (sym none) ∙ many ∙ hc.resolved.outputs) in
+        sym (ap length (sym none) ∙ many ∙ ops.called.resolved.outputs) in
         ap (λ l. base_clock (clock_on l) (node_of callee)) none
         ∙ ap (base_from tree.Base (node_of callee)) (nil_from_length (node_of callee).outputs count)
 
@@ -462,8 +433,8 @@ module _ (P : Program) (here callee : ResolvedNode) (h : HasClocks here) (hc : H
         fits_in b ≡ true → fits_out b ≡ true → from_left ≡ b
     left_base x l is b ok out =
         let z = left_seen x l is b ok out in
-        let d = output_held callee hc 0 z.1 in
-        let place = output_at callee hc 0 d.0 d.1 in
+        let d = output_held callee ops.called 0 z.1 in
+        let place = output_at callee ops.called 0 d.0 d.1 in
         base_first (clock_on lefts) (node_of callee).outputs d.0 d.1
         ∙ ap (λ n. above (depth (declared_clock (node_of callee) n)) (clock_on lefts)) place.0
         ∙ ap
@@ -486,8 +457,7 @@ module _ (P : Program) (here callee : ResolvedNode) (h : HasClocks here) (hc : H
         let z = on_base Base from_left refl (no_left is) ok out in
         (ap code_in some ∙ z.0, ap code_out some ∙ z.1)
     to_code (x ∷ l) is ok out =
-        let z = to_base (base_of (output_clocks callee) ls)
-        (base_of (input_clocks callee) ss) refl refl from_left ok out in
+        let z = to_base _ _ refl refl from_left ok out in
         (ap code_in (base_is_first x l is) ∙ z.0, ap code_out (base_is_first x l is) ∙ z.1)
 
     from_code : (l : List VariableId) → lefts ≡ l → code_in base ≡ true → code_out base ≡ true →
@@ -499,8 +469,7 @@ module _ (P : Program) (here callee : ResolvedNode) (h : HasClocks here) (hc : H
         )
     from_code (x ∷ l) is ok out =
         let first = base_is_first x l is in
-        let z = from_base (base_of (output_clocks callee) ls)
-        (base_of (input_clocks callee) ss) refl refl (ap code_in (sym first) ∙ ok)
+        let z = from_base _ _ refl refl (ap code_in (sym first) ∙ ok)
         (ap code_out (sym first) ∙ out) in
         let same = left_base x l is z.0 z.1 z.2 in
         (ap fits_in same ∙ z.1, ap fits_out same ∙ z.2)
@@ -510,21 +479,20 @@ module _ (P : Program) (here callee : ResolvedNode) (h : HasClocks here) (hc : H
     module _ (single : callee.outputs ≡ 1) where
       waits_one : AreGiven callee Y callee.inputs (callee.inputs + 1)
       waits_one i v s lt at is =
-          let z = one.waits P here callee h hc site named ctx declares es w u stand single all i v s
-          lt at is in
+          let z = one.waits ops site named single all i v s lt at is in
           (z.0, (z.1.0, Y_in s.variable.0 z.0 ∙ z.1.1))
 
       -- the clock of its result is the same without the variables given for outputs
       same_result : (b : tree.Clock) → fits_in b ≡ true → fits_out b ≡ true →
           seen callee given b (callee.inputs + 0) ≡ seen callee inner b callee.inputs
       same_result b ok out =
-          let o = variable_held callee hc callee.inputs (omega (arith, single)) in
+          let o = variable_held callee ops.called callee.inputs (omega (arith, single)) in
           let place : callee.inputs + 0 ≡ callee.inputs = omega arith in
           let less : callee.inputs < callee.inputs + 1 = omega arith in
           let within : callee.inputs < callee.inputs + callee.outputs = omega (arith, single) in
           ap (seen callee given b) place
           ∙ sym (known_code b ok out (variable_at callee.inputs) o.0 within o.1)
-          ∙ code_known P here callee h hc ctx declares es w u stand Y Y_in (callee.inputs + 1)
+          ∙ code_known ops Y Y_in (callee.inputs + 1)
           (omega arith) waits_one b ok (variable_at callee.inputs) o.0 less o.1
 
       result_on : (l : List VariableId) → lefts ≡ l → fits_in from_left ≡ true →
@@ -537,10 +505,9 @@ module _ (P : Program) (here callee : ResolvedNode) (h : HasClocks here) (hc : H
           let k = clock_on lefts in
           let on : k ≡ seen callee inner from_left callee.inputs =
           (left_seen x l is from_left ok out).0 ∙ same_result from_left ok out in
-          ap (λ ks. are_clocks ks (k ∷ []))
-          (one.results_seen P here callee h hc site named ctx declares es w u stand single k)
+          ap (λ ks. are_clocks ks (k ∷ [])) (one.results_seen ops site named single k)
           ∙ ap (λ c. is_clock (seen callee inner c callee.inputs) k && true)
-          (sym (one.base_up P here callee h hc site named ctx declares es w u stand single k))
+          (sym (one.base_up ops site named single k))
           ∙ and-true (is_clock (seen callee inner from_left callee.inputs) k)
           ∙ clock_equal (seen callee inner from_left callee.inputs) k (sym on)
 
@@ -557,7 +524,7 @@ module _ (P : Program) (here callee : ResolvedNode) (h : HasClocks here) (hc : H
         by false e = refl
         by true e =
             let count : length (node_of callee).outputs ≡ 1 = grind (arith, nat_tests) in
-            result_on (hc.resolved.outputs ∙ count) lefts refl ok out
+            result_on (ops.called.resolved.outputs ∙ count) lefts refl ok out
 
   -- ## The equation
 
@@ -595,11 +562,10 @@ module _ (P : Program) (here callee : ResolvedNode) (h : HasClocks here) (hc : H
       let results = λ (o : Option text.Node). list_all
       (λ n. are_clocks (left_clocks (node_of here) xs) (result_clocks k n args xs))
       (listed (λ n. n ∷ []) o) in
-      ap (λ b. b && are_on_results P (node_of here) k xs whole)
-      (one.clocked_call P here callee h hc site named ctx declares es w u stand k m)
-      ∙ ap (λ b. ((b && kept_one) && kept_in) && are_on_results P (node_of here) k xs whole)
-      (are_given_is P here callee h hc ctx declares es w u stand)
-      ∙ ap (λ b. ((g && kept_one) && kept_in) && b) (ap results named ∙ and-true kept_out)
+      ap₂ (λ b c. b && c)
+      (one.clocked_call ops site named k m
+      ∙ ap (λ b. (b && kept_one) && kept_in) (are_given_is ops))
+      (ap results named ∙ and-true kept_out)
 
   as_many : kept_out ≡ true → length lefts ≡ callee.outputs
   as_many out =
@@ -608,7 +574,7 @@ module _ (P : Program) (here callee : ResolvedNode) (h : HasClocks here) (hc : H
       (declared_clock (node_of callee) d.name) in
       sym (length-map lefts (name_in here)) ∙ sym (length-map xs f)
       ∙ clocks_length _ _ out
-      ∙ length-map (node_of callee).outputs c ∙ sym hc.resolved.outputs
+      ∙ length-map (node_of callee).outputs c ∙ sym ops.called.resolved.outputs
 
   code_kept : (((g && kept_one) && kept_in) && kept_out) ≡ true →
       (nat_eq (length lefts) callee.outputs && (g && (fit_in && fit_out))) ≡ true
@@ -640,9 +606,11 @@ module _ (P : Program) (here callee : ResolvedNode) (h : HasClocks here) (hc : H
       (in_same all many (from_left all many) ∙ z.0))
       out
 
-  kept : (m : ℕ) → (is_clocked_on P here k m whole && are_on_results P (node_of here) k xs whole) ≡
+  -- a call that is a whole right side stands where the code finds, if its operands do
+  pub equation_stands : (m : ℕ) →
+      (is_clocked_on P here k m whole && are_on_results P (node_of here) k xs whole) ≡
       is_call_clocked ctx callee (operands_of ctx es) lefts
-  kept m = rules m ∙ both_ways _ _ code_kept text_kept
+  equation_stands m = rules m ∙ both_ways _ _ code_kept text_kept
 
   -- ## The base clock of a call that is a whole right side
 
@@ -674,34 +642,29 @@ module _ (P : Program) (here callee : ResolvedNode) (h : HasClocks here) (hc : H
     any_in : base_of (input_clocks callee) ss ≡ None → (b : tree.Clock) →
         fits_in side_given many b ≡ true
     any_in e b =
-        let none = λ (c : tree.Clock). fit_none here h Y (input_clocks callee) ss
-        (params_in side_given many) (within_in side_given many) e c in
+        let none = λ (c : tree.Clock). fit_none ops.own (row_in side_given many) e c in
         sym (none b) ∙ none (from_left side_given many) ∙ inside
 
     any_out : base_of (output_clocks callee) ls ≡ None → (b : tree.Clock) →
         fits_out side_given many b ≡ true
     any_out e b =
-        let none = λ (c : tree.Clock). fit_none here h Y (output_clocks callee) ls
-        (params_out side_given many) lefts_within e c in
+        let none = λ (c : tree.Clock). fit_none ops.own (row_out side_given many) e c in
         sym (none b) ∙ none (from_left side_given many) ∙ outside
-
-    two_bases : tree.Base ≡ tree.On tree.Base [] true → ⊥
-    two_bases e = cc
 
     -- the base clock that some left variable or operand determines is that of the equation
     found_base : (x : VariableId) (l : List VariableId) → lefts ≡ x ∷ l → (o p : Option Clock) →
         base_of (output_clocks callee) ls ≡ o → base_of (input_clocks callee) ss ≡ p →
         from_left side_given many ≡ clock_in here (either_or (or_else o p) Base)
     found_base x l is (Some b) p eo ep =
-        base_is here h Y (output_clocks callee) ls (params_out side_given many) lefts_within b
-        (from_left side_given many) eo outside
+        base_is ops.own (row_out side_given many) b (from_left side_given many) eo outside
     found_base x l is None (Some b) eo ep =
-        base_is here h Y (input_clocks callee) ss (params_in side_given many)
-        (within_in side_given many) b (from_left side_given many) ep inside
+        base_is ops.own (row_in side_given many) b (from_left side_given many) ep inside
     found_base x l is None None eo ep =
         let at = λ (b : tree.Clock). left_base side_given many x l is b (any_in ep b) (any_out eo b)
         in
-        absurd (two_bases (sym (at tree.Base) ∙ at (tree.On tree.Base [] true)))
+        let two : tree.Base ≡ tree.On tree.Base [] true =
+        sym (at tree.Base) ∙ at (tree.On tree.Base [] true) in
+        absurd cc
 
     by_lefts : (l : List VariableId) → lefts ≡ l → from_left side_given many
         ≡ clock_in here (either_or (result_base ctx callee (operands_of ctx es) lefts) Base)
@@ -710,32 +673,15 @@ module _ (P : Program) (here callee : ResolvedNode) (h : HasClocks here) (hc : H
         ap (result_base ctx callee (operands_of ctx es)) is in
         no_left side_given many is ∙ sym (ap (λ o. clock_in here (either_or o Base)) some)
     by_lefts (x ∷ l) is =
-        found_base x l is (base_of (output_clocks callee) ls) (base_of (input_clocks callee) ss)
-        refl refl
+        found_base x l is _ _ refl refl
         ∙ sym (ap (λ o. clock_in here (either_or o Base)) (base_is_first side_given many x l is))
 
     pub side_base : base_clock k (node_of callee)
         ≡ clock_in here (either_or (result_base ctx callee (operands_of ctx es) lefts) Base)
     side_base = by_lefts lefts refl
 
-    pub side_fitting : fits_on here h Y
+    pub side_fitting : fits_on here Y
         (clock_in here (either_or (result_base ctx callee (operands_of ctx es) lefts) Base))
         (input_clocks callee) ss ≡ true
     side_fitting =
-        subst (λ b. fits_on here h Y b (input_clocks callee) ss ≡ true) (by_lefts lefts refl) inside
-
--- a call that is a whole right side stands where the code finds, if its operands do
-pub equation_stands : (P : Program) (here callee : ResolvedNode) → HasClocks here → HasClocks callee
-    → (site : Site) → node_named P site.callee ≡ Some (node_of callee)
-    → (ctx : Context) → ctx.variable ≡ declared_in here
-    → (es : List Term) → list_all (is_within (counts_of here)) es ≡ true →
-    list_all (is_unhidden (texts_of here)) es ≡ true
-    → AreClockSets P here ctx es
-    → (lefts : List VariableId) → list_all (is_variable (counts_of here)) lefts ≡ true → (m : ℕ)
-    → let xs = map (name_in here) lefts in
-    let e = text.Call site.callee site.arguments (exprs_of (texts_of here) es) in
-    let k = statement_clock P (node_of here) (text.Equation xs e) in
-    (is_clocked_on P here k m e && are_on_results P (node_of here) k xs e) ≡ is_call_clocked ctx
-    callee (operands_of ctx es) lefts
-equation_stands P here callee h hc site named ctx declares es w u stand lefts wl m =
-    kept P here callee h hc site named ctx declares es w u stand lefts wl m
+        subst (λ b. fits_on here Y b (input_clocks callee) ss ≡ true) (by_lefts lefts refl) inside

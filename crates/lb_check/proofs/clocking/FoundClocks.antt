@@ -2,55 +2,51 @@
 use Rattle.lb_check.proofs.Words
 use Words.{◌≡◌, ℕ, ◌+◌, ◌<◌, ◌≤◌, Bool, true, false, List, [], ◌∷◌, ◌++◌, length, map, flat_map}
 use Words.{Option, Some, None, refl, ap, ap₂, sym, ◌∙◌, subst, list_all, zip, list_all-append}
-use Words.{Count, ◌>>=◌, Every, either_or, listed, Name, Expr, Statement, and_first, and_second}
-use Words.{Program, node_named, statement_sites, left_names, right_side, variable_names, node_of}
-use Words.{texts_of, counts_of, Texts, expr_of, exprs_of, named_value, row_of, static_at, site_at}
-use Words.{statement_of, is_variable, is_call, is_within, are_within, is_unhidden, are_unhidden}
-use Words.{is_statement_within, is_statement_unhidden, Reached, CallId, ResolvedNode}
-use Words.{ResolvedStatement, Term, Value, Group', Call', IterateNode', Row_of-Term}
-use Words.{items-the_row-Term, VariableId, base_clock, clock_of, clock_or, declared_clock}
-use Words.{given_inputs, outer, ungrouped, are_declared_clocks, are_on_results, is_clocked}
-use Words.{is_occurrence_clocked, is_statement_clocked, HasTermClocks, pair_names, given_parameters}
-use Words.{given_to, is_site, lefts_at, Occurrence, at, node_occurrences, occurrences}
-use Words.{occurrences_each, occurrences_in, right_sides, statement_clock, clock_in, name_in}
-use Words.{SeesClocks, is_clocked_on, are_single, is_single, is_single_within, is_statement_single}
-use Words.{FoundCall, FoundTerm, side_clocks, side_call, determined_clock, given_variables}
-use Words.{placed_arguments, placed_row, placed_terms, placed_side, placed_statement, node_terms}
-use Words.{callee_in, Context, context_of, declared_in, infer_clock, left_clock, operands_in}
-use Words.{operands_of, result_base, stands_for, Operand, Base, option_map, slice_get}
-use Words.{slice_get-map, and_from, holds, E9, E10, unless, Node, mapped_from, all_at}
-use Words.{elaborated_program, IsLawful, Instance, instances, tree_at, Elaboration, Specialization}
-use Words.{Table, check_refusal, IsJudged, is_clock_within, is_typed, ◌&&◌, cond, nat_eq}
-use Words.{is_call_within, nothing_found, with_terms}
-use Rattle.lb_check.specs.{FoundTerms.{HasFoundCalls, HasFoundClocks}, PlacedClocks.argument_clocks}
+use Words.{Count, Every, listed, Name, Expr, Statement, and_first, and_second, Program, node_named}
+use Words.{statement_sites, left_names, right_side, node_of, texts_of, counts_of, Texts, expr_of}
+use Words.{exprs_of, named_value, row_of, static_at, site_at, statement_of, is_variable, is_call}
+use Words.{is_within, are_within, is_unhidden, are_unhidden, is_statement_within}
+use Words.{is_statement_unhidden, Reached, CallId, ResolvedNode, ResolvedStatement, Term, Value}
+use Words.{Group', Call', IterateNode', Row_of-Term, items-the_row-Term, VariableId, base_clock}
+use Words.{clock_of, clock_or, ungrouped, are_declared_clocks, are_on_results, is_clocked}
+use Words.{is_occurrence_clocked, is_statement_clocked, HasTermClocks, given_to, is_site, lefts_at}
+use Words.{Occurrence, at, node_occurrences, occurrences, occurrences_each, right_sides}
+use Words.{statement_clock, clock_in, name_in, SeesClocks, is_clocked_on, are_single, is_single}
+use Words.{is_single_within, is_statement_single, FoundCall, FoundTerm, side_clocks, side_call}
+use Words.{determined_clock, placed_arguments, placed_terms, placed_side, placed_statement}
+use Words.{node_terms, Context, context_of, infer_clock, left_clock, operands_in, operands_of}
+use Words.{stands_for, option_map, slice_get, slice_get-map, and_from, holds, E9, E10, unless, Node}
+use Words.{mapped_from, all_at, elaborated_program, IsLawful, Instance, instances, tree_at}
+use Words.{Elaboration, Specialization, Table, check_refusal, IsJudged, is_clock_within, is_typed}
+use Words.{◌&&◌, cond, nat_eq, is_call_within, nothing_found, with_terms}
+use Rattle.lb_check.specs.FoundTerms.{HasFoundCalls, HasFoundClocks}
 use Rattle.lb_check.specs.PlacedClocks.{call_in, found_in}
 use Rattle.lb_check.specs.declared.{found_clocks.NodeClocks.NodeClocks, own_clock.Clock.Clock}
-use Rattle.lb_check.proofs.clocking.{CallClockSets.call_stands, CallOperands.arguments_placed}
-use Rattle.lb_check.proofs.clocking.{ClockTests.declared_is, EquationClockSets.equation_stands}
-use Rattle.lb_check.proofs.clocking.{GivenVariables.given_is, PlacedTerms.{IsCall, IsCallOf}}
+use Rattle.lb_check.proofs.clocking.PlacedTerms.{call_of_row, call_right}
+use Rattle.lb_check.proofs.clocking.PlacedTerms.{IsCall, IsCallOf}
 use Rattle.lb_check.proofs.clocking.PlacedTerms.{IsTerm, arguments_on, determined_is, given_by}
-use Rattle.lb_check.proofs.clocking.{PlacedTerms.{row_placed, term_placed}, PlacedWithin.are_among}
-use Rattle.lb_check.proofs.clocking.PlacedWithin.{parameters_within, node_within}
-use Rattle.lb_check.proofs.clocking.{StatementClockSets.node_clocked, TermClockSets.row_items}
-use Rattle.lb_check.proofs.clocking.TermClockSets.{within_items, unhidden_items, operands_items}
-use Rattle.lb_check.proofs.clocking.TermClockSets.{term_stands, row_stands}
+use Rattle.lb_check.proofs.clocking.PlacedTerms.{row_placed, term_placed}
+use Rattle.lb_check.proofs.clocking.PlacedWithin.{node_within}
+use Rattle.lb_check.proofs.clocking.{StatementClockSets.left_is, TermClockSets.row_items}
+use Rattle.lb_check.proofs.clocking.TermClockSets.{operands_items}
+use Rattle.lb_check.proofs.clocking.TermClockSets.{term_stands, called_operands}
 use Rattle.lb_check.proofs.clocking.WalkedClocks.{calls_among, clocks_among, all_found}
-use Rattle.lb_check.proofs.clocking.WholeClocks.{resolved_at, clocked_node}
+use Rattle.lb_check.proofs.clocking.WholeClocks.{clocked_node}
 use Rattle.lb_check.proofs.definitions.BrokenRules.{first_none, second_none, kept, judged}
 use Rattle.lb_check.proofs.definitions.CallNumbers.{AreFrom, each_from, first_lefts, later_lefts}
 use Rattle.lb_check.proofs.definitions.CallNumbers.{lefts_among, no_more, no_own, own_is, own_lefts}
 use Rattle.lb_check.proofs.definitions.CallNumbers.{row_from, statement_below, statements_from}
-use Rattle.lb_check.proofs.{definitions.NodePlaces.callee_found, lists.ListPairs.Pairs}
+use Rattle.lb_check.proofs.lists.ListPairs.{Pairs}
 use Rattle.lb_check.proofs.lists.ListPairs.{Pairs-append, Pairs-with, paired_at, get_mapped}
 use Rattle.lb_check.proofs.lists.Members.{Every-all}
 use Rattle.lb_check.proofs.programs.CountedCalls.{call_placed as call_at_place, calls_in}
 use Rattle.lb_check.proofs.programs.CountedCalls.{counted_from, node_counted}
-use Rattle.lb_check.proofs.typing.SingleCalls.{single_statements}
 use Rattle.lb_check.proofs.typing.Specializations.{all_specializations}
 use Rattle.lb_syntax.specs.Tree as tree
 use Rattle.lb_static.specs.declared.resolved.ResolvedStatement.TheVariants as statement
 use Rattle.lb_check.specs.Occurrences as text
 use Rattle.lb_check.proofs.clocking.EquationClockSets as side
+use Rattle.lb_check.specs.PlacedClocks.{side_base}
 
 -- The clocks and calls that the code finds of the terms of a node are those of the occurrences in
 -- its text.
@@ -72,29 +68,7 @@ module _ (P : Program) (r : Reached) (here : ResolvedNode) (sees : SeesClocks P 
   abbrev AreLawful : List Occurrence → Type 0
   AreLawful os = list_all (is_occurrence_clocked P (node_of here)) os ≡ true
 
-  declares : (context_of r here).variable ≡ declared_in here
-  unfolding context_of
-  declares = refl
-
-  calls : (context_of r here).callee ≡ callee_in r here
-  unfolding context_of
-  calls = refl
-
-  left_is : (lefts : List VariableId) → list_all (is_variable (counts_of here)) lefts ≡ true →
-      (e : Expr) →
-      statement_clock P (node_of here) (tree.Equation (map (name_in here) lefts) e)
-      ≡ clock_in here (left_clock (context_of r here) lefts)
-  unfolding context_of
-  left_is [] w e = refl
-  left_is (x ∷ xs) w e =
-      sym (declared_is here sees.own x (and_first _ (list_all (is_variable (counts_of here)) xs) w))
-
   -- ## Equations
-
-  abbrev call_of_row : {m : Count} → CallId → Row_of-Term m → Expr
-  call_of_row c row =
-      tree.Call (site_at (texts_of here).calls c).callee (site_at (texts_of here).calls c).arguments
-      (row_of (texts_of here) row)
 
   -- the found call of a whole right side is right, and so are the clocks of its arguments
   call_found :
@@ -102,11 +76,12 @@ module _ (P : Program) (r : Reached) (here : ResolvedNode) (sees : SeesClocks P 
       (n : ℕ) (c : CallId) {m : Count} (row : Row_of-Term m) →
       is_call (counts_of here) c ≡ true → are_within (counts_of here) row ≡ true →
       are_unhidden (texts_of here) row ≡ true → are_single r here row ≡ true →
-      is_clocked_on P here (clock_in here (left_k lefts)) n (call_of_row c row) ≡ true →
+      is_clocked_on P here (clock_in here (left_k lefts)) n (call_of_row P r here sees c row) ≡ true
+      →
       are_on_results P (node_of here) (clock_in here (left_k lefts)) (map (name_in here) lefts)
-      (call_of_row c row) ≡ true →
+      (call_of_row P r here sees c row) ≡ true →
       IsCallOf P here (map (name_in here) lefts)
-      (at (clock_in here (left_k lefts)) n (call_of_row c row))
+      (at (clock_in here (left_k lefts)) n (call_of_row P r here sees c row))
       (side_call (context_of r here) lefts (operands_in (context_of r here) row)
       ((context_of r here).callee c))
       × (text.call_clocks (clock_in here (left_k lefts))
@@ -114,74 +89,31 @@ module _ (P : Program) (r : Reached) (here : ResolvedNode) (sees : SeesClocks P 
       ≡ map (clock_in here)
       (side_clocks (context_of r here) lefts c (operands_in (context_of r here) row)))
   call_found lefts wl n c {m = m} row wc w u singles kept results =
-      let found = callee_found P r sees.names sees.reached sees.place here sees.at c wc in
-      let callee = found.0 in
-      let hc = sees.callees c callee found.1 in
+      let found = called_operands P r here sees c row wc w u singles in
       let site = site_at texts.calls c in
       let es = items-the_row-Term m row in
-      let wi = within_items (counts_of here) m row ∙ w in
-      let ui = unhidden_items texts m row ∙ u in
-      let stand = row_stands P r here sees
-      (λ callee has. call_stands P here callee sees.own has) row w u singles in
-      let args = row_items texts m row in
-      let xs = map (name_in here) lefts in
-      let whole = tree.Call site.callee site.arguments (exprs_of texts es) in
-      let on_left = left_is lefts wl whole in
-      let same : call_of_row c row ≡ whole = ap (tree.Call site.callee site.arguments) args in
-      let kept_there : is_clocked_on P here
-      (statement_clock P (node_of here) (tree.Equation xs whole)) n whole ≡ true =
-      subst (λ k. is_clocked_on P here k n whole ≡ true) (sym on_left)
-      (subst (λ e. is_clocked_on P here (clock_in here (left_k lefts)) n e ≡ true) same kept) in
-      let results_there : are_on_results P (node_of here)
-      (statement_clock P (node_of here) (tree.Equation xs whole)) xs whole ≡ true =
-      subst (λ k. are_on_results P (node_of here) k xs whole ≡ true) (sym on_left)
-      (subst (λ e. are_on_results P (node_of here) (clock_in here (left_k lefts)) xs e ≡ true) same
-      results) in
-      let given = side.side_given P here callee sees.own hc site found.2 ctx declares es wi ui stand
-      lefts wl n kept_there results_there in
-      let base = side.side_base P here callee sees.own hc site found.2 ctx declares es wi ui stand
-      lefts wl n kept_there results_there in
-      let fits = side.side_fitting P here callee sees.own hc site found.2 ctx declares es wi ui
-      stand lefts wl n kept_there results_there in
       let os = operands_of ctx es in
-      let b = either_or (result_base ctx callee os lefts) Base in
-      let clocks_of = λ (n : ResolvedNode). argument_clocks
-      (either_or (result_base ctx n os lefts) Base) (stands_for n.inputs os lefts) n in
-      let found_call : side_call ctx lefts (operands_in ctx row) (ctx.callee c)
-      ≡ side_call ctx lefts os (Some callee) =
-      ap₂ (side_call ctx lefts) (operands_items ctx m row) (ap (λ f. f c) calls ∙ found.1) in (
-        subst (IsCallOf P here xs (at (clock_in here (left_k lefts)) n (call_of_row c row)))
-            (sym found_call)
-            (record {
-              runs =
-                  ap (λ o. either_or
-                  (o >>= λ callee. Some (base_clock (clock_in here (left_k lefts)) callee))
-                  (clock_in here (left_k lefts))) found.2
-                  ∙ ap (λ z. base_clock z (node_of callee)) (sym on_left) ∙ base;
-              given =
-                  ap (listed (λ callee. given_parameters callee (row_of texts row) xs)) found.2
-                  ∙ ap (λ es. given_parameters (node_of callee) es xs) args
-                  ∙ given_is callee hc here ctx es lefts given
-                  ∙ sym (ap (λ o. listed (λ z. map (pair_names (variable_names z) here)
-                  (given_variables callee os lefts)) o) found.2);
-              parameters =
-                  ap (are_among (given_variables callee os lefts)) found.2
-                  ∙ parameters_within callee hc os lefts;
-            }),
-        ap₂ (λ o es. text.call_clocks (clock_in here (left_k lefts)) o es) found.2 args
-            ∙ ap (λ z. text.call_clocks z (Some (node_of callee)) (exprs_of texts es)) (sym on_left)
-            ∙ ap (λ z. map (λ (d : tree.Declaration). outer z
-            (given_inputs (node_of callee).inputs (exprs_of texts es))
-            (declared_clock (node_of callee) d.name)) (node_of callee).inputs) base
-            ∙ arguments_placed P here callee sees.own hc ctx declares es wi ui stand
-            (stands_for callee.inputs os lefts)
-            (side.Y_in P here callee sees.own hc site found.2 ctx declares es wi ui stand lefts wl)
-            given b fits
-            ∙ sym (ap (λ (l : List Operand). map (clock_in here) (side_clocks ctx lefts c l))
-            (operands_items ctx m row)
-            ∙ ap (λ f. map (clock_in here) (listed clocks_of (f c))) calls
-            ∙ ap (λ o. map (clock_in here) (listed clocks_of o)) found.1),
-      )
+      let xs = map (name_in here) lefts in
+      let e = tree.Call site.callee site.arguments (exprs_of texts es) in
+      let k = statement_clock P (node_of here) (tree.Equation xs e) in
+      let on_left = left_is P r here sees lefts wl e in
+      let args = row_items texts m row in
+      let kept_there : is_clocked_on P here k n e ≡ true =
+      subst (λ k. is_clocked_on P here k n e ≡ true) on_left
+      (subst (λ es. is_clocked_on P here (clock_in here (left_k lefts)) n
+      (tree.Call site.callee site.arguments es) ≡ true) args kept) in
+      let results_there : are_on_results P (node_of here) k xs e ≡ true =
+      subst (λ k. are_on_results P (node_of here) k xs e ≡ true) on_left
+      (subst (λ es. are_on_results P (node_of here) (clock_in here (left_k lefts)) xs
+      (tree.Call site.callee site.arguments es) ≡ true) args results) in
+      let given = side.side_given found.3 site found.2 lefts wl n kept_there results_there in
+      let base = side.side_base found.3 site found.2 lefts wl n kept_there results_there in
+      let fits = side.side_fitting found.3 site found.2 lefts wl n kept_there results_there in
+      let right = call_right P r here sees (clock_in here (left_k lefts)) n lefts c row found.0
+      found.2 found.3 (stands_for found.0.inputs os lefts) (side.Y_in found.3 site found.2 lefts wl)
+      given (side_base ctx found.0 os lefts)
+      (ap (λ k. base_clock k (node_of found.0)) on_left ∙ base) fits in
+      rw (operands_items ctx m row, found.1) right
 
   -- found terms stand for occurrences, where `lefts` has the left variables of each call by its
   -- number
@@ -232,10 +164,9 @@ module _ (P : Program) (r : Reached) (here : ResolvedNode) (sees : SeesClocks P 
       (placed_terms (context_of r here) (left_k lefts) t)
   plain lefts n t is h =
       let e = expr_of texts t in
-      let os = occurrences P (node_of here) (clock_in here (left_k lefts)) n e in
       relabel (λ i. []) (own lefts n e) (λ o. Unit {0})
       (λ o known site. no_own P (node_of here) n e (map (name_in here) lefts) o.calls_before is)
-      os (placed_terms ctx (left_k lefts) t) (Every-all (λ o. Unit {0}) (λ o. tt) os) h
+      _ _ (Every-all (λ o. Unit {0}) (λ o. tt) _) h
 
   -- the occurrences within a whole right side are no whole right sides
   inner : (lefts : List VariableId) (n : ℕ) (e : Expr) (os : List Occurrence)
@@ -249,10 +180,7 @@ module _ (P : Program) (r : Reached) (here : ResolvedNode) (sees : SeesClocks P 
 
   no_site_value : (s : tree.Static) → is_site (ungrouped (named_value s)) ≡ false
   no_site_value (tree.Named x) = refl
-  no_site_value (tree.Whole m) = refl
-  no_site_value (tree.Negated s) = refl
-  no_site_value (tree.Combined op s t) = refl
-  no_site_value (tree.Grouped s) = refl
+  no_site_value s = refl
 
   side_placed :
       (lefts : List VariableId) → list_all (is_variable (counts_of here)) lefts ≡ true →
@@ -267,7 +195,7 @@ module _ (P : Program) (r : Reached) (here : ResolvedNode) (sees : SeesClocks P 
       let wc = and_first _ (are_within (counts_of here) all) w in
       let wa = and_second (is_call (counts_of here) c) _ w in
       let es = row_of texts all in
-      let x = call_of_row c all in
+      let x = call_of_row P r here sees c all in
       let ks = side_clocks ctx lefts c (operands_in ctx all) in
       let names = map (name_in here) lefts in
       let found = call_found lefts wl n c all wc wa u s k f in (
@@ -282,11 +210,7 @@ module _ (P : Program) (r : Reached) (here : ResolvedNode) (sees : SeesClocks P 
                 found.0,
           ),
         ),
-        inner lefts n x
-            (occurrences_each P (node_of here)
-            (text.call_clocks (clock_in here (left_k lefts))
-            (node_named P (site_at texts.calls c).callee) es) (n + 1) es)
-            (placed_arguments ctx ks all)
+        inner lefts n x _ _
             (each_from P (node_of here) (text.call_clocks (clock_in here (left_k lefts))
             (node_named P (site_at texts.calls c).callee) es) (n + 1) es)
             (subst (λ ls. AreLawful (occurrences_each P (node_of here) ls (n + 1) es) →
@@ -299,12 +223,9 @@ module _ (P : Program) (r : Reached) (here : ResolvedNode) (sees : SeesClocks P 
       let es = row_of texts all in
       let x = expr_of texts (IterateNode' it c arity all) in (
         (refl, (refl, record { runs = refl; given = refl; parameters = refl })),
-        inner lefts n x
-            (occurrences_in P (node_of here) (clock_in here (left_k lefts)) (n + 1) es)
-            (placed_row ctx (left_k lefts) all)
-            (row_from P (node_of here) (clock_in here (left_k lefts)) (n + 1) es)
+        inner lefts n x _ _ (row_from P (node_of here) (clock_in here (left_k lefts)) (n + 1) es)
             (row_placed P r here sees (left_k lefts) (n + 1) all
-            (and_second (is_call (counts_of here) c) _ w) u s (and_second _ _ k)),
+            (and_second _ _ w) u s (and_second _ _ k)),
       )
   side_placed lefts wl n t w u s k f =
       plain lefts n t refl (term_placed P r here sees (left_k lefts) n t w u s k)
@@ -332,13 +253,12 @@ module _ (P : Program) (r : Reached) (here : ResolvedNode) (sees : SeesClocks P 
       subst (λ k. is_clocked_on P here k n x ≡ true →
       are_on_results P (node_of here) k (map (name_in here) lefts.items) (ungrouped x) ≡ true →
       Places (own lefts.items n x) (occurrences P (node_of here) k n x)
-      (placed_side ctx lefts.items e)) (sym (left_is lefts.items wl x))
+      (placed_side ctx lefts.items e)) (left_is P r here sees lefts.items wl x)
       (side_placed lefts.items wl n e we u s) kept results
   statement_placed n (statement.Assertion e) w u s kept results =
       let x = expr_of texts e in
       let k = determined_clock (infer_clock ctx e) in
-      let stands = term_stands P r here sees
-      (λ callee has. call_stands P here callee sees.own has) e w u s in
+      let stands = term_stands P r here sees e w u s in
       let is = determined_is P r here sees x (infer_clock ctx e) stands
       (clock_or (clock_of P (node_of here) x)) n kept in
       subst (λ l. AreLawful (occurrences P (node_of here) l n x) →
@@ -347,8 +267,7 @@ module _ (P : Program) (r : Reached) (here : ResolvedNode) (sees : SeesClocks P 
       (sym is)
       (λ f. relabel (λ i. []) (own_lefts P (node_of here) n x []) (λ o. Unit {0})
       (λ o known site. none (nat_eq n o.calls_before && is_site (ungrouped x)))
-      (occurrences P (node_of here) (clock_in here k) n x) (placed_terms ctx k e)
-      (Every-all (λ o. Unit {0}) (λ o. tt) (occurrences P (node_of here) (clock_in here k) n x))
+      _ _ (Every-all (λ o. Unit {0}) (λ o. tt) _)
       (term_placed P r here sees k n e w u s f)) kept
     where
       none : (b : Bool) → [] ≡ cond b no_names []
@@ -388,28 +307,19 @@ module _ (P : Program) (r : Reached) (here : ResolvedNode) (sees : SeesClocks P 
       let split =
       sym (list_all-append (is_occurrence_clocked P (node_of here)) first rest) ∙ kept in
       let among = lefts_among P (node_of here) n (text_of ∷ body) in
-      Pairs-append (λ o t. IsTerm P here (among o.calls_before) o t) first rest
-      (placed_statement ctx st) (flat_map (placed_statement ctx) ss)
+      Pairs-append (λ o t. IsTerm P here (among o.calls_before) o t) first rest _ _
       (relabel (own_lefts P (node_of here) n e (left_names text_of)) among
       (λ o. is_site o.expr ≡ true → o.calls_before < m)
       (λ o below site. first_lefts P (node_of here) n text_of body o.calls_before (below site))
-      first (placed_statement ctx st) (statement_below P (node_of here) n text_of)
-      (statement_placed n st
-      (and_first _ (list_all (is_statement_within (counts_of here)) ss) w)
-      (and_first _ (list_all (is_statement_unhidden texts) ss) u)
-      (and_first _ (list_all (is_statement_single r here) ss) s)
-      (and_first _ (list_all (is_occurrence_clocked P (node_of here)) rest) split)
-      (and_first _ (are_kept body (sides m body)) results)))
+      first _ (statement_below P (node_of here) n text_of)
+      (statement_placed n st (and_first _ _ w) (and_first _ _ u) (and_first _ _ s)
+      (and_first _ _ split) (and_first _ _ results)))
       (relabel (lefts_among P (node_of here) m body) among
       (λ o. is_site o.expr ≡ true → m ≤ o.calls_before)
       (λ o later site. later_lefts P (node_of here) n text_of body o.calls_before (later site))
-      rest (flat_map (placed_statement ctx) ss) (statements_from P (node_of here) m body)
-      (statements_placed m ss
-      (and_second (is_statement_within (counts_of here) st) _ w)
-      (and_second (is_statement_unhidden texts st) _ u)
-      (and_second (is_statement_single r here st) _ s)
-      (and_second (list_all (is_occurrence_clocked P (node_of here)) first) _ split)
-      (and_second (is_statement_clocked P (node_of here) text_of (at k n e)) _ results)))
+      rest _ (statements_from P (node_of here) m body)
+      (statements_placed m ss (and_second _ _ w) (and_second _ _ u) (and_second _ _ s)
+      (and_second _ _ split) (and_second _ _ results)))
 
   terms_placed :
       list_all (is_statement_unhidden (texts_of here)) here.body.items ≡ true →
@@ -417,7 +327,7 @@ module _ (P : Program) (r : Reached) (here : ResolvedNode) (sees : SeesClocks P 
       is_clocked P (node_of here) ≡ true →
       Places (lefts_at P (node_of here)) (node_occurrences P (node_of here)) (node_terms r here)
   terms_placed u s kept =
-      let resolved = resolved_at P r sees.names sees.reached sees.place here sees.at in
+      let resolved = sees.own.resolved in
       let rules = and_second (are_declared_clocks (node_of here)) _ kept in
       let lawful = and_first (list_all (is_occurrence_clocked P (node_of here))
       (node_occurrences P (node_of here))) _ rules in
@@ -471,20 +381,17 @@ module _ (P : Program) (r : Reached) (here : ResolvedNode) (sees : SeesClocks P 
       HasTermClocks P here (clocks_among (node_terms r here))
       × HasFoundCalls P here (calls_among (node_terms r here))
   node_placed u s kept counted = (
-    clocks_of (lefts_at P (node_of here)) (node_occurrences P (node_of here)) (node_terms r here)
-        (terms_placed u s kept),
+    clocks_of (lefts_at P (node_of here)) _ _ (terms_placed u s kept),
     found,
   )
     where
       found : HasFoundCalls P here (calls_among (node_terms r here))
       found i o e =
-          let os = node_occurrences P (node_of here) in
           let p = call_at_place P (node_of here) counted i o e in
           let c = paired_at
           (λ o c. IsCallOf P here (lefts_at P (node_of here) o.calls_before) o c)
-          (calls_in os) (calls_among (node_terms r here)) i o
-          (calls_of (lefts_at P (node_of here)) os (node_terms r here) (terms_placed u s kept))
-          p.2 in (
+          (calls_in (node_occurrences P (node_of here))) _ i o
+          (calls_of (lefts_at P (node_of here)) _ _ (terms_placed u s kept)) p.2 in (
             c.0,
             c.1,
             record {
@@ -501,8 +408,8 @@ all_pass : {A : Type 0} (f g : A → Bool) → ((x : A) → f x ≡ true → g x
     list_all f xs ≡ true → list_all g xs ≡ true
 all_pass f g leads [] e = refl
 all_pass f g leads (x ∷ xs) e =
-    and_from (g x) (list_all g xs) (leads x (and_first (f x) (list_all f xs) e))
-    (all_pass f g leads xs (and_second (f x) (list_all f xs) e))
+    and_from (g x) (list_all g xs) (leads x (and_first _ _ e))
+    (all_pass f g leads xs (and_second _ _ e))
 
 module _ (P : Program) (r : Reached) (t : Table) (j : IsJudged P r t)
     (typed : list_all (is_typed P) (instances P) ≡ true)
@@ -538,11 +445,7 @@ module _ (P : Program) (r : Reached) (t : Table) (j : IsJudged P r t)
       × (list_all (is_call_within n) (map call_in f.calls.items) ≡ true)
   of_node i s n at there =
       let known =
-      clocked_node P r t j
-      (λ n sees. node_clocked P r n sees
-      (term_stands P r n sees (λ callee has. call_stands P n callee sees.own has))
-      (λ callee has. equation_stands P n callee sees.own has))
-      (single_statements P r t j) typed clocked i s n at there in
+      clocked_node P r t j typed clocked i s n at there in
       let of = λ (n : ResolvedNode). with_terms nothing_found (node_terms r n) in
       let f =
       mapped_from found_in found s.node.0 (of n)
@@ -550,8 +453,7 @@ module _ (P : Program) (r : Reached) (t : Table) (j : IsJudged P r t)
       let same = f.2 ∙ all_found nothing_found (node_terms r n) in
       let placed = node_placed P r n known.sees known.unhidden known.single known.kept
       (counted i s n at there) in
-      let resolved = resolved_at P r known.sees.names known.sees.reached known.sees.place n
-      known.sees.at in
+      let resolved = known.sees.own.resolved in
       let within = node_within r n resolved.declared_within resolved.body_within in (
         f.0,
         f.1,

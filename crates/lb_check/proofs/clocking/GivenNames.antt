@@ -1,10 +1,10 @@
 -- The names of the variables that a call gives for those of its callee.
 use Rattle.lb_check.proofs.Words
-use Words.{◌≡◌, ℕ, zero, suc, ◌<◌, Bool, true, false, ◌+◌, List, [], ◌∷◌, ◌++◌, take, map, length}
-use Words.{Option, Some, None, refl, ap, sym, ◌∙◌, subst, arith, ◌&&◌, ◌||◌, not, nat_lt, is_some}
-use Words.{slice_get, bytes_eq, nat_tests, bytes_eq-Decides, holds, either_or, listed, zip2}
-use Words.{append_assoc, length-append, map-append, variable_names, among, variables, IsResolved}
-use Words.{node_of, statics_of, texts_of, counts_of, ResolvedNode, Name, Expr, Static, Declaration}
+use Words.{◌≡◌, cond, ℕ, zero, suc, ◌<◌, Bool, true, false, ◌+◌, List, [], ◌∷◌, ◌++◌, take, map}
+use Words.{length, Option, Some, None, refl, ap, sym, ◌∙◌, subst, arith, ◌&&◌, ◌||◌, not, nat_lt}
+use Words.{is_some, slice_get, bytes_eq, nat_tests, bytes_eq-Decides, holds, either_or, listed}
+use Words.{zip2, length-append, map-append, variable_names, among, variables, IsResolved, node_of}
+use Words.{statics_of, texts_of, counts_of, ResolvedNode, Name, Expr, Static, Declaration}
 use Words.{are_distinct, named, list_all, and-true, not-true, get_first, item_at, and_first}
 use Words.{and_second, or_first, or_second, Texts, Counts, declaration_of, exprs_of, named_value}
 use Words.{name_at, static_at, expr_of, is_variable, is_within, is_unhidden, is_no_variable}
@@ -13,8 +13,8 @@ use Words.{is_variable_at, is_given_variable, are_given_variables, waits_below, 
 use Words.{slice_get_within, get_later, distinct_last, given_outputs, HasClocks, name_in, Context}
 use Words.{infer_clock, operands_of, given_at, clock_sets, ClockSet, OneClock, Declared}
 use Rattle.{lb_static.specs.declared.resolved.Term.Variable, lb_check.specs.CallClocks.is_given}
-use Rattle.lb_check.proofs.clocking.ClockDepths.{get_name, among_first, zip_split, first_names}
-use Rattle.lb_check.proofs.clocking.ClockDepths.{all_taken, same_taken, as_many_names, within_names}
+use Rattle.lb_check.proofs.clocking.ClockDepths.{get_name, among_first, first_names, parameters_are}
+use Rattle.lb_check.proofs.clocking.ClockDepths.{zip_all}
 use Rattle.lb_check.proofs.clocking.{ClockTests.among_at, OuterClocks.place_name}
 use Rattle.lb_check.proofs.lists.Members.{not_among, unequal, distinct_first}
 use Rattle.lb_syntax.specs.Tree as tree
@@ -31,10 +31,7 @@ module _ (texts : Texts) (n : Counts) (as_many : n.variables ≡ length texts.va
   own_value : (s : Static) → is_no_variable texts.variables s ≡ true →
       is_own texts.variables (named_value s) ≡ false
   own_value (tree.Named x) e = not-true (among x texts.variables) e
-  own_value (tree.Whole m) e = refl
-  own_value (tree.Negated s) e = refl
-  own_value (tree.Combined op s t) e = refl
-  own_value (tree.Grouped s) e = refl
+  own_value s e = refl
 
   own_variable : (x : VariableId) → is_variable n x ≡ true →
       is_own texts.variables (tree.Variable (name_at texts.variables x)) ≡ true
@@ -85,23 +82,21 @@ module _ (texts : Texts) (n : Counts) (as_many : n.variables ≡ length texts.va
   given_declaration_at (c ∷ ds) [] y d u e w v = refl
   given_declaration_at (c ∷ ds) (t ∷ es) zero d u e w v =
       let same : c ≡ d = cc in
-      let a = not-true _ (and_first (not (among c.name (map (λ d. d.name) ds))) _ u) in
+      let a = not-true _ (and_first _ _ u) in
       let here : bytes_eq c.name d.name ≡ true =
       (bytes_eq-Decides c.name d.name).1 (ap (λ z. z.name) same) in
       let gone : among d.name (map (λ d. d.name) ds) ≡ false =
       subst (λ z. among z.name (map (λ d. d.name) ds) ≡ false) same a in
       first_given texts.variables (as_variable (expr_of texts t)) c.name d.name
       (given_inputs ds (exprs_of texts es)) here (none_given d.name ds (exprs_of texts es) gone)
-      ∙ own_term texts n as_many t (and_first (is_within n t) _ w)
-      (and_first (is_unhidden texts t) _ v)
+      ∙ own_term texts n as_many t (and_first _ _ w) (and_first _ _ v)
   given_declaration_at (c ∷ ds) (t ∷ es) (suc y) d u e w v =
-      let a = not-true _ (and_first (not (among c.name (map (λ d. d.name) ds))) _ u) in
+      let a = not-true _ (and_first _ _ u) in
       let other = not_among c.name (map (λ d. d.name) ds) y d.name a (get_name ds y d e) in
       ap (holds (λ g. among g.1 texts.variables))
       (skipped (as_variable (expr_of texts t)) c.name d.name
       (given_inputs ds (exprs_of texts es)) other)
-      ∙ given_declaration_at ds es y d (and_second (not (among c.name (map (λ d. d.name) ds))) _ u) e
-      (and_second (is_within n t) _ w) (and_second (is_unhidden texts t) _ v)
+      ∙ given_declaration_at ds es y d (and_second _ _ u) e (and_second _ _ w) (and_second _ _ v)
 
 -- ## Parameters that wait for an input
 
@@ -179,39 +174,22 @@ module _ (here callee : ResolvedNode) (nodes : List Name) (ec : IsResolved nodes
       → list_all (is_given_variable (node_of here) (node_of callee) given)
       (zip2 (declaration_of names (statics_of callee)) xs vs)
       ≡ list_all (is_given (length (node_of callee).inputs) es) vs
-  given_list [] [] len b = refl
-  given_list (x ∷ xs) [] len b = absurd (omega arith)
-  given_list [] (v ∷ vs) len b = absurd (omega arith)
-  given_list (x ∷ xs) (v ∷ vs) len b =
-      let one = given_one x v v.clock refl
-      (and_first _ (list_all (waits_below (length names)) vs) b) in
-      let more = given_list xs vs (omega arith) (and_second (waits_below (length names) v) _ b) in
-      ap (λ b. b && list_all (is_given_variable (node_of here) (node_of callee) given)
-      (zip2 (declaration_of names (statics_of callee)) xs vs)) one
-      ∙ ap (λ b. is_given (length (node_of callee).inputs) es v && b) more
+  given_list xs vs len b =
+      zip_all (declaration_of names (statics_of callee))
+      (is_given_variable (node_of here) (node_of callee) given)
+      (is_given (length (node_of callee).inputs) es) (waits_below (length names))
+      (λ x v w. given_one x v v.clock refl w) xs vs len b
 
   -- the rule on all parameters holds exactly where the code finds it
   pub all_given : are_given_variables (node_of here) (node_of callee) (exprs_of (texts_of here) es)
       ≡ list_all (is_given callee.inputs es)
       (take (callee.inputs + callee.outputs) callee.variables.items)
   all_given =
-      let f = declaration_of names (statics_of callee) in
-      let allowed = (node_of callee).inputs ++ (node_of callee).outputs in
-      let k = length allowed in
-      let vs = callee.variables.items in
-      let many = as_many_names nodes callee ec distinct in
-      let split = zip_split f names vs allowed (node_of callee).locals
-      (ec.declared ∙ sym (append_assoc (node_of callee).inputs (node_of callee).outputs
-      (node_of callee).locals)) in
-      let size : k ≡ callee.inputs + callee.outputs =
-      length-append (node_of callee).inputs (node_of callee).outputs
-      ∙ ap (λ m. m + length (node_of callee).outputs) (sym ec.inputs)
-      ∙ ap (λ m. callee.inputs + m) (sym ec.outputs) in
-      ap (list_all (is_given_variable (node_of here) (node_of callee) given)) split.0
-      ∙ given_list (take k names) (take k vs) (same_taken k names vs (sym many))
-      (all_taken _ k vs (within_names nodes callee ec distinct))
-      ∙ ap (λ m. list_all (is_given m es) (take k vs)) (sym ec.inputs)
-      ∙ ap (λ m. list_all (is_given callee.inputs es) (take m vs)) size
+      let are = parameters_are nodes callee ec distinct in
+      ap (list_all (is_given_variable (node_of here) (node_of callee) given)) are.0
+      ∙ given_list _ _ are.1 are.2
+      ∙ ap (λ m. list_all (is_given m es)
+      (take (callee.inputs + callee.outputs) callee.variables.items)) (sym ec.inputs)
 
 -- The variables given for those of a callee have the names of the caller's variables.
 
@@ -288,21 +266,19 @@ found_before (p ∷ given) rest x n e = by (bytes_eq p.0 x) refl (found_before g
     by true is next = found_first p (given ++ rest) x is ∙ sym (found_first p given x is) ∙ e
     by false is next = found_next p (given ++ rest) x is ∙ next (sym (found_next p given x is) ∙ e)
 
-pub found_after : (given rest : Given) (x : Name) → named (λ g. g.0) x given ≡ None →
-    found (given ++ rest) x ≡ found rest x
-found_after [] rest x e = refl
-found_after (p ∷ given) rest x e = by (bytes_eq p.0 x) refl (found_after given rest x)
+-- a name that is not among the first pairs is found among the others
+pub given_after : (given rest : Given) (x : Name) → named (λ g. g.0) x given ≡ None →
+    named (λ g. g.0) x (given ++ rest) ≡ named (λ g. g.0) x rest
+given_after [] rest x e = refl
+given_after (g ∷ given) rest x e = by (bytes_eq g.0 x) (given_after given rest x) e
   where
-    by : (b : Bool) → bytes_eq p.0 x ≡ b →
-        (named (λ g. g.0) x given ≡ None → found (given ++ rest) x ≡ found rest x) →
-        found (p ∷ (given ++ rest)) x ≡ found rest x
-    by true is next =
-        let there = found_first p given x is in
-        let gone : found (p ∷ given) x ≡ None = ap (option_map (λ g. g.1)) e in
-        absurd cc
-    by false is next =
-        let less : named (λ g. g.0) x given ≡ None = rw is at e in
-        found_next p (given ++ rest) x is ∙ next less
+    by : (b : Bool) →
+        (named (λ g. g.0) x given ≡ None →
+        named (λ g. g.0) x (given ++ rest) ≡ named (λ g. g.0) x rest) →
+        cond b (Some g) (named (λ g. g.0) x given) ≡ None →
+        cond b (Some g) (named (λ g. g.0) x (given ++ rest)) ≡ named (λ g. g.0) x rest
+    by true later e = absurd cc
+    by false later e = later e
 
 -- ## Inputs and outputs
 
@@ -327,12 +303,11 @@ named_input texts (c ∷ ds) (a ∷ es) zero d t y u p q e =
     (name_at texts.variables y) here
     (variable_as texts a y (subst (λ z. variable_of z ≡ Some y) term e))
 named_input texts (c ∷ ds) (a ∷ es) (suc i) d t y u p q e =
-    let out = not-true _ (and_first (not (among c.name (map (λ d. d.name) ds))) _ u) in
+    let out = not-true _ (and_first _ _ u) in
     let other = not_among c.name (map (λ d. d.name) ds) i d.name out (get_name ds i d p) in
     ap (option_map (λ g. g.1)) (skipped (as_variable (expr_of texts a)) c.name d.name
     (given_inputs ds (exprs_of texts es)) other)
-    ∙ named_input texts ds es i d t y
-    (and_second (not (among c.name (map (λ d. d.name) ds))) _ u) p q e
+    ∙ named_input texts ds es i d t y (and_second _ _ u) p q e
 
 named_output : (ds : List Declaration) (xs : List Name) (j : ℕ) (d : Declaration) (x : Name) →
     are_distinct (map (λ d. d.name) ds) ≡ true
@@ -346,10 +321,10 @@ named_output (c ∷ ds) (z ∷ xs) zero d x u p q =
     (bytes_eq-Decides c.name d.name).1 (ap (λ z. z.name) same) in
     found_first (c.name, z) (given_outputs ds xs) d.name here ∙ q
 named_output (c ∷ ds) (z ∷ xs) (suc j) d x u p q =
-    let out = not-true _ (and_first (not (among c.name (map (λ d. d.name) ds))) _ u) in
+    let out = not-true _ (and_first _ _ u) in
     let other = not_among c.name (map (λ d. d.name) ds) j d.name out (get_name ds j d p) in
     found_next (c.name, z) (given_outputs ds xs) d.name other
-    ∙ named_output ds xs j d x (and_second (not (among c.name (map (λ d. d.name) ds))) _ u) p q
+    ∙ named_output ds xs j d x (and_second _ _ u) p q
 
 -- ## Places of a callee
 
@@ -457,6 +432,6 @@ module _ (callee : ResolvedNode) (hc : HasClocks callee) where
       let given = given_inputs (node_of callee).inputs es in
       let more = given_outputs (node_of callee).outputs xs in
       ap (found (given ++ more)) (sym (output_at j d.0 d.1).0)
-      ∙ found_after given more d.0.name
-      (none_given d.0.name (node_of callee).inputs es (not_input j d.0 d.1))
+      ∙ ap (option_map (λ g. g.1)) (given_after given more d.0.name
+      (none_given d.0.name (node_of callee).inputs es (not_input j d.0 d.1)))
       ∙ named_output (node_of callee).outputs xs j d.0 x outputs_distinct d.1 e

@@ -11,11 +11,14 @@ use Words.{is_base_clocked_node, Clock, On, Given, variable_clock, declared_cloc
 use Words.{outer, given_inputs, given_outputs, WholeClock, Always, Where, is_clock_parameter}
 use Words.{call_at, given_to, serves, serving, whole_clock, site_clock, runs_on, Occurrence}
 use Rattle.{lb_syntax.specs.Tree.Sampling, lb_check.specs.{Clocks.Base, Needs.given_at}}
-use Rattle.lb_check.proofs.clocking.{GivenNames.none_given, NamedClocks.{IsOver, found_first}}
+use Rattle.lb_check.proofs.clocking.GivenNames.{none_given}
+pub use Rattle.lb_check.proofs.clocking.GivenNames.{given_after}
+use Rattle.lb_check.proofs.clocking.NamedClocks.{bytes_turned, IsOver, found_first}
 use Rattle.lb_check.proofs.clocking.NamedClocks.{named_over, clock_or_over, own_names, input_over}
 use Rattle.lb_check.proofs.{clocking.NamedClocks.{output_over, one_clock}, lists.Members.in_either}
 use Rattle.lb_check.proofs.lists.Members.{Every-at, Every-from}
 use Rattle.lb_check.proofs.programs.OccurrenceSites.{find_first}
+use Rattle.lb_static.proofs.Scopes.{among_append}
 
 -- ## The pair that is found by a name
 
@@ -33,17 +36,6 @@ given_before given rest x h = (h.0, find_first (λ g. bytes_eq g.0 x) given rest
 pub same_before : (given rest : Given) (x : Name) → IsGiven given x →
     found_in (given ++ rest) x ≡ found_in given x
 same_before given rest x h = find_first (λ g. bytes_eq g.0 x) given rest h.0 h.1 ∙ sym h.1
-
-pub given_after : (given rest : Given) (x : Name) → found_in given x ≡ None →
-    found_in (given ++ rest) x ≡ found_in rest x
-given_after [] rest x e = refl
-given_after (g ∷ given) rest x e = by (bytes_eq g.0 x) (given_after given rest x) e
-  where
-    by : (b : Bool) → (found_in given x ≡ None → found_in (given ++ rest) x ≡ found_in rest x) →
-        cond b (Some g) (found_in given x) ≡ None →
-        cond b (Some g) (found_in (given ++ rest) x) ≡ found_in rest x
-    by true later e = absurd cc
-    by false later e = later e
 
 -- a name that passes a test is found among the pairs that pass it
 pub found_filtered :
@@ -79,14 +71,6 @@ output_given (d ∷ ds) [] x long e = absurd (omega (arith, long))
 output_given (d ∷ ds) (y ∷ xs) x long e =
     by (bytes_eq d.name x) refl (λ f. output_given ds xs x (omega (arith, long)) f)
   where
-    turned : (b : Bool) → bytes_eq x d.name ≡ b → bytes_eq d.name x ≡ false →
-        (b || among x (map (λ d. d.name) ds)) ≡ true → among x (map (λ d. d.name) ds) ≡ true
-    turned true is other h =
-        let same = (bytes_eq-Decides d.name x).1 (sym ((bytes_eq-Decides x d.name).0 is)) in
-        let both : true ≡ false = sym same ∙ other in
-        absurd cc
-    turned false is other h = h
-
     by : (b : Bool) → bytes_eq d.name x ≡ b →
         (among x (map (λ d. d.name) ds) ≡ true → IsGiven (given_outputs ds xs) x) →
         IsGiven ((d.name, y) ∷ given_outputs ds xs) x
@@ -95,7 +79,8 @@ output_given (d ∷ ds) (y ∷ xs) x long e =
       ap (λ b. cond b (Some (d.name, y)) (found_in (given_outputs ds xs) x)) is,
     )
     by false is later =
-        let h = later (turned (bytes_eq x d.name) refl is e) in
+        let differs = bytes_turned x d.name ∙ is in
+        let h = later (sym (ap (λ b. b || among x (map (λ d. d.name) ds)) differs) ∙ e) in
         (h.0, ap (λ b. cond b (Some (d.name, y)) (found_in (given_outputs ds xs) x)) is ∙ h.1)
 
 -- ## Clocks over given names
@@ -124,25 +109,6 @@ outer_before b given rest (On k x sign) h =
     name_or x o = either_or (option_map (λ g. g.1) o) x
 
 -- ## The clocks of parameters
-
-among_before : (x : Name) (xs ys : List Name) → among x xs ≡ true → among x (xs ++ ys) ≡ true
-among_before x [] ys e = absurd cc
-among_before x (z ∷ xs) ys e = by (bytes_eq x z) (among_before x xs ys) e
-  where
-    by : (b : Bool) → (among x xs ≡ true → among x (xs ++ ys) ≡ true) →
-        (b || among x xs) ≡ true → (b || among x (xs ++ ys)) ≡ true
-    by true later e = refl
-    by false later e = later e
-
-among_after : (x : Name) (xs ys : List Name) → among x xs ≡ false → among x (xs ++ ys) ≡ true →
-    among x ys ≡ true
-among_after x [] ys e h = h
-among_after x (z ∷ xs) ys e h = by (bytes_eq x z) (among_after x xs ys) e h
-  where
-    by : (b : Bool) → (among x xs ≡ false → among x (xs ++ ys) ≡ true → among x ys ≡ true) →
-        (b || among x xs) ≡ false → (b || among x (xs ++ ys)) ≡ true → among x ys ≡ true
-    by true later e h = absurd cc
-    by false later e h = later e h
 
 module _ (callee : Node) (declared : are_declared_clocks callee ≡ true) where
   -- the inputs and outputs of the callee
@@ -181,8 +147,8 @@ module _ (callee : Node) (declared : are_declared_clocks callee ≡ true) where
           (λ s. among s.variable (map (λ v. v.name) callee.inputs)) d s test is in
           subst (λ xs. among s.variable xs ≡ true)
           (sym (map-append (λ d. d.name) callee.inputs callee.outputs))
-          (among_before s.variable (names_of callee.inputs) (names_of callee.outputs)
-          among_inputs)
+          (among_append s.variable (names_of callee.inputs) (names_of callee.outputs)
+          ∙ ap (λ b. b || among s.variable (names_of callee.outputs)) among_inputs)
       by (inr j) =
           let test = all_in (is_clocked_by (callee.inputs ++ callee.outputs)) callee.outputs d
           (and_first _ _ (and_second _ _ declared)) j in
@@ -276,8 +242,9 @@ module _ (callee : Node) (declared : are_declared_clocks callee ≡ true) where
           by false e =
               let some = subst (λ xs. among s.variable xs ≡ true)
               (map-append (λ d. d.name) callee.inputs callee.outputs) (waited d s i is) in
-              let there = among_after s.variable (names_of callee.inputs)
-              (names_of callee.outputs) e some in
+              let there =
+              sym (among_append s.variable (names_of callee.inputs) (names_of callee.outputs)
+              ∙ ap (λ b. b || among s.variable (names_of callee.outputs)) e) ∙ some in
               let h = output_given callee.outputs lefts s.variable long there in (
                 h.0,
                 given_after inputs_given (given_outputs callee.outputs lefts) s.variable

@@ -5,19 +5,19 @@ use Words.{arith, Bool, true, false, length, drop, get_or, subst, ◌||◌, nat_
 use Words.{nat_tests, append_assoc, append-nil, drop_more, listed, ResolvedNode, Variable}
 use Words.{VariableId, given_from, given_variable, GivenVariable, zero, map, take, Some, None, ap₂}
 use Words.{◌==◌, filter, not, is_some, option_map, nat_lt, slice_get, if◌then◌else◌, list_all}
-use Words.{bytes_eq, length-append, map-append, length-take-le, slice_get_within}
-use Words.{add-sub_cancel_left, lt-ltb, either_or, holds, zip2, Name, Declaration, item_at}
-use Words.{and_first, and_second, variable_names, node_of, statics_of, texts_of, declaration_of}
-use Words.{expr_of, exprs_of, name_at, Sampling, Term, variable_of, Given, as_variable}
-use Words.{given_inputs, given_outputs, waits_below, pair_names, is_clock_parameter}
+use Words.{bytes_eq, map-append, length-take-le, slice_get_within, lt-ltb, either_or, holds, zip2}
+use Words.{Name, Declaration, item_at, and_first, and_second, variable_names, node_of, statics_of}
+use Words.{texts_of, declaration_of, expr_of, exprs_of, name_at, Sampling, Term, variable_of, Given}
+use Words.{as_variable, given_inputs, given_outputs, waits_below, pair_names, is_clock_parameter}
 use Words.{given_parameters, HasClocks, name_in, given_variables, is_awaited, pair_at, Context}
 use Words.{are_given, given_at, is_given, operands_of, stands_for, cond, Declared}
 use Rattle.std.proofs.{Math.Bool.{or_assoc, or_comm}, lemmas.List.get_or-set_other}
 use Rattle.std.proofs.lemmas.List.{get_or-set_same, Elements.filter-append}
 use Rattle.lb_check.{specs.PlacedClocks.waits_at, proofs.clocking.ClockDepths.as_many_names}
-use Rattle.lb_check.proofs.clocking.ClockDepths.{same_taken, within_names, all_taken, zip_split}
+use Rattle.lb_check.proofs.clocking.ClockDepths.{parameters_are}
 use Rattle.lb_check.proofs.clocking.GivenNames.{all_variables, input_at, output_at, variable_as}
-use Rattle.lb_check.proofs.clocking.{GivenNames.variable_held, OuterClocks.later_place}
+use Rattle.lb_check.proofs.clocking.GivenNames.{variable_held}
+use Rattle.lb_check.proofs.clocking.OuterClocks.{first_part, second_part}
 use Rattle.lb_check.proofs.{clocking.OuterClocks.place_name, lists.Members.distinct_at}
 
 -- Flags of awaited variables, and the pairs that a loop over places finds, from a place on.
@@ -117,8 +117,7 @@ both_pass {A = A} f g (x ∷ xs) some all = by (f x) refl (both_pass f g xs)
         (x : A) × (f x ≡ true) × (g x ≡ true)
     by true is further = (x, is, and_first (g x) (list_all g xs) all)
     by false is further =
-        further (sym (ap (λ b. b || list_any f xs) is) ∙ some)
-        (and_second (g x) (list_all g xs) all)
+        further (sym (ap (λ b. b || list_any f xs) is) ∙ some) (and_second _ _ all)
 
 -- ## Clock parameters
 
@@ -134,19 +133,12 @@ module _ (callee : ResolvedNode) (hc : HasClocks callee) where
       y.0 < length (variable_names (node_of callee)) →
       slice_get (variable_names (node_of callee)) i ≡ Some x →
       bytes_eq (name_at (variable_names (node_of callee)) y) x ≡ nat_eq y.0 i
-  same_place y i x less at = by (nat_eq y.0 i) refl
-    where
-      there : bytes_eq (name_at (variable_names (node_of callee)) y) x ≡ (i == y.0)
-      there =
-          let z = item_at names y.0 less in
-          let own : slice_get names y.0 ≡ Some (name_at names y) =
-          z.1 ∙ ap (λ o. Some (either_or o [])) (sym z.1) in
-          distinct_at names y.0 i (name_at names y) x hc.distinct own at
-
-      by : (b : Bool) → nat_eq y.0 i ≡ b →
-          bytes_eq (name_at (variable_names (node_of callee)) y) x ≡ b
-      by true is = let e : (i == y.0) ≡ true = grind (arith, nat_tests) in there ∙ e
-      by false is = let e : (i == y.0) ≡ false = grind (arith, nat_tests) in there ∙ e
+  same_place y i x less at =
+      let z = item_at names y.0 less in
+      let own : slice_get names y.0 ≡ Some (name_at names y) =
+      z.1 ∙ ap (λ o. Some (either_or o [])) (sym z.1) in
+      let turned : (i == y.0) ≡ nat_eq y.0 i = grind (arith, nat_tests) in
+      distinct_at names y.0 i (name_at names y) x hc.distinct own at ∙ turned
 
   module _ (i : ℕ) (x : Name) (at : slice_get (variable_names (node_of callee)) i ≡ Some x) where
     abbrev awaits : Declaration → Bool
@@ -169,28 +161,14 @@ module _ (callee : ResolvedNode) (hc : HasClocks callee) where
     awaited_list [] (v ∷ vs) long b = absurd (omega (arith, long))
     awaited_list (z ∷ xs) (v ∷ vs) long b =
         let below = waits_below (length names) in
-        ap₂ (λ b c. b || c)
-        (awaited_one z v v.clock refl (and_first (below v) (list_all below vs) b))
-        (awaited_list xs vs (omega (arith, long)) (and_second (below v) (list_all below vs) b))
+        ap₂ (λ b c. b || c) (awaited_one z v v.clock refl (and_first _ _ b))
+        (awaited_list xs vs (omega (arith, long)) (and_second _ _ b))
 
     -- a name is that of a clock parameter exactly where the code finds so
     clock_parameter : is_clock_parameter (node_of callee) x ≡ is_awaited callee i
     clock_parameter =
-        let allowed = (node_of callee).inputs ++ (node_of callee).outputs in
-        let k = length allowed in
-        let vs = callee.variables.items in
-        let many = as_many_names hc.nodes callee hc.resolved hc.distinct in
-        let split = zip_split declared_as names vs allowed (node_of callee).locals
-        (hc.resolved.declared ∙ sym (append_assoc (node_of callee).inputs (node_of callee).outputs
-        (node_of callee).locals)) in
-        let size : k ≡ callee.inputs + callee.outputs =
-        length-append (node_of callee).inputs (node_of callee).outputs
-        ∙ ap (λ m. m + length (node_of callee).outputs) (sym hc.resolved.inputs)
-        ∙ ap (λ m. callee.inputs + m) (sym hc.resolved.outputs) in
-        ap (list_any awaits) split.0
-        ∙ awaited_list (take k names) (take k vs) (same_taken k names vs (sym many))
-        (all_taken _ k vs (within_names hc.nodes callee hc.resolved hc.distinct))
-        ∙ ap (λ m. list_any (λ (v : Declared). waits_at i v.clock) (take m vs)) size
+        let are = parameters_are hc.nodes callee hc.resolved hc.distinct in
+        ap (list_any awaits) are.0 ∙ awaited_list _ _ are.1 are.2
 
   -- ## Places
 
@@ -301,11 +279,8 @@ module _ (callee : ResolvedNode) (hc : HasClocks callee) where
         ∙ ap (λ i. is_some (Y i)) e
         ∙ all 0 (omega arith) (sym (ap (is_awaited callee) e) ∙ b) in
         let is = first_awaited a d ds s in
-        filter-append IsParameter (listed_pair d.name (as_variable (expr_of (texts_of here) t)))
-        (given_inputs ds (exprs_of (texts_of here) es))
-        ∙ ap₂ (λ l m. l ++ m)
-        (one_given a d.name (as_variable (expr_of (texts_of here) t)) (Y a) (is_awaited callee a) is
-        refl
+        filter-append IsParameter (listed_pair d.name (as_variable (expr_of (texts_of here) t))) _
+        ∙ ap₂ (λ l m. l ++ m) (one_given a d.name _ (Y a) _ is refl
         (λ b. variable_text t (variable_of t) refl (some b)
         ∙ ap (option_map (name_in here)) (sym p))
         (first_name a d ds s))
@@ -316,8 +291,7 @@ module _ (callee : ResolvedNode) (hc : HasClocks callee) where
         ap (λ i. is_some (Y i)) next
         ∙ all (suc j) (omega (arith, lt)) (sym (ap (is_awaited callee) next) ∙ b)))
         ∙ sym (map-append (pair_names (variable_names (node_of callee)) here)
-        (listed (λ g. g ∷ []) (given_variable callee Y a))
-        (given_from callee Y (suc a) (length ds)))
+        (listed (λ g. g ∷ []) (given_variable callee Y a)) _)
 
     -- ## Outputs
 
@@ -333,17 +307,14 @@ module _ (callee : ResolvedNode) (hc : HasClocks callee) where
         let e : a ≡ a + 0 = omega arith in
         let p : Y a ≡ Some x = ap Y e ∙ ys 0 (omega arith) in
         let is = first_awaited a d ds s in
-        filter-append IsParameter (one_pair (name_in here x) d.name)
-        (given_outputs ds (map (name_in here) lefts))
-        ∙ ap₂ (λ l m. l ++ m)
-        (one_given a d.name (Some (name_in here x)) (Y a) (is_awaited callee a) is refl
+        filter-append IsParameter (one_pair (name_in here x) d.name) _
+        ∙ ap₂ (λ l m. l ++ m) (one_given a d.name (Some (name_in here x)) (Y a) _ is refl
         (λ b. ap (option_map (name_in here)) (sym p)) (first_name a d ds s))
         (outputs_given Y (suc a) ds lefts (later a d ds s)
         (λ j lt. let next : suc a + j ≡ a + suc j = omega arith in
         ap Y next ∙ ys (suc j) (omega (arith, lt))))
         ∙ sym (map-append (pair_names (variable_names (node_of callee)) here)
-        (listed (λ g. g ∷ []) (given_variable callee Y a))
-        (given_from callee Y (suc a) (length ds)))
+        (listed (λ g. g ∷ []) (given_variable callee Y a)) _)
 
     -- ## All parameters
 
@@ -404,12 +375,12 @@ module _ (callee : ResolvedNode) (hc : HasClocks callee) where
 
       Y_in : (j : ℕ) → j < callee.inputs →
           stands_for callee.inputs (operands_of ctx es) lefts j ≡ given_at (operands_of ctx es) j
-      Y_in j lt = rw (lt-ltb j callee.inputs lt) refl
+      Y_in j lt = first_part callee.inputs (given_at (operands_of ctx es)) (slice_get lefts) j lt
 
       Y_out : (j : ℕ) →
           stands_for callee.inputs (operands_of ctx es) lefts (callee.inputs + j)
           ≡ slice_get lefts j
-      Y_out j = rw (later_place callee.inputs j, add-sub_cancel_left callee.inputs j) refl
+      Y_out j = second_part callee.inputs (given_at (operands_of ctx es)) (slice_get lefts) j
 
       -- an awaited input is given a variable
       waited_some : (i : ℕ) → i < callee.inputs → is_awaited callee i ≡ true →

@@ -1,13 +1,13 @@
 -- The clocks in the text of a node, and those that its expressions determine, wait for its
 -- variables.
 use Rattle.lb_check.proofs.Words
-use Words.{◌≡◌, ℕ, zero, suc, Bool, true, false, cond, List, [], ◌∷◌, ◌++◌, length, map, Option}
-use Words.{Some, None, refl, ap, sym, ◌∙◌, subst, ◌&&◌, ◌||◌, IfSome, option_map, list_all}
+use Words.{map-append, ◌≡◌, ℕ, zero, suc, Bool, true, false, cond, List, [], ◌∷◌, ◌++◌, length, map}
+use Words.{Option, Some, None, refl, ap, sym, ◌∙◌, subst, ◌&&◌, ◌||◌, IfSome, option_map, list_all}
 use Words.{bytes_eq, bytes_eq-Decides, or_right, ◌>>=◌, Every, either_or, holds, listed, or_else}
-use Words.{bind_some, and_first, and_second, implied, among, variable_names, variables, named}
-use Words.{Clock, On, Given, sampled, clock_within, variable_clock, clock_or, declared_clock}
-use Words.{parent, above, own_depth, given_name, outer, given_inputs, base_from, base_clock}
-use Words.{first_result_clock, argument_clocks, is_clocked_by, are_declared_clocks}
+use Words.{both_ways, inl, inr, bind_some, and_first, and_second, implied, among, variable_names}
+use Words.{variables, named, Clock, On, Given, sampled, clock_within, variable_clock, clock_or}
+use Words.{declared_clock, parent, above, own_depth, given_name, outer, given_inputs, base_from}
+use Words.{base_clock, first_result_clock, argument_clocks, is_clocked_by, are_declared_clocks}
 use Words.{is_given_variable, are_given_variables, ◌+◌, ◌<◌, arith, Node_named, Symbol, Expr, Group}
 use Words.{Unary, Binary, If, Arrow, Fby, Pre, Current, When, Replicate, Index, Slice, Join, Array}
 use Words.{AtMostOne, Nor, Call, Iterate, Nil, Cons, Program, Instance, Site, sites, sites_in}
@@ -19,6 +19,8 @@ use Words.{common_type, array_of, index_type, slice_type, join_type, operator_ty
 use Words.{Declaration, Node}
 use Rattle.lb_syntax.{specs.Tree.{Sampling, Literal, Truth, Variable}, proofs.SameNames.name_same}
 use Rattle.lb_check.specs.{ClockRules.if_clocked, Clocks.{Base, first_clock}}
+use Rattle.lb_check.proofs.clocking.OwnClocks.{clock_found}
+use Rattle.{lb_static.proofs.Scopes.among_append, lb_syntax.proofs.TruthValues.or_nothing}
 use Rattle.lb_check.proofs.lists.Members.{Every-tested, Every-both, Every-first, Every-second}
 use Rattle.lb_check.proofs.typing.OperandTypes.{bound, one, two, from_true, first_of_all, placed}
 use Rattle.lb_check.proofs.typing.OperandTypes.{one_output}
@@ -75,10 +77,11 @@ module _ (V : Name → Type 0) where
       let found = named_every _ x ds v all e in
       subst V (name_same v.name x found.1) found.0
 
-turned : (x y : Name) → bytes_eq x y ≡ false → bytes_eq y x ≡ true → ⊥
-turned x y e f =
-    let same = (bytes_eq-Decides x y).1 (sym (name_same y x f)) in
-    absurd cc
+same_turned : (x y : Name) → bytes_eq x y ≡ true → bytes_eq y x ≡ true
+same_turned x y e = (bytes_eq-Decides y x).1 (sym (name_same x y e))
+
+pub bytes_turned : (x y : Name) → bytes_eq x y ≡ bytes_eq y x
+bytes_turned x y = both_ways _ _ (same_turned x y) (same_turned y x)
 
 -- a statement on the first declarations holds of the one that is found by one of their names
 pub found_first :
@@ -89,16 +92,13 @@ found_first E x [] rest v all e is = absurd cc
 found_first E x (d ∷ ds) rest v all e is =
     by (found_first E x ds rest v all.1) (bytes_eq d.name x) refl is
   where
-    later : (b : Bool) → bytes_eq x d.name ≡ b → bytes_eq d.name x ≡ false →
-        (b || among x (map (λ d. d.name) ds)) ≡ true → among x (map (λ d. d.name) ds) ≡ true
-    later true same other h = absurd (turned d.name x other same)
-    later false same other h = h
-
     by : (among x (map (λ d. d.name) ds) ≡ true →
         named (λ d. d.name) x (ds ++ rest) ≡ Some v → E v) → (b : Bool) → bytes_eq d.name x ≡ b →
         cond b (Some d) (named (λ d. d.name) x (ds ++ rest)) ≡ Some v → E v
     by next true same h = let one : d ≡ v = cc in subst E one all.0
-    by next false other h = next (later (bytes_eq x d.name) refl other e) h
+    by next false other h =
+        let differs = bytes_turned x d.name ∙ other in
+        next (sym (ap (λ b. b || among x (map (λ d. d.name) ds)) differs) ∙ e) h
 
 -- a name among none of the first declarations finds the next one, where that has the name
 found_next :
@@ -109,10 +109,6 @@ found_next x [] d rest e is = ap (λ b. cond b (Some d) (named (λ d. d.name) x 
 found_next x (c ∷ ds) d rest e is =
     by (λ h. found_next x ds d rest h is) (bytes_eq x c.name) refl e
   where
-    other : (b : Bool) → bytes_eq c.name x ≡ b → bytes_eq x c.name ≡ false → b ≡ false
-    other true same differs = absurd (turned x c.name differs same)
-    other false same differs = refl
-
     by : (among x (map (λ d. d.name) ds) ≡ false →
         named (λ d. d.name) x (ds ++ (d ∷ rest)) ≡ Some d) → (b : Bool) → bytes_eq x c.name ≡ b →
         (b || among x (map (λ d. d.name) ds)) ≡ false →
@@ -120,30 +116,19 @@ found_next x (c ∷ ds) d rest e is =
     by next true same h = absurd cc
     by next false differs h =
         ap (λ b. cond b (Some c) (named (λ d. d.name) x (ds ++ (d ∷ rest))))
-        (other (bytes_eq c.name x) refl differs)
+        (bytes_turned c.name x ∙ differs)
         ∙ next h
-
-same_turned : (x y : Name) → bytes_eq x y ≡ true → bytes_eq y x ≡ true
-same_turned x y e = (bytes_eq-Decides y x).1 (sym (name_same x y e))
 
 -- a name among declarations and one more, and among none of the first, is that of the last
 last_name :
     (x : Name) (ds : List Declaration) (d : Declaration) →
     among x (map (λ d. d.name) ds) ≡ false →
     among x (map (λ d. d.name) (ds ++ (d ∷ []))) ≡ true → bytes_eq x d.name ≡ true
-last_name x [] d none e = by (bytes_eq x d.name) e
-  where
-    by : (b : Bool) → (b || false) ≡ true → b ≡ true
-    by true e = refl
-    by false e = absurd cc
-last_name x (c ∷ ds) d none e = by (last_name x ds d) (bytes_eq x c.name) none e
-  where
-    by : (among x (map (λ d. d.name) ds) ≡ false →
-        among x (map (λ d. d.name) (ds ++ (d ∷ []))) ≡ true → bytes_eq x d.name ≡ true) →
-        (b : Bool) → (b || among x (map (λ d. d.name) ds)) ≡ false →
-        (b || among x (map (λ d. d.name) (ds ++ (d ∷ [])))) ≡ true → bytes_eq x d.name ≡ true
-    by rest true none e = absurd cc
-    by rest false none e = rest none e
+last_name x ds d none e =
+    let split = ap (among x) (map-append (λ (d : Declaration). d.name) ds (d ∷ []))
+    ∙ among_append x (map (λ d. d.name) ds) (d.name ∷ [])
+    ∙ ap (λ b. b || among x (d.name ∷ [])) none in
+    or_nothing (bytes_eq x d.name) ∙ sym split ∙ e
 
 -- the name of each declaration is among the names of all
 pub own_names : (ds : List Declaration) → Every (λ d. among d.name (map (λ d. d.name) ds) ≡ true) ds
@@ -213,18 +198,13 @@ module _ (V : Name → Type 0) (vars : List Declaration) (E : Declaration → Ty
   pub within_over :
       (n : ℕ) (d : Declaration) (k : Clock) → E d → clock_within n vars d ≡ Some k → IsOver V k
   within_over zero d k h e = absurd cc
-  within_over (suc n) d k h e = by (within_over n) d.clock refl e
-    where
-      by : ((v : Declaration) (k : Clock) → E v → clock_within n vars v ≡ Some k → IsOver V k) →
-          (o : Option Sampling) → d.clock ≡ o →
-          sampled (clock_within n vars) vars o ≡ Some k → IsOver V k
-      by next None is g = let base : Base ≡ k = cc in subst (IsOver V) base tt
-      by next (Some s) is g =
-          let v = bind_some _ _ k g in
-          let up = bind_some _ _ k v.2 in
-          let w = waits d s v.0 h is v.1 in
-          let on : On up.0 s.variable s.sign ≡ k = cc in
-          subst (IsOver V) on (next v.0 up.0 w.1 up.1, w.0)
+  within_over (suc n) d k h e =
+      elim (clock_found n vars d k e) [
+        | inl free ↦ subst (IsOver V) free.1 tt
+        | inr b ↦
+            let w = waits d b.waits b.variable h b.has b.found in
+            subst (IsOver V) b.on (within_over n b.variable b.clock w.1 b.is, w.0)
+      ]
 
   pub named_over :
       (n : ℕ) (x : Name) → ((v : Declaration) → named (λ v. v.name) x vars ≡ Some v → E v) →

@@ -1,16 +1,17 @@
 -- The clocks of a callee as its caller sees them, and the operands that fit them.
 use Rattle.lb_check.proofs.Words
 use Words.{◌≡◌, ℕ, zero, suc, ◌+◌, ◌-◌, ◌<◌, ◌≤◌, ◌⊎◌, inl, inr, Bool, true, false, List, [], ◌∷◌}
-use Words.{length, Some, refl, ap, sym, ◌∙◌, arith, slice_get, nat_lt, nat_tests, and_from}
-use Words.{and_first, and_second, is_clock, are_clocks, Option, None, subst, ◌&&◌, ◌==◌, option_map}
-use Words.{nat_eq, slice_get_within, either_or, Name, item_at, variable_names, node_of, counts_of}
-use Words.{is_variable, ResolvedNode, Sampling, Variable, VariableId, Given, given_name, outer}
-use Words.{above, depth, declared_clock, awaited, HasClocks, name_in, clock_in, is_clock_within}
-use Words.{same, declared_in, is_same, Base, ClockSet, NoClock, AnyClock, OneClock, holds}
-use Words.{accepts_clock, expected, base_of, all_fit}
+use Words.{if◌then◌else◌, lt-ltb, add-sub_cancel_left, length, Some, refl, ap, sym, ◌∙◌, arith}
+use Words.{slice_get, nat_lt, nat_tests, and_from, and_first, and_second, is_clock, are_clocks}
+use Words.{Option, None, subst, ◌&&◌, option_map, slice_get_within, either_or, Name, item_at}
+use Words.{variable_names, node_of, counts_of, is_variable, ResolvedNode, Sampling, Variable}
+use Words.{VariableId, Given, given_name, outer, above, depth, declared_clock, awaited, HasClocks}
+use Words.{name_in, clock_in, is_clock_within, declared_in, is_same, Base, ClockSet, NoClock}
+use Words.{AnyClock, OneClock, holds, accepts_clock, expected, base_of, all_fit}
 use Rattle.lb_check.specs.declared.own_clock.Clock.{Clock, TheVariants.On}
-use Rattle.lb_check.proofs.clocking.{ClockDepths.are_awaited, ClockTests.clock_same}
-use Rattle.lb_check.proofs.clocking.OwnClocks.{clock_of_free, clock_of_waiting, same_clock}
+use Rattle.lb_check.proofs.clocking.{ClockDepths.are_awaited, ClockTests.{clock_same, clock_turned}}
+use Rattle.lb_check.proofs.clocking.ClockTests.{declared_is, same_is}
+use Rattle.lb_check.proofs.clocking.OwnClocks.{clock_of_free, clock_of_waiting}
 use Rattle.lb_check.proofs.{clocking.OwnClocks.clock_itself, lists.ListPairs.{each_pair, pair_at}}
 use Rattle.lb_check.proofs.lists.ListPairs.{same_pairs}
 use Rattle.lb_check.specs.Clocks as tree
@@ -61,8 +62,16 @@ place_split i m n lt = by (nat_lt i m) refl
         let low : m ≤ i = grind (arith, nat_tests) in
         inr (i - m, omega arith, omega arith)
 
-pub later_place : (m j : ℕ) → nat_lt (m + j) m ≡ false
-later_place m j = grind (arith, nat_tests)
+-- what stands at the places of two parts, of which the first has `n`
+pub first_part : {A : Type 0} (n : ℕ) (f g : ℕ → A) (i : ℕ) → i < n →
+    (if nat_lt i n then f i else g (i - n)) ≡ f i
+first_part n f g i lt = rw (lt-ltb i n lt) refl
+
+pub second_part : {A : Type 0} (n : ℕ) (f g : ℕ → A) (j : ℕ) →
+    (if nat_lt (n + j) n then f (n + j) else g (n + j - n)) ≡ g j
+second_part n f g j =
+    let past : nat_lt (n + j) n ≡ false = grind (arith, nat_tests) in
+    rw (past, add-sub_cancel_left n j) refl
 
 -- The clocks of a callee, as its caller sees them, from the numbers of both.
 
@@ -72,12 +81,6 @@ pub above_outer : (b : tree.Clock) (given : Given) (k : tree.Clock) →
     above (depth k) (outer b given k) ≡ b
 above_outer b given tree.Base = refl
 above_outer b given (tree.On k x sign) = above_outer b given k
-
-pub same_turned : (a b : Bool) → same a b ≡ same b a
-same_turned true true = refl
-same_turned true false = refl
-same_turned false true = refl
-same_turned false false = refl
 
 pub clock_equal : (k l : tree.Clock) → k ≡ l → is_clock k l ≡ true
 clock_equal k l e = subst (λ z. is_clock k z ≡ true) e (clock_itself k)
@@ -97,49 +100,6 @@ abbrev pub stood : ResolvedNode → tree.Clock → ClockSet → Bool
 stood here k NoClock = false
 stood here k AnyClock = true
 stood here k (OneClock c) = is_clock k (clock_in here c)
-
-module _ (here : ResolvedNode) (h : HasClocks here) where
-  waited_within : (y : VariableId) (v : Variable) (s : Sampling) →
-      slice_get here.variables.items y.0 ≡ Some v → v.clock ≡ Some s
-      → is_variable (counts_of here) s.variable ≡ true
-  waited_within y v s e is =
-      let aw : awaited here.variables.items y.0 ≡ Some s.variable.0 = rw (e, is) refl in
-      let lt : s.variable.0 < length here.variables.items =
-      are_awaited h.nodes here h.resolved y.0 s.variable.0 aw in
-      grind (arith, nat_tests)
-
-  declared_by : (y : VariableId) (v : Variable) (o : Option Sampling) →
-      slice_get here.variables.items y.0 ≡ Some v → y.0 < length here.variables.items → v.clock ≡ o
-      → (clock_in here (declared_in here y) ≡ declared_clock (node_of here) (name_in here y))
-      × (is_clock_within here (declared_in here y) ≡ true)
-  declared_by y v None e lt is =
-      let base : declared_in here y ≡ Base = rw (e, is) refl in
-      (ap (clock_in here) base ∙ clock_of_free here h y v e lt is, ap (is_clock_within here) base)
-  declared_by y v (Some s) e lt is =
-      let on : declared_in here y ≡ On s.variable s.sign = rw (e, is) refl in (
-        ap (clock_in here) on ∙ clock_of_waiting here h y v s e lt is,
-        ap (is_clock_within here) on
-            ∙ waited_within y v s e is,
-      )
-
-  -- the declared clock of a variable that the code finds is that of the text
-  pub declared_is : (y : VariableId) → is_variable (counts_of here) y ≡ true
-      → (clock_in here (declared_in here y) ≡ declared_clock (node_of here) (name_in here y))
-      × (is_clock_within here (declared_in here y) ≡ true)
-  declared_is y w =
-      let lt : y.0 < length here.variables.items = grind (arith, nat_tests) in
-      let v = item_at here.variables.items y.0 lt in
-      declared_by y v.0 v.0.clock v.1 lt refl
-
-  pub same_is : (k l : Clock) → is_clock_within here k ≡ true → is_clock_within here l ≡ true →
-      is_same l k ≡ is_clock (clock_in here k) (clock_in here l)
-  same_is Base Base wk wl = refl
-  same_is Base (On y other) wk wl = refl
-  same_is (On x sign) Base wk wl = refl
-  same_is (On x sign) (On y other) wk wl =
-      let turned : nat_eq y.0 x.0 ≡ (y.0 == x.0) = grind (arith, nat_tests) in
-      ap (λ b. b && same other sign) turned ∙ ap (λ b. (y.0 == x.0) && b) (same_turned other sign)
-      ∙ same_clock here h x y sign other wk wl
 
 -- ## A callee's clocks, as its caller sees them
 
@@ -219,7 +179,7 @@ module _ (here callee : ResolvedNode) (h : HasClocks here) (hc : HasClocks calle
   on_clock : (y : VariableId) (k l : tree.Clock) → is_variable (counts_of here) y ≡ true → k ≡ l →
       stood here k (OneClock (declared_in here y)) ≡ true
       → declared_clock (node_of here) (name_in here y) ≡ l
-  on_clock y k l w e p = sym (declared_is here h y w).0
+  on_clock y k l w e p = sym (declared_is here h y w)
       ∙ sym (clock_same k (clock_in here (declared_in here y)) p) ∙ e
 
   waited_there : (x : VariableId) (v : Variable) (s : Sampling) →
@@ -285,9 +245,7 @@ pub base_found : (cs : List (Option Sampling)) (ss : List ClockSet) (k : Clock) 
 base_found [] ss k e = absurd cc
 base_found (c ∷ cs) [] k e = absurd cc
 base_found (None ∷ cs) (OneClock l ∷ ss) k e = (0, refl, ap (λ o. option_map OneClock o) e)
-base_found (None ∷ cs) (NoClock ∷ ss) k e = let z = base_found cs ss k e in (suc z.0, z.1, z.2)
-base_found (None ∷ cs) (AnyClock ∷ ss) k e = let z = base_found cs ss k e in (suc z.0, z.1, z.2)
-base_found (Some c ∷ cs) (s ∷ ss) k e = let z = base_found cs ss k e in (suc z.0, z.1, z.2)
+base_found (c ∷ cs) (s ∷ ss) k e = let z = base_found cs ss k e in (suc z.0, z.1, z.2)
 
 pub base_none : (cs : List (Option Sampling)) (ss : List ClockSet) → base_of cs ss ≡ None →
     (i : ℕ) (k : Clock) → slice_get cs i ≡ Some None
@@ -295,12 +253,8 @@ pub base_none : (cs : List (Option Sampling)) (ss : List ClockSet) → base_of c
 base_none [] ss e i k p q = absurd cc
 base_none (c ∷ cs) [] e i k p q = absurd cc
 base_none (None ∷ cs) (OneClock l ∷ ss) e i k p q = absurd cc
-base_none (None ∷ cs) (NoClock ∷ ss) e zero k p q = absurd cc
-base_none (None ∷ cs) (AnyClock ∷ ss) e zero k p q = absurd cc
-base_none (Some c ∷ cs) (s ∷ ss) e zero k p q = absurd cc
-base_none (None ∷ cs) (NoClock ∷ ss) e (suc i) k p q = base_none cs ss e i k p q
-base_none (None ∷ cs) (AnyClock ∷ ss) e (suc i) k p q = base_none cs ss e i k p q
-base_none (Some c ∷ cs) (s ∷ ss) e (suc i) k p q = base_none cs ss e i k p q
+base_none (c ∷ cs) (s ∷ ss) e zero k p q = absurd cc
+base_none (c ∷ cs) (s ∷ ss) e (suc i) k p q = base_none cs ss e i k p q
 
 -- ## One parameter
 
@@ -327,7 +281,7 @@ Expects here Y base b c =
     (k : Clock) × (expected base Y c ≡ Some k) × (clock_in here k ≡ expected_on here Y b c)
     × (is_clock_within here k ≡ true)
 
-module _ (here : ResolvedNode) (h : HasClocks here) (Y : ℕ → Option VariableId) where
+module _ (here : ResolvedNode) (Y : ℕ → Option VariableId) where
   pub expects_waiting : (base : Option Clock) (b : tree.Clock) (s : Sampling) →
       IsGiven here Y (Some s) → Expects here Y base b (Some s)
   expects_waiting base b s given =
@@ -344,61 +298,66 @@ module _ (here : ResolvedNode) (h : HasClocks here) (Y : ℕ → Option Variable
   expects k w None given = (k, refl, refl, w)
   expects k w (Some s) given = expects_waiting (Some k) (clock_in here k) s given
 
-  pub stood_code : (base : Option Clock) (b : tree.Clock) (c : Option Sampling) →
+  pub stood_code : HasClocks here → (base : Option Clock) (b : tree.Clock) (c : Option Sampling) →
       Expects here Y base b c → (s : ClockSet) → IsWithin here s
       → accepts_clock (expected base Y c) s ≡ stood here (expected_on here Y b c) s
-  stood_code base b c e NoClock w = refl
-  stood_code base b c e AnyClock w = refl
-  stood_code base b c e (OneClock l) w =
-      ap (holds (λ k. is_same l k)) e.1 ∙ same_is here h e.0 l e.3 (w l refl)
+  stood_code h base b c e NoClock w = refl
+  stood_code h base b c e AnyClock w = refl
+  stood_code h base b c e (OneClock l) w =
+      ap (holds (λ k. is_same l k)) e.1 ∙ same_is here h l e.0 (w l refl) e.3
+      ∙ clock_turned (clock_in here l) (clock_in here e.0)
       ∙ ap (λ z. is_clock z (clock_in here l)) e.2
 
-  stood_free : (k : tree.Clock) (s : ClockSet) → ((l : Clock) → s ≡ OneClock l → ⊥) →
-      accepts_clock None s ≡ stood here k s
-  stood_free k NoClock other = refl
-  stood_free k AnyClock other = refl
-  stood_free k (OneClock l) other = absurd (other l refl)
+stood_free : (here : ResolvedNode) (k : tree.Clock) (s : ClockSet) →
+    ((l : Clock) → s ≡ OneClock l → ⊥) → accepts_clock None s ≡ stood here k s
+stood_free here k NoClock other = refl
+stood_free here k AnyClock other = refl
+stood_free here k (OneClock l) other = absurd (other l refl)
 
-  -- ## All parameters
+-- ## All parameters
 
-  abbrev pub fits_on : tree.Clock → List (Option Sampling) → List ClockSet → Bool
-  fits_on b cs ss = each_pair (λ c s. stood here (expected_on here Y b c) s) cs ss
+-- the operands fit the clocks that the caller sees, where the callee runs on clock `b`
+abbrev pub fits_on : ResolvedNode → (ℕ → Option VariableId) → tree.Clock →
+    List (Option Sampling) → List ClockSet → Bool
+fits_on here Y b cs ss = each_pair (λ c s. stood here (expected_on here Y b c) s) cs ss
 
-  module _ (cs : List (Option Sampling)) (ss : List ClockSet)
-      (given : (i : ℕ) (c : Option Sampling) → slice_get cs i ≡ Some c → IsGiven here Y c)
-      (within : (i : ℕ) (s : ClockSet) → slice_get ss i ≡ Some s → IsWithin here s) where
-    pub fit_some : (k : Clock) → is_clock_within here k ≡ true →
-        all_fit (Some k) Y cs ss ≡ fits_on (clock_in here k) cs ss
-    fit_some k w =
-        fit_pairs (Some k) Y cs ss
-        ∙ same_pairs (λ c s. accepts_clock (expected (Some k) Y c) s)
-        (λ c s. stood here (expected_on here Y (clock_in here k) c) s) cs ss
-        (λ i c s p q. stood_code (Some k) (clock_in here k) c (expects k w c (given i c p)) s
-        (within i s q))
+-- the variables that stand for those that parameters wait for are of the caller, and so are the
+-- clocks of operands
+pub record AreOfNode (here : ResolvedNode) (Y : ℕ → Option VariableId)
+    (cs : List (Option Sampling)) (ss : List ClockSet) : Type 0 where
+  pub given : (i : ℕ) (c : Option Sampling) → slice_get cs i ≡ Some c → IsGiven here Y c
+  pub within : (i : ℕ) (s : ClockSet) → slice_get ss i ≡ Some s → IsWithin here s
 
-    none_fits : (b : tree.Clock) (c : Option Sampling) → IsGiven here Y c → (s : ClockSet) →
-        IsWithin here s → ((k : Clock) → c ≡ None → s ≡ OneClock k → ⊥)
-        → accepts_clock (expected None Y c) s ≡ stood here (expected_on here Y b c) s
-    none_fits b None g s w other = stood_free b s (λ l e. other l refl e)
-    none_fits b (Some x) g s w other = stood_code None b (Some x) (expects_waiting None b x g) s w
+module _ {here : ResolvedNode} (h : HasClocks here) {Y : ℕ → Option VariableId}
+    {cs : List (Option Sampling)} {ss : List ClockSet} (row : AreOfNode here Y cs ss) where
+  pub fit_some : (k : Clock) → is_clock_within here k ≡ true →
+      all_fit (Some k) Y cs ss ≡ fits_on here Y (clock_in here k) cs ss
+  fit_some k w =
+      fit_pairs (Some k) Y cs ss
+      ∙ same_pairs _ _ cs ss (λ i c s p q. stood_code here Y h (Some k) (clock_in here k) c
+      (expects here Y k w c (row.given i c p)) s (row.within i s q))
 
-    -- the operands fit on each base clock, where nothing determines one
-    pub fit_none : base_of cs ss ≡ None → (b : tree.Clock) → all_fit None Y cs ss ≡ fits_on b cs ss
-    fit_none e b =
-        fit_pairs None Y cs ss
-        ∙ same_pairs (λ c s. accepts_clock (expected None Y c) s)
-        (λ c s. stood here (expected_on here Y b c) s) cs ss
-        (λ i c s p q. none_fits b c (given i c p) s (within i s q)
-        (λ k none only. base_none cs ss e i k (p ∙ ap Some none) (q ∙ ap Some only)))
+  none_fits : (b : tree.Clock) (c : Option Sampling) → IsGiven here Y c → (s : ClockSet) →
+      IsWithin here s → ((k : Clock) → c ≡ None → s ≡ OneClock k → ⊥)
+      → accepts_clock (expected None Y c) s ≡ stood here (expected_on here Y b c) s
+  none_fits b None g s w other = stood_free here b s (λ l e. other l refl e)
+  none_fits b (Some x) g s w other =
+      stood_code here Y h None b (Some x) (expects_waiting here Y None b x g) s w
 
-    pub base_within : (k : Clock) → base_of cs ss ≡ Some k → is_clock_within here k ≡ true
-    base_within k e = let z = base_found cs ss k e in within z.0 (OneClock k) z.2 k refl
+  -- the operands fit on each base clock, where nothing determines one
+  pub fit_none : base_of cs ss ≡ None → (b : tree.Clock) →
+      all_fit None Y cs ss ≡ fits_on here Y b cs ss
+  fit_none e b =
+      fit_pairs None Y cs ss
+      ∙ same_pairs _ _ cs ss (λ i c s p q. none_fits b c (row.given i c p) s (row.within i s q)
+      (λ k none only. base_none cs ss e i k (p ∙ ap Some none) (q ∙ ap Some only)))
 
-    -- the base clock that the code finds is that of the callee, where the operands fit
-    pub base_is : (k : Clock) (b : tree.Clock) → base_of cs ss ≡ Some k → fits_on b cs ss ≡ true →
-        b ≡ clock_in here k
-    base_is k b e fits =
-        let z = base_found cs ss k e in
-        clock_same b (clock_in here k)
-        (pair_at (λ c s. stood here (expected_on here Y b c) s) cs ss z.0 None
-        (OneClock k) fits z.1 z.2)
+  pub base_within : (k : Clock) → base_of cs ss ≡ Some k → is_clock_within here k ≡ true
+  base_within k e = let z = base_found cs ss k e in row.within z.0 (OneClock k) z.2 k refl
+
+  -- the base clock that the code finds is that of the callee, where the operands fit
+  pub base_is : (k : Clock) (b : tree.Clock) → base_of cs ss ≡ Some k →
+      fits_on here Y b cs ss ≡ true → b ≡ clock_in here k
+  base_is k b e fits =
+      let z = base_found cs ss k e in
+      clock_same b (clock_in here k) (pair_at _ cs ss z.0 None (OneClock k) fits z.1 z.2)

@@ -1,13 +1,13 @@
 -- The clock of a declared variable stands one step below that of the variable that it waits for.
 use Rattle.lb_check.proofs.Words
-use Words.{◌≡◌, ◌≢◌, ℕ, zero, suc, ◌<◌, Bool, true, false, List, [], ◌++◌, length, Option, Some}
-use Words.{None, refl, ap, sym, ◌∙◌, subst, arith, ◌&&◌, ◌==◌, is_some, option_map, slice_get}
-use Words.{nat_eq, bytes_eq, bytes_eq-Decides, beq, list_all, nat_tests, and-true, ◌>>=◌, either_or}
-use Words.{Name, Declaration, all_at, item_at, and_second, named, variable_names, variables}
-use Words.{declaration_of, sampling_of, is_variable, node_of, statics_of, counts_of, ResolvedNode}
-use Words.{Sampling, Variable, VariableId, Clock, On, clock_within, sampled, clock_or}
-use Words.{variable_clock, declared_clock, is_clocked_by, is_clock, same, awaited, HasClocks}
-use Words.{name_in, clock_in, is_clock_within, Compared}
+use Words.{◌⊎◌, inl, inr, bind_some, ◌≡◌, ◌≢◌, ℕ, zero, suc, ◌<◌, Bool, true, false, List, [], ◌++◌}
+use Words.{length, Option, Some, None, refl, ap, sym, ◌∙◌, subst, arith, ◌&&◌, ◌==◌, is_some}
+use Words.{option_map, slice_get, nat_eq, bytes_eq, bytes_eq-Decides, beq, list_all, nat_tests}
+use Words.{and-true, ◌>>=◌, either_or, Name, Declaration, all_at, item_at, and_second, named}
+use Words.{variable_names, variables, declaration_of, sampling_of, is_variable, node_of, statics_of}
+use Words.{counts_of, ResolvedNode, Sampling, Variable, VariableId, Clock, On, clock_within}
+use Words.{sampled, clock_or, variable_clock, declared_clock, is_clocked_by, is_clock, same}
+use Words.{awaited, HasClocks, name_in, clock_in, is_clock_within, Compared}
 use Rattle.lb_check.{specs.Clocks.Base, proofs.clocking.ClockDepths.{at_place, at_name}}
 use Rattle.lb_check.proofs.clocking.ClockDepths.{as_many_names, are_awaited}
 use Rattle.lb_check.proofs.lists.Members.{distinct_at}
@@ -22,35 +22,62 @@ beq_same false false = refl
 
 -- ## A clock within more steps
 
-abbrev below : (Declaration → Option Clock) → Name → Bool → Option Declaration → Option Clock
-below f x sign o = o >>= λ v. f v >>= λ k. Some (On k x sign)
+-- a variable without a clock has the base clock
+pub base_step : (m : ℕ) (ds : List Declaration) (d : Declaration) → d.clock ≡ None →
+    clock_within (suc m) ds d ≡ Some Base
+base_step m ds d e = ap (sampled (clock_within m ds) ds) e
 
-below_some : (o p : Option Clock) (x : Name) (sign : Bool) (k : Clock) →
-    ((l : Clock) → o ≡ Some l → p ≡ Some l)
-    → (o >>= λ k. Some (On k x sign)) ≡ Some k → (p >>= λ k. Some (On k x sign)) ≡ Some k
-below_some None p x sign k more e = absurd cc
-below_some (Some l) p x sign k more e = rw (more l refl) e
+-- the clock of a variable stands on that of the variable that it waits for
+pub clock_step : (m : ℕ) (ds : List Declaration) (d v : Declaration) (s : tree.Sampling) (k : Clock)
+    → d.clock ≡ Some s → named (λ v. v.name) s.variable ds ≡ Some v → clock_within m ds v ≡ Some k →
+    clock_within (suc m) ds d ≡ Some (On k s.variable s.sign)
+clock_step m ds d v s k is found e =
+    ap (sampled (clock_within m ds) ds) is
+    ∙ ap (λ o. o >>= λ v. clock_within m ds v >>= λ k. Some (On k s.variable s.sign)) found
+    ∙ ap (λ o. o >>= λ k. Some (On k s.variable s.sign)) e
 
-below_more : (f g : Declaration → Option Clock) (x : Name) (sign : Bool) (o : Option Declaration)
-    (k : Clock)
-    → ((d : Declaration) (l : Clock) → f d ≡ Some l → g d ≡ Some l) → below f x sign o ≡ Some k →
-    below g x sign o ≡ Some k
-below_more f g x sign None k more e = absurd cc
-below_more f g x sign (Some d) k more e = below_some (f d) (g d) x sign k (more d) e
+-- the variable that one with clock `k` waits for, and its clock, which is found in one step less
+pub record Below (m : ℕ) (ds : List Declaration) (d : Declaration) (k : Clock) : Type 0 where
+  pub waits : tree.Sampling
+  pub has : d.clock ≡ Some waits
+  pub variable : Declaration
+  pub found : named (λ v. v.name) waits.variable ds ≡ Some variable
+  pub clock : Clock
+  pub is : clock_within m ds variable ≡ Some clock
+  pub on : On clock waits.variable waits.sign ≡ k
 
-sampled_more : (f g : Declaration → Option Clock) (ds : List Declaration) (o : Option tree.Sampling)
-    (k : Clock)
-    → ((d : Declaration) (l : Clock) → f d ≡ Some l → g d ≡ Some l) → sampled f ds o ≡ Some k →
-    sampled g ds o ≡ Some k
-sampled_more f g ds None k more e = e
-sampled_more f g ds (Some s) k more e =
-    below_more f g s.variable s.sign (named (λ v. v.name) s.variable ds) k more e
+-- a clock that is found is the base clock, or stands on that of the variable that is waited for
+pub clock_found : (m : ℕ) (ds : List Declaration) (d : Declaration) (k : Clock) →
+    clock_within (suc m) ds d ≡ Some k → ((d.clock ≡ None) × (Base ≡ k)) ⊎ Below m ds d k
+clock_found m ds d k e = by d.clock refl e
+  where
+    by : (o : Option tree.Sampling) → d.clock ≡ o → sampled (clock_within m ds) ds o ≡ Some k →
+        ((d.clock ≡ None) × (Base ≡ k)) ⊎ Below m ds d k
+    by None is e = inl (is, cc)
+    by (Some s) is e =
+        let v = bind_some (named (λ v. v.name) s.variable ds)
+        (λ v. clock_within m ds v >>= λ l. Some (On l s.variable s.sign)) k e in
+        let up = bind_some (clock_within m ds v.0) (λ l. Some (On l s.variable s.sign)) k v.2 in
+        inr (record {
+          waits = s;
+          has = is;
+          variable = v.0;
+          found = v.1;
+          clock = up.0;
+          is = up.1;
+          on = cc;
+        })
 
+-- a clock that is found within `m` steps is found within one more
 pub more_steps : (m : ℕ) (ds : List Declaration) (d : Declaration) (k : Clock) →
     clock_within m ds d ≡ Some k → clock_within (suc m) ds d ≡ Some k
 more_steps zero ds d k e = absurd cc
 more_steps (suc m) ds d k e =
-    sampled_more (clock_within m ds) (clock_within (suc m) ds) ds d.clock k (more_steps m ds) e
+    elim (clock_found m ds d k e) [
+      | inl free ↦ base_step (suc m) ds d free.0 ∙ ap Some free.1
+      | inr w ↦ clock_step (suc m) ds d w.variable w.waits w.clock w.has w.found
+          (more_steps m ds w.variable w.clock w.is) ∙ ap Some w.on
+    ]
 
 -- ## Declared clocks
 
@@ -82,7 +109,7 @@ module _ (r : ResolvedNode) (h : HasClocks r) where
   as_many = as_many_names h.nodes r h.resolved h.distinct
 
   -- the name of a variable of the node stands at its place, and finds its declaration
-  name_of_place : (x : VariableId) (v : Variable) → slice_get r.variables.items x.0 ≡ Some v →
+  pub name_of_place : (x : VariableId) (v : Variable) → slice_get r.variables.items x.0 ≡ Some v →
       x.0 < length r.variables.items
       → (slice_get (variable_names (node_of r)) x.0 ≡ Some (name_in r x))
       × (named (λ d. d.name) (name_in r x) (variables (node_of r)) ≡ Some
@@ -101,7 +128,8 @@ module _ (r : ResolvedNode) (h : HasClocks r) where
       )
 
   -- each variable has a declared clock
-  has_clock : (x : VariableId) → slice_get (variable_names (node_of r)) x.0 ≡ Some (name_in r x) →
+  pub has_clock : (x : VariableId) →
+      slice_get (variable_names (node_of r)) x.0 ≡ Some (name_in r x) →
       is_some (variable_clock (node_of r) (name_in r x)) ≡ true
   has_clock x e =
       let n = node_of r in

@@ -8,12 +8,6 @@ use Rattle.lb_check.proofs.clocking.{DeclaredClocks.IsOwn, NamedClocks.IsOver}
 use Rattle.lb_check.proofs.programs.TypedOccurrences.{IsVariable, IsTypedOver, occurrences_fit}
 use Rattle.lb_check.specs.Clocks as tree
 
-first_clock : (x y : tree.Clock) (xs ys : List tree.Clock) → x ∷ xs ≡ y ∷ ys → x ≡ y
-first_clock x y xs ys e = cc
-
-other_clocks : (x y : tree.Clock) (xs ys : List tree.Clock) → x ∷ xs ≡ y ∷ ys → xs ≡ ys
-other_clocks x y xs ys e = cc
-
 module _ (n : ResolvedNode) where
   abbrev Over : tree.Clock → Type 0
   Over c = IsOver (IsVariable (node_of n)) c
@@ -30,12 +24,10 @@ module _ (n : ResolvedNode) where
       Every (λ o. IsOwn (node_of n) o.clock) os
   clocks_own [] ks e h = tt
   clocks_own (o ∷ os) [] e h = absurd cc
-  clocks_own (o ∷ os) (k ∷ ks) e h = (
-    clock_own k o.clock
-        (first_clock o.clock (clock_in n k) (map (λ o. o.clock) os) (map (clock_in n) ks) e) h.0,
-    clocks_own os ks
-        (other_clocks o.clock (clock_in n k) (map (λ o. o.clock) os) (map (clock_in n) ks) e) h.1,
-  )
+  clocks_own (o ∷ os) (k ∷ ks) e h =
+      let first : o.clock ≡ clock_in n k = cc in
+      let rest : map (λ o. o.clock) os ≡ map (clock_in n) ks = cc in
+      (clock_own k o.clock first h.0, clocks_own os ks rest h.1)
 
 overs :
     (P : Program) (here : Instance) (os : List Occurrence) →

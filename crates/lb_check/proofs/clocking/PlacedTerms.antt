@@ -4,33 +4,34 @@ use Words.{◌≡◌, ℕ, ◌+◌, Bool, true, false, List, [], ◌∷◌, ◌+
 use Words.{ap₂, sym, ◌∙◌, subst, arith, ◌&&◌, nat_eq, list_all, nat_tests, list_all-append, Count}
 use Words.{◌>>=◌, either_or, holds, listed, Name, Static, Expr, and_first, and_second, Program}
 use Words.{node_named, variable_names, node_of, texts_of, counts_of, Texts, expr_of, exprs_of}
-use Words.{row_of, named_value, static_at, site_at, is_variable, is_static, is_call, is_within}
-use Words.{are_within, is_unhidden, are_unhidden, Reached, CallId, ResolvedNode, Term, Literal}
-use Words.{Truth, Value, Group', Unary', Binary', If', Arrow', Fby', Pre', Current', When'}
-use Words.{Replicate', Index', Slice', Join', Array', AtMostOne', Nor', Call', IterateNode'}
-use Words.{IterateSymbol', Row_of-Term, end_of-Term, more_of-Term, items-the_row-Term, Given}
-use Words.{clock_of, clock_or, declared_clock, given_inputs, outer, is_occurrence_clocked}
-use Words.{pair_names, given_parameters, is_site, site_clock, Occurrence, at, call_count}
-use Words.{occurrences, occurrences_in, occurrences_each, name_in, clock_in, IsClockSet, SeesClocks}
-use Words.{is_clocked_on, is_single, are_single, calls_single, FoundCall, FoundTerm, part}
-use Words.{placed_terms, placed_row, placed_arguments, determined_clock, given_variables}
-use Words.{nested_call, callee_in, Context, context_of, declared_in, infer_clock, operands_in}
-use Words.{operands_of, input_clocks, clock_sets, base_of, given_at, Operand, ClockSet, NoClock}
-use Words.{AnyClock, OneClock}
+use Words.{row_of, named_value, static_at, site_at, is_call, is_within, are_within, is_unhidden}
+use Words.{are_unhidden, Reached, CallId, ResolvedNode, Term, Literal, Truth, Value, Group', Unary'}
+use Words.{Binary', If', Arrow', Fby', Pre', Current', When', Replicate', Index', Slice', Join'}
+use Words.{Array', AtMostOne', Nor', Call', IterateNode', IterateSymbol', Row_of-Term, end_of-Term}
+use Words.{more_of-Term, items-the_row-Term, Given, clock_of, clock_or, declared_clock}
+use Words.{given_inputs, outer, is_occurrence_clocked, pair_names, given_parameters, is_site}
+use Words.{site_clock, Occurrence, at, call_count, occurrences, occurrences_in, occurrences_each}
+use Words.{name_in, clock_in, IsClockSet, SeesClocks, is_clocked_on, is_single, are_single}
+use Words.{calls_single, FoundCall, FoundTerm, part, placed_terms, placed_row, placed_arguments}
+use Words.{determined_clock, given_variables, nested_call, Context, context_of, declared_in}
+use Words.{infer_clock, operands_in, operands_of, input_clocks, clock_sets, given_at, ClockSet}
+use Words.{NoClock, AnyClock, OneClock, ◌<◌, VariableId, are_given}
 use Rattle.lb_static.specs.declared.resolved.Term.{Variable}
 use Rattle.lb_check.specs.{FoundTerms.{are_parameters, given_names}, PlacedClocks.argument_clocks}
 use Rattle.lb_check.specs.{PlacedClocks.call_clocks, declared.own_clock.Clock.Clock}
-use Rattle.lb_check.proofs.clocking.{CallClockSets.call_stands, CallOperands.arguments_placed}
+use Rattle.lb_check.proofs.clocking.CallOperands.{KnownOperands, arguments_placed}
+use Rattle.lb_check.proofs.clocking.OuterClocks.{fits_on}
 use Rattle.lb_check.proofs.clocking.{ClockTests.declared_is, GivenVariables.given_is}
 use Rattle.lb_check.proofs.clocking.PlacedWithin.{are_among, parameters_within}
-use Rattle.lb_check.proofs.clocking.TermClockSets.{row_items, within_items, unhidden_items}
-use Rattle.lb_check.proofs.clocking.TermClockSets.{operands_items, term_stands, row_stands}
-use Rattle.lb_check.proofs.{definitions.NodePlaces.callee_found, lists.ListPairs.Pairs}
+use Rattle.lb_check.proofs.clocking.TermClockSets.{row_items}
+use Rattle.lb_check.proofs.clocking.TermClockSets.{operands_items, term_stands, called_operands}
+use Rattle.lb_check.proofs.lists.ListPairs.{Pairs}
 use Rattle.lb_check.proofs.lists.ListPairs.{Pairs-append}
 use Rattle.lb_syntax.specs.Tree as tree
 use Rattle.lb_check.specs.Clocks as clocks
 use Rattle.lb_check.specs.Occurrences as text
 use Rattle.lb_check.proofs.clocking.CallClockSets as one
+use Rattle.lb_check.specs.PlacedClocks.{call_base}
 
 -- ## The found term of an occurrence
 
@@ -89,10 +90,6 @@ module _ (P : Program) (r : Reached) (here : ResolvedNode) (sees : SeesClocks P 
   unfolding context_of
   declares = refl
 
-  calls : (context_of r here).callee ≡ callee_in r here
-  unfolding context_of
-  calls = refl
-
   -- the clock that the code determines for the operand of `current` is that of the text
   pub determined_is :
       (e : Expr) (s : ClockSet) → IsClockSet P here e s → (k : clocks.Clock) (n : ℕ) →
@@ -105,6 +102,57 @@ module _ (P : Program) (r : Reached) (here : ResolvedNode) (sees : SeesClocks P 
   determined_is e AnyClock st k n kept = ap clock_or st.0
   determined_is e (OneClock c) st k n kept = ap clock_or st.1
 
+  abbrev pub call_of_row : {m : Count} → CallId → Row_of-Term m → Expr
+  call_of_row c row =
+      tree.Call (site_at (texts_of here).calls c).callee (site_at (texts_of here).calls c).arguments
+      (row_of (texts_of here) row)
+
+  -- a call on clock `k` with left variables `lefts`, whose callee runs on clock `b`: the variables
+  -- given for clock parameters, and the clocks of the arguments
+  pub call_right :
+      (k : clocks.Clock) (n : ℕ) (lefts : List VariableId) (c : CallId) {m : Count}
+      (row : Row_of-Term m) (callee : ResolvedNode) →
+      node_named P (site_at (texts_of here).calls c).callee ≡ Some (node_of callee) →
+      KnownOperands P here callee (context_of r here) (items-the_row-Term m row) →
+      (Y : ℕ → Option VariableId) →
+      ((i : ℕ) → i < callee.inputs →
+      Y i ≡ given_at (operands_of (context_of r here) (items-the_row-Term m row)) i) →
+      are_given callee (operands_of (context_of r here) (items-the_row-Term m row)) ≡ true →
+      (b : Clock) → clocks.base_clock k (node_of callee) ≡ clock_in here b →
+      fits_on here Y (clock_in here b) (input_clocks callee)
+      (clock_sets (operands_of (context_of r here) (items-the_row-Term m row))) ≡ true →
+      IsCallOf P here (map (name_in here) lefts) (at k n (call_of_row c row)) (record {
+        runs = b;
+        given = given_variables callee (operands_of (context_of r here)
+            (items-the_row-Term m row)) lefts;
+      })
+      × (text.call_clocks k (node_named P (site_at (texts_of here).calls c).callee)
+      (row_of (texts_of here) row) ≡ map (clock_in here) (argument_clocks b Y callee))
+  call_right k n lefts c {m = m} row callee named ops Y Y_is given b base fits =
+      let es = items-the_row-Term m row in
+      let xs = map (name_in here) lefts in
+      let gs = given_variables callee (operands_of ctx es) lefts in
+      let args = row_items texts m row in (
+        record {
+          runs =
+              ap (λ o. either_or (o >>= λ callee. Some (clocks.base_clock k callee)) k) named
+              ∙ base;
+          given =
+              ap (listed (λ callee. given_parameters callee (row_of texts row) xs)) named
+              ∙ ap (λ es. given_parameters (node_of callee) es xs) args
+              ∙ given_is callee ops.called here ctx es lefts given
+              ∙ sym (ap (listed (λ z. map (pair_names (variable_names z) here) gs)) named);
+          parameters =
+              ap (are_among gs) named
+              ∙ parameters_within callee ops.called (operands_of ctx es) lefts;
+        },
+        ap₂ (text.call_clocks k) named args
+            ∙ ap (λ z. map (λ (d : tree.Declaration). outer z
+            (given_inputs (node_of callee).inputs (exprs_of texts es))
+            (declared_clock (node_of callee) d.name)) (node_of callee).inputs) base
+            ∙ arguments_placed ops Y Y_is given b fits,
+      )
+
   -- the found call of a call, with the clock on which its callee runs and the variables given for
   -- its clock parameters, and the clocks of its arguments
   call_found :
@@ -112,84 +160,34 @@ module _ (P : Program) (r : Reached) (here : ResolvedNode) (sees : SeesClocks P 
       is_call (counts_of here) c ≡ true → are_within (counts_of here) row ≡ true →
       are_unhidden (texts_of here) row ≡ true → calls_single r here c ≡ true →
       are_single r here row ≡ true →
-      is_clocked_on P here (clock_in here k) n
-      (tree.Call (site_at (texts_of here).calls c).callee
-      (site_at (texts_of here).calls c).arguments (row_of (texts_of here) row)) ≡ true →
-      IsCallOf P here []
-      (at (clock_in here k) n (tree.Call (site_at (texts_of here).calls c).callee
-      (site_at (texts_of here).calls c).arguments (row_of (texts_of here) row)))
+      is_clocked_on P here (clock_in here k) n (call_of_row c row) ≡ true →
+      IsCallOf P here [] (at (clock_in here k) n (call_of_row c row))
       (nested_call k (operands_in (context_of r here) row) ((context_of r here).callee c))
       × (text.call_clocks (clock_in here k) (node_named P (site_at (texts_of here).calls c).callee)
       (row_of (texts_of here) row)
       ≡ map (clock_in here)
       (call_clocks (context_of r here) k c (operands_in (context_of r here) row)))
+  unfolding context_of
   call_found k n c {m = m} row wc w u single singles kept =
-      let found = callee_found P r sees.names sees.reached sees.place here sees.at c wc in
-      let callee = found.0 in
-      let hc = sees.callees c callee found.1 in
+      let found = called_operands P r here sees c row wc w u singles in
       let site = site_at texts.calls c in
-      let es = items-the_row-Term m row in
-      let wi = within_items (counts_of here) m row ∙ w in
-      let ui = unhidden_items texts m row ∙ u in
-      let stand = row_stands P r here sees
-      (λ callee has. call_stands P here callee sees.own has) row w u singles in
-      let one_test : nat_eq callee.outputs 1 ≡ true =
+      let os = operands_of ctx (items-the_row-Term m row) in
+      let one_test : nat_eq found.0.outputs 1 ≡ true =
       sym (ap (holds (λ n. nat_eq n.outputs 1)) found.1) ∙ single in
-      let outputs : callee.outputs ≡ 1 = grind (arith, nat_tests) in
-      let args = row_items texts m row in
+      let outputs : found.0.outputs ≡ 1 = grind (arith, nat_tests) in
       let on_items : is_clocked_on P here (clock_in here k) n
-      (tree.Call site.callee site.arguments (exprs_of texts es)) ≡ true =
+      (tree.Call site.callee site.arguments (exprs_of texts (items-the_row-Term m row))) ≡ true =
       subst (λ es. is_clocked_on P here (clock_in here k) n
-      (tree.Call site.callee site.arguments es) ≡ true) args kept in
-      let given = one.runs_given P here callee sees.own hc site found.2 ctx declares es wi ui stand
-      outputs k n on_items in
-      let base = one.runs_base P here callee sees.own hc site found.2 ctx declares es wi ui stand
-      outputs k n on_items in
-      let fits = one.runs_fitting P here callee sees.own hc site found.2 ctx declares es wi ui stand
-      outputs k n on_items in
-      let os = operands_of ctx es in
-      let b = either_or (base_of (input_clocks callee) (clock_sets os)) k in
-      let clocks_of = λ (n : ResolvedNode). argument_clocks
-      (either_or (base_of (input_clocks n) (clock_sets os)) k) (given_at os) n in
-      let same : nested_call k (operands_in ctx row) (ctx.callee c)
-      ≡ nested_call k os (Some callee) =
-      ap₂ (nested_call k) (operands_items ctx m row) (ap (λ f. f c) calls ∙ found.1) in (
-        subst (IsCallOf P here [] (at (clock_in here k) n
-            (tree.Call site.callee site.arguments (row_of texts row)))) (sym same)
-            (record {
-              runs =
-                  ap (λ o. either_or
-                  (o >>= λ callee. Some (clocks.base_clock (clock_in here k) callee))
-                  (clock_in here k)) found.2
-                  ∙ base;
-              given =
-                  ap (listed (λ callee. given_parameters callee (row_of texts row) [])) found.2
-                  ∙ ap (λ es. given_parameters (node_of callee) es []) args
-                  ∙ given_is callee hc here ctx es [] given
-                  ∙ sym (ap (λ o. listed (λ z. map (pair_names (variable_names z) here)
-                  (given_variables callee os [])) o) found.2);
-              parameters =
-                  ap (are_among (given_variables callee os [])) found.2
-                  ∙ parameters_within callee hc os [];
-            }),
-        ap₂ (λ o es. text.call_clocks (clock_in here k) o es) found.2 args
-            ∙ ap (λ z. map (λ (d : tree.Declaration). outer z
-            (given_inputs (node_of callee).inputs (exprs_of texts es))
-            (declared_clock (node_of callee) d.name)) (node_of callee).inputs) base
-            ∙ arguments_placed P here callee sees.own hc ctx declares es wi ui stand (given_at os)
-            (λ i lt. refl) given b fits
-            ∙ sym (ap (λ (l : List Operand). map (clock_in here) (call_clocks ctx k c l))
-            (operands_items ctx m row)
-            ∙ ap (λ f. map (clock_in here) (listed clocks_of (f c))) calls
-            ∙ ap (λ o. map (clock_in here) (listed clocks_of o)) found.1),
-      )
+      (tree.Call site.callee site.arguments es) ≡ true) (row_items texts m row) kept in
+      let right = call_right (clock_in here k) n [] c row found.0 found.2 found.3 (given_at os)
+      (λ i lt. refl) (one.runs_given found.3 site found.2 outputs k n on_items)
+      (call_base k found.0 os) (one.runs_base found.3 site found.2 outputs k n on_items)
+      (one.runs_fitting found.3 site found.2 outputs k n on_items) in
+      rw (operands_items ctx m row, found.1) right
 
   value_placed : (k : Clock) (n : ℕ) (s : Static) → Places (on k n (named_value s)) (part k ∷ [])
   value_placed k n (tree.Named x) = ((refl, refl), tt)
-  value_placed k n (tree.Whole m) = ((refl, refl), tt)
-  value_placed k n (tree.Negated s) = ((refl, refl), tt)
-  value_placed k n (tree.Combined op s t) = ((refl, refl), tt)
-  value_placed k n (tree.Grouped s) = ((refl, refl), tt)
+  value_placed k n s = ((refl, refl), tt)
 
   -- the found terms of a term on clock `k` stand for its occurrences
   abbrev HasPlaces : Clock → ℕ → Term → Type 0
@@ -212,10 +210,9 @@ module _ (P : Program) (r : Reached) (here : ResolvedNode) (sees : SeesClocks P 
       (placed_terms ctx k a ++ placed_terms ctx k b)
   two_placed k n a b w u o h g e =
       let first = on k n (expr_of texts a) in
-      let second = on k (n + call_count (expr_of texts a)) (expr_of texts b) in
-      both_placed first second _ _ (h (and_first _ _ w) (and_first _ _ u)
-      (and_first _ _ o) (fore first second e)) (g (and_second _ _ w) (and_second _ _ u)
-      (and_second _ _ o) (aft first second e))
+      both_placed _ _ _ _
+      (h (and_first _ _ w) (and_first _ _ u) (and_first _ _ o) (fore first _ e))
+      (g (and_second _ _ w) (and_second _ _ u) (and_second _ _ o) (aft first _ e))
 
   mutual
     unfolding placed_terms is_single
@@ -240,23 +237,16 @@ module _ (P : Program) (r : Reached) (here : ResolvedNode) (sees : SeesClocks P 
           (λ w u o e. term_placed k (n + call_count (expr_of texts a)) b w u o e) e,
     )
     term_placed k n (If' p c q a r' b) w u o e =
-        let wab = and_second (is_within (counts_of here) c) _ w in
-        let uab = and_second (is_unhidden texts c) _ u in
-        let oab = and_second (is_single r here c) _ o in
         let na = n + call_count (expr_of texts c) in
-        let first = on k n (expr_of texts c) in
-        let others = on k na (expr_of texts a)
-        ++ on k (na + call_count (expr_of texts a)) (expr_of texts b) in (
+        let first = on k n (expr_of texts c) in (
           (refl, refl),
-          both_placed first others (placed_terms ctx k c)
-              (placed_terms ctx k a ++ placed_terms ctx k b)
-              (term_placed k n c
-              (and_first _ (is_within (counts_of here) a && is_within (counts_of here) b) w)
-              (and_first _ (is_unhidden texts a && is_unhidden texts b) u)
-              (and_first _ (is_single r here a && is_single r here b) o) (fore first others e))
-              (two_placed k na a b wab uab oab (λ w u o e. term_placed k na a w u o e)
+          both_placed _ _ _ _
+              (term_placed k n c (and_first _ _ w) (and_first _ _ u) (and_first _ _ o)
+              (fore first _ e))
+              (two_placed k na a b (and_second _ _ w) (and_second _ _ u) (and_second _ _ o)
+              (λ w u o e. term_placed k na a w u o e)
               (λ w u o e. term_placed k (na + call_count (expr_of texts a)) b w u o e)
-              (aft first others e)),
+              (aft first _ e)),
         )
     term_placed k n (Arrow' p a q b) w u o e = (
       (refl, refl),
@@ -275,8 +265,7 @@ module _ (P : Program) (r : Reached) (here : ResolvedNode) (sees : SeesClocks P 
     term_placed k n (Current' p a) w u o e =
         let x = expr_of texts a in
         let kept = and_second _ _ e in
-        let stands = term_stands P r here sees
-        (λ callee has. call_stands P here callee sees.own has) a w u o in
+        let stands = term_stands P r here sees a w u o in
         let is = determined_is x (infer_clock ctx a) stands
         (clock_or (clock_of P (node_of here) x)) n kept in (
           (refl, refl),
@@ -288,7 +277,7 @@ module _ (P : Program) (r : Reached) (here : ResolvedNode) (sees : SeesClocks P 
     term_placed k n (When' p a x sign) w u o e =
         let y = expr_of texts a in
         let kept = and_second _ _ e in
-        let is = declared_is here sees.own x (and_first _ (is_within (counts_of here) a) w) in
+        let is = declared_is here sees.own x (and_first _ _ w) in
         let same : clock_in here ((context_of r here).variable x)
         ≡ declared_clock (node_of here) (name_in here x) =
         ap (λ f. clock_in here (f x)) declares ∙ is in (
@@ -296,21 +285,19 @@ module _ (P : Program) (r : Reached) (here : ResolvedNode) (sees : SeesClocks P 
           subst (λ l. AreLawful (occurrences P (node_of here) l n y) →
               Places (occurrences P (node_of here) l n y)
               (placed_terms ctx (ctx.variable x) a)) same
-              (λ f. term_placed ((context_of r here).variable x) n a
-              (and_second (is_variable (counts_of here) x) _ w) u o f) kept,
+              (λ f. term_placed ((context_of r here).variable x) n a (and_second _ _ w) u o f) kept,
         )
     term_placed k n (Replicate' p a i) w u o e = (
       (refl, refl),
-      term_placed k n a (and_second (is_static (counts_of here) i) _ w) u o e,
+      term_placed k n a (and_second _ _ w) u o e,
     )
     term_placed k n (Index' p a i) w u o e = (
       (refl, refl),
-      term_placed k n a (and_second (is_static (counts_of here) i) _ w) u o e,
+      term_placed k n a (and_second _ _ w) u o e,
     )
     term_placed k n (Slice' p a i j) w u o e = (
       (refl, refl),
-      term_placed k n a (and_second (is_static (counts_of here) j) _
-          (and_second (is_static (counts_of here) i) _ w)) u o e,
+      term_placed k n a (and_second _ _ (and_second _ _ w)) u o e,
     )
     term_placed k n (Join' p a q b) w u o e = (
       (refl, refl),
@@ -346,12 +333,11 @@ module _ (P : Program) (r : Reached) (here : ResolvedNode) (sees : SeesClocks P 
         )
     term_placed k n (IterateNode' it c arity all) w u o e = (
       (refl, (refl, record { runs = refl; given = refl; parameters = refl })),
-      row_placed k (n + 1) all (and_second (is_call (counts_of here) c) _ w) u o
-          (and_second _ _ e),
+      row_placed k (n + 1) all (and_second _ _ w) u o (and_second _ _ e),
     )
     term_placed k n (IterateSymbol' it op i arity all) w u o e = (
       (refl, refl),
-      row_placed k n all (and_second (is_static (counts_of here) i) _ w) u o e,
+      row_placed k n all (and_second _ _ w) u o e,
     )
 
     pub row_placed :
@@ -364,15 +350,11 @@ module _ (P : Program) (r : Reached) (here : ResolvedNode) (sees : SeesClocks P 
     row_placed k n end_of-Term w u o e = tt
     row_placed k n (more_of-Term a rest) w u o e =
         let x = expr_of texts a in
-        let later = occurrences_in P (node_of here) (clock_in here k) (n + call_count x)
-        (row_of texts rest) in
-        both_placed (on k n x) later (placed_terms ctx k a) (placed_row ctx k rest)
-        (term_placed k n a (and_first _ (are_within (counts_of here) rest) w)
-        (and_first _ (are_unhidden texts rest) u) (and_first _ (are_single r here rest) o)
-        (fore (on k n x) later e))
-        (row_placed k (n + call_count x) rest (and_second (is_within (counts_of here) a) _ w)
-        (and_second (is_unhidden texts a) _ u) (and_second (is_single r here a) _ o)
-        (aft (on k n x) later e))
+        both_placed _ _ _ _
+        (term_placed k n a (and_first _ _ w) (and_first _ _ u) (and_first _ _ o)
+        (fore (on k n x) _ e))
+        (row_placed k (n + call_count x) rest (and_second _ _ w) (and_second _ _ u)
+        (and_second _ _ o) (aft (on k n x) _ e))
 
     pub arguments_on :
         {m : Count} (ks : List Clock) (n : ℕ) (row : Row_of-Term m) →
@@ -386,12 +368,8 @@ module _ (P : Program) (r : Reached) (here : ResolvedNode) (sees : SeesClocks P 
     arguments_on [] n (more_of-Term a rest) w u o e = tt
     arguments_on (k ∷ ks) n (more_of-Term a rest) w u o e =
         let x = expr_of texts a in
-        let later = occurrences_each P (node_of here) (map (clock_in here) ks) (n + call_count x)
-        (row_of texts rest) in
-        both_placed (on k n x) later (placed_terms ctx k a) (placed_arguments ctx ks rest)
-        (term_placed k n a (and_first _ (are_within (counts_of here) rest) w)
-        (and_first _ (are_unhidden texts rest) u) (and_first _ (are_single r here rest) o)
-        (fore (on k n x) later e))
-        (arguments_on ks (n + call_count x) rest (and_second (is_within (counts_of here) a) _ w)
-        (and_second (is_unhidden texts a) _ u) (and_second (is_single r here a) _ o)
-        (aft (on k n x) later e))
+        both_placed _ _ _ _
+        (term_placed k n a (and_first _ _ w) (and_first _ _ u) (and_first _ _ o)
+        (fore (on k n x) _ e))
+        (arguments_on ks (n + call_count x) rest (and_second _ _ w) (and_second _ _ u)
+        (and_second _ _ o) (aft (on k n x) _ e))

@@ -1,26 +1,25 @@
 -- The clocks and calls that the code finds of a node name variables of the node; the pairs of a
 -- call name variables of its callee.
 use Rattle.lb_check.proofs.Words
-use Words.{◌≡◌, ℕ, zero, suc, ◌+◌, ◌-◌, ◌<◌, ◌≤◌, Bool, true, false, List, [], ◌∷◌, ◌++◌, length}
-use Words.{map, flat_map, take, Option, Some, None, refl, arith, ◌&&◌, nat_lt, slice_get}
-use Words.{option_map, if◌then◌else◌, list_all, nat_tests, length-take, Count, and_from, ◌>>=◌}
-use Words.{Every, either_or, holds, listed, or_else, Node, all_at, and_first, and_second}
-use Words.{variable_names, node_of, counts_of, is_variable, is_static, is_call, is_within}
-use Words.{are_within, is_declared_within, is_sampling_within, is_statement_within, Reached}
-use Words.{ResolvedNode, ResolvedStatement, Sampling, Term, Literal, Truth, Value, Group', Unary'}
-use Words.{Binary', If', Arrow', Fby', Pre', Current', When', Replicate', Index', Slice', Join'}
-use Words.{Array', AtMostOne', Nor', Call', IterateNode', IterateSymbol', Row_of-Term, end_of-Term}
-use Words.{more_of-Term, VariableId, variable_of, is_call_within, HasClocks, is_clock_within}
-use Words.{FoundCall, FoundTerm, determined_clock, given_from, given_variable, given_variables}
-use Words.{is_awaited, nested_call, node_terms, pair_at, placed_arguments, placed_row, placed_side}
-use Words.{placed_statement, placed_terms, side_call, side_clocks, Context, accepts_clock, all_fit}
-use Words.{are_given, base_of, both, call_clock_set, clock_set_on, is_base_clocked, clock_sets}
-use Words.{clock_with, context_of, declared_in, expected, first_result, given_at, infer_clock}
-use Words.{input_clocks, is_same, left_clock, left_clock_sets, operands_in, output_clocks, raised}
-use Words.{result_base, stands_for, together, ClockSet, NoClock, AnyClock, OneClock, Operand}
-use Words.{GivenVariable, Base, Declared}
+use Words.{◌∙◌, list_all-append, ◌≡◌, ℕ, zero, suc, ◌+◌, ◌-◌, ◌<◌, ◌≤◌, Bool, true, false, List, []}
+use Words.{◌∷◌, ◌++◌, length, map, flat_map, take, Option, Some, None, refl, arith, nat_lt}
+use Words.{slice_get, option_map, if◌then◌else◌, list_all, nat_tests, length-take, Count, and_from}
+use Words.{◌>>=◌, Every, either_or, holds, listed, or_else, Node, all_at, and_first, and_second}
+use Words.{variable_names, node_of, counts_of, is_variable, is_call, is_within, are_within}
+use Words.{is_declared_within, is_sampling_within, is_statement_within, Reached, ResolvedNode}
+use Words.{ResolvedStatement, Sampling, Term, Group', Unary', Binary', If', Arrow', Fby', Pre'}
+use Words.{Current', When', Replicate', Index', Slice', Join', Array', AtMostOne', Nor', Call'}
+use Words.{IterateNode', IterateSymbol', Row_of-Term, end_of-Term, more_of-Term, VariableId}
+use Words.{variable_of, is_call_within, HasClocks, is_clock_within, FoundCall, FoundTerm}
+use Words.{determined_clock, given_from, given_variable, given_variables, is_awaited, nested_call}
+use Words.{node_terms, pair_at, placed_arguments, placed_row, placed_side, placed_statement}
+use Words.{placed_terms, side_call, Context, base_of, both, call_clock_set, clock_set_on}
+use Words.{clock_sets, clock_with, context_of, declared_in, expected, first_result, given_at}
+use Words.{infer_clock, input_clocks, is_same, left_clock, left_clock_sets, operands_in}
+use Words.{output_clocks, raised, result_base, stands_for, together, ClockSet, NoClock, AnyClock}
+use Words.{OneClock, Operand, GivenVariable, Base, Declared}
 use Rattle.lb_static.specs.declared.resolved.Term.{Variable}
-use Rattle.lb_check.specs.PlacedClocks.{argument_clocks, call_base, call_clocks, side_base}
+use Rattle.lb_check.specs.PlacedClocks.{argument_clocks, call_base, side_base}
 use Rattle.lb_check.specs.declared.own_clock.Clock.{Clock, TheVariants.On}
 use Rattle.lb_check.proofs.clocking.{ClockDepths.as_many_names, WalkedClocks.calls_among}
 use Rattle.lb_check.proofs.{clocking.WalkedClocks.clocks_among, lists.Members.Every-append}
@@ -36,9 +35,7 @@ are_among gs o =
 all_append :
     {A : Type 0} (f : A → Bool) (xs ys : List A) → list_all f xs ≡ true → list_all f ys ≡ true →
     list_all f (xs ++ ys) ≡ true
-all_append f [] ys p q = q
-all_append f (x ∷ xs) ys p q =
-    and_from (f x) _ (and_first (f x) _ p) (all_append f xs ys (and_second (f x) _ p) q)
+all_append f xs ys p q = list_all-append f xs ys ∙ and_from _ _ p q
 
 module _ (count : ℕ) where
   abbrev is_low : GivenVariable → Bool
@@ -107,11 +104,10 @@ module _ (here : ResolvedNode) where
   if_in false s p = tt
 
   both_in : (s t : ClockSet) → IsSet s → IsSet t → IsSet (both s t)
-  both_in NoClock t p q = tt
   both_in AnyClock t p q = q
-  both_in (OneClock k) NoClock p q = tt
   both_in (OneClock k) AnyClock p q = p
   both_in (OneClock k) (OneClock l) p q = if_in (is_same k l) (OneClock k) p
+  both_in s t p q = tt
 
   together_in : (os : List Operand) → AreOperands os → IsSet (together os)
   together_in [] h = tt
@@ -157,10 +153,8 @@ module _ (here : ResolvedNode) where
       (cs : List (Option Sampling)) (ss : List ClockSet) → Every IsSet ss → IsClock (base_of cs ss)
   base_in [] ss h = tt
   base_in (c ∷ cs) [] h = tt
-  base_in (None ∷ cs) (NoClock ∷ ss) h = base_in cs ss h.1
-  base_in (None ∷ cs) (AnyClock ∷ ss) h = base_in cs ss h.1
   base_in (None ∷ cs) (OneClock k ∷ ss) h = h.0
-  base_in (Some c ∷ cs) (s ∷ ss) h = base_in cs ss h.1
+  base_in (c ∷ cs) (s ∷ ss) h = base_in cs ss h.1
 
   or_in : (o : Option Clock) (k : Clock) → IsClock o → IsIn k → IsIn (either_or o k)
   or_in None k p q = q
@@ -217,25 +211,18 @@ module _ (here : ResolvedNode) where
       IsSet (either_or (option_map (λ n. call_clock_set n os) o) NoClock)
   call_set_in os h None = tt
   call_set_in os h (Some n) =
-      let base = base_of (input_clocks n) (clock_sets os) in
-      if_in
-      (are_given n os && all_fit base (given_at os) (input_clocks n) (clock_sets os))
-      (first_result base (given_at os) (output_clocks n))
-      (result_in base (base_in (input_clocks n) (clock_sets os) (sets_in os h))
-      (given_at os) (given_in os h) (output_clocks n))
+      if_in _ _ (result_in _ (base_in (input_clocks n) _ (sets_in os h)) _ (given_in os h)
+      (output_clocks n))
 
   module _ (ctx : Context) (declares : (x : VariableId) → is_clock_within here (ctx.variable x)
       ≡ true) where
     raised_in : (s : ClockSet) → IsSet s → IsSet (raised ctx s)
-    raised_in NoClock p = tt
-    raised_in AnyClock p = tt
-    raised_in (OneClock Base) p = tt
     raised_in (OneClock (On x sign)) p = declares x
+    raised_in s p = tt
 
     determined_in : (s : ClockSet) → IsSet s → IsIn (determined_clock s)
-    determined_in NoClock p = refl
-    determined_in AnyClock p = refl
     determined_in (OneClock k) p = p
+    determined_in s p = refl
 
     left_in : (lefts : List VariableId) → IsIn (left_clock ctx lefts)
     left_in [] = refl
@@ -246,59 +233,38 @@ module _ (here : ResolvedNode) where
 
       -- the clock set of a term is on a variable of the node
       term_in : (t : Term) → is_within (counts_of here) t ≡ true → IsSet (infer_clock ctx t)
-      term_in (Literal m) w = tt
-      term_in (Truth b) w = tt
       term_in (Variable x) w = declares x
-      term_in (Value i) w = tt
       term_in (Group' p e) w = term_in e w
       term_in (Unary' op p a) w = term_in a w
       term_in (Binary' op p a q b) w =
-          both_in (infer_clock ctx a) (infer_clock ctx b)
-          (term_in a (and_first _ (is_within (counts_of here) b) w))
-          (term_in b (and_second (is_within (counts_of here) a) _ w))
+          both_in _ _ (term_in a (and_first _ _ w)) (term_in b (and_second _ _ w))
       term_in (If' p c q a o b) w =
           let others = and_second (is_within (counts_of here) c) _ w in
           both_in (infer_clock ctx c) (both (infer_clock ctx a) (infer_clock ctx b))
-          (term_in c
-          (and_first _ (is_within (counts_of here) a && is_within (counts_of here) b) w))
-          (both_in (infer_clock ctx a) (infer_clock ctx b)
-          (term_in a (and_first _ (is_within (counts_of here) b) others))
-          (term_in b (and_second (is_within (counts_of here) a) _ others)))
+          (term_in c (and_first _ _ w)) (both_in _ _ (term_in a (and_first _ _ others))
+          (term_in b (and_second _ _ others)))
       term_in (Arrow' p a q b) w =
-          both_in (infer_clock ctx a) (infer_clock ctx b)
-          (term_in a (and_first _ (is_within (counts_of here) b) w))
-          (term_in b (and_second (is_within (counts_of here) a) _ w))
+          both_in _ _ (term_in a (and_first _ _ w)) (term_in b (and_second _ _ w))
       term_in (Fby' p a q b) w =
-          both_in (infer_clock ctx a) (infer_clock ctx b)
-          (term_in a (and_first _ (is_within (counts_of here) b) w))
-          (term_in b (and_second (is_within (counts_of here) a) _ w))
+          both_in _ _ (term_in a (and_first _ _ w)) (term_in b (and_second _ _ w))
       term_in (Pre' p e) w = term_in e w
       term_in (Current' p e) w = raised_in (infer_clock ctx e) (term_in e w)
       term_in (When' p e x sign) w =
-          if_in (accepts_clock (Some (ctx.variable x)) (infer_clock ctx e)) (OneClock (On x sign))
-          (and_first (is_variable (counts_of here) x) (is_within (counts_of here) e) w)
-      term_in (Replicate' p e i) w = term_in e (and_second (is_static (counts_of here) i) _ w)
-      term_in (Index' p e i) w = term_in e (and_second (is_static (counts_of here) i) _ w)
-      term_in (Slice' p e i j) w =
-          term_in e (and_second (is_static (counts_of here) j) _
-          (and_second (is_static (counts_of here) i) _ w))
+          if_in _ (OneClock (On x sign)) (and_first _ _ w)
+      term_in (Replicate' p e i) w = term_in e (and_second _ _ w)
+      term_in (Index' p e i) w = term_in e (and_second _ _ w)
+      term_in (Slice' p e i j) w = term_in e (and_second _ _ (and_second _ _ w))
       term_in (Join' p a q b) w =
-          both_in (infer_clock ctx a) (infer_clock ctx b)
-          (term_in a (and_first _ (is_within (counts_of here) b) w))
-          (term_in b (and_second (is_within (counts_of here) a) _ w))
-      term_in (Array' arity all) w = together_in (operands_in ctx all) (row_in all w)
-      term_in (AtMostOne' arity all) w = together_in (operands_in ctx all) (row_in all w)
-      term_in (Nor' arity all) w = together_in (operands_in ctx all) (row_in all w)
+          both_in _ _ (term_in a (and_first _ _ w)) (term_in b (and_second _ _ w))
+      term_in (Array' arity all) w = together_in _ (row_in all w)
+      term_in (AtMostOne' arity all) w = together_in _ (row_in all w)
+      term_in (Nor' arity all) w = together_in _ (row_in all w)
       term_in (Call' c arity all) w =
-          call_set_in (operands_in ctx all)
-          (row_in all (and_second (is_call (counts_of here) c) _ w)) (ctx.callee c)
+          call_set_in (operands_in ctx all) (row_in all (and_second _ _ w)) (ctx.callee c)
       term_in (IterateNode' it c arity all) w =
-          if_in (holds is_base_clocked (ctx.callee c)) (together (operands_in ctx all))
-          (together_in (operands_in ctx all)
-          (row_in all (and_second (is_call (counts_of here) c) _ w)))
-      term_in (IterateSymbol' it op i arity all) w =
-          together_in (operands_in ctx all)
-          (row_in all (and_second (is_static (counts_of here) i) _ w))
+          if_in _ _ (together_in _ (row_in all (and_second _ _ w)))
+      term_in (IterateSymbol' it op i arity all) w = together_in _ (row_in all (and_second _ _ w))
+      term_in t w = tt
 
       row_in : {m : Count} (row : Row_of-Term m) → are_within (counts_of here) row ≡ true →
           AreOperands (operands_in ctx row)
@@ -306,7 +272,7 @@ module _ (here : ResolvedNode) where
       row_in (more_of-Term e rest) w =
           let first = and_first _ (are_within (counts_of here) rest) w in (
             (term_in e first, variable_in e first),
-            row_in rest (and_second (is_within (counts_of here) e) _ w),
+            row_in rest (and_second _ _ w),
           )
 
     -- ## Found calls and terms
@@ -329,96 +295,72 @@ module _ (here : ResolvedNode) where
         (k : Clock) → IsIn k → (os : List Operand) → AreOperands os → (n : ResolvedNode) →
         IsIn (call_base k n os)
     call_base_in k p os h n =
-        or_in (base_of (input_clocks n) (clock_sets os)) k
-        (base_in (input_clocks n) (clock_sets os) (sets_in os h)) p
+        or_in _ k (base_in (input_clocks n) _ (sets_in os h)) p
 
     nested_in :
         (k : Clock) → IsIn k → (os : List Operand) → AreOperands os → (o : Option ResolvedNode) →
         is_call_within here (nested_call k os o) ≡ true
     nested_in k p os h None = and_from (is_clock_within here k) true p refl
     nested_in k p os h (Some n) =
-        and_from (is_clock_within here (call_base k n os))
-        (list_all (λ g. is_variable (counts_of here) g.caller) (given_variables n os []))
-        (call_base_in k p os h n)
-        (callers_in n (stands_for n.inputs os []) (stands_in n.inputs os h [] refl) 0
-        (length (take (n.inputs + n.outputs) n.variables.items)))
+        and_from _ _ (call_base_in k p os h n)
+        (callers_in n (stands_for n.inputs os []) (stands_in n.inputs os h [] refl) 0 _)
 
     calls_in :
         (k : Clock) → IsIn k → (os : List Operand) → AreOperands os → (o : Option ResolvedNode) →
         Every IsIn (listed (λ n. argument_clocks (call_base k n os) (given_at os) n) o)
     calls_in k p os h None = tt
     calls_in k p os h (Some n) =
-        arguments_in (call_base k n os) (call_base_in k p os h n) (given_at os) (given_in os h)
-        (take n.inputs n.variables.items)
+        arguments_in _ (call_base_in k p os h n) _ (given_in os h) (take n.inputs n.variables.items)
 
     mutual
       unfolding placed_terms
 
       placed_in : (k : Clock) → IsIn k → (t : Term) → is_within (counts_of here) t ≡ true →
           AreFound (placed_terms ctx k t)
-      placed_in k h (Literal m) w = ((h, tt), tt)
-      placed_in k h (Truth b) w = ((h, tt), tt)
-      placed_in k h (Variable x) w = ((h, tt), tt)
-      placed_in k h (Value i) w = ((h, tt), tt)
       placed_in k h (Group' p e) w = placed_in k h e w
       placed_in k h (Unary' op p a) w = ((h, tt), placed_in k h a w)
       placed_in k h (Binary' op p a q b) w = (
         (h, tt),
-        two_in (placed_terms ctx k a) (placed_terms ctx k b)
-            (placed_in k h a (and_first _ (is_within (counts_of here) b) w))
-            (placed_in k h b (and_second (is_within (counts_of here) a) _ w)),
+        two_in _ _ (placed_in k h a (and_first _ _ w)) (placed_in k h b (and_second _ _ w)),
       )
       placed_in k h (If' p c q a o b) w =
           let others = and_second (is_within (counts_of here) c) _ w in (
             (h, tt),
-            two_in (placed_terms ctx k c) (placed_terms ctx k a ++ placed_terms ctx k b)
-                (placed_in k h c
-                (and_first _ (is_within (counts_of here) a && is_within (counts_of here) b) w))
-                (two_in (placed_terms ctx k a) (placed_terms ctx k b)
-                (placed_in k h a (and_first _ (is_within (counts_of here) b) others))
-                (placed_in k h b (and_second (is_within (counts_of here) a) _ others))),
+            two_in _ _ (placed_in k h c (and_first _ _ w)) (two_in _ _
+                (placed_in k h a (and_first _ _ others)) (placed_in k h b (and_second _ _ others))),
           )
       placed_in k h (Arrow' p a q b) w = (
         (h, tt),
-        two_in (placed_terms ctx k a) (placed_terms ctx k b)
-            (placed_in k h a (and_first _ (is_within (counts_of here) b) w))
-            (placed_in k h b (and_second (is_within (counts_of here) a) _ w)),
+        two_in _ _ (placed_in k h a (and_first _ _ w)) (placed_in k h b (and_second _ _ w)),
       )
       placed_in k h (Fby' p a q b) w = (
         (h, tt),
-        two_in (placed_terms ctx k a) (placed_terms ctx k b)
-            (placed_in k h a (and_first _ (is_within (counts_of here) b) w))
-            (placed_in k h b (and_second (is_within (counts_of here) a) _ w)),
+        two_in _ _ (placed_in k h a (and_first _ _ w)) (placed_in k h b (and_second _ _ w)),
       )
       placed_in k h (Pre' p e) w = ((h, tt), placed_in k h e w)
       placed_in k h (Current' p e) w = (
         (h, tt),
-        placed_in (determined_clock (infer_clock ctx e))
-            (determined_in (infer_clock ctx e) (term_in e w)) e w,
+        placed_in _ (determined_in _ (term_in e w)) e w,
       )
       placed_in k h (When' p e x sign) w = (
         (h, tt),
-        placed_in (ctx.variable x) (declares x) e
-            (and_second (is_variable (counts_of here) x) _ w),
+        placed_in (ctx.variable x) (declares x) e (and_second _ _ w),
       )
       placed_in k h (Replicate' p e i) w = (
         (h, tt),
-        placed_in k h e (and_second (is_static (counts_of here) i) _ w),
+        placed_in k h e (and_second _ _ w),
       )
       placed_in k h (Index' p e i) w = (
         (h, tt),
-        placed_in k h e (and_second (is_static (counts_of here) i) _ w),
+        placed_in k h e (and_second _ _ w),
       )
       placed_in k h (Slice' p e i j) w = (
         (h, tt),
-        placed_in k h e (and_second (is_static (counts_of here) j) _
-            (and_second (is_static (counts_of here) i) _ w)),
+        placed_in k h e (and_second _ _ (and_second _ _ w)),
       )
       placed_in k h (Join' p a q b) w = (
         (h, tt),
-        two_in (placed_terms ctx k a) (placed_terms ctx k b)
-            (placed_in k h a (and_first _ (is_within (counts_of here) b) w))
-            (placed_in k h b (and_second (is_within (counts_of here) a) _ w)),
+        two_in _ _ (placed_in k h a (and_first _ _ w)) (placed_in k h b (and_second _ _ w)),
       )
       placed_in k h (Array' arity all) w = ((h, tt), row_placed_in k h all w)
       placed_in k h (AtMostOne' arity all) w = ((h, tt), row_placed_in k h all w)
@@ -427,25 +369,23 @@ module _ (here : ResolvedNode) where
           let wa = and_second (is_call (counts_of here) c) _ w in
           let os = operands_in ctx all in (
             (h, nested_in k h os (row_in all wa) (ctx.callee c)),
-            arguments_placed_in (call_clocks ctx k c os) (calls_in k h os (row_in all wa)
-                (ctx.callee c)) all wa,
+            arguments_placed_in _ (calls_in k h os (row_in all wa) (ctx.callee c)) all wa,
           )
       placed_in k h (IterateNode' it c arity all) w = (
         (h, and_from (is_clock_within here k) true h refl),
-        row_placed_in k h all (and_second (is_call (counts_of here) c) _ w),
+        row_placed_in k h all (and_second _ _ w),
       )
       placed_in k h (IterateSymbol' it op i arity all) w = (
         (h, tt),
-        row_placed_in k h all (and_second (is_static (counts_of here) i) _ w),
+        row_placed_in k h all (and_second _ _ w),
       )
+      placed_in k h t w = ((h, tt), tt)
 
       row_placed_in : {m : Count} (k : Clock) → IsIn k → (row : Row_of-Term m) →
           are_within (counts_of here) row ≡ true → AreFound (placed_row ctx k row)
       row_placed_in k h end_of-Term w = tt
       row_placed_in k h (more_of-Term e rest) w =
-          two_in (placed_terms ctx k e) (placed_row ctx k rest)
-          (placed_in k h e (and_first _ (are_within (counts_of here) rest) w))
-          (row_placed_in k h rest (and_second (is_within (counts_of here) e) _ w))
+          two_in _ _ (placed_in k h e (and_first _ _ w)) (row_placed_in k h rest (and_second _ _ w))
 
       arguments_placed_in : {m : Count} (ks : List Clock) → Every IsIn ks →
           (row : Row_of-Term m) → are_within (counts_of here) row ≡ true →
@@ -453,9 +393,8 @@ module _ (here : ResolvedNode) where
       arguments_placed_in ks h end_of-Term w = tt
       arguments_placed_in [] h (more_of-Term e rest) w = tt
       arguments_placed_in (k ∷ ks) h (more_of-Term e rest) w =
-          two_in (placed_terms ctx k e) (placed_arguments ctx ks rest)
-          (placed_in k h.0 e (and_first _ (are_within (counts_of here) rest) w))
-          (arguments_placed_in ks h.1 rest (and_second (is_within (counts_of here) e) _ w))
+          two_in _ _ (placed_in k h.0 e (and_first _ _ w))
+          (arguments_placed_in ks h.1 rest (and_second _ _ w))
 
     -- ## Statements
 
@@ -472,10 +411,8 @@ module _ (here : ResolvedNode) where
         IsClock (result_base ctx n os lefts)
     result_base_in n os h [] = refl
     result_base_in n os h (x ∷ xs) =
-        either_in (base_of (output_clocks n) (left_clock_sets ctx (x ∷ xs)))
-        (base_of (input_clocks n) (clock_sets os))
-        (base_in (output_clocks n) (left_clock_sets ctx (x ∷ xs)) (lefts_sets (x ∷ xs)))
-        (base_in (input_clocks n) (clock_sets os) (sets_in os h))
+        either_in _ _ (base_in (output_clocks n) _ (lefts_sets (x ∷ xs)))
+        (base_in (input_clocks n) _ (sets_in os h))
 
     side_base_in :
         (n : ResolvedNode) (os : List Operand) → AreOperands os → (lefts : List VariableId) →
@@ -491,11 +428,8 @@ module _ (here : ResolvedNode) where
       side_call_in os h None =
           and_from (is_clock_within here (left_clock ctx lefts)) true (left_in lefts) refl
       side_call_in os h (Some n) =
-          and_from (is_clock_within here (side_base ctx n os lefts))
-          (list_all (λ g. is_variable (counts_of here) g.caller) (given_variables n os lefts))
-          (side_base_in n os h lefts)
-          (callers_in n (stands_for n.inputs os lefts) (stands_in n.inputs os h lefts wl) 0
-          (length (take (n.inputs + n.outputs) n.variables.items)))
+          and_from _ _ (side_base_in n os h lefts)
+          (callers_in n (stands_for n.inputs os lefts) (stands_in n.inputs os h lefts wl) 0 _)
 
       side_clocks_in :
           (os : List Operand) → AreOperands os → (o : Option ResolvedNode) →
@@ -503,8 +437,7 @@ module _ (here : ResolvedNode) where
           (stands_for n.inputs os lefts) n) o)
       side_clocks_in os h None = tt
       side_clocks_in os h (Some n) =
-          arguments_in (side_base ctx n os lefts) (side_base_in n os h lefts)
-          (stands_for n.inputs os lefts) (stands_in n.inputs os h lefts wl)
+          arguments_in _ (side_base_in n os h lefts) _ (stands_in n.inputs os h lefts wl)
           (take n.inputs n.variables.items)
 
       side_in : (t : Term) → is_within (counts_of here) t ≡ true →
@@ -515,19 +448,16 @@ module _ (here : ResolvedNode) where
           let wa = and_second (is_call (counts_of here) c) _ w in
           let os = operands_in ctx all in (
             (left_in lefts, side_call_in os (row_in all wa) (ctx.callee c)),
-            arguments_placed_in (side_clocks ctx lefts c os)
-                (side_clocks_in os (row_in all wa) (ctx.callee c)) all wa,
+            arguments_placed_in _ (side_clocks_in os (row_in all wa) (ctx.callee c)) all wa,
           )
       side_in t w = placed_in (left_clock ctx lefts) (left_in lefts) t w
 
     statement_in : (s : ResolvedStatement) → is_statement_within (counts_of here) s ≡ true →
         AreFound (placed_statement ctx s)
     statement_in (statement.Equation lefts e) w =
-        side_in lefts.items (and_first _ (is_within (counts_of here) e) w) e
-        (and_second (list_all (is_variable (counts_of here)) lefts.items) _ w)
+        side_in lefts.items (and_first _ _ w) e (and_second _ _ w)
     statement_in (statement.Assertion e) w =
-        placed_in (determined_clock (infer_clock ctx e))
-        (determined_in (infer_clock ctx e) (term_in e w)) e w
+        placed_in _ (determined_in _ (term_in e w)) e w
 
     statements_in :
         (ss : List ResolvedStatement) →
@@ -535,10 +465,7 @@ module _ (here : ResolvedNode) where
         AreFound (flat_map (placed_statement ctx) ss)
     statements_in [] w = tt
     statements_in (s ∷ ss) w =
-        two_in (placed_statement ctx s) (flat_map (placed_statement ctx) ss)
-        (statement_in s
-        (and_first _ (list_all (is_statement_within (counts_of here)) ss) w))
-        (statements_in ss (and_second (is_statement_within (counts_of here) s) _ w))
+        two_in _ _ (statement_in s (and_first _ _ w)) (statements_in ss (and_second _ _ w))
 
     clocks_in : (ts : List FoundTerm) → AreFound ts →
         list_all (is_clock_within here) (clocks_among ts) ≡ true

@@ -1,27 +1,28 @@
 -- The clock set that the code infers for a term has the clocks on which its expression may stand.
 use Rattle.lb_check.proofs.Words
-use Words.{◌≡◌, ℕ, suc, ◌+◌, Bool, true, false, List, [], ◌∷◌, ◌++◌, length, take, Option, Some}
-use Words.{None, refl, ap, sym, ◌∙◌, subst, arith, ◌&&◌, ◌||◌, not, is_some, option_map, nat_eq}
-use Words.{if◌then◌else◌, list_all, append_assoc, list_all-append, nat_tests, Count, and-true}
-use Words.{and-false, not-true, ◌>>=◌, either_or, holds, or_else, listed, zip2, Name, Static, Expr}
-use Words.{Node, ArrayIterator, and_first, and_second, Reached, CallId, ResolvedNode, Sampling}
-use Words.{Term, Literal, Truth, Value, Group', Unary', Binary', If', Arrow', Fby', Pre', Current'}
-use Words.{When', Replicate', Index', Slice', Join', Array', AtMostOne', Nor', Call', IterateNode'}
-use Words.{IterateSymbol', Row_of-Term, end_of-Term, more_of-Term, items-the_row-Term, VariableId}
-use Words.{Program, Site, node_named, among, variable_names, node_of, statics_of, texts_of}
-use Words.{counts_of, Texts, Counts, expr_of, row_of, exprs_of, named_value, static_at, site_at}
-use Words.{declaration_of, sampling_of, is_variable, is_static, is_call, is_no_variable, is_within}
-use Words.{are_within, is_unhidden, are_unhidden, variables, clock_of, clock_or, clock_within}
-use Words.{declared_clock, parent, is_clock, is_occurrence_clocked, is_base_clocked_node, if_node}
-use Words.{at, call_count, occurrences, occurrences_in, HasClocks, name_in, clock_in, AreClockSets}
-use Words.{IsClockSet, SeesClocks, is_clocked_on, is_single, are_single, calls_single, callee_in}
-use Words.{Base, Operand, ClockSet, NoClock, AnyClock, OneClock, length-append, Declared, Context}
-use Words.{context_of, declared_in, is_same, both, together, raised, is_base_clocked}
-use Words.{call_clock_set, infer_clock, operands_in, operand_of, operands_of}
+use Words.{◌≡◌, ℕ, suc, ◌+◌, Bool, true, false, List, [], ◌∷◌, ◌++◌, length, Some, refl, ap, sym}
+use Words.{◌∙◌, arith, ◌&&◌, ◌||◌, not, is_some, option_map, nat_eq, if◌then◌else◌, list_all}
+use Words.{list_all-append, nat_tests, Count, and-true, and-false, not-true, ◌>>=◌, either_or}
+use Words.{holds, or_else, listed, Static, Expr, Node, ArrayIterator, and_first, and_second}
+use Words.{Reached, CallId, ResolvedNode, Term, Literal, Truth, Value, Group', Unary', Binary', If'}
+use Words.{Arrow', Fby', Pre', Current', When', Replicate', Index', Slice', Join', Array'}
+use Words.{AtMostOne', Nor', Call', IterateNode', IterateSymbol', Row_of-Term, end_of-Term}
+use Words.{more_of-Term, items-the_row-Term, VariableId, Program, node_named, among, variable_names}
+use Words.{node_of, statics_of, texts_of, counts_of, Texts, Counts, expr_of, row_of, exprs_of}
+use Words.{named_value, static_at, site_at, declaration_of, sampling_of, is_variable, is_call}
+use Words.{is_no_variable, is_within, are_within, is_unhidden, are_unhidden, variables, clock_of}
+use Words.{clock_or, clock_within, declared_clock, parent, is_clock, is_occurrence_clocked}
+use Words.{is_base_clocked_node, if_node, at, call_count, occurrences, occurrences_in, HasClocks}
+use Words.{name_in, clock_in, AreClockSets, IsClockSet, SeesClocks, is_clocked_on, is_single}
+use Words.{are_single, calls_single, callee_in, Base, Operand, ClockSet, NoClock, AnyClock}
+use Words.{OneClock, Declared, Context, context_of, declared_in, is_same, both, together, raised}
+use Words.{is_base_clocked, call_clock_set, infer_clock, operands_in, operand_of, operands_of}
+use Words.{waits_below}
 use Rattle.lb_static.specs.{ResolvedTerms.iterate_expr, declared.resolved.Term.Variable}
 use Rattle.lb_check.specs.{ClockRules.is_just_below, TermClocks.sampled}
 use Rattle.lb_check.specs.declared.own_clock.Clock.TheVariants.{On}
-use Rattle.lb_check.proofs.clocking.ClockDepths.{as_many_names, same_taken, zip_split}
+use Rattle.lb_check.proofs.clocking.{CallClockSets.call_stands, CallOperands.KnownOperands}
+use Rattle.lb_check.proofs.clocking.ClockDepths.{is_some_map, parameters_are, zip_all}
 use Rattle.lb_check.proofs.clocking.ClockTests.{clock_turned, on_one, on_two, same_is, name_among}
 use Rattle.lb_check.proofs.clocking.ClockTests.{declared_is, declared_within, has_declared}
 use Rattle.lb_check.proofs.{clocking.OwnClocks.clock_itself, definitions.NodePlaces.callee_found}
@@ -142,10 +143,7 @@ module _ (P : Program) (here : ResolvedNode) (own : HasClocks here) where
             (unfound x _ out),
         λ k n. ap (λ b. (not b || is_clock k (declared_clock node x)) && true) out,
       )
-  value_stands (tree.Whole m) u = (refl, λ k n. refl)
-  value_stands (tree.Negated s) u = (refl, λ k n. refl)
-  value_stands (tree.Combined op s t) u = (refl, λ k n. refl)
-  value_stands (tree.Grouped s) u = (refl, λ k n. refl)
+  value_stands s u = (refl, λ k n. refl)
 
   -- ## Samples
 
@@ -255,56 +253,21 @@ module _ (P : Program) (here : ResolvedNode) (own : HasClocks here) (ctx : Conte
 
 -- ## Iterated nodes
 
-abbrev is_free : tree.Declaration → Bool
-is_free d = not (is_some d.clock)
-
-abbrev stays_free : Declared → Bool
-stays_free v = not (is_some v.clock)
-
-free_list : (all : List Name) (statics : List Static) (xs : List Name) (vs : List Declared) →
-    length xs ≡ length vs
-    → list_all is_free (zip2 (declaration_of all statics) xs vs) ≡ list_all stays_free vs
-free_list all statics [] [] e = refl
-free_list all statics [] (v ∷ vs) e = absurd cc
-free_list all statics (x ∷ xs) [] e = absurd cc
-free_list all statics (x ∷ xs) (v ∷ vs) e =
-    let rest : length xs ≡ length vs = cc in
-    both_are _ _ _ _ (by v.clock) (free_list all statics xs vs rest)
-  where
-    by : (o : Option Sampling) → not (is_some (option_map (sampling_of all) o)) ≡ not (is_some o)
-    by None = refl
-    by (Some s) = refl
-
 -- the parameters of an iterated node are on its base clock exactly where the code finds so
 base_clocked_is : (callee : ResolvedNode) → HasClocks callee →
     is_base_clocked_node (node_of callee) ≡ is_base_clocked callee
 base_clocked_is callee h =
-    let n = node_of callee in
-    let names = variable_names n in
-    let f = declaration_of names (statics_of callee) in
-    let allowed = n.inputs ++ n.outputs in
-    let vs = callee.variables.items in
-    let many = as_many_names h.nodes callee h.resolved h.distinct in
-    let split = zip_split f names vs allowed n.locals
-    (h.resolved.declared ∙ sym (append_assoc n.inputs n.outputs n.locals)) in
-    let size : length allowed ≡ callee.inputs + callee.outputs =
-    length-append n.inputs n.outputs ∙ ap (λ m. m + length n.outputs) (sym h.resolved.inputs)
-    ∙ ap (λ m. callee.inputs + m) (sym h.resolved.outputs) in
-    ap (list_all is_free) split.0
-    ∙ free_list names (statics_of callee) (take (length allowed) names) (take (length allowed) vs)
-    (same_taken (length allowed) names vs (sym many))
-    ∙ ap (λ m. list_all stays_free (take m vs)) size
+    let names = variable_names (node_of callee) in
+    let are = parameters_are h.nodes callee h.resolved h.distinct in
+    ap (list_all (λ (d : tree.Declaration). not (is_some d.clock))) are.0
+    ∙ zip_all (declaration_of names (statics_of callee))
+    (λ (d : tree.Declaration). not (is_some d.clock))
+    (λ (v : Declared). not (is_some v.clock)) (waits_below (length names))
+    (λ x v w. ap not (sym (is_some_map (sampling_of names) v.clock))) _ _ are.1 are.2
 
 -- ## Terms
 
-module _ (P : Program) (r : Reached) (here : ResolvedNode) (sees : SeesClocks P r here)
-    (call_stands : (callee : ResolvedNode) → HasClocks callee → (site : Site) →
-    node_named P site.callee ≡ Some (node_of callee) → callee.outputs ≡ 1
-    → (ctx : Context) → ctx.variable ≡ declared_in here
-    → (es : List Term) → list_all (is_within (counts_of here)) es ≡ true →
-    list_all (is_unhidden (texts_of here)) es ≡ true → AreClockSets P here ctx es
-    → IsClockSet P here (tree.Call site.callee site.arguments (exprs_of (texts_of here) es))
-    (call_clock_set callee (operands_of ctx es))) where
+module _ (P : Program) (r : Reached) (here : ResolvedNode) (sees : SeesClocks P r here) where
   abbrev texts : Texts
   texts = texts_of here
 
@@ -340,11 +303,8 @@ module _ (P : Program) (r : Reached) (here : ResolvedNode) (sees : SeesClocks P 
       → AreClockSets P here ctx (items-the_row-Term m row)
       → Finds (tree.Array (row_of texts row)) (together (operands_in ctx row))
   row_together {m = m} row all =
-      subst (λ es. Finds (tree.Array es) (together (operands_in ctx row)))
-      (sym (row_items texts m row))
-      (subst (λ os. Finds (tree.Array (exprs_of texts (items-the_row-Term m row))) (together os))
-      (sym (operands_items ctx m row))
-      (list_stands P here sees.own ctx (items-the_row-Term m row) all))
+      rw (row_items texts m row, operands_items ctx m row)
+      (list_stands P here sees.own ctx (items-the_row-Term m row) all)
 
   -- a term with a row of operands on its clock has the clock set of the operands together
   together_stands : {m : Count} (row : Row_of-Term m) (d : Expr) →
@@ -356,6 +316,19 @@ module _ (P : Program) (r : Reached) (here : ResolvedNode) (sees : SeesClocks P 
   together_stands {m = m} row d all ec ed =
       one_part P here sees.own (tree.Array (row_of texts row)) d (together (operands_in ctx row))
       (row_together row all) ec ed
+
+  known_row : (c : CallId) {m : Count} (row : Row_of-Term m) (callee : ResolvedNode) →
+      callee_in r here c ≡ Some callee → are_within (counts_of here) row ≡ true →
+      are_unhidden texts row ≡ true → AreClockSets P here ctx (items-the_row-Term m row)
+      → KnownOperands P here callee ctx (items-the_row-Term m row)
+  known_row c {m = m} row callee is w u all = record {
+    own = sees.own;
+    called = sees.callees c callee is;
+    declares = refl;
+    within = within_items _ m row ∙ w;
+    unhidden = unhidden_items texts m row ∙ u;
+    stand = all;
+  }
 
   -- a call with one result has the clock set that the code finds
   call_finds : (c : CallId) {m : Count} (row : Row_of-Term m) → is_call (counts_of here) c ≡ true →
@@ -373,15 +346,9 @@ module _ (P : Program) (r : Reached) (here : ResolvedNode) (sees : SeesClocks P 
       let single : nat_eq callee.0.outputs 1 ≡ true =
       sym (ap (holds (λ n. nat_eq n.outputs 1)) callee.1) ∙ one in
       let outputs : callee.0.outputs ≡ 1 = grind (arith, nat_tests) in
-      let stands = call_stands callee.0
-      (sees.callees c callee.0 callee.1) site callee.2 outputs ctx refl es
-      (within_items _ m row ∙ w) (unhidden_items texts m row ∙ u) all in
-      subst (λ o. Finds (tree.Call site.callee site.arguments (row_of texts row))
-      (either_or (option_map (λ n. call_clock_set n (operands_in ctx row)) o) NoClock))
-      (sym callee.1) (subst (λ es. Finds (tree.Call site.callee site.arguments es)
-      (call_clock_set callee.0 (operands_in ctx row))) (sym (row_items texts m row))
-      (subst (λ os. Finds (tree.Call site.callee site.arguments (exprs_of texts es))
-      (call_clock_set callee.0 os)) (sym (operands_items ctx m row)) stands))
+      let stands =
+      call_stands (known_row c row callee.0 callee.1 w u all) site callee.2 outputs in
+      rw (callee.1, row_items texts m row, operands_items ctx m row) stands
 
   -- an iterated node has the clock set that the code finds
   iterate_finds : (it : ArrayIterator) (c : CallId) {m : Count} (row : Row_of-Term m) →
@@ -416,85 +383,64 @@ module _ (P : Program) (r : Reached) (here : ResolvedNode) (sees : SeesClocks P 
     term_finds (Variable x) w u o = variable_stands P here sees.own x w
     term_finds (Value i) w u o = value_stands P here sees.own (static_at texts.statics i) u
     term_finds (Group' p e) w u o =
-        one_part P here sees.own (expr_of texts e) (tree.Group (expr_of texts e))
-        (infer_clock ctx e) (term_finds e w u o) refl (λ k n. refl)
-    term_finds (Unary' op p a) w u o =
-        one_part P here sees.own (expr_of texts a) (tree.Unary op (expr_of texts a))
-        (infer_clock ctx a) (term_finds a w u o) refl (λ k n. refl)
+        one_part P here sees.own (expr_of texts e) (tree.Group (expr_of texts e)) _
+        (term_finds e w u o) refl (λ k n. refl)
+    term_finds (Unary' op p e) w u o =
+        one_part P here sees.own (expr_of texts e) (tree.Unary op (expr_of texts e)) _
+        (term_finds e w u o) refl (λ k n. refl)
     term_finds (Binary' op p a q b) w u o =
         pair_stands (expr_of texts a) (expr_of texts b)
-        (tree.Binary op (expr_of texts a) (expr_of texts b)) (infer_clock ctx a)
-        (infer_clock ctx b)
-        (term_finds a (and_first _ (is_within (counts_of here) b) w)
-        (and_first _ (is_unhidden texts b) u) (and_first _ (is_single r here b) o))
-        (term_finds b (and_second (is_within (counts_of here) a) _ w)
-        (and_second (is_unhidden texts a) _ u) (and_second (is_single r here a) _ o))
-        refl (λ k n. refl)
+        (tree.Binary op (expr_of texts a) (expr_of texts b)) _ _
+        (term_finds a (and_first _ _ w) (and_first _ _ u) (and_first _ _ o))
+        (term_finds b (and_second _ _ w) (and_second _ _ u) (and_second _ _ o)) refl (λ k n. refl)
     term_finds (If' p c q a r' b) w u o =
         let wab = and_second (is_within (counts_of here) c) _ w in
         let uab = and_second (is_unhidden texts c) _ u in
         let oab = and_second (is_single r here c) _ o in
-        pair_stands (expr_of texts c) (tree.Arrow (expr_of texts a) (expr_of texts b))
-        (tree.If (expr_of texts c) (expr_of texts a) (expr_of texts b))
-        (infer_clock ctx c) (both (infer_clock ctx a) (infer_clock ctx b))
-        (term_finds c (and_first _ (is_within (counts_of here) a && is_within (counts_of here) b) w)
-        (and_first _ (is_unhidden texts a && is_unhidden texts b) u)
-        (and_first _ (is_single r here a && is_single r here b) o))
-        (pair_stands (expr_of texts a) (expr_of texts b)
-        (tree.Arrow (expr_of texts a) (expr_of texts b)) (infer_clock ctx a) (infer_clock ctx b)
-        (term_finds a (and_first _ (is_within (counts_of here) b) wab)
-        (and_first _ (is_unhidden texts b) uab) (and_first _ (is_single r here b) oab))
-        (term_finds b (and_second (is_within (counts_of here) a) _ wab)
-        (and_second (is_unhidden texts a) _ uab) (and_second (is_single r here a) _ oab))
+        let branches = tree.Arrow (expr_of texts a) (expr_of texts b) in
+        pair_stands (expr_of texts c) branches
+        (tree.If (expr_of texts c) (expr_of texts a) (expr_of texts b)) _ _
+        (term_finds c (and_first _ _ w) (and_first _ _ u) (and_first _ _ o))
+        (pair_stands (expr_of texts a) (expr_of texts b) branches _ _
+        (term_finds a (and_first _ _ wab) (and_first _ _ uab) (and_first _ _ oab))
+        (term_finds b (and_second _ _ wab) (and_second _ _ uab) (and_second _ _ oab))
         refl (λ k n. refl))
         refl (if_parts P here (expr_of texts c) (expr_of texts a) (expr_of texts b))
     term_finds (Arrow' p a q b) w u o =
         pair_stands (expr_of texts a) (expr_of texts b)
-        (tree.Arrow (expr_of texts a) (expr_of texts b)) (infer_clock ctx a) (infer_clock ctx b)
-        (term_finds a (and_first _ (is_within (counts_of here) b) w)
-        (and_first _ (is_unhidden texts b) u) (and_first _ (is_single r here b) o))
-        (term_finds b (and_second (is_within (counts_of here) a) _ w)
-        (and_second (is_unhidden texts a) _ u) (and_second (is_single r here a) _ o))
-        refl (λ k n. refl)
+        (tree.Arrow (expr_of texts a) (expr_of texts b)) _ _
+        (term_finds a (and_first _ _ w) (and_first _ _ u) (and_first _ _ o))
+        (term_finds b (and_second _ _ w) (and_second _ _ u) (and_second _ _ o)) refl (λ k n. refl)
     term_finds (Fby' p a q b) w u o =
         pair_stands (expr_of texts a) (expr_of texts b)
-        (tree.Fby (expr_of texts a) (expr_of texts b)) (infer_clock ctx a) (infer_clock ctx b)
-        (term_finds a (and_first _ (is_within (counts_of here) b) w)
-        (and_first _ (is_unhidden texts b) u) (and_first _ (is_single r here b) o))
-        (term_finds b (and_second (is_within (counts_of here) a) _ w)
-        (and_second (is_unhidden texts a) _ u) (and_second (is_single r here a) _ o))
-        refl (λ k n. refl)
+        (tree.Fby (expr_of texts a) (expr_of texts b)) _ _
+        (term_finds a (and_first _ _ w) (and_first _ _ u) (and_first _ _ o))
+        (term_finds b (and_second _ _ w) (and_second _ _ u) (and_second _ _ o)) refl (λ k n. refl)
     term_finds (Pre' p e) w u o =
-        one_part P here sees.own (expr_of texts e) (tree.Pre (expr_of texts e)) (infer_clock ctx e)
+        one_part P here sees.own (expr_of texts e) (tree.Pre (expr_of texts e)) _
         (term_finds e w u o) refl (λ k n. refl)
     term_finds (Current' p e) w u o =
         current_stands P here sees.own r (expr_of texts e) (infer_clock ctx e) (term_finds e w u o)
     term_finds (When' p e x sign) w u o =
         when_stands P here sees.own r (expr_of texts e) x sign (infer_clock ctx e)
-        (and_first _ (is_within (counts_of here) e) w)
-        (term_finds e (and_second (is_variable (counts_of here) x) _ w) u o)
+        (and_first _ _ w) (term_finds e (and_second _ _ w) u o)
     term_finds (Replicate' p e i) w u o =
         one_part P here sees.own (expr_of texts e)
-        (tree.Replicate (expr_of texts e) (static_at texts.statics i)) (infer_clock ctx e)
-        (term_finds e (and_second (is_static (counts_of here) i) _ w) u o) refl (λ k n. refl)
+        (tree.Replicate (expr_of texts e) (static_at texts.statics i)) _
+        (term_finds e (and_second _ _ w) u o) refl (λ k n. refl)
     term_finds (Index' p e i) w u o =
         one_part P here sees.own (expr_of texts e)
-        (tree.Index (expr_of texts e) (static_at texts.statics i)) (infer_clock ctx e)
-        (term_finds e (and_second (is_static (counts_of here) i) _ w) u o) refl (λ k n. refl)
+        (tree.Index (expr_of texts e) (static_at texts.statics i)) _
+        (term_finds e (and_second _ _ w) u o) refl (λ k n. refl)
     term_finds (Slice' p e i j) w u o =
         one_part P here sees.own (expr_of texts e)
-        (tree.Slice (expr_of texts e) (static_at texts.statics i) (static_at texts.statics j))
-        (infer_clock ctx e)
-        (term_finds e (and_second (is_static (counts_of here) j) _
-        (and_second (is_static (counts_of here) i) _ w)) u o) refl (λ k n. refl)
+        (tree.Slice (expr_of texts e) (static_at texts.statics i) (static_at texts.statics j)) _
+        (term_finds e (and_second _ _ (and_second _ _ w)) u o) refl (λ k n. refl)
     term_finds (Join' p a q b) w u o =
         pair_stands (expr_of texts a) (expr_of texts b)
-        (tree.Join (expr_of texts a) (expr_of texts b)) (infer_clock ctx a) (infer_clock ctx b)
-        (term_finds a (and_first _ (is_within (counts_of here) b) w)
-        (and_first _ (is_unhidden texts b) u) (and_first _ (is_single r here b) o))
-        (term_finds b (and_second (is_within (counts_of here) a) _ w)
-        (and_second (is_unhidden texts a) _ u) (and_second (is_single r here a) _ o))
-        refl (λ k n. refl)
+        (tree.Join (expr_of texts a) (expr_of texts b)) _ _
+        (term_finds a (and_first _ _ w) (and_first _ _ u) (and_first _ _ o))
+        (term_finds b (and_second _ _ w) (and_second _ _ u) (and_second _ _ o)) refl (λ k n. refl)
     term_finds (Array' arity all) w u o =
         together_stands all (tree.Array (row_of texts all)) (row_finds all w u o) refl (λ k n. refl)
     term_finds (AtMostOne' arity all) w u o =
@@ -505,25 +451,20 @@ module _ (P : Program) (r : Reached) (here : ResolvedNode) (sees : SeesClocks P 
     term_finds (Call' c arity all) w u o =
         let wc = and_first _ (are_within (counts_of here) all) w in
         let wa = and_second (is_call (counts_of here) c) _ w in
-        call_finds c all wc wa u (and_first _ (are_single r here all) o)
-        (row_finds all wa u (and_second (calls_single r here c) _ o))
+        call_finds c all wc wa u (and_first _ _ o) (row_finds all wa u (and_second _ _ o))
     term_finds (IterateNode' it c arity all) w u o =
-        iterate_finds it c all (and_first _ (are_within (counts_of here) all) w)
-        (row_finds all (and_second (is_call (counts_of here) c) _ w) u o)
+        iterate_finds it c all (and_first _ _ w) (row_finds all (and_second _ _ w) u o)
     term_finds (IterateSymbol' it op i arity all) w u o =
         together_stands all (tree.Iterate it (tree.Symbol op) (static_at texts.statics i)
-        (row_of texts all))
-        (row_finds all (and_second (is_static (counts_of here) i) _ w) u o) refl (λ k n. refl)
+        (row_of texts all)) (row_finds all (and_second _ _ w) u o) refl (λ k n. refl)
 
     row_finds : {m : Count} (row : Row_of-Term m) → are_within (counts_of here) row ≡ true →
         are_unhidden texts row ≡ true → are_single r here row ≡ true
         → AreClockSets P here ctx (items-the_row-Term m row)
     row_finds end_of-Term w u o = tt
     row_finds (more_of-Term e rest) w u o = (
-      term_finds e (and_first _ (are_within (counts_of here) rest) w)
-          (and_first _ (are_unhidden texts rest) u) (and_first _ (are_single r here rest) o),
-      row_finds rest (and_second (is_within (counts_of here) e) _ w)
-          (and_second (is_unhidden texts e) _ u) (and_second (is_single r here e) _ o),
+      term_finds e (and_first _ _ w) (and_first _ _ u) (and_first _ _ o),
+      row_finds rest (and_second _ _ w) (and_second _ _ u) (and_second _ _ o),
     )
 
   -- a term has the clock set that the code infers
@@ -533,8 +474,14 @@ module _ (P : Program) (r : Reached) (here : ResolvedNode) (sees : SeesClocks P 
   unfolding context_of
   term_stands t w u o = term_finds t w u o
 
-  pub row_stands : {m : Count} (row : Row_of-Term m) → are_within (counts_of here) row ≡ true →
+  -- the callee of a call, and what is known of the operands of the call
+  pub called_operands : (c : CallId) {m : Count} (row : Row_of-Term m) →
+      is_call (counts_of here) c ≡ true → are_within (counts_of here) row ≡ true →
       are_unhidden (texts_of here) row ≡ true → are_single r here row ≡ true
-      → AreClockSets P here (context_of r here) (items-the_row-Term m row)
+      → (callee : ResolvedNode) × ((context_of r here).callee c ≡ Some callee)
+      × (node_named P (site_at (texts_of here).calls c).callee ≡ Some (node_of callee))
+      × KnownOperands P here callee (context_of r here) (items-the_row-Term m row)
   unfolding context_of
-  row_stands row w u o = row_finds row w u o
+  called_operands c row wc w u o =
+      let found = callee_at c wc in
+      (found.0, found.1, found.2, known_row c row found.0 found.1 w u (row_finds row w u o))

@@ -1,6 +1,6 @@
 -- What a walk over a term finds of its clocks, from what it finds of the operands.
 use Rattle.lb_check.proofs.Words
-use Words.{◌≡◌, ℕ, ◌⊎◌, inl, inr, Bool, Box, Global, refl, StaticId, IsPair, Context, both}
+use Words.{◌≡◌, subst, ℕ, ◌⊎◌, inl, inr, Bool, Box, Global, refl, StaticId, IsPair, Context, both}
 use Words.{infer_clock, ClockSet, AnyClock, List, Vec, ap, ◌∙◌, holds, IsRow, CallId, VariableId}
 use Words.{items-the_row-Term, items_hidden-the_row-Term-0, is_equation_clocked, operands_in}
 use Words.{operands_of, row_clock_set, ◌+◌, ◌-◌, ◌<◌, ◌≤◌, [], ◌∷◌, ◌++◌, length, drop, get_or}
@@ -220,6 +220,15 @@ module _ (ctx : Context) where
   call_known t c es e = ap (known_operands ctx) e ∙ called_known c es
 
   -- ## The operands that a walk adds
+
+  -- a walk over a term, or a row of terms, is one over what is equal to it
+  pub walked_at : (x y : Term) (before after : List Operand) (s : ClockSet) → x ≡ y →
+      IsWalked ctx x before after s → IsWalked ctx y before after s
+  walked_at x y before after s e w = subst (λ z. IsWalked ctx z before after s) e w
+
+  pub row_walked_at : (xs ys : List Term) (before after os : List Operand) → xs ≡ ys →
+      IsRowWalked ctx xs before after os → IsRowWalked ctx ys before after os
+  row_walked_at xs ys before after os e w = subst (λ zs. IsRowWalked ctx zs before after os) e w
 
   module _ (before : List Operand) where
     nothing : (t : Term) (s : ClockSet) → s ≡ infer_clock ctx t → IsLeaf t →

@@ -1,27 +1,30 @@
 -- The rules of clocks of a whole program, and the clocks that break them.
 use Rattle.lb_check.proofs.Words
-use Words.{◌≡◌, ℕ, Bool, true, Some, None, ap, sym, ◌∙◌, subst, ◌&&◌, option_map, slice_get}
+use Words.{◌≡◌, ap₂, ℕ, Bool, true, Some, None, ap, sym, ◌∙◌, subst, ◌&&◌, option_map, slice_get}
 use Words.{and-false, slice_get-map, slice_get_within, get_or_from_slice_get, holds, Program}
 use Words.{are_distinct, keeps_names, variable_names, IsReached, source_names, trees, IsResolved}
 use Words.{node_of, NodeId, Reached, ResolvedNode, ResolvedStatement, Part, first_broken}
 use Words.{are_declared_clocks, IsDeclaredClock, IsIllClocked, is_clocked_at, HasClocks, context_of}
-use Words.{is_body_clocked, is_resolved_statement_clocked, zero, suc, ◌+◌, ◌-◌, ◌<◌, ◌≤◌, false}
-use Words.{List, [], ◌∷◌, ◌++◌, take, drop, map, length, Option, refl, arith, is_some, nat_lt}
-use Words.{if◌then◌else◌, lt-ltb, le-ltb, length-append, append_assoc, Name, Declaration, Node}
-use Words.{all_at, item_at, variables, statics_of, declaration_of, Variable, at_place}
-use Words.{variable_clock, IsCircle, waits_below, is_clocked_by, ℤ, list_all, zip, ◌>>=◌, all_some}
-use Words.{either_or, and_first, CallId, CallSite, Specialization, Table, instance_of, Instance}
-use Words.{Root, Child, Site, callee_of, instances, node_named, node_sites, static_value, id_at}
-use Words.{tree_at, callee_in, texts_of, site_of, is_statement_unhidden, is_clocked, IsJudged}
-use Words.{SeesClocks, is_statement_single, is_part_clocked, are_typed, is_typed}
+use Words.{is_body_clocked, is_resolved_statement_clocked, suc, ◌+◌, ◌-◌, ◌<◌, ◌≤◌, false, List, []}
+use Words.{◌∷◌, ◌++◌, take, drop, map, length, Option, refl, arith, is_some, nat_lt, if◌then◌else◌}
+use Words.{lt-ltb, le-ltb, length-append, append_assoc, Name, Declaration, Node, all_at, item_at}
+use Words.{variables, statics_of, declaration_of, Variable, at_place, variable_clock, IsCircle}
+use Words.{waits_below, is_clocked_by, list_all, ◌>>=◌, all_some, both_ways, and_first, CallId}
+use Words.{Specialization, Table, instance_of, Instance, Root, Child, Site, callee_of, instances}
+use Words.{node_named, node_sites, static_value, id_at, tree_at, callee_in, texts_of}
+use Words.{is_statement_unhidden, is_clocked, IsJudged, SeesClocks, is_statement_single}
+use Words.{is_part_clocked, is_typed, nat_tests, same_Some, bind_some, counts_of, is_call}
 use Rattle.{std.proofs.lemmas.Bool.and_left, lb_check.specs.BrokenParts.awaitable}
 use Rattle.lb_check.specs.{BrokenParts.is_declared_clock, FoundParts.IsPartIllClocked}
 use Rattle.lb_check.specs.NodeClocks.{is_node_clocked, are_clocked_at}
 use Rattle.lb_check.proofs.clocking.ClockDepths.{first_names}
-use Rattle.lb_check.proofs.definitions.NodePlaces.{distinct_variables, named_at}
+use Rattle.lb_check.proofs.definitions.NodePlaces.{callee_found, distinct_variables, node_resolved}
+use Rattle.lb_check.proofs.definitions.NodePlaces.{site_found}
 use Rattle.lb_check.proofs.lists.ListPairs.{all_pass, fails_there, not_all_pass, fails_at}
-use Rattle.lb_check.proofs.{lists.ListPairs.found_item, typing.FittedTypes.node_at}
-use Rattle.lb_check.proofs.typing.FittedTypes.{specialized_instance}
+use Rattle.lb_check.proofs.lists.ListPairs.{found_item, get_dropped, get_taken}
+use Rattle.lb_check.proofs.typing.FittedTypes.{node_at}
+use Rattle.lb_check.proofs.clocking.StatementClockSets.{node_clocked, statement_broken}
+use Rattle.lb_check.proofs.typing.{FittedTypes.specialized_instance, SingleCalls.single_statements}
 use Rattle.lb_check.proofs.typing.Specializations.{all_specializations}
 use Rattle.lb_check.proofs.typing.TypedSpecializations.{instances_typed}
 use Rattle.lb_check.specs.declared.part.Part.TheVariants as part
@@ -35,9 +38,7 @@ module _ (P : Program) (r : Reached) (names : keeps_names P ≡ true) (reached :
     (k : ℕ) (n : ResolvedNode)
     (at : slice_get r.nodes.items k ≡ Some n) where
   pub resolved_at : IsResolved (source_names P) n
-  resolved_at =
-      subst (IsResolved (source_names P)) (get_or_from_slice_get r.nodes.items k n n at)
-      (reached.resolved k n (slice_get_within r.nodes.items k n at))
+  resolved_at = node_resolved P r names reached k n at
 
   pub distinct_at : are_distinct (variable_names (node_of n)) ≡ true
   distinct_at =
@@ -96,25 +97,6 @@ module _ (r : Reached) (id : NodeId) (n : ResolvedNode)
       ∙ all_pass kept n.body.items e
 
 -- A declared clock that the code finds to break the rules breaks them.
-
--- ## A part of a list
-
-taken_at : {A : Type 0} (k : ℕ) (xs : List A) (i : ℕ) (x : A) → slice_get (take k xs) i ≡ Some x →
-    (i < k) × (slice_get xs i ≡ Some x)
-taken_at zero xs i x e = absurd cc
-taken_at (suc k) [] i x e = absurd cc
-taken_at (suc k) (y ∷ xs) zero x e = (omega arith, e)
-taken_at (suc k) (y ∷ xs) (suc i) x e =
-    let h = taken_at k xs i x e in
-    let lt = h.0 in (omega (arith, lt), h.1)
-
-dropped_at : {A : Type 0} (k : ℕ) (xs : List A) (i : ℕ) (x : A) →
-    slice_get (drop k xs) i ≡ Some x → slice_get xs (k + i) ≡ Some x
-dropped_at zero xs i x e = let same : 0 + i ≡ i = omega arith in ap (slice_get xs) same ∙ e
-dropped_at (suc k) [] i x e = absurd cc
-dropped_at (suc k) (y ∷ xs) i x e =
-    let same : suc k + i ≡ suc (k + i) = omega arith in
-    ap (slice_get (y ∷ xs)) same ∙ dropped_at k xs i x e
 
 -- ## A node
 
@@ -185,13 +167,13 @@ module _ (nodes : List Name) (r : ResolvedNode) (e : IsResolved nodes r)
       let here : first_broken (waits_below r.inputs) (take r.inputs vs) ≡ Some i =
       ap (λ l. first_broken (waits_below r.inputs) (take r.inputs l)) (sym same) ∙ found in
       let v = found_item (waits_below r.inputs) (take r.inputs vs) i here in
-      let at = taken_at r.inputs vs i v.0 v.1 in
-      let below = at.0 in
+      let at = get_taken r.inputs vs i v.0 v.1 in
+      let below = at.1 in
       let count = e.inputs in
       let less : i < length node.inputs = omega (arith, below, count) in (
         clocked.inputs_refused nodes r e distinct
             (not_all_pass (waits_below r.inputs) (take r.inputs vs) i here),
-        waits_past r.inputs i node.inputs v.0 at.1 input_names
+        waits_past r.inputs i node.inputs v.0 at.0 input_names
             (ap (λ b. either b (nat_lt i (length node.inputs + length node.outputs)))
             (lt-ltb i (length node.inputs) less)) v.2,
       )
@@ -220,8 +202,8 @@ module _ (nodes : List Name) (r : ResolvedNode) (e : IsResolved nodes r)
       ∙ ap (λ l. first_broken (waits_below k) (take (k - r.inputs) (drop r.inputs l))) (sym same)
       ∙ found in
       let v = found_item (waits_below k) (take r.outputs (drop r.inputs vs)) i here in
-      let at = taken_at r.outputs (drop r.inputs vs) i v.0 v.1 in
-      let below = at.0 in
+      let at = get_taken r.outputs (drop r.inputs vs) i v.0 v.1 in
+      let below = at.1 in
       let inputs = e.inputs in
       let outputs = e.outputs in
       let past : length node.inputs ≤ r.inputs + i = omega (arith, inputs) in
@@ -230,7 +212,7 @@ module _ (nodes : List Name) (r : ResolvedNode) (e : IsResolved nodes r)
         clocked.outputs_refused nodes r e distinct
             (not_all_pass (waits_below k) (take r.outputs (drop r.inputs vs)) i here),
         waits_past k (r.inputs + i) (node.inputs ++ node.outputs) v.0
-            (dropped_at r.inputs vs i v.0 at.1) output_names
+            (sym (get_dropped r.inputs vs i) ∙ at.0) output_names
             (ap (λ b. either b (nat_lt (r.inputs + i) (length node.inputs + length node.outputs)))
             (le-ltb (r.inputs + i) (length node.inputs) past)
             ∙ ap (either false)
@@ -276,18 +258,12 @@ module _ (nodes : List Name) (r : ResolvedNode) (e : IsResolved nodes r)
 -- A program keeps the rules of clocks exactly where the code finds it of its specializations'
 -- nodes.
 
-both_ways : (a b : Bool) → (a ≡ true → a ≡ b) → (b ≡ true → a ≡ b) → a ≡ b
-both_ways true b f g = f refl
-both_ways false true f g = g refl
-both_ways false false f g = refl
-
 -- two tests that agree at each place of a list agree on the list
 same_all : {A : Type 0} (f g : A → Bool) (xs : List A) →
     ((i : ℕ) (x : A) → slice_get xs i ≡ Some x → f x ≡ g x) → list_all f xs ≡ list_all g xs
 same_all f g [] each = refl
 same_all f g (x ∷ xs) each =
-    ap (λ b. b && list_all f xs) (each 0 x refl)
-    ∙ ap (λ b. g x && b) (same_all f g xs (λ i y e. each (suc i) y e))
+    ap₂ (λ b c. b && c) (each 0 x refl) (same_all f g xs (λ i y e. each (suc i) y e))
 
 module _ (P : Program) (r : Reached) (t : Table) (j : IsJudged P r t) where
   -- ## The callees of a node
@@ -307,49 +283,12 @@ module _ (P : Program) (r : Reached) (t : Table) (j : IsJudged P r t) where
       IsDeclared s
 
   -- the node of an instance of a call is the one with the name of its site
-  module _ (here : Instance) (site : Site) (c index : ℕ) (there : Instance) where
-    abbrev built : Node → List ℤ → Instance
-    built n values = record {
-      path = Child here.path c index;
-      node = n;
-      values = zip n.parameters values;
-    }
-
-    valued : (n : Node) (o : Option (List ℤ)) →
-        (o >>= λ values. Some (built n values)) ≡ Some there → Some n ≡ Some there.node
-    valued n None e = absurd cc
-    valued n (Some values) e = let same : built n values ≡ there = cc in
-        ap (λ (i : Instance). Some i.node) same
-
-    named_by : (o : Option Node) →
-        (o >>= λ n. all_some (map (static_value P here) site.arguments) >>= λ values. Some
-        (built n values)) ≡ Some there
-        → o ≡ Some there.node
-    named_by None e = absurd cc
-    named_by (Some n) e = valued n (all_some (map (static_value P here) site.arguments)) e
-
-    called_node : callee_of P here site c index ≡ Some there →
-        node_named P site.callee ≡ Some there.node
-    called_node e = named_by (node_named P site.callee) e
-
-  -- the callee of a call is the reached node that its call site names
-  found_callee : (n : ResolvedNode) (c : CallId) (m : ResolvedNode) → callee_in r n c ≡ Some m
-      → (site : CallSite) × (id : NodeId) × (slice_get n.calls.items c.0 ≡ Some site)
-      × (id_at r site.callee ≡ Some id) × (slice_get r.nodes.items id.0 ≡ Some m)
-  found_callee n c m e = by (slice_get n.calls.items c.0) e
-    where
-      next : (site : CallSite) (o : Option NodeId) →
-          (o >>= λ id. slice_get r.nodes.items id.0) ≡ Some m
-          → (id : NodeId) × (o ≡ Some id) × (slice_get r.nodes.items id.0 ≡ Some m)
-      next site None e = absurd cc
-      next site (Some id) e = (id, refl, e)
-
-      by : (o : Option CallSite) →
-          (o >>= λ site. id_at r site.callee >>= λ id. slice_get r.nodes.items id.0) ≡ Some m
-          → (site : CallSite) × (id : NodeId) × (o ≡ Some site) × (id_at r site.callee ≡ Some id)
-          × (slice_get r.nodes.items id.0 ≡ Some m)
-      by None e = absurd cc
-      by (Some site) e = let f = next site (id_at r site.callee) e in (site, f.0, refl, f.1, f.2)
+  called_node : (here : Instance) (site : Site) (c index : ℕ) (there : Instance) →
+      callee_of P here site c index ≡ Some there → node_named P site.callee ≡ Some there.node
+  called_node here site c index there e =
+      let n = bind_some (node_named P site.callee) _ there e in
+      let values = bind_some (all_some (map (static_value P here) site.arguments)) _ there n.2 in
+      n.1 ∙ ap (option_map (λ (i : Instance). i.node)) values.2
 
   -- the callee of a call keeps the rules of declared clocks, where earlier specializations do
   callee_clocks : (i : ℕ) → AreDeclared i → (s : Specialization) →
@@ -357,13 +296,16 @@ module _ (P : Program) (r : Reached) (t : Table) (j : IsJudged P r t) where
       → (n : ResolvedNode) → slice_get r.nodes.items s.node.0 ≡ Some n →
       (c : CallId) (m : ResolvedNode) → callee_in r n c ≡ Some m → HasClocks m
   callee_clocks i all s is n at c m e =
-      let found = found_callee n c m e in
-      let site = site_of (source_names P) (statics_of n) found.0 in
-      let resolved = resolved_at P r j.names j.reached s.node.0 n at in
-      let site_is : slice_get (node_sites (node_of n)) c.0 ≡ Some site =
-      ap (λ (ss : List Site). slice_get ss c.0) (sym resolved.calls)
-      ∙ slice_get-map (site_of (source_names P) (statics_of n)) n.calls.items c.0
-      ∙ ap (option_map (site_of (source_names P) (statics_of n))) found.2 in
+      let called_site = bind_some (slice_get n.calls.items c.0)
+      (λ site. id_at r site.callee >>= λ id. slice_get r.nodes.items id.0) m e in
+      let place = bind_some (id_at r called_site.0.callee)
+      (λ id. slice_get r.nodes.items id.0) m called_site.2 in
+      let is_there = slice_get_within n.calls.items c.0 called_site.0 called_site.1 in
+      let in_node : is_call (counts_of n) c ≡ true = grind (arith, nat_tests) in
+      let here_site = site_found P r j.names j.reached s.node.0 n at c in_node in
+      let found = callee_found P r j.names j.reached s.node.0 n at c in_node in
+      let site = here_site.0 in
+      let site_is = here_site.1 in
       let sp = j.table.specialized i s is in
       let root = instance_of Root (node_of n) s.values.items in
       let root_is = specialized_instance P r t j.reached j.table s n Root at in
@@ -384,28 +326,15 @@ module _ (P : Program) (r : Reached) (t : Table) (j : IsJudged P r t) where
       let by_table : node_named P site.callee ≡ Some (node_of callee_n.0) =
       called_node root site c.0 0 (instance_of below (node_of callee_n.0) callee.0.values.items)
       same in
+      let callee_is : found.0 ≡ m = same_Some found.0 m (sym found.1 ∙ e) in
       let by_name : node_named P site.callee ≡ Some (node_of m) =
-      named_callee found.0 found.1 found.3 found.4 in
+      ap (λ s. node_named P s.callee) (sym here_site.2) ∙ found.2
+      ∙ ap (λ m. Some (node_of m)) callee_is in
       let one : Some (node_of callee_n.0) ≡ Some (node_of m) = sym by_table ∙ by_name in
       let tree : node_of callee_n.0 ≡ node_of m = cc in
-      clocks_at P r j.names j.reached found.1.0 m found.4
+      clocks_at P r j.names j.reached place.0.0 m place.2
       (subst (λ k. are_declared_clocks k ≡ true) tree
       (all id.0.0 callee.0 before callee.1 callee_n.0 callee_n.1))
-    where
-      named_callee : (site : CallSite) (id : NodeId) → id_at r site.callee ≡ Some id →
-          slice_get r.nodes.items id.0 ≡ Some m
-          → node_named P (either_or (slice_get (source_names P) site.callee.0) []) ≡ Some
-          (node_of m)
-      named_callee site id is at =
-          let tree_is : tree_at r id ≡ Some (node_of m) = slice_get-map node_of r.nodes.items id.0
-          ∙ ap (option_map node_of) at in
-          let place : slice_get P.source.nodes site.callee.0 ≡ Some (node_of m) =
-          sym (j.reached.found site.callee id is) ∙ tree_is in
-          let name : slice_get (source_names P) site.callee.0 ≡ Some (node_of m).name =
-          slice_get-map (λ m. m.name) P.source.nodes site.callee.0
-          ∙ ap (option_map (λ m. m.name)) place in
-          ap (λ o. node_named P (either_or o [])) name
-          ∙ named_at P j.names site.callee.0 (node_of m) place
 
   -- ## Each specialization
 
@@ -444,22 +373,15 @@ module _ (P : Program) (r : Reached) (t : Table) (j : IsJudged P r t) where
       (sym (ap (holds (is_clocked P)) (tree_of s n at))
       ∙ all_at by_tree t.specializations.items i s all is)
 
-  module _ (node_clocked : (n : ResolvedNode) → SeesClocks P r n →
-      list_all (is_statement_unhidden (texts_of n)) n.body.items ≡ true
-      → list_all (is_statement_single r n) n.body.items ≡ true →
-      is_clocked P (node_of n) ≡ is_body_clocked r n)
-      (single_statements : are_typed r t ≡ true → (i : ℕ) (s : Specialization) (n : ResolvedNode) →
-      slice_get t.specializations.items i ≡ Some s
-      → slice_get r.nodes.items s.node.0 ≡ Some n →
-      list_all (is_statement_single r n) n.body.items ≡ true)
-      (typed : list_all (is_typed P) (instances P) ≡ true) where
+  module _ (typed : list_all (is_typed P) (instances P) ≡ true) where
     one_is : (i : ℕ) → AreDeclared i → (s : Specialization) →
         slice_get t.specializations.items i ≡ Some s → IsDeclared s
         → is_clocked_at r s.node ≡ by_tree s
     one_is i all s is own =
         let n = node_at P r t j.reached j.table s (j.table.specialized i s is).0 in
-        let single = single_statements (instances_typed P r t j ∙ typed) i s n.0 is n.1 in
-        let body = node_clocked n.0 (sees i all s is n.0 n.1 (own n.0 n.1)) n.2.unhidden single in
+        let single = single_statements P r t j (instances_typed P r t j ∙ typed) i s n.0 is n.1 in
+        let body = node_clocked P r n.0 (sees i all s is n.0 n.1 (own n.0 n.1)) n.2.unhidden single
+        in
         ap (holds (is_node_clocked r)) n.1 ∙ ap (λ b. b && is_body_clocked r n.0) (own n.0 n.1)
         ∙ sym body
         ∙ sym (ap (holds (is_clocked P)) (tree_of s n.0 n.1))
@@ -475,7 +397,7 @@ module _ (P : Program) (r : Reached) (t : Table) (j : IsJudged P r t) where
     pub instances_clocked : are_clocked_at r t.specializations.items ≡ list_all
         (λ here. is_clocked P here.node) (instances P)
     instances_clocked =
-        both_ways _ _ (λ e. all_are (from_code e)) (λ e. all_are (from_trees e))
+        both_ways _ _ (λ e. sym (all_are (from_code e)) ∙ e) (λ e. all_are (from_trees e) ∙ e)
         ∙ all_specializations P r t j.table (is_clocked P)
 
     -- the node of a specialization, where each instance keeps the rules of clocks, with what is
@@ -496,14 +418,15 @@ module _ (P : Program) (r : Reached) (t : Table) (j : IsJudged P r t) where
         record {
           sees = sees i (λ k m lt. declared k m) s is n at (declared i s is n at);
           unhidden = (resolved_at P r j.names j.reached s.node.0 n at).unhidden;
-          single = single_statements (instances_typed P r t j ∙ typed) i s n is at;
+          single = single_statements P r t j (instances_typed P r t j ∙ typed) i s n is at;
           kept =
               sym (ap (holds (is_clocked P)) (tree_of s n at))
               ∙ all_at by_tree t.specializations.items i s all is;
         }
 
     -- the first specialization whose node the code finds to break the rules of clocks breaks them
-    pub first_broken_specialization : (i : ℕ) (s : Specialization) → slice_get t.specializations.items i ≡ Some s →
+    pub first_broken_specialization : (i : ℕ) (s : Specialization) →
+        slice_get t.specializations.items i ≡ Some s →
         is_clocked_at r s.node ≡ false
         → ((k : ℕ) (m : Specialization) → k < i → slice_get t.specializations.items k ≡ Some m →
         is_clocked_at r m.node ≡ true)
@@ -527,29 +450,24 @@ module _ (P : Program) (r : Reached) (t : Table) (j : IsJudged P r t) where
             (declared e)) ∙ broken
 
     -- the part of it that the code finds breaks them too
-    pub first_part : ((n : ResolvedNode) → SeesClocks P r n →
-        list_all (is_statement_unhidden (texts_of n)) n.body.items ≡ true
-        → list_all (is_statement_single r n) n.body.items ≡ true → (j : ℕ) →
-        at_place (is_resolved_statement_clocked (context_of r n)) n.body.items j ≡ false
-        → is_part_clocked P (node_of n) (part.Statement j) ≡ false)
-        → (i : ℕ) (s : Specialization) → slice_get t.specializations.items i ≡ Some s →
+    pub first_part : (i : ℕ) (s : Specialization) → slice_get t.specializations.items i ≡ Some s →
         is_clocked_at r s.node ≡ false
         → ((k : ℕ) (m : Specialization) → k < i → slice_get t.specializations.items k ≡ Some m →
         is_clocked_at r m.node ≡ true)
         → (p : Part) → IsIllClocked r s.node p → (here : Node) → tree_at r s.node ≡ Some here →
         is_part_clocked P here p ≡ false
-    first_part statement i s is broken earlier (part.Variable x) found here tree =
+    first_part i s is broken earlier (part.Variable x) found here tree =
         let n = node_at P r t j.reached j.table s (j.table.specialized i s is).0 in
         let one : Some (node_of n.0) ≡ Some here = sym (tree_of s n.0 n.1) ∙ tree in
         let same : node_of n.0 ≡ here = cc in
         subst (λ (k : Node). is_part_clocked P k (part.Variable x) ≡ false) same
         (found.1 n.0 n.1)
-    first_part statement i s is broken earlier (part.Statement q) found here tree =
+    first_part i s is broken earlier (part.Statement q) found here tree =
         let n = node_at P r t j.reached j.table s (j.table.specialized i s is).0 in
         let one : Some (node_of n.0) ≡ Some here = sym (tree_of s n.0 n.1) ∙ tree in
         let same : node_of n.0 ≡ here = cc in
         let own = found.1 n.0 n.1 in
-        let single = single_statements (instances_typed P r t j ∙ typed) i s n.0 is n.1 in
+        let single = single_statements P r t j (instances_typed P r t j ∙ typed) i s n.0 is n.1 in
         let all = sees i (λ k m lt at. is_declared m (earlier k m lt at)) s is n.0 n.1 own.0 in
         subst (λ (k : Node). is_part_clocked P k (part.Statement q) ≡ false) same
-        (statement n.0 all n.2.unhidden single q own.1)
+        (statement_broken P r n.0 all n.2.unhidden single q own.1)

@@ -3,10 +3,10 @@ use Rattle.lb_check.proofs.Words
 use Words.{is_some, not, list_all, or_else, E9, E10, unless, elaborated_program, IsLawful, Program}
 use Words.{instances, keeps_names, static_refusal, instantiation_refusal, Elaboration, Reached}
 use Words.{Table, check_refusal, is_clocked, is_defined, IsJudged, is_typed, ℕ, zero, suc, ◌<◌}
-use Words.{cond, List, [], ◌∷◌, map, ap, ◌∙◌, arith, ◌&&◌, IfSome, find, option_map, slice_get}
-use Words.{slice_get-map, not-false, not-true, holds, In, listed, Name, Node, instance_of}
-use Words.{specialized_at, Instance, Path, tree_at, NodeId, Specialization, Part, is_part_typed}
-use Words.{IfOk, Result, ◌≡◌, Bool, true, false, Option, Some, None, refl, sym, subst}
+use Words.{cond, List, [], ◌∷◌, map, ap, ◌∙◌, arith, IfSome, find, option_map, slice_get}
+use Words.{slice_get-map, not-false, not-true, holds, In, listed, Name, Node, specialized_at}
+use Words.{Instance, Path, tree_at, NodeId, Specialization, Part, is_part_typed, IfOk, Result, ◌≡◌}
+use Words.{Bool, true, false, Option, Some, None, refl, sym, subst}
 use Rattle.{std.{specs.Prelude.Ok, proofs.Common.Err}, lb_syntax.specs.Refusals.{Refusal, E4, E7}}
 use Rattle.{lb_syntax.specs.Refusals.{E8, E11}, lb_static.specs.Elaborated.IsElaborated}
 use Rattle.lb_static.specs.{Instantiation.has_no_parameters, Names.is_well_founded}
@@ -21,12 +21,10 @@ use Rattle.lb_check.proofs.typing.TypedSpecializations.{specialization_part, spe
 -- ## Rules in a row
 
 pub first_none : {A : Type 0} (o p : Option A) → or_else o p ≡ None → o ≡ None
-first_none None p e = refl
-first_none (Some x) p e = absurd cc
+first_none o p e = grind arith
 
 pub second_none : {A : Type 0} (o p : Option A) → or_else o p ≡ None → p ≡ None
-second_none None p e = e
-second_none (Some x) p e = absurd cc
+second_none o p e = grind arith
 
 pub kept : (b : Bool) (r : Refusal) → unless b r ≡ None → b ≡ true
 kept true r e = refl
@@ -57,9 +55,7 @@ judged P e is = record {
 
 pub broken : {A : Type 0} (o : Option A) (x : A) (b : Bool) → is_some o ≡ not b → o ≡ Some x →
     b ≡ false
-broken None x b e is = absurd cc
-broken (Some y) x true e is = absurd cc
-broken (Some y) x false e is = refl
+broken o x b e is = grind arith
 
 pub kept_by : {A : Type 0} (o : Option A) (b : Bool) → is_some o ≡ not b →
     ((x : A) → o ≡ Some x → ⊥) → b ≡ true
@@ -154,29 +150,16 @@ mapped g (Some x) y e = let same : g x ≡ y = cc in (x, refl, same)
 pub find_mapped : {A B : Type 0} (g : A → B) (f : B → Bool) (xs : List A) →
     find f (map g xs) ≡ option_map g (find (λ x. f (g x)) xs)
 find_mapped g f [] = refl
-find_mapped g f (x ∷ xs) = by (f (g x)) (find_mapped g f xs)
-  where
-    by : (b : Bool) → find f (map g xs) ≡ option_map g (find (λ x. f (g x)) xs)
-        → cond b (Some (g x)) (find f (map g xs)) ≡ option_map g
-        (cond b (Some x) (find (λ x. f (g x)) xs))
-    by true later = refl
-    by false later = later
+find_mapped g f (x ∷ xs) = grind (arith, find_mapped g f xs)
 
 -- an item is found exactly where not all items pass the test
 all_or_some : {A B : Type 0} (g : A → B) (f : A → Bool) (xs : List A) →
     is_some (option_map g (find (λ x. not (f x)) xs)) ≡ not (list_all f xs)
 all_or_some g f [] = refl
-all_or_some g f (x ∷ xs) = by (f x) (all_or_some g f xs)
-  where
-    by : (b : Bool) → is_some (option_map g (find (λ x. not (f x)) xs)) ≡ not (list_all f xs)
-        → is_some (option_map g (cond (not b) (Some x) (find (λ x. not (f x)) xs))) ≡ not
-        (b && list_all f xs)
-    by true later = later
-    by false later = refl
+all_or_some g f (x ∷ xs) = grind (arith, all_or_some g f xs)
 
 is_some_mapped : {A B : Type 0} (g : A → B) (o : Option A) → is_some o ≡ is_some (option_map g o)
-is_some_mapped g None = refl
-is_some_mapped g (Some a) = refl
+is_some_mapped g o = grind arith
 
 pub not_all : {A B C : Type 0} (g : A → B) (f : A → Bool) (xs : List A) (h : C → B)
     (found : Option C) → option_map h found ≡ option_map g (find (λ x. not (f x)) xs)
@@ -203,13 +186,7 @@ module _ (P : Program) (r : Reached) where
   -- the instance of a specialization at a path has the node of the specialization
   tree_is : (p : Path) (s : Specialization) (here : Instance) → specialized_at r p s ≡ Some here →
       tree_at r s.node ≡ Some here.node
-  tree_is p s here e = by (tree_at r s.node) e
-    where
-      by : (o : Option Node) → option_map (λ n. instance_of p n s.values.items) o ≡ Some here →
-          o ≡ Some here.node
-      by None e = absurd cc
-      by (Some n) e = let same : instance_of p n s.values.items ≡ here = cc in
-          ap (λ (i : Instance). Some i.node) same
+  tree_is p s here e = grind arith
 
   -- a rule that is broken in the node at a place is broken in the node with its name
   pub broken_in : (rule : Instance → Bool) (part_rule : Instance → Part → Bool) (id : NodeId)

@@ -10,11 +10,12 @@ use Words.{◌≤◌, Bool, true, false, Option, Some, None, List, [], ◌∷◌
 use Words.{arith}
 use Rattle.{std.proofs.Common.zip, lb_check.specs.{Clocks.Base, Needs.is_right_side}}
 use Rattle.lb_check.proofs.lists.Members.{Every-at, to_pieces, Every-map, Every-both}
+use Rattle.lb_static.proofs.TestedItems.{found_passes}
+use Rattle.lb_check.proofs.programs.InstancePaths.{find_in, numbered_from}
 use Rattle.lb_check.proofs.programs.OccurrenceSites.{site_of_call, numbered_below, find_here}
 use Rattle.lb_check.proofs.programs.OccurrenceSites.{find_next, calls_of, node_calls, AreCalls}
 use Rattle.lb_check.proofs.programs.OccurrenceSites.{body_calls, body_occurrences, calls_each}
-use Rattle.lb_check.proofs.programs.OccurrenceSites.{calls_in, numbered_from, own_site}
-use Rattle.lb_check.proofs.programs.OccurrenceSites.{statement_calls}
+use Rattle.lb_check.proofs.programs.OccurrenceSites.{calls_in, own_site, statement_calls}
 
 -- The call of a number in the text of a node, and the left variables of the equation whose whole
 -- right side is this call.
@@ -22,24 +23,13 @@ use Rattle.lb_check.proofs.programs.OccurrenceSites.{statement_calls}
 -- an item that `find` returns is in the list and passes the test
 pub found_in : {A : Type 0} (test : A → Bool) (xs : List A) (x : A) → find test xs ≡ Some x →
     In x xs × (test x ≡ true)
-found_in test [] x e = absurd cc
-found_in test (y ∷ ys) x e = by (test y) refl (found_in test ys x)
-  where
-    by : (b : Bool) → test y ≡ b → (find test ys ≡ Some x → In x ys × (test x ≡ true)) →
-        In x (y ∷ ys) × (test x ≡ true)
-    by true is again =
-        let same = same_Some y x (sym (find_here test y ys is) ∙ e) in
-        (inl same, ap test (sym same) ∙ is)
-    by false is again =
-        let later = again (sym (find_next test y ys is) ∙ e) in
-        (inr later.0, later.1)
+found_in test xs x e = (find_in test xs x e, found_passes test xs x e)
 
 zip_second : {A B : Type 0} (xs : List A) (ys : List B) (t : A × B) → In t (zip xs ys) →
     In t.1 ys
-zip_second [] ys t i = absurd i
-zip_second (x ∷ xs) [] t i = absurd i
 zip_second {A = A} {B = B} (x ∷ xs) (y ∷ ys) t (inl e) = inl (ap (λ (u : A × B). u.1) e)
 zip_second (x ∷ xs) (y ∷ ys) t (inr i) = inr (zip_second xs ys t i)
+zip_second _ _ t i = absurd i
 
 -- ## Expressions in parentheses
 
@@ -111,6 +101,11 @@ module _ (P : Program) (here : Node) where
   statement_has_site (Equation lefts e) is = has_site e is
   statement_has_site (Assertion e) is = has_site e is
 
+  -- a call behind those of a statement is not its right side
+  not_right : (n : ℕ) (s : Statement) (call : ℕ) → n + length (statement_sites s) ≤ call →
+      (nat_eq n call && is_site (ungrouped (right_side s))) ≡ false
+  not_right n s call le = grind (arith, nat_tests, statement_has_site s, and-false)
+
   right_found : (n : ℕ) (ss : List Statement) →
       Every (λ t. is_site (ungrouped t.1.expr) ≡ true →
       find (λ u. is_right_side t.1.calls_before u.1) (numbered_statements n ss) ≡ Some t)
@@ -122,24 +117,12 @@ module _ (P : Program) (here : Node) where
       let rest = numbered_statements (n + length (statement_sites s)) ss in (
         λ is. find_here (λ u. is_right_side n u.1) first rest (and_from _ _ (same_number n) is),
         Every-map _ _
-            (λ t h is. find_next (λ u. is_right_side t.1.calls_before u.1) first rest (other t h.0)
+            (λ t h is. find_next (λ u. is_right_side t.1.calls_before u.1) first rest
+            (not_right n s t.1.calls_before h.0)
             ∙ h.1 is) rest
             (Every-both _ _ rest (numbers_from (n + length (statement_sites s)) ss)
             (right_found (n + length (statement_sites s)) ss)),
       )
-    where
-      other : (t : Statement × Occurrence) → n + length (statement_sites s) ≤ t.1.calls_before →
-          is_right_side t.1.calls_before (at (statement_clock P here s) n (right_side s)) ≡ false
-      other t le = by (is_site (ungrouped (right_side s))) refl
-        where
-          by : (b : Bool) → is_site (ungrouped (right_side s)) ≡ b →
-              (nat_eq n t.1.calls_before && is_site (ungrouped (right_side s))) ≡ false
-          by false e =
-              ap (λ b. nat_eq n t.1.calls_before && b) e ∙ and-false (nat_eq n t.1.calls_before)
-          by true e =
-              let some = statement_has_site s e in
-              let differs : nat_eq n t.1.calls_before ≡ false = grind (arith, nat_tests) in
-              ap (λ b. b && is_site (ungrouped (right_side s))) differs
 
   -- the left variables of a call that is the whole right side of a statement are those of the
   -- statement
@@ -282,25 +265,8 @@ module _ (P : Program) (here : Node) where
   pub first_lefts : (n : ℕ) (s : Statement) (ss : List Statement) (call : ℕ) →
       call < n + length (statement_sites s) →
       own_lefts n (right_side s) (left_names s) call ≡ lefts_among n (s ∷ ss) call
-  first_lefts n s ss call lt = by (nat_eq n call && is_site (ungrouped (right_side s))) refl
-    where
-      by : (b : Bool) → (nat_eq n call && is_site (ungrouped (right_side s))) ≡ b →
-          own_lefts n (right_side s) (left_names s) call ≡ lefts_among n (s ∷ ss) call
-      by true is =
-          let first : Statement × Occurrence =
-          (s, at (statement_clock P here s) n (right_side s)) in
-          let rest = numbered (n + length (statement_sites s)) ss in
-          ap (λ b. cond b (left_names s) []) is
-          ∙ sym (ap (listed (λ s. left_names s.0))
-          (find_here (λ s. is_right_side call s.1) first rest is))
-      by false is =
-          let first : Statement × Occurrence =
-          (s, at (statement_clock P here s) n (right_side s)) in
-          let rest = numbered (n + length (statement_sites s)) ss in
-          ap (λ b. cond b (left_names s) []) is
-          ∙ sym (ap (listed (λ s. left_names s.0))
-          (find_next (λ s. is_right_side call s.1) first rest is
-          ∙ none_right call (n + length (statement_sites s)) ss lt))
+  first_lefts n s ss call lt =
+      grind (arith, none_right call (n + length (statement_sites s)) ss lt)
 
   -- the left variables of a call within a later statement are those among the later ones
   pub later_lefts : (n : ℕ) (s : Statement) (ss : List Statement) (call : ℕ) →
@@ -312,15 +278,7 @@ module _ (P : Program) (here : Node) where
       let rest = numbered (n + length (statement_sites s)) ss in
       sym (ap (listed (λ s. left_names s.0))
       (find_next (λ s. is_right_side call s.1) first rest
-      (by (is_site (ungrouped (right_side s))) refl)))
-    where
-      by : (b : Bool) → is_site (ungrouped (right_side s)) ≡ b →
-          (nat_eq n call && is_site (ungrouped (right_side s))) ≡ false
-      by false e = ap (λ b. nat_eq n call && b) e ∙ and-false (nat_eq n call)
-      by true e =
-          let some = statement_has_site P here s e in
-          let differs : nat_eq n call ≡ false = grind (arith, nat_tests) in
-          ap (λ b. b && is_site (ungrouped (right_side s))) differs
+      (not_right P here n s call le)))
 
   -- the left variables of a call that is a whole right side, and below of all else
   pub own_is : (n : ℕ) (e : Expr) (lefts : List Name) → is_site (ungrouped e) ≡ true →

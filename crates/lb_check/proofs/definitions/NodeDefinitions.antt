@@ -11,17 +11,17 @@ use Words.{Binary', If', When', Replicate', Index', Slice', Join', Array', AtMos
 use Words.{IterateNode', IterateSymbol', Row_of-Term, end_of-Term, more_of-Term, Program}
 use Words.{node_sites, are_distinct, keeps_names, left_names, node_parts, parts, parts_in}
 use Words.{right_side, variable_names, IsReached, source_names, tree_at, trees, IsResolved, node_of}
-use Words.{texts_of, counts_of, Texts, Counts, is_variable, is_call, is_static, is_within}
-use Words.{are_within, is_statement_within, name_at, static_at, named_value, expr_of, row_of}
-use Words.{statement_of, site_at, variables, Part, at_place, first_broken, is_part_defined, if_node}
-use Words.{is_defined, IsIllDefined, count_left, count_statement, count_statements, calls_function}
+use Words.{texts_of, counts_of, Texts, Counts, is_variable, is_call, is_within, are_within}
+use Words.{is_statement_within, name_at, static_at, named_value, expr_of, row_of, statement_of}
+use Words.{site_at, variables, Part, at_place, first_broken, is_part_defined, if_node, is_defined}
+use Words.{IsIllDefined, count_left, count_statement, count_statements, calls_function}
 use Words.{is_statement_memoryless, is_defined_at, flat_map, ◌≢◌, length-append, ltb-true, eq-eqb}
 use Words.{eqb-true, lt-ltb, le-ltb}
 use Rattle.std.proofs.lemmas.{Bool.ne_eqb, List.Recursion.is_count_by}
 use Rattle.lb_check.specs.{BrokenParts.is_defined_right, DefinitionRules.definition_count}
 use Rattle.lb_check.specs.{DefinitionRules.{defines_once, is_memoryless}, FoundParts.IsDefinedPlace}
 use Rattle.lb_check.specs.NodeDefinitions.{memory_in_function, wanted_count}
-use Rattle.lb_check.proofs.definitions.NodePlaces.{distinct_variables, callee_found}
+use Rattle.lb_check.proofs.definitions.NodePlaces.{distinct_variables, callee_found, node_resolved}
 use Rattle.lb_check.proofs.lists.ListPairs.{all_pass, fails_at, found_item, not_all_pass}
 use Rattle.lb_check.proofs.lists.Members.{distinct_at}
 use Rattle.lb_syntax.specs.Tree as tree
@@ -38,17 +38,10 @@ name_count x (y ∷ ys) = cond (bytes_eq x y) (1 + name_count x ys) (name_count 
 count_append : (x : Name) (ys zs : List Name) →
     name_count x (ys ++ zs) ≡ name_count x ys + name_count x zs
 count_append x [] zs = omega arith
-count_append x (y ∷ ys) zs = by (bytes_eq x y) (count_append x ys zs)
-  where
-    by : (b : Bool) → name_count x (ys ++ zs) ≡ name_count x ys + name_count x zs
-        → cond b (1 + name_count x (ys ++ zs)) (name_count x (ys ++ zs)) ≡ cond b
-        (1 + name_count x ys) (name_count x ys) + name_count x zs
-    by true e = omega (arith, e)
-    by false e = e
+count_append x (y ∷ ys) zs = grind (arith, count_append x ys zs)
 
 one_or_none : (b : Bool) (m n : ℕ) → m ≡ n → cond b (1 + m) m ≡ cond b 1 0 + n
-one_or_none true m n e = ap (λ z. 1 + z) e
-one_or_none false m n e = e ∙ omega arith
+one_or_none b m n e = grind arith
 
 module _ (t : Texts) (k : Counts) (as_many : k.variables ≡ length t.variables)
     (distinct : are_distinct t.variables ≡ true)
@@ -76,8 +69,8 @@ module _ (t : Texts) (k : Counts) (as_many : k.variables ≡ length t.variables)
       → name_count x (flat_map left_names (map (statement_of t) ss)) ≡ count_statements i ss
   statements_counted [] w = refl
   statements_counted (s ∷ ss) w =
-      let a = statement_counted s (and_first _ (list_all (is_statement_within k) ss) w) in
-      let b = statements_counted ss (and_second (is_statement_within k s) _ w) in
+      let a = statement_counted s (and_first _ _ w) in
+      let b = statements_counted ss (and_second _ _ w) in
       count_append x (left_names (statement_of t s)) (flat_map left_names (map (statement_of t) ss))
       ∙ rw a (rw b refl)
 
@@ -157,10 +150,7 @@ module _ (P : Program) (r : Reached) (names : keeps_names P ≡ true) (reached :
   t = texts_of n
 
   resolved : IsResolved (source_names P) n
-  resolved =
-      let lt = slice_get_within r.nodes.items id.0 n at in
-      let is = get_or_from_slice_get r.nodes.items id.0 n n at in
-      subst (IsResolved (source_names P)) is (reached.resolved id.0 n lt)
+  resolved = node_resolved P r names reached id.0 n at
 
   tree_is : tree_at r id ≡ Some (node_of n)
   tree_is = slice_get-map node_of r.nodes.items id.0 ∙ ap (option_map node_of) at
@@ -209,6 +199,18 @@ module _ (P : Program) (r : Reached) (names : keeps_names P ≡ true) (reached :
   abbrev row_parts : {m : _} → Row_of-Term m → List Expr
   row_parts row = parts_in (row_of (texts_of n) row)
 
+  -- the code tells whether a term has memory
+  abbrev IsMirrored : Term → Type 0
+  IsMirrored e =
+      is_within (counts_of n) e ≡ true → memoryless (parts_of e) ≡ mirror.is_memoryless r n e
+
+  two_terms : (a b : Term) → (is_within (counts_of n) a && is_within (counts_of n) b) ≡ true →
+      IsMirrored a → IsMirrored b →
+      memoryless (parts_of a ++ parts_of b)
+      ≡ (mirror.is_memoryless r n a && mirror.is_memoryless r n b)
+  two_terms a b w ma mb =
+      two_parts (parts_of a) (parts_of b) _ _ (ma (and_first _ _ w)) (mb (and_second _ _ w))
+
   mutual
     unfolding mirror.is_memoryless
 
@@ -218,51 +220,37 @@ module _ (P : Program) (r : Reached) (names : keeps_names P ≡ true) (reached :
     term_memoryless (Group' p e) w = term_memoryless e w
     term_memoryless (Unary' op p a) w = term_memoryless a w
     term_memoryless (Binary' op p a q b) w =
-        two_parts (parts_of a) (parts_of b) _ _
-        (term_memoryless a (and_first _ (is_within (counts_of n) b) w))
-        (term_memoryless b (and_second (is_within (counts_of n) a) _ w))
+        two_terms a b w (λ w. term_memoryless a w) (λ w. term_memoryless b w)
     term_memoryless (If' p c q a o b) w =
-        two_parts (parts_of c) (parts_of a ++ parts_of b) _ _
-        (term_memoryless c
-        (and_first _ (is_within (counts_of n) a && is_within (counts_of n) b) w))
-        (two_parts (parts_of a) (parts_of b) _ _
-        (term_memoryless a
-        (and_first _ (is_within (counts_of n) b) (and_second (is_within (counts_of n) c) _ w)))
-        (term_memoryless b
-        (and_second (is_within (counts_of n) a) _ (and_second (is_within (counts_of n) c) _ w))))
+        two_parts (parts_of c) (parts_of a ++ parts_of b) _ _ (term_memoryless c (and_first _ _ w))
+        (two_terms a b (and_second _ _ w) (λ w. term_memoryless a w) (λ w. term_memoryless b w))
     term_memoryless (When' p e x sign) w =
-        term_memoryless e (and_second (is_variable (counts_of n) x) _ w)
+        term_memoryless e (and_second _ _ w)
     term_memoryless (Replicate' p e i) w =
-        term_memoryless e (and_second (is_static (counts_of n) i) _ w)
+        term_memoryless e (and_second _ _ w)
     term_memoryless (Index' p e i) w =
-        term_memoryless e (and_second (is_static (counts_of n) i) _ w)
+        term_memoryless e (and_second _ _ w)
     term_memoryless (Slice' p e i j) w =
-        term_memoryless e
-        (and_second (is_static (counts_of n) j) _ (and_second (is_static (counts_of n) i) _ w))
+        term_memoryless e (and_second _ _ (and_second _ _ w))
     term_memoryless (Join' p a q b) w =
-        two_parts (parts_of a) (parts_of b) _ _
-        (term_memoryless a (and_first _ (is_within (counts_of n) b) w))
-        (term_memoryless b (and_second (is_within (counts_of n) a) _ w))
+        two_terms a b w (λ w. term_memoryless a w) (λ w. term_memoryless b w)
     term_memoryless (Array' arity all) w = row_memoryless all w
     term_memoryless (AtMostOne' arity all) w = row_memoryless all w
     term_memoryless (Nor' arity all) w = row_memoryless all w
     term_memoryless (Call' c arity all) w =
-        with_call c (and_first _ (are_within (counts_of n) all) w) _ _
-        (row_memoryless all (and_second (is_call (counts_of n) c) _ w))
+        with_call c (and_first _ _ w) _ _ (row_memoryless all (and_second _ _ w))
     term_memoryless (IterateNode' it c arity all) w =
-        with_call c (and_first _ (are_within (counts_of n) all) w) _ _
-        (row_memoryless all (and_second (is_call (counts_of n) c) _ w))
+        with_call c (and_first _ _ w) _ _ (row_memoryless all (and_second _ _ w))
     term_memoryless (IterateSymbol' it op i arity all) w =
-        row_memoryless all (and_second (is_static (counts_of n) i) _ w)
+        row_memoryless all (and_second _ _ w)
     term_memoryless e w = refl
 
     row_memoryless : {m : _} (row : Row_of-Term m) → are_within (counts_of n) row ≡ true →
         memoryless (row_parts row) ≡ mirror.is_row_memoryless r n row
     row_memoryless end_of-Term w = refl
     row_memoryless (more_of-Term e rest) w =
-        two_parts (parts_of e) (row_parts rest) _ _
-        (term_memoryless e (and_first _ (are_within (counts_of n) rest) w))
-        (row_memoryless rest (and_second (is_within (counts_of n) e) _ w))
+        two_parts (parts_of e) (row_parts rest) _ _ (term_memoryless e (and_first _ _ w))
+        (row_memoryless rest (and_second _ _ w))
 
   abbrev is_free : Statement → Bool
   is_free s = memoryless (parts (right_side s))
@@ -270,7 +258,7 @@ module _ (P : Program) (r : Reached) (names : keeps_names P ≡ true) (reached :
   statement_memoryless : (s : ResolvedStatement) → is_statement_within (counts_of n) s ≡ true →
       is_free (statement_of (texts_of n) s) ≡ is_statement_memoryless r n s
   statement_memoryless (statement.Equation lefts e) w =
-      term_memoryless e (and_second (list_all (is_variable (counts_of n)) lefts.items) _ w)
+      term_memoryless e (and_second _ _ w)
   statement_memoryless (statement.Assertion e) w = term_memoryless e w
 
   body_memoryless : (ss : List ResolvedStatement) →
@@ -281,9 +269,7 @@ module _ (P : Program) (r : Reached) (names : keeps_names P ≡ true) (reached :
   body_memoryless (s ∷ ss) w =
       two_parts (parts (right_side (statement_of t s)))
       (flat_map (λ s. parts (right_side s)) (map (statement_of t) ss)) _ _
-      (statement_memoryless s
-      (and_first _ (list_all (is_statement_within (counts_of n)) ss) w))
-      (body_memoryless ss (and_second (is_statement_within (counts_of n) s) _ w))
+      (statement_memoryless s (and_first _ _ w)) (body_memoryless ss (and_second _ _ w))
 
   memoryless_is : list_all (is_memoryless P) (node_parts (node_of n))
       ≡ list_all (is_statement_memoryless r n) n.body.items
@@ -330,24 +316,12 @@ module _ (P : Program) (r : Reached) (names : keeps_names P ≡ true) (reached :
 
   pub memory_found : (o : Option ℕ) (j : ℕ) → o ≡ memory_in_function r n → o ≡ Some j →
       IsIllDefined P r id (part.Statement j)
-  memory_found o j known is = by (node_of n).is_function refl (sym known ∙ is)
-    where
-      by : (b : Bool) → (node_of n).is_function ≡ b →
-          cond b (first_broken (is_statement_memoryless r n) n.body.items) None ≡ Some j
-          → IsIllDefined P r id (part.Statement j)
-      by true function found = statement_found j function found
-      by false function found = absurd cc
+  memory_found o j known is = grind (arith, statement_found j)
 
   -- a node keeps the rules of memory, where no statement with memory is found in it
   rules_kept : memory_in_function r n ≡ None → (not (node_of n).is_function
       || list_all (is_statement_memoryless r n) n.body.items) ≡ true
-  rules_kept known = by (node_of n).is_function known
-    where
-      by : (b : Bool) →
-          cond b (first_broken (is_statement_memoryless r n) n.body.items) None ≡ None
-          → (not b || list_all (is_statement_memoryless r n) n.body.items) ≡ true
-      by true known = all_pass _ n.body.items known
-      by false known = refl
+  rules_kept known = grind (arith, all_pass (is_statement_memoryless r n) n.body.items)
 
   -- ## Definitions
 

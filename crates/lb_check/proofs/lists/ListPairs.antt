@@ -1,6 +1,6 @@
 -- Two lists item by item, lists that are read backwards, and searches through a list.
-use Rattle.lb_check.proofs.Words.{◌≡◌, ℕ, zero, suc, ◌+◌, ◌<◌, Bool, true, List, [], ◌∷◌, take}
-use Rattle.lb_check.proofs.Words.{drop, map, Some, refl, ap, sym, ◌∙◌, arith, ◌&&◌, slice_get}
+use Rattle.lb_check.proofs.Words.{and-false, ◌≡◌, ℕ, zero, suc, ◌+◌, ◌<◌, Bool, true, List, [], ◌∷◌}
+use Rattle.lb_check.proofs.Words.{take, drop, map, Some, refl, ap, sym, ◌∙◌, arith, ◌&&◌, slice_get}
 use Rattle.lb_check.proofs.Words.{and_from, and_first, and_second, ◌++◌, subst, Every, ◌-◌, ◌≤◌}
 use Rattle.lb_check.proofs.Words.{length, get_or, reverse, append_assoc, drop_all, drop_more}
 use Rattle.lb_check.proofs.Words.{reverse-append, false, cond, Option, None, is_some, not}
@@ -25,12 +25,11 @@ get_dropped (suc m) (x ∷ xs) j =
 
 pub get_taken : {A : Type 0} (n : ℕ) (xs : List A) (i : ℕ) (x : A) →
     slice_get (take n xs) i ≡ Some x → (slice_get xs i ≡ Some x) × (i < n)
-get_taken zero xs i x e = absurd cc
-get_taken (suc n) [] i x e = absurd cc
 get_taken (suc n) (y ∷ xs) zero x e = (e, omega arith)
 get_taken (suc n) (y ∷ xs) (suc i) x e =
     let z = get_taken n xs i x e in let lt = z.1 in
     (z.0, omega arith)
+get_taken _ _ i x e = absurd cc
 
 pub taken : {A : Type 0} (n : ℕ) (xs : List A) (i : ℕ) (x : A) → slice_get xs i ≡ Some x → i < n →
     slice_get (take n xs) i ≡ Some x
@@ -56,13 +55,12 @@ each_pair f (x ∷ xs) (y ∷ ys) = f x y && each_pair f xs ys
 pub pair_at : {A B : Type 0} (f : A → B → Bool) (xs : List A) (ys : List B) (i : ℕ) (x : A)
     (y : B) → each_pair f xs ys ≡ true
     → slice_get xs i ≡ Some x → slice_get ys i ≡ Some y → f x y ≡ true
-pair_at f [] ys i x y e p q = absurd cc
-pair_at f (a ∷ xs) [] i x y e p q = absurd cc
 pair_at f (a ∷ xs) (b ∷ ys) zero x y e p q =
     let s : a ≡ x = cc in
     let t : b ≡ y = cc in
     sym (ap (λ z. f z b) s ∙ ap (f x) t) ∙ and_first (f a b) _ e
 pair_at f (a ∷ xs) (b ∷ ys) (suc i) x y e p q = pair_at f xs ys i x y (and_second (f a b) _ e) p q
+pair_at f _ _ i x y e p q = absurd cc
 
 pub pairs_from : {A B : Type 0} (f : A → B → Bool) (xs : List A) (ys : List B)
     → ((i : ℕ) (x : A) (y : B) → slice_get xs i ≡ Some x → slice_get ys i ≡ Some y → f x y ≡ true) →
@@ -96,9 +94,8 @@ module _ {A B : Type 0} (R : A → B → Type 0) where
       (xs xs' : List A) (ys ys' : List B) → Pairs R xs ys → Pairs R xs' ys' →
       Pairs R (xs ++ xs') (ys ++ ys')
   Pairs-append [] xs' [] ys' h g = g
-  Pairs-append [] xs' (y ∷ ys) ys' h g = absurd h
-  Pairs-append (x ∷ xs) xs' [] ys' h g = absurd h
   Pairs-append (x ∷ xs) xs' (y ∷ ys) ys' h g = (h.0, Pairs-append xs xs' ys ys' h.1 g)
+  Pairs-append _ xs' _ ys' h g = absurd h
 
   -- the items are in relation `S`, where they are in `R`, and each of the first list has `Q`, which
   -- leads from `R` to `S`
@@ -106,10 +103,9 @@ module _ {A B : Type 0} (R : A → B → Type 0) where
       (S : A → B → Type 0) (Q : A → Type 0) → ((x : A) (y : B) → Q x → R x y → S x y) →
       (xs : List A) (ys : List B) → Every Q xs → Pairs R xs ys → Pairs S xs ys
   Pairs-with S Q f [] [] q h = tt
-  Pairs-with S Q f [] (y ∷ ys) q h = absurd h
-  Pairs-with S Q f (x ∷ xs) [] q h = absurd h
   Pairs-with S Q f (x ∷ xs) (y ∷ ys) q h =
       (f x y q.0 h.0, Pairs-with S Q f xs ys q.1 h.1)
+  Pairs-with S Q f _ _ q h = absurd h
 
   -- the item that is paired with the one at place `i`
   pub paired_at :
@@ -159,30 +155,20 @@ module _ {A : Type 0} (f : A → Bool) where
   abbrev pub broken_from : ℕ → List A → Option ℕ
   broken_from i xs = position_from (λ x. not (f x)) i xs
 
-  next : (whole : Option ℕ) (all : List A) (i : ℕ) (x : A) (b : Bool) →
-      whole ≡ broken_from i (drop i all) → i < length all → x ≡ get_or all i x → f x ≡ b
-      → whole ≡ cond (not b) (Some i) (broken_from (i + 1) (drop (i + 1) all))
-  next whole all i x b known lt is e =
-      known ∙ ap (broken_from i) (drop_more all i x lt)
-      ∙ ap (λ c. cond (not c) (Some i) (broken_from (i + 1) (drop (i + 1) all)))
-      (sym (ap f is) ∙ e)
-
   -- after an item that passes, the first item that fails is found from the next place on
   pub broken_more : (whole : Option ℕ) (all : List A) (i : ℕ) (x : A) →
       whole ≡ broken_from i (drop i all) → i < length all → x ≡ get_or all i x → f x ≡ true
       → whole ≡ broken_from (i + 1) (drop (i + 1) all)
-  broken_more whole all i x known lt is e = next whole all i x true known lt is e
+  broken_more whole all i x known lt is e =
+      known ∙ ap (broken_from i) (drop_more all i x lt)
+      ∙ ap (λ c. cond (not c) (Some i) (broken_from (i + 1) (drop (i + 1) all)))
+      (sym (ap f is) ∙ e)
 
   -- ## The item that is found
 
   all_from : (k : ℕ) (xs : List A) → broken_from k xs ≡ None → list_all f xs ≡ true
   all_from k [] e = refl
-  all_from k (x ∷ xs) e = by (f x) (all_from (k + 1) xs) e
-    where
-      by : (b : Bool) → (broken_from (k + 1) xs ≡ None → list_all f xs ≡ true) →
-          cond (not b) (Some k) (broken_from (k + 1) xs) ≡ None → (b && list_all f xs) ≡ true
-      by true rest e = rest e
-      by false rest e = absurd cc
+  all_from k (x ∷ xs) e = grind (arith, all_from (k + 1) xs)
 
   -- each item passes, where none is found that fails
   pub all_pass : (xs : List A) → first_broken f xs ≡ None → list_all f xs ≡ true
@@ -228,11 +214,7 @@ module _ {A : Type 0} (f : A → Bool) where
       list_all f xs ≡ false
   one_fails [] i x e fails = absurd cc
   one_fails (y ∷ xs) zero x e fails = let same : y ≡ x = cc in rw (same, fails) refl
-  one_fails (y ∷ xs) (suc i) x e fails = by (f y) (one_fails xs i x e fails)
-    where
-      by : (b : Bool) → list_all f xs ≡ false → (b && list_all f xs) ≡ false
-      by true rest = rest
-      by false rest = refl
+  one_fails (y ∷ xs) (suc i) x e fails = grind (arith, one_fails xs i x e fails, and-false)
 
   pub not_all_pass : (xs : List A) (i : ℕ) → first_broken f xs ≡ Some i → list_all f xs ≡ false
   not_all_pass xs i e = let h = found_item xs i e in one_fails xs i h.0 h.1 h.2
@@ -240,12 +222,7 @@ module _ {A : Type 0} (f : A → Bool) where
   -- at a place that fails stands an item that fails
   pub item_there : (xs : List A) (i : ℕ) → at_place f xs i ≡ false →
       (x : A) × (slice_get xs i ≡ Some x) × (f x ≡ false)
-  item_there xs i e = by (slice_get xs i) e
-    where
-      by : (o : Option A) → list_all f (listed (λ x. x ∷ []) o) ≡ false →
-          (x : A) × (o ≡ Some x) × (f x ≡ false)
-      by None e = absurd cc
-      by (Some x) e = (x, refl, sym (and-true (f x)) ∙ e)
+  item_there xs i e = grind (arith, and-true)
 
   -- an item that fails is found exactly where not all pass
   pub is_found : {B : Type 0} (o : Option B) (g : B → ℕ) (xs : List A) →
@@ -263,5 +240,4 @@ module _ {A : Type 0} (f : A → Bool) where
 
 pub none_found : (o : Option ℕ) (b : Bool) → is_some o ≡ not b → b ≡ true → o ≡ None
 none_found None b h e = refl
-none_found (Some i) true h e = absurd cc
-none_found (Some i) false h e = absurd cc
+none_found _ _ h e = absurd cc

@@ -1,10 +1,11 @@
 -- Members of lists: statements on each item, lists in which nothing stands twice, distinct names.
 use Rattle.lb_check.proofs.Words
-use Words.{◌||◌, reverse, IfSome, list_all, list_any, range_with_len, reverse-append, Every}
-use Words.{some_of, and_first, and_second, ◌⊎◌, inl, inr, ◌≤◌, ap, ◌∙◌, In, in_map, length, not}
-use Words.{nat_lt, slice_get, ◌==◌, bytes_eq, nat_tests, bytes_eq-Decides, not-true, Name, or_first}
-use Words.{or_second, among, are_distinct, ◌≡◌, ℕ, zero, suc, ◌+◌, ◌<◌, Bool, true, false, cond}
-use Words.{List, [], ◌∷◌, ◌++◌, Option, Some, None, map, flat_map, refl, sym, ap₂, subst, arith}
+use Words.{false_from_ne_true, ◌||◌, reverse, IfSome, list_all, list_any, range_with_len}
+use Words.{reverse-append, Every, some_of, and_first, and_second, ◌⊎◌, inl, inr, ◌≤◌, ap, ◌∙◌, In}
+use Words.{in_map, length, not, nat_lt, slice_get, ◌==◌, bytes_eq, nat_tests, bytes_eq-Decides}
+use Words.{not-true, Name, or_first, or_second, among, are_distinct, ◌≡◌, ℕ, zero, suc, ◌+◌, ◌<◌}
+use Words.{Bool, true, false, List, [], ◌∷◌, ◌++◌, Option, Some, None, map, flat_map, refl, sym}
+use Words.{ap₂, subst, arith}
 use Rattle.std.specs.List.{filter}
 pub use Rattle.lb_syntax.specs.Lists.{AreApart}
 
@@ -52,12 +53,7 @@ pub Every-filter :
     {A : Type 0} (Q : A → Type 0) (test : A → Bool) (xs : List A) → Every Q xs →
     Every Q (filter test xs)
 Every-filter Q test [] h = tt
-Every-filter Q test (x ∷ xs) h = by (test x) (Every-filter Q test xs h.1)
-  where
-    by : (b : Bool) → Every Q (filter test xs) →
-        Every Q (cond b (x ∷ filter test xs) (filter test xs))
-    by true rest = (h.0, rest)
-    by false rest = rest
+Every-filter Q test (x ∷ xs) h = grind (arith, Every-filter Q test xs h.1, h.0)
 
 -- a statement on each item of a `flat_map` holds of each item of each piece
 module _ {A : Type 0} (Q : A → Type 0) {B : Type 0} (f : B → List A) where
@@ -77,21 +73,11 @@ module _ {A : Type 0} (Q : A → Type 0) {B : Type 0} (f : B → List A) where
 module _ {A B : Type 0} (Q : B → Type 0) (f : A → Option B) where
   pub Every-found : (xs : List A) → Every (λ x. IfSome (f x) Q) xs → Every Q (some_of (map f xs))
   Every-found [] h = tt
-  Every-found (x ∷ xs) h = by (f x) h.0 (Every-found xs h.1)
-    where
-      by : (o : Option B) → IfSome o Q → Every Q (some_of (map f xs)) →
-          Every Q (some_of (o ∷ map f xs))
-      by None here rest = rest
-      by (Some b) here rest = (here, rest)
+  Every-found (x ∷ xs) h = grind (arith, h.0, Every-found xs h.1)
 
   pub Every-finds : (xs : List A) → Every Q (some_of (map f xs)) → Every (λ x. IfSome (f x) Q) xs
   Every-finds [] h = tt
-  Every-finds (x ∷ xs) h = by (Every-finds xs) (f x) h
-    where
-      by : (Every Q (some_of (map f xs)) → Every (λ x. IfSome (f x) Q) xs) → (o : Option B) →
-          Every Q (some_of (o ∷ map f xs)) → IfSome o Q × Every (λ x. IfSome (f x) Q) xs
-      by rest None all = (tt, rest all)
-      by rest (Some b) all = (all.0, rest all.1)
+  Every-finds (x ∷ xs) h = grind (arith, h, Every-finds xs)
 
 pub Every-range :
     (Q : ℕ → Type 0) (a n i : ℕ) → Every Q (range_with_len a n) → i < n → Q (a + i)
@@ -148,11 +134,7 @@ module _ {A : Type 0} where
   pub in_either : (x : A) (xs ys : List A) → In x (xs ++ ys) → In x xs ⊎ In x ys
   in_either x [] ys i = inr i
   in_either x (z ∷ xs) ys (inl e) = inl (inl e)
-  in_either x (z ∷ xs) ys (inr i) = next (in_either x xs ys i)
-    where
-      next : In x xs ⊎ In x ys → In x (z ∷ xs) ⊎ In x ys
-      next (inl j) = inl (inr j)
-      next (inr j) = inr j
+  in_either x (z ∷ xs) ys (inr i) = grind (arith, in_either x xs ys i)
 
   pub Every-at : (Q : A → Type 0) (xs : List A) (x : A) → Every Q xs → In x xs → Q x
   Every-at Q [] x h i = absurd i
@@ -170,11 +152,7 @@ module _ {A B : Type 0} (f : A → Option B) where
   in_some (z ∷ xs) x y (inl e) is =
       let same : f z ≡ Some y = ap f e ∙ is in
       rw same (inl refl)
-  in_some (z ∷ xs) x y (inr i) is = by (f z) (in_some xs x y i is)
-    where
-      by : (o : Option B) → In y (some_of (map f xs)) → In y (some_of (o ∷ map f xs))
-      by None later = later
-      by (Some w) later = inr later
+  in_some (z ∷ xs) x y (inr i) is = grind (arith, in_some xs x y i is)
 
   pub some_in :
       (xs : List A) (y : B) → In y (some_of (map f xs)) → (x : A) × In x xs × (f x ≡ Some y)
@@ -332,14 +310,9 @@ suc_zero : (i : ℕ) → (0 == suc i) ≡ false
 suc_zero i = grind (arith, nat_tests)
 
 pub unequal : (x y : Name) → bytes_eq x y ≡ false → bytes_eq y x ≡ false
-unequal x y e = by (bytes_eq y x) refl
-  where
-    by : (b : Bool) → bytes_eq y x ≡ b → bytes_eq y x ≡ false
-    by false is = is
-    by true is =
-        let same = (bytes_eq-Decides y x).0 is in
-        let again = (bytes_eq-Decides x y).1 (sym same) in
-        absurd cc
+unequal x y e =
+    false_from_ne_true _
+    (λ is. let same = (bytes_eq-Decides x y).1 (sym ((bytes_eq-Decides y x).0 is)) in absurd cc)
 
 pub distinct_at : (xs : List Name) (i j : ℕ) (x y : Name) → are_distinct xs ≡ true →
     slice_get xs i ≡ Some x → slice_get xs j ≡ Some y

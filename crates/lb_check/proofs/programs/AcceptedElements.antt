@@ -6,12 +6,11 @@ use Words.{Every, In, Name, variables, width, Program, Instance, Path, instances
 use Words.{in_at, place_in, program_elements, numbers_of, Element, not, bytes_eq, length-replicate}
 use Words.{bytes_eq-Decides, same_Some, not-true, Declaration, get_first, get_later, mapped_from}
 use Words.{item_at, and_first, and_second, are_distinct, among, any_in, instance_elements, elements}
-use Words.{Kind, Option, take, flat_map-append, append_assoc, map-append, take-append_seam}
-use Words.{either_or, listed, all_some, DataType, element_count, Root, Observer, children}
-use Words.{instance_at, instances_from, static_count, ◌⊎◌, inl, inr, zero, suc, ◌+◌, true, false}
-use Words.{List, [], ◌∷◌, ◌++◌, map, replicate, refl, sym, ap, ap₂, ◌∙◌, subst, arith}
-use Words.{length-append, option_map, reverse}
-use Rattle.lb_static.specs.DataTypes.{element_names, scalar_elements, input_kinds}
+use Words.{Kind, take, flat_map-append, append_assoc, map-append, take-append_seam, listed, Root}
+use Words.{Observer, children, instance_at, instances_from, ◌⊎◌, inl, inr, zero, suc, ◌+◌, true}
+use Words.{false, List, [], ◌∷◌, ◌++◌, map, replicate, refl, sym, ap, ap₂, ◌∙◌, subst, arith}
+use Words.{length-append}
+use Rattle.lb_static.specs.DataTypes.{scalar_elements, input_kinds}
 use Rattle.lb_static.{specs.Signature.kinds_of, proofs.ElementNames.length-element_names}
 use Rattle.lb_check.{specs.Elements.element_kinds, proofs.lists.ListPairs.cons_same}
 use Rattle.lb_check.proofs.lists.Members.{Every-from, Every-at, AreApart, apart_single, Every-all}
@@ -74,18 +73,7 @@ get_either : {A : Type 0} (xs ys : List A) (i : ℕ) (x : A) → slice_get (xs +
     (slice_get xs i ≡ Some x) ⊎ ((k : ℕ) × (i ≡ length xs + k) × (slice_get ys k ≡ Some x))
 get_either [] ys i x e = let same : i ≡ 0 + i = omega arith in inr (i, same, e)
 get_either (y ∷ xs) ys zero x e = inl e
-get_either (y ∷ xs) ys (suc i) x e = by (get_either xs ys i x e)
-  where
-    by :
-        (slice_get xs i ≡ Some x)
-        ⊎ ((k : ℕ) × (i ≡ length xs + k) × (slice_get ys k ≡ Some x)) →
-        (slice_get (y ∷ xs) (suc i) ≡ Some x)
-        ⊎ ((k : ℕ) × (suc i ≡ length (y ∷ xs) + k) × (slice_get ys k ≡ Some x))
-    by (inl h) = inl h
-    by (inr h) =
-        let before = h.1 in
-        let same : suc i ≡ suc (length xs) + h.0 = omega (arith, before) in
-        inr (h.0, same, h.2)
+get_either (y ∷ xs) ys (suc i) x e = grind (arith, get_either xs ys i x e)
 
 module _ {A B C : Type 0} (f : A → List B) (g : A → List C) where
   pub pieces_count :
@@ -333,18 +321,8 @@ kinds_all k (x ∷ xs) = ap (λ ks. k ∷ ks) (kinds_all k xs)
 module _ (P : Program) (here : Instance) where
   variable_kinds : (d : Declaration) →
       kinds_of (scalar_elements P here d) ≡ replicate (width P here d) d.kind
-  variable_kinds d = by (all_some (map (static_count P here) (reverse d.sizes)))
-    where
-      by : (o : Option (List ℕ)) →
-          kinds_of (listed
-          (λ (t : DataType). map (λ x. (x, t.kind)) (element_names d.name t.sizes))
-          (option_map (λ ns. record { kind = d.kind; sizes = ns }) o))
-          ≡ replicate (either_or (option_map element_count
-          (option_map (λ ns. record { kind = d.kind; sizes = ns }) o)) 0) d.kind
-      by None = refl
-      by (Some ns) =
-          kinds_all d.kind (element_names d.name ns)
-          ∙ ap (λ n. replicate n d.kind) (length-element_names d.name ns)
+  variable_kinds d =
+      grind (arith, kinds_all d.kind, length-element_names d.name)
 
   variables_kinds : (ds : List Declaration) →
       kinds_of (flat_map (scalar_elements P here) ds) ≡ kinds_in P here ds

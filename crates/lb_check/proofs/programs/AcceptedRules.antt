@@ -1,14 +1,15 @@
 -- The rules and properties of the instances of an accepted program.
-use Rattle.lb_check.proofs.Words.{◌≡◌, ℕ, suc, Bool, true, None, List, [], ◌∷◌, list_all, Every, In}
-use Rattle.lb_check.proofs.Words.{E5, E6, E9, E10, E12, unless, and_first, and_second, Program}
-use Rattle.lb_check.proofs.Words.{Instance, instances, static_refusal, has_values, is_in_range}
-use Rattle.lb_check.proofs.Words.{may_enter, instance_refusal, instantiation_refusal, variables}
-use Rattle.lb_check.proofs.Words.{check_refusal, is_clocked, are_declared_clocks, is_typed}
-use Rattle.lb_check.proofs.Words.{is_clock_typed, is_statement_typed, node_sites}
+pub use Rattle.lb_check.proofs.programs.SameHistories.{all_typed, all_clocked}
+use Rattle.lb_check.proofs.Words.{◌≡◌, ℕ, suc, true, None, List, [], ◌∷◌, list_all, Every, In, E5}
+use Rattle.lb_check.proofs.Words.{E6, E12, unless, and_first, and_second, Program, Instance}
+use Rattle.lb_check.proofs.Words.{instances, static_refusal, has_values, is_in_range, may_enter}
+use Rattle.lb_check.proofs.Words.{instance_refusal, instantiation_refusal, variables, check_refusal}
+use Rattle.lb_check.proofs.Words.{is_clocked, are_declared_clocks, is_typed, is_clock_typed}
+use Rattle.lb_check.proofs.Words.{is_statement_typed, node_sites}
 use Rattle.lb_check.proofs.clocking.NamedClocks.{OfCalled, Sited}
 use Rattle.lb_check.proofs.definitions.BrokenRules.{first_none, second_none, kept}
 use Rattle.lb_check.proofs.{definitions.BrokenRules.instantiation_kept, lists.Members.Every-at}
-use Rattle.lb_check.proofs.lists.Members.{Every-map, Every-tested, Every-both}
+use Rattle.lb_check.proofs.lists.Members.{Every-map, Every-both}
 use Rattle.lb_check.proofs.programs.SameHistories.{IsEntered, Low, all_entered, all_children}
 use Rattle.lb_check.proofs.programs.SameHistories.{all_called}
 
@@ -43,31 +44,17 @@ valued P accepted here i =
     (all_valued P 0 (instances P) (instantiation_kept P accepted)) i
 
 module _ (P : Program) (checked : check_refusal P ≡ None) where
-  abbrev clocks : Instance → Bool
-  clocks here = is_clocked P here.node
-
-  -- each instance keeps the rules of types
-  pub all_typed : Every (λ here. is_typed P here ≡ true) (instances P)
-  all_typed =
-      Every-tested (is_typed P) (instances P)
-      (kept (list_all (is_typed P) (instances P)) E9 (first_none _ _ checked))
-
-  -- each node of an instance keeps the rules of clocks
-  pub all_clocked : Every (λ here. is_clocked P here.node ≡ true) (instances P)
-  all_clocked =
-      let later = second_none (unless (list_all (is_typed P) (instances P)) E9) _ checked in
-      Every-tested clocks (instances P)
-      (kept (list_all clocks (instances P)) E10 (first_none _ _ later))
-
   -- each node of an instance keeps the rules of declared clocks
   pub all_declared : Every (λ here. are_declared_clocks here.node ≡ true) (instances P)
   all_declared =
       Every-map (λ here. is_clocked P here.node ≡ true)
       (λ here. are_declared_clocks here.node ≡ true)
-      (λ here e. and_first (are_declared_clocks here.node) _ e) (instances P) all_clocked
+      (λ here e. and_first (are_declared_clocks here.node) _ e) (instances P)
+      (all_clocked P checked)
 
   pub typed : (here : Instance) → In here (instances P) → is_typed P here ≡ true
-  typed here i = Every-at (λ here. is_typed P here ≡ true) (instances P) here all_typed i
+  typed here i =
+      Every-at (λ here. is_typed P here ≡ true) (instances P) here (all_typed P checked) i
 
   pub statements_typed :
       (here : Instance) → In here (instances P) →
@@ -77,7 +64,7 @@ module _ (P : Program) (checked : check_refusal P ≡ None) where
 
   pub clocked : (here : Instance) → In here (instances P) → is_clocked P here.node ≡ true
   clocked here i =
-      Every-at (λ here. is_clocked P here.node ≡ true) (instances P) here all_clocked i
+      Every-at (λ here. is_clocked P here.node ≡ true) (instances P) here (all_clocked P checked) i
 
 -- A property of all instances of an accepted program holds of the instances of each of their calls.
 

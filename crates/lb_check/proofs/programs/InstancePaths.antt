@@ -1,24 +1,25 @@
 -- The instances of a program by their paths, and the node of each by its name.
 use Rattle.lb_check.proofs.Words
-use Words.{◌≡◌, ◌⊎◌, inl, inr, ℕ, zero, suc, ◌+◌, ◌<◌, ◌≤◌, Bool, true, false, Option, Some, None}
-use Words.{List, [], ◌∷◌, refl, ap, ap₂, sym, subst, ◌∙◌, arith, nat_lt, slice_get, IfSome}
-use Words.{if◌then◌else◌, range_with_len, nat_tests, eqb-true, ltb-true, and_from, same_Some, Every}
-use Words.{In, listed, same_number, and_first, and_second, Program, Instance, Path, Root, Observer}
-use Words.{Child, is_path, Site, node_sites, numbered_sites, instance_count, callee_of, start_at}
-use Words.{instance_at, site_instances, children, instances_from, instances, instantiation_refusal}
-use Words.{◌||◌, not, find, bytes_eq, list_all, list_any, bytes_eq-Decides, or_right, all_some}
-use Words.{Name, Node, all_in, node_named, static_value, static_refusal, are_distinct}
-use Words.{declares_once, is_named, keeps_names, reached_nodes, among, variable_names, in_at}
-use Words.{in_filter, any_in, in_any, found_passes, cond, option_map, map}
+use Words.{false_from_ne_true, not-false, ◌≡◌, ◌⊎◌, inl, inr, ℕ, zero, suc, ◌+◌, ◌<◌, ◌≤◌, Bool}
+use Words.{true, false, Option, Some, None, List, [], ◌∷◌, refl, ap, ap₂, sym, subst, ◌∙◌, arith}
+use Words.{nat_lt, slice_get, IfSome, if◌then◌else◌, range_with_len, nat_tests, eqb-true, ltb-true}
+use Words.{and_from, same_Some, Every, In, listed, same_number, and_first, and_second, Program}
+use Words.{Instance, Path, Root, Observer, Child, is_path, Site, node_sites, numbered_sites}
+use Words.{instance_count, callee_of, start_at, instance_at, site_instances, children}
+use Words.{instances_from, instances, instantiation_refusal, ◌||◌, not, find, bytes_eq, list_all}
+use Words.{list_any, bytes_eq-Decides, or_right, all_some, Name, Node, all_in, node_named}
+use Words.{static_value, static_refusal, are_distinct, declares_once, is_named, keeps_names}
+use Words.{reached_nodes, among, variable_names, in_at, in_filter, any_in, in_any, found_passes}
+use Words.{map}
 use Rattle.{std.proofs.lemmas.Bool.or_left, lb_static.specs.Names.{calls, reached_within}}
 use Rattle.lb_static.{specs.Names.start_names, proofs.Saturation.enough_calls}
 use Rattle.lb_check.proofs.{clocking.NamedClocks.if_some, definitions.BrokenRules.names_kept}
+use Rattle.lb_check.proofs.{lists.Members.Every-all, programs.SameHistories.callee_path}
 use Rattle.lb_check.proofs.lists.Members.{Every-map, Every-both, Every-append, Every-of_pieces}
 use Rattle.lb_check.proofs.lists.Members.{Every-found, Every-of_range, in_first, in_second}
 use Rattle.lb_check.proofs.lists.Members.{Every-at, Every-from, in_some, some_in, AreApart}
 use Rattle.lb_check.proofs.lists.Members.{apart-append, some_apart, IsPiece, of_pieces, to_pieces}
 use Rattle.lb_check.proofs.lists.Members.{apart_pieces, range_apart, in_range, distinct_first}
-use Rattle.lb_check.proofs.{lists.Members.Every-all, programs.SameHistories.callee_path}
 use Rattle.lb_check.proofs.programs.SameHistories.{all_entered, all_children, started}
 use Rattle.lb_check.proofs.typing.OperandTypes.{bound}
 
@@ -35,19 +36,14 @@ is_path-same (Child p c i) =
 
 pub same_path : (p q : Path) → is_path p q ≡ true → p ≡ q
 same_path Root Root e = refl
-same_path Root Observer e = absurd cc
-same_path Root (Child q d j) e = absurd cc
-same_path Observer Root e = absurd cc
 same_path Observer Observer e = refl
-same_path Observer (Child q d j) e = absurd cc
-same_path (Child p c i) Root e = absurd cc
-same_path (Child p c i) Observer e = absurd cc
 same_path (Child p c i) (Child q d j) e =
     let call = eqb-true c d (and_first _ _ e) in
     let rest = and_second _ _ e in
     let index = eqb-true i j (and_first _ _ rest) in
     let above = same_path p q (and_second _ _ rest) in
     rw call (rw index (rw above refl))
+same_path _ _ e = absurd cc
 
 -- ## Paths that go on from a path
 
@@ -89,17 +85,25 @@ within_same p q (Child r call index) (inr h) (inl f) deep =
 within_same p q (Child r call index) (inr h) (inr g) deep = within_same p q r h g deep
 
 within_up : (p : Path) (call index : ℕ) (r : Path) → IsWithin (Child p call index) r → IsWithin p r
-within_up p call index Root e = absurd cc
-within_up p call index Observer e = absurd cc
 within_up p call index (Child r c i) (inl e) =
     let above : p ≡ r = cc in
     inr (subst (λ q. IsWithin q r) (sym above) (within_self r))
 within_up p call index (Child r c i) (inr h) = inr (within_up p call index r h)
+within_up p call index _ e = absurd cc
 
 if_true : {A : Type 0} (b : Bool) (o : Option A) (x : A) → (if b then o else None) ≡ Some x →
     (b ≡ true) × (o ≡ Some x)
 if_true true o x e = (refl, e)
 if_true false o x e = absurd cc
+
+-- sites that are counted from `n` have numbers from `n` on
+pub numbered_from : (n : ℕ) (ss : List Site) (c : ℕ) (s : Site) →
+    In (c, s) (numbered_sites n ss) → n ≤ c
+numbered_from n [] c s i = absurd i
+numbered_from n (t ∷ ss) c s (inl e) =
+    let same : n ≡ c = ap (λ (u : ℕ × Site). u.0) e in omega (arith, same)
+numbered_from n (t ∷ ss) c s (inr i) =
+    let later = numbered_from (suc n) ss c s i in omega (arith, later)
 
 module _ (P : Program) where
   -- ## The instance at a path
@@ -301,17 +305,10 @@ module _ (P : Program) where
           (subst (λ p. IsWithin p d.path) k.path h))
           (instances_from P n c) inner
 
-  numbered_above : (ss : List Site) (n : ℕ) (s : ℕ × Site) → In s (numbered_sites n ss) → n ≤ s.0
-  numbered_above [] n s i = absurd i
-  numbered_above (t ∷ ss) n s (inl e) =
-      let same : n ≡ s.0 = ap (λ (u : ℕ × Site). u.0) e in omega (arith, same)
-  numbered_above (t ∷ ss) n s (inr i) =
-      let above = numbered_above ss (suc n) s i in omega (arith, above)
-
   numbered_apart : (ss : List Site) (n : ℕ) → AreApart (numbered_sites n ss)
   numbered_apart [] n = tt
   numbered_apart (s ∷ ss) n =
-      (λ i. absurd (omega (arith, numbered_above ss (suc n) (n, s) i)), numbered_apart ss (suc n))
+      (λ i. absurd (omega (arith, numbered_from (suc n) ss n s i)), numbered_apart ss (suc n))
 
   pair_same : (s t : ℕ × Site) → s.0 ≡ t.0 → s.1 ≡ t.1 → s ≡ t
   pair_same (a, b) (c, d) e f = ap₂ (λ x y. (x, y)) e f
@@ -446,12 +443,7 @@ module _ (P : Program) where
 -- an item that `find` returns is in the list
 pub find_in : {A : Type 0} (p : A → Bool) (xs : List A) (x : A) → find p xs ≡ Some x → In x xs
 find_in p [] x e = absurd cc
-find_in p (y ∷ xs) x e = by (p y) (find_in p xs x) e
-  where
-    by : (b : Bool) → (find p xs ≡ Some x → In x xs) → cond b (Some y) (find p xs) ≡ Some x →
-        In x (y ∷ xs)
-    by true next h = inl (same_Some y x h)
-    by false next h = inr (next h)
+find_in p (y ∷ xs) x e = grind (arith, find_in p xs x)
 
 module _ (P : Program) where
   -- ## Reached nodes
@@ -535,12 +527,7 @@ module _ (P : Program) where
   pub start_node :
       (p : Path) (f : Name) (c : Instance) → start_at P p f ≡ Some c →
       node_named P f ≡ Some c.node
-  start_node p f c e = by (node_named P f) e
-    where
-      by : (o : Option Node) → option_map (λ n. record { path = p; node = n; values = [] }) o
-          ≡ Some c → o ≡ Some c.node
-      by None h = absurd cc
-      by (Some n) h = ap Some (ap (λ (i : Instance). i.node) (same_Some _ _ h))
+  start_node p f c e = grind arith
 
   root_reached : (c : Instance) → instance_at P Root ≡ Some c → HasReached c
   root_reached c e =
@@ -583,17 +570,13 @@ module _ (P : Program) where
     -- a reached node keeps the rules of names: it is reached within as many calls as there are
     -- nodes
     node_is_named : (n : Node) → IsReached n → is_named P n ≡ true
-    node_is_named n r = by (is_named P n) refl
-      where
-        by : (b : Bool) → is_named P n ≡ b → b ≡ true
-        by true e = refl
-        by false e =
-            let here = any_in ill (reached_within P is_start r.0) n r.1 (ap not e) in
-            let there = enough_calls P is_start ill r.0 here in
-            let m = in_any ill (reached_nodes P) there in
-            let well = all_in (is_named P) (reached_nodes P) m.0 reached_named m.1 in
-            let both : not true ≡ true = ap not (sym well) ∙ m.2 in
-            absurd cc
+    node_is_named n r =
+        not-false (is_named P n) (false_from_ne_true (ill n) (λ breaks.
+        let here = any_in ill (reached_within P is_start r.0) n r.1 breaks in
+        let m = in_any ill (reached_nodes P) (enough_calls P is_start ill r.0 here) in
+        let well = all_in (is_named P) (reached_nodes P) m.0 reached_named m.1 in
+        let both : not true ≡ true = ap not (sym well) ∙ m.2 in
+        absurd cc))
 
     -- the node of each instance keeps the rules of names
     pub instances_named : Every (λ c. is_named P c.node ≡ true) (instances P)

@@ -10,8 +10,8 @@ use Words.{Instance, Path, is_path, instances, are_distinct, among, place_in, in
 use Words.{instance_elements, program_elements, numbers_of, Element, elements}
 use Rattle.{std.proofs.lemmas.List.FromFn.length-range_with_len, lb_check.specs.Elements.found_from}
 use Rattle.lb_check.{specs.Elements.numbers_from, proofs.lists.ListPairs.get_mapped}
-use Rattle.lb_check.proofs.lists.Members.{Every-map, Every-all, flat_same, Every-at, Every-from}
-use Rattle.lb_check.proofs.lists.Members.{AreApart, to_pieces, in_range}
+use Rattle.lb_check.proofs.lists.Members.{Every-map, Every-both, Every-all, flat_same, Every-at}
+use Rattle.lb_check.proofs.lists.Members.{Every-from, AreApart, to_pieces, in_range}
 use Rattle.lb_check.proofs.programs.InstancePaths.{is_path-same, same_path, IsAt, all_at}
 use Rattle.lb_check.proofs.programs.InstancePaths.{same_instance, instances_apart}
 
@@ -51,6 +51,16 @@ range_get a (suc n) zero lt = let e : a ≡ a + 0 = omega arith in ap (λ j. Som
 range_get a (suc n) (suc i) lt =
     let e : (a + 1) + i ≡ a + suc i = omega arith in
     range_get (a + 1) n i (omega arith) ∙ ap (λ j. Some j) e
+
+-- two lists of pieces have the same images, where each piece has the image of the one beside it
+pieces_mapped :
+    {A B C D : Type 0} (g : B → D) (h : C → D) (f : A → List B) (k : A → List C) (xs : List A) →
+    Every (λ x. map g (f x) ≡ map h (k x)) xs → map g (flat_map f xs) ≡ map h (flat_map k xs)
+pieces_mapped g h f k [] same = refl
+pieces_mapped g h f k (x ∷ xs) same =
+    map-append g (f x) (flat_map f xs)
+    ∙ (ap₂ (λ ys zs. ys ++ zs) same.0 (pieces_mapped g h f k xs same.1)
+    ∙ sym (map-append h (k x) (flat_map k xs)))
 
 -- ## The variables of an instance
 
@@ -112,16 +122,10 @@ module _ (P : Program) (here : Instance) where
   node_widths n [] e = tt
   node_widths n (d ∷ ds) e = (
     ap length (numbers_first n d ds) ∙ length-range_with_len n (width P here d),
-    Every-both-map ds (others d ds e) (node_widths (n + width P here d) ds (distinct_rest d ds e)),
+    Every-map _ _ (λ x z. ap length (numbers_later n d ds x.name z.0) ∙ z.1) ds
+        (Every-both _ _ ds (others d ds e)
+        (node_widths (n + width P here d) ds (distinct_rest d ds e))),
   )
-    where
-      Every-both-map : (xs : List Declaration) → Every (λ x. bytes_eq d.name x.name ≡ false) xs →
-          Every (λ x. length (numbers_from P here (n + width P here d) ds x.name) ≡ width P here x)
-          xs →
-          Every (λ x. length (numbers_from P here n (d ∷ ds) x.name) ≡ width P here x) xs
-      Every-both-map [] p q = tt
-      Every-both-map (x ∷ xs) p q =
-          (ap length (numbers_later n d ds x.name p.0) ∙ q.0, Every-both-map xs p.1 q.1)
 
   -- a name that has a number is that of a variable
   pub numbers_some :
@@ -292,7 +296,10 @@ module _ (P : Program) where
     own_numbered :
         (here : Instance) → In here (instances P) →
         map number_at (instance_elements P here) ≡ map (λ i. Some i) (own_numbers here)
-    own_numbered here i = by (variables here.node) (numbers_width here i)
+    own_numbered here i =
+        pieces_mapped number_at (λ i. Some i) (elements P here)
+        (λ d. numbers_of P here.path d.name) (variables here.node)
+        (Every-map _ _ of_one (variables here.node) (numbers_width here i))
       where
         of_one : (d : Declaration) → length (numbers_of P here.path d.name) ≡ width P here d →
             map number_at (elements P here d) ≡ map (λ i. Some i) (numbers_of P here.path d.name)
@@ -309,32 +316,12 @@ module _ (P : Program) where
             map_map (k ∷ ks) = ap (λ zs. slice_get (numbers_of P here.path d.name) k ∷ zs)
                 (map_map ks)
 
-        by : (ds : List Declaration) →
-            Every (λ d. length (numbers_of P here.path d.name) ≡ width P here d) ds →
-            map number_at (flat_map (elements P here) ds)
-            ≡ map (λ i. Some i) (flat_map (λ d. numbers_of P here.path d.name) ds)
-        by [] h = refl
-        by (d ∷ ds) h =
-            map-append number_at (elements P here d) (flat_map (elements P here) ds)
-            ∙ (ap₂ (λ xs ys. xs ++ ys) (of_one d h.0) (by ds h.1)
-            ∙ sym (map-append (λ i. Some i) (numbers_of P here.path d.name)
-            (flat_map (λ d. numbers_of P here.path d.name) ds)))
-
-    all_numbered :
-        (is : List Instance) → Every (λ c. In c (instances P)) is →
-        map number_at (flat_map (instance_elements P) is)
-        ≡ map (λ i. Some i) (flat_map own_numbers is)
-    all_numbered [] h = refl
-    all_numbered (c ∷ is) h =
-        map-append number_at (instance_elements P c) (flat_map (instance_elements P) is)
-        ∙ (ap₂ (λ xs ys. xs ++ ys) (own_numbered c h.0) (all_numbered is h.1)
-        ∙ sym (map-append (λ i. Some i) (own_numbers c) (flat_map own_numbers is)))
-
     numbered : map number_at (program_elements P)
         ≡ map (λ i. Some i) (range_with_len 0 (length (program_elements P)))
     unfolding program_elements
     numbered =
-        all_numbered (instances P) (Every-from _ (instances P) (λ c i. i))
+        pieces_mapped number_at (λ i. Some i) (instance_elements P) own_numbers (instances P)
+        (Every-from _ (instances P) own_numbered)
         ∙ ap (map (λ i. Some i)) numbers_walk
 
     -- the number of an element is its place among all elements

@@ -1,8 +1,8 @@
 -- The calls in the text of a node by their numbers: the occurrence of a call stands at the number
 -- of its site, and is the first that has this number.
 use Rattle.lb_check.proofs.Words
-use Words.{◌≡◌, inl, inr, ℕ, suc, ◌+◌, ◌<◌, ◌≤◌, Bool, true, false, cond, Option, Some, None, List}
-use Words.{[], ◌∷◌, ◌++◌, length, flat_map, refl, ap, sym, subst, ◌∙◌, arith, ◌&&◌, nat_eq, is_some}
+use Words.{◌≡◌, inl, inr, ℕ, suc, ◌+◌, ◌<◌, Bool, true, false, cond, Option, Some, None, List, []}
+use Words.{◌∷◌, ◌++◌, length, flat_map, refl, ap, sym, subst, ◌∙◌, arith, ◌&&◌, nat_eq, is_some}
 use Words.{find, slice_get, nat_tests, and-false, and_from, Every, In, Node_named, Symbol, Expr}
 use Words.{Group, Unary, Binary, If, Arrow, Fby, Pre, Current, When, Replicate, Index, Slice, Join}
 use Words.{Array, AtMostOne, Nor, Call, Iterate, Exprs, Nil, Cons, Node, Statement, Equation}
@@ -10,9 +10,10 @@ use Words.{Assertion, Program, Site, call_site, sites, sites_in, node_named, nod
 use Words.{numbered_sites, statement_sites, right_side, Clock, clock_of, clock_or, declared_clock}
 use Words.{is_site, Occurrence, at, call_count, call_clocks, occurrences, occurrences_in}
 use Words.{occurrences_each, statement_clock, right_sides, node_occurrences}
+use Rattle.std.{specs.Option.option_or, proofs.lemmas.List.Folds.find-append}
 use Rattle.{lb_syntax.specs.Tree.{Literal, Truth, Variable}, lb_check.proofs.lists.Members.in_first}
 use Rattle.lb_check.proofs.lists.Members.{in_second, Every-at, Every-map, Every-append, Every-both}
-use Rattle.lb_check.proofs.programs.InstancePaths.{numbered_stand}
+use Rattle.lb_check.proofs.programs.InstancePaths.{numbered_from, numbered_stand}
 
 -- ## The call that an expression is
 
@@ -29,11 +30,8 @@ site_test (Iterate it (Symbol op) m es) = refl
 site_test e = refl
 
 pub site_of_call : (e : Expr) → is_site e ≡ true → (s : Site) × (own_site e ≡ Some s)
-site_of_call e is = by (own_site e) (sym (site_test e) ∙ is)
-  where
-    by : (o : Option Site) → is_some o ≡ true → (s : Site) × (o ≡ Some s)
-    by None h = absurd cc
-    by (Some s) h = (s, refl)
+site_of_call e is =
+    let there : is_some (own_site e) ≡ true = sym (site_test e) ∙ is in grind arith
 
 pub call_of_site : (e : Expr) (s : Site) → own_site e ≡ Some s → is_site e ≡ true
 call_of_site e s is = site_test e ∙ ap is_some is
@@ -52,14 +50,6 @@ numbered_append n (s ∷ ss) ts =
     ap (λ zs. (n, s) ∷ zs)
     (numbered_append (suc n) ss ts ∙ ap (λ m. numbered_sites (suc n) ss ++ numbered_sites m ts) e)
 
-pub numbered_from : (n : ℕ) (ss : List Site) (c : ℕ) (s : Site) →
-    In (c, s) (numbered_sites n ss) → n ≤ c
-numbered_from n [] c s i = absurd i
-numbered_from n (t ∷ ss) c s (inl e) =
-    let same : n ≡ c = ap (λ (u : ℕ × Site). u.0) e in omega (arith, same)
-numbered_from n (t ∷ ss) c s (inr i) =
-    let later = numbered_from (suc n) ss c s i in omega (arith, later)
-
 pub numbered_below : (n : ℕ) (ss : List Site) (c : ℕ) (s : Site) →
     In (c, s) (numbered_sites n ss) → c < n + length ss
 numbered_below n [] c s i = absurd i
@@ -73,14 +63,7 @@ numbered_below n (t ∷ ss) c s (inr i) =
 module _ {A : Type 0} (test : A → Bool) where
   pub find_first :
       (xs ys : List A) (x : A) → find test xs ≡ Some x → find test (xs ++ ys) ≡ Some x
-  find_first [] ys x e = absurd cc
-  find_first (z ∷ xs) ys x e = by (test z) (find_first xs ys x) e
-    where
-      by : (b : Bool) → (find test xs ≡ Some x → find test (xs ++ ys) ≡ Some x) →
-          cond b (Some z) (find test xs) ≡ Some x →
-          cond b (Some z) (find test (xs ++ ys)) ≡ Some x
-      by true again h = h
-      by false again h = again h
+  find_first xs ys x e = find-append test xs ys ∙ ap (λ o. option_or o (find test ys)) e
 
   pub find_later :
       (xs ys : List A) → Every (λ x. test x ≡ false) xs →
@@ -122,13 +105,13 @@ pub record AreCalls (n : ℕ) (os : List Occurrence) (ss : List Site) : Type 0 w
   pub found :
       Every (λ o. is_site o.expr ≡ true → find (is_numbered o.calls_before) os ≡ Some o) os
 
-none : (n : ℕ) (ss : List Site) → AreCalls n [] ss
-none n ss = record { stand = tt; found = tt }
+none : {n : ℕ} {ss : List Site} → AreCalls n [] ss
+none = record { stand = tt; found = tt }
 
 -- an expression that is no call, before others, adds no call
-part : (n : ℕ) (o : Occurrence) (os : List Occurrence) (ss : List Site) →
+part : {n : ℕ} {o : Occurrence} {os : List Occurrence} {ss : List Site} →
     own_site o.expr ≡ None → AreCalls n os ss → AreCalls n (o ∷ os) ss
-part n o os ss e h = record {
+part {n} {o} {os} {ss} e h = record {
   stand = (λ s is. absurd (two s is), h.stand);
   found = (
     λ is. absurd (never is),
@@ -145,9 +128,9 @@ part n o os ss e h = record {
 
 -- a call before calls with later numbers is the first of them
 call :
-    (n : ℕ) (k : Clock) (e : Expr) (s : Site) (os : List Occurrence) (ss : List Site) →
+    {n : ℕ} {k : Clock} {e : Expr} {s : Site} {os : List Occurrence} {ss : List Site} →
     own_site e ≡ Some s → AreCalls (n + 1) os ss → AreCalls n (at k n e ∷ os) (s ∷ ss)
-call n k e s os ss is h = record {
+call {n} {k} {e} {s} {os} {ss} is h = record {
   stand = (
     λ t other. inl (ap (λ u. (n, u)) (same t other)),
     Every-map _ _ (λ x f t own. inr (subst (λ m. In (x.calls_before, t) (numbered_sites m ss))
@@ -178,9 +161,9 @@ call n k e s os ss is h = record {
 
 -- the calls of two texts, one after the other, are those of both
 joined :
-    (n : ℕ) (os ps : List Occurrence) (ss ts : List Site) →
+    {n : ℕ} {os ps : List Occurrence} {ss ts : List Site} →
     AreCalls n os ss → AreCalls (n + length ss) ps ts → AreCalls n (os ++ ps) (ss ++ ts)
-joined n os ps ss ts g h = record {
+joined {n} {os} {ps} {ss} {ts} g h = record {
   stand =
       Every-append _ os ps
       (Every-map _ _ (λ x f s own. among x.calls_before s
@@ -226,101 +209,50 @@ module _ (P : Program) (here : Node) where
   abbrev HasCalls : Clock → ℕ → Expr → Type 0
   HasCalls k n e = AreCalls n (occurrences P here k n e) (sites e)
 
-  -- the calls of two operands are those of both
-  both : (k : Clock) (n : ℕ) (a b : Expr) → HasCalls k n a → HasCalls k (n + call_count a) b →
-      AreCalls n (occurrences P here k n a ++ occurrences P here k (n + call_count a) b)
-      (sites a ++ sites b)
-  both k n a b g h =
-      joined n (occurrences P here k n a) (occurrences P here k (n + call_count a) b) (sites a)
-      (sites b) g h
-
   mutual
     pub calls_of : (k : Clock) (n : ℕ) (e : Expr) → HasCalls k n e
-    calls_of k n (Literal m) = part n (at k n (Literal m)) [] [] refl (none n [])
-    calls_of k n (Truth b) = part n (at k n (Truth b)) [] [] refl (none n [])
-    calls_of k n (Variable x) = part n (at k n (Variable x)) [] [] refl (none n [])
+    calls_of k n (Literal m) = part refl none
+    calls_of k n (Truth b) = part refl none
+    calls_of k n (Variable x) = part refl none
     calls_of k n (Group a) = calls_of k n a
-    calls_of k n (Unary op a) =
-        part n (at k n (Unary op a)) (occurrences P here k n a) (sites a) refl (calls_of k n a)
+    calls_of k n (Unary op a) = part refl (calls_of k n a)
     calls_of k n (Binary op a b) =
-        part n (at k n (Binary op a b))
-        (occurrences P here k n a ++ occurrences P here k (n + call_count a) b)
-        (sites a ++ sites b) refl
-        (both k n a b (calls_of k n a) (calls_of k (n + call_count a) b))
+        part refl (joined (calls_of k n a) (calls_of k (n + call_count a) b))
     calls_of k n (If c a b) =
-        let m = n + call_count c in
-        let branches = occurrences P here k m a ++ occurrences P here k (m + call_count a) b in
-        part n (at k n (If c a b)) (occurrences P here k n c ++ branches)
-        (sites c ++ (sites a ++ sites b)) refl
-        (joined n (occurrences P here k n c) branches (sites c) (sites a ++ sites b)
-        (calls_of k n c)
-        (both k m a b (calls_of k m a) (calls_of k (m + call_count a) b)))
+        let na = n + call_count c in
+        part refl (joined (calls_of k n c)
+        (joined (calls_of k na a) (calls_of k (na + call_count a) b)))
     calls_of k n (Arrow a b) =
-        part n (at k n (Arrow a b))
-        (occurrences P here k n a ++ occurrences P here k (n + call_count a) b)
-        (sites a ++ sites b) refl
-        (both k n a b (calls_of k n a) (calls_of k (n + call_count a) b))
+        part refl (joined (calls_of k n a) (calls_of k (n + call_count a) b))
     calls_of k n (Fby a b) =
-        part n (at k n (Fby a b))
-        (occurrences P here k n a ++ occurrences P here k (n + call_count a) b)
-        (sites a ++ sites b) refl
-        (both k n a b (calls_of k n a) (calls_of k (n + call_count a) b))
-    calls_of k n (Pre a) =
-        part n (at k n (Pre a)) (occurrences P here k n a) (sites a) refl (calls_of k n a)
-    calls_of k n (When a x sign) =
-        let own = declared_clock here x in
-        part n (at k n (When a x sign)) (occurrences P here own n a) (sites a) refl
-        (calls_of own n a)
-    calls_of k n (Current a) =
-        let own = clock_or (clock_of P here a) in
-        part n (at k n (Current a)) (occurrences P here own n a) (sites a) refl
-        (calls_of own n a)
-    calls_of k n (Replicate a m) =
-        part n (at k n (Replicate a m)) (occurrences P here k n a) (sites a) refl (calls_of k n a)
-    calls_of k n (Index a i) =
-        part n (at k n (Index a i)) (occurrences P here k n a) (sites a) refl (calls_of k n a)
-    calls_of k n (Slice a i j) =
-        part n (at k n (Slice a i j)) (occurrences P here k n a) (sites a) refl (calls_of k n a)
+        part refl (joined (calls_of k n a) (calls_of k (n + call_count a) b))
+    calls_of k n (Pre a) = part refl (calls_of k n a)
+    calls_of k n (When a x sign) = part refl (calls_of (declared_clock here x) n a)
+    calls_of k n (Current a) = part refl (calls_of (clock_or (clock_of P here a)) n a)
+    calls_of k n (Replicate a m) = part refl (calls_of k n a)
+    calls_of k n (Index a i) = part refl (calls_of k n a)
+    calls_of k n (Slice a i j) = part refl (calls_of k n a)
     calls_of k n (Join a b) =
-        part n (at k n (Join a b))
-        (occurrences P here k n a ++ occurrences P here k (n + call_count a) b)
-        (sites a ++ sites b) refl
-        (both k n a b (calls_of k n a) (calls_of k (n + call_count a) b))
-    calls_of k n (Array es) =
-        part n (at k n (Array es)) (occurrences_in P here k n es) (sites_in es) refl
-        (calls_in k n es)
-    calls_of k n (AtMostOne es) =
-        part n (at k n (AtMostOne es)) (occurrences_in P here k n es) (sites_in es) refl
-        (calls_in k n es)
-    calls_of k n (Nor es) =
-        part n (at k n (Nor es)) (occurrences_in P here k n es) (sites_in es) refl
-        (calls_in k n es)
+        part refl (joined (calls_of k n a) (calls_of k (n + call_count a) b))
+    calls_of k n (Array es) = part refl (calls_in k n es)
+    calls_of k n (AtMostOne es) = part refl (calls_in k n es)
+    calls_of k n (Nor es) = part refl (calls_in k n es)
     calls_of k n (Call f statics es) =
-        let ks = call_clocks k (node_named P f) es in
-        call n k (Call f statics es) (call_site f statics)
-        (occurrences_each P here ks (n + 1) es) (sites_in es) refl (calls_each ks (n + 1) es)
-    calls_of k n (Iterate it (Node_named f statics) m es) =
-        call n k (Iterate it (Node_named f statics) m es)
-        (record { callee = f; arguments = statics; count = Some m })
-        (occurrences_in P here k (n + 1) es) (sites_in es) refl (calls_in k (n + 1) es)
-    calls_of k n (Iterate it (Symbol op) m es) =
-        part n (at k n (Iterate it (Symbol op) m es)) (occurrences_in P here k n es)
-        (sites_in es) refl (calls_in k n es)
+        call refl (calls_each (call_clocks k (node_named P f) es) (n + 1) es)
+    calls_of k n (Iterate it (Node_named f statics) m es) = call refl (calls_in k (n + 1) es)
+    calls_of k n (Iterate it (Symbol op) m es) = part refl (calls_in k n es)
 
     pub calls_in : (k : Clock) (n : ℕ) (es : Exprs) →
         AreCalls n (occurrences_in P here k n es) (sites_in es)
-    calls_in k n Nil = none n []
-    calls_in k n (Cons e es) =
-        joined n (occurrences P here k n e) (occurrences_in P here k (n + call_count e) es)
-        (sites e) (sites_in es) (calls_of k n e) (calls_in k (n + call_count e) es)
+    calls_in k n Nil = none
+    calls_in k n (Cons e es) = joined (calls_of k n e) (calls_in k (n + call_count e) es)
 
     pub calls_each : (ks : List Clock) (n : ℕ) (es : Exprs) →
         AreCalls n (occurrences_each P here ks n es) (sites_in es)
-    calls_each ks n Nil = none n []
-    calls_each [] n (Cons e es) = none n (sites_in (Cons e es))
+    calls_each ks n Nil = none
+    calls_each [] n (Cons e es) = none
     calls_each (k ∷ ks) n (Cons e es) =
-        joined n (occurrences P here k n e) (occurrences_each P here ks (n + call_count e) es)
-        (sites e) (sites_in es) (calls_of k n e) (calls_each ks (n + call_count e) es)
+        joined (calls_of k n e) (calls_each ks (n + call_count e) es)
 
   -- the occurrences of the right sides of some statements
   abbrev pub body_occurrences : ℕ → List Statement → List Occurrence
@@ -336,12 +268,9 @@ module _ (P : Program) (here : Node) where
 
   pub body_calls : (n : ℕ) (ss : List Statement) →
       AreCalls n (body_occurrences n ss) (flat_map statement_sites ss)
-  body_calls n [] = none n []
+  body_calls n [] = none
   body_calls n (s ∷ rest) =
-      joined n (occurrences P here (statement_clock P here s) n (right_side s))
-      (body_occurrences (n + length (statement_sites s)) rest) (statement_sites s)
-      (flat_map statement_sites rest) (statement_calls n s)
-      (body_calls (n + length (statement_sites s)) rest)
+      joined (statement_calls n s) (body_calls (n + length (statement_sites s)) rest)
 
   pub node_calls : AreCalls 0 (node_occurrences P here) (node_sites here)
   node_calls = body_calls 0 here.body

@@ -1,20 +1,18 @@
 -- Two histories that agree on instances: they have the same streams, rules and verdict.
 use Rattle.lb_check.proofs.Words
-use Words.{◌≡◌, ℕ, ◌+◌, true, false, Option, Some, None, List, [], ◌∷◌, ◌++◌, flat_map, refl, ap₂}
-use Words.{IfSome, list_all, Every, Name, Expr, Statement, Equation, Assertion, and_first}
-use Words.{and_second, Program, Instance, sites, statement_sites, node_sites, among, clock_names}
-use Words.{DataType, truth, is_type, variables, are_same, is_clocked, is_occurrence_clocked}
-use Words.{are_declared_clocks, clock_of, Occurrence, call_count, occurrences, statement_clock}
-use Words.{right_sides, statements, node_occurrences, AgreeAt, streams_at, History}
-use Words.{is_statement_typed, is_clock_typed, is_typed, data_types, ◌&&◌, nat_le, nat_lt}
-use Words.{range_with_len, nat_tests, same_Some, either_or, holds, listed, all_some, E5, E6, E9}
-use Words.{E10, E12, unless, Static, Node, Path, Root, Observer, Child, Site, numbered_sites}
-use Words.{node_named, static_value, static_count, instance_count, callee_of, start_at, instance_at}
-use Words.{site_instances, children, instances_from, instances, node_sizes, is_between, is_in_range}
-use Words.{has_values, may_enter, instance_refusal, instantiation_refusal, check_refusal, AreSame}
-use Words.{◌⊎◌, inl, inr, length, ◌∙◌, ◌||◌, static_refusal, Inputs, Solves, zero, suc, ◌<◌, ◌≤◌}
-use Words.{option_map, map, ap, sym, subst, arith, memory_operand}
-use Rattle.{std.proofs.Common.zip, lb_syntax.proofs.TruthValues.contrary}
+use Words.{Bool, ◌≡◌, ℕ, ◌+◌, true, Option, Some, None, List, [], ◌∷◌, ◌++◌, flat_map, refl, ap₂}
+use Words.{IfSome, list_all, Every, Name, Statement, Equation, Assertion, and_first, and_second}
+use Words.{Program, Instance, node_sites, among, clock_names, variables, is_clocked}
+use Words.{are_declared_clocks, Occurrence, statements, node_occurrences, AgreeAt, streams_at}
+use Words.{History, is_typed, ◌&&◌, nat_le, nat_lt, range_with_len, nat_tests, same_Some, either_or}
+use Words.{holds, listed, all_some, E5, E6, E9, E10, E12, unless, Static, Path, Root, Observer}
+use Words.{Child, Site, numbered_sites, node_named, static_value, static_count, instance_count}
+use Words.{callee_of, start_at, instance_at, site_instances, children, instances_from, instances}
+use Words.{node_sizes, is_between, is_in_range, has_values, may_enter, instance_refusal}
+use Words.{instantiation_refusal, check_refusal, AreSame, ◌⊎◌, inl, inr, length, ◌∙◌, ◌||◌}
+use Words.{static_refusal, Inputs, Solves, zero, suc, ◌<◌, ◌≤◌, map, ap, sym, subst, arith}
+use Words.{memory_operand}
+use Rattle.{lb_syntax.proofs.TruthValues.contrary}
 use Rattle.lb_static.{specs.Instantiation.level, proofs.SiteCounts.{passes, counted, node_counts}}
 use Rattle.lb_check.specs.{Solutions.HasOneHistory, Verdicts.{assertion_of, assertions}}
 use Rattle.lb_check.specs.Verdicts.{memory_operands, variable_columns, memory_columns}
@@ -23,36 +21,20 @@ use Rattle.lb_check.specs.Verdicts.{Verdict, Passed, Fault, Undefined, Assertion
 use Rattle.lb_check.specs.Verdicts.{is_bad, is_nil, is_false, some_at, is_fault, is_undefined}
 use Rattle.lb_check.specs.Verdicts.{is_failed, property_path, property_columns, is_violated}
 use Rattle.lb_check.specs.Verdicts.{decides, IsLeast, Ends, HasVerdict, IsOnlyVerdict}
-use Rattle.lb_check.proofs.clocking.NamedClocks.{OfCalled, fore, aft, sited_first, sited_second}
-use Rattle.lb_check.proofs.clocking.NamedClocks.{determined, IsOver, clock_or_over, declared_over}
-use Rattle.lb_check.proofs.clocking.NamedClocks.{Sited, if_some}
+use Rattle.lb_check.proofs.clocking.NamedClocks.{OfCalled, Sited, if_some}
 use Rattle.lb_check.proofs.definitions.BrokenRules.{first_none, second_none, kept}
 use Rattle.lb_check.proofs.{definitions.BrokenRules.instantiation_kept, lists.Members.Every-append}
 use Rattle.lb_check.proofs.lists.Members.{Every-filter, Every-found, Every-tested, flat_same}
 use Rattle.lb_check.proofs.lists.Members.{Every-map, Every-both, Every-all, Every-first}
 use Rattle.lb_check.proofs.lists.Members.{Every-second, Every-piece, Every-of_pieces, Every-finds}
 use Rattle.lb_check.proofs.{lists.Members.{Every-range, any_same}, programs.SameStreams.Same}
-use Rattle.lb_check.proofs.programs.SameStreams.{IsSame, SitesHold, AreLawful, KeepsSame}
-use Rattle.lb_check.proofs.{programs.SameStreams.same_streams, typing.OperandTypes.bound}
+use Rattle.lb_check.proofs.programs.SameStreams.{IsSame, KeepsSame, StandsHere, known, streams_same}
+use Rattle.lb_check.proofs.programs.SameStreams.{keeps_same}
+use Rattle.lb_check.proofs.programs.StandingParts.{StatementStands, node_stands}
+use Rattle.lb_check.proofs.typing.OperandTypes.{bound}
 
 -- Two histories that agree on an instance and on those that it calls have the same streams at the
 -- named places of the instance.
-
--- ## The types of right sides
-
-typed_some :
-    (P : Program) (o p : Option (List DataType)) → are_same P o p ≡ true →
-    (ts : List DataType) × (o ≡ Some ts)
-typed_some P None p e = absurd cc
-typed_some P (Some ts) p e = (ts, refl)
-
-pub typed_truth :
-    (P : Program) (o : Option (List DataType)) → are_same P o (Some (truth ∷ [])) ≡ true →
-    (t : DataType) × (o ≡ Some (t ∷ []))
-typed_truth P None e = absurd cc
-typed_truth P (Some []) e = absurd cc
-typed_truth P (Some (t ∷ [])) e = (t, refl)
-typed_truth P (Some (t ∷ (u ∷ ts))) e = let end = and_second (is_type t truth) false e in absurd cc
 
 -- the named places of an instance, and its variables that serve as clocks, have the same streams
 pub record SamePlaces (P : Program) (H G : History) (here : Instance) : Type 0 where
@@ -74,73 +56,31 @@ module _ (P : Program) (H G : History) (here : Instance) (agree : AgreeAt H G he
   abbrev Asserts : Statement × Occurrence → Type 0
   Asserts s = IfSome (assertion_of s.0 s.1) Equal
 
-  abbrev parts_of : List Occurrence → List Occurrence
-  parts_of rs = flat_map (λ r. occurrences P here.node r.clock r.calls_before r.expr) rs
+  -- a statement stands, where the histories agree on the variables of the instance
+  abbrev pub StatementsStand : Statement × Occurrence → Type 0
+  StatementsStand s =
+      StatementStands P here Own agree.columns (IsSame H G) (known P H G here agree) s
 
-  abbrev AreSamePlaces : ℕ → List Statement → Type 0
-  AreSamePlaces n ss =
-      Every Keeps (parts_of (right_sides P here.node n ss))
-      × Every Asserts (zip ss (right_sides P here.node n ss))
-
-  equation_over :
-      (lefts : List Name) (e : Expr) →
-      IsOver Own (statement_clock P here.node (Equation lefts e))
-  equation_over [] e = tt
-  equation_over (x ∷ xs) e = declared_over Own here.node agree.columns x
-
-  body_same :
-      (n : ℕ) (ss : List Statement) → list_all (is_statement_typed P here) ss ≡ true →
-      AreLawful P H G here agree (parts_of (right_sides P here.node n ss)) →
-      SitesHold P H G here agree n (flat_map statement_sites ss) →
-      AreSamePlaces n ss
-  body_same n [] typed h s = (tt, tt)
-  body_same n (Equation lefts e ∷ rest) typed h s =
-      let k = statement_clock P here.node (Equation lefts e) in
-      let m = n + call_count e in
-      let oa = occurrences P here.node k n e in
-      let ob = parts_of (right_sides P here.node m rest) in
-      let S = OfCalled P here (IsSame H G) in
-      let first = and_first (is_statement_typed P here (Equation lefts e)) _ typed in
-      let t = typed_some P (data_types P here e) _ first in
-      let z = same_streams P H G here agree k n e t.0 t.1 (equation_over lefts e)
-      (fore P here (IsSame H G) oa ob h)
-      (sited_first S n (sites e) (flat_map statement_sites rest) s) in
-      let later = body_same m rest
-      (and_second (is_statement_typed P here (Equation lefts e)) _ typed)
-      (aft P here (IsSame H G) oa ob h)
-      (sited_second S n (sites e) (flat_map statement_sites rest) s) in
-      (Every-append Keeps oa ob z.1 later.0, (tt, later.1))
-  body_same n (Assertion e ∷ rest) typed h s =
-      let k = statement_clock P here.node (Assertion e) in
-      let m = n + call_count e in
-      let oa = occurrences P here.node k n e in
-      let ob = parts_of (right_sides P here.node m rest) in
-      let S = OfCalled P here (IsSame H G) in
-      let first = and_first (is_statement_typed P here (Assertion e)) _ typed in
-      let t = typed_truth P (data_types P here e) first in
-      let legal = fore P here (IsSame H G) oa ob h in
-      let called = sited_first S n (sites e) (flat_map statement_sites rest) s in
-      let over = clock_or_over Own (clock_of P here.node e)
-      (determined P here Own agree.columns (IsSame H G) (λ c same. same.declared) k n e
-      t.0 t.1 legal called) in
-      let z = same_streams P H G here agree k n e (t.0 ∷ []) t.1 over legal called in
-      let later = body_same m rest (and_second (is_statement_typed P here (Assertion e)) _ typed)
-      (aft P here (IsSame H G) oa ob h)
-      (sited_second S n (sites e) (flat_map statement_sites rest) s) in
-      (Every-append Keeps oa ob z.1 later.0, (z.0, later.1))
+  -- an assertion has the same streams
+  asserts_same : (s : Statement × Occurrence) → StatementsStand s → Asserts s
+  asserts_same s stands = by s.0 s.1 stands
+    where
+      by : (s : Statement) (o : Occurrence) → StatementsStand (s, o) → Asserts (s, o)
+      by (Equation lefts e) o stands = tt
+      by (Assertion e) o stands = streams_same P H G here agree o stands.0
 
   -- ## The named places
 
   pub same_places :
       is_typed P here ≡ true → is_clocked P here.node ≡ true →
-      SitesHold P H G here agree 0 (node_sites here.node) →
-      SamePlaces P H G here
+      Sited (OfCalled P here (IsSame H G)) 0 (node_sites here.node) → SamePlaces P H G here
   same_places typed clocked s =
-      let legal = and_first (list_all (is_occurrence_clocked P here.node)
-      (node_occurrences P here.node)) _ (and_second (are_declared_clocks here.node) _ clocked) in
-      let body = body_same 0 here.node.body
-      (and_second (list_all (is_clock_typed P here) (variables here.node)) _ typed)
-      (Every-tested (is_occurrence_clocked P here.node) (node_occurrences P here.node) legal) s in
+      let stands = node_stands P here Own agree.columns (IsSame H G) (known P H G here agree) typed
+      clocked s in
+      let keep = Every-map (StandsHere P H G here agree) Keeps (keeps_same P H G here agree)
+      (node_occurrences P here.node) stands.0 in
+      let assert = Every-map StatementsStand Asserts asserts_same (statements P here.node)
+      stands.1 in
       let own : variable_columns H here ≡ variable_columns G here =
       flat_same (λ d. H.columns here.path d.name) (λ d. G.columns here.path d.name)
       (variables here.node) agree.columns in
@@ -151,10 +91,10 @@ module _ (P : Program) (H G : History) (here : Instance) (agree : AgreeAt H G he
       (λ d. among d.name (clock_names here.node)) (variables here.node) agree.columns) in
       let kept : memory_columns P H here ≡ memory_columns P G here =
       flat_same (streams_at P H here) (streams_at P G here) (memory_operands P here)
-      (Every-found Equal (memory_operand P here) (node_occurrences P here.node) body.0) in
+      (Every-found Equal (memory_operand P here) (node_occurrences P here.node) keep) in
       let asserted : assertion_columns P H here ≡ assertion_columns P G here =
       flat_same (streams_at P H here) (streams_at P G here) (assertions P here.node)
-      (Every-found Equal (λ s. assertion_of s.0 s.1) (statements P here.node) body.1) in
+      (Every-found Equal (λ s. assertion_of s.0 s.1) (statements P here.node) assert) in
       record {
         named = ap₂ (λ xss yss. xss ++ yss) own (ap₂ (λ xss yss. xss ++ yss) kept asserted);
         clocks = clocks;
@@ -214,12 +154,7 @@ module _ (P : Program) where
 
   -- an instance of a start has the path of the start
   pub started : (p : Path) (f : Name) (c : Instance) → start_at P p f ≡ Some c → c.path ≡ p
-  started p f c e = by (node_named P f) e
-    where
-      by : (o : Option Node) → option_map (λ n. record { path = p; node = n; values = [] }) o
-          ≡ Some c → c.path ≡ p
-      by None h = absurd cc
-      by (Some n) h = sym (ap (λ (i : Instance). i.path) (same_Some _ _ h))
+  started p f c e = grind arith
 
   module _ (Q : Instance → Type 0) where
     abbrev pub Low : Instance → Type 0
@@ -334,21 +269,29 @@ module _ (P : Program) where
         (Every-piece Q (site_instances P here) (numbered_sites 0 (node_sites here.node)) h)
         (node_counts (is_between P here 1 4096) here.node e)
 
+-- ## Accepted programs
+
+module _ (P : Program) (checked : check_refusal P ≡ None) where
+  abbrev clocks : Instance → Bool
+  clocks here = is_clocked P here.node
+
+  -- each instance keeps the rules of types
+  pub all_typed : Every (λ here. is_typed P here ≡ true) (instances P)
+  all_typed =
+      Every-tested (is_typed P) (instances P)
+      (kept (list_all (is_typed P) (instances P)) E9 (first_none _ _ checked))
+
+  -- each node of an instance keeps the rules of clocks
+  pub all_clocked : Every (λ here. is_clocked P here.node ≡ true) (instances P)
+  all_clocked =
+      let later = second_none (unless (list_all (is_typed P) (instances P)) E9) _ checked in
+      Every-tested clocks (instances P)
+      (kept (list_all clocks (instances P)) E10 (first_none _ _ later))
+
 -- ## Two histories
 
 module _ (P : Program) (instantiated : instantiation_refusal P 0 (instances P) ≡ None)
     (accepted : check_refusal P ≡ None) (H G : History) (same : AreSame P H G) where
-  pub typed : Every (λ here. is_typed P here ≡ true) (instances P)
-  typed =
-      Every-tested (is_typed P) (instances P)
-      (kept (list_all (is_typed P) (instances P)) E9 (first_none _ _ accepted))
-
-  pub clocked : Every (λ here. is_clocked P here.node ≡ true) (instances P)
-  clocked =
-      let later = second_none (unless (list_all (is_typed P) (instances P)) E9) _ accepted in
-      Every-tested (λ here. is_clocked P here.node) (instances P)
-      (kept (list_all (λ here. is_clocked P here.node) (instances P)) E10 (first_none _ _ later))
-
   pub entered : Every (IsEntered P) (instances P)
   entered = all_entered P 0 (instances P) instantiated
 
@@ -362,7 +305,8 @@ module _ (P : Program) (instantiated : instantiation_refusal P 0 (instances P) �
           declared = and_first (are_declared_clocks c.node) _ h.1.1;
         },
       )) (instances P)
-      (Every-both _ _ (instances P) entered (Every-both _ _ (instances P) same clocked)))
+      (Every-both _ _ (instances P) entered
+      (Every-both _ _ (instances P) same (all_clocked P accepted))))
 
   -- the named places of all instances have the same streams
   pub all_same_places : Every (SamePlaces P H G) (instances P)
@@ -370,8 +314,8 @@ module _ (P : Program) (instantiated : instantiation_refusal P 0 (instances P) �
       Every-map _ (SamePlaces P H G)
       (λ here h. same_places P H G here h.0.0 h.0.1 h.1.0
       (all_called P (IsSame H G) here h.1.1.1 h.1.1.0.1)) (instances P)
-      (Every-both _ _ (instances P) (Every-both _ _ (instances P) same typed)
-      (Every-both _ _ (instances P) clocked
+      (Every-both _ _ (instances P) (Every-both _ _ (instances P) same (all_typed P accepted))
+      (Every-both _ _ (instances P) (all_clocked P accepted)
       (Every-both _ _ (instances P) entered called_same)))
 
 -- ## The starts

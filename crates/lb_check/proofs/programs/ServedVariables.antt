@@ -1,8 +1,8 @@
 -- The variables that serve for others in clocks: their numbers and values.
 use Rattle.lb_check.proofs.Words
-use Words.{◌≡◌, ◌⊎◌, inl, inr, ℕ, ◌<◌, Bool, true, false, cond, Option, Some, None, List, [], ◌∷◌}
-use Words.{◌++◌, length, map, flat_map, refl, ap, sym, ◌∙◌, subst, arith, ◌&&◌, ◌||◌, not, nat_eq}
-use Words.{filter, slice_get, list_all, bytes_eq, bytes_eq-Decides, eqb-true, same_Some, ◌>>=◌, In}
+use Words.{◌≡◌, ◌⊎◌, inl, inr, ℕ, ◌<◌, Bool, true, false, Option, Some, None, List, [], ◌∷◌, ◌++◌}
+use Words.{length, map, flat_map, refl, ap, sym, ◌∙◌, subst, arith, ◌&&◌, ◌||◌, not, nat_eq, filter}
+use Words.{slice_get, list_all, bytes_eq, bytes_eq-Decides, eqb-true, same_Some, ◌>>=◌, In}
 use Words.{either_or, holds, listed, Name, Static, Expr, Call, Exprs, Declaration, Node, Statement}
 use Words.{all_in, item_at, and_first, and_second, implied, variables, width, Program, Instance}
 use Words.{Path, Root, Observer, Child, instance_at, instances, node_named, node_sites}
@@ -10,8 +10,8 @@ use Words.{static_refusal, declares_once, is_named, among, variable_names, left_
 use Words.{map_in, in_any, found_passes, check_refusal, are_given_variables, is_given_variable}
 use Words.{is_call_clocked, is_occurrence_clocked, are_declared_clocks, numbers_of, Occurrence, at}
 use Words.{node_occurrences, ap₂, Equation, Assertion, Site, call_site, instance_count, callee_of}
-use Words.{right_side, ungrouped, statements, Clock, On, Given, base_clock, given_inputs}
-use Words.{given_outputs, WholeClock, Always, Where, is_clock_parameter, is_site, call_at, lefts_at}
+use Words.{right_side, ungrouped, statements, Clock, On, Given, given_inputs, given_outputs}
+use Words.{WholeClock, Always, Where, is_clock_parameter, is_site, call_at, lefts_at}
 use Words.{given_parameters, given_to, serves, serving, whole_clock, site_clock, runs_on}
 use Rattle.{std.proofs.Common.zip, lb_syntax.specs.Tree.Sampling, lb_static.specs.Names.is_callable}
 use Rattle.lb_static.specs.{Names.{is_known, is_static_name, is_variable}, Parts.node_names}
@@ -37,33 +37,21 @@ use Rattle.lb_check.proofs.typing.PositiveTypes.{width_positive}
 
 among_in : (x : Name) (xs : List Name) → among x xs ≡ true → In x xs
 among_in x [] e = absurd cc
-among_in x (y ∷ xs) e = by (bytes_eq x y) refl (among_in x xs) e
-  where
-    by : (b : Bool) → bytes_eq x y ≡ b → (among x xs ≡ true → In x xs) →
-        (b || among x xs) ≡ true → In x (y ∷ xs)
-    by true is later h = inl (sym ((bytes_eq-Decides x y).0 is))
-    by false is later h = inr (later h)
+among_in x (y ∷ xs) e =
+    grind (arith, among_in x xs, (bytes_eq-Decides x y).0)
 
 pub zip_first : {A B : Type 0} (xs : List A) (ys : List B) (t : A × B) → In t (zip xs ys) → In
     t.0 xs
-zip_first [] ys t i = absurd i
-zip_first (x ∷ xs) [] t i = absurd i
 zip_first {A = A} {B = B} (x ∷ xs) (y ∷ ys) t (inl e) = inl (ap (λ (u : A × B). u.0) e)
 zip_first (x ∷ xs) (y ∷ ys) t (inr i) = inr (zip_first xs ys t i)
+zip_first _ _ t i = absurd i
 
 -- the variable given for an output is a left variable
 pub output_value :
     (ds : List Declaration) (xs : List Name) (x : Name) (g : Name × Name) →
     found_in (given_outputs ds xs) x ≡ Some g → In g.1 xs
-output_value [] xs x g e = absurd cc
-output_value (d ∷ ds) [] x g e = absurd cc
-output_value (d ∷ ds) (y ∷ xs) x g e =
-    by (bytes_eq d.name x) (output_value ds xs x g) e
-  where
-    by : (b : Bool) → (found_in (given_outputs ds xs) x ≡ Some g → In g.1 xs) →
-        cond b (Some (d.name, y)) (found_in (given_outputs ds xs) x) ≡ Some g → In g.1 (y ∷ xs)
-    by true later h = inl (ap (λ (u : Name × Name). u.1) (same_Some (d.name, y) g h))
-    by false later h = inr (later h)
+output_value (d ∷ ds) (y ∷ xs) x g e = grind (arith, output_value ds xs x g)
+output_value _ _ x g e = absurd cc
 
 held : (x : Name) (names : List Name) (o : Option (Name × Name)) (g : Name × Name) →
     holds (λ g. among g.1 names) o ≡ true → o ≡ Some g → In g.1 names
@@ -246,24 +234,24 @@ module _ (P : Program) (accepted : static_refusal P ≡ None) where
 
     -- ## Variables that serve
 
+    -- a variable of the instance at a path has a first number
+    own_first :
+        (p : Path) (here : Instance) → instance_at P p ≡ Some here → (x : Name) →
+        IsVariable here.node x → HasFirst p x
+    own_first p here at x i =
+        subst (λ p. HasFirst p x) (path_is P p here at)
+        (has_first here (in_instances P (instantiation_kept P accepted) p here at) x i)
+
     -- the variable that serves for a variable of an instance has a first number
     pub serving_first :
         (p : Path) (here : Instance) → instance_at P p ≡ Some here → (x : Name) →
         IsVariable here.node x → HasFirst (serving P p x).0 (serving P p x).1
-    serving_first Root here at x i =
-        let kept = instantiation_kept P accepted in
-        subst (λ p. HasFirst p x) (path_is P Root here at)
-        (has_first here (in_instances P kept Root here at) x i)
-    serving_first Observer here at x i =
-        let kept = instantiation_kept P accepted in
-        subst (λ p. HasFirst p x) (path_is P Observer here at)
-        (has_first here (in_instances P kept Observer here at) x i)
+    serving_first Root here at x i = own_first Root here at x i
+    serving_first Observer here at x i = own_first Observer here at x i
     serving_first (Child p call index) here at x i =
         let k = called P p call index here at in
-        let kept = instantiation_kept P accepted in
-        let own = subst (λ p. HasFirst p x) (path_is P (Child p call index) here at)
-        (has_first here (in_instances P kept (Child p call index) here at) x i) in
-        let up = in_instances P kept p k.caller k.above in
+        let up = in_instances P (instantiation_kept P accepted) p k.caller k.above in
+        let own = own_first (Child p call index) here at x i in
         by own k.caller k.above up (serving_first p k.caller k.above)
         (found_in (given_at P (instance_at P p) call) x) refl
       where
@@ -300,11 +288,7 @@ module _ (P : Program) (accepted : static_refusal P ≡ None) where
 
     pub site_over :
         (V : Name → Type 0) (k : Clock) (e : Expr) → IsOver V k → IsOver V (site_clock P k e)
-    site_over V k (Call f statics es) h = by (node_named P f)
-      where
-        by : (o : Option Node) → IsOver V (either_or (o >>= λ c. Some (base_clock k c)) k)
-        by None = h
-        by (Some callee) = base_over V k callee h
+    site_over V k (Call f statics es) h = grind (arith, h, base_over V k)
     site_over V k _ h = h
 
     -- each variable of the clock on which an instance runs has a first number

@@ -1,39 +1,39 @@
 -- The streams of solutions of an accepted program: their instants, and histories that share them.
 use Rattle.lb_check.proofs.Words
 use Words.{◌≡◌, ℕ, zero, suc, ◌+◌, ◌<◌, true, Option, Some, None, List, [], ◌∷◌, length, map}
-use Words.{replicate, refl, ap, ap₂, sym, ◌∙◌, subst, arith, IfSome, option_map, ArrayIterator, Map}
-use Words.{Red, Fill, Every, Name, Static, Node_named, Symbol, Expr, Call, Iterate, Exprs, Nil}
-use Words.{Cons, Declaration, Node, Statement, Equation, Assertion, Program, Instance, Path, Root}
-use Words.{Observer, Child, sites, sites_in, node_sites, node_named, static_count, start_at}
-use Words.{instance_at, instances, DataType, variables, instantiation_refusal, static_refusal}
-use Words.{check_refusal, are_declared_clocks, is_clocked, Clock, declared_clock, base_clock}
-use Words.{argument_clocks, Occurrence, at, call_count, call_clocks, occurrences, occurrences_each}
-use Words.{statements, node_occurrences, streams_at, Inputs, Solves, AgreeAt, AreSame, is_typed}
-use Words.{all_types, operator_types, Bool, false, length-replicate, bytes_eq-Decides, same_Some}
-use Words.{Kind, ◌>>=◌, zip2, either_or, and_second, Site, call_site, instance_count, callee_of}
-use Words.{named, On, sampled, clock_within, variable_clock, clock_or, signed, History, presence}
-use Words.{all_streams, number}
+use Words.{replicate, refl, ap, ap₂, sym, ◌∙◌, subst, arith, IfSome, ArrayIterator, Map, Red, Fill}
+use Words.{Every, Name, Static, Node_named, Symbol, Expr, Call, Iterate, Exprs, Nil, Cons}
+use Words.{Declaration, Node, Statement, Equation, Assertion, Program, Instance, Path, Root}
+use Words.{Observer, Child, node_sites, node_named, static_count, instance_at, instances, variables}
+use Words.{instantiation_refusal, static_refusal, check_refusal, are_declared_clocks, is_clocked}
+use Words.{Clock, declared_clock, base_clock, argument_clocks, Occurrence, at, call_count}
+use Words.{call_clocks, statements, node_occurrences, Inputs, Solves, AgreeAt, AreSame, is_typed}
+use Words.{operator_types, Bool, false, length-replicate, bytes_eq-Decides, same_Some, Kind, ◌>>=◌}
+use Words.{zip2, either_or, and_second, Site, call_site, instance_count, callee_of, named, On}
+use Words.{sampled, clock_within, variable_clock, clock_or, signed, History, presence, all_streams}
+use Words.{number}
 use Rattle.{lb_syntax.specs.{Lists.part, Tree.Sampling}, lb_check.specs.Clocks.Base}
 use Rattle.lb_check.specs.{Scalars.{Stream, is_of_kind}, Solutions.{IsIteratorJoined, IsCallJoined}}
 use Rattle.lb_check.specs.Solutions.{IsJoinedAt, IsJoined, fits, Fits, variable_presence, SolvesAt}
 use Rattle.lb_check.specs.Solutions.{Receives, accumulated, iterator_inputs, AreEqual, columns_at}
 use Rattle.lb_check.specs.{Solutions.{IsObserved, IsGiven}, Streams.argument_streams}
-use Rattle.lb_check.proofs.clocking.NamedClocks.{OfCalled, Sited, AllLawful, AreSited, fore, aft}
-use Rattle.lb_check.proofs.clocking.NamedClocks.{sited_first, sited_second, sited_after, IsOver}
-use Rattle.lb_check.proofs.clocking.NamedClocks.{declared_over, base_over, named_every}
+use Rattle.lb_check.proofs.clocking.NamedClocks.{OfCalled, Sited, IsOver, declared_over, base_over}
+use Rattle.lb_check.proofs.clocking.NamedClocks.{named_every}
 use Rattle.lb_check.proofs.clocking.OwnClocks.{more_steps}
 use Rattle.lb_check.proofs.{definitions.BrokenRules.instantiation_kept, lists.Members.Every-map}
+use Rattle.lb_check.proofs.{programs.StandingParts.node_stands, typing.OperandTypes.bound}
 use Rattle.lb_check.proofs.lists.Members.{Every-both, Every-append, Every-first, Every-second}
 use Rattle.lb_check.proofs.lists.Members.{Every-range, Every-of_range, flat_same, Every-at}
 use Rattle.lb_check.proofs.programs.AcceptedRules.{all_typed, all_clocked, all_declared, calls_have}
-use Rattle.lb_check.proofs.programs.{InstancePaths.path_is, OccurrenceSites.own_site}
-use Rattle.lb_check.proofs.programs.SameHistories.{all_called, typed, clocked, entered, called_same}
-use Rattle.lb_check.proofs.programs.{SameHistories.{starts_agree, callee_path}, SameStreams.Same}
-use Rattle.lb_check.proofs.programs.SameStreams.{IsSame, presence_same, same_streams, all_same}
+use Rattle.lb_check.proofs.programs.{InstancePaths.{callee_node, path_is}, OccurrenceSites.own_site}
+use Rattle.lb_check.proofs.programs.SameHistories.{all_called, entered, called_same, starts_agree}
+use Rattle.lb_check.proofs.programs.SameHistories.{callee_path, started, StatementsStand}
+use Rattle.lb_check.proofs.programs.{Operands.{OnEach}, SameStreams.{Same, IsSame, presence_same}}
+use Rattle.lb_check.proofs.programs.SameStreams.{same_streams, all_same, StandsHere, known}
+use Rattle.lb_check.proofs.programs.SameStreams.{streams_same, operands}
 use Rattle.lb_check.proofs.programs.SiteOccurrences.{Passes, IsPassed, inherited}
-use Rattle.lb_check.proofs.programs.StandingParts.{Stands, clocks_over, StatementStands}
-use Rattle.lb_check.proofs.{programs.StandingParts.node_stands, typing.OperandTypes.bound}
-use Rattle.lb_check.proofs.typing.OperandTypes.{first_of_all, called, placed}
+use Rattle.lb_check.proofs.programs.StandingParts.{Stands}
+use Rattle.lb_check.proofs.typing.OperandTypes.{called, placed}
 
 -- A history with the same streams as a solution of an accepted program, whose starts run at every
 -- instant, solves the program too.
@@ -50,9 +50,8 @@ receives_same H G p ds xss yss agree same h = subst (Receives G p ds) same (by d
         Every (λ d. H.columns p d.name ≡ G.columns p d.name) ds → Receives H p ds xss →
         Receives G p ds xss
     by [] [] a h = tt
-    by [] (xs ∷ xss) a h = absurd h
-    by (d ∷ ds) [] a h = absurd h
     by (d ∷ ds) (xs ∷ xss) a h = (sym a.0 ∙ h.0, by ds xss a.1 h.1)
+    by _ _ a h = absurd h
 
 module _ {A : Type 0} (f g : ℕ → Name → List A) (n : ℕ) (outs : List Declaration)
     (same : (i : ℕ) → i < n → Every (λ o. f i o.name ≡ g i o.name) outs) where
@@ -83,36 +82,18 @@ module _ (P : Program) (H G : History) (here : Instance) (agree : AgreeAt H G he
   abbrev Own : Name → Type 0
   Own x = Same P H G here agree x
 
-  known : (c : Instance) → IsSame H G c → are_declared_clocks c.node ≡ true
-  known c same = same.declared
-
-  abbrev StandsHere : Occurrence → Type 0
-  StandsHere o = Stands P here Own agree.columns (IsSame H G) known o
-
-  streams_same : (o : Occurrence) → StandsHere o → streams_at P H here o ≡ streams_at P G here o
-  streams_same o s =
-      (same_streams P H G here agree o.clock o.calls_before o.expr s.types s.typed s.over s.lawful
-      s.sited).0
+  abbrev StandsThere : Occurrence → Type 0
+  StandsThere o = StandsHere P H G here agree o
 
   -- arguments, each on a clock of its own, have the same streams
   arguments_same :
-      (ks : List Clock) (n : ℕ) (es : Exprs) (ts : List DataType) → all_types P here es ≡ Some ts →
-      Every (IsOver Own) ks → AllLawful P here (IsSame H G) (occurrences_each P here.node ks n es) →
-      AreSited P here (IsSame H G) n (sites_in es) →
+      (ks : List Clock) (n : ℕ) (es : Exprs) → OnEach P here.node StandsThere ks n es →
       argument_streams P H here ks n es ≡ argument_streams P G here ks n es
-  arguments_same ks n Nil ts e o h s = refl
-  arguments_same [] n (Cons a es) ts e o h s = refl
-  arguments_same (k ∷ ks) n (Cons a es) ts e o h s =
-      let i = first_of_all P here a es ts e in
-      let oa = occurrences P here.node k n a in
-      let ob = occurrences_each P here.node ks (n + call_count a) es in
-      ap₂ (λ xs xss. xs ∷ xss)
-      (same_streams P H G here agree k n a (i.first ∷ []) i.is o.0
-      (fore P here (IsSame H G) oa ob h)
-      (sited_first (OfCalled P here (IsSame H G)) n (sites a) (sites_in es) s)).0
-      (arguments_same ks (n + call_count a) es i.rest i.others o.1
-      (aft P here (IsSame H G) oa ob h)
-      (sited_second (OfCalled P here (IsSame H G)) n (sites a) (sites_in es) s))
+  arguments_same ks n Nil s = refl
+  arguments_same [] n (Cons a es) s = refl
+  arguments_same (k ∷ ks) n (Cons a es) s =
+      ap₂ (λ xs xss. xs ∷ xss) (same_streams P H G here agree k n a s.0)
+      (arguments_same ks (n + call_count a) es s.1)
 
   -- a call stays joined
   call_stays :
@@ -133,19 +114,16 @@ module _ (P : Program) (H G : History) (here : Instance) (agree : AgreeAt H G he
 
   call_joined :
       (k : Clock) (n : ℕ) (f : Name) (statics : List Static) (es : Exprs) →
-      StandsHere (at k n (Call f statics es)) →
+      StandsThere (at k n (Call f statics es)) →
       IsCallJoined P H here k n es (node_named P f) → IsCallJoined P G here k n es (node_named P f)
   call_joined k n f statics es s j =
       let t = bound (operator_types P here (Node_named f statics)) _ s.types s.typed in
-      let a = bound (all_types P here es) _ s.types t.gives in
       let c = called P here f statics t.value t.is in
       let p = placed P here f statics c.callee c.is in
       let child = record c.callee { path = Child here.path n 0 } in
       let own = s.sited.0.1 0 (omega arith) child (p.at n 0) in
-      let overs = clocks_over P here Own agree.columns (IsSame H G) known k n f statics es c.callee
-      p s.sited.0 s.lawful.0 s.over in
-      let args = arguments_same (call_clocks k (node_named P f) es) (n + 1) es a.value a.is overs
-      s.lawful.1 (sited_after (OfCalled P here (IsSame H G)) n (sites_in es) s.sited.1) in
+      let args = arguments_same (call_clocks k (node_named P f) es) (n + 1) es
+      (operands P H G here agree k n (Call f statics es) s) in
       subst (λ o.
       argument_streams P H here (call_clocks k o es) (n + 1) es
       ≡ argument_streams P G here (call_clocks k o es) (n + 1) es →
@@ -205,25 +183,24 @@ module _ (P : Program) (H G : History) (here : Instance) (agree : AgreeAt H G he
 
   iterator_joined :
       (k : Clock) (n : ℕ) (it : ArrayIterator) (f : Name) (statics : List Static) (m : Static)
-      (es : Exprs) → StandsHere (at k n (Iterate it (Node_named f statics) m es)) →
+      (es : Exprs) → StandsThere (at k n (Iterate it (Node_named f statics) m es)) →
       IsIteratorJoined P H here k n it (number P here m) es (node_named P f) →
       IsIteratorJoined P G here k n it (number P here m) es (node_named P f)
   iterator_joined k n it f statics m es s j =
       let v = bound (static_count P here m) _ s.types s.typed in
       let t = bound (operator_types P here (Node_named f statics)) _ s.types v.gives in
-      let a = bound (all_types P here es) _ s.types t.gives in
       let c = called P here f statics t.value t.is in
       let p = placed P here f statics c.callee c.is in
-      let args = all_same P H G here agree k (n + 1) es a.value a.is s.over s.lawful.1
-      (sited_after (OfCalled P here (IsSame H G)) n (sites_in es) s.sited.1) in
+      let args = all_same P H G here agree k (n + 1) es
+      (operands P H G here agree k n (Iterate it (Node_named f statics) m es) s) in
       subst (λ o. IsIteratorJoined P H here k n it (number P here m) es o →
       IsIteratorJoined P G here k n it (number P here m) es o) (sym p.node)
       (λ j. iterator_stays k n it (number P here m) es c.callee s.over
       (λ i lt. s.sited.0.1 i lt (record c.callee { path = Child here.path n i }) (p.at n i))
-      args.0 j) j
+      args j) j
 
   joined_at :
-      (k : Clock) (n : ℕ) (e : Expr) → StandsHere (at k n e) → IsJoinedAt P H here k n e →
+      (k : Clock) (n : ℕ) (e : Expr) → StandsThere (at k n e) → IsJoinedAt P H here k n e →
       IsJoinedAt P G here k n e
   joined_at k n (Call f statics es) s j = call_joined k n f statics es s j
   joined_at k n (Iterate it (Node_named f statics) m es) s j =
@@ -234,11 +211,11 @@ module _ (P : Program) (H G : History) (here : Instance) (agree : AgreeAt H G he
   -- an equation stays equal on both sides
   equal_stays :
       (s : Statement) (o : Occurrence) →
-      StatementStands P here Own agree.columns (IsSame H G) known (s, o) →
+      StatementsStand P H G here agree (s, o) →
       AreEqual P H here s o → AreEqual P G here s o
   equal_stays (Equation lefts e) o s h =
       sym (flat_same (H.columns here.path) (G.columns here.path) lefts s.1) ∙ h
-      ∙ streams_same o s.0
+      ∙ streams_same P H G here agree o s.0
   equal_stays (Assertion e) o s h = tt
 
   -- a variable still fits
@@ -262,7 +239,8 @@ module _ (P : Program) (H G : History) (here : Instance) (agree : AgreeAt H G he
       Sited (OfCalled P here (IsSame H G)) 0 (node_sites here.node) → SolvesAt P H here →
       SolvesAt P G here
   solves_here typed clocked s h =
-      let stands = node_stands P here Own agree.columns (IsSame H G) known typed clocked s in
+      let stands = node_stands P here Own agree.columns (IsSame H G) (known P H G here agree) typed
+      clocked s in
       record {
         variables =
             Every-map _ (Fits P G here) (λ d z. fits_stays d z.0 z.1) (variables here.node)
@@ -270,35 +248,25 @@ module _ (P : Program) (H G : History) (here : Instance) (agree : AgreeAt H G he
         equations =
             Every-map _ (λ s. AreEqual P G here s.0 s.1)
             (λ s z. equal_stays s.0 s.1 z.0 z.1) (statements P here.node)
-            (Every-both (StatementStands P here Own agree.columns (IsSame H G) known)
+            (Every-both (StatementsStand P H G here agree)
             (λ s. AreEqual P H here s.0 s.1) (statements P here.node) stands.1 h.equations);
         calls =
             Every-map _ (IsJoined P G here)
             (λ o z. joined_at o.clock o.calls_before o.expr z.0 z.1) (node_occurrences P here.node)
-            (Every-both StandsHere (IsJoined P H here) (node_occurrences P here.node) stands.0
+            (Every-both StandsThere (IsJoined P H here) (node_occurrences P here.node) stands.0
             h.calls);
       }
 
 -- ## The starts
 
-start_path : (P : Program) (p : Path) (f : Name) (c : Instance) → start_at P p f ≡ Some c →
-    c.path ≡ p
-start_path P p f c e = by (node_named P f) e
-  where
-    by : (o : Option Node) →
-        option_map (λ n. record { path = p; node = n; values = [] }) o ≡ Some c → c.path ≡ p
-    by None h = absurd cc
-    by (Some n) h = let same : record { path = p; node = n; values = [] } ≡ c = cc in
-        sym (ap (λ (i : Instance). i.path) same)
-
 root_path : (P : Program) (c : Instance) → instance_at P Root ≡ Some c → c.path ≡ Root
-root_path P c e = start_path P Root P.root c e
+root_path P c e = started P Root P.root c e
 
 observer_path : (P : Program) (c : Instance) → instance_at P Observer ≡ Some c →
     c.path ≡ Observer
 observer_path P c e =
     let f = bound P.observer _ c e in
-    start_path P Observer f.value c f.gives
+    started P Observer f.value c f.gives
 
 -- the variables of an instance agree at its path
 agree_there : (H G : History) (c : Instance) (p : Path) → c.path ≡ p → AgreeAt H G c →
@@ -372,9 +340,9 @@ module _ (P : Program) (elaborated : static_refusal P ≡ None) (accepted : chec
             (λ here z. solves_here P H G here z.0.0 z.0.1 z.1.0.0
             (all_called P (IsSame H G) here z.1.0.1.1 z.1.0.1.0.1) z.1.1) (instances P)
             (Every-both _ _ (instances P)
-            (Every-both _ _ (instances P) same (typed P entered_all accepted H G same))
+            (Every-both _ _ (instances P) same (all_typed P accepted))
             (Every-both _ _ (instances P)
-            (Every-both _ _ (instances P) (clocked P entered_all accepted H G same)
+            (Every-both _ _ (instances P) (all_clocked P accepted)
             (Every-both _ _ (instances P) (entered P entered_all accepted H G same)
             (called_same P entered_all accepted H G same)))
             h.instances));
@@ -388,14 +356,10 @@ module _ (P : Program) (elaborated : static_refusal P ≡ None) (accepted : chec
 pub fits_length : (kind : Kind) (bs : List Bool) (xs : Stream) → fits kind bs xs ≡ true →
     length xs ≡ length bs
 fits_length kind [] [] e = refl
-fits_length kind [] (x ∷ xs) e = absurd cc
-fits_length kind (true ∷ bs) [] e = absurd cc
-fits_length kind (false ∷ bs) [] e = absurd cc
-fits_length kind (true ∷ bs) (None ∷ xs) e = absurd cc
 fits_length kind (true ∷ bs) (Some v ∷ xs) e =
     ap suc (fits_length kind bs xs (and_second (is_of_kind kind v) _ e))
 fits_length kind (false ∷ bs) (None ∷ xs) e = ap suc (fits_length kind bs xs e)
-fits_length kind (false ∷ bs) (Some v ∷ xs) e = absurd cc
+fits_length kind _ _ e = absurd cc
 
 pub length-both : {A B C : Type 0} (f : A → B → C) (n : ℕ) (xs : List A) (ys : List B) →
     length xs ≡ n → length ys ≡ n → length (zip2 f xs ys) ≡ n
@@ -511,12 +475,6 @@ module _ (P : Program) (H : History) (count : ℕ) where
 
     -- ## The instances that it calls
 
-    callee_named :
-        (s : Site) (n i : ℕ) (c : Instance) → callee_of P here s n i ≡ Some c →
-        (callee : Node) × (node_named P s.callee ≡ Some callee)
-    callee_named s n i c e =
-        let b = bound (node_named P s.callee) _ c e in (b.value, b.is)
-
     call_long :
         (k : Clock) (n : ℕ) (es : Exprs) (o : Option Node) (callee : Node) → o ≡ Some callee →
         IsOver IsLongName k → IsCallJoined P H here k n es o →
@@ -547,11 +505,11 @@ module _ (P : Program) (H : History) (count : ℕ) where
         callee_of P here t n i ≡ Some c → length (H.ticks (Child here.path n i)) ≡ count)
         (same_Some (call_site f statics) s is)
         (λ lt gives.
-        let callee = callee_named (call_site f statics) n i c gives in
+        let named = callee_node P here (call_site f statics) n i c gives in
         let one : i < 1 = lt in
         let first : 0 ≡ i = omega (arith, one) in
         subst (λ i. length (H.ticks (Child here.path n i)) ≡ count) first
-        (call_long k n es (node_named P f) callee.0 callee.1 over j))
+        (call_long k n es (node_named P f) c.node named over j))
         lt gives
     joined_long k n (Iterate it (Node_named f statics) m es) s is over j i c lt gives =
         let own : Site = record { callee = f; arguments = statics; count = Some m } in
@@ -559,14 +517,10 @@ module _ (P : Program) (H : History) (count : ℕ) where
         callee_of P here t n i ≡ Some c → length (H.ticks (Child here.path n i)) ≡ count)
         (same_Some own s is)
         (λ lt gives.
-        let callee = callee_named own n i c gives in
-        iterator_long k n it (number P here m) es (node_named P f) callee.0 callee.1 over j i lt)
+        let named = callee_node P here own n i c gives in
+        iterator_long k n it (number P here m) es (node_named P f) c.node named over j i lt)
         lt gives
-    joined_long k n (Iterate it (Symbol op) m es) s is over j i c lt gives = absurd cc
     joined_long k n _ s is over j i c lt gives = absurd cc
-
-    known_declared : (c : Instance) → are_declared_clocks c.node ≡ true → are_declared_clocks c.node ≡ true
-    known_declared c e = e
 
     abbrev IsDeclared : Instance → Type 0
     IsDeclared c = are_declared_clocks c.node ≡ true
@@ -580,10 +534,10 @@ module _ (P : Program) (H : History) (count : ℕ) where
         Sited (OfCalled P here IsDeclared) 0 (node_sites here.node) →
         Passes P HasInstants here
     passes_long typed clocked sited o s i c on is lt gives =
-        let stands = (node_stands P here IsLongName variables_long IsDeclared known_declared typed clocked
-        sited).0 in
-        let own = Every-at (Stands P here IsLongName variables_long IsDeclared known_declared) all o stands
-        on in
+        let stands = node_stands P here IsLongName variables_long IsDeclared (λ c e. e) typed
+        clocked sited in
+        let own = Every-at (Stands P here IsLongName variables_long IsDeclared (λ c e. e)) all o
+        stands.0 on in
         let joined = Every-at (IsJoined P H here) all o solves.calls on in
         subst (λ p. length (H.ticks p) ≡ count)
         (sym (callee_path P here s o.calls_before i c gives))

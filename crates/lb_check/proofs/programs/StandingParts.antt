@@ -1,19 +1,17 @@
 -- Each part of a text that keeps the rules of types and clocks keeps them where it stands. Its
 -- clock is over names with a property that the variables of the node have.
 use Rattle.lb_check.proofs.Words
-use Words.{option_map, list_all, Every, all_some, Name, Static, Node_named, Symbol, Expr, Group}
-use Words.{Unary, Binary, If, Arrow, Fby, Pre, Current, When, Replicate, Index, Slice, Join, Array}
-use Words.{AtMostOne, Nor, Call, Iterate, Exprs, Nil, Cons, Statement, Equation, Assertion}
-use Words.{and_first, and_second, Program, Instance, Child, call_site, sites, sites_in}
-use Words.{statement_sites, node_sites, node_named, static_count, DataType, variables, are_same}
-use Words.{left_names, are_declared_clocks, are_given_variables, is_call_clocked, is_on_clock}
-use Words.{is_clocked, is_occurrence_clocked, Clock, On, clock_of, clock_or, declared_clock}
-use Words.{Occurrence, call_count, call_clocks, occurrences, occurrences_in, occurrences_each}
-use Words.{statement_clock, right_sides, statements, node_occurrences, type_of_name}
-use Words.{is_statement_typed, is_clock_typed, is_typed, data_types, all_types, from_one}
-use Words.{from_truths, singly, name_data_type, unary_type, binary_type, common_type, array_of}
-use Words.{index_type, slice_type, join_type, operator_types, ◌≡◌, ℕ, ◌+◌, true, Option, Some, None}
-use Words.{List, [], ◌∷◌, ◌++◌, map, flat_map, refl, sym, subst, arith}
+use Words.{list_all, Every, all_some, Name, Static, Node_named, Symbol, Expr, Group, Unary, Binary}
+use Words.{If, Arrow, Fby, Pre, Current, When, Replicate, Index, Slice, Join, Array, AtMostOne, Nor}
+use Words.{Call, Iterate, Exprs, Nil, Cons, Statement, Equation, Assertion, and_first, and_second}
+use Words.{Program, Instance, Child, call_site, sites, sites_in, statement_sites, node_sites}
+use Words.{node_named, DataType, variables, are_same, truth, is_type, left_names}
+use Words.{are_declared_clocks, are_given_variables, is_call_clocked, is_on_clock, is_clocked}
+use Words.{is_occurrence_clocked, Clock, On, clock_of, clock_or, declared_clock, Occurrence, at}
+use Words.{call_count, call_clocks, occurrences, occurrences_in, occurrences_each, statement_clock}
+use Words.{right_sides, right_side, statements, node_occurrences, type_of_name, is_statement_typed}
+use Words.{is_clock_typed, is_typed, data_types, false, operator_types, ◌≡◌, ℕ, ◌+◌, true, Option}
+use Words.{Some, List, [], ◌∷◌, ◌++◌, map, flat_map, length, refl, sym, subst, arith}
 use Rattle.{std.proofs.Common.zip, lb_syntax.specs.Tree.{Literal, Truth, Variable}}
 use Rattle.lb_check.proofs.clocking.{ClockTests.clock_same, NamedClocks.{AllLawful, AreSited}}
 use Rattle.lb_check.proofs.clocking.NamedClocks.{OfCalled, fore, aft, sited_first, sited_second}
@@ -21,18 +19,26 @@ use Rattle.lb_check.proofs.clocking.NamedClocks.{sited_after, called_passes, lef
 use Rattle.lb_check.proofs.clocking.NamedClocks.{determined, IsOver, clock_or_over, declared_over}
 use Rattle.lb_check.proofs.clocking.NamedClocks.{arguments_over, named_has}
 use Rattle.lb_check.proofs.lists.Members.{Every-append, Every-tested}
-use Rattle.lb_check.proofs.{programs.SameHistories.typed_truth, typing.OperandTypes.{bound, one}}
-use Rattle.lb_check.proofs.typing.OperandTypes.{two, from_true, first_of_all, Placed, called}
-use Rattle.lb_check.proofs.typing.OperandTypes.{placed}
+use Rattle.lb_check.proofs.programs.Operands.{OnTwo, OnRow, OnEach, OnOperands, on_parts, HasTypes}
+use Rattle.lb_check.proofs.programs.Operands.{operands_typed}
+use Rattle.lb_check.proofs.typing.OperandTypes.{bound, one, Placed, called, placed, first_of}
 
 -- ## The types of statements
 
+-- results that are compared and the same are both there
 same_some :
     (P : Program) (o p : Option (List DataType)) → are_same P o p ≡ true →
     (ts : List DataType) × (o ≡ Some ts) × (us : List DataType) × (p ≡ Some us)
-same_some P None p e = absurd cc
-same_some P (Some ts) None e = absurd cc
 same_some P (Some ts) (Some us) e = (ts, refl, us, refl)
+same_some P _ _ e = absurd cc
+
+-- the operand of an assertion has one type
+typed_truth :
+    (P : Program) (o : Option (List DataType)) → are_same P o (Some (truth ∷ [])) ≡ true →
+    (t : DataType) × (o ≡ Some (t ∷ []))
+typed_truth P (Some (t ∷ [])) e = (t, refl)
+typed_truth P (Some (t ∷ (u ∷ ts))) e = let end = and_second (is_type t truth) false e in absurd cc
+typed_truth P _ e = absurd cc
 
 module _ (P : Program) (here : Instance) (V : Name → Type 0)
     (all : Every (λ d. V d.name) (variables here.node)) (Q : Instance → Type 0)
@@ -72,189 +78,107 @@ module _ (P : Program) (here : Instance) (V : Name → Type 0)
   current_over k n a t e h s =
       clock_or_over V (clock_of P here.node a) (determined P here V all Q declared k n a t e h s)
 
-  mutual
-    -- each part of an expression stands, where the expression does
-    pub parts_stand :
-        (k : Clock) (n : ℕ) (e : Expr) (ts : List DataType) → data_types P here e ≡ Some ts →
-        IsOver V k → AllLawful P here Q (occurrences P here.node k n e) →
-        AreSited P here Q n (sites e) → AllStand (occurrences P here.node k n e)
-    parts_stand k n (Literal m) ts e o h s =
-        (record { types = ts; typed = e; over = o; lawful = h; sited = s }, tt)
-    parts_stand k n (Truth b) ts e o h s =
-        (record { types = ts; typed = e; over = o; lawful = h; sited = s }, tt)
-    parts_stand k n (Variable x) ts e o h s =
-        (record { types = ts; typed = e; over = o; lawful = h; sited = s }, tt)
-    parts_stand k n (Group a) ts e o h s = parts_stand k n a ts e o h s
-    parts_stand k n (Unary op a) ts e o h s =
-        let i = one (data_types P here a) (unary_type op) ts e in (
-          record { types = ts; typed = e; over = o; lawful = h; sited = s },
-          parts_stand k n a (i.data_type ∷ []) i.is o h.1 s,
-        )
-    parts_stand k n (Binary op a b) ts e o h s =
-        let i = two (data_types P here a) (data_types P here b) (binary_type op) ts e in
-        let l = left P here Q k n a b h.1 s in
-        let r = right P here Q k n a b h.1 s in (
-          record { types = ts; typed = e; over = o; lawful = h; sited = s },
-          Every-append Stands _ _ (parts_stand k n a (i.first ∷ []) i.is_first o l.0 l.1)
-              (parts_stand k (n + call_count a) b (i.second ∷ []) i.is_second o r.0 r.1),
-        )
-    parts_stand k n (If c a b) ts e o h s =
-        let na = n + call_count c in
-        let nb = na + call_count a in
-        let t = bound (from_truths (from_one (data_types P here c) Some)) _ ts e in
-        let truths = from_true (from_one (data_types P here c) Some) t.value t.is in
-        let x = one (data_types P here c) Some truths.data_types truths.is in
-        let i = two (data_types P here a) (data_types P here b) common_type ts t.gives in
-        let oc = occurrences P here.node k n c in
-        let oa = occurrences P here.node k na a in
-        let ob = occurrences P here.node k nb b in
-        let branches = aft P here Q oc (oa ++ ob) h.1 in
-        let rest = sited_second (OfCalled P here Q) n (sites c) (sites a ++ sites b) s in
-        let l = left P here Q k na a b branches rest in
-        let r = right P here Q k na a b branches rest in (
-          record { types = ts; typed = e; over = o; lawful = h; sited = s },
-          Every-append Stands oc (oa ++ ob)
-              (parts_stand k n c (x.data_type ∷ []) x.is o (fore P here Q oc (oa ++ ob) h.1)
-              (sited_first (OfCalled P here Q) n (sites c) (sites a ++ sites b) s))
-              (Every-append Stands oa ob
-              (parts_stand k na a (i.first ∷ []) i.is_first o l.0 l.1)
-              (parts_stand k nb b (i.second ∷ []) i.is_second o r.0 r.1)),
-        )
-    parts_stand k n (Arrow a b) ts e o h s =
-        let i = two (data_types P here a) (data_types P here b) common_type ts e in
-        let l = left P here Q k n a b h.1 s in
-        let r = right P here Q k n a b h.1 s in (
-          record { types = ts; typed = e; over = o; lawful = h; sited = s },
-          Every-append Stands _ _ (parts_stand k n a (i.first ∷ []) i.is_first o l.0 l.1)
-              (parts_stand k (n + call_count a) b (i.second ∷ []) i.is_second o r.0 r.1),
-        )
-    parts_stand k n (Fby a b) ts e o h s =
-        let i = two (data_types P here a) (data_types P here b) common_type ts e in
-        let l = left P here Q k n a b h.1 s in
-        let r = right P here Q k n a b h.1 s in (
-          record { types = ts; typed = e; over = o; lawful = h; sited = s },
-          Every-append Stands _ _ (parts_stand k n a (i.first ∷ []) i.is_first o l.0 l.1)
-              (parts_stand k (n + call_count a) b (i.second ∷ []) i.is_second o r.0 r.1),
-        )
-    parts_stand k n (Pre a) ts e o h s =
-        let i = one (data_types P here a) Some ts e in (
-          record { types = ts; typed = e; over = o; lawful = h; sited = s },
-          parts_stand k n a (i.data_type ∷ []) i.is o h.1 s,
-        )
-    parts_stand k n (When a x sign) ts e o h s =
-        let own = declared_clock here.node x in
-        let t = bound (from_truths (singly (name_data_type P here x))) _ ts e in
-        let i = one (data_types P here a) Some ts t.gives in
-        let over = subst (IsOver V) (clock_same k (On own x sign) h.0) o in (
-          record { types = ts; typed = e; over = o; lawful = h; sited = s },
-          parts_stand own n a (i.data_type ∷ []) i.is over.0 h.1 s,
-        )
-    parts_stand k n (Current a) ts e o h s =
-        let own = clock_or (clock_of P here.node a) in
-        let i = one (data_types P here a) Some ts e in (
-          record { types = ts; typed = e; over = o; lawful = h; sited = s },
-          parts_stand own n a (i.data_type ∷ []) i.is
-              (current_over own n a i.data_type i.is h.1 s) h.1 s,
-        )
-    parts_stand k n (Replicate a m) ts e o h s =
-        let c = bound (static_count P here m) _ ts e in
-        let i = one (data_types P here a) (array_of c.value) ts c.gives in (
-          record { types = ts; typed = e; over = o; lawful = h; sited = s },
-          parts_stand k n a (i.data_type ∷ []) i.is o h.1 s,
-        )
-    parts_stand k n (Index a m) ts e o h s =
-        let c = bound (static_count P here m) _ ts e in
-        let i = one (data_types P here a) (index_type c.value) ts c.gives in (
-          record { types = ts; typed = e; over = o; lawful = h; sited = s },
-          parts_stand k n a (i.data_type ∷ []) i.is o h.1 s,
-        )
-    parts_stand k n (Slice a m l) ts e o h s =
-        let c = bound (static_count P here m) _ ts e in
-        let d = bound (static_count P here l) _ ts c.gives in
-        let i = one (data_types P here a) (slice_type c.value d.value) ts d.gives in (
-          record { types = ts; typed = e; over = o; lawful = h; sited = s },
-          parts_stand k n a (i.data_type ∷ []) i.is o h.1 s,
-        )
-    parts_stand k n (Join a b) ts e o h s =
-        let i = two (data_types P here a) (data_types P here b) join_type ts e in
-        let l = left P here Q k n a b h.1 s in
-        let r = right P here Q k n a b h.1 s in (
-          record { types = ts; typed = e; over = o; lawful = h; sited = s },
-          Every-append Stands _ _ (parts_stand k n a (i.first ∷ []) i.is_first o l.0 l.1)
-              (parts_stand k (n + call_count a) b (i.second ∷ []) i.is_second o r.0 r.1),
-        )
-    parts_stand k n (Array es) ts e o h s =
-        let b = bound (all_types P here es) _ ts e in (
-          record { types = ts; typed = e; over = o; lawful = h; sited = s },
-          all_stand k n es b.value b.is o h.1 s,
-        )
-    parts_stand k n (AtMostOne es) ts e o h s =
-        let t = from_true (all_types P here es) ts e in (
-          record { types = ts; typed = e; over = o; lawful = h; sited = s },
-          all_stand k n es t.data_types t.is o h.1 s,
-        )
-    parts_stand k n (Nor es) ts e o h s =
-        let t = from_true (all_types P here es) ts e in (
-          record { types = ts; typed = e; over = o; lawful = h; sited = s },
-          all_stand k n es t.data_types t.is o h.1 s,
-        )
-    parts_stand k n (Call f statics es) ts e o h s =
-        let t = bound (operator_types P here (Node_named f statics)) _ ts e in
-        let a = bound (all_types P here es) _ ts t.gives in
-        let c = called P here f statics t.value t.is in
-        let p = placed P here f statics c.callee c.is in (
-          record { types = ts; typed = e; over = o; lawful = h; sited = s },
-          each_stands (call_clocks k (node_named P f) es) (n + 1) es a.value a.is
-              (clocks_over k n f statics es c.callee p s.0 h.0 o) h.1
-              (sited_after (OfCalled P here Q) n (sites_in es) s.1),
-        )
-    parts_stand k n (Iterate it (Node_named f statics) m es) ts e o h s =
-        let c = bound (static_count P here m) _ ts e in
-        let t = bound (operator_types P here (Node_named f statics)) _ ts c.gives in
-        let a = bound (all_types P here es) _ ts t.gives in (
-          record { types = ts; typed = e; over = o; lawful = h; sited = s },
-          all_stand k (n + 1) es a.value a.is o h.1
-              (sited_after (OfCalled P here Q) n (sites_in es) s.1),
-        )
-    parts_stand k n (Iterate it (Symbol op) m es) ts e o h s =
-        let c = bound (static_count P here m) _ ts e in
-        let t = bound (operator_types P here (Symbol op)) _ ts c.gives in
-        let a = bound (all_types P here es) _ ts t.gives in (
-          record { types = ts; typed = e; over = o; lawful = h; sited = s },
-          all_stand k n es a.value a.is o h.1 s,
-        )
+  -- ## The operands of an expression that stands
 
-    all_stand :
-        (k : Clock) (n : ℕ) (es : Exprs) (ts : List DataType) → all_types P here es ≡ Some ts →
-        IsOver V k → AllLawful P here Q (occurrences_in P here.node k n es) →
-        AreSited P here Q n (sites_in es) → AllStand (occurrences_in P here.node k n es)
-    all_stand k n Nil ts e o h s = tt
-    all_stand k n (Cons a es) ts e o h s =
-        let i = first_of_all P here a es ts e in
-        let oa = occurrences P here.node k n a in
-        let ob = occurrences_in P here.node k (n + call_count a) es in
-        Every-append Stands oa ob
-        (parts_stand k n a (i.first ∷ []) i.is o (fore P here Q oa ob h)
-        (sited_first (OfCalled P here Q) n (sites a) (sites_in es) s))
-        (all_stand k (n + call_count a) es i.rest i.others o (aft P here Q oa ob h)
-        (sited_second (OfCalled P here Q) n (sites a) (sites_in es) s))
+  -- an operand stands, where it has types and the rest passes to it
+  stand :
+      (k : Clock) (n : ℕ) (e : Expr) → HasTypes P here (at k n e) → IsOver V k →
+      AllLawful P here Q (occurrences P here.node k n e) → AreSited P here Q n (sites e) →
+      Stands (at k n e)
+  stand k n e t o h s =
+      record { types = t.types; typed = t.typed; over = o; lawful = h; sited = s }
 
-    each_stands :
-        (ks : List Clock) (n : ℕ) (es : Exprs) (ts : List DataType) →
-        all_types P here es ≡ Some ts → Every (IsOver V) ks →
-        AllLawful P here Q (occurrences_each P here.node ks n es) →
-        AreSited P here Q n (sites_in es) → AllStand (occurrences_each P here.node ks n es)
-    each_stands ks n Nil ts e o h s = tt
-    each_stands [] n (Cons a es) ts e o h s = tt
-    each_stands (k ∷ ks) n (Cons a es) ts e o h s =
-        let i = first_of_all P here a es ts e in
-        let oa = occurrences P here.node k n a in
-        let ob = occurrences_each P here.node ks (n + call_count a) es in
-        Every-append Stands oa ob
-        (parts_stand k n a (i.first ∷ []) i.is o.0 (fore P here Q oa ob h)
-        (sited_first (OfCalled P here Q) n (sites a) (sites_in es) s))
-        (each_stands ks (n + call_count a) es i.rest i.others o.1 (aft P here Q oa ob h)
-        (sited_second (OfCalled P here Q) n (sites a) (sites_in es) s))
+  -- two operands stand
+  two_stand :
+      (k : Clock) (n : ℕ) (a b : Expr) → OnTwo P here.node (HasTypes P here) k n a b → IsOver V k →
+      AllLawful P here Q
+      (occurrences P here.node k n a ++ occurrences P here.node k (n + call_count a) b) →
+      AreSited P here Q n (sites a ++ sites b) → OnTwo P here.node Stands k n a b
+  two_stand k n a b t o h s =
+      let l = left P here Q k n a b h s in
+      let r = right P here Q k n a b h s in
+      (stand k n a t.0 o l.0 l.1, stand k (n + call_count a) b t.1 o r.0 r.1)
+
+  -- each expression of a row stands, and below of a row on clocks of their own
+  row_stands :
+      (k : Clock) (n : ℕ) (es : Exprs) → OnRow P here.node (HasTypes P here) k n es → IsOver V k →
+      AllLawful P here Q (occurrences_in P here.node k n es) →
+      AreSited P here Q n (sites_in es) → OnRow P here.node Stands k n es
+  row_stands k n Nil t o h s = tt
+  row_stands k n (Cons a es) t o h s =
+      let oa = occurrences P here.node k n a in (
+        stand k n a t.0 o (fore P here Q oa _ h) (sited_first _ n (sites a) (sites_in es) s),
+        row_stands k (n + call_count a) es t.1 o (aft P here Q oa _ h)
+            (sited_second _ n (sites a) (sites_in es) s),
+      )
+
+  each_stands :
+      (ks : List Clock) (n : ℕ) (es : Exprs) → OnEach P here.node (HasTypes P here) ks n es →
+      Every (IsOver V) ks → AllLawful P here Q (occurrences_each P here.node ks n es) →
+      AreSited P here Q n (sites_in es) → OnEach P here.node Stands ks n es
+  each_stands ks n Nil t o h s = tt
+  each_stands [] n (Cons a es) t o h s = tt
+  each_stands (k ∷ ks) n (Cons a es) t o h s =
+      let oa = occurrences P here.node k n a in (
+        stand k n a t.0 o.0 (fore P here Q oa _ h) (sited_first _ n (sites a) (sites_in es) s),
+        each_stands ks (n + call_count a) es t.1 o.1 (aft P here Q oa _ h)
+            (sited_second _ n (sites a) (sites_in es) s),
+      )
+
+  -- the operands of an expression stand where it does
+  pub operands_stand : (k : Clock) (n : ℕ) (e : Expr) → Stands (at k n e) →
+      OnOperands P here.node Stands k n e
+  operands_stand k n e s = by e s (operands_typed P here k n e s.types s.typed)
+    where
+      by : (e : Expr) → Stands (at k n e) → OnOperands P here.node (HasTypes P here) k n e →
+          OnOperands P here.node Stands k n e
+      by (Literal m) s t = tt
+      by (Truth b) s t = tt
+      by (Variable x) s t = tt
+      by (Group a) s t = stand k n a t s.over s.lawful s.sited
+      by (Unary op a) s t = stand k n a t s.over s.lawful.1 s.sited
+      by (Binary op a b) s t = two_stand k n a b t s.over s.lawful.1 s.sited
+      by (If c a b) s t =
+          let oc = occurrences P here.node k n c in
+          let first = sited_first _ n (sites c) (sites a ++ sites b) s.sited in
+          let rest = sited_second _ n (sites c) (sites a ++ sites b) s.sited in (
+            stand k n c t.0 s.over (fore P here Q oc _ s.lawful.1) first,
+            two_stand k (n + call_count c) a b t.1 s.over (aft P here Q oc _ s.lawful.1) rest,
+          )
+      by (Arrow a b) s t = two_stand k n a b t s.over s.lawful.1 s.sited
+      by (Fby a b) s t = two_stand k n a b t s.over s.lawful.1 s.sited
+      by (Pre a) s t = stand k n a t s.over s.lawful.1 s.sited
+      by (When a x sign) s t =
+          let own = declared_clock here.node x in
+          let over = subst (IsOver V) (clock_same k (On own x sign) s.lawful.0) s.over in
+          stand own n a t over.0 s.lawful.1 s.sited
+      by (Current a) s t =
+          let own = clock_or (clock_of P here.node a) in
+          let i = one (data_types P here a) Some s.types s.typed in
+          let over = current_over own n a i.data_type i.is s.lawful.1 s.sited in
+          stand own n a t over s.lawful.1 s.sited
+      by (Replicate a m) s t = stand k n a t s.over s.lawful.1 s.sited
+      by (Index a m) s t = stand k n a t s.over s.lawful.1 s.sited
+      by (Slice a m l) s t = stand k n a t s.over s.lawful.1 s.sited
+      by (Join a b) s t = two_stand k n a b t s.over s.lawful.1 s.sited
+      by (Array es) s t = row_stands k n es t s.over s.lawful.1 s.sited
+      by (AtMostOne es) s t = row_stands k n es t s.over s.lawful.1 s.sited
+      by (Nor es) s t = row_stands k n es t s.over s.lawful.1 s.sited
+      by (Call f statics es) s t =
+          let o = bound (operator_types P here (Node_named f statics)) _ s.types s.typed in
+          let c = called P here f statics o.value o.is in
+          let p = placed P here f statics c.callee c.is in
+          each_stands (call_clocks k (node_named P f) es) (n + 1) es t
+          (clocks_over k n f statics es c.callee p s.sited.0 s.lawful.0 s.over) s.lawful.1
+          (sited_after _ n (sites_in es) s.sited.1)
+      by (Iterate it (Node_named f statics) m es) s t =
+          row_stands k (n + 1) es t s.over s.lawful.1 (sited_after _ n (sites_in es) s.sited.1)
+      by (Iterate it (Symbol op) m es) s t = row_stands k n es t s.over s.lawful.1 s.sited
+
+  -- each part of an expression stands, where the expression does
+  parts_stand : (k : Clock) (n : ℕ) (e : Expr) → Stands (at k n e) →
+      AllStand (occurrences P here.node k n e)
+  parts_stand k n e s = on_parts P here.node Stands operands_stand k n e s
 
   -- ## Statements
 
@@ -264,21 +188,9 @@ module _ (P : Program) (here : Instance) (V : Name → Type 0)
       Every V xs
   left_has [] ts e = tt
   left_has (x ∷ xs) ts e =
-      let f = first_some (type_of_name P here x) (map (type_of_name P here) xs) ts e in
-      let d = bound _ _ f.0 f.1 in
-      (named_has V x _ d.value all d.is, left_has xs f.2 f.3)
-    where
-      first_some : (o : Option DataType) (os : List (Option DataType)) (ts : List DataType) →
-          all_some (o ∷ os) ≡ Some ts →
-          (t : DataType) × (o ≡ Some t) × (us : List DataType) × (all_some os ≡ Some us)
-      first_some None os ts e = absurd cc
-      first_some (Some t) os ts e = by (all_some os) refl e
-        where
-          by : (p : Option (List DataType)) → all_some os ≡ p →
-              option_map (λ us. t ∷ us) p ≡ Some ts →
-              (u : DataType) × (Some t ≡ Some u) × (us : List DataType) × (all_some os ≡ Some us)
-          by None is h = absurd cc
-          by (Some us) is h = (t, refl, us, is)
+      let f = first_of (type_of_name P here x) (map (type_of_name P here) xs) ts e in
+      let d = bound _ _ f.first f.is in
+      (named_has V x _ d.value all d.is, left_has xs f.rest f.others)
 
   -- the left variables of a statement have `V`, and its right side stands
   abbrev pub StatementStands : Statement × Occurrence → Type 0
@@ -292,64 +204,48 @@ module _ (P : Program) (here : Instance) (V : Name → Type 0)
   equation_over [] e = tt
   equation_over (x ∷ xs) e = declared_over V here.node all x
 
+  -- the right side of a statement stands, and its left variables have `V`
+  statement_stands :
+      (n : ℕ) (s : Statement) → is_statement_typed P here s ≡ true →
+      AllLawful P here Q
+      (occurrences P here.node (statement_clock P here.node s) n (right_side s)) →
+      AreSited P here Q n (statement_sites s) →
+      StatementStands (s, at (statement_clock P here.node s) n (right_side s))
+  statement_stands n (Equation lefts e) typed h s =
+      let t = same_some P (data_types P here e) (all_some (map (type_of_name P here) lefts))
+      typed in
+      let o = equation_over lefts e in (
+        record { types = t.0; typed = t.1; over = o; lawful = h; sited = s },
+        left_has lefts t.2 t.3,
+      )
+  statement_stands n (Assertion e) typed h s =
+      let t = typed_truth P (data_types P here e) typed in
+      let o = current_over (statement_clock P here.node (Assertion e)) n e t.0 t.1 h s in
+      (record { types = t.0 ∷ []; typed = t.1; over = o; lawful = h; sited = s }, tt)
+
   abbrev BodyStands : ℕ → List Statement → Type 0
   BodyStands n ss =
       AllStand (parts_of (right_sides P here.node n ss))
       × Every StatementStands (zip ss (right_sides P here.node n ss))
 
+  -- the parts and the statements of a text stand, where the rules of types and clocks are kept
   body_stands :
       (n : ℕ) (ss : List Statement) → list_all (is_statement_typed P here) ss ≡ true →
       AllLawful P here Q (parts_of (right_sides P here.node n ss)) →
       AreSited P here Q n (flat_map statement_sites ss) → BodyStands n ss
-  body_stands n [] typed h s = (tt, tt)
-  body_stands n (Equation lefts e ∷ rest) typed h s =
-      let k = statement_clock P here.node (Equation lefts e) in
-      let m = n + call_count e in
-      let oa = occurrences P here.node k n e in
-      let ob = parts_of (right_sides P here.node m rest) in
-      let S = OfCalled P here Q in
-      let t = same_some P (data_types P here e) (all_some (map (type_of_name P here) lefts))
-      (and_first (is_statement_typed P here (Equation lefts e)) _ typed) in
-      let o = equation_over lefts e in
-      let legal = fore P here Q oa ob h in
-      let sited = sited_first S n (sites e) (flat_map statement_sites rest) s in
-      let later = body_stands m rest
-      (and_second (is_statement_typed P here (Equation lefts e)) _ typed)
+  body_stands n [] typed h w = (tt, tt)
+  body_stands n (s ∷ ss) typed h w =
+      let k = statement_clock P here.node s in
+      let m = n + length (statement_sites s) in
+      let oa = occurrences P here.node k n (right_side s) in
+      let ob = parts_of (right_sides P here.node m ss) in
+      let first = statement_stands n s (and_first (is_statement_typed P here s) _ typed)
+      (fore P here Q oa ob h)
+      (sited_first _ n (statement_sites s) (flat_map statement_sites ss) w) in
+      let later = body_stands m ss (and_second (is_statement_typed P here s) _ typed)
       (aft P here Q oa ob h)
-      (sited_second S n (sites e) (flat_map statement_sites rest) s) in (
-        Every-append Stands oa ob (parts_stand k n e t.0 t.1 o legal sited) later.0,
-        (
-          (
-            record { types = t.0; typed = t.1; over = o; lawful = legal; sited = sited },
-            left_has lefts t.2 t.3,
-          ),
-          later.1,
-        ),
-      )
-  body_stands n (Assertion e ∷ rest) typed h s =
-      let k = statement_clock P here.node (Assertion e) in
-      let m = n + call_count e in
-      let oa = occurrences P here.node k n e in
-      let ob = parts_of (right_sides P here.node m rest) in
-      let S = OfCalled P here Q in
-      let t = typed_truth P (data_types P here e)
-      (and_first (is_statement_typed P here (Assertion e)) _ typed) in
-      let legal = fore P here Q oa ob h in
-      let sited = sited_first S n (sites e) (flat_map statement_sites rest) s in
-      let o = current_over k n e t.0 t.1 legal sited in
-      let later = body_stands m rest
-      (and_second (is_statement_typed P here (Assertion e)) _ typed)
-      (aft P here Q oa ob h)
-      (sited_second S n (sites e) (flat_map statement_sites rest) s) in (
-        Every-append Stands oa ob (parts_stand k n e (t.0 ∷ []) t.1 o legal sited) later.0,
-        (
-          (
-            record { types = t.0 ∷ []; typed = t.1; over = o; lawful = legal; sited = sited },
-            tt,
-          ),
-          later.1,
-        ),
-      )
+      (sited_second _ n (statement_sites s) (flat_map statement_sites ss) w) in
+      (Every-append Stands oa ob (parts_stand k n (right_side s) first.0) later.0, (first, later.1))
 
   -- the parts and the statements of a node that keeps the rules stand
   pub node_stands :

@@ -1,13 +1,14 @@
 -- The types and clocks of occurrences in the text of an instance of an accepted program.
+pub use Rattle.lb_check.proofs.programs.Operands.{HasTypes}
 use Rattle.lb_check.proofs.Words
-use Words.{◌≡◌, true, Some, None, List, Every, In, Name, Node, DataType, variables, Program}
-use Words.{Instance, node_sites, instances, static_refusal, variable_names, in_map, check_refusal}
-use Words.{are_declared_clocks, Occurrence, node_occurrences, data_types, inl, inr, ℕ, Bool, false}
-use Words.{cond, Option, [], ◌∷◌, map, refl, ap, sym, ◌∙◌, subst, bytes_eq, bytes_eq-Decides}
-use Words.{same_Some, all_some, Static, Node_named, Expr, Group, Call, Exprs, Declaration, Equation}
-use Words.{all_in, and_second, are_types, variable_type, Child, call_site, callee_of, node_named}
-use Words.{are_same, named, found_passes, Clock, ungrouped, at, type_of_name, is_statement_typed}
-use Words.{all_types, operator_types}
+use Words.{Bool, cond, false, inl, inr, ◌≡◌, true, Some, None, List, Every, In, Name, Node}
+use Words.{DataType, variables, Program, Instance, node_sites, instances, static_refusal}
+use Words.{variable_names, in_map, check_refusal, are_declared_clocks, Occurrence, node_occurrences}
+use Words.{data_types, ℕ, Option, [], ◌∷◌, map, refl, ap, sym, ◌∙◌, subst, bytes_eq}
+use Words.{bytes_eq-Decides, same_Some, all_some, Static, Node_named, Expr, Group, Call, Exprs}
+use Words.{Declaration, Equation, all_in, and_second, are_types, variable_type, Child, call_site}
+use Words.{callee_of, node_named, are_same, named, found_passes, Clock, ungrouped, at, type_of_name}
+use Words.{is_statement_typed, all_types, operator_types}
 use Rattle.lb_check.proofs.{clocking.NamedClocks.{OfCalled, Sited, IsOver}, lists.Members.Every-at}
 use Rattle.lb_check.proofs.{lists.Members.{Every-from, Every-map}, programs.AcceptedRules.typed}
 use Rattle.lb_check.proofs.programs.AcceptedRules.{clocked, all_declared, calls_have}
@@ -64,11 +65,6 @@ module _ (P : Program) (accepted : static_refusal P ≡ None) (checked : check_r
       occurrences_fit i
 
 -- Each expression in the text of each instance of an accepted program has types.
-
--- an occurrence has types
-pub record HasTypes (P : Program) (here : Instance) (o : Occurrence) : Type 0 where
-  pub types : List DataType
-  pub typed : data_types P here o.expr ≡ Some types
 
 -- each occurrence of each instance has types
 pub occurrences_typed :
@@ -135,10 +131,9 @@ ungrouped_types P here e = refl
 compared :
     (P : Program) (o p : Option (List DataType)) (ts : List DataType) → o ≡ Some ts →
     are_same P o p ≡ true → (us : List DataType) × (p ≡ Some us) × (are_types ts us ≡ true)
-compared P None p ts is e = absurd cc
-compared P (Some ss) None ts is e = absurd cc
 compared P (Some ss) (Some us) ts is e =
     (us, refl, subst (λ xs. are_types xs us ≡ true) (same_Some ss ts is) e)
+compared P _ _ ts is e = absurd cc
 
 module _ (P : Program) (accepted : static_refusal P ≡ None) (checked : check_refusal P ≡ None)
     (here : Instance) (stands : In here (instances P)) where

@@ -1,26 +1,26 @@
 -- What the code reads of a specialization and its callees is what the definitions say of them.
 use Rattle.lb_check.proofs.Words
-use Words.{◌≡◌, ℕ, List, [], ◌∷◌, ◌++◌, length, map, take, drop, Option, Some, None, refl, ap, sym}
-use Words.{◌∙◌, ℤ, drop-map, length-map, ◌>>=◌, all_some, Name, Node, ResolvedNode, instance_of}
-use Words.{Program, Instance, Path, Child, Site, static_value, callee_of, call_site, node_named}
+use Words.{node_named, ◌≡◌, ℕ, List, [], ◌∷◌, ◌++◌, length, map, take, drop, Option, Some, None}
+use Words.{refl, ap, sym, ◌∙◌, ℤ, drop-map, length-map, ◌>>=◌, all_some, Name, Node, ResolvedNode}
+use Words.{instance_of, Program, Instance, Path, Child, Site, static_value, callee_of, call_site}
 use Words.{variable_names, IsResolved, node_of, statics_of, DataType, variables, variable_type}
 use Words.{input_types, output_types, declared_type, declared_types, CallTypes, call_types_of, ◌<◌}
 use Words.{subst, arith, option_map, slice_get, slice_get-map, slice_get_within}
 use Words.{get_or_from_slice_get, either_or, Node_named, item_at, Reached, CallId, Specialization}
 use Words.{Table, Root, node_sites, IsReached, source_names, site_at, no_site, operator_types}
-use Words.{callee_types, call_types_at, zero, suc, Bool, true, false, not, bytes_eq}
-use Words.{bytes_eq-Decides, not-true, zip2, Static, Whole, Declaration, and_first, and_second}
-use Words.{or_first, or_second, StaticId, static_count, are_distinct, among, declaration_of}
-use Words.{static_at, named, natural, count_at, nat_lt, all_at, CallSite, VariableId, name_value}
-use Words.{counts_of, name_at, site_of, named_value, is_variable, is_static, is_call}
-use Words.{is_no_variable, are_statics, constant_type, data_types, name_data_type, singly}
-use Words.{type_of_name, constant_at, repeats_of, IsTable, specialized_at, Declared}
-use Rattle.{std.proofs.lemmas.List.take-map, lb_syntax.specs.Tree.{Named, Negated, Combined}}
-use Rattle.{lb_syntax.specs.Tree.Grouped, lb_static.specs.InstanceTable.IsSpecialized}
+use Words.{callee_types, call_types_at, zero, suc, true, false, not, bytes_eq, bytes_eq-Decides}
+use Words.{not-true, zip2, Static, Whole, Declaration, and_first, and_second, or_first, or_second}
+use Words.{StaticId, static_count, are_distinct, among, declaration_of, static_at, named, natural}
+use Words.{count_at, nat_lt, all_at, CallSite, VariableId, name_value, counts_of, name_at, site_of}
+use Words.{named_value, is_variable, is_static, is_call, is_no_variable, are_statics, constant_type}
+use Words.{data_types, name_data_type, singly, type_of_name, constant_at, repeats_of, IsTable}
+use Words.{specialized_at, Declared}
+use Rattle.{std.proofs.lemmas.List.take-map, lb_syntax.specs.Tree.{Named}}
+use Rattle.{lb_static.specs.InstanceTable.IsSpecialized}
 use Rattle.lb_static.specs.ResolvedTerms.{static_of, is_count_within, is_site_within}
 use Rattle.lb_static.proofs.DeclaredTypes.{types_are, declared_is}
 use Rattle.lb_check.{specs.TermTypes.{variable_at, repeats_at}, proofs.lists.Members.not_among}
-use Rattle.lb_check.proofs.lists.Members.{held_at}
+use Rattle.lb_check.proofs.lists.Members.{held_at, unequal}
 
 -- The types of the inputs and of the outputs of a callee.
 
@@ -211,8 +211,6 @@ pub declared_at : (all : List Name) (statics : List Static) (names : List Name) 
     → are_distinct names ≡ true → slice_get names i ≡ Some x → slice_get vs i ≡ Some v
     → named (λ d. d.name) x (zip2 (declaration_of all statics) names vs) ≡ Some
     (declaration_of all statics x v)
-declared_at all statics [] vs i x v d ex ev = absurd cc
-declared_at all statics (y ∷ names) [] i x v d ex ev = absurd cc
 declared_at all statics (y ∷ names) (w ∷ vs) zero x v d ex ev =
     let same : w ≡ v = cc in
     let name : y ≡ x = cc in
@@ -224,24 +222,15 @@ declared_at all statics (y ∷ names) (w ∷ vs) zero x v d ex ev =
 declared_at all statics (y ∷ names) (w ∷ vs) (suc i) x v d ex ev =
     let no = not_among y names i x (not-true _ (and_first (not (among y names)) _ d)) ex in
     rw no (declared_at all statics names vs i x v (and_second (not (among y names)) _ d) ex ev)
+declared_at all statics _ _ i x v d ex ev = absurd cc
 
 -- a name that is not among the names of declarations is not found
 pub unfound : (x : Name) (ds : List Declaration) → among x (map (λ d. d.name) ds) ≡ false →
     named (λ d. d.name) x ds ≡ None
 unfound x [] e = refl
 unfound x (d ∷ ds) e =
-    let no = other_way (or_first (bytes_eq x d.name) _ e) in
+    let no = unequal x d.name (or_first (bytes_eq x d.name) _ e) in
     rw no (unfound x ds (or_second (bytes_eq x d.name) _ e))
-  where
-    other_way : bytes_eq x d.name ≡ false → bytes_eq d.name x ≡ false
-    other_way e = by (bytes_eq d.name x) refl
-      where
-        by : (b : Bool) → bytes_eq d.name x ≡ b → b ≡ false
-        by false h = refl
-        by true h =
-            let same : d.name ≡ x = (bytes_eq-Decides d.name x).0 h in
-            let yes = (bytes_eq-Decides x d.name).1 (sym same) in
-            absurd cc
 
 -- The context that the code reads of a specialization is what the definitions say of its instances.
 
@@ -285,15 +274,7 @@ module _ (P : Program) (r : Reached) (t : Table) (s : Specialization) (n : Resol
 
   pub left_is : (x : VariableId) → is_variable (counts_of n) x ≡ true →
       type_of_name P here (name_at names x) ≡ variable_at n s x
-  left_is x w =
-      let f = found x w in by (named (λ d. d.name) (name_at names x) (variables (node_of n))) f.0
-      f.1 ∙ sym f.2
-    where
-      by : (o : Option _) (data_type : Option DataType)
-          → option_map (variable_type P here) o ≡ Some data_type →
-          (o >>= variable_type P here) ≡ data_type
-      by None data_type e = absurd cc
-      by (Some d) data_type e = cc
+  left_is x w = let f = found x w in grind (arith, f.1, f.2)
 
   -- the static expression with number `i`
   static_held : (i : StaticId) → is_static (counts_of n) i ≡ true →
@@ -325,10 +306,7 @@ module _ (P : Program) (r : Reached) (t : Table) (s : Specialization) (n : Resol
           (constant_type (name_value P here x))))
           (unfound x (variables (node_of n)) (not-true _ u))
           ∙ ap (λ o. singly (constant_type o)) e
-      by (Whole m) v u e = absurd cc
-      by (Negated st) v u e = absurd cc
-      by (Combined op st su) v u e = absurd cc
-      by (Grouped st) v u e = absurd cc
+      by _ v u e = absurd cc
 
   pub static_is : (i : StaticId) → is_static (counts_of n) i ≡ true →
       static_count P here (static_at (statics_of n) i) ≡ count_at s.statics.items i

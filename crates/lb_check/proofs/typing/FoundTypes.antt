@@ -11,6 +11,7 @@ use Words.{specialized_at, Path, parts, right_side, IsReached, source_names, IsR
 use Words.{node_of, texts_of, Elaboration, Reached, ResolvedNode, Specialization, Table, IsJudged}
 use Words.{false, is_small, reverse, sum_by-cons, sum_by_more, found_of, node_types}
 use Words.{specialization_types}
+use Rattle.std.proofs.Math.Seq.{drop-append_seam, take-append_seam}
 use Rattle.{std.proofs.lemmas.List.Sums.sum_by-take-le, lb_static.proofs.TypeViews.product_reverse}
 use Rattle.lb_check.specs.{FoundTerms.HasFoundTypes, PlacedTypes.{nothing_found, type_among}}
 use Rattle.lb_check.specs.{PlacedTypes.{sizes_of, with_terms, AreFound}, Streams.data_type}
@@ -21,14 +22,6 @@ use Rattle.lb_check.proofs.typing.{Specializations.too_large, TypedSpecializatio
 
 -- The types that are kept of terms give the type of each term.
 
-take_seam : {A : Type 0} (xs ys : List A) → take (length xs) (xs ++ ys) ≡ xs
-take_seam [] ys = refl
-take_seam (x ∷ xs) ys = ap (λ l. x ∷ l) (take_seam xs ys)
-
-drop_seam : {A : Type 0} (xs ys : List A) → drop (length xs) (xs ++ ys) ≡ ys
-drop_seam [] ys = refl
-drop_seam (x ∷ xs) ys = drop_seam xs ys
-
 -- the product of all sizes but the outermost is the same in the opposite order
 inner_product :
     (ns : List ℕ) →
@@ -37,7 +30,7 @@ inner_product [] = refl
 inner_product (n ∷ ns) =
     ap (λ l. product (take (length l - 1) l)) (reverse-append (n ∷ []) ns)
     ∙ ap (λ k. product (take k (reverse ns ++ (n ∷ [])))) shorter
-    ∙ ap product (take_seam (reverse ns) (n ∷ [])) ∙ product_reverse ns
+    ∙ ap product (take-append_seam (reverse ns) (n ∷ [])) ∙ product_reverse ns
   where
     shorter : length (reverse ns ++ (n ∷ [])) - 1 ≡ length (reverse ns)
     shorter = let e = length-append (reverse ns) (n ∷ []) in omega (arith, e)
@@ -109,8 +102,8 @@ sizes_there :
 sizes_there before [] i o e = absurd cc
 sizes_there before (p ∷ os) zero o e =
     let same : p ≡ o = cc in
-    ap (take (length (sizes_in p))) (drop_seam before (sizes_in p ++ flat_map sizes_in os))
-    ∙ take_seam (sizes_in p) (flat_map sizes_in os) ∙ ap sizes_in same
+    ap (take (length (sizes_in p))) (drop-append_seam before (sizes_in p ++ flat_map sizes_in os))
+    ∙ take-append_seam (sizes_in p) (flat_map sizes_in os) ∙ ap sizes_in same
 sizes_there before (p ∷ os) (suc i) o e =
     ap (λ l. listed (λ (t : TermType). take t.rank (drop t.first l))
     (slice_get (rows_from (length before + length (sizes_in p)) os) i))
@@ -192,12 +185,6 @@ module _ (P : Program) (here : Instance) where
       ap (λ (ks : List ℕ). min (expression_size P here e) 65537 ∷ ks)
       (elements_kept (n + length (sizes_in (data_types P here e))) es)
 
-  got : (es : List Expr) (i : ℕ) (e : Expr) → slice_get es i ≡ Some e →
-      slice_get (rows_of es) i ≡ Some (data_types P here e)
-  got [] i e is = absurd cc
-  got (x ∷ es) zero e is = let same : x ≡ e = cc in ap (λ z. Some (data_types P here z)) same
-  got (x ∷ es) (suc i) e is = got es i e is
-
   -- the types that are kept of the expressions of an instance are right
   pub types_kept :
       (f : NodeTypes) → found_in f ≡ with_terms nothing_found (rows_of (node_parts here.node)) →
@@ -212,10 +199,12 @@ module _ (P : Program) (here : Instance) where
             ap (λ (g : FoundNode). map (λ (t : TermType). t.elements) g.terms) all
             ∙ elements_kept 0 es;
         sizes = λ i e at.
-            sizes_kept (found_in f) (rows_of es) i (data_types P here e) is (got es i e at)
+            sizes_kept (found_in f) (rows_of es) i (data_types P here e) is
+            (get_mapped (data_types P here) es i e at)
             ∙ ap (λ (t : DataType). reverse t.sizes) (type_is (data_types P here e));
         parts = λ i e at.
-            parts_kept (found_in f) (rows_of es) i (data_types P here e) is (got es i e at)
+            parts_kept (found_in f) (rows_of es) i (data_types P here e) is
+            (get_mapped (data_types P here) es i e at)
             ∙ ap (λ (t : DataType). min (product (tail_of t.sizes)) 65537)
             (type_is (data_types P here e));
       }
@@ -227,18 +216,12 @@ module _ (P : Program) (here : Instance) where
       map f xs ≡ map (λ y. min (g y) 65537) ys →
       min (a + sum_by f xs) 65537 ≡ min (a + sum_by g ys) 65537
   capped f g [] [] a e = refl
-  capped f g [] (y ∷ ys) a e = absurd cc
-  capped f g (x ∷ xs) [] a e = absurd cc
   capped f g (x ∷ xs) (y ∷ ys) a e =
       let one : f x ≡ min (g y) 65537 = cc in
       let more : map f xs ≡ map (λ y. min (g y) 65537) ys = cc in
-      by (f x) (g y) (sum_by f xs) (sum_by g ys) (sum_by f (x ∷ xs)) (sum_by g (y ∷ ys)) one
-      (capped f g xs ys (a + f x) more) (sum_by-cons f x xs) (sum_by-cons g y ys)
-    where
-      by : (m n s u v w : ℕ) → m ≡ min n 65537 →
-          min ((a + m) + s) 65537 ≡ min ((a + m) + u) 65537 →
-          v ≡ m + s → w ≡ n + u → min (a + v) 65537 ≡ min (a + w) 65537
-      by m n s u v w one rest p q = omega (arith, one, rest, p, q)
+      let rest = capped f g xs ys (a + f x) more in
+      omega (arith, one, rest, sum_by-cons f x xs, sum_by-cons g y ys)
+  capped f g _ _ a e = absurd cc
 
   -- the scalar elements of all terms are those of the expressions, up to 65,537
   pub size_found :
@@ -248,11 +231,7 @@ module _ (P : Program) (here : Instance) where
   size_found f has =
       let e = capped (λ (t : TermType). t.elements) (expression_size P here) f.terms.items
       (node_parts here.node) 0 has.elements in
-      by (sum_by (λ (t : TermType). t.elements) f.terms.items)
-      (sum_by (expression_size P here) (node_parts here.node)) e
-    where
-      by : (n m : ℕ) → min (0 + n) 65537 ≡ min (0 + m) 65537 → min n 65537 ≡ min m 65537
-      by n m e = omega (arith, e)
+      omega (arith, e)
 
   -- the terms that are kept have no more elements than the expressions
   no_more : (n : ℕ) (es : List Expr) →
@@ -262,14 +241,12 @@ module _ (P : Program) (here : Instance) where
   no_more n (e ∷ es) =
       let row = row_of n (data_types P here e) in
       let m = n + length (sizes_in (data_types P here e)) in
-      by (expression_size P here e)
-      (sum_by (λ (t : TermType). t.elements) (rows_from m (rows_of es)))
-      (sum_by (expression_size P here) es) _ _ (no_more m es)
-      (sum_by-cons (λ (t : TermType). t.elements) row (rows_from m (rows_of es)))
-      (sum_by-cons (expression_size P here) e es)
-    where
-      by : (k s u v w : ℕ) → s ≤ u → v ≡ min k 65537 + s → w ≡ k + u → v ≤ w
-      by k s u v w le p q = omega (arith, le, p, q)
+      omega (
+        arith,
+        no_more m es,
+        sum_by-cons (λ (t : TermType). t.elements) row (rows_from m (rows_of es)),
+        sum_by-cons (expression_size P here) e es,
+      )
 
   pub size_within : (es : List Expr) →
       size_of (with_terms nothing_found (rows_of es)) ≤ sum_by (expression_size P here) es

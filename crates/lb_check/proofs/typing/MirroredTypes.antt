@@ -1,19 +1,18 @@
 -- The types that the code finds for a term and its parts are those of its expression.
 use Rattle.lb_check.proofs.Words
-use Words.{◌≡◌, ℕ, Bool, true, false, List, [], ◌∷◌, Option, Some, None, refl, ap, sym, ◌∙◌, ◌&&◌}
-use Words.{◌>>=◌, where_true, either_or, Whole, Node_named, and_first, and_second, Term, Literal}
-use Words.{Truth, Value, Group', Unary', Binary', If', Arrow', Fby', Pre', Current', When'}
-use Words.{Replicate', Index', Slice', Join', Array', AtMostOne', Nor', Call', IterateNode'}
-use Words.{IterateSymbol', Row_of-Term, end_of-Term, more_of-Term, Program, Instance, static_count}
-use Words.{Texts, Counts, expr_of, row_of, named_value, name_at, static_at, site_at, is_variable}
-use Words.{is_static, is_call, is_no_variable, is_within, are_within, is_unhidden, are_unhidden}
-use Words.{DataType, truth, is_type, data_types, all_types, name_data_type, operator_types}
-use Words.{unary_type, binary_type, common_type, array_of, index_type, slice_type, join_type}
-use Words.{list_type, symbol_types, iterator_types, from_one, from_two, from_truths, singly, only}
-use Words.{◌++◌, map, flat_map, ap₂, list_all, map-append, Count, Expr, Static, parts, parts_in}
-use Words.{right_side, statement_of, is_statement_within, is_statement_unhidden, ResolvedStatement}
-use Words.{FoundTypes, placed_types, placed_row_types, statement_types, type_of, types_in, results}
-use Words.{when_both, when_truth}
+use Words.{arith, and-true, ◌≡◌, ℕ, true, List, [], ◌∷◌, Option, Some, None, refl, ap, sym, ◌∙◌}
+use Words.{◌&&◌, ◌>>=◌, either_or, Whole, Node_named, and_first, and_second, Term, Literal, Truth}
+use Words.{Value, Group', Unary', Binary', If', Arrow', Fby', Pre', Current', When', Replicate'}
+use Words.{Index', Slice', Join', Array', AtMostOne', Nor', Call', IterateNode', IterateSymbol'}
+use Words.{Row_of-Term, end_of-Term, more_of-Term, Program, Instance, static_count, Texts, Counts}
+use Words.{expr_of, row_of, named_value, name_at, static_at, site_at, is_variable, is_static}
+use Words.{is_call, is_no_variable, is_within, are_within, is_unhidden, are_unhidden, DataType}
+use Words.{data_types, all_types, name_data_type, operator_types, unary_type, binary_type}
+use Words.{common_type, array_of, index_type, slice_type, join_type, list_type, symbol_types}
+use Words.{iterator_types, from_one, from_two, from_truths, singly, only, ◌++◌, map, flat_map, ap₂}
+use Words.{list_all, map-append, Count, Expr, Static, parts, parts_in, right_side, statement_of}
+use Words.{is_statement_within, is_statement_unhidden, ResolvedStatement, FoundTypes, placed_types}
+use Words.{placed_row_types, statement_types, type_of, types_in, results, when_both, when_truth}
 use Rattle.{lb_static.specs.declared.resolved.Term.Variable, lb_check.specs.TermTypes.Context}
 use Rattle.lb_check.proofs.typing.TypeRows.{type_is_only}
 use Rattle.lb_syntax.specs.Tree as tree
@@ -26,96 +25,44 @@ use Rattle.lb_static.specs.declared.resolved.ResolvedStatement.TheVariants as st
 from_one_is : (ts : Option (List DataType)) (o : Option DataType) (f : DataType → Option DataType) →
     (ts >>= only) ≡ o
     → from_one ts f ≡ singly (o >>= f)
-from_one_is ts o f e = ap (λ p. p >>= λ t. singly (f t)) e ∙ by o
-  where
-    by : (o : Option DataType) → (o >>= λ t. singly (f t)) ≡ singly (o >>= f)
-    by None = refl
-    by (Some t) = refl
+from_one_is ts o f e = grind arith
 
 same_again : (ts : Option (List DataType)) (o : Option DataType) → (ts >>= only) ≡ o →
     from_one ts Some ≡ singly o
-same_again ts o e = from_one_is ts o Some e ∙ ap singly (by o)
-  where
-    by : (o : Option DataType) → (o >>= Some) ≡ o
-    by None = refl
-    by (Some t) = refl
+same_again ts o e = grind arith
 
 from_two_is : (ts us : Option (List DataType)) (o p : Option DataType)
     (f : DataType → DataType → Option DataType)
     → (ts >>= only) ≡ o → (us >>= only) ≡ p → from_two ts us f ≡ singly (when_both o p f)
-from_two_is ts us o p f eo ep =
-    ap (λ o. o >>= λ t. us >>= only >>= λ u. singly (f t u)) eo
-    ∙ ap (λ p. o >>= λ t. p >>= λ u. singly (f t u)) ep ∙ by o p
-  where
-    by : (o p : Option DataType) → (o >>= λ t. p >>= λ u. singly (f t u)) ≡ singly (when_both o p f)
-    by None p = refl
-    by (Some t) None = refl
-    by (Some t) (Some u) = refl
+from_two_is ts us o p f eo ep = grind arith
 
 under_truth : (o p : Option DataType) (us : Option (List DataType)) → us ≡ singly p
     → (from_truths (singly o) >>= λ _. us) ≡ singly (when_truth o p)
 under_truth None p us e = refl
-under_truth (Some t) p us e = by (is_type truth t)
-  where
-    by : (b : Bool) → (where_true (b && true) (truth ∷ []) >>= λ _. us) ≡ singly
-        (where_true b t >>= λ _. p)
-    by true = e
-    by false = refl
+under_truth (Some t) p us e = grind (arith, and-true)
 
 counted : (c d : Option ℕ) (ts : Option (List DataType)) (o : Option DataType)
     (f : ℕ → DataType → Option DataType)
     → c ≡ d → (ts >>= only) ≡ o → (c >>= λ n. from_one ts (f n)) ≡ singly (d >>= λ n. o >>= f n)
-counted c d ts o f e one = ap (λ c. c >>= λ n. from_one ts (f n)) e ∙ by d
-  where
-    by : (d : Option ℕ) → (d >>= λ n. from_one ts (f n)) ≡ singly (d >>= λ n. o >>= f n)
-    by None = refl
-    by (Some n) = from_one_is ts o (f n) one
+counted c d ts o f e one = grind (arith, from_one_is)
 
 counted_twice : (c d e g : Option ℕ) (ts : Option (List DataType)) (o : Option DataType)
     (f : ℕ → ℕ → DataType → Option DataType)
     → c ≡ d → e ≡ g → (ts >>= only) ≡ o
     → (c >>= λ i. e >>= λ j. from_one ts (f i j)) ≡ singly (d >>= λ i. g >>= λ j. o >>= f i j)
-counted_twice c d e g ts o f first second one =
-    ap (λ c. c >>= λ i. e >>= λ j. from_one ts (f i j)) first ∙ by d
-  where
-    by : (d : Option ℕ) → (d >>= λ i. e >>= λ j. from_one ts (f i j)) ≡ singly
-        (d >>= λ i. g >>= λ j. o >>= f i j)
-    by None = refl
-    by (Some i) = counted e g ts o (f i) second one
+counted_twice c d e g ts o f first second one = grind (arith, counted)
 
 -- ## Rows
 
-swapped : {A B C : Type 0} → (o : Option A) (p : Option B) (f : A → B → Option C)
-    → (o >>= λ a. p >>= λ b. f a b) ≡ (p >>= λ b. o >>= λ a. f a b)
-swapped None None f = refl
-swapped None (Some b) f = refl
-swapped (Some a) None f = refl
-swapped (Some a) (Some b) f = refl
-
 called : {A B C : Type 0} → (o n : Option A) (p q : Option B) (f : A → B → Option C) → o ≡ n → p ≡ q
     → (o >>= λ a. p >>= λ b. f a b) ≡ (q >>= λ b. n >>= λ a. f a b)
-called o n p q f eo ep =
-    ap (λ o. o >>= λ a. p >>= λ b. f a b) eo ∙ ap (λ p. n >>= λ a. p >>= λ b. f a b) ep
-    ∙ swapped n q f
-
-abbrev nowhere : {A B : Type 0} → A → Option B
-nowhere x = None
-
-nothing : {A B : Type 0} → (q : Option A) → (q >>= nowhere {A = A} {B = B}) ≡ None
-nothing None = refl
-nothing (Some x) = refl
+called o n p q f eo ep = grind arith
 
 iterated : {A B C D : Type 0} →
     (c d : Option A) (o n : Option B) (p q : Option C) (f : A → B → C → Option D)
     → c ≡ d → o ≡ n → p ≡ q
     → (c >>= λ a. o >>= λ b. p >>= λ x. f a b x) ≡ (q >>= λ x. d >>= λ a. n >>= λ b. f a b x)
-iterated c d o n p q f ec eo ep =
-    ap (λ c. c >>= λ a. o >>= λ b. p >>= λ x. f a b x) ec ∙ by d
-  where
-    by : (d : Option _) → (d >>= λ a. o >>= λ b. p >>= λ x. f a b x) ≡
-        (q >>= λ x. d >>= λ a. n >>= λ b. f a b x)
-    by None = sym (nothing q)
-    by (Some a) = called o n p q (f a) eo ep
+iterated c d o n p q f ec eo ep = grind arith
 
 -- ## Terms
 
@@ -143,11 +90,19 @@ module _ (P : Program) (here : Instance) (texts : Texts) (n : Counts) (ctx : Con
   one : (t : Term) → typed t ≡ results ctx t → (typed t >>= only) ≡ type_of ctx t
   one t e = ap (λ o. o >>= only) e ∙ sym (type_is_only ctx t)
 
-  two : (a b : Term) (f : DataType → DataType → Option DataType) → typed a ≡ results ctx a →
-      typed b ≡ results ctx b
-      → from_two (typed a) (typed b) f ≡ singly (when_both (type_of ctx a) (type_of ctx b) f)
-  two a b f ea eb = from_two_is (typed a) (typed b) (type_of ctx a) (type_of ctx b) f (one a ea)
-      (one b eb)
+  -- the results of a term are the types of its text
+  abbrev HasResults : Term → Type 0
+  HasResults t = is_within n t ≡ true → is_unhidden texts t ≡ true → typed t ≡ results ctx t
+
+  -- the results of two operands are their types
+  two : (a b : Term) (f : DataType → DataType → Option DataType) →
+      (is_within n a && is_within n b) ≡ true →
+      (is_unhidden texts a && is_unhidden texts b) ≡ true → HasResults a → HasResults b →
+      from_two (typed a) (typed b) f ≡ singly (when_both (type_of ctx a) (type_of ctx b) f)
+  two a b f w u ea eb =
+      from_two_is (typed a) (typed b) (type_of ctx a) (type_of ctx b) f
+      (one a (ea (and_first _ _ w) (and_first _ _ u)))
+      (one b (eb (and_second _ _ w) (and_second _ _ u)))
 
   mutual
     unfolding type_of results
@@ -162,29 +117,18 @@ module _ (P : Program) (here : Instance) (texts : Texts) (n : Counts) (ctx : Con
     term_results (Unary' op p a) w u =
         from_one_is (typed a) (type_of ctx a) (unary_type op) (one a (term_results a w u))
     term_results (Binary' op p a q b) w u =
-        two a b (binary_type op) (term_results a (and_first _ (is_within n b) w)
-        (and_first _ (is_unhidden texts b) u))
-        (term_results b (and_second (is_within n a) _ w) (and_second (is_unhidden texts a) _ u))
+        two a b (binary_type op) w u (λ w u. term_results a w u) (λ w u. term_results b w u)
     term_results (If' p c q a r b) w u =
-        let wab = and_second (is_within n c) _ w in
-        let uab = and_second (is_unhidden texts c) _ u in
-        let ec = one c (term_results c (and_first _ (is_within n a && is_within n b) w)
-        (and_first _ (is_unhidden texts a && is_unhidden texts b) u)) in
+        let ec = one c (term_results c (and_first _ _ w) (and_first _ _ u)) in
         ap (λ ts. from_truths ts >>= λ _. from_two (typed a) (typed b) common_type)
         (same_again (typed c) (type_of ctx c) ec)
         ∙ under_truth (type_of ctx c) (when_both (type_of ctx a) (type_of ctx b) common_type) _
-        (two a b common_type (term_results a (and_first _ (is_within n b) wab)
-        (and_first _ (is_unhidden texts b) uab))
-        (term_results b (and_second (is_within n a) _ wab)
-        (and_second (is_unhidden texts a) _ uab)))
+        (two a b common_type (and_second _ _ w) (and_second _ _ u) (λ w u. term_results a w u)
+        (λ w u. term_results b w u))
     term_results (Arrow' p a q b) w u =
-        two a b common_type (term_results a (and_first _ (is_within n b) w)
-        (and_first _ (is_unhidden texts b) u))
-        (term_results b (and_second (is_within n a) _ w) (and_second (is_unhidden texts a) _ u))
+        two a b common_type w u (λ w u. term_results a w u) (λ w u. term_results b w u)
     term_results (Fby' p a q b) w u =
-        two a b common_type (term_results a (and_first _ (is_within n b) w)
-        (and_first _ (is_unhidden texts b) u))
-        (term_results b (and_second (is_within n a) _ w) (and_second (is_unhidden texts a) _ u))
+        two a b common_type w u (λ w u. term_results a w u) (λ w u. term_results b w u)
     term_results (Pre' p e) w u = same_again (typed e) (type_of ctx e) (one e (term_results e w u))
     term_results (Current' p e) w u =
         same_again (typed e) (type_of ctx e) (one e (term_results e w u))
@@ -209,9 +153,7 @@ module _ (P : Program) (here : Instance) (texts : Texts) (n : Counts) (ctx : Con
         (fits.count j (and_first _ (is_within n e) rest))
         (one e (term_results e (and_second (is_static n j) _ rest) u))
     term_results (Join' p a q b) w u =
-        two a b join_type (term_results a (and_first _ (is_within n b) w)
-        (and_first _ (is_unhidden texts b) u))
-        (term_results b (and_second (is_within n a) _ w) (and_second (is_unhidden texts a) _ u))
+        two a b join_type w u (λ w u. term_results a w u) (λ w u. term_results b w u)
     term_results (Array' arity all) w u =
         ap (λ o. o >>= λ ts. singly (list_type ts)) (row_types all w u)
     term_results (AtMostOne' arity all) w u = ap from_truths (row_types all w u)

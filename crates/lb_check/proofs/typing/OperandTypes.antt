@@ -1,11 +1,11 @@
 -- The types of the operands and of the callee of an expression, from the types of its results.
 use Rattle.lb_check.proofs.Words
-use Words.{list_all, zip, same_Some, ◌>>=◌, all_some, where_true, Name, Static, Node_named, Expr}
-use Words.{Exprs, Call, Cons, Declaration, Node, Program, Instance, Child, call_site, callee_of}
-use Words.{node_named, static_value, DataType, truth, is_type, are_types, input_types, output_types}
-use Words.{variable_type, data_types, all_types, only, singly, from_one, from_two, from_truths}
-use Words.{operator_types, ◌≡◌, ℕ, Bool, true, false, ℤ, Option, Some, None, option_map, List, []}
-use Words.{◌∷◌, map, refl, sym, ap, ap₂, ◌∙◌}
+use Words.{arith, list_all, zip, same_Some, ◌>>=◌, all_some, where_true, Name, Static, Node_named}
+use Words.{Expr, Exprs, Call, Cons, Declaration, Node, Program, Instance, Child, call_site}
+use Words.{callee_of, node_named, static_value, DataType, truth, is_type, are_types, input_types}
+use Words.{output_types, variable_type, data_types, all_types, only, singly, from_one, from_two}
+use Words.{from_truths, operator_types, ◌≡◌, ℕ, Bool, true, false, ℤ, Option, Some, None}
+use Words.{option_map, List, [], ◌∷◌, map, refl, sym, ap, ap₂, ◌∙◌}
 
 -- ## Inversions
 
@@ -20,9 +20,8 @@ bound None f y e = absurd cc
 bound (Some x) f y e = record { value = x; is = refl; gives = e }
 
 pub single : (ts : List DataType) (t : DataType) → only ts ≡ Some t → ts ≡ t ∷ []
-single [] t e = absurd cc
 single (s ∷ []) t e = cc
-single (s ∷ (u ∷ ts)) t e = absurd cc
+single _ t e = absurd cc
 
 pub record Single (o : Option DataType) (ts : List DataType) : Type 0 where
   pub data_type : DataType
@@ -109,6 +108,20 @@ from_true o ts e =
     let b = bound o _ ts e in
     let t = truly (list_all (is_type truth) b.value) (truth ∷ []) ts b.gives in
     record { data_types = b.value; is = b.is; truths = t.holds; all = sym t.same }
+
+-- the first of some types that are all there, and the other ones
+pub record First (o : Option DataType) (os : List (Option DataType)) (ts : List DataType) : Type 0
+  where
+    pub first : DataType
+    pub rest : List DataType
+    pub is : o ≡ Some first
+    pub others : all_some os ≡ Some rest
+    pub all : ts ≡ first ∷ rest
+
+pub first_of : (o : Option DataType) (os : List (Option DataType)) (ts : List DataType) →
+    all_some (o ∷ os) ≡ Some ts → First o os ts
+first_of None os ts e = absurd cc
+first_of (Some t) os ts e = grind arith
 
 -- ## Callees
 

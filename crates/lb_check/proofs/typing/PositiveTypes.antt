@@ -4,29 +4,28 @@ use Words.{◌≡◌, ℕ, zero, suc, ◌*◌, ◌<◌, true, Option, Some, None
 use Words.{arith, ◌&&◌, nat_le, nat_tests, Every, In, holds, either_or, all_some, Static}
 use Words.{Declaration, all_in, and_first, product, element_count, variables, width, Program}
 use Words.{Instance, static_count, instances, static_refusal, is_between, node_sizes, node_parts}
-use Words.{inl, inr, ◌+◌, ◌-◌, ◌≤◌, Bool, false, ◌++◌, refl, ap, sym, ◌∙◌, subst, cond, length}
-use Words.{list_all, bytes_eq, sum_by-cons, same_Some, ◌>>=◌, tail_of, where_true, Name, Node_named}
-use Words.{Symbol, Expr, Group, Unary, Binary, If, Arrow, Fby, Pre, Current, When, Replicate, Index}
-use Words.{Slice, Join, Array, AtMostOne, Nor, Call, Iterate, Exprs, Nil, Cons, Statement}
-use Words.{ArrayIterator, Map, Red, Fill, BinaryOperator, UnaryOperator, Kind, is_int, DataType}
-use Words.{int, truth, is_type, variable_type, total, Child, Site, instance_count, name_value}
-use Words.{parts, parts_in, right_side, named, map_in, check_refusal, node_occurrences, part_count}
-use Words.{expression_size, is_small, size, constant_type, data_types, all_types, only, singly}
-use Words.{name_data_type, from_one, from_truths, unary_type, binary_type, common_type, array_of}
-use Words.{index_type, slice_type, join_type, list_type, iterator_types, operator_types}
-use Words.{is_arithmetic, is_logical, min, slice_get, in_at, HasTypes, found_in, parts_of}
-use Words.{NodeTypes, ℤ, pos, nat_lt, if◌then◌else◌, sum_by, option_map, reverse}
+use Words.{from_two, inl, inr, ◌+◌, ◌≤◌, ◌++◌, refl, ap, sym, ◌∙◌, subst, length, list_all}
+use Words.{bytes_eq, sum_by-cons, same_Some, ◌>>=◌, tail_of, where_true, Name, Node_named, Symbol}
+use Words.{Expr, Group, Unary, Binary, If, Arrow, Fby, Pre, Current, When, Replicate, Index, Slice}
+use Words.{Join, Array, AtMostOne, Nor, Call, Iterate, Exprs, Nil, Cons, Statement, ArrayIterator}
+use Words.{Map, Red, Fill, BinaryOperator, UnaryOperator, is_int, DataType, int, truth, is_type}
+use Words.{variable_type, total, Child, Site, instance_count, name_value, parts, parts_in}
+use Words.{right_side, named, map_in, check_refusal, node_occurrences, part_count, expression_size}
+use Words.{is_small, size, constant_type, data_types, all_types, only, singly, name_data_type}
+use Words.{from_one, from_truths, unary_type, binary_type, common_type, array_of, index_type}
+use Words.{slice_type, join_type, list_type, iterator_types, operator_types, min, slice_get, in_at}
+use Words.{HasTypes, found_in, parts_of, NodeTypes, ℤ, pos, sum_by, option_map, reverse}
 use Rattle.{std.proofs.Math.Nat.suc-mul, lb_syntax.specs.Tree.{Literal, Truth, Variable}}
-use Rattle.lb_syntax.specs.declared.tree.UnaryOperator.TheVariants.{Not, Negate}
 use Rattle.{lb_static.specs.Parts.{declared_sizes, own_sizes}, lb_check.specs.Types.element_of}
-use Rattle.lb_check.{specs.Types.is_equality, proofs.definitions.BrokenRules.instantiation_kept}
+use Rattle.lb_check.{proofs.definitions.BrokenRules.instantiation_kept}
 use Rattle.lb_check.proofs.lists.Members.{in_first, to_pieces, Every-at, Every-from, Every-reverse}
 use Rattle.lb_check.proofs.{lists.Members.{in_second, Every-append}, programs.AcceptedRules.typed}
 use Rattle.lb_check.proofs.programs.{AcceptedRules.valued, OccurrenceParts.node_occurrence_parts}
-use Rattle.lb_check.proofs.programs.{OccurrenceSites.own_site, SameHistories.IsEntered}
-use Rattle.lb_check.proofs.programs.{SameHistories.all_entered, SiteOccurrences.instance_there}
-use Rattle.lb_check.proofs.typing.OperandTypes.{alone, bound, called, first_of_all, from_true, one}
-use Rattle.lb_check.proofs.typing.OperandTypes.{placed, truly, two}
+use Rattle.lb_check.proofs.programs.{InstancePaths.find_in, OccurrenceSites.own_site}
+use Rattle.lb_check.proofs.programs.{SameHistories.IsEntered, SameHistories.all_entered}
+use Rattle.lb_check.proofs.programs.{SiteOccurrences.instance_there}
+use Rattle.lb_check.proofs.typing.OperandTypes.{alone, bound, called, first_of, first_of_all}
+use Rattle.lb_check.proofs.typing.OperandTypes.{from_true, one, placed, truly, two}
 
 -- In an accepted program each variable has an element, since no size is 0.
 
@@ -47,21 +46,7 @@ module _ (P : Program) (here : Instance) where
       0 < either_or (option_map product (all_some (map (static_count P here) ss))) 0
   sizes_positive [] h = omega arith
   sizes_positive (s ∷ ss) h =
-      by (static_count P here s) h.0 (sizes_positive ss h.1)
-    where
-      both : (n : ℕ) (o : Option (List ℕ)) → 0 < n → 0 < either_or (option_map product o) 0 →
-          0 < either_or (option_map product (option_map (λ ns. n ∷ ns) o)) 0
-      both n None p q = absurd (omega (arith, q))
-      both n (Some ns) p q = positive_times n (product ns) p q
-
-      by : (o : Option ℕ) → holds (λ n. nat_le 1 n && nat_le n 4096) o ≡ true →
-          0 < either_or (option_map product (all_some (map (static_count P here) ss))) 0 →
-          0 < either_or (option_map product
-          (all_some (o ∷ map (static_count P here) ss))) 0
-      by None e q = absurd cc
-      by (Some n) e q =
-          both n (all_some (map (static_count P here) ss))
-          (at_least_one n (and_first (nat_le 1 n) (nat_le n 4096) e)) q
+      grind (arith, nat_tests, positive_times, sizes_positive ss h.1, h.0)
 
   width_of :
       (d : Declaration) (o : Option (List ℕ)) → 0 < either_or (option_map product o) 0 →
@@ -114,19 +99,10 @@ product_wide (n ∷ ns) lt = (left n (product ns) lt, product_wide ns (right n (
 -- ## Operators
 
 unary_wide : (op : UnaryOperator) (t u : DataType) → unary_type op t ≡ Some u → IsWide u
-unary_wide Not t u e = subst IsWide (truly _ truth u e).same tt
-unary_wide Negate t u e = subst IsWide (truly _ int u e).same tt
-
-scalar_wide : (a b c x y z w : Bool) (u : DataType) →
-    (if a then where_true x int else if b then where_true y truth else
-    if c then where_true z truth else where_true w truth) ≡ Some u → IsWide u
-scalar_wide true b c x y z w u e = subst IsWide (truly x int u e).same tt
-scalar_wide false true c x y z w u e = subst IsWide (truly y truth u e).same tt
-scalar_wide false false true x y z w u e = subst IsWide (truly z truth u e).same tt
-scalar_wide false false false x y z w u e = subst IsWide (truly w truth u e).same tt
+unary_wide op t u e = grind arith
 
 binary_wide : (op : BinaryOperator) (s t u : DataType) → binary_type op s t ≡ Some u → IsWide u
-binary_wide op s t u e = scalar_wide (is_arithmetic op) (is_logical op) (is_equality op) _ _ _ _ u e
+binary_wide op s t u e = grind arith
 
 common_wide : (s t u : DataType) → common_type s t ≡ Some u → IsWide t → IsWide u
 common_wide s t u e w = subst IsWide (truly _ t u e).same w
@@ -140,35 +116,16 @@ array_wide n t u e w =
 
 element_wide :
     (t : DataType) (a : ℕ × DataType) → element_of t ≡ Some a → IsWide t → IsWide a.1
-element_wide t a e w = by t.kind t.sizes a e w
-  where
-    by : (k : Kind) (ns : List ℕ) (a : ℕ × DataType) →
-        element_of (record { kind = k; sizes = ns }) ≡ Some a → Every (λ n. 0 < n) ns → IsWide a.1
-    by k [] a e w = absurd cc
-    by k (n ∷ ns) a e w =
-        subst (λ (b : ℕ × DataType). IsWide b.1) (same_Some _ a e) w.1
+element_wide t a e w = grind arith
 
 index_wide : (i : ℕ) (t u : DataType) → index_type i t ≡ Some u → IsWide t → IsWide u
-index_wide i t u e w =
-    let a = bound (element_of t) _ u e in
-    subst IsWide (truly _ a.value.1 u a.gives).same (element_wide t a.value a.is w)
+index_wide i t u e w = grind (arith, element_wide t)
 
 slice_wide : (i j : ℕ) (t u : DataType) → slice_type i j t ≡ Some u → IsWide t → IsWide u
-slice_wide i j t u e w =
-    let a = bound (element_of t) _ u e in
-    let fits = nat_le i j && nat_lt j a.value.0 in
-    let b = bound (where_true fits a.value.1) (array_of (suc j - i)) u a.gives in
-    array_wide (suc j - i) b.value u b.gives
-    (subst IsWide (truly fits a.value.1 b.value b.is).same (element_wide t a.value a.is w))
+slice_wide i j t u e w = grind (arith, element_wide t, array_wide)
 
 join_wide : (s t u : DataType) → join_type s t ≡ Some u → IsWide t → IsWide u
-join_wide s t u e w =
-    let a = bound (element_of s) _ u e in
-    let b = bound (element_of t) _ u a.gives in
-    let n = a.value.0 + b.value.0 in
-    let c = bound (common_type a.value.1 b.value.1) (array_of n) u b.gives in
-    array_wide n c.value u c.gives
-    (common_wide a.value.1 b.value.1 c.value c.is (element_wide t b.value b.is w))
+join_wide s t u e w = grind (arith, element_wide t, array_wide, common_wide)
 
 list_wide : (ts : List DataType) (u : DataType) → list_type ts ≡ Some u → AreWide ts → IsWide u
 list_wide [] u e w = absurd cc
@@ -179,31 +136,6 @@ list_wide (t ∷ ts) u e w =
     array_wide n a.value u a.gives (subst IsWide (truly same t a.value a.is).same w.0)
 
 -- ## Lists of types
-
--- the first of some types that are all there, and the other ones
-record First (o : Option DataType) (os : List (Option DataType)) (ts : List DataType) : Type 0
-  where
-    first : DataType
-    rest : List DataType
-    is : o ≡ Some first
-    others : all_some os ≡ Some rest
-    all : ts ≡ first ∷ rest
-
-first_of : (o : Option DataType) (os : List (Option DataType)) (ts : List DataType) →
-    all_some (o ∷ os) ≡ Some ts → First o os ts
-first_of None os ts e = absurd cc
-first_of (Some t) os ts e = by (all_some os) refl e
-  where
-    by : (p : Option (List DataType)) → all_some os ≡ p →
-        option_map (λ us. t ∷ us) p ≡ Some ts → First (Some t) os ts
-    by None is e = absurd cc
-    by (Some us) is e = record {
-      first = t;
-      rest = us;
-      is = refl;
-      others = is;
-      all = sym (same_Some _ ts e);
-    }
 
 all_wide :
     {A : Type 0} (f : A → Option DataType) (xs : List A) (ts : List DataType) →
@@ -228,35 +160,16 @@ iterator_wide Map n ins outs args ts e w =
     let a = bound (all_some (map (array_of n) ins)) _ ts e in
     let b = bound (where_true _ outs) (λ outs. all_some (map (array_of n) outs)) ts a.gives in
     arrays_wide n b.value ts b.gives (subst AreWide (truly _ outs b.value b.is).same w)
-iterator_wide Red n [] outs args ts e w = absurd cc
-iterator_wide Red n (a ∷ ins) [] args ts e w = absurd cc
-iterator_wide Red n (a ∷ ins) (u ∷ (v ∷ us)) args ts e w = absurd cc
-iterator_wide Red n (a ∷ ins) (u ∷ []) [] ts e w = absurd cc
 iterator_wide Red n (a ∷ ins) (u ∷ []) (i ∷ args) ts e w =
     let b = bound (all_some (map (array_of n) ins)) _ ts e in
     subst AreWide (truly _ (u ∷ []) ts b.gives).same w
-iterator_wide Fill n [] outs args ts e w = absurd cc
-iterator_wide Fill n (a ∷ (b ∷ ins)) outs args ts e w = absurd cc
-iterator_wide Fill n (a ∷ []) [] args ts e w = absurd cc
-iterator_wide Fill n (a ∷ []) (u ∷ []) args ts e w = absurd cc
-iterator_wide Fill n (a ∷ []) (u ∷ (v ∷ us)) [] ts e w = absurd cc
-iterator_wide Fill n (a ∷ []) (u ∷ (v ∷ us)) (i ∷ (j ∷ args)) ts e w = absurd cc
 iterator_wide Fill n (a ∷ []) (u ∷ (v ∷ us)) (i ∷ []) ts e w =
     let b = bound (all_some (map (array_of n) (v ∷ us))) _ ts e in
     subst AreWide (truly _ (u ∷ b.value) ts b.gives).same
     (w.0, arrays_wide n (v ∷ us) b.value b.is w.1)
+iterator_wide _ n _ _ _ ts e w = absurd cc
 
 -- ## The expressions of an instance
-
-named_in : (x : Name) (d : Declaration) (ds : List Declaration) →
-    named (λ d. d.name) x ds ≡ Some d → In d ds
-named_in x d [] e = absurd cc
-named_in x d (c ∷ ds) e = by (bytes_eq c.name x) e (named_in x d ds)
-  where
-    by : (b : Bool) → cond b (Some c) (named (λ (d : Declaration). d.name) x ds) ≡ Some d →
-        (named (λ (d : Declaration). d.name) x ds ≡ Some d → In d ds) → In d (c ∷ ds)
-    by true e next = inl (same_Some c d e)
-    by false e next = inr (next e)
 
 module _ (P : Program) (accepted : static_refusal P ≡ None) where
   variable_wide :
@@ -275,18 +188,7 @@ module _ (P : Program) (accepted : static_refusal P ≡ None) where
 
     symbol_wide : (op : BinaryOperator) (types : List DataType × List DataType) →
         operator_types P here (Symbol op) ≡ Some types → AreWide types.1
-    symbol_wide op types e = by (is_arithmetic op) e
-      where
-        by : (b : Bool) →
-            (if b then Some (int ∷ int ∷ [], int ∷ []) else
-            where_true (is_logical op) (truth ∷ truth ∷ [], truth ∷ [])) ≡ Some types →
-            AreWide types.1
-        by true e =
-            subst (λ (o : List DataType × List DataType). AreWide o.1) (same_Some _ types e)
-            (tt, tt)
-        by false e =
-            subst (λ (o : List DataType × List DataType). AreWide o.1)
-            (truly (is_logical op) _ types e).same (tt, tt)
+    symbol_wide op types e = grind arith
 
     name_wide : (x : Name) (t : DataType) → name_data_type P here x ≡ Some t → IsWide t
     name_wide x t e = by (named (λ d. d.name) x (variables here.node)) refl e
@@ -296,7 +198,8 @@ module _ (P : Program) (accepted : static_refusal P ≡ None) where
             ≡ Some t → IsWide t
         by None is e = constant_wide (name_value P here x) t e
         by (Some d) is e =
-            variable_wide here stands d (named_in x d (variables here.node) is) t e
+            variable_wide here stands d
+            (find_in (λ d. bytes_eq d.name x) (variables here.node) d is) t e
 
     -- the types of the outputs of a callee have no length 0
     outputs_wide :
@@ -327,23 +230,35 @@ module _ (P : Program) (accepted : static_refusal P ≡ None) where
     counted : (x : Expr) (m : Static) → In x (node_parts here.node) → In m (own_sizes x) →
         0 < either_or (static_count P here m) 0
     counted x m on own =
-        by (static_count P here m)
-        (all_in (is_between P here 1 4096) (node_sizes here.node) m
+        let range = all_in (is_between P here 1 4096) (node_sizes here.node) m
         (and_first _ _ (valued P accepted here stands).in_range)
         (in_second m (declared_sizes here.node) (flat_map own_sizes (node_parts here.node))
-        (to_pieces own_sizes m x (node_parts here.node) on own)))
-      where
-        by : (o : Option ℕ) → holds (λ n. nat_le 1 n && nat_le n 4096) o ≡ true → 0 < either_or o 0
-        by None e = absurd cc
-        by (Some n) e = at_least_one n (and_first (nat_le 1 n) (nat_le n 4096) e)
+        (to_pieces own_sizes m x (node_parts here.node) on own)) in
+        grind (arith, nat_tests, range)
 
     -- all parts of an expression stand in the node
     abbrev Stands : List Expr → Type 0
     Stands es = (x : Expr) → In x es → In x (node_parts here.node)
 
-    -- a type that the operand gives has no length 0
-    same_wide : (a : Expr) (t u : DataType) → Some t ≡ Some u → AreWide (t ∷ []) → IsWide u
-    same_wide a t u e w = subst IsWide (same_Some t u e) w.0
+    -- the types of an expression have no length 0
+    abbrev pub HasWide : Expr → Type 0
+    HasWide e = (ts : List DataType) → data_types P here e ≡ Some ts → AreWide ts
+
+    -- the type of the operand is that of the result
+    same_wide : (a : Expr) → HasWide a → (ts : List DataType) →
+        from_one (data_types P here a) Some ≡ Some ts → AreWide ts
+    same_wide a wide ts e =
+        let i = one (data_types P here a) Some ts e in
+        let w = wide (i.data_type ∷ []) i.is in
+        one_wide ts i.result i.all (subst IsWide (same_Some i.data_type i.result i.gives) w.0)
+
+    -- the operands and the result have one type
+    later_wide : (a b : Expr) → HasWide b → (ts : List DataType) →
+        from_two (data_types P here a) (data_types P here b) common_type ≡ Some ts → AreWide ts
+    later_wide a b wide ts e =
+        let i = two (data_types P here a) (data_types P here b) common_type ts e in
+        let w = wide (i.second ∷ []) i.is_second in
+        one_wide ts i.result i.all (common_wide i.first i.second i.result i.gives w.0)
 
     mutual
       positive :
@@ -365,34 +280,22 @@ module _ (P : Program) (accepted : static_refusal P ≡ None) where
           one_wide ts i.result i.all (binary_wide op i.first i.second i.result i.gives)
       positive (If c a b) on ts e =
           let t = bound (from_truths (from_one (data_types P here c) Some)) _ ts e in
-          let i = two (data_types P here a) (data_types P here b) common_type ts t.gives in
-          let w = positive b
+          later_wide a b (λ us f. positive b
           (λ x l. on x (inr (in_second x (parts c) (parts a ++ parts b)
-          (in_second x (parts a) (parts b) l)))) (i.second ∷ []) i.is_second in
-          one_wide ts i.result i.all (common_wide i.first i.second i.result i.gives w.0)
+          (in_second x (parts a) (parts b) l)))) us f) ts t.gives
       positive (Arrow a b) on ts e =
-          let i = two (data_types P here a) (data_types P here b) common_type ts e in
-          let w = positive b (λ x l. on x (inr (in_second x (parts a) (parts b) l)))
-          (i.second ∷ []) i.is_second in
-          one_wide ts i.result i.all (common_wide i.first i.second i.result i.gives w.0)
+          later_wide a b
+          (λ us f. positive b (λ x l. on x (inr (in_second x (parts a) (parts b) l))) us f) ts e
       positive (Fby a b) on ts e =
-          let i = two (data_types P here a) (data_types P here b) common_type ts e in
-          let w = positive b (λ x l. on x (inr (in_second x (parts a) (parts b) l)))
-          (i.second ∷ []) i.is_second in
-          one_wide ts i.result i.all (common_wide i.first i.second i.result i.gives w.0)
+          later_wide a b
+          (λ us f. positive b (λ x l. on x (inr (in_second x (parts a) (parts b) l))) us f) ts e
       positive (Pre a) on ts e =
-          let i = one (data_types P here a) Some ts e in
-          one_wide ts i.result i.all (same_wide a i.data_type i.result i.gives
-          (positive a (λ x l. on x (inr l)) (i.data_type ∷ []) i.is))
+          same_wide a (λ us f. positive a (λ x l. on x (inr l)) us f) ts e
       positive (Current a) on ts e =
-          let i = one (data_types P here a) Some ts e in
-          one_wide ts i.result i.all (same_wide a i.data_type i.result i.gives
-          (positive a (λ x l. on x (inr l)) (i.data_type ∷ []) i.is))
-      positive (When a x sign) on ts e =
-          let t = bound (from_truths (singly (name_data_type P here x))) _ ts e in
-          let i = one (data_types P here a) Some ts t.gives in
-          one_wide ts i.result i.all (same_wide a i.data_type i.result i.gives
-          (positive a (λ x l. on x (inr l)) (i.data_type ∷ []) i.is))
+          same_wide a (λ us f. positive a (λ x l. on x (inr l)) us f) ts e
+      positive (When a y sign) on ts e =
+          let t = bound (from_truths (singly (name_data_type P here y))) _ ts e in
+          same_wide a (λ us f. positive a (λ x l. on x (inr l)) us f) ts t.gives
       positive (Replicate a m) on ts e =
           let c = bound (static_count P here m) _ ts e in
           let i = one (data_types P here a) (array_of c.value) ts c.gives in
@@ -459,21 +362,12 @@ module _ (P : Program) (accepted : static_refusal P ≡ None) where
                 i.others,
           )
 
-    -- the types of an expression have no length 0
-    abbrev pub HasWide : Expr → Type 0
-    HasWide e = (ts : List DataType) → data_types P here e ≡ Some ts → AreWide ts
-
-    two_wide : (xs ys : List Expr) → Every HasWide xs → Every HasWide ys → Every HasWide (xs ++ ys)
-    two_wide xs ys h g = Every-append HasWide xs ys h g
-
-    left_part : (xs ys : List Expr) (e : Expr) → Stands (e ∷ (xs ++ ys)) → Stands xs
-    left_part xs ys e on x l = on x (inr (in_first x xs ys l))
-
-    right_part : (xs ys : List Expr) (e : Expr) → Stands (e ∷ (xs ++ ys)) → Stands ys
-    right_part xs ys e on x l = on x (inr (in_second x xs ys l))
-
-    only_part : (xs : List Expr) (e : Expr) → Stands (e ∷ xs) → Stands xs
-    only_part xs e on x l = on x (inr l)
+    -- of two lists of parts, one after the other
+    two_wide : (xs ys : List Expr) → Stands (xs ++ ys) → (Stands xs → Every HasWide xs) →
+        (Stands ys → Every HasWide ys) → Every HasWide (xs ++ ys)
+    two_wide xs ys on h g =
+        Every-append HasWide xs ys (h (λ x l. on x (in_first x xs ys l)))
+        (g (λ x l. on x (in_second x xs ys l)))
 
     mutual
       each_wide : (e : Expr) → Stands (parts e) → Every HasWide (parts e)
@@ -481,84 +375,63 @@ module _ (P : Program) (accepted : static_refusal P ≡ None) where
       each_wide (Truth b) on = (positive (Truth b) on, tt)
       each_wide (Variable x) on = (positive (Variable x) on, tt)
       each_wide (Group a) on = each_wide a on
-      each_wide (Unary op a) on =
-          (positive (Unary op a) on, each_wide a (only_part (parts a) (Unary op a) on))
+      each_wide (Unary op a) on = (positive (Unary op a) on, each_wide a (λ x l. on x (inr l)))
       each_wide (Binary op a b) on = (
         positive (Binary op a b) on,
-        two_wide (parts a) (parts b)
-            (each_wide a (left_part (parts a) (parts b) (Binary op a b) on))
-            (each_wide b (right_part (parts a) (parts b) (Binary op a b) on)),
+        two_wide (parts a) (parts b) (λ x l. on x (inr l)) (λ h. each_wide a h)
+            (λ h. each_wide b h),
       )
-      each_wide (If c a b) on =
-          let rest = right_part (parts c) (parts a ++ parts b) (If c a b) on in (
-            positive (If c a b) on,
-            two_wide (parts c) (parts a ++ parts b)
-                (each_wide c (left_part (parts c) (parts a ++ parts b) (If c a b) on))
-                (two_wide (parts a) (parts b)
-                (each_wide a (λ x l. rest x (in_first x (parts a) (parts b) l)))
-                (each_wide b (λ x l. rest x (in_second x (parts a) (parts b) l)))),
-          )
+      each_wide (If c a b) on = (
+        positive (If c a b) on,
+        two_wide (parts c) (parts a ++ parts b) (λ x l. on x (inr l)) (λ h. each_wide c h)
+            (λ h. two_wide (parts a) (parts b) h (λ h. each_wide a h) (λ h. each_wide b h)),
+      )
       each_wide (Arrow a b) on = (
         positive (Arrow a b) on,
-        two_wide (parts a) (parts b)
-            (each_wide a (left_part (parts a) (parts b) (Arrow a b) on))
-            (each_wide b (right_part (parts a) (parts b) (Arrow a b) on)),
+        two_wide (parts a) (parts b) (λ x l. on x (inr l)) (λ h. each_wide a h)
+            (λ h. each_wide b h),
       )
       each_wide (Fby a b) on = (
         positive (Fby a b) on,
-        two_wide (parts a) (parts b)
-            (each_wide a (left_part (parts a) (parts b) (Fby a b) on))
-            (each_wide b (right_part (parts a) (parts b) (Fby a b) on)),
+        two_wide (parts a) (parts b) (λ x l. on x (inr l)) (λ h. each_wide a h)
+            (λ h. each_wide b h),
       )
-      each_wide (Pre a) on = (positive (Pre a) on, each_wide a (only_part (parts a) (Pre a) on))
-      each_wide (Current a) on =
-          (positive (Current a) on, each_wide a (only_part (parts a) (Current a) on))
-      each_wide (When a x sign) on =
-          (positive (When a x sign) on, each_wide a (only_part (parts a) (When a x sign) on))
+      each_wide (Pre a) on = (positive (Pre a) on, each_wide a (λ x l. on x (inr l)))
+      each_wide (Current a) on = (positive (Current a) on, each_wide a (λ x l. on x (inr l)))
+      each_wide (When a y sign) on =
+          (positive (When a y sign) on, each_wide a (λ x l. on x (inr l)))
       each_wide (Replicate a m) on =
-          (positive (Replicate a m) on, each_wide a (only_part (parts a) (Replicate a m) on))
-      each_wide (Index a m) on =
-          (positive (Index a m) on, each_wide a (only_part (parts a) (Index a m) on))
+          (positive (Replicate a m) on, each_wide a (λ x l. on x (inr l)))
+      each_wide (Index a m) on = (positive (Index a m) on, each_wide a (λ x l. on x (inr l)))
       each_wide (Slice a m l) on =
-          (positive (Slice a m l) on, each_wide a (only_part (parts a) (Slice a m l) on))
+          (positive (Slice a m l) on, each_wide a (λ x k. on x (inr k)))
       each_wide (Join a b) on = (
         positive (Join a b) on,
-        two_wide (parts a) (parts b)
-            (each_wide a (left_part (parts a) (parts b) (Join a b) on))
-            (each_wide b (right_part (parts a) (parts b) (Join a b) on)),
+        two_wide (parts a) (parts b) (λ x l. on x (inr l)) (λ h. each_wide a h)
+            (λ h. each_wide b h),
       )
-      each_wide (Array es) on =
-          (positive (Array es) on, row_wide es (only_part (parts_in es) (Array es) on))
+      each_wide (Array es) on = (positive (Array es) on, row_wide es (λ x l. on x (inr l)))
       each_wide (AtMostOne es) on =
-          (positive (AtMostOne es) on, row_wide es (only_part (parts_in es) (AtMostOne es) on))
-      each_wide (Nor es) on =
-          (positive (Nor es) on, row_wide es (only_part (parts_in es) (Nor es) on))
-      each_wide (Call f statics es) on = (
-        positive (Call f statics es) on,
-        row_wide es (only_part (parts_in es) (Call f statics es) on),
-      )
-      each_wide (Iterate it (Node_named f statics) m es) on = (
-        positive (Iterate it (Node_named f statics) m es) on,
-        row_wide es (only_part (parts_in es) (Iterate it (Node_named f statics) m es) on),
-      )
-      each_wide (Iterate it (Symbol op) m es) on = (
-        positive (Iterate it (Symbol op) m es) on,
-        row_wide es (only_part (parts_in es) (Iterate it (Symbol op) m es) on),
-      )
+          (positive (AtMostOne es) on, row_wide es (λ x l. on x (inr l)))
+      each_wide (Nor es) on = (positive (Nor es) on, row_wide es (λ x l. on x (inr l)))
+      each_wide (Call f statics es) on =
+          (positive (Call f statics es) on, row_wide es (λ x l. on x (inr l)))
+      each_wide (Iterate it (Node_named f statics) m es) on =
+          (positive (Iterate it (Node_named f statics) m es) on, row_wide es (λ x l. on x (inr l)))
+      each_wide (Iterate it (Symbol op) m es) on =
+          (positive (Iterate it (Symbol op) m es) on, row_wide es (λ x l. on x (inr l)))
 
       row_wide : (es : Exprs) → Stands (parts_in es) → Every HasWide (parts_in es)
       row_wide Nil on = tt
       row_wide (Cons a es) on =
-          two_wide (parts a) (parts_in es)
-          (each_wide a (λ x l. on x (in_first x (parts a) (parts_in es) l)))
-          (row_wide es (λ x l. on x (in_second x (parts a) (parts_in es) l)))
+          two_wide (parts a) (parts_in es) on (λ h. each_wide a h) (λ h. row_wide es h)
 
     statements_wide :
         (ss : List Statement) → ((s : Statement) → In s ss → In s here.node.body) →
         Every HasWide (flat_map (λ s. parts (right_side s)) ss)
     statements_wide [] all = tt
     statements_wide (s ∷ ss) all =
-        two_wide (parts (right_side s)) (flat_map (λ s. parts (right_side s)) ss)
+        Every-append HasWide (parts (right_side s)) (flat_map (λ s. parts (right_side s)) ss)
         (each_wide (right_side s)
         (λ x l. to_pieces (λ s. parts (right_side s)) x s here.node.body (all s (inl refl)) l))
         (statements_wide ss (λ z l. all z (inr l)))

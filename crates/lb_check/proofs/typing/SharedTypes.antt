@@ -20,6 +20,7 @@ use Rattle.lb_static.specs.declared.resolved.Term.{Variable}
 use Rattle.lb_static.specs.declared.table.SpecializationId.{SpecializationId}
 use Rattle.lb_check.specs.SharedTypes.{all_paired, is_value_shared, is_callee_shared}
 use Rattle.lb_check.specs.TermTypes.{Context, context_of}
+use Rattle.lb_check.proofs.lists.ListPairs.{Pairs}
 use Rattle.lb_static.specs.declared.resolved.ResolvedStatement.TheVariants as statement
 
 -- ## Results that are there stay the same
@@ -167,13 +168,6 @@ module _ (c d : Context) (below : IsBelow c d) where
 
 -- ## The shared part
 
--- two lists of one length with items in relation `R`, place by place
-abbrev Paired : {A B : Type 0} → (A → B → Type 0) → List A → List B → Type 0
-Paired R [] [] = Unit {0}
-Paired R [] (y ∷ ys) = ⊥
-Paired R (x ∷ xs) [] = ⊥
-Paired R (x ∷ xs) (y ∷ ys) = R x y × Paired R xs ys
-
 -- two options of which neither is there, or both are, with values in relation `R`
 abbrev Alike : {A B : Type 0} → (A → B → Type 0) → Option A → Option B → Type 0
 Alike R None None = Unit {0}
@@ -181,47 +175,52 @@ Alike R None (Some y) = ⊥
 Alike R (Some x) None = ⊥
 Alike R (Some x) (Some y) = R x y
 
+-- a function takes related items to options of which the second has what the first has
+alike_within : {A B : Type 0} (R : A → A → Type 0) (f : A → Option B) →
+    ((x y : A) → R x y → Within (f x) (f y)) → (o p : Option A) → Alike R o p →
+    Within (o >>= f) (p >>= f)
+alike_within R f each None None a = same None
+alike_within R f each (Some x) (Some y) a = each x y a
+alike_within R f each _ _ a = absurd a
+
 module _ {A B : Type 0} (f : A → B → Bool) where
   abbrev Pass : A → B → Type 0
   Pass x y = f x y ≡ true
 
   each : (xs : List A) (ys : List B) → list_all (λ (p : A × B). f p.0 p.1) (zip xs ys) ≡ true →
-      length xs ≡ length ys → Paired Pass xs ys
+      length xs ≡ length ys → Pairs Pass xs ys
   each [] [] e l = tt
-  each [] (y ∷ ys) e l = absurd cc
-  each (x ∷ xs) [] e l = absurd cc
   each (x ∷ xs) (y ∷ ys) e l =
       let rest : length xs ≡ length ys = cc in
       (and_first (f x y) _ e, each xs ys (and_second (f x y) _ e) rest)
+  each _ _ e l = absurd cc
 
-  paired : (xs : List A) (ys : List B) → all_paired f xs ys ≡ true → Paired Pass xs ys
+  paired : (xs : List A) (ys : List B) → all_paired f xs ys ≡ true → Pairs Pass xs ys
   paired xs ys e =
       let test = list_all (λ (p : A × B). f p.0 p.1) (zip xs ys) in
       each xs ys (and_first test _ e)
       ((Decides-eqb (length xs) (length ys)).0 (and_second test _ e))
 
 module _ {A B : Type 0} (R : A → B → Type 0) where
-  taken : (n : ℕ) (xs : List A) (ys : List B) → Paired R xs ys → Paired R (take n xs) (take n ys)
+  taken : (n : ℕ) (xs : List A) (ys : List B) → Pairs R xs ys → Pairs R (take n xs) (take n ys)
   taken zero xs ys p = tt
   taken (suc n) [] [] p = tt
   taken (suc n) [] (y ∷ ys) p = absurd p
   taken (suc n) (x ∷ xs) [] p = absurd p
   taken (suc n) (x ∷ xs) (y ∷ ys) p = (p.0, taken n xs ys p.1)
 
-  dropped : (n : ℕ) (xs : List A) (ys : List B) → Paired R xs ys → Paired R (drop n xs) (drop n ys)
+  dropped : (n : ℕ) (xs : List A) (ys : List B) → Pairs R xs ys → Pairs R (drop n xs) (drop n ys)
   dropped zero xs ys p = p
   dropped (suc n) [] [] p = tt
-  dropped (suc n) [] (y ∷ ys) p = absurd p
-  dropped (suc n) (x ∷ xs) [] p = absurd p
   dropped (suc n) (x ∷ xs) (y ∷ ys) p = dropped n xs ys p.1
+  dropped _ _ _ p = absurd p
 
-  pub placed : (k : ℕ) (xs : List A) (ys : List B) → Paired R xs ys →
+  pub placed : (k : ℕ) (xs : List A) (ys : List B) → Pairs R xs ys →
       Alike R (slice_get xs k) (slice_get ys k)
   placed k [] [] p = tt
-  placed k [] (y ∷ ys) p = absurd p
-  placed k (x ∷ xs) [] p = absurd p
   placed zero (x ∷ xs) (y ∷ ys) p = p.0
   placed (suc k) (x ∷ xs) (y ∷ ys) p = placed k xs ys p.1
+  placed k _ _ p = absurd p
 
 either : (a b : Bool) → (a || b) ≡ true → (a ≡ true) ⊎ (b ≡ true)
 either true b e = inl refl
@@ -245,7 +244,7 @@ no_size (Some n) p e = absurd cc
 size_below : (s v : ℤ) → is_value_shared s v ≡ true → Within (natural s) (natural v)
 size_below s v e =
     elim (value_cases s v e) [
-      | inl same ↦ subst (λ z. Within (natural s) (natural z)) same (record { at = λ x e. e })
+      | inl equal ↦ subst (λ z. Within (natural s) (natural z)) equal (same _)
       | inr other ↦ no_size (natural s) (natural v) other.0
     ]
 
@@ -253,9 +252,8 @@ type_shared : (s v : ℤ) → is_value_shared s v ≡ true →
     Within (constant_type (Some s)) (constant_type (Some v))
 type_shared s v e =
     elim (value_cases s v e) [
-      | inl same ↦
-          subst (λ z. Within (constant_type (Some s)) (constant_type (Some z))) same
-          (record { at = λ x e. e })
+      | inl equal ↦
+          subst (λ z. Within (constant_type (Some s)) (constant_type (Some z))) equal (same _)
       | inr other ↦ record {
         at = λ x e.
             ap (λ b. where_true b int) other.2 ∙ sym (ap (λ b. where_true b int) other.1) ∙ e;
@@ -263,17 +261,16 @@ type_shared s v e =
     ]
 
 -- the values of two specializations of a node
-module _ (xs ys : List ℤ) (pairs : Paired (λ s v. is_value_shared s v ≡ true) xs ys) where
+module _ (xs ys : List ℤ) (pairs : Pairs (λ s v. is_value_shared s v ≡ true) xs ys) where
   abbrev Shared : ℤ → ℤ → Type 0
   Shared s v = is_value_shared s v ≡ true
 
-  sizes : (vs ws : List ℤ) → Paired Shared vs ws → Within (naturals vs) (naturals ws)
-  sizes [] [] p = record { at = λ x e. e }
-  sizes [] (y ∷ ws) p = absurd p
-  sizes (x ∷ vs) [] p = absurd p
+  sizes : (vs ws : List ℤ) → Pairs Shared vs ws → Within (naturals vs) (naturals ws)
+  sizes [] [] p = same _
   sizes (x ∷ vs) (y ∷ ws) p =
       one_more (map natural vs) (map natural ws) (natural x) (natural y) (size_below x y p.0)
       (sizes vs ws p.1)
+  sizes _ _ p = absurd p
 
   type_at : (v : Declared) → Within (declared_type xs v) (declared_type ys v)
   type_at v =
@@ -283,33 +280,29 @@ module _ (xs ys : List ℤ) (pairs : Paired (λ s v. is_value_shared s v ≡ tru
       (taken Shared v.sizes (drop k xs) (drop k ys) (dropped Shared k xs ys pairs)))
 
   constant_of : (o p : Option ℤ) → Alike Shared o p → Within (constant_type o) (constant_type p)
-  constant_of None None a = record { at = λ x e. e }
-  constant_of None (Some y) a = absurd a
-  constant_of (Some x) None a = absurd a
+  constant_of None None a = same _
   constant_of (Some x) (Some y) a = type_shared x y a
-
-  count_of : (o p : Option ℤ) → Alike Shared o p → Within (o >>= natural) (p >>= natural)
-  count_of None None a = record { at = λ x e. e }
-  count_of None (Some y) a = absurd a
-  count_of (Some x) None a = absurd a
-  count_of (Some x) (Some y) a = size_below x y a
+  constant_of _ _ a = absurd a
 
   constant_below : (i : StaticId) → Within (constant_at xs i) (constant_at ys i)
   constant_below i = constant_of _ _ (placed Shared i.0 xs ys pairs)
 
   count_below : (i : StaticId) → Within (count_at xs i) (count_at ys i)
-  count_below i = count_of _ _ (placed Shared i.0 xs ys pairs)
+  count_below i = alike_within Shared natural size_below _ _ (placed Shared i.0 xs ys pairs)
 
   repeats_below : (site : CallSite) → Within (repeats_of xs site) (repeats_of ys site)
   repeats_below site = by site.count
     where
       by : (o : Option StaticId) → Within (either_or (option_map (count_at xs) o) (Some 0))
           (either_or (option_map (count_at ys) o) (Some 0))
-      by None = record { at = λ x e. e }
+      by None = same _
       by (Some i) = count_below i
 
 module _ (t : Table) (xs ys : List SpecializationId)
-    (pairs : Paired (λ a b. is_callee_shared t a b ≡ true) xs ys) where
+    (pairs : Pairs (λ a b. is_callee_shared t a b ≡ true) xs ys) where
+  abbrev IsShared : SpecializationId → SpecializationId → Type 0
+  IsShared a b = is_callee_shared t a b ≡ true
+
   abbrev found : SpecializationId → Option Specialization
   found id = slice_get t.specializations.items id.0
 
@@ -317,24 +310,18 @@ module _ (t : Table) (xs ys : List SpecializationId)
       Within (found a) (found b)
   callee_below a b e =
       elim (either (a.0 == b.0) _ e) [
-        | inl same ↦
+        | inl equal ↦
             subst (λ k. Within (found a) (slice_get t.specializations.items k))
-            ((Decides-eqb a.0 b.0).0 same) (record { at = λ x e. e })
+            ((Decides-eqb a.0 b.0).0 equal) (same _)
         | inr past ↦
             let none = slice_get_past t.specializations.items a.0
             (leb-true (length t.specializations.items) a.0 past) in
             record { at = λ x e. let no : None ≡ Some x = sym none ∙ e in absurd cc }
       ]
 
-  callees_of : (o p : Option SpecializationId) → Alike (λ a b. is_callee_shared t a b ≡ true) o p →
-      Within (o >>= found) (p >>= found)
-  callees_of None None a = record { at = λ x e. e }
-  callees_of None (Some y) a = absurd a
-  callees_of (Some x) None a = absurd a
-  callees_of (Some x) (Some y) a = callee_below x y a
-
   called_below : (k : ℕ) → Within (slice_get xs k >>= found) (slice_get ys k >>= found)
-  called_below k = callees_of _ _ (placed (λ a b. is_callee_shared t a b ≡ true) k xs ys pairs)
+  called_below k =
+      alike_within IsShared found callee_below _ _ (placed IsShared k xs ys pairs)
 
 module _ (r : Reached) (t : Table) (n : ResolvedNode) (p s : Specialization)
     (shared : is_part_shared t p s ≡ true) where

@@ -1,23 +1,22 @@
 -- The types of a row one at a time, the sizes of parts, and tests of declared types.
 use Rattle.lb_check.proofs.Words
-use Words.{◌≡◌, ◌≢◌, ℕ, suc, ◌+◌, ◌<◌, ◌≤◌, Bool, true, false, List, [], ◌∷◌, length, map, drop}
-use Words.{get_or, Option, Some, None, refl, ap, sym, ◌∙◌, arith, ℤ, ◌&&◌, nat_eq, option_map}
-use Words.{if◌then◌else◌, list_all, and-false, nat_tests, drop_all, drop_more, length-map}
-use Words.{slice_get-get_or, slice_get-map, ◌>>=◌, all_some, either_or, where_true, and_first}
-use Words.{and_second, CallId, ResolvedNode, Specialization, called_by, DataType, is_type, Kind}
-use Words.{length-all_some, context_in, Signature, are_met, are_one, arrays, calls_in, common}
-use Words.{evaluated, has_arity, like_later, list_of, type_at, callee_types, call_types_of}
-use Words.{when_both, array_of, common_type, list_type, only, ◌-◌, min, ◌++◌, reverse, sum_by}
-use Words.{append_assoc, append-nil, map-append, reverse-append, reverse-reverse, sum_by-cons}
-use Words.{element_count, total, FoundNode, FoundTypes, Kept, kept, noted, part_in, part_size}
-use Words.{with_parts, with_row, with_term, ◌==◌, nat_le, zip, and_assoc, eq-eqb, holds, both_ways}
-use Words.{natural, naturals, slice_get, Int_kind, Bool_kind}
+use Words.{array_of, false_from_ne_true, ◌≡◌, ◌≢◌, ℕ, suc, ◌+◌, ◌<◌, ◌≤◌, Bool, true, false, List}
+use Words.{[], ◌∷◌, length, map, drop, get_or, Option, Some, None, refl, ap, sym, ◌∙◌, arith, ℤ}
+use Words.{◌&&◌, nat_eq, option_map, if◌then◌else◌, list_all, and-false, nat_tests, drop_all}
+use Words.{drop_more, length-map, slice_get-get_or, slice_get-map, ◌>>=◌, all_some, either_or}
+use Words.{where_true, and_first, and_second, CallId, DataType, is_type, Kind, length-all_some}
+use Words.{context_in, Signature, are_met, are_one, arrays, calls_in, common, evaluated, has_arity}
+use Words.{like_later, list_of, type_at, when_both, common_type, list_type, only, ◌-◌, min, ◌++◌}
+use Words.{reverse, sum_by, append_assoc, append-nil, map-append, reverse-append, reverse-reverse}
+use Words.{sum_by-cons, element_count, total, FoundNode, FoundTypes, Kept, kept, noted, part_in}
+use Words.{part_size, with_parts, with_row, with_term, ◌==◌, nat_le, zip, and_assoc, eq-eqb, holds}
+use Words.{both_ways, natural, naturals, Int_kind, Bool_kind}
 use denote.Enum.Bare.{sameb}
 use Rattle.std.proofs.Math.{Bool.and_comm, Dec.{eqb-suc-suc, eqb-suc-zero, eqb-zero-suc}}
 use Rattle.{lb_syntax.specs.contracts.tree.Kind.the_type, lb_static.specs.DataTypes.is_kind}
 use Rattle.{lb_static.specs.DataTypes.same_sizes, lb_check.specs.PlacedTypes.FoundPart}
 use Rattle.lb_check.specs.PlacedTypes.{found_part, noted_part, with_terms}
-use Rattle.lb_check.specs.TermSignatures.{callee_signature, declared_signature, nothing, are_sizes}
+use Rattle.lb_check.specs.TermSignatures.{are_sizes}
 use Rattle.lb_check.specs.{TermSignatures.{is_size, is_type_with, type_with}, TermTypes.context_of}
 use Rattle.lb_check.specs.declared.{part_types.PartType.PartType, type_env.TypeEnv.TypeEnv}
 
@@ -47,12 +46,7 @@ several_given [] e = refl
 several_given (None ∷ os) e = refl
 several_given (Some t ∷ []) e = absurd (e refl)
 several_given (Some t ∷ (None ∷ os)) e = refl
-several_given (Some t ∷ (Some u ∷ os)) e = by (all_some os)
-  where
-    by : (o : Option (List DataType)) →
-        None ≡ (option_map (λ l. t ∷ l) (option_map (λ l. u ∷ l) o) >>= only)
-    by None = refl
-    by (Some l) = refl
+several_given (Some t ∷ (Some u ∷ os)) e = grind arith
 
 -- a list of length 1 is its only item
 pub one_item : {A : Type 0} (xs : List A) (d : A) → length xs ≡ 1 → xs ≡ get_or xs 0 d ∷ []
@@ -64,18 +58,7 @@ one_item (x ∷ (y ∷ xs)) d e = absurd (omega (arith, e))
 
 pub calls_are : (s : TypeEnv) (c : CallId) → (context_in s).call c ≡ evaluated (calls_in s c)
 unfolding context_of
-calls_are s c = by (called_by s.table.now s.specialization.now c)
-  where
-    last : (values : List ℤ) (o : Option ResolvedNode) →
-        (o >>= call_types_of values)
-        ≡ evaluated (either_or (option_map (declared_signature values) o) nothing)
-    last values None = refl
-    last values (Some n) = refl
-
-    by : (o : Option Specialization) →
-        (o >>= callee_types s.reached.now) ≡ evaluated (callee_signature s.reached.now o)
-    by None = refl
-    by (Some t) = last t.statics.items (slice_get s.reached.now.nodes.items t.node.0)
+calls_are s c = grind arith
 
 -- ## Operands, from the last to the first
 
@@ -93,49 +76,23 @@ taken_all s count e =
 
 pub fits_start : (s : Signature) (count : ℕ) →
     has_arity s count ≡ (has_arity s count && are_met (drop count s.takes) [])
-fits_start s count = by (has_arity s count) refl
-  where
-    by : (b : Bool) → has_arity s count ≡ b → b ≡ (b && are_met (drop count s.takes) [])
-    by false e = refl
-    by true e =
-        let all = taken_all s count e in
-        sym (ap (λ l. are_met l []) (drop_all count s.takes (omega (arith, all))))
+fits_start s count = grind (arith, taken_all s count, drop_all count s.takes)
 
 pub fits_more : (s : Signature) (count at : ℕ) (o : Option DataType) (os : Types) → at < count →
     ((has_arity s count && are_met (drop (at + 1) s.takes) os) && are_one (type_at s.takes at) o)
     ≡ (has_arity s count && are_met (drop at s.takes) (o ∷ os))
-fits_more s count at o os lt = by (has_arity s count) refl
-  where
-    by : (b : Bool) → has_arity s count ≡ b →
-        ((b && are_met (drop (at + 1) s.takes) os) && are_one (type_at s.takes at) o)
-        ≡ (b && are_met (drop at s.takes) (o ∷ os))
-    by false e = refl
-    by true e =
-        let all = taken_all s count e in
-        and_comm (are_met (drop (at + 1) s.takes) os) (are_one (type_at s.takes at) o)
-        ∙ sym (ap (λ l. are_met l (o ∷ os)) (drop_at s.takes at (omega (arith, all, lt))))
+fits_more s count at o os lt =
+    grind (arith, taken_all s count, drop_at s.takes at, and_comm)
 
 as_many_met : (ws os : Types) → are_met ws os ≡ true → length ws ≡ length os
 as_many_met [] [] e = refl
-as_many_met [] (o ∷ os) e = absurd cc
-as_many_met (w ∷ ws) [] e = absurd cc
 as_many_met (w ∷ ws) (o ∷ os) e =
     ap suc (as_many_met ws os (and_second (are_one w o) (are_met ws os) e))
+as_many_met _ _ e = absurd cc
 
 pub fits_end : (s : Signature) (count : ℕ) (os : Types) → length os ≡ count →
     (has_arity s count && are_met s.takes os) ≡ (s.stands && are_met s.takes os)
-fits_end s count os many = by (are_met s.takes os) refl
-  where
-    by : (b : Bool) → are_met s.takes os ≡ b → (has_arity s count && b) ≡ (s.stands && b)
-    by false e = and-false (has_arity s count) ∙ sym (and-false s.stands)
-    by true e =
-        let met = as_many_met s.takes os e in
-        let same : nat_eq (length s.takes) count ≡ true = grind (arith, nat_tests) in
-        ap (λ b. (s.stands && b) && true) same ∙ last s.stands
-      where
-        last : (b : Bool) → ((b && true) && true) ≡ (b && true)
-        last true = refl
-        last false = refl
+fits_end s count os many = grind (arith, nat_tests, as_many_met s.takes os)
 
 -- types are compared with the wanted ones, from the first to the last
 module _ {A : Type 0} (f : A → Option DataType) (ws : Types) (xs : List A) (i : ℕ)
@@ -162,23 +119,19 @@ module _ {A : Type 0} (f : A → Option DataType) (ws : Types) (xs : List A) (i 
 
 -- types are not the wanted ones, where there are more or fewer
 pub met_apart : (ws os : Types) → length os ≢ length ws → false ≡ are_met ws os
-met_apart ws os apart = by (are_met ws os) refl
-  where
-    by : (b : Bool) → are_met ws os ≡ b → false ≡ b
-    by false e = refl
-    by true e = absurd (apart (sym (as_many_met ws os e)))
+met_apart ws os apart =
+    sym (false_from_ne_true _ (λ e. apart (sym (as_many_met ws os e))))
 
 -- ## Lists
 
 pub same_sizes_are : (ns ms : List ℕ) → same_sizes ns ms ≡ true → ns ≡ ms
 same_sizes_are [] [] e = refl
-same_sizes_are [] (m ∷ ms) e = absurd cc
-same_sizes_are (n ∷ ns) [] e = absurd cc
 same_sizes_are (n ∷ ns) (m ∷ ms) e =
     let one : nat_eq n m ≡ true = and_first (nat_eq n m) (same_sizes ns ms) e in
     let same : n ≡ m = grind (arith, nat_tests) in
     ap (λ k. k ∷ ns) same
     ∙ ap (λ l. m ∷ l) (same_sizes_are ns ms (and_second (nat_eq n m) (same_sizes ns ms) e))
+same_sizes_are _ _ e = absurd cc
 
 same_kind : (k l : Kind) → is_kind k l ≡ true → k ≡ l
 same_kind Int_kind Int_kind e = refl
@@ -267,21 +220,14 @@ counted_from n (Some ts) = min (n + total ts) 65537
 
 pub none_before : (o : Option (List DataType)) → part_size o ≡ counted_from 0 o
 none_before None = refl
-none_before (Some ts) = let n = total ts in by n
-  where
-    by : (n : ℕ) → min n 65537 ≡ min (0 + n) 65537
-    by n = omega arith
+none_before (Some ts) = omega arith
 
 pub counted_next : (n m : ℕ) (t : DataType) (o : Option (List DataType)) →
     m ≡ min (n + min (element_count t) 65537) 65537 →
     counted_from n (option_map (λ ts. t ∷ ts) o) ≡ counted_from m o
 counted_next n m t None e = refl
 counted_next n m t (Some ts) e =
-    by (element_count t) (total ts) (total (t ∷ ts)) (sum_by-cons element_count t ts) e
-  where
-    by : (k s w : ℕ) → w ≡ k + s → m ≡ min (n + min k 65537) 65537 →
-        min (n + w) 65537 ≡ min (m + s) 65537
-    by k s w p e = omega (arith, p, e)
+    let s = sum_by-cons element_count t ts in omega (arith, e, s)
 
 module _ (row : List (Option DataType)) (place count : ℕ)
     (known : part_size (all_some row) ≡ counted_from count (all_some (drop place row))) where
@@ -433,23 +379,12 @@ one_more : (n : ℕ) (ns : List ℕ) (o : Option ℕ) (os : List (Option ℕ)) �
     (holds (λ m. m == n) o && holds (λ ms. same_sizes ms ns) (all_some os))
     ≡ holds (λ ms. same_sizes ms (n ∷ ns)) (all_some (o ∷ os))
 one_more n ns None os = refl
-one_more n ns (Some m) os = by (all_some os)
-  where
-    by : (p : Option (List ℕ)) →
-        ((m == n) && holds (λ ms. same_sizes ms ns) p)
-        ≡ holds (λ ms. same_sizes ms (n ∷ ns)) (option_map (λ ms. m ∷ ms) p)
-    by None = and-false (m == n)
-    by (Some ms) = refl
+one_more n ns (Some m) os = grind (arith, and-false)
 
 none_left : (o : Option ℕ) (os : List (Option ℕ)) →
     false ≡ holds (λ ms. same_sizes ms []) (all_some (o ∷ os))
 none_left None os = refl
-none_left (Some m) os = by (all_some os)
-  where
-    by : (p : Option (List ℕ)) →
-        false ≡ holds (λ ms. same_sizes ms []) (option_map (λ ms. m ∷ ms) p)
-    by None = refl
-    by (Some ms) = refl
+none_left (Some m) os = grind arith
 
 -- values are sizes exactly where they are so place by place
 sizes_found : (vs : List ℤ) (ns : List ℕ) →
@@ -470,14 +405,7 @@ sizes_found (v ∷ vs) (n ∷ ns) =
 pub type_is : (own k : Kind) (vs : List ℤ) (ns : List ℕ) (b : Bool) → sameb the_type own k ≡ b →
     (b && are_sizes vs ns) ≡ is_type_with (type_with own vs) k ns
 type_is own k vs ns b e =
-    ap (λ c. c && are_sizes vs ns) (sym e ∙ same_kind_is own k)
-    ∙ ap (λ c. is_kind own k && c) (sizes_found vs ns) ∙ by (naturals vs)
-  where
-    by : (p : Option (List ℕ)) →
-        (is_kind own k && holds (λ ms. same_sizes ms ns) p)
-        ≡ is_type_with (option_map (λ ms. record { kind = own; sizes = reverse ms }) p) k ns
-    by None = and-false (is_kind own k)
-    by (Some ms) = ap (λ c. is_kind own k && c) (turned ms ns)
+    grind (arith, same_kind_is own k, sizes_found vs ns, turned, and-false)
 
 swapped : (x y z : Bool) → (x && (y && z)) ≡ (y && (x && z))
 swapped x true z = refl
@@ -488,25 +416,11 @@ pub array_is : (n m : ℕ) (o : Option DataType) (k : Kind) (ns : List ℕ) →
     ≡ are_one (arrays n o) (Some (record { kind = k; sizes = m ∷ reverse ns }))
 array_is n m None k ns =
     ap (λ b. (n == m) && b) (and-false (nat_le 1 n && nat_le n 4096)) ∙ and-false (n == m)
-array_is n m (Some t) k ns = by (nat_le 1 n && nat_le n 4096)
-  where
-    by : (b : Bool) →
-        ((n == m) && (b && is_type_with (Some t) k ns))
-        ≡ are_one (where_true b (record { kind = t.kind; sizes = n ∷ t.sizes }))
-        (Some (record { kind = k; sizes = m ∷ reverse ns }))
-    by true = swapped (n == m) (is_kind t.kind k) (same_sizes t.sizes (reverse ns))
-    by false = and-false (n == m)
+array_is n m (Some t) k ns = grind (arith, swapped, and-false)
 
 -- a scalar is no array
 pub scalar_is_none : (n : ℕ) (o : Option DataType) (k : Kind) (ns : List ℕ) → length ns ≡ 0 →
     false ≡ are_one (arrays n o) (Some (record { kind = k; sizes = reverse ns }))
 scalar_is_none n o k (m ∷ ns) e = absurd (omega (arith, e))
 scalar_is_none n None k [] e = refl
-scalar_is_none n (Some t) k [] e = by (nat_le 1 n && nat_le n 4096)
-  where
-    by : (b : Bool) →
-        false
-        ≡ are_one (where_true b (record { kind = t.kind; sizes = n ∷ t.sizes }))
-        (Some (record { kind = k; sizes = [] }))
-    by true = sym (and-false (is_kind t.kind k))
-    by false = refl
+scalar_is_none n (Some t) k [] e = grind (arith, and-false)

@@ -1,24 +1,25 @@
 -- Where the rules of types hold, each call has one result, apart from one that is a whole right
 -- side.
 use Rattle.lb_check.proofs.Words
-use Words.{◌≡◌, ℕ, Bool, true, false, List, [], ◌∷◌, ◌++◌, length, map, take, drop, Option, Some}
-use Words.{None, refl, ap, sym, ◌∙◌, arith, ◌&&◌, is_some, slice_get, nat_eq, ℤ, list_all}
-use Words.{nat_tests, length-map, and_from, ◌>>=◌, all_some, holds, where_true, Node, bind_some}
-use Words.{all_at, and_first, and_second, Reached, CallId, ResolvedNode, ResolvedStatement, Term}
-use Words.{Literal, Truth, Value, Group', Unary', Binary', If', Arrow', Fby', Pre', Current', When'}
-use Words.{Replicate', Index', Slice', Join', Array', AtMostOne', Nor', Call', IterateNode'}
-use Words.{IterateSymbol', Row_of-Term, end_of-Term, more_of-Term, Specialization, Table}
-use Words.{instance_of, Program, Instance, Root, Child, Site, callee_of, node_named, static_value}
-use Words.{called_by, source_names, IsResolved, node_of, counts_of, is_call, is_static, is_variable}
-use Words.{is_within, are_within, is_statement_within, DataType, truth, is_type, are_types}
-use Words.{IsJudged, is_single, are_single, calls_single, is_single_within, is_statement_single}
-use Words.{declared_type, declared_types, length-all_some, CallTypes, call_types_of, callee_types}
-use Words.{call_types_at, are_typed, is_specialization_typed, is_variable_typed}
-use Words.{is_resolved_statement_typed, is_node_typed, are_equal, results, type_of, types_in}
-use Words.{when_truth, only, singly, length-append, length-take, length-drop}
+use Words.{binary_type, common_type, join_type, when_both, ◌≡◌, ℕ, true, false, List, [], ◌∷◌, ◌++◌}
+use Words.{length, map, take, drop, Option, Some, refl, ap, sym, ◌∙◌, arith, ◌&&◌, is_some}
+use Words.{slice_get, nat_eq, ℤ, list_all, nat_tests, length-map, and_from, ◌>>=◌, holds}
+use Words.{where_true, Node, bind_some, all_at, and_first, and_second, Reached, CallId}
+use Words.{ResolvedNode, ResolvedStatement, Term, Literal, Truth, Value, Group', Unary', Binary'}
+use Words.{If', Arrow', Fby', Pre', Current', When', Replicate', Index', Slice', Join', Array'}
+use Words.{AtMostOne', Nor', Call', IterateNode', IterateSymbol', Row_of-Term, end_of-Term}
+use Words.{more_of-Term, Specialization, Table, instance_of, Program, Root, Child, Site, node_named}
+use Words.{called_by, source_names, IsResolved, node_of, counts_of, is_call, is_within, are_within}
+use Words.{is_statement_within, DataType, truth, is_type, are_types, IsJudged, is_single}
+use Words.{are_single, calls_single, is_single_within, is_statement_single, declared_type}
+use Words.{declared_types, length-all_some, CallTypes, call_types_of, callee_types, call_types_at}
+use Words.{are_typed, is_specialization_typed, is_resolved_statement_typed, is_node_typed}
+use Words.{are_equal, results, type_of, types_in, when_truth, only, singly, length-append}
+use Words.{length-take, length-drop}
 use Rattle.{lb_static.specs.declared.resolved.Term.Variable, lb_check.specs.TermTypes.Context}
 use Rattle.lb_check.{specs.TermTypes.context_of, proofs.definitions.NodePlaces.callee_found}
 use Rattle.lb_check.proofs.definitions.NodePlaces.{node_resolved, site_found}
+use Rattle.lb_check.proofs.programs.InstancePaths.{callee_node}
 use Rattle.lb_check.proofs.typing.{FittedTypes.specialized_instance, TypeRows.type_is_only}
 use Rattle.lb_static.specs.declared.resolved.ResolvedStatement.TheVariants as statement
 
@@ -26,60 +27,43 @@ use Rattle.lb_static.specs.declared.resolved.ResolvedStatement.TheVariants as st
 
 first_some : {A B : Type 0} (o : Option A) (f : A → Option B) → is_some (o >>= f) ≡ true →
     is_some o ≡ true
-first_some None f e = absurd cc
-first_some (Some a) f e = refl
+first_some o f e = grind arith
 
 second_some : {A B C : Type 0} (o : Option A) (p : Option B) (f : A → B → Option C) →
     is_some (o >>= λ a. p >>= f a) ≡ true → is_some p ≡ true
-second_some None p f e = absurd cc
-second_some (Some a) p f e = first_some p (f a) e
+second_some o p f e = grind arith
 
 third_some : {A B C D : Type 0} (o : Option A) (p : Option B) (q : Option C)
     (f : A → B → C → Option D)
     → is_some (o >>= λ a. p >>= λ b. q >>= f a b) ≡ true → is_some q ≡ true
-third_some None p q f e = absurd cc
-third_some (Some a) p q f e = second_some p q (f a) e
+third_some o p q f e = grind arith
 
 under_truth : (c o : Option DataType) → is_some (when_truth c o) ≡ true → is_some o ≡ true
-under_truth None o e = absurd cc
-under_truth (Some c) o e = by (is_type truth c) e
-  where
-    by : (b : Bool) → is_some (where_true b c >>= λ _. o) ≡ true → is_some o ≡ true
-    by true e = e
-    by false e = absurd cc
+under_truth c o e = grind arith
 
 one_some : (o : Option DataType) → is_some (singly o) ≡ true → is_some o ≡ true
-one_some None e = absurd cc
-one_some (Some t) e = refl
+one_some o e = grind arith
 
 only_one : (ts : List DataType) → is_some (only ts) ≡ true → length ts ≡ 1
-only_one [] e = absurd cc
 only_one (t ∷ []) e = refl
-only_one (t ∷ u ∷ ts) e = absurd cc
+only_one _ e = absurd cc
 
 -- a call with one type has one result
 one_result : (ts : Option (List DataType)) (o : Option CallTypes)
     → is_some (ts >>= (λ ts. o >>= λ o. where_true (are_types o.0 ts) o.1) >>= only) ≡ true
     → (g : CallTypes) × (o ≡ Some g) × (length g.1 ≡ 1)
-one_result None o e = absurd cc
-one_result (Some ts) None e = absurd cc
-one_result (Some ts) (Some g) e = (g, refl, only_one g.1 (by (are_types g.0 ts) e))
-  where
-    by : (b : Bool) → is_some (where_true b g.1 >>= only) ≡ true → is_some (only g.1) ≡ true
-    by true e = e
-    by false e = absurd cc
+one_result (Some ts) (Some g) e = (g, refl, only_one g.1 (grind arith))
+one_result _ _ e = absurd cc
 
 -- results that are a truth have one type
 one_truth : (o : Option (List DataType)) → are_equal o (Some (truth ∷ [])) ≡ true →
     is_some (o >>= only) ≡ true
-one_truth None e = absurd cc
-one_truth (Some []) e = absurd cc
 one_truth (Some (t ∷ [])) e = refl
 one_truth (Some (t ∷ u ∷ ts)) e = let no = and_second (is_type t truth) false e in absurd cc
+one_truth _ e = absurd cc
 
 equal_some : (o p : Option (List DataType)) → are_equal o p ≡ true → is_some o ≡ true
-equal_some None p e = absurd cc
-equal_some (Some ts) p e = refl
+equal_some o p e = grind arith
 
 -- ## As many outputs as their types
 
@@ -116,20 +100,6 @@ call_outputs statics names n g resolved e =
 
 -- ## Calls
 
-callee_node : (P : Program) (here : Instance) (site : Site) (call : ℕ) (x : Instance) →
-    callee_of P here site call 0 ≡ Some x → node_named P site.callee ≡ Some x.node
-callee_node P here site call x e =
-    by (node_named P site.callee) (all_some (map (static_value P here) site.arguments)) e
-  where
-    by : (o : Option Node) (vs : Option (List ℤ)) →
-        (o >>= λ m. vs >>= λ values. Some (instance_of (Child here.path call 0) m values)) ≡ Some
-        x → o ≡ Some x.node
-    by None vs e = absurd cc
-    by (Some m) None e = absurd cc
-    by (Some m) (Some values) e =
-        let same : instance_of (Child here.path call 0) m values ≡ x = cc in
-        ap (λ (i : Instance). Some i.node) same
-
 module _ (P : Program) (r : Reached) (t : Table) (j : IsJudged P r t) (i : ℕ) (s : Specialization)
     (n : ResolvedNode)
     (is : slice_get t.specializations.items i ≡ Some s)
@@ -155,7 +125,7 @@ module _ (P : Program) (r : Reached) (t : Table) (j : IsJudged P r t) (i : ℕ) 
       let same = (j.table.specialized i s is).0.callees here here_is c.0 site.0 site.1 id.0 id.1
       called.0 id.2 in
       let named : node_named P site.0.callee ≡ Some (node_of m.0) =
-      callee_node P here site.0 c.0
+      callee_node P here site.0 c.0 0
       (instance_of (Child Root c.0 0) (node_of m.0) called.0.values.items) (same ∙ there) in
       let found = callee_found P r j.names j.reached s.node.0 n at c w in
       let both : Some (node_of found.0) ≡ Some (node_of m.0) = sym found.2
@@ -178,6 +148,19 @@ module _ (P : Program) (r : Reached) (t : Table) (j : IsJudged P r t) (i : ℕ) 
       let g = one_result ts (call_types_at r t s c) e in
       call_single c w g.0 g.1 g.2
 
+  -- each call in a term with one type has one result
+  abbrev IsSingleTerm : Term → Type 0
+  IsSingleTerm e =
+      is_within (counts_of n) e ≡ true → is_some (type_of ctx e) ≡ true → is_single r n e ≡ true
+
+  two_single : (a b : Term) (f : DataType → DataType → Option DataType) →
+      (is_within (counts_of n) a && is_within (counts_of n) b) ≡ true →
+      is_some (when_both (type_of ctx a) (type_of ctx b) f) ≡ true → IsSingleTerm a →
+      IsSingleTerm b → (is_single r n a && is_single r n b) ≡ true
+  two_single a b f w h sa sb =
+      and_from _ _ (sa (and_first _ _ w) (first_some (type_of ctx a) _ h))
+      (sb (and_second _ _ w) (second_some (type_of ctx a) (type_of ctx b) _ h))
+
   mutual
     unfolding type_of is_single
 
@@ -190,50 +173,31 @@ module _ (P : Program) (r : Reached) (t : Table) (j : IsJudged P r t) (i : ℕ) 
     term_single (Group' p e) w h = term_single e w h
     term_single (Unary' op p a) w h = term_single a w (first_some (type_of ctx a) _ h)
     term_single (Binary' op p a q b) w h =
-        and_from _ _ (term_single a (and_first _ (is_within (counts_of n) b) w)
-        (first_some (type_of ctx a) _ h))
-        (term_single b (and_second (is_within (counts_of n) a) _ w)
-        (second_some (type_of ctx a) (type_of ctx b) _ h))
+        two_single a b (binary_type op) w h (λ w h. term_single a w h) (λ w h. term_single b w h)
     term_single (If' p c q a r' b) w h =
-        let rest = under_truth (type_of ctx c) _ h in
-        let wab = and_second (is_within (counts_of n) c) _ w in
-        and_from _ _ (term_single c
-        (and_first _ (is_within (counts_of n) a && is_within (counts_of n) b) w)
-        (first_some (type_of ctx c) _ h))
-        (and_from _ _ (term_single a (and_first _ (is_within (counts_of n) b) wab)
-        (first_some (type_of ctx a) _ rest))
-        (term_single b (and_second (is_within (counts_of n) a) _ wab)
-        (second_some (type_of ctx a) (type_of ctx b) _ rest)))
+        and_from _ _ (term_single c (and_first _ _ w) (first_some (type_of ctx c) _ h))
+        (two_single a b common_type (and_second _ _ w) (under_truth (type_of ctx c) _ h)
+        (λ w h. term_single a w h) (λ w h. term_single b w h))
     term_single (Arrow' p a q b) w h =
-        and_from _ _ (term_single a (and_first _ (is_within (counts_of n) b) w)
-        (first_some (type_of ctx a) _ h))
-        (term_single b (and_second (is_within (counts_of n) a) _ w)
-        (second_some (type_of ctx a) (type_of ctx b) _ h))
+        two_single a b common_type w h (λ w h. term_single a w h) (λ w h. term_single b w h)
     term_single (Fby' p a q b) w h =
-        and_from _ _ (term_single a (and_first _ (is_within (counts_of n) b) w)
-        (first_some (type_of ctx a) _ h))
-        (term_single b (and_second (is_within (counts_of n) a) _ w)
-        (second_some (type_of ctx a) (type_of ctx b) _ h))
+        two_single a b common_type w h (λ w h. term_single a w h) (λ w h. term_single b w h)
     term_single (Pre' p e) w h = term_single e w h
     term_single (Current' p e) w h = term_single e w h
     term_single (When' p e x sign) w h =
-        term_single e (and_second (is_variable (counts_of n) x) _ w)
+        term_single e (and_second _ _ w)
         (under_truth (ctx.variable x) (type_of ctx e) h)
     term_single (Replicate' p e k) w h =
-        term_single e (and_second (is_static (counts_of n) k) _ w)
+        term_single e (and_second _ _ w)
         (second_some (ctx.count k) (type_of ctx e) _ h)
     term_single (Index' p e k) w h =
-        term_single e (and_second (is_static (counts_of n) k) _ w)
+        term_single e (and_second _ _ w)
         (second_some (ctx.count k) (type_of ctx e) _ h)
     term_single (Slice' p e k l) w h =
-        term_single e (and_second (is_static (counts_of n) l) _
-        (and_second (is_static (counts_of n) k) _ w))
+        term_single e (and_second _ _ (and_second _ _ w))
         (third_some (ctx.count k) (ctx.count l) (type_of ctx e) _ h)
     term_single (Join' p a q b) w h =
-        and_from _ _ (term_single a (and_first _ (is_within (counts_of n) b) w)
-        (first_some (type_of ctx a) _ h))
-        (term_single b (and_second (is_within (counts_of n) a) _ w)
-        (second_some (type_of ctx a) (type_of ctx b) _ h))
+        two_single a b join_type w h (λ w h. term_single a w h) (λ w h. term_single b w h)
     term_single (Array' arity all) w h =
         row_single all w (first_some (types_in ctx all) _ (first_some _ only h))
     term_single (AtMostOne' arity all) w h =
@@ -241,24 +205,22 @@ module _ (P : Program) (r : Reached) (t : Table) (j : IsJudged P r t) (i : ℕ) 
     term_single (Nor' arity all) w h =
         row_single all w (first_some (types_in ctx all) _ (first_some _ only h))
     term_single (Call' c arity all) w h =
-        and_from _ _ (typed_call c (and_first _ (are_within (counts_of n) all) w)
-        (types_in ctx all) h)
-        (row_single all (and_second (is_call (counts_of n) c) _ w)
+        and_from _ _ (typed_call c (and_first _ _ w)
+        (types_in ctx all) h) (row_single all (and_second _ _ w)
         (first_some (types_in ctx all) _ (first_some _ only h)))
     term_single (IterateNode' it c arity all) w h =
-        row_single all (and_second (is_call (counts_of n) c) _ w)
+        row_single all (and_second _ _ w)
         (first_some (types_in ctx all) _ (first_some _ only h))
     term_single (IterateSymbol' it op k arity all) w h =
-        row_single all (and_second (is_static (counts_of n) k) _ w)
+        row_single all (and_second _ _ w)
         (first_some (types_in ctx all) _ (first_some _ only h))
 
     row_single : {m : _} (row : Row_of-Term m) → are_within (counts_of n) row ≡ true →
         is_some (types_in ctx row) ≡ true → are_single r n row ≡ true
     row_single end_of-Term w h = refl
     row_single (more_of-Term e rest) w h =
-        and_from _ _ (term_single e (and_first _ (are_within (counts_of n) rest) w)
-        (first_some (type_of ctx e) _ h))
-        (row_single rest (and_second (is_within (counts_of n) e) _ w)
+        and_from _ _ (term_single e (and_first _ _ w)
+        (first_some (type_of ctx e) _ h)) (row_single rest (and_second _ _ w)
         (second_some (type_of ctx e) (types_in ctx rest) _ h))
 
   right_single : (e : Term) → is_within (counts_of n) e ≡ true → is_some (results ctx e) ≡ true →
@@ -269,11 +231,11 @@ module _ (P : Program) (r : Reached) (t : Table) (j : IsJudged P r t) (i : ℕ) 
   right_single (AtMostOne' arity all) w h = row_single all w (first_some (types_in ctx all) _ h)
   right_single (Nor' arity all) w h = row_single all w (first_some (types_in ctx all) _ h)
   right_single (Call' c arity all) w h =
-      row_single all (and_second (is_call (counts_of n) c) _ w) (first_some (types_in ctx all) _ h)
+      row_single all (and_second _ _ w) (first_some (types_in ctx all) _ h)
   right_single (IterateNode' it c arity all) w h =
-      row_single all (and_second (is_call (counts_of n) c) _ w) (first_some (types_in ctx all) _ h)
+      row_single all (and_second _ _ w) (first_some (types_in ctx all) _ h)
   right_single (IterateSymbol' it op k arity all) w h =
-      row_single all (and_second (is_static (counts_of n) k) _ w)
+      row_single all (and_second _ _ w)
       (first_some (types_in ctx all) _ h)
   right_single (Literal m) w h = refl
   right_single (Truth b) w h = refl
@@ -285,7 +247,7 @@ module _ (P : Program) (r : Reached) (t : Table) (j : IsJudged P r t) (i : ℕ) 
       → is_resolved_statement_typed ctx st ≡ true →
       is_statement_single r n st ≡ true
   statement_single (statement.Equation lefts e) w h =
-      right_single e (and_second (list_all (is_variable (counts_of n)) lefts.items) _ w)
+      right_single e (and_second _ _ w)
       (equal_some (results ctx e) _ h)
   statement_single (statement.Assertion e) w h =
       term_single e w (ap is_some (type_is_only ctx e) ∙ one_truth (results ctx e) h)
@@ -296,11 +258,8 @@ module _ (P : Program) (r : Reached) (t : Table) (j : IsJudged P r t) (i : ℕ) 
       → list_all (is_statement_single r n) ss ≡ true
   statements_single [] w h = refl
   statements_single (st ∷ ss) w h =
-      and_from _ _ (statement_single st
-      (and_first _ (list_all (is_statement_within (counts_of n)) ss) w)
-      (and_first _ (list_all (is_resolved_statement_typed ctx) ss) h))
-      (statements_single ss (and_second (is_statement_within (counts_of n) st) _ w)
-      (and_second (is_resolved_statement_typed ctx st) _ h))
+      and_from _ _ (statement_single st (and_first _ _ w) (and_first _ _ h))
+      (statements_single ss (and_second _ _ w) (and_second _ _ h))
 
 -- in the node of each specialization each call has one result, apart from one that is a whole right
 -- side
@@ -314,5 +273,4 @@ single_statements P r t j typed i s n is at =
     let one = all_at (is_specialization_typed r t) t.specializations.items i s typed is in
     let node : is_node_typed (context_of r t n s) n ≡ true =
     sym (ap (holds (λ m. is_node_typed (context_of r t m s) m)) at) ∙ one in
-    statements_single P r t j i s n is at n.body.items resolved.body_within
-    (and_second (list_all (is_variable_typed (context_of r t n s)) n.variables.items) _ node)
+    statements_single P r t j i s n is at n.body.items resolved.body_within (and_second _ _ node)

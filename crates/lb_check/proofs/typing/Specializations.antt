@@ -6,9 +6,8 @@ use Words.{slice_get_within, In, either_or, zip2, all_at, all_in, all_from, both
 use Words.{Specialization, Table, IsTable, specialized_at, Program, Instance, Path, instances}
 use Words.{holds, Node, instance_of, tree_at, ◌⊎◌, ◌+◌, false, drop, get_or, ◌&&◌, find, not}
 use Words.{append_assoc, drop_more, and_assoc, and-true, not-false, and_first, and_second, NodeId}
-use Words.{nat_le, nat_lt, sum_by, Contains, nat_tests, sum_by-cons, sum_by_more}
-use Words.{get_or_from_slice_get, item_at, variables, width, node_parts, expression_size, is_small}
-use Words.{size, ◌++◌, cond, ◌≤◌, take}
+use Words.{nat_lt, sum_by, Contains, nat_tests, sum_by-cons, sum_by_more, get_or_from_slice_get}
+use Words.{item_at, node_parts, expression_size, is_small, size, ◌++◌, cond, ◌≤◌, take}
 use Rattle.{std.proofs.lemmas.List.take_all, lb_static.specs.InstanceTable.{paths_of, row_at}}
 use Rattle.{lb_static.proofs.InstanceRows.paths_length, lb_check.specs.TypeRules.instance_size}
 use Rattle.lb_static.specs.declared.table.Instance as row
@@ -94,12 +93,11 @@ module _ (P : Program) (r : Reached) (t : Table) (kept : Instance → Bool)
       zip2 (row_at r t) ps rows ≡ map Some heres
       → list_all good t.specializations.items ≡ true → list_all kept heres ≡ true
   all_instances ps rows [] e all = refl
-  all_instances [] rows (h ∷ heres) e all = absurd cc
-  all_instances (p ∷ ps) [] (h ∷ heres) e all = absurd cc
   all_instances (p ∷ ps) (i ∷ rows) (h ∷ heres) e all =
       let one : row_at r t p i ≡ Some h = cc in
       let rest : zip2 (row_at r t) ps rows ≡ map Some heres = cc in
       rw (row_judged p i h one all) (all_instances ps rows heres rest all)
+  all_instances _ _ _ e all = absurd cc
 
   pub each_judged : IsTable P r t →
       list_all good t.specializations.items ≡ list_all kept (instances P)
@@ -124,50 +122,11 @@ module _ (P : Program) (r : Reached) (t : Table) (table : IsTable P r t) (f : No
   same_node p s (Some n) here e =
       let same : instance_of p n s.values.items ≡ here = cc in ap (λ (i : Instance). f i.node) same
 
-  row_node : (p : Path) (i : row.Instance) (here : Instance) (o : Option Specialization) →
-      either_or (option_map (specialized_at r p) o) None ≡ Some here
-      → holds of_one o ≡ f here.node
-  row_node p i here None e = absurd cc
-  row_node p i here (Some s) e = same_node p s (tree_at r s.node) here e
-
-  all_rows : (ps : List Path) (rows : List row.Instance) (insts : List Instance) →
-      zip2 (row_at r t) ps rows ≡ map Some insts
-      → list_all of_one t.specializations.items ≡ true → list_all (λ here. f here.node) insts ≡ true
-  all_rows ps rows [] e all = refl
-  all_rows [] rows (here ∷ insts) e all = absurd cc
-  all_rows (p ∷ ps) [] (here ∷ insts) e all = absurd cc
-  all_rows (p ∷ ps) (i ∷ rows) (here ∷ insts) e all =
-      let first : row_at r t p i ≡ Some here = cc in
-      let rest : zip2 (row_at r t) ps rows ≡ map Some insts = cc in
-      let one = one_row p i here (slice_get t.specializations.items i.specialization.0) refl first
-      in
-      let more = all_rows ps rows insts rest all in
-      rw one more
-    where
-      one_row : (p : Path) (i : row.Instance) (here : Instance) (o : Option Specialization) →
-          slice_get t.specializations.items i.specialization.0 ≡ o
-          → row_at r t p i ≡ Some here → f here.node ≡ true
-      one_row p i here None is e =
-          absurd (let no = sym (ap (λ o. either_or (option_map (specialized_at r p) o) None) is)
-          ∙ e in cc)
-      one_row p i here (Some s) is e =
-          sym (row_node p i here (Some s)
-          (sym (ap (λ o. either_or (option_map (specialized_at r p) o) None) is) ∙ e))
-          ∙ all_at of_one t.specializations.items i.specialization.0 s all is
-
-  from_instances : list_all (λ here. f here.node) (instances P) ≡ true →
-      list_all of_one t.specializations.items ≡ true
-  from_instances all = all_from of_one t.specializations.items (λ i s at.
-      let h = has_instance P r t table i s at in
-      same_node h.0 s (tree_at r s.node) h.1 h.3
-      ∙ all_in (λ here. f here.node) (instances P) h.1 all h.2)
-
   pub all_specializations : list_all of_one t.specializations.items ≡ list_all (λ here. f here.node)
       (instances P)
   all_specializations =
-      both_ways (list_all of_one t.specializations.items)
-      (list_all (λ here. f here.node) (instances P))
-      (all_rows (paths_of t) t.instances.items (instances P) table.instances) from_instances
+      each_judged P r t (λ here. f here.node) of_one
+      (λ i s at p here is. sym (same_node p s (tree_at r s.node) here is)) table
 
 -- The nodes of some specializations, each once.
 
@@ -200,19 +159,8 @@ AreThere ids seen = (k : NodeId) → get_or seen k.0 false ≡ true → (f : Nod
 not_found : (f : NodeId → Bool) (ids : List NodeId) (x : NodeId) (rest : List NodeId) →
     (list_all (λ k. not (f k)) ids ≡ true → not (f x) ≡ true)
     → find f (ids ++ rest) ≡ find f (ids ++ x ∷ rest)
-not_found f [] x rest h = by (f x) (h refl)
-  where
-    by : (b : Bool) → not b ≡ true → find f rest ≡ cond b (Some x) (find f rest)
-    by true e = absurd cc
-    by false e = refl
-not_found f (y ∷ ids) x rest h =
-    by (f y) (λ e. not_found f ids x rest
-    (λ all. h (ap (λ b. not b && list_all (λ k. not (f k)) ids) e ∙ all))) refl
-  where
-    by : (b : Bool) → (f y ≡ false → find f (ids ++ rest) ≡ find f (ids ++ x ∷ rest)) → f y ≡ b
-        → cond b (Some y) (find f (ids ++ rest)) ≡ cond b (Some y) (find f (ids ++ x ∷ rest))
-    by true later e = refl
-    by false later e = later e
+not_found f [] x rest h = grind arith
+not_found f (y ∷ ids) x rest h = grind (arith, not_found f ids x rest)
 
 module _ (ids : List NodeId) (old new : List Bool) (ss : List Specialization) (i : ℕ)
     (s : Specialization) (lt : i < length ss) (is : s ≡ get_or ss i s)
@@ -295,30 +243,16 @@ module _ {A : Type 0} (f : A → ℕ) (xs : List A) where
   below n j = cond (nat_lt j n) (at j) 0
 
   more_below : (n j : ℕ) → below n j ≤ below (n + 1) j
-  more_below n j = by (nat_lt j n) refl (nat_lt j (n + 1)) refl
-    where
-      by : (b : Bool) → nat_lt j n ≡ b → (c : Bool) → nat_lt j (n + 1) ≡ c →
-          cond b (at j) 0 ≤ cond c (at j) 0
-      by false p c q = omega arith
-      by true p true q = omega arith
-      by true p false q =
-          let lt : j < n = grind (arith, nat_tests) in
-          let ge : n + 1 ≤ j = grind (arith, nat_tests) in
-          absurd (omega (arith, lt, ge))
+  more_below n j = grind (arith, nat_tests)
 
   all_below : (n j : ℕ) → below n j ≤ at j
-  all_below n j = by (nat_lt j n)
-    where
-      by : (b : Bool) → cond b (at j) 0 ≤ at j
-      by true = omega arith
-      by false = omega arith
+  all_below n j = grind arith
 
   own : (n : ℕ) → below (n + 1) n ≡ at n
-  own n = let e : nat_lt n (n + 1) ≡ true = grind (arith, nat_tests) in ap (λ b. cond b (at n) 0) e
+  own n = grind (arith, nat_tests)
 
   not_own : (n : ℕ) → below n n ≡ 0
-  not_own n =
-      let e : nat_lt n n ≡ false = grind (arith, nat_tests) in ap (λ b. cond b (at n) 0) e
+  not_own n = grind (arith, nat_tests)
 
   module _ (js : List ℕ) (used : (i : ℕ) → i < length xs → Contains js i) where
     sum_spread : (n : ℕ) → n ≤ length xs → sum_by f (take n xs) ≤ sum_by (below n) js
@@ -335,11 +269,7 @@ module _ {A : Type 0} (f : A → ℕ) (xs : List A) where
         let none = not_own n in
         let next : suc n ≡ n + 1 = omega arith in
         subst (λ m. sum_by f (take m xs) ≤ sum_by (below m) js) (sym next)
-        (by _ _ _ _ _ _ _ _ rest raised more item here one none)
-      where
-        by : (s t u v a b c d : ℕ) → s ≤ u → u + b ≤ v + c → t ≡ s + d → d ≡ a → at n ≡ a →
-            b ≡ at n → c ≡ 0 → t ≤ v
-        by s t u v a b c d p q r w x y z = omega (arith, p, q, r, w, x, y, z)
+        (omega (arith, rest, raised, more, item, here, one, none))
 
     -- the sum over all items is at most that over the places `js`, where each item has one
     pub sum_used : sum_by f xs ≤ sum_by at js
@@ -364,11 +294,7 @@ module _ (P : Program) (r : Reached) (t : Table) (w : Specialization → ℕ)
       let held = row_held P r t p i here e in
       let is = ap (λ o. either_or (option_map w o) 0) held.1 in
       let own = fits (row_place i) held.0 held.1 p here held.2 in
-      by (sum_by (width P here) (variables here.node))
-      (sum_by (expression_size P here) (node_parts here.node)) _ (w held.0) is own
-    where
-      by : (v u a b : ℕ) → a ≡ b → b ≤ u → a ≤ v + u
-      by v u a b p q = omega (arith, p, q)
+      omega (arith, is, own)
 
   rows_within : (ps : List Path) (rows : List row.Instance) (heres : List Instance) →
       length ps ≡ length rows → zip2 (row_at r t) ps rows ≡ map Some heres →
@@ -397,9 +323,4 @@ module _ (P : Program) (r : Reached) (t : Table) (w : Specialization → ℕ)
       omega (arith, rows, used)
 
   pub too_large : IsTable P r t → 65536 < sum_by w t.specializations.items → is_small P ≡ false
-  too_large table over =
-      let within = specializations_within table in
-      by (size P) (omega (arith, over, within))
-    where
-      by : (n : ℕ) → 65536 < n → nat_le n 65536 ≡ false
-      by n lt = grind (arith, nat_tests)
+  too_large table over = let within = specializations_within table in grind (arith, nat_tests)

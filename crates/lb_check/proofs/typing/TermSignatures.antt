@@ -3,11 +3,10 @@ use Rattle.lb_check.proofs.Words
 use Words.{◌≡◌, inl, inr, ℕ, Bool, true, false, List, [], ◌∷◌, length, map, Option, Some, None, Vec}
 use Words.{Global, refl, ap, sym, subst, ◌∙◌, arith, list_all, and-false, nat_tests, ArrayIterator}
 use Words.{Map, Red, Fill, BinaryOperator, ◌>>=◌, all_some, holds, where_true, CallId, Term}
-use Words.{IterateNode, IterateSymbol, DataType, are_types, int, is_type, truth, IsGiven, Signature}
+use Words.{IterateNode, IterateSymbol, DataType, are_types, is_type, truth, IsGiven, Signature}
 use Words.{are_met, are_one, arrays, evaluated, given_of, outcome, type_at, CallTypes, are_equal}
-use Words.{results, row_results, type_of, array_of, is_arithmetic, is_logical, iterator_types}
-use Words.{symbol_types, ◌&&◌, nat_eq, nat_lt, option_map, replicate, if◌then◌else◌, Int_kind}
-use Words.{Bool_kind}
+use Words.{results, row_results, type_of, array_of, iterator_types, symbol_types, ◌&&◌, nat_eq}
+use Words.{nat_lt, option_map, replicate, if◌then◌else◌, Bool_kind}
 use Rattle.lb_static.specs.declared.resolved.Term.{AtMostOne, Nor, Call}
 use Rattle.lb_check.specs.TermSignatures.{rest_arrays, iterated, iterated_by, pair_of, scalars}
 use Rattle.lb_check.specs.{TermSignatures.symbol_signature, TermTypes.{Context, truth_results}}
@@ -23,47 +22,19 @@ Types = List (Option DataType)
 pub met : (ws os : Types) → are_equal (all_some ws) (all_some os) ≡ are_met ws os
 met [] [] = refl
 met [] (None ∷ os) = refl
-met [] (Some t ∷ os) = by (all_some os)
-  where
-    by : (p : Option (List DataType)) →
-        are_equal (Some []) (option_map (λ ts. t ∷ ts) p) ≡ false
-    by None = refl
-    by (Some ts) = refl
+met [] (Some t ∷ os) = grind arith
 met (None ∷ ws) [] = refl
-met (Some s ∷ ws) [] = by (all_some ws)
-  where
-    by : (p : Option (List DataType)) →
-        are_equal (option_map (λ ss. s ∷ ss) p) (Some []) ≡ false
-    by None = refl
-    by (Some ss) = refl
+met (Some s ∷ ws) [] = grind arith
 met (None ∷ ws) (o ∷ os) = refl
-met (Some s ∷ ws) (None ∷ os) = by (all_some ws)
-  where
-    by : (p : Option (List DataType)) → are_equal (option_map (λ ss. s ∷ ss) p) None ≡ false
-    by None = refl
-    by (Some ss) = refl
-met (Some s ∷ ws) (Some t ∷ os) = by (all_some ws) (all_some os) (are_met ws os) (met ws os)
-  where
-    none : (b : Bool) → false ≡ b → false ≡ (is_type s t && b)
-    none b e = sym (ap (λ c. is_type s t && c) (sym e) ∙ and-false (is_type s t))
-
-    by : (p q : Option (List DataType)) (b : Bool) → are_equal p q ≡ b →
-        are_equal (option_map (λ ss. s ∷ ss) p) (option_map (λ ts. t ∷ ts) q)
-        ≡ (is_type s t && b)
-    by None q b e = none b e
-    by (Some ss) None b e = none b e
-    by (Some ss) (Some ts) b e = ap (λ c. is_type s t && c) e
+met (Some s ∷ ws) (None ∷ os) = grind arith
+met (Some s ∷ ws) (Some t ∷ os) = grind (arith, met ws os, and-false)
 
 -- given types are not the wanted ones, where a wanted type is not there
 unmet : (ws os : Types) → all_some ws ≡ None → are_met ws os ≡ false
 unmet ws os e = sym (met ws os) ∙ ap (λ o. are_equal o (all_some os)) e
 
 ungiven : (ws os : Types) → all_some os ≡ None → are_met ws os ≡ false
-ungiven ws os e = sym (met ws os) ∙ ap (are_equal (all_some ws)) e ∙ by (all_some ws)
-  where
-    by : (o : Option (List DataType)) → are_equal o None ≡ false
-    by None = refl
-    by (Some ts) = refl
+ungiven ws os e = sym (met ws os) ∙ grind arith
 
 -- ## Types that are all there
 
@@ -77,13 +48,7 @@ all_there (t ∷ ts) = ap (option_map (λ l. t ∷ l)) (all_there ts)
 found_there : (os : Types) (ts : List DataType) → all_some os ≡ Some ts → os ≡ there ts
 found_there [] ts e = let f : [] ≡ ts = cc in ap there f
 found_there (None ∷ os) ts e = absurd cc
-found_there (Some t ∷ os) ts e = by (all_some os) (λ l. found_there os l) e
-  where
-    by : (o : Option (List DataType)) → ((l : List DataType) → o ≡ Some l → os ≡ there l) →
-        option_map (λ l. t ∷ l) o ≡ Some ts → (Some t ∷ os) ≡ there ts
-    by None each f = absurd cc
-    by (Some l) each f =
-        let g : (t ∷ l) ≡ ts = cc in ap (λ (l : Types). Some t ∷ l) (each l refl) ∙ ap there g
+found_there (Some t ∷ os) ts e = grind (arith, found_there os)
 
 inner_none : (t : DataType) (o : Option (List DataType)) →
     option_map (λ l. t ∷ l) o ≡ None → o ≡ None
@@ -98,12 +63,7 @@ arrays_there n (t ∷ ts) = ap (λ (l : Types). array_of n t ∷ l) (arrays_ther
 no_arrays : (n : ℕ) (os : Types) → all_some os ≡ None → all_some (map (arrays n) os) ≡ None
 no_arrays n [] e = absurd cc
 no_arrays n (None ∷ os) e = refl
-no_arrays n (Some t ∷ os) e = by (array_of n t) (no_arrays n os (inner_none t (all_some os) e))
-  where
-    by : (o : Option DataType) → all_some (map (arrays n) os) ≡ None →
-        all_some (o ∷ map (arrays n) os) ≡ None
-    by None h = refl
-    by (Some u) h = ap (option_map (λ l. u ∷ l)) h
+no_arrays n (Some t ∷ os) e = grind (arith, no_arrays n os, inner_none t (all_some os) e)
 
 no_rest : (n : ℕ) (os : Types) → all_some os ≡ None → all_some (rest_arrays n os) ≡ None
 no_rest n [] e = absurd cc
@@ -118,8 +78,7 @@ refused : (b : Bool) (os : Types) → b ≡ false → (where_true b os >>= all_s
 refused b os e = ap (λ c. where_true c os >>= all_some) e
 
 nowhere : (b : Bool) (os : Types) → all_some os ≡ None → (where_true b os >>= all_some) ≡ None
-nowhere true os e = e
-nowhere false os e = refl
+nowhere b os e = grind arith
 
 outcome_none : (s : Signature) (os : Types) → are_met s.takes os ≡ false →
     (outcome s os >>= all_some) ≡ None
@@ -184,8 +143,7 @@ there_met ws ts =
 
 where_there : (b : Bool) (ts : List DataType) →
     where_true b ts ≡ (where_true b (there ts) >>= all_some)
-where_there true ts = sym (all_there ts)
-where_there false ts = refl
+where_there b ts = grind (arith, all_there ts)
 
 plain_gives : (ins outs ts : List DataType) →
     where_true (are_types ins ts) outs ≡ (outcome (known ins outs) (there ts) >>= all_some)
@@ -215,100 +173,29 @@ module _ (n : ℕ) where
   map_gives : (ins outs ts : List DataType) →
       map_types n ins outs ts
       ≡ (outcome (iterated_by Map n (known ins outs)) (there ts) >>= all_some)
-  map_gives ins outs ts =
-      by (all_some (map (array_of n) ins))
-      ∙ ap (λ l. where_true (holds (λ w. are_types w ts) (all_some (map (array_of n) ins))) l
-      >>= all_some) (sym (arrays_there n outs))
-      ∙ ap (λ b. where_true b (map (arrays n) (there outs)) >>= all_some)
-      (sym (arrays_met ins ts))
-    where
-      last : (b : Bool) →
-          (where_true b outs >>= λ outs. all_some (map (array_of n) outs))
-          ≡ (where_true b (map (array_of n) outs) >>= all_some)
-      last true = refl
-      last false = refl
-
-      by : (o : Option (List DataType)) →
-          (o >>= λ wanted. where_true (are_types wanted ts) outs >>= λ outs.
-          all_some (map (array_of n) outs))
-          ≡ (where_true (holds (λ w. are_types w ts) o) (map (array_of n) outs) >>= all_some)
-      by None = refl
-      by (Some w) = last (are_types w ts)
+  map_gives ins outs ts = grind (arith, arrays_there n outs, arrays_met ins ts)
 
   red_gives : (ins outs ts : List DataType) →
       red_types n ins outs ts
       ≡ (outcome (iterated_by Red n (known ins outs)) (there ts) >>= all_some)
-  red_gives [] outs ts =
-      sym (refused _ (there outs)
-      (ap (λ b. b && are_met [] (there ts)) (and-false (nat_eq (length (there outs)) 1))))
+  red_gives [] outs ts = grind (arith, and-false)
   red_gives (acc ∷ ins) [] ts = refl
-  red_gives (acc ∷ ins) (out ∷ []) [] =
-      sym (refused _ (there (out ∷ [])) (and-false (is_type acc out)))
+  red_gives (acc ∷ ins) (out ∷ []) [] = grind (arith, and-false)
   red_gives (acc ∷ ins) (out ∷ []) (init ∷ args) =
-      by (all_some (map (array_of n) ins))
-      ∙ ap (λ b. where_true (is_type acc out && (is_type acc init && b)) (there (out ∷ []))
-      >>= all_some) (sym (arrays_met ins args))
-    where
-      none : (b c : Bool) → (b && (c && false)) ≡ false
-      none b c = ap (λ d. b && d) (and-false c) ∙ and-false b
-
-      by : (o : Option (List DataType)) →
-          (o >>= λ wanted.
-          where_true (is_type acc out && (is_type acc init && are_types wanted args)) (out ∷ []))
-          ≡ (where_true (is_type acc out
-          && (is_type acc init && holds (λ w. are_types w args) o)) (there (out ∷ []))
-          >>= all_some)
-      by None =
-          sym (refused _ (there (out ∷ [])) (none (is_type acc out) (is_type acc init)))
-      by (Some w) =
-          where_there (is_type acc out && (is_type acc init && are_types w args)) (out ∷ [])
-  red_gives (acc ∷ ins) (out ∷ (o ∷ outs)) ts =
-      let many : nat_eq (length (there (out ∷ (o ∷ outs)))) 1 ≡ false =
-      grind (arith, nat_tests) in
-      sym (refused _ (there (out ∷ (o ∷ outs)))
-      (ap (λ b. (b && is_type acc out)
-      && are_met (Some acc ∷ map (arrays n) (there ins)) (there ts)) many))
+      grind (arith, arrays_met ins args, and-false)
+  red_gives (acc ∷ ins) (out ∷ (o ∷ outs)) ts = grind (arith, nat_tests)
 
   fill_gives : (ins outs ts : List DataType) →
       fill_types n ins outs ts
       ≡ (outcome (iterated_by Fill n (known ins outs)) (there ts) >>= all_some)
   fill_gives [] outs ts = refl
-  fill_gives (acc ∷ (i ∷ ins)) outs ts =
-      let many : nat_eq (length (there (acc ∷ (i ∷ ins)))) 1 ≡ false =
-      grind (arith, nat_tests) in
-      sym (refused _ (rest_arrays n (there outs))
-      (ap (λ b. ((b && nat_lt 1 (length (there outs)))
-      && are_one (Some acc) (type_at (there outs) 0))
-      && are_met (there (acc ∷ (i ∷ ins))) (there ts)) many))
+  fill_gives (acc ∷ (i ∷ ins)) outs ts = grind (arith, nat_tests)
   fill_gives (acc ∷ []) [] ts = refl
   fill_gives (acc ∷ []) (out ∷ []) ts = refl
-  fill_gives (acc ∷ []) (out ∷ (o ∷ outs)) [] =
-      sym (refused _ (rest_arrays n (there (out ∷ (o ∷ outs))))
-      (and-false (nat_lt 1 (length (there (out ∷ (o ∷ outs)))) && is_type acc out)))
-  fill_gives (acc ∷ []) (out ∷ (o ∷ outs)) (init ∷ (t ∷ ts)) =
-      let none : are_met (there (acc ∷ [])) (there (init ∷ (t ∷ ts))) ≡ false =
-      and-false (is_type acc init) in
-      let stands = nat_lt 1 (length (there (out ∷ (o ∷ outs)))) && is_type acc out in
-      sym (refused _ (rest_arrays n (there (out ∷ (o ∷ outs))))
-      (ap (λ b. stands && b) none ∙ and-false stands))
+  fill_gives (acc ∷ []) (out ∷ (o ∷ outs)) [] = grind (arith, and-false)
+  fill_gives (acc ∷ []) (out ∷ (o ∷ outs)) (init ∷ (t ∷ ts)) = grind (arith, and-false)
   fill_gives (acc ∷ []) (out ∷ (o ∷ outs)) (init ∷ []) =
-      let many : nat_lt 1 (length (there (out ∷ (o ∷ outs)))) ≡ true =
-      grind (arith, nat_tests) in
-      by (all_some (map (array_of n) (o ∷ outs))) (is_type acc out) (is_type acc init) refl
-      ∙ ap (λ l. where_true (is_type acc out && (is_type acc init && true)) (Some out ∷ l)
-      >>= all_some) (sym (arrays_there n (o ∷ outs)))
-      ∙ ap (λ b. where_true ((b && is_type acc out) && (is_type acc init && true))
-      (rest_arrays n (there (out ∷ (o ∷ outs)))) >>= all_some) (sym many)
-    where
-      by : (p : Option (List DataType)) (b c : Bool) → all_some (map (array_of n) (o ∷ outs)) ≡ p →
-          (p >>= λ arrays. where_true (b && c) (out ∷ arrays))
-          ≡ (where_true (b && (c && true)) (Some out ∷ map (array_of n) (o ∷ outs)) >>= all_some)
-      by None true true e = sym (ap (option_map (λ l. out ∷ l)) e)
-      by None true false e = refl
-      by None false c e = refl
-      by (Some l) true true e = sym (ap (option_map (λ l. out ∷ l)) e)
-      by (Some l) true false e = refl
-      by (Some l) false c e = refl
+      grind (arith, nat_tests, arrays_there n (o ∷ outs))
 
   iterated_given : (it : ArrayIterator) (s : Signature) (os : Types) →
       (all_some os >>= λ ts. evaluated s >>= λ p. iterator_types it n p.0 p.1 ts)
@@ -332,45 +219,17 @@ truths_met : (os : Types) →
     ≡ holds (list_all (is_type truth)) (all_some os)
 truths_met [] = refl
 truths_met (None ∷ os) = refl
-truths_met (Some t ∷ os) =
-    ap (λ b. is_type truth t && b) (truths_met os) ∙ by (all_some os)
-  where
-    by : (o : Option (List DataType)) →
-        (is_type truth t && holds (list_all (is_type truth)) o)
-        ≡ holds (list_all (is_type truth)) (option_map (λ ts. t ∷ ts) o)
-    by None = and-false (is_type truth t)
-    by (Some ts) = refl
+truths_met (Some t ∷ os) = grind (arith, truths_met os, and-false)
 
 truths_given : (os : Types) →
     (all_some os >>= truth_results)
     ≡ (outcome (scalars Bool_kind (length os) true) os >>= all_some)
-truths_given os =
-    by (all_some os)
-    ∙ ap (λ b. where_true b (Some truth ∷ []) >>= all_some) (sym (truths_met os))
-  where
-    last : (b : Bool) →
-        where_true b (truth ∷ []) ≡ (where_true b (Some truth ∷ []) >>= all_some)
-    last true = refl
-    last false = refl
-
-    by : (o : Option (List DataType)) →
-        (o >>= truth_results)
-        ≡ (where_true (holds (list_all (is_type truth)) o) (Some truth ∷ []) >>= all_some)
-    by None = refl
-    by (Some ts) = last (list_all (is_type truth) ts)
+truths_given os = grind (arith, truths_met os)
 
 -- ## Terms
 
 symbol_types_are : (op : BinaryOperator) → symbol_types op ≡ evaluated (symbol_signature op)
-symbol_types_are op = by (is_arithmetic op) (is_logical op)
-  where
-    by : (b c : Bool) →
-        (if b then Some (int ∷ int ∷ [], int ∷ [])
-        else where_true c (truth ∷ truth ∷ [], truth ∷ []))
-        ≡ evaluated (if b then scalars Int_kind 2 true else scalars Bool_kind 2 c)
-    by true c = refl
-    by false true = refl
-    by false false = refl
+symbol_types_are op = grind arith
 
 none_after : (o : Option (List DataType)) →
     (o >>= λ ts. let none : Option (List DataType) = None in none) ≡ None

@@ -1,14 +1,14 @@
 -- The types of a term, from those of its operands and rows.
 use Rattle.lb_check.proofs.Words
-use Words.{◌≡◌, ℕ, List, [], ◌∷◌, ◌++◌, reverse, reverse-append, inl, inr, map, Option, Some, None}
-use Words.{Vec, Global, refl, ap, ◌∙◌, option_map, Count, ◌>>=◌, all_some, Term, Array', AtMostOne'}
-use Words.{Nor', Call', IterateNode', IterateSymbol', Row_of-Term, end_of-Term, more_of-Term}
-use Words.{items-the_row-Term, items_hidden-the_row-Term-0, DataType, IsRow, ◌⊎◌, Bool, true, false}
-use Words.{Box, UnaryOperator, where_true, StaticId, VariableId, is_type, truth, IsPair, array_of}
-use Words.{index_type, slice_type, one_type, when_truth, ◌+◌, ◌<◌, ◌≤◌, length, drop, flat_map}
-use Words.{get_or, sym, drop_all, drop_more, IsSingle, IsLeaf, ◌≢◌, and-true, and-false, Group'}
-use Words.{list_type, only, singly, are_one, FoundNode, FoundTypes, with_term, placed_types}
-use Words.{placed_row_types, placed_all_types, type_of, types_in, results, row_results, are_equal}
+use Words.{arith, ◌≡◌, ℕ, List, [], ◌∷◌, ◌++◌, reverse, reverse-append, inl, inr, Option, Some}
+use Words.{None, Vec, Global, refl, ap, ◌∙◌, Count, ◌>>=◌, all_some, Term, Array', AtMostOne', Nor'}
+use Words.{Call', IterateNode', IterateSymbol', Row_of-Term, end_of-Term, more_of-Term}
+use Words.{items-the_row-Term, items_hidden-the_row-Term-0, DataType, IsRow, ◌⊎◌, Bool, false, Box}
+use Words.{UnaryOperator, StaticId, VariableId, IsPair, array_of, index_type, slice_type, one_type}
+use Words.{when_truth, ◌+◌, ◌<◌, ◌≤◌, length, drop, flat_map, get_or, sym, drop_all, drop_more}
+use Words.{IsSingle, IsLeaf, ◌≢◌, and-true, and-false, Group', list_type, only, singly, are_one}
+use Words.{FoundNode, FoundTypes, with_term, placed_types, placed_row_types, placed_all_types}
+use Words.{type_of, types_in, results, row_results, are_equal}
 use Rattle.lb_static.specs.declared.resolved.Term.{Group, Unary, Pre, Current, When, Replicate}
 use Rattle.lb_static.specs.declared.resolved.Term.{Index, Slice, If, Array}
 use Rattle.lb_check.specs.{PlacedTypes.with_terms, TermTypes.{Context, types_of, two_types}}
@@ -24,19 +24,7 @@ pub types_items : (ctx : Context) (n : _) (row : Row_of-Term n) →
     types_in ctx row ≡ types_of ctx (items-the_row-Term n row)
 unfolding type_of
 types_items ctx n end_of-Term = refl
-types_items ctx n (more_of-Term e rest) =
-    ap (λ p. type_of ctx e >>= λ t. p >>= λ ts. Some (t ∷ ts)) (types_items ctx _ rest)
-    ∙ by (type_of ctx e) (map (type_of ctx) (items-the_row-Term _ rest))
-  where
-    by : (o : Option DataType) (os : List (Option DataType)) →
-        (o >>= λ t. all_some os >>= λ ts. Some (t ∷ ts)) ≡ all_some (o ∷ os)
-    by None os = refl
-    by (Some t) os = last (all_some os)
-      where
-        last : (p : Option (List DataType))
-            → (p >>= λ ts. Some (t ∷ ts)) ≡ option_map (λ ts. t ∷ ts) p
-        last None = refl
-        last (Some ts) = refl
+types_items ctx n (more_of-Term e rest) = grind (arith, types_items ctx _ rest)
 
 -- the row of terms of a term
 abbrev pub row_in : Term → (n : Count) × Row_of-Term n
@@ -59,20 +47,23 @@ row_is t es (inr (inr (inr (inr (inl (it, c, e)))))) = rw e (items_hidden-the_ro
 row_is t es (inr (inr (inr (inr (inr (it, op, n, e)))))) = rw e (items_hidden-the_row-Term-0 es)
 
 module _ (ctx : Context) where
-  results_in : (t : Term) (es : Vec Term Global) → IsRow t es →
-      results ctx t ≡ (types_in ctx (row_in t).1 >>= row_results ctx t)
-  unfolding results
-  results_in t es (inl e) = rw e refl
-  results_in t es (inr (inl e)) = rw e refl
-  results_in t es (inr (inr (inl e))) = rw e refl
-  results_in t es (inr (inr (inr (inl (c, e))))) = rw e refl
-  results_in t es (inr (inr (inr (inr (inl (it, c, e)))))) = rw e refl
-  results_in t es (inr (inr (inr (inr (inr (it, op, n, e)))))) = rw e refl
+  -- the results of a term come from the types of its row, and its parts are those of the row behind
+  -- itself
+  row_forms : (t : Term) (es : Vec Term Global) → IsRow t es →
+      (results ctx t ≡ (types_in ctx (row_in t).1 >>= row_results ctx t))
+      × (placed_types ctx t ≡ results ctx t ∷ placed_row_types ctx (row_in t).1)
+  unfolding results placed_types
+  row_forms t es (inl e) = rw e (refl, refl)
+  row_forms t es (inr (inl e)) = rw e (refl, refl)
+  row_forms t es (inr (inr (inl e))) = rw e (refl, refl)
+  row_forms t es (inr (inr (inr (inl (c, e))))) = rw e (refl, refl)
+  row_forms t es (inr (inr (inr (inr (inl (it, c, e)))))) = rw e (refl, refl)
+  row_forms t es (inr (inr (inr (inr (inr (it, op, n, e)))))) = rw e (refl, refl)
 
   pub results_of_row : (t : Term) (es : Vec Term Global) → IsRow t es →
       results ctx t ≡ (types_of ctx es.items >>= row_results ctx t)
   results_of_row t es is =
-      results_in t es is
+      (row_forms t es is).0
       ∙ ap (λ o. o >>= row_results ctx t)
       (types_items ctx (row_in t).0 (row_in t).1 ∙ ap (types_of ctx) (row_is t es is))
 
@@ -101,13 +92,7 @@ single_type ctx t e s (inr (inr (inr (inr (inr (inr (inl (i, is)))))))) h = rw (
 single_type ctx t e s (inr (inr (inr (inr (inr (inr (inr (i, j, is)))))))) h = rw (is, h) refl
 
 no_truth : (o : Option DataType) → when_truth o None ≡ None
-no_truth None = refl
-no_truth (Some t) = by (is_type truth t) t
-  where
-    by : (b : Bool) (t : DataType) →
-        (where_true b t >>= λ _. let none : Option DataType = None in none) ≡ None
-    by true t = refl
-    by false t = refl
+no_truth o = grind arith
 
 no_count : (o : Option ℕ) → (o >>= λ _. let none : Option DataType = None in none) ≡ None
 no_count None = refl
@@ -115,8 +100,7 @@ no_count (Some n) = refl
 
 no_slice : (o p : Option ℕ)
     → (o >>= λ _. p >>= λ _. let none : Option DataType = None in none) ≡ None
-no_slice None p = refl
-no_slice (Some n) p = no_count p
+no_slice o p = grind arith
 
 pub single_none : (ctx : Context) (t : Term) (e : Box Term Global) → IsSinglePart t e →
     type_of ctx e.value ≡ None → type_of ctx t ≡ None
@@ -173,45 +157,48 @@ module _ {A : Type 0} (f : A → List FoundTypes) (whole now : FoundNode) (all :
 
 -- ## Terms by their forms
 
+-- a term has one result, and its parts are `xs` behind itself
+abbrev pub HasOneResult : Context → Term → List FoundTypes → Type 0
+HasOneResult ctx t xs =
+    (results ctx t ≡ singly (type_of ctx t)) × (placed_types ctx t ≡ results ctx t ∷ xs)
+
 module _ (ctx : Context) where
-  pub leaf_placed : (t : Term) → IsLeaf t → placed_types ctx t ≡ results ctx t ∷ []
-  unfolding placed_types
-  leaf_placed t (inl (n, e)) = rw e refl
-  leaf_placed t (inr (inl (b, e))) = rw e refl
-  leaf_placed t (inr (inr (inl (i, e)))) = rw e refl
-  leaf_placed t (inr (inr (inr (x, e)))) = rw e refl
+  pub leaf_result : (t : Term) → IsLeaf t → HasOneResult ctx t []
+  unfolding results placed_types
+  leaf_result t (inl (n, e)) = rw e (refl, refl)
+  leaf_result t (inr (inl (b, e))) = rw e (refl, refl)
+  leaf_result t (inr (inr (inl (i, e)))) = rw e (refl, refl)
+  leaf_result t (inr (inr (inr (x, e)))) = rw e (refl, refl)
 
   pub group_placed : (t : Term) (e : Box Term Global) → t ≡ Group e →
       placed_types ctx t ≡ placed_types ctx e.value
   unfolding placed_types
   group_placed t e is = rw is refl
 
-  pub operand_placed : (t : Term) (e : Box Term Global) → IsSingle t e →
-      placed_types ctx t ≡ results ctx t ∷ placed_types ctx e.value
-  unfolding placed_types
-  operand_placed t e (inl (op, is)) = rw is refl
-  operand_placed t e (inr (inl is)) = rw is refl
-  operand_placed t e (inr (inr (inl is))) = rw is refl
-  operand_placed t e (inr (inr (inr (inl (x, sign, is))))) = rw is refl
-  operand_placed t e (inr (inr (inr (inr (inl (n, is)))))) = rw is refl
-  operand_placed t e (inr (inr (inr (inr (inr (inl (i, is))))))) = rw is refl
-  operand_placed t e (inr (inr (inr (inr (inr (inr (i, j, is))))))) = rw is refl
+  pub single_result : (t : Term) (e : Box Term Global) → IsSingle t e →
+      HasOneResult ctx t (placed_types ctx e.value)
+  unfolding results placed_types
+  single_result t e (inl (op, is)) = rw is (refl, refl)
+  single_result t e (inr (inl is)) = rw is (refl, refl)
+  single_result t e (inr (inr (inl is))) = rw is (refl, refl)
+  single_result t e (inr (inr (inr (inl (x, sign, is))))) = rw is (refl, refl)
+  single_result t e (inr (inr (inr (inr (inl (n, is)))))) = rw is (refl, refl)
+  single_result t e (inr (inr (inr (inr (inr (inl (i, is))))))) = rw is (refl, refl)
+  single_result t e (inr (inr (inr (inr (inr (inr (i, j, is))))))) = rw is (refl, refl)
 
-  pub operands_placed : (t : Term) (a b : Box Term Global) → IsPair t a b →
-      placed_types ctx t
-      ≡ results ctx t ∷ (placed_types ctx a.value ++ placed_types ctx b.value)
-  unfolding placed_types
-  operands_placed t a b (inl (op, is)) = rw is refl
-  operands_placed t a b (inr (inl is)) = rw is refl
-  operands_placed t a b (inr (inr (inl is))) = rw is refl
-  operands_placed t a b (inr (inr (inr is))) = rw is refl
+  pub pair_result : (t : Term) (a b : Box Term Global) → IsPair t a b →
+      HasOneResult ctx t (placed_types ctx a.value ++ placed_types ctx b.value)
+  unfolding results placed_types
+  pair_result t a b (inl (op, is)) = rw is (refl, refl)
+  pair_result t a b (inr (inl is)) = rw is (refl, refl)
+  pair_result t a b (inr (inr (inl is))) = rw is (refl, refl)
+  pair_result t a b (inr (inr (inr is))) = rw is (refl, refl)
 
-  pub choice_placed : (t : Term) (c a b : Box Term Global) → t ≡ If c a b →
-      placed_types ctx t
-      ≡ results ctx t
-      ∷ (placed_types ctx c.value ++ (placed_types ctx a.value ++ placed_types ctx b.value))
-  unfolding placed_types
-  choice_placed t c a b is = rw is refl
+  pub choice_result : (t : Term) (c a b : Box Term Global) → t ≡ If c a b →
+      HasOneResult ctx t
+      (placed_types ctx c.value ++ (placed_types ctx a.value ++ placed_types ctx b.value))
+  unfolding results placed_types
+  choice_result t c a b is = rw is (refl, refl)
 
   -- ## Rows
 
@@ -221,20 +208,10 @@ module _ (ctx : Context) where
   row_items n end_of-Term = refl
   row_items n (more_of-Term e rest) = ap (λ l. placed_types ctx e ++ l) (row_items _ rest)
 
-  placed_in : (t : Term) (es : Vec Term Global) → IsRow t es →
-      placed_types ctx t ≡ results ctx t ∷ placed_row_types ctx (row_in t).1
-  unfolding placed_types
-  placed_in t es (inl e) = rw e refl
-  placed_in t es (inr (inl e)) = rw e refl
-  placed_in t es (inr (inr (inl e))) = rw e refl
-  placed_in t es (inr (inr (inr (inl (c, e))))) = rw e refl
-  placed_in t es (inr (inr (inr (inr (inl (it, c, e)))))) = rw e refl
-  placed_in t es (inr (inr (inr (inr (inr (it, op, n, e)))))) = rw e refl
-
   pub row_placed : (t : Term) (es : Vec Term Global) → IsRow t es →
       placed_types ctx t ≡ results ctx t ∷ placed_all_types ctx es.items
   row_placed t es is =
-      placed_in t es is
+      (row_forms ctx t es is).1
       ∙ ap (λ l. results ctx t ∷ l)
       (row_items _ (row_in t).1 ∙ ap (placed_all_types ctx) (row_is t es is))
 
@@ -262,12 +239,7 @@ type_is_only ctx t = sym (only_singly (type_of ctx t))
 pub list_results : (ctx : Context) (t : Term) (es : Vec Term Global) → t ≡ Array es →
     results ctx t ≡ singly (types_of ctx es.items >>= list_type)
 list_results ctx t es is =
-    ap (results ctx) is ∙ results_of_row ctx (Array es) es (inl refl) ∙ by (types_of ctx es.items)
-  where
-    by : (o : Option (List DataType)) →
-        (o >>= row_results ctx (Array es)) ≡ singly (o >>= list_type)
-    by (Some ts) = refl
-    by None = refl
+    ap (results ctx) is ∙ results_of_row ctx (Array es) es (inl refl) ∙ grind arith
 
 pub list_type_is : (ctx : Context) (t : Term) (es : Vec Term Global) → t ≡ Array es →
     type_of ctx t ≡ (types_of ctx es.items >>= list_type)
@@ -279,13 +251,7 @@ list_type_is ctx t es is =
 equal_one :
     (o : Option (List DataType)) (v : Option DataType) →
     are_equal o (all_some (v ∷ [])) ≡ are_one (o >>= only) v
-equal_one None v = refl
-equal_one (Some []) None = refl
-equal_one (Some []) (Some t) = refl
-equal_one (Some (s ∷ [])) None = refl
-equal_one (Some (s ∷ [])) (Some t) = and-true (is_type s t)
-equal_one (Some (s ∷ u ∷ us)) None = refl
-equal_one (Some (s ∷ u ∷ us)) (Some t) = and-false (is_type s t)
+equal_one o v = grind (arith, and-true, and-false)
 
 pub results_are_one : (ctx : Context) (e : Term) (o v : Option DataType) → o ≡ type_of ctx e →
     are_one o v ≡ are_equal (results ctx e) (all_some (v ∷ []))
@@ -300,12 +266,7 @@ single_apart (Some s) [] apart = refl
 single_apart (Some s) (None ∷ vs) apart = refl
 single_apart (Some s) (Some t ∷ []) apart = absurd (apart refl)
 single_apart (Some s) (Some t ∷ (None ∷ vs)) apart = refl
-single_apart (Some s) (Some t ∷ (Some u ∷ vs)) apart = by (all_some vs)
-  where
-    by : (o : Option (List DataType)) →
-        false ≡ are_equal (Some (s ∷ [])) (option_map (λ l. t ∷ l) (option_map (λ l. u ∷ l) o))
-    by None = refl
-    by (Some l) = sym (and-false (is_type s t))
+single_apart (Some s) (Some t ∷ (Some u ∷ vs)) apart = grind (arith, and-false)
 
 -- one result is the one type `v` exactly where its type is `v`
 pub single_met : (o v : Option DataType) →

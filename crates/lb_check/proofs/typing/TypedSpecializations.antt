@@ -3,21 +3,20 @@ use Rattle.lb_check.proofs.Words
 use Words.{◌≡◌, ℕ, Bool, true, false, Some, None, ap, sym, ◌∙◌, subst, ◌&&◌, slice_get, list_all}
 use Words.{and-false, holds, Reached, ResolvedNode, Specialization, Table, Part, first_broken}
 use Words.{is_node_typed, is_specialization_typed, is_resolved_statement_typed, is_variable_typed}
-use Words.{zero, suc, ◌<◌, List, [], ◌∷◌, length, map, Option, refl, arith, option_map}
-use Words.{slice_index_or, slice_get-map, slice_get_within, get_or_from_slice_get, length-map}
-use Words.{and-true, all_some, listed, zip2, Name, Node, all_at, item_at, and_first, and_second}
-use Words.{Sampling, ResolvedStatement, VariableId, instance_of, specialized_at, Program, Instance}
-use Words.{Path, static_value, instances, are_distinct, is_named, declares_once, reached_nodes}
-use Words.{variable_names, source_names, trees, IsResolved, node_of, statics_of, texts_of}
-use Words.{counts_of, name_at, declaration_of, sampling_of, statement_of, is_variable, is_within}
-use Words.{is_statement_within, is_statement_unhidden, are_statics, is_sampling_within}
+use Words.{List, [], ◌∷◌, length, map, Option, refl, arith, option_map, slice_get-map}
+use Words.{slice_get_within, get_or_from_slice_get, length-map, and-true, all_some, listed, zip2}
+use Words.{Name, all_at, item_at, and_first, and_second, Sampling, ResolvedStatement, VariableId}
+use Words.{instance_of, specialized_at, Program, Instance, Path, static_value, instances}
+use Words.{are_distinct, variable_names, source_names, trees, IsResolved, node_of, statics_of}
+use Words.{texts_of, counts_of, name_at, declaration_of, sampling_of, statement_of, is_variable}
+use Words.{is_within, is_statement_within, is_statement_unhidden, is_sampling_within}
 use Words.{is_declared_within, DataType, truth, is_type, variables, are_same, is_part_typed}
 use Words.{IsJudged, type_of_name, is_statement_typed, is_clock_typed, is_typed, results, are_equal}
 use Words.{Declared}
 use Rattle.lb_check.specs.{FoundParts.{is_part_typed_in, IsIllTyped}, TermTypes.Context}
 use Rattle.lb_check.{specs.TermTypes.context_of, proofs.clocking.ClockDepths.zip_at}
 use Rattle.lb_check.proofs.lists.ListPairs.{all_pass, fails_there, not_all_pass, fails_at}
-use Rattle.lb_check.proofs.lists.{ListPairs.item_there, Members.distinct_first}
+use Rattle.lb_check.proofs.{definitions.NodePlaces.distinct_variables, lists.ListPairs.item_there}
 use Rattle.lb_check.proofs.typing.FittedTypes.{node_at, specialized_instance, values_at, call_is}
 use Rattle.lb_check.proofs.typing.FittedTypes.{variable_is, left_is, value_is, static_is}
 use Rattle.lb_check.proofs.typing.{FittedTypes.{repeats_is, call_at}, MirroredTypes.Fits}
@@ -65,7 +64,8 @@ module _ (r : Reached) (t : Table) (s : Specialization) (n : ResolvedNode)
       → IsIllTyped r t s (part.Statement j)
   statement_untyped j e = (
     both_typed ∙ ap (λ b. variables_typed && b)
-        (not_all_pass (is_resolved_statement_typed ctx) n.body.items j e) ∙ and-false variables_typed,
+        (not_all_pass (is_resolved_statement_typed ctx) n.body.items j e)
+        ∙ and-false variables_typed,
     here (part.Statement j) (fails_there (is_resolved_statement_typed ctx) n.body.items j e),
   )
 
@@ -80,13 +80,6 @@ module _ (r : Reached) (t : Table) (s : Specialization) (n : ResolvedNode)
 
 -- ## Distinct names
 
-held_by_all : (f : Node → Bool) (xs : List Node) (k : ℕ) (x : Node) → list_all f xs ≡ true →
-    k < length xs → slice_index_or xs k x ≡ x → f x ≡ true
-held_by_all f [] k x all lt e = absurd (omega arith)
-held_by_all f (y ∷ xs) zero x all lt e = subst (λ z. f z ≡ true) e (and_first (f y) _ all)
-held_by_all f (y ∷ xs) (suc k) x all lt e =
-    held_by_all f xs k x (and_second (f y) _ all) (omega arith) e
-
 distinct : (P : Program) (r : Reached) (t : Table) → IsJudged P r t → (k : ℕ) (n : ResolvedNode) →
     slice_get r.nodes.items k ≡ Some n
     → are_distinct (variable_names (node_of n)) ≡ true
@@ -96,19 +89,12 @@ distinct P r t j k n at =
     let lt = slice_get_within (trees r) k (node_of n) tree in
     let reached = (j.reached.same (node_of n)).0
     (k, lt, get_or_from_slice_get (trees r) k (node_of n) (node_of n) tree) in
-    let named_all = and_first _ _ (and_second _ _ (and_second _ _ j.names)) in
-    let passes = held_by_all (is_named P) (reached_nodes P) reached.0
-    (node_of n) named_all reached.1 reached.2 in
-    distinct_first (variable_names (node_of n)) (node_of n).parameters
-    (and_first (declares_once P (node_of n)) _ passes)
+    distinct_variables P j.names (node_of n) reached
 
 -- ## Statements
 
 same_is : (P : Program) (o p : Option (List DataType)) → are_same P o p ≡ are_equal o p
-same_is P None None = refl
-same_is P None (Some ts) = refl
-same_is P (Some ss) None = refl
-same_is P (Some ss) (Some ts) = refl
+same_is P o p = grind arith
 
 module _ (P : Program) (r : Reached) (t : Table) (j : IsJudged P r t) (i : ℕ) (s : Specialization)
     (is : slice_get t.specializations.items i ≡ Some s)
@@ -150,9 +136,9 @@ module _ (P : Program) (r : Reached) (t : Table) (j : IsJudged P r t) (i : ℕ) 
       → map (type_of_name P first_instance) (map (name_at names) xs) ≡ map instance_ctx.variable xs
   lefts [] w = refl
   lefts (x ∷ xs) w =
-      rw (left x (and_first _ (list_all (is_variable (counts_of n)) xs) w))
+      rw (left x (and_first _ _ w))
       (ap (λ (os : List (Option DataType)). instance_ctx.variable x ∷ os)
-      (lefts xs (and_second (is_variable (counts_of n) x) _ w)))
+      (lefts xs (and_second _ _ w)))
 
   resolved_statement_is : (st : ResolvedStatement) → is_statement_within (counts_of n) st ≡ true →
       is_statement_unhidden (texts_of n) st ≡ true
@@ -177,11 +163,8 @@ module _ (P : Program) (r : Reached) (t : Table) (j : IsJudged P r t) (i : ℕ) 
       (mirror.is_resolved_statement_typed instance_ctx) ss
   resolved_statements_are [] w u = refl
   resolved_statements_are (st ∷ ss) w u =
-      let a = resolved_statement_is st
-      (and_first _ (list_all (is_statement_within (counts_of n)) ss) w)
-      (and_first _ (list_all (is_statement_unhidden (texts_of n)) ss) u) in
-      let b = resolved_statements_are ss (and_second (is_statement_within (counts_of n) st) _ w)
-      (and_second (is_statement_unhidden (texts_of n) st) _ u) in
+      let a = resolved_statement_is st (and_first _ _ w) (and_first _ _ u) in
+      let b = resolved_statements_are ss (and_second _ _ w) (and_second _ _ u) in
       rw a (ap (λ z. mirror.is_resolved_statement_typed instance_ctx st && z) b)
 
   -- ## Clocks
@@ -201,15 +184,14 @@ module _ (P : Program) (r : Reached) (t : Table) (j : IsJudged P r t) (i : ℕ) 
       (zip2 (declaration_of names (statics_of n)) xs vs) ≡ list_all
       (mirror.is_variable_typed instance_ctx) vs
   clocks_are [] [] e w = refl
-  clocks_are [] (v ∷ vs) e w = absurd cc
-  clocks_are (x ∷ xs) [] e w = absurd cc
   clocks_are (x ∷ xs) (v ∷ vs) e w =
       let rest : length vs ≡ length xs = cc in
       let one = and_first _ (list_all (is_declared_within (counts_of n)) vs) w in
-      let a = clock_is v.clock (and_second (are_statics (counts_of n) v.first_size v.sizes) _ one)
+      let a = clock_is v.clock (and_second _ _ one)
       in
-      let b = clocks_are xs vs rest (and_second (is_declared_within (counts_of n) v) _ w) in
+      let b = clocks_are xs vs rest (and_second _ _ w) in
       rw a (ap (λ z. mirror.is_variable_typed instance_ctx v && z) b)
+  clocks_are _ _ e w = absurd cc
 
   pub node_typed : is_typed P first_instance ≡ mirror.is_node_typed instance_ctx n
   node_typed =
@@ -241,8 +223,7 @@ module _ (P : Program) (r : Reached) (t : Table) (j : IsJudged P r t) (i : ℕ) 
       resolved.declared_within v.1 in
       fails_at (is_clock_typed P first_instance) (variables (node_of n)) x.0
       (declaration_of names (statics_of n) name.0 v.0) declared
-      (clock_is v.0.clock
-      (and_second (are_statics (counts_of n) v.0.first_size v.0.sizes) _ within) ∙ v.2)
+      (clock_is v.0.clock (and_second _ _ within) ∙ v.2)
   part_untyped (part.Statement j) e =
       let st = item_there (mirror.is_resolved_statement_typed instance_ctx) n.body.items j e in
       let text = ap (λ ss. slice_get ss j) (sym resolved.body)

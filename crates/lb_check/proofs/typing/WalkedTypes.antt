@@ -1,14 +1,13 @@
 -- The parts that a walk over a term notes, and rows that do not fit.
 use Rattle.lb_check.proofs.Words
 use Words.{◌≡◌, inl, inr, ℕ, ◌+◌, ◌-◌, ◌<◌, ◌≤◌, List, [], ◌∷◌, ◌++◌, length, map, drop, get_or}
-use Words.{Option, Some, None, Box, Vec, Global, refl, ap, sym, subst, ◌∙◌, arith, IfOk, OnOk}
-use Words.{option_map, length-drop, length-map, ◌>>=◌, all_some, CallId, Term, DataType, view_type}
-use Words.{IsSingle, IsPair, FoundTypes, IsWalked, Kept, kept, noted, placed_types}
-use Words.{placed_all_types, IsGiven, IsLeaf, Signature, evaluated, given_of, list_of, one_type}
-use Words.{results, type_of, when_both, when_truth, common_type, only, singly, zero, suc, Bool}
-use Words.{true, false, take, ◌&&◌, is_some, nat_le, and-false, flat_map-append, drop-map}
-use Words.{length-append, where_true, and_second, Group', are_met, are_one, arrays, common}
-use Words.{has_arity, outcome, array_of, Result}
+use Words.{Option, None, Box, Vec, Global, refl, ap, sym, subst, ◌∙◌, arith, IfOk, OnOk, option_map}
+use Words.{length-drop, length-map, ◌>>=◌, all_some, CallId, Term, DataType, view_type, IsSingle}
+use Words.{FoundTypes, IsWalked, Kept, kept, noted, placed_types, placed_all_types, IsGiven, IsLeaf}
+use Words.{Signature, evaluated, given_of, list_of, one_type, results, type_of, when_both}
+use Words.{when_truth, common_type, only, singly, zero, suc, Bool, true, false, take, ◌&&◌, is_some}
+use Words.{flat_map-append, drop-map, length-append, where_true, and_second, Group', are_met}
+use Words.{are_one, arrays, common, has_arity, outcome, array_of, Result}
 use Rattle.{std.proofs.lemmas.List.take-append-drop, lb_static.specs.declared.resolved.Term.Array}
 use Rattle.lb_static.specs.declared.resolved.Term.{Group, If}
 use Rattle.lb_check.specs.{PlacedTypes.IsDecided, TermTypes.{Context, leaf_type}}
@@ -17,7 +16,7 @@ use Rattle.lb_check.proofs.lists.ListPairs.{all_last, more_last, none_last}
 use Rattle.lb_check.proofs.typing.SignatureRows.{kept_both, list_is, kept_none, kept_over, fits_end}
 use Rattle.lb_check.proofs.typing.{TermSignatures.results_given, TypeRows.list_results}
 use Rattle.lb_check.proofs.typing.TypeRows.{list_type_is, type_is_only, single_none, single_type}
-use Rattle.lb_check.proofs.typing.TypeRows.{group_placed, row_placed}
+use Rattle.lb_check.proofs.typing.TypeRows.{HasOneResult, group_placed, row_placed}
 use Rattle.lb_static.specs.declared.data_type.DataType as stored
 
 -- The parts that a walk over a term notes, from those that it notes for the operands of the term.
@@ -38,37 +37,6 @@ module _ (ctx : Context) where
   leaf_is t (inr (inr (inl (i, e)))) = rw e refl
   leaf_is t (inr (inr (inr (x, e)))) = rw e refl
 
-  pub leaf_one : (t : Term) → IsLeaf t → results ctx t ≡ singly (type_of ctx t)
-  unfolding results
-  leaf_one t (inl (n, e)) = rw e refl
-  leaf_one t (inr (inl (b, e))) = rw e refl
-  leaf_one t (inr (inr (inl (i, e)))) = rw e refl
-  leaf_one t (inr (inr (inr (x, e)))) = rw e refl
-
-  pub single_one : (t : Term) (e : Box Term Global) → IsSingle t e →
-      results ctx t ≡ singly (type_of ctx t)
-  unfolding results
-  single_one t e (inl (op, is)) = rw is refl
-  single_one t e (inr (inl is)) = rw is refl
-  single_one t e (inr (inr (inl is))) = rw is refl
-  single_one t e (inr (inr (inr (inl (x, sign, is))))) = rw is refl
-  single_one t e (inr (inr (inr (inr (inl (n, is)))))) = rw is refl
-  single_one t e (inr (inr (inr (inr (inr (inl (i, is))))))) = rw is refl
-  single_one t e (inr (inr (inr (inr (inr (inr (i, j, is))))))) = rw is refl
-
-  pub pair_one : (t : Term) (a b : Box Term Global) → IsPair t a b →
-      results ctx t ≡ singly (type_of ctx t)
-  unfolding results
-  pair_one t a b (inl (op, is)) = rw is refl
-  pair_one t a b (inr (inl is)) = rw is refl
-  pair_one t a b (inr (inr (inl is))) = rw is refl
-  pair_one t a b (inr (inr (inr is))) = rw is refl
-
-  pub choice_one : (t : Term) (c a b : Box Term Global) → t ≡ If c a b →
-      results ctx t ≡ singly (type_of ctx t)
-  unfolding results
-  choice_one t c a b is = rw is refl
-
   pub list_one : (t : Term) (es : Vec Term Global) → t ≡ Array es →
       results ctx t ≡ singly (type_of ctx t)
   list_one t es is = list_results ctx t es is ∙ ap singly (sym (list_type_is ctx t es is))
@@ -81,11 +49,7 @@ module _ (ctx : Context) where
   -- the type of a term comes from that of its one operand
   pub single_from : (t : Term) (e : Box Term Global) → IsSingle t e →
       (type_of ctx e.value >>= one_type ctx t) ≡ type_of ctx t
-  single_from t e is = by (type_of ctx e.value) refl
-    where
-      by : (o : Option DataType) → type_of ctx e.value ≡ o → (o >>= one_type ctx t) ≡ type_of ctx t
-      by None h = sym (single_none ctx t e (inr is) h)
-      by (Some s) h = single_type ctx t e s (inr is) h
+  single_from t e is = grind (arith, single_none ctx t e (inr is), single_type ctx t e)
 
   -- the type of a choice comes from those of its condition and its branches
   pub choice_type : (t : Term) (c a b : Box Term Global) → t ≡ If c a b →
@@ -122,15 +86,14 @@ module _ (ctx : Context) where
     -- noting a term of one result, after its operands, completes the walk over it
     pub returns_one :
         {E : Type 0} (r : Result (Option stored.DataType) E)
-        (t : Term) (xs : List FoundTypes) (own : Option DataType) →
-        placed_types ctx t ≡ results ctx t ∷ xs → results ctx t ≡ singly (type_of ctx t) →
+        (t : Term) (xs : List FoundTypes) (own : Option DataType) → HasOneResult ctx t xs →
         own ≡ type_of ctx t → mid ≡ kept before xs →
         IfOk r (λ o. option_map view_type o ≡ own) → OnOk r (after ≡ noted mid (singly own)) →
         IfOk r (λ o. IsWalked ctx t before after (option_map view_type o))
-    returns_one r t xs own whole single is m same a =
+    returns_one r t xs own form is m same a =
         both_found r (λ o. option_map view_type o ≡ own) (λ o. after ≡ noted mid (singly own))
         (λ o. IsWalked ctx t before after (option_map view_type o)) same a
-        (λ o s e. (s ∙ is, noted_after t xs (singly own) whole (ap singly is ∙ sym single) m e))
+        (λ o s e. (s ∙ is, noted_after t xs (singly own) form.1 (ap singly is ∙ sym form.0) m e))
 
     -- noting a term with a row of operands, a list apart, completes the walk over it
     pub returns_given :
@@ -218,55 +181,30 @@ Types = List (Option DataType)
 met_last : (k : ℕ) (ws os : Types) → are_met ws os ≡ true → are_met (drop k ws) (drop k os) ≡ true
 met_last zero ws os e = e
 met_last (suc k) [] [] e = refl
-met_last (suc k) [] (o ∷ os) e = absurd cc
-met_last (suc k) (w ∷ ws) [] e = absurd cc
 met_last (suc k) (w ∷ ws) (o ∷ os) e =
     met_last k ws os (and_second (are_one w o) (are_met ws os) e)
+met_last _ _ _ e = absurd cc
 
 -- a row does not fit where its last operands do not fit
 pub fit_none : (s : Signature) (count at : ℕ) (os : Types) → length os ≡ count →
     (has_arity s count && are_met (drop at s.takes) (drop at os)) ≡ false →
     (s.stands && are_met s.takes os) ≡ false
-fit_none s count at os many e = by (are_met s.takes os) refl
-  where
-    by : (b : Bool) → are_met s.takes os ≡ b → (s.stands && b) ≡ false
-    by false h = and-false s.stands
-    by true h =
-        ap (λ b. s.stands && b) (sym h) ∙ sym (fits_end s count os many)
-        ∙ ap (λ b. has_arity s count && b) (h ∙ sym (met_last at s.takes os h)) ∙ e
+fit_none s count at os many e = grind (arith, fits_end s count os many, met_last at s.takes os)
 
 -- ## Elements of a list
-
-none_there : {A : Type 0} (o : Option A) → is_some o ≡ false → o ≡ None
-none_there None e = refl
-none_there (Some a) e = absurd cc
-
-same_test : {A : Type 0} (b : Bool) (x y : A) → where_true b x ≡ None → where_true b y ≡ None
-same_test true x y e = absurd cc
-same_test false x y e = refl
-
-abbrev with_length : ℕ → DataType → DataType
-with_length n t = record { kind = t.kind; sizes = n ∷ t.sizes }
 
 -- no type has an array of length `n`, where one type has none
 none_so_long : (n : ℕ) (t : DataType) → array_of n t ≡ None → (o : Option DataType) →
     arrays n o ≡ None
-none_so_long n t e None = refl
-none_so_long n t e (Some u) =
-    same_test (nat_le 1 n && nat_le n 4096) (with_length n t) (with_length n u) e
+none_so_long n t e o = grind arith
 
 list_none : (n k : ℕ) (os : Types) → k < length os →
     is_some (arrays n (common (drop k os))) ≡ false → arrays n (common os) ≡ None
-list_none n zero os lt e = none_there (arrays n (common os)) e
+list_none n zero os lt e = grind arith
 list_none n (suc k) [] lt e = absurd (omega (arith, lt))
 list_none n (suc k) (o ∷ []) lt e = absurd (omega (arith, lt))
 list_none n (suc k) (o ∷ (p ∷ os)) lt e =
-    by o (common (p ∷ os)) (list_none n k (p ∷ os) (omega (arith, lt)) e)
-  where
-    by : (o c : Option DataType) → arrays n c ≡ None → arrays n (when_both o c common_type) ≡ None
-    by None c e = refl
-    by (Some t) None e = refl
-    by (Some t) (Some u) e = none_so_long n u e (common_type t u)
+    let rest = list_none n k (p ∷ os) (omega (arith, lt)) e in grind (arith, none_so_long n)
 
 -- ## Kept parts
 

@@ -1,13 +1,9 @@
 use Rattle.lb_check.proofs.Words.{ap, ◌∙◌, find, not, NodeId, Specialization, is_clocked}
 use Rattle.lb_check.proofs.Words.{is_part_clocked, IsIllClocked, is_clocked_at, List, map}
-use Rattle.lb_check.proofs.clocking.{CallClockSets.call_stands, EquationClockSets.equation_stands}
-use Rattle.lb_check.proofs.clocking.StatementClockSets.{node_clocked, statement_broken}
-use Rattle.lb_check.proofs.clocking.TermClockSets.{term_stands}
 use Rattle.lb_check.proofs.clocking.WholeClocks.{first_broken_specialization, first_part}
 use Rattle.lb_check.proofs.clocking.WholeClocks.{instances_clocked}
 use Rattle.lb_check.proofs.definitions.BrokenRules.{find_mapped, both_found, if_found, not_all}
 use Rattle.lb_check.proofs.definitions.BrokenRules.{part_named}
-use Rattle.lb_check.proofs.typing.SingleCalls.{single_statements}
 use Rattle.lb_check.proofs.clock_rules.ill_clocked.Goals as goal
 
 pub returns-clause-judged : goal.returns-clause-judged
@@ -22,11 +18,7 @@ returns-clause-judged c P j typed =
     ∙ ap (λ (ss : List Specialization). find broken (map node ss)) c.deref.ensures.value
     ∙ find_mapped node broken ss in
     let all =
-    instances_clocked P r t j
-    (λ n sees. node_clocked P r n sees
-    (term_stands P r n sees (λ callee has. call_stands P n callee sees.own has))
-    (λ callee has. equation_stands P n callee sees.own has))
-    (single_statements P r t j) typed in
+    instances_clocked P r t j typed in
     if_found c.first_ill_clocked.result _ _ (c.first_ill_clocked.ensures.first P j.names j.reached)
     (λ found e. not_all node (λ s. is_clocked_at r s.node) ss (λ f. f.node) found (e ∙ same)
     ∙ ap not all)
@@ -40,20 +32,9 @@ returns-clause-named c P j typed =
     ap (find broken) c.deref-2.ensures.value ∙ c.in_ok-ids.ensures broken
     ∙ ap (λ (ss : List Specialization). find broken (map (λ s. s.node) ss)) c.deref.ensures.value in
     let first =
-    first_broken_specialization P r t j
-    (λ n sees. node_clocked P r n sees
-    (term_stands P r n sees (λ callee has. call_stands P n callee sees.own has))
-    (λ callee has. equation_stands P n callee sees.own has))
-    (single_statements P r t j) typed in
+    first_broken_specialization P r t j typed in
     let its_part =
-    first_part P r t j
-    (λ n sees. node_clocked P r n sees
-    (term_stands P r n sees (λ callee has. call_stands P n callee sees.own has))
-    (λ callee has. equation_stands P n callee sees.own has))
-    (single_statements P r t j) typed
-    (λ n sees. statement_broken P r n sees
-    (term_stands P r n sees (λ callee has. call_stands P n callee sees.own has))
-    (λ callee has. equation_stands P n callee sees.own has)) in
+    first_part P r t j typed in
     both_found c.first_ill_clocked.result _ _ _
     (c.first_ill_clocked.ensures.first P j.names j.reached)
     (c.first_ill_clocked.ensures.part P j.names j.reached)

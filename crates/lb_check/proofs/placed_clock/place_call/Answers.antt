@@ -1,4 +1,4 @@
-use Rattle.lb_check.proofs.Words.{◌≡◌, [], ap, ap₂, sym, ◌∙◌, arith, append-nil, length-map, called}
+use Rattle.lb_check.proofs.Words.{[], ap, ap₂, sym, ◌∙◌, arith, append-nil, length-map, called}
 use Rattle.lb_check.proofs.Words.{placed_each, side_call, side_clocks, with_terms, left_clock}
 use Rattle.lb_check.proofs.Words.{operand_of, operands_of, known_among}
 use Rattle.lb_check.specs.{PlacedClocks.{found_in, with_term}, StoredClocks.context_in}
@@ -14,19 +14,16 @@ returns c = λ is.
     let known = c.args.known.now in
     let os = operands_of ctx es in
     let own = known_among ctx es in
-    let k = left_clock ctx lefts in
     let old = found_in c.args.placed.now in
-    let noted = found_in c.note_call.new.self in
-    let noting = called k (side_call ctx lefts os (ctx.callee call)) in
     let all = length-map es (operand_of ctx) in
     let whole = is ∙ sym (append-nil _) in
-    let operands : c.part_of-operands.result.now ≡ os =
+    let operands =
     c.part_of-operands.ensures ∙ taken_first os own [] known _ (omega (arith, all)) whole in
-    let first : noted ≡ with_term old noting =
+    let first =
     c.in_ok-note_call.ensures
     ∙ ap₂ (λ z f. with_term old (called z f)) c.left_clock.ensures
     (c.in_ok-found.ensures ∙ ap (λ l. side_call ctx lefts l (ctx.callee call)) operands) in
-    let clocks : c.deref.result.now ≡ side_clocks ctx lefts call os =
+    let clocks =
     c.deref.ensures.value ∙ c.in_ok-clocks.ensures ∙ ap (side_clocks ctx lefts call) operands in
     let r = c.in_ok-place_each.ensures []
     (c.past.ensures ∙ left_past os own [] known _ (omega (arith, all)) whole) in

@@ -8,13 +8,13 @@ use Rattle.lb_check.proofs.Words.{type_at, one_type, type_of, when_both, when_tr
 use Rattle.lb_check.specs.{PlacedTypes.IsRowWalked, TermSignatures.signature}
 use Rattle.lb_check.proofs.{definitions.BrokenRules.if_found, typing.SignatureRows.calls_are}
 use Rattle.lb_check.proofs.typing.SignatureRows.{fits_end, fits_more, fits_start, like_next}
-use Rattle.lb_check.proofs.typing.TypeRows.{pair_type, choice_placed, operand_placed}
-use Rattle.lb_check.proofs.typing.{TypeRows.{operands_placed, row_placed}, WalkedTypes.list_decided}
-use Rattle.lb_check.proofs.typing.WalkedTypes.{row_decided, choice_one, choice_type, further, later}
-use Rattle.lb_check.proofs.typing.WalkedTypes.{later_all, later_length, later_more, later_none}
-use Rattle.lb_check.proofs.typing.WalkedTypes.{list_from, list_one, noted_all, noted_more}
-use Rattle.lb_check.proofs.typing.WalkedTypes.{noted_none, pair_one, returns_given, returns_group}
-use Rattle.lb_check.proofs.typing.WalkedTypes.{returns_one, single_from, single_one}
+use Rattle.lb_check.proofs.typing.TypeRows.{pair_type, choice_result, single_result}
+use Rattle.lb_check.proofs.typing.{TypeRows.{pair_result, row_placed}, WalkedTypes.list_decided}
+use Rattle.lb_check.proofs.typing.WalkedTypes.{row_decided, choice_type, further, later, later_all}
+use Rattle.lb_check.proofs.typing.WalkedTypes.{later_length, later_more, later_none, list_from}
+use Rattle.lb_check.proofs.typing.WalkedTypes.{list_one, noted_all, noted_more, noted_none}
+use Rattle.lb_check.proofs.typing.WalkedTypes.{returns_given, returns_group, returns_one}
+use Rattle.lb_check.proofs.typing.WalkedTypes.{single_from}
 use Rattle.lb_check.proofs.types.+walking.Goals as goal
 
 -- ## The elements of a list
@@ -178,8 +178,9 @@ walk_array-returns t c = λ h.
     let w : IsRowWalked ctx es.items before mid own list_of =
     subst (λ l. IsRowWalked ctx l before mid own list_of) h.2 c.in_ok-own.ensures in
     returns_one ctx before mid (kept_in c.note_one.new.parts) c.note_one.result term
-    (placed_all_types ctx es.items) own (row_placed ctx term es (inl h.1))
-    (list_one ctx term es h.1) (w.0 ∙ list_from ctx term es h.1) w.1
+    (placed_all_types ctx es.items) own
+    (list_one ctx term es h.1, row_placed ctx term es (inl h.1))
+    (w.0 ∙ list_from ctx term es h.1) w.1
     c.note_one.ensures.same c.note_one.ensures.noted
 
 pub walk_given-returns : goal.walk_given-returns
@@ -211,7 +212,7 @@ walk_single-returns t c = λ h.
     subst (λ x. IsWalked ctx x before mid operand) h.2 c.in_ok-operand.ensures in
     returns_one ctx before mid (kept_in c.note_one.new.parts) c.note_one.result term
     (placed_types ctx e.value) (option_map view_type c.in_ok-own.own)
-    (operand_placed ctx term e is) (single_one ctx term e is)
+    (single_result ctx term e is)
     (c.in_ok-own.ensures ∙ ap (λ o. o >>= one_type ctx term) w.0 ∙ single_from ctx term e is)
     w.1 c.note_one.ensures.same c.note_one.ensures.noted
 
@@ -233,7 +234,7 @@ walk_pair-returns t c = λ h.
     subst (λ x. IsWalked ctx x first second left) h.3 c.in_ok-left.ensures in
     returns_one ctx before second (kept_in c.note_one.new.parts) c.note_one.result term
     (placed_types ctx a.value ++ placed_types ctx b.value) (option_map view_type c.in_ok-own.own)
-    (operands_placed ctx term a b is) (pair_one ctx term a b is)
+    (pair_result ctx term a b is)
     (c.in_ok-own.ensures ∙ pair_type ctx term a b left right is wa.0 wb.0)
     (further before first second (placed_types ctx a.value) (placed_types ctx b.value) wb.1 wa.1)
     c.note_one.ensures.same c.note_one.ensures.noted
@@ -261,8 +262,7 @@ walk_choice-returns t c = λ h.
     subst (λ x. IsWalked ctx x second third condition) h.4 c.in_ok-condition.ensures in
     returns_one ctx before third (kept_in c.note_one.new.parts) c.note_one.result term
     (placed_types ctx z.value ++ (placed_types ctx a.value ++ placed_types ctx b.value))
-    (option_map view_type c.when_truth-own.result) (choice_placed ctx term z a b is)
-    (choice_one ctx term z a b is)
+    (option_map view_type c.when_truth-own.result) (choice_result ctx term z a b is)
     (c.when_truth-own.ensures ∙ ap (when_truth condition) c.common_type.ensures
     ∙ ap (λ o. when_truth o (when_both left right common_type)) wc.0
     ∙ ap (λ o. when_truth (type_of ctx z.value) (when_both o right common_type)) wa.0

@@ -1,5 +1,5 @@
 use Rattle.lb_check.proofs.Words.{[], refl, ◌∙◌, option_map, view_type, kept_in, context_in}
-use Rattle.lb_check.proofs.typing.{TypeRows.leaf_placed, WalkedTypes.{leaf_is, leaf_one}}
+use Rattle.lb_check.proofs.typing.{TypeRows.leaf_result, WalkedTypes.leaf_is}
 use Rattle.lb_check.proofs.typing.WalkedTypes.{returns_one}
 use Rattle.lb_check.proofs.types.walk_leaf.Goals as goal
 
@@ -9,6 +9,6 @@ returns c =
     let term = c.args.term.now in
     let before = kept_in c.args.parts.now in
     returns_one ctx before before (kept_in c.note_one.new.parts) c.note_one.result term []
-    (option_map view_type c.in_ok-own.own) (leaf_placed ctx term c.requires)
-    (leaf_one ctx term c.requires) (c.in_ok-own.ensures ∙ leaf_is ctx term c.requires) refl
+    (option_map view_type c.in_ok-own.own) (leaf_result ctx term c.requires)
+    (c.in_ok-own.ensures ∙ leaf_is ctx term c.requires) refl
     c.note_one.ensures.same c.note_one.ensures.noted

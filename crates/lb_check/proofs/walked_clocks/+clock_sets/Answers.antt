@@ -1,10 +1,10 @@
-use Rattle.lb_check.proofs.Words.{◌≡◌, [], ◌++◌, ap, subst, ◌∙◌, rules, variable_of, both}
-use Rattle.lb_check.proofs.Words.{row_clock_set, IsRowWalked, OneClock}
-use Rattle.lb_check.specs.{StoredClocks.context_in, WalkedClocks.IsWalked}
+use Rattle.lb_check.proofs.Words.{◌≡◌, [], ◌++◌, ap, ◌∙◌, rules, variable_of, both}
+use Rattle.lb_check.proofs.Words.{row_clock_set, OneClock}
+use Rattle.lb_check.specs.StoredClocks.{context_in}
 use Rattle.lb_check.proofs.clocking.WalkedClocks.{row_end, row_more, row_start, walked_call}
 use Rattle.lb_check.proofs.clocking.WalkedClocks.{walked_choice, walked_current, walked_free}
 use Rattle.lb_check.proofs.clocking.WalkedClocks.{walked_pair, walked_plain, walked_row}
-use Rattle.lb_check.proofs.clocking.WalkedClocks.{walked_variable}
+use Rattle.lb_check.proofs.clocking.WalkedClocks.{row_walked_at, walked_at, walked_variable}
 use Rattle.lb_check.proofs.walked_clocks.+clock_sets.Goals as goal
 
 -- ## Rows
@@ -53,101 +53,53 @@ walk-returns-in-Variable t c =
 pub walk-returns-in_ok-walk-in-Group : goal.walk-returns-in_ok-walk-in-Group
 walk-returns-in_ok-walk-in-Group t c =
     let ctx = context_in c.args.env.now in
-    let e = c.in-Group.e in
-    let before = c.args.known.now.items in
-    let after = c.walk-in-Group.new.known.items in
-    let s = c.in_ok-walk-in-Group.field-0 in
-    let w : IsWalked ctx e.value before after s =
-    subst (λ x. IsWalked ctx x before after s) c.deref-in-Group.ensures
-    c.in_ok-walk-in-Group.ensures in
-    walked_plain ctx before after c.args.term.now e s c.unary_clock_set-in-Group.result
-    c.in-Group.is w c.unary_clock_set-in-Group.ensures
+    walked_plain ctx _ _ _ c.in-Group.e _ _ c.in-Group.is
+    (walked_at ctx _ _ _ _ _ c.deref-in-Group.ensures c.in_ok-walk-in-Group.ensures)
+    c.unary_clock_set-in-Group.ensures
 
 pub walk-returns-in_ok-push-in-Current : goal.walk-returns-in_ok-push-in-Current
 walk-returns-in_ok-push-in-Current t c =
     let ctx = context_in c.args.env.now in
-    let e = c.in-Current.e in
-    let before = c.args.known.now.items in
-    let mid = c.walk.new.known.items in
-    let s = c.in_ok-clock_set-in-Current.clock_set in
-    let w : IsWalked ctx e.value before mid s =
-    subst (λ x. IsWalked ctx x before mid s) c.deref.ensures
-    c.in_ok-clock_set-in-Current.ensures in
-    walked_current ctx before mid c.push.new.self.items c.args.term.now e s
-    c.unary_clock_set.result c.variable_of-variable.result c.in-Current.is w
+    walked_current ctx _ _ _ _ c.in-Current.e _ _ _ c.in-Current.is
+    (walked_at ctx _ _ _ _ _ c.deref.ensures c.in_ok-clock_set-in-Current.ensures)
     (c.variable_of-variable.ensures ∙ ap variable_of c.deref-in-Current.ensures)
     c.in_ok-push-in-Current.ensures.items c.unary_clock_set.ensures
 
 pub walk-returns-in_ok-left-in-Binary : goal.walk-returns-in_ok-left-in-Binary
 walk-returns-in_ok-left-in-Binary t c =
     let ctx = context_in c.args.env.now in
-    let a = c.in-Binary.a in
-    let b = c.in-Binary.b in
-    let before = c.args.known.now.items in
-    let mid = c.walk-in-Binary.new.known.items in
-    let after = c.walk-in-Binary-2.new.known.items in
-    let s = c.in_ok-right-in-Binary.right in
-    let r = c.in_ok-left-in-Binary.left in
-    let wb : IsWalked ctx b.value before mid s =
-    subst (λ x. IsWalked ctx x before mid s) c.deref-in-Binary.ensures
-    c.in_ok-right-in-Binary.ensures in
-    let wa : IsWalked ctx a.value mid after r =
-    subst (λ x. IsWalked ctx x mid after r) c.deref-in-Binary-2.ensures
-    c.in_ok-left-in-Binary.ensures in
-    walked_pair ctx before mid after c.args.term.now a b r s c.both-in-Binary.result
-    c.in-Binary.is wb wa c.both-in-Binary.ensures
+    walked_pair ctx _ _ _ _ c.in-Binary.a c.in-Binary.b _ _ _ c.in-Binary.is
+    (walked_at ctx _ _ _ _ _ c.deref-in-Binary.ensures c.in_ok-right-in-Binary.ensures)
+    (walked_at ctx _ _ _ _ _ c.deref-in-Binary-2.ensures c.in_ok-left-in-Binary.ensures)
+    c.both-in-Binary.ensures
 
 pub walk-returns-in_ok-condition-in-If : goal.walk-returns-in_ok-condition-in-If
 walk-returns-in_ok-condition-in-If t c =
     let ctx = context_in c.args.env.now in
     let i = c.in-If in
-    let before = c.args.known.now.items in
-    let first = c.walk-in-If.new.known.items in
-    let second = c.walk-in-If-2.new.known.items in
-    let after = c.walk-in-If-3.new.known.items in
-    let s = c.in_ok-right-in-If.right in
-    let r = c.in_ok-left-in-If.left in
-    let q = c.in_ok-condition-in-If.condition in
-    let wb : IsWalked ctx i.b.value before first s =
-    subst (λ x. IsWalked ctx x before first s) c.deref-in-If.ensures c.in_ok-right-in-If.ensures in
-    let wa : IsWalked ctx i.a.value first second r =
-    subst (λ x. IsWalked ctx x first second r) c.deref-in-If-2.ensures
-    c.in_ok-left-in-If.ensures in
-    let wc : IsWalked ctx i.c.value second after q =
-    subst (λ x. IsWalked ctx x second after q) c.deref-in-If-3.ensures
-    c.in_ok-condition-in-If.ensures in
-    walked_choice ctx before first second after c.args.term.now i.c i.a i.b q r s
-    c.both-in-If.result i.is wb wa wc
-    (c.both-in-If.ensures ∙ ap (both q) c.both.ensures)
+    walked_choice ctx _ _ _ _ _ i.c i.a i.b _ _ _ _ i.is
+    (walked_at ctx _ _ _ _ _ c.deref-in-If.ensures c.in_ok-right-in-If.ensures)
+    (walked_at ctx _ _ _ _ _ c.deref-in-If-2.ensures c.in_ok-left-in-If.ensures)
+    (walked_at ctx _ _ _ _ _ c.deref-in-If-3.ensures c.in_ok-condition-in-If.ensures)
+    (c.both-in-If.ensures ∙ ap (both c.in_ok-condition-in-If.condition) c.both.ensures)
 
 pub walk-returns-in_ok-walk_all-in-Array : goal.walk-returns-in_ok-walk_all-in-Array
 walk-returns-in_ok-walk_all-in-Array t c =
     let ctx = context_in c.args.env.now in
-    let term = c.args.term.now in
-    let es = c.in-Array.terms in
-    let before = c.args.known.now.items in
-    let after = c.walk_all-in-Array.new.known.items in
-    let os = c.in_ok-walk_all-in-Array.field-0.items in
-    let w : IsRowWalked ctx es.items before after os =
-    subst (λ l. IsRowWalked ctx l before after os) c.deref-in-Array.ensures.value
-    c.in_ok-walk_all-in-Array.ensures in
-    walked_row ctx before after term es os c.row_clock_set.result c.in-Array.is w
-    (c.row_clock_set.ensures ∙ ap (row_clock_set ctx term) c.deref-in-Array-2.ensures.value)
+    walked_row ctx _ _ _ c.in-Array.terms _ _ c.in-Array.is
+    (row_walked_at ctx _ _ _ _ _ c.deref-in-Array.ensures.value
+    c.in_ok-walk_all-in-Array.ensures)
+    (c.row_clock_set.ensures
+    ∙ ap (row_clock_set ctx c.args.term.now) c.deref-in-Array-2.ensures.value)
 
 pub walk-returns-in_ok-extend_from_slice-in-Call : goal.walk-returns-in_ok-extend_from_slice-in-Call
 walk-returns-in_ok-extend_from_slice-in-Call t c =
     let ctx = context_in c.args.env.now in
-    let term = c.args.term.now in
-    let es = c.in-Call.terms in
-    let before = c.args.known.now.items in
     let mid = c.walk_all.new.known.items in
-    let os = c.in_ok-operands-in-Call.operands.items in
-    let w : IsRowWalked ctx es.items before mid os =
-    subst (λ l. IsRowWalked ctx l before mid os) c.deref-in-Call.ensures.value
-    c.in_ok-operands-in-Call.ensures in
-    walked_call ctx before mid c.extend_from_slice.new.self.items term c.in-Call.field-0 es os
-    c.row_clock_set-clock_set.result c.in-Call.is w
+    walked_call ctx _ _ _ _ c.in-Call.field-0 c.in-Call.terms _ _ c.in-Call.is
+    (row_walked_at ctx _ _ _ _ _ c.deref-in-Call.ensures.value
+    c.in_ok-operands-in-Call.ensures)
     (c.in_ok-extend_from_slice-in-Call.ensures.items
     ∙ ap (λ l. mid ++ l) (c.deref-in-Call-3.ensures.value ∙ c.turned.ensures))
     (c.row_clock_set-clock_set.ensures
-    ∙ ap (row_clock_set ctx term) c.deref-in-Call-2.ensures.value)
+    ∙ ap (row_clock_set ctx c.args.term.now) c.deref-in-Call-2.ensures.value)
