@@ -78,12 +78,10 @@ length-choice :
     (n : ℕ) (cs xs ys : Stream) → length cs ≡ n → length xs ≡ n → length ys ≡ n →
     length (choice cs xs ys) ≡ n
 length-choice n [] xs ys p q r = p
-length-choice zero (c ∷ cs) xs ys p q r = absurd (omega arith)
-length-choice (suc n) (c ∷ cs) [] ys p q r = absurd (omega arith)
-length-choice (suc n) (c ∷ cs) (x ∷ xs) [] p q r = absurd (omega arith)
 length-choice (suc n) (c ∷ cs) (x ∷ xs) (y ∷ ys) p q r =
     ap length (choice_step c x y cs xs ys)
     ∙ ap suc (length-choice n cs xs ys (omega arith) (omega arith) (omega arith))
+length-choice _ _ _ _ p q r = absurd (omega arith)
 
 length-first_then :
     (n : ℕ) (xs ys : Stream) → length xs ≡ n → length ys ≡ n → length (first_then xs ys) ≡ n

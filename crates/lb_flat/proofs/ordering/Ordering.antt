@@ -169,44 +169,27 @@ module _ (done : List Bool) where
   pub none_left :
       (is : List ℕ) → first_left done is ≡ None → list_all (is_done done) is ≡ true
   none_left [] h = refl
-  none_left (i ∷ is) h = by (is_done done i) h (none_left is)
-    where
-      by :
-          (b : Bool) → cond (not b) (Some i) (first_left done is) ≡ None →
-          (first_left done is ≡ None → list_all (is_done done) is ≡ true) →
-          (b && list_all (is_done done) is) ≡ true
-      by true h again = again h
-      by false h again = absurd (cc)
+  none_left (i ∷ is) h = grind (arith, none_left is, h)
 
   -- an element that `first_left` finds is one of the list, and not done
   pub some_left :
       (is : List ℕ) (a : ℕ) → first_left done is ≡ Some a →
       In a is × (is_done done a ≡ false)
   some_left [] a h = absurd (cc)
-  some_left (i ∷ is) a h = by (is_done done i) refl h (some_left is a)
-    where
-      by :
-          (b : Bool) → is_done done i ≡ b →
-          cond (not b) (Some i) (first_left done is) ≡ Some a →
-          (first_left done is ≡ Some a → In a is × (is_done done a ≡ false)) →
-          In a (i ∷ is) × (is_done done a ≡ false)
-      by true e h again = let r = again h in (inr r.0, r.1)
-      by false e h again =
-          let same : i ≡ a = same_Some i a h in (inl same, ap (is_done done) (sym same) ∙ e)
+  some_left (i ∷ is) a h =
+      ⊎_elim
+      (λ (e : is_done done i ≡ true). let r = some_left is a (rw e at h) in (inr r.0, r.1))
+      (λ (e : is_done done i ≡ false).
+      let same : i ≡ a = same_Some i a (rw e at h) in
+      (inl same, ap (is_done done) (sym same) ∙ e))
+      (cases_Bool (is_done done i))
 
 -- if `first_left` finds no element in `is ++ js`, it finds none in `js`
 pub none_behind :
     (done : List Bool) (is js : List ℕ) → first_left done (is ++ js) ≡ None →
     first_left done js ≡ None
 none_behind done [] js h = h
-none_behind done (i ∷ is) js h = by (is_done done i) h (none_behind done is js)
-  where
-    by :
-        (b : Bool) → cond (not b) (Some i) (first_left done (is ++ js)) ≡ None →
-        (first_left done (is ++ js) ≡ None → first_left done js ≡ None) →
-        first_left done js ≡ None
-    by true h again = again h
-    by false h again = absurd (cc)
+none_behind done (i ∷ is) js h = grind (arith, none_behind done is js, h)
 
 -- if `first_left` finds no element, it finds none when one more element is done
 pub none_still :
@@ -214,16 +197,7 @@ pub none_still :
     first_left (set done e true) is ≡ None
 none_still done e lt [] h = refl
 none_still done e lt (i ∷ is) h =
-    by (is_done done i) refl h (none_still done e lt is)
-  where
-    by :
-        (b : Bool) → is_done done i ≡ b → cond (not b) (Some i) (first_left done is) ≡ None →
-        (first_left done is ≡ None → first_left (set done e true) is ≡ None) →
-        first_left (set done e true) (i ∷ is) ≡ None
-    by true e' h again =
-        ap (λ b. cond (not b) (Some i) (first_left (set done e true) is))
-        (done_stays done e i lt e') ∙ again h
-    by false e' h again = absurd (cc)
+    grind (arith, done_stays done e i lt, none_still done e lt is, h)
 
 -- if `o` is `None`, so is its number `p`
 pub found_none :
@@ -270,12 +244,6 @@ module _ (done : List Bool) (clocks : List Clock) (clock rest : Option ClockId) 
   none_within (suc n) (suc m) (Some id) le h =
       at (slice_get clocks id.0) h (λ t. none_within n m t.parent (omega (arith, le)))
     where
-      by :
-          (b : Bool) (i : ℕ) (o p : Option ℕ) → cond (not b) (Some i) o ≡ None →
-          (o ≡ None → p ≡ None) → cond (not b) (Some i) p ≡ None
-      by true i o p h less = less h
-      by false i o p h less = absurd (cc)
-
       at :
           (o : Option Clock) →
           first_left done (clock_reads (clock_from (clock_within m clocks) o)) ≡ None →
@@ -283,9 +251,7 @@ module _ (done : List Bool) (clocks : List Clock) (clock rest : Option ClockId) 
           clock_awaited done clocks n t.parent ≡ None) →
           first_left done (clock_reads (clock_from (clock_within n clocks) o)) ≡ None
       at None h less = refl
-      at (Some t) h less =
-          by (is_done done t.element.0) t.element.0 (clock_awaited done clocks m t.parent)
-          (clock_awaited done clocks n t.parent) h (less t)
+      at (Some t) h less = grind (arith, h, less t)
 
   pub ends_past : length clocks ≤ depth → depth ≤ length clocks →
       None ≡ clock_awaited done clocks (length clocks) clock
@@ -388,13 +354,12 @@ module _ {A B : Type 0} (f : A → B) where
     pub is_in : In source xs
     pub is : f source ≡ b
 
-  later : (b : B) (x : A) (xs : List A) → IsFrom b xs → IsFrom b (x ∷ xs)
-  later b x xs s = record { source = s.source; is_in = inr s.is_in; is = s.is }
-
   pub from_map : (b : B) (xs : List A) → In b (map f xs) → IsFrom b xs
   from_map b [] h = absurd h
   from_map b (x ∷ xs) (inl e) = record { source = x; is_in = inl refl; is = e }
-  from_map b (x ∷ xs) (inr h) = later b x xs (from_map b xs h)
+  from_map b (x ∷ xs) (inr h) =
+      let s = from_map b xs h in
+      record { source = s.source; is_in = inr s.is_in; is = s.is }
 
 -- ## Scheduling
 

@@ -8,6 +8,7 @@ use Words.{Option, Some, None, List, [], ◌∷◌, ◌++◌, length, drop, get_
 use Words.{◌∙◌, arith, ⊎_elim, length-append, length-set, ◌⊎◌, inl, inr, ◌≢◌, true, false}
 use Words.{if◌then◌else◌, Element, Needs}
 use Rattle.{std.proofs.{Common.eqb, lemmas.Bool.Decides.eqb_tells}, lb_check.specs.Needs.Reaches}
+use Rattle.std.proofs.lemmas.List.{get_or_default, get_or_push, get_or_append_left}
 use Rattle.lb_check.specs.Needs.{at_once, through, IsCyclic, IsCausal}
 use Rattle.{lb_check.proofs.programs.AcceptedElements.number_is, lb_flat.specs.Reading.AreLinked}
 use Rattle.lb_flat.proofs.lists.Lists.{Every-append, Every-drop, Every-map}
@@ -96,16 +97,6 @@ unnoted_less (None ∷ places) (suc i) k lt e =
     ap suc (unnoted_less places i k (omega arith) e)
 unnoted_less (Some l ∷ places) (suc i) k lt e = unnoted_less places i k (omega arith) e
 
-at_last : (is : List ℕ) (i : ℕ) → get_or (is ++ i ∷ []) (length is) 0 ≡ i
-at_last [] i = refl
-at_last (j ∷ is) i = at_last is i
-
-at_earlier :
-    (is : List ℕ) (i k : ℕ) → k < length is → get_or (is ++ i ∷ []) k 0 ≡ get_or is k 0
-at_earlier [] i k lt = absurd (omega arith)
-at_earlier (j ∷ is) i zero lt = refl
-at_earlier (j ∷ is) i (suc k) lt = at_earlier is i k (omega arith)
-
 -- a path with one more number at its end, whose place is noted
 pub noted_more :
     (places : List (Option ℕ)) (is : List ℕ) (i : ℕ) → i < length places → AreNoted places is →
@@ -118,21 +109,15 @@ noted_more places is i lt noted j k h =
     ∙ ap (λ m. get_or (set places i (Some (length is))) m None) (sym same) ∙ h in
     let last : length is ≡ k = same_Some (length is) k here in (
       omega (arith, last, length-append is (i ∷ [])),
-      ap (λ m. get_or (is ++ i ∷ []) m 0) (sym last) ∙ at_last is i ∙ sym same,
+      get_or_push is i 0 k last ∙ sym same,
     ))
     (λ (other : j ≡ i → ⊥).
     let old = noted j k
     (sym (get_or-set_other places i j (Some (length is)) None other) ∙ h) in (
       omega (arith, old.0, length-append is (i ∷ [])),
-      at_earlier is i k old.0 ∙ old.1,
+      get_or_append_left is (i ∷ []) 0 k old.0 ∙ old.1,
     ))
     (cases_eq j i)
-
-any_default :
-    (xs : List (Option ℕ)) (i : ℕ) (d e : Option ℕ) → i < length xs → get_or xs i d ≡ get_or xs i e
-any_default [] i d e lt = absurd (omega arith)
-any_default (x ∷ xs) zero d e lt = refl
-any_default (x ∷ xs) (suc i) d e lt = any_default xs i d e (omega arith)
 
 no_place : (o : Option ℕ) → ((k : ℕ) → o ≡ Some k → ⊥) → o ≡ None
 no_place None f = refl
@@ -179,7 +164,7 @@ module _ (f : FlatProgram) where
     found_at found same =
         let lt = w.is_variable in
         let many = w.as_many in
-        any_default places at None found (omega arith) ∙ sym same
+        get_or_default places at None found (omega arith) ∙ sym same
 
     pub way_noted :
         (found : Option ℕ) → found ≡ get_or places at found → (k : ℕ) → found ≡ Some k →
@@ -343,32 +328,26 @@ record ReachesAt (P : Program) (i j : ℕ) : Type 0 where
   is_other : slice_get (program_elements P) j ≡ Some other
   reaches : Reaches P other one
 
-reach_once : (P : Program) (i j : ℕ) → NeedsAt P i j → ReachesAt P i j
-reach_once P i j h = record {
+linked_reach :
+    (P : Program) (first i : ℕ) (is : List ℕ) → AreLinked (NeedsAt P) first (i ∷ is) →
+    ReachesAt P i first
+linked_reach P first i [] h = record {
   one = h.one;
   other = h.other;
   is_one = h.is_one;
   is_other = h.is_other;
   reaches = at_once h.one h.needs;
 }
-
-reach_through : (P : Program) (i j k : ℕ) → NeedsAt P i j → ReachesAt P j k → ReachesAt P i k
-reach_through P i j k h g =
-    let same : g.one ≡ h.other = same_Some g.one h.other (sym g.is_one ∙ h.is_other) in
-    record {
-      one = h.one;
-      other = g.other;
-      is_one = h.is_one;
-      is_other = g.is_other;
-      reaches = through h.one h.other h.needs (subst (Reaches P g.other) same g.reaches);
-    }
-
-linked_reach :
-    (P : Program) (first i : ℕ) (is : List ℕ) → AreLinked (NeedsAt P) first (i ∷ is) →
-    ReachesAt P i first
-linked_reach P first i [] h = reach_once P i first h
 linked_reach P first i (j ∷ is) h =
-    reach_through P i j first h.0 (linked_reach P first j is h.1)
+    let g = linked_reach P first j is h.1 in
+    let same : g.one ≡ h.0.other = same_Some g.one h.0.other (sym g.is_one ∙ h.0.is_other) in
+    record {
+      one = h.0.one;
+      other = g.other;
+      is_one = h.0.is_one;
+      is_other = g.is_other;
+      reaches = through h.0.one h.0.other h.0.needs (subst (Reaches P g.other) same g.reaches);
+    }
 
 -- if there is a certificate, some element reaches itself
 pub cyclic_of : (P : Program) (is : List ℕ) → IsCertificate P is → IsCyclic P

@@ -1,9 +1,9 @@
 -- Tables of equations that grow, and the element that is next.
 use Rattle.lb_flat.proofs.Words
-use Words.{◌≡◌, ℕ, zero, suc, ◌<◌, ◌≤◌, Bool, false, Option, Some, None, List, length, get_or, All}
-use Words.{refl, sym, subst, ◌∙◌, arith, slice_get-get_or, same_Some, slice_get, Every, In, ClockId}
+use Words.{◌≡◌, ℕ, zero, suc, ◌<◌, ◌≤◌, Bool, true, false, Option, Some, None, List, length, get_or, All}
+use Words.{refl, sym, subst, ◌∙◌, arith, slice_get-get_or, Every, In, ClockId}
 use Words.{ElementId, FlatEquation, is_done, IsLeft, IsStuckAt, awaited, numbers_of, program_of}
-use Words.{Leads, reads_it, clock_reads, reads, equation_reads, clock_from, clock_within}
+use Words.{Leads, reads_it, clock_reads, reads, equation_reads, clock_within}
 use Words.{equation_of, operation_of, AreClocks, IsClock, IsWithin, ◌+◌, [], ◌∷◌, ◌++◌, map}
 use Words.{replicate, set, take, ap, inl, inr, ⊎_elim, length-set, cases_eq, get_or-set_same}
 use Words.{get_or-set_other, take_more, AreApart, in_first, IsGiven, AreOrdered, AreScheduled}
@@ -27,27 +27,10 @@ module _ (size : ℕ) (clocks : List Clock) (table : AreClocks size clocks) wher
   clock_below (suc n) None is = tt
   clock_below zero (Some id) is = tt
   clock_below (suc n) (Some id) is =
-      by (slice_get clocks id.0) is_tick (clock_below n)
-    where
-      is_tick :
-          (t : Clock) → slice_get clocks id.0 ≡ Some t →
-          (t.element.0 < size) × IsClock clocks t.parent
-      is_tick t e =
-          let lt : id.0 < length clocks = is id refl in
-          let same : get_or clocks id.0 t ≡ t =
-          same_Some (get_or clocks id.0 t) t (sym (slice_get-get_or clocks id.0 t lt) ∙ e) in
-          let w = table id.0 t lt in
-          subst (λ (u : Clock). (u.element.0 < size) × IsClock clocks u.parent) same
-          (w.element, w.parent)
-
-      by :
-          (o : Option Clock) →
-          ((t : Clock) → o ≡ Some t → (t.element.0 < size) × IsClock clocks t.parent) →
-          ((k : Option ClockId) → IsClock clocks k →
-          Every (λ i. i < size) (clock_reads (clock_within n clocks k))) →
-          Every (λ i. i < size) (clock_reads (clock_from (clock_within n clocks) o))
-      by None f above = tt
-      by (Some t) f above = let w = f t refl in (w.0, above t.parent w.1)
+      let d : Clock = record { element = record { 0 = 0 }; sign = true; parent = None } in
+      let lt : id.0 < length clocks = is id refl in
+      let w = table id.0 d lt in
+      rw (slice_get-get_or clocks id.0 d lt) (w.element, clock_below n _ w.parent)
 
   reads_below :
       (q : Equation) → IsWithin size clocks q →
@@ -147,16 +130,8 @@ new_element (q ∷ qs) (suc i) d p h lt (inr is) same =
 -- ## Tables
 
 none_in : (n e : ℕ) → get_or (replicate {A = Option Equation} n None) e None ≡ None
-none_in zero e = refl
-none_in (suc n) zero = refl
 none_in (suc n) (suc e) = none_in n e
-
--- a place of the table that is `None` has no entry
-not_none : (o : Option Equation) (q : Equation) → o ≡ None → o ≡ Some q → ⊥
-not_none o q h k = cc
-
-same_entry : (o : Option Equation) (p q : Equation) → o ≡ Some p → o ≡ Some q → p ≡ q
-same_entry o p q h k = cc
+none_in _ _ = refl
 
 pub empty_table :
     (table : List (Option Equation)) → table ≡ replicate (length table) None →
@@ -165,8 +140,8 @@ empty_table table empty =
     let none = λ (e : ℕ). ap (λ t. get_or t e None) empty ∙ none_in (length table) e in
     record {
       entries = refl;
-      listed = λ e q h. absurd (not_none (get_or table e None) q (none e) h);
-      own = λ e q h. absurd (not_none (get_or table e None) q (none e) h);
+      listed = λ e q h. absurd (cc (none e));
+      own = λ e q h. absurd (cc (none e));
       each = λ q i. absurd i;
     }
 
@@ -185,7 +160,7 @@ module _ (size : ℕ) (qs : List Equation) (table : List (Option Equation)) (q :
   elsewhere e other = get_or-set_other table q.element.0 e (Some q) None other
 
   at : (e : ℕ) (p : Equation) → e ≡ q.element.0 → get_or more e None ≡ Some p → q ≡ p
-  at e p same h = same_entry _ q p (ap (λ i. get_or more i None) same ∙ here) h
+  at e p same h = cc here
 
   new_entry : IsTableOf size (qs ++ q ∷ []) more
   new_entry = record {

@@ -8,8 +8,8 @@ use Words.{map, ap₂, Where, FlatClock, Always, Operation, Input, Constant, Fir
 use Words.{Latest, remembered, advanced, row_of, drop, All, add-one, drop-cons, length-map, Verdict}
 use Words.{Passed, Inputs, or_later, InputPlace, place_equation, run, FlatProgram, row_judged}
 use Words.{rows_judged, flat_verdict, cell_of, equation_of, IsWithin, zero, ◌+◌, ◌<◌, ◌++◌, get_or}
-use Words.{append_assoc, is_input, is_fixed, is_step, has_memory, fixed_in, steps_in, on_base}
-use Words.{inputs_in, memory_places, AreFixed, Cell, Clock}
+use Words.{append_assoc, is_input, is_fixed, is_step, has_memory, fixed_in, steps_in}
+use Words.{inputs_in, memory_places, AreFixed, Cell, Clock, length-append}
 use Rattle.{std.proofs.lemmas.List.set-get_or, lb_flat.specs.Prepared.HoldsFixed}
 use Rattle.lb_flat.{specs.declared.equation.Equation.Equation, proofs.lists.Lists.Every-map}
 use Rattle.lb_flat.proofs.{lists.Lists.Every-both, runs.Running.{HoldsNow, filled_is}}
@@ -39,15 +39,9 @@ module _ (given : List Scalar) (size : ℕ) (p : FlatEquation → Bool) where
   abbrev some_filled : Row → List FlatEquation → Row
   some_filled row Q = filled given row (filter p Q)
 
-  fill_yes :
-      (row : Row) (q : FlatEquation) (Q : List FlatEquation) → p q ≡ true →
-      some_filled row (q ∷ Q) ≡ some_filled (after row q) Q
-  fill_yes row q Q e = ap (λ b. filled given row (cond b (q ∷ filter p Q) (filter p Q))) e
-
-  fill_no :
-      (row : Row) (q : FlatEquation) (Q : List FlatEquation) → p q ≡ false →
-      some_filled row (q ∷ Q) ≡ some_filled row Q
-  fill_no row q Q e = ap (λ b. filled given row (cond b (q ∷ filter p Q) (filter p Q))) e
+  -- the row that is filled where `b` says whether the first equation is selected
+  abbrev filled_by : Bool → Row → FlatEquation → List FlatEquation → Row
+  filled_by b row q Q = filled given row (cond b (q ∷ filter p Q) (filter p Q))
 
   kept_beside :
       (row : Row) (q r : FlatEquation) → r.element ≢ q.element →
@@ -59,10 +53,10 @@ module _ (given : List Scalar) (size : ℕ) (p : FlatEquation → Bool) where
       (i : ℕ) → In i done → cell (some_filled row Q) i ≡ cell row i
   some_keep done [] row ready i is = refl
   some_keep done (q ∷ Q) row ready i is =
-      by_test _ (λ e. ap (λ r. cell r i) (fill_yes row q Q e) ∙ some_keep (q.element ∷ done) Q
-      (after row q) ready.1 i (inr is) ∙ get_or-set_other row q.element i _ None
-      (λ same. ready.0.is_new (rw (← same) is))) (λ e. ap (λ r. cell r i) (fill_no row q Q e)
-      ∙ some_keep (q.element ∷ done) Q row ready.1 i (inr is))
+      by_test (p q)
+      (λ e. rw e (some_keep (q.element ∷ done) Q (after row q) ready.1 i (inr is)
+      ∙ get_or-set_other row q.element i _ None (λ same. ready.0.is_new (rw (← same) is))))
+      (λ e. rw e (some_keep (q.element ∷ done) Q row ready.1 i (inr is)))
 
   -- an element of an equation that is not selected keeps its cell
   abbrev IsKept : Row → Row → FlatEquation → Type 0
@@ -72,19 +66,19 @@ module _ (given : List Scalar) (size : ℕ) (p : FlatEquation → Bool) where
       (done : List ℕ) (Q : List FlatEquation) (row : Row) → Ready size done Q →
       Every (IsKept (some_filled row Q) row) Q
   others_kept done [] row ready = tt
-  others_kept done (q ∷ Q) row ready = by_test _ (λ e. (
-    (λ no. absurd (contrary (p q) e no)),
-    Every-map _ (IsKept (some_filled row (q ∷ Q)) row) (λ r h no. ap (λ s. cell s r.element)
-        (fill_yes row q Q e) ∙ h.0 no ∙ kept_beside row q r h.1) Q (Every-both
-        (IsKept (some_filled (after row q) Q) (after row q)) (λ r. r.element ≢ q.element) Q
-        (others_kept (q.element ∷ done) Q (after row q) ready.1)
-        (later_new size _ Q ready.1 _ (inl refl))),
-  ))
+  others_kept done (q ∷ Q) row ready =
+      by_test (p q)
       (λ e. (
-        (λ no. ap (λ s. cell s q.element) (fill_no row q Q e) ∙ some_keep _ Q row ready.1 _
-            (inl refl)),
-        Every-map (IsKept (some_filled row Q) row) (IsKept (some_filled row (q ∷ Q)) row)
-            (λ r h no. ap (λ s. cell s r.element) (fill_no row q Q e) ∙ h no) Q
+        (λ no. absurd (contrary (p q) e no)),
+        subst (λ b. Every (IsKept (filled_by b row q Q) row) Q) (sym e) (Every-map _
+            (IsKept (some_filled (after row q) Q) row) (λ r h no. h.0 no ∙ kept_beside row q r h.1)
+            Q (Every-both (IsKept (some_filled (after row q) Q) (after row q))
+            (λ r. r.element ≢ q.element) Q (others_kept (q.element ∷ done) Q (after row q) ready.1)
+            (later_new size _ Q ready.1 _ (inl refl)))),
+      ))
+      (λ e. (
+        (λ no. rw e (some_keep _ Q row ready.1 _ (inl refl))),
+        subst (λ b. Every (IsKept (filled_by b row q Q) row) Q) (sym e)
             (others_kept (q.element ∷ done) Q row ready.1),
       ))
 
@@ -101,19 +95,16 @@ module _ (given : List Scalar) (size : ℕ) (p : FlatEquation → Bool) where
     some_hold done (q ∷ Q) row ready le =
         by_test (p q)
         (λ e. (
-          (λ yes. ap (λ s. cell s q.element) (fill_yes row q Q e)
-              ∙ some_keep (q.element ∷ done) Q (after row q) ready.1 q.element (inl refl)
+          (λ yes. rw e (some_keep (q.element ∷ done) Q (after row q) ready.1 _ (inl refl)
               ∙ get_or-set_same row q.element _ None (omega (arith, ready.0.is_element))
-              ∙ stable q e row (some_filled row (q ∷ Q))),
-          Every-map (IsFilled (some_filled (after row q) Q)) (IsFilled (some_filled row (q ∷ Q)))
-              (λ r h yes. subst (λ s. HoldsNow given s r) (sym (fill_yes row q Q e)) (h yes)) Q
+              ∙ stable q e row (some_filled (after row q) Q))),
+          subst (λ b. Every (IsFilled (filled_by b row q Q)) Q) (sym e)
               (some_hold (q.element ∷ done) Q (after row q) ready.1
               (omega (arith, length-set row q.element (now given row q.clock q.operation)))),
         ))
         (λ e. (
           (λ yes. absurd (contrary (p q) yes e)),
-          Every-map (IsFilled (some_filled row Q)) (IsFilled (some_filled row (q ∷ Q)))
-              (λ r h yes. subst (λ s. HoldsNow given s r) (sym (fill_no row q Q e)) (h yes)) Q
+          subst (λ b. Every (IsFilled (filled_by b row q Q)) Q) (sym e)
               (some_hold (q.element ∷ done) Q row ready.1 le),
         ))
 
@@ -129,12 +120,14 @@ module _ (given : List Scalar) (size : ℕ) (p : FlatEquation → Bool) where
       Every (IsKnown row) Q → some_filled row Q ≡ filled given row Q
   some_fill_all stable done [] row ready known = refl
   some_fill_all stable done (q ∷ Q) row ready known =
-      by_test _ (λ e. fill_yes row q Q e ∙ some_fill_all stable (q.element ∷ done) Q (after row q)
-      ready.1 (Every-map _ (IsKnown (after row q)) (λ r h no. kept_beside row q r h.1 ∙ h.0 no
+      by_test (p q)
+      (λ e. rw e (some_fill_all stable (q.element ∷ done) Q (after row q) ready.1 (Every-map _
+      (IsKnown (after row q)) (λ r h no. kept_beside row q r h.1 ∙ h.0 no
       ∙ stable r no row (after row q)) Q (Every-both (IsKnown row) (λ r. r.element ≢ q.element) Q
-      known.1 (later_new size _ Q ready.1 _ (inl refl))))) (λ e. fill_no row q Q e ∙ some_fill_all
-      stable (q.element ∷ done) Q row ready.1 known.1 ∙ ap (λ r. filled given r Q) (sym (ap
-      (set row q.element) (sym (known.0 e)) ∙ set-get_or row q.element None)))
+      known.1 (later_new size _ Q ready.1 _ (inl refl))))))
+      (λ e. rw e (some_fill_all stable (q.element ∷ done) Q row ready.1 known.1
+      ∙ ap (λ r. filled given r Q) (sym (ap (set row q.element) (sym (known.0 e))
+      ∙ set-get_or row q.element None))))
 
 -- A row whose constants are set and whose inputs were read is filled by the steps alone.
 
@@ -166,7 +159,7 @@ module _ (given : List Scalar) where
       now given r k o ≡ now given s l o
   input_now k o e r s l =
       let h = input_is o e in
-      subst (λ x. now given r k x ≡ now given s l x) (sym h.is) refl
+      rw h.is refl
 
   fixed_now :
       (k : FlatClock) (o : Operation) → is_fixed k o ≡ true → (r s : Row) (X : List Scalar) →
@@ -217,18 +210,10 @@ module _ (given : List Scalar) where
   inputs_fill [] row = refl
   inputs_fill (q ∷ Q) row =
       by_test (reads_input q)
-      (λ e. ap (λ b. filled given row
-      (map on_base (cond b (q ∷ filter reads_input Q) (filter reads_input Q)))) e
-      ∙ inputs_fill Q (set row q.element (now given row Always q.operation))
+      (λ e. rw e (inputs_fill Q (set row q.element (now given row Always q.operation))
       ∙ ap (λ v. filled given (set row q.element v) (filter reads_input Q))
-      (input_now given Always q.operation e row row q.clock)
-      ∙ ap (λ b. filled given row (cond b (q ∷ filter reads_input Q) (filter reads_input Q)))
-      (sym e))
-      (λ e. ap (λ b. filled given row
-      (map on_base (cond b (q ∷ filter reads_input Q) (filter reads_input Q)))) e
-      ∙ inputs_fill Q row
-      ∙ ap (λ b. filled given row (cond b (q ∷ filter reads_input Q) (filter reads_input Q)))
-      (sym e))
+      (input_now given Always q.operation e row row q.clock)))
+      (λ e. rw e (inputs_fill Q row))
 
   -- the steps read no input
   steps_alone :
@@ -237,14 +222,10 @@ module _ (given : List Scalar) where
   steps_alone [] row = refl
   steps_alone (q ∷ Q) row =
       by_test (is_step q)
-      (λ e. ap (λ b. filled [] row (cond b (q ∷ steps_in Q) (steps_in Q))) e
-      ∙ steps_alone Q (set row q.element (now [] row q.clock q.operation))
+      (λ e. rw e (steps_alone Q (set row q.element (now [] row q.clock q.operation))
       ∙ ap (λ v. filled given (set row q.element v) (steps_in Q))
-      (sym (no_input_now given row q.clock q.operation (no_input _ _ e)))
-      ∙ ap (λ b. filled given row (cond b (q ∷ steps_in Q) (steps_in Q))) (sym e))
-      (λ e. ap (λ b. filled [] row (cond b (q ∷ steps_in Q) (steps_in Q))) e
-      ∙ steps_alone Q row
-      ∙ ap (λ b. filled given row (cond b (q ∷ steps_in Q) (steps_in Q))) (sym e))
+      (sym (no_input_now given row q.clock q.operation (no_input _ _ e)))))
+      (λ e. rw e (steps_alone Q row))
 
   module _ (size : ℕ) (Q : List FlatEquation) (row : Row) (ready : Ready size [] Q)
       (long : length row ≡ size) (fixed : AreFixed row Q) where
@@ -329,23 +310,11 @@ module _ (row : Row) where
       (Q : List FlatEquation) → inputs_in (map (advanced row) Q) ≡ inputs_in Q
   inputs_advanced [] = refl
   inputs_advanced (q ∷ Q) =
-      ap (λ b. map on_base (cond b
-      (advanced row q ∷ filter (λ r. is_input r.operation) (map (advanced row) Q))
-      (filter (λ r. is_input r.operation) (map (advanced row) Q)))) (input_same q.operation)
-      ∙ by_test (is_input q.operation)
-      (λ e. ap (λ b. map on_base (cond b
-      (advanced row q ∷ filter (λ r. is_input r.operation) (map (advanced row) Q))
-      (filter (λ r. is_input r.operation) (map (advanced row) Q)))) e
-      ∙ ap₂ (λ o qs. record { element = q.element; clock = Always; operation = o } ∷ qs)
-      (input_stays q.operation e) (inputs_advanced Q)
-      ∙ ap (λ b. map on_base (cond b (q ∷ filter (λ r. is_input r.operation) Q)
-      (filter (λ r. is_input r.operation) Q))) (sym e))
-      (λ e. ap (λ b. map on_base (cond b
-      (advanced row q ∷ filter (λ r. is_input r.operation) (map (advanced row) Q))
-      (filter (λ r. is_input r.operation) (map (advanced row) Q)))) e
-      ∙ inputs_advanced Q
-      ∙ ap (λ b. map on_base (cond b (q ∷ filter (λ r. is_input r.operation) Q)
-      (filter (λ r. is_input r.operation) Q))) (sym e))
+      by_test (is_input q.operation)
+      (λ e. rw (input_same q.operation, e)
+      (ap₂ (λ o qs. record { element = q.element; clock = Always; operation = o } ∷ qs)
+      (input_stays q.operation e) (inputs_advanced Q)))
+      (λ e. rw (input_same q.operation, e) (inputs_advanced Q))
 
   pub places_advanced :
       (n : ℕ) (Q : List FlatEquation) →
@@ -401,11 +370,6 @@ module _ (row : Row) where
   moved_next [] q Q = refl
   moved_next (p ∷ P) q Q = ap (λ qs. p ∷ qs) (moved_next P q Q)
 
-  length-next :
-      (P : List FlatEquation) (q : FlatEquation) → length (P ++ q ∷ []) ≡ suc (length P)
-  length-next [] q = refl
-  length-next (p ∷ P) q = ap suc (length-next P q)
-
   -- moving on the memories of `Q`, where the equations `P` stand before it
   rest_moved :
       (P Q : List FlatEquation) (n : ℕ) → n ≡ length P →
@@ -413,22 +377,16 @@ module _ (row : Row) where
   rest_moved P [] n e = refl
   rest_moved P (q ∷ Q) n e =
       by_test (has_memory q.operation)
-      (λ yes.
-      ap (λ b. all_moved (cond b (n ∷ memory_places (suc n) Q) (memory_places (suc n) Q))
-      (P ++ q ∷ Q)) yes
-      ∙ ap (λ k. all_moved (memory_places (suc n) Q) (moved k (P ++ q ∷ Q))) e
+      (λ yes. rw yes (ap (λ k. all_moved (memory_places (suc n) Q) (moved k (P ++ q ∷ Q))) e
       ∙ ap (all_moved (memory_places (suc n) Q))
       (moved_next P q Q ∙ sym (append_assoc P (advanced row q ∷ []) Q))
-      ∙ rest_moved (P ++ advanced row q ∷ []) Q (suc n) (ap suc e ∙ sym (length-next P _))
-      ∙ append_assoc P (advanced row q ∷ []) (map (advanced row) Q))
-      (λ no.
-      ap (λ b. all_moved (cond b (n ∷ memory_places (suc n) Q) (memory_places (suc n) Q))
-      (P ++ q ∷ Q)) no
-      ∙ ap (all_moved (memory_places (suc n) Q)) (sym (append_assoc P (q ∷ []) Q))
-      ∙ rest_moved (P ++ q ∷ []) Q (suc n) (ap suc e ∙ sym (length-next P q))
-      ∙ append_assoc P (q ∷ []) (map (advanced row) Q)
-      ∙ ap (λ o. P ++ record { element = q.element; clock = q.clock; operation = o }
-      ∷ map (advanced row) Q) (sym (no_memory row q.operation no)))
+      ∙ rest_moved (P ++ advanced row q ∷ []) Q (suc n)
+      (omega (arith, e, length-append P (advanced row q ∷ [])))
+      ∙ append_assoc P (advanced row q ∷ []) (map (advanced row) Q)))
+      (λ no. rw (no, no_memory row q.operation no) (ap (all_moved (memory_places (suc n) Q))
+      (sym (append_assoc P (q ∷ []) Q))
+      ∙ rest_moved (P ++ q ∷ []) Q (suc n) (omega (arith, e, length-append P (q ∷ [])))
+      ∙ append_assoc P (q ∷ []) (map (advanced row) Q)))
 
   -- moving on all equations is moving on the equations with a memory
   pub memories_moved :
@@ -444,12 +402,7 @@ places_within n (q ∷ Q) =
     let later =
     Every-map (λ k. k < suc n + length Q) (λ k. k < n + suc (length Q)) (λ k lt. omega arith)
     (memory_places (suc n) Q) (places_within (suc n) Q) in
-    by_test (has_memory q.operation)
-    (λ yes. subst (λ b. Every (λ k. k < n + suc (length Q))
-    (cond b (n ∷ memory_places (suc n) Q) (memory_places (suc n) Q))) (sym yes)
-    (omega arith, later))
-    (λ no. subst (λ b. Every (λ k. k < n + suc (length Q))
-    (cond b (n ∷ memory_places (suc n) Q) (memory_places (suc n) Q))) (sym no) later)
+    by_test (has_memory q.operation) (λ yes. rw yes (omega arith, later)) (λ no. rw no later)
 
 pub every_at :
     {A : Type 0} (P : A → Type 0) (xs : List A) (i : ℕ) (d : A) → Every P xs → i < length xs →

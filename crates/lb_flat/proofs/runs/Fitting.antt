@@ -19,7 +19,8 @@ use Rattle.lb_syntax.specs.declared.tree.BinaryOperator.TheVariants.{Greater, At
 use Rattle.lb_syntax.specs.declared.tree.Kind.TheVariants.{Bool as Truth}
 use Rattle.{lb_static.specs.Arithmetic.is_divisible, lb_check.specs.Scalars.{Cell, Nil, chosen}}
 use Rattle.lb_flat.{specs.Fitting.{integers_kind, truths_kind}, proofs.lists.Lists.Every-first}
-use Rattle.lb_flat.proofs.{lists.Lists.{column_long, instants_long}, runs.Running.HoldsNow}
+use Rattle.lb_flat.proofs.lists.Lists.{Every-map, Every-both, column_long, instants_long}
+use Rattle.lb_flat.proofs.runs.Running.{HoldsNow}
 use Rattle.lb_flat.proofs.runs.Running.{first_row, after_first, column_step, instants_step}
 use Rattle.lb_flat.proofs.runs.Running.{NowAndLater, now_and_later, Step, step_of, ready_advanced}
 pub use Rattle.lb_flat.specs.Fitting.{IsOf, binary_kind, unary_kind, OperandsFit, ClockFits}
@@ -136,35 +137,28 @@ pub binary_of :
     (op : BinaryOperator) (k l r : Kind) (v w : Scalar) → binary_kind op k l ≡ Some r →
     IsOf k v → IsOf l w → IsOf r (two_scalars op v w)
 binary_of op Int Int r (Integer a) (Integer b) e i j = of_integers op r a b e i j
-binary_of op Int Int r (Integer a) Nil e i j = nil_of r
-binary_of op Int Int r (Integer a) Bad e i j = bad_of r
-binary_of op Int Int r Nil w e i j = nil_and r w
-binary_of op Int Int r Bad w e i j = bad_of r
 binary_of op Truth Truth r (Boolean a) (Boolean b) e i j = of_truths op r a b e
-binary_of op Truth Truth r (Boolean a) Nil e i j = nil_of r
-binary_of op Truth Truth r (Boolean a) Bad e i j = bad_of r
-binary_of op Truth Truth r Nil w e i j = nil_and r w
-binary_of op Truth Truth r Bad w e i j = bad_of r
+binary_of op k l r Nil w e i j = nil_and r w
+binary_of op k l r Bad w e i j = bad_of r
+binary_of op k l r _ Nil e i j = nil_of r
+binary_of op k l r _ Bad e i j = bad_of r
 binary_of op _ _ r _ _ e i j = cc
 
 pub unary_of :
     (op : UnaryOperator) (k r : Kind) (v : Scalar) → unary_kind op k ≡ Some r → IsOf k v →
     IsOf r (one_scalar op v)
 unary_of Negate Int r (Integer a) e i = one_kind Int r _ e (lawful_int (neg_ℤ a) _ refl)
-unary_of Negate Int r Nil e i = nil_of r
-unary_of Negate Int r Bad e i = bad_of r
 unary_of Not Truth r (Boolean a) e i = one_kind Truth r _ e refl
-unary_of Not Truth r Nil e i = nil_of r
-unary_of Not Truth r Bad e i = bad_of r
+unary_of _ _ r Nil e i = nil_of r
+unary_of _ _ r Bad e i = bad_of r
 unary_of _ _ r _ e i = cc
 
 pub chosen_of :
     (k : Kind) (c v w : Scalar) → IsOf k v → IsOf k w → IsOf k (chosen c v w)
 chosen_of k (Boolean true) v w i j = i
 chosen_of k (Boolean false) v w i j = j
-chosen_of k (Integer z) v w i j = bad_of k
 chosen_of k Nil v w i j = nil_of k
-chosen_of k Bad v w i j = bad_of k
+chosen_of k _ v w i j = bad_of k
 
 -- In a row of a flat program whose clocks fit, an element is present exactly where its clock has an
 -- instant.
@@ -194,8 +188,27 @@ choice_present (Some c) (Some v) (Some w) b p q r = p
 
 pub kept_present : (b c : Bool) (x : Cell) → is_some x ≡ b → is_some (sample (b && c) x) ≡ (b && c)
 kept_present true true x e = e
-kept_present true false x e = refl
-kept_present false c x e = refl
+kept_present _ _ x e = refl
+
+-- what holds of an equation's element where it holds of all that the equation's operation reads,
+-- holds of each element of equations in order
+each_element :
+    (P : ℕ → Type 0) (R : FlatEquation → Type 0) (size : ℕ) →
+    ((q : FlatEquation) → R q → Every P (reads q.operation) → P q.element) →
+    (done : List ℕ) (Q : List FlatEquation) → ((i : ℕ) → In i done → P i) →
+    Ready size done Q → Every R Q → (i : ℕ) → i < size → P i
+each_element P R size next done [] f ready h i lt = f i (ready i lt)
+each_element P R size next done (q ∷ Q) f ready h i lt =
+    each_element P R size next (q.element ∷ done) Q wider ready.1 h.1 i lt
+  where
+    new : P q.element
+    new =
+        next q h.0 (Every-map (λ i. In i done) P f (reads q.operation) (Every-first
+        (λ i. In i done) (reads q.operation) (clock_reads q.clock) ready.0.reads_done))
+
+    wider : (i : ℕ) → In i (q.element ∷ done) → P i
+    wider i (inl e) = subst P e new
+    wider i (inr p) = f i p
 
 module _ (inputs : ℕ) (K : ℕ → FlatClock) (given : List Scalar) (row : Row)
     (all_given : (j : ℕ) → j < inputs → is_some (slice_get given j) ≡ true) where
@@ -224,36 +237,15 @@ module _ (inputs : ℕ) (K : ℕ → FlatClock) (given : List Scalar) (row : Row
       subst (λ c. is_some (sample (is_now row c) (cell row a)) ≡ is_now row c) (sym f.2)
       (kept_present (is_now row (K a)) (shows f.1 (cell row f.0)) (cell row a) h.0)
 
-  each_on :
-      (done is : List ℕ) → ((i : ℕ) → In i done → IsOnClock i) →
-      Every (λ i. In i done) is → Every IsOnClock is
-  each_on done [] f h = tt
-  each_on done (i ∷ is) f h = (f i h.0, each_on done is f h.1)
-
   -- where all equations hold of a row, each element of the row is on its clock
   pub row_on :
-      (size : ℕ) (done : List ℕ) (Q : List FlatEquation) →
-      ((i : ℕ) → In i done → IsOnClock i) → Ready size done Q →
-      Every (HoldsNow given row) Q → Every (ClockFits inputs K) Q → (i : ℕ) → i < size → IsOnClock i
-  row_on size done [] f ready h fits i lt = f i (ready i lt)
-  row_on size done (q ∷ Q) f ready h fits i lt =
-      row_on size (q.element ∷ done) Q wider ready.1 h.1 fits.1 i lt
-    where
-      reads_done : Every (λ i. In i done) (reads q.operation)
-      reads_done =
-          Every-first (λ i. In i done) (reads q.operation) (clock_reads q.clock)
-          ready.0.reads_done
-
-      new : IsOnClock q.element
-      new =
-          ap is_some h.0
-          ∙ now_on q.clock q.operation fits.0.operands
-          (each_on done (reads q.operation) f reads_done)
-          ∙ sym (ap (is_now row) fits.0.own)
-
-      wider : (i : ℕ) → In i (q.element ∷ done) → IsOnClock i
-      wider i (inl e) = subst IsOnClock e new
-      wider i (inr p) = f i p
+      (size : ℕ) (Q : List FlatEquation) → Ready size [] Q → Every (HoldsNow given row) Q →
+      Every (ClockFits inputs K) Q → (i : ℕ) → i < size → IsOnClock i
+  row_on size Q ready h fits i lt =
+      each_element IsOnClock (λ q. HoldsNow given row q × ClockFits inputs K q) size (λ q r read.
+      ap is_some r.0 ∙ now_on q.clock q.operation r.1.operands read
+      ∙ sym (ap (is_now row) r.1.own)) [] Q (λ j p. absurd p) ready
+      (Every-both (HoldsNow given row) (ClockFits inputs K) Q h fits) i lt
 
 -- In a solution of a flat program whose clocks and kinds fit, each element is present exactly at
 -- the instants of its clock, with scalars of its kind.
@@ -285,9 +277,8 @@ pub two_of :
     (k l r : Kind) (f : Scalar → Scalar → Scalar) (x y : Cell) →
     ((v w : Scalar) → IsOf k v → IsOf l w → IsOf r (f v w)) → CellOf k x → CellOf l y →
     CellOf r (two_cells f x y)
-two_of k l r f None y e h g = tt
-two_of k l r f (Some v) None e h g = tt
 two_of k l r f (Some v) (Some w) e h g = e v w h g
+two_of k l r f _ _ e h g = tt
 
 pub chosen_cell_of :
     (kind : Kind) (c x y : Cell) → CellOf kind x → CellOf kind y →
@@ -300,8 +291,7 @@ chosen_cell_of kind _ _ _ h g = tt
 given_of : (kind : Kind) (v : Scalar) → is_given kind v ≡ true → IsOf kind v
 given_of kind (Integer z) e = e
 given_of kind (Boolean b) e = e
-given_of kind Nil e = cc
-given_of kind Bad e = cc
+given_of kind _ e = cc
 
 pub all_given :
     (kinds : List Kind) (given : List Scalar) → is_row kinds given ≡ true → (j : ℕ) →
@@ -351,35 +341,15 @@ module _ (inputs : List Kind) (N : ℕ → Kind) (given : List Scalar) (row : Ro
   now_kind k kind (Latest v a) f h = held_of kind _ _ (newest_of kind v _ f.0 (of kind a f.1 h.0))
   now_kind k kind (Sample a) f h = kept_of kind _ _ (of kind a f h.0)
 
-  each_kind :
-      (done is : List ℕ) → ((i : ℕ) → In i done → IsOfKind i) →
-      Every (λ i. In i done) is → Every IsOfKind is
-  each_kind done [] f h = tt
-  each_kind done (i ∷ is) f h = (f i h.0, each_kind done is f h.1)
-
   -- where all equations hold of a row, each element of the row is of its kind
   row_kinds :
-      (size : ℕ) (done : List ℕ) (Q : List FlatEquation) →
-      ((i : ℕ) → In i done → IsOfKind i) → Ready size done Q → Every (HoldsNow given row) Q →
+      (size : ℕ) (Q : List FlatEquation) → Ready size [] Q → Every (HoldsNow given row) Q →
       Every (KindFits inputs N) Q → (i : ℕ) → i < size → IsOfKind i
-  row_kinds size done [] f ready h fit i lt = f i (ready i lt)
-  row_kinds size done (q ∷ Q) f ready h fit i lt =
-      row_kinds size (q.element ∷ done) Q wider ready.1 h.1 fit.1 i lt
-    where
-      reads_done : Every (λ i. In i done) (reads q.operation)
-      reads_done =
-          Every-first (λ i. In i done) (reads q.operation) (clock_reads q.clock)
-          ready.0.reads_done
-
-      new : IsOfKind q.element
-      new =
-          subst (CellOf (N q.element)) (sym h.0)
-          (now_kind q.clock (N q.element) q.operation fit.0
-          (each_kind done (reads q.operation) f reads_done))
-
-      wider : (i : ℕ) → In i (q.element ∷ done) → IsOfKind i
-      wider i (inl e) = subst IsOfKind e new
-      wider i (inr p) = f i p
+  row_kinds size Q ready h fit i lt =
+      each_element IsOfKind (λ q. HoldsNow given row q × KindFits inputs N q) size (λ q r read.
+      subst (CellOf (N q.element)) (sym r.0) (now_kind q.clock (N q.element) q.operation r.1 read))
+      [] Q (λ j p. absurd p) ready
+      (Every-both (HoldsNow given row) (KindFits inputs N) Q h fit) i lt
 
   -- ## The memories after it
 
@@ -420,17 +390,15 @@ clocks_advanced inputs K row (q ∷ Q) fit = (
 fits_step :
     (kind : Kind) (b : Bool) (x : Cell) (bs : List Bool) (xs : Stream) → is_some x ≡ b →
     CellOf kind x → fits kind bs xs ≡ true → fits kind (b ∷ bs) (x ∷ xs) ≡ true
-fits_step kind true None bs xs p h e = cc
 fits_step kind false None bs xs p h e = e
-fits_step kind true (Some v) bs xs p h e = cc
-fits_step kind false (Some v) bs xs p h e = cc
+fits_step kind true None bs xs p h e = cc
+fits_step kind _ (Some v) bs xs p h e = cc
 
 pub fits_nothing :
     (kind : Kind) (bs : List Bool) (xs : Stream) → length bs ≡ 0 → length xs ≡ 0 →
     fits kind bs xs ≡ true
 fits_nothing kind [] [] p q = refl
-fits_nothing kind [] (x ∷ xs) p q = absurd (omega arith)
-fits_nothing kind (b ∷ bs) xs p q = absurd (omega arith)
+fits_nothing kind _ _ p q = absurd (omega arith)
 
 module _ (inputs : List Kind) (K : ℕ → FlatClock) (N : ℕ → Kind) (size : ℕ) where
   pub solution_fits :
@@ -455,8 +423,8 @@ module _ (inputs : List Kind) (K : ℕ → FlatClock) (N : ℕ → Kind) (size :
 
       present : (j : ℕ) → j < size → is_some (cell row j) ≡ is_now row (K j)
       present =
-          row_on (length inputs) K given row (all_given inputs given rows.0) size [] Q
-          (λ j p. absurd p) ready halves.holds_now fit.clocks
+          row_on (length inputs) K given row (all_given inputs given rows.0) size Q ready
+          halves.holds_now fit.clocks
 
       elements : length row ≡ size
       elements = length-map F first_cell ∙ s.elements
@@ -465,8 +433,7 @@ module _ (inputs : List Kind) (K : ℕ → FlatClock) (N : ℕ → Kind) (size :
       kinds j =
           elim (cases_lt j size) [
             | inl less ↦
-                row_kinds inputs N given row rows.0 size [] Q (λ j p. absurd p) ready
-                halves.holds_now fit.kinds j less
+                row_kinds inputs N given row rows.0 size Q ready halves.holds_now fit.kinds j less
             | inr past ↦
                 let none : cell row j ≡ None =
                 get_or-eq_default row None (omega (arith, elements)) in

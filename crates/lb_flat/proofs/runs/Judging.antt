@@ -149,9 +149,8 @@ before_taken :
     (n : ℕ) (row : Row) (F : List Stream) →
     map (take (suc n)) (zip2 (λ x xs. x ∷ xs) row F)
     ≡ zip2 (λ x xs. x ∷ xs) row (map (take n) F)
-before_taken n [] F = refl
-before_taken n (x ∷ row) [] = refl
 before_taken n (x ∷ row) (xs ∷ F) = ap (λ ys. (x ∷ take n xs) ∷ ys) (before_taken n row F)
+before_taken n _ _ = refl
 
 zip_taken :
     {A B C : Type 0} (f : A → B → C) (n : ℕ) (xs : List A) (ys : List B) →

@@ -39,12 +39,6 @@ first_then_step :
 first_then_step X G k a b None y = refl
 first_then_step X G k a b (Some v) y = refl
 
-heads_equal : (x y : Cell) (xs ys : Stream) → x ∷ xs ≡ y ∷ ys → x ≡ y
-heads_equal x y xs ys e = cc
-
-tails_equal : (x y : Cell) (xs ys : Stream) → x ∷ xs ≡ y ∷ ys → xs ≡ ys
-tails_equal x y xs ys e = cc
-
 module _ (given : List Scalar) (X : Inputs) where
   pub column_step :
       (F : List Stream) → AreLong (given ∷ X) F → (i : ℕ) →
@@ -108,8 +102,8 @@ module _ (given : List Scalar) (X : Inputs) where
         let rest = now_and_later Q h.1 in
         let e = both_sides q h.0 in
         record {
-          holds_now = (heads_equal _ _ _ _ e, rest.holds_now);
-          later = (tails_equal _ _ _ _ e, rest.later);
+          holds_now = (cc e, rest.holds_now);
+          later = (cc e, rest.later);
         }
 
     pub from_now_and_later :
@@ -240,11 +234,10 @@ rows_equal :
     (r s : Row) → length r ≡ length s → ((i : ℕ) → i < length r → cell r i ≡ cell s i) →
     r ≡ s
 rows_equal [] [] e h = refl
-rows_equal [] (y ∷ s) e h = absurd (omega arith)
-rows_equal (x ∷ r) [] e h = absurd (omega arith)
 rows_equal (x ∷ r) (y ∷ s) e h =
     ap₂ (λ z zs. z ∷ zs) (h 0 (omega arith))
     (rows_equal r s (omega arith) (λ i lt. h (suc i) (omega arith)))
+rows_equal _ _ e h = absurd (omega arith)
 
 -- a row of which all equations hold is the row `row_of`
 pub row_is :
@@ -323,22 +316,19 @@ first_before (x ∷ r) (xs ∷ F) e = ap (λ ys. x ∷ ys) (first_before r F (om
 
 after_before : (r : Row) (F : List Stream) → length r ≡ length F → after_first (before r F) ≡ F
 after_before [] [] e = refl
-after_before [] (xs ∷ F) e = absurd (omega arith)
-after_before (x ∷ r) [] e = absurd (omega arith)
 after_before (x ∷ r) (xs ∷ F) e = ap (λ ys. xs ∷ ys) (after_before r F (omega arith))
+after_before _ _ e = absurd (omega arith)
 
 length-before : (r : Row) (F : List Stream) → length r ≡ length F → length (before r F) ≡ length F
 length-before [] [] e = refl
-length-before [] (xs ∷ F) e = absurd (omega arith)
-length-before (x ∷ r) [] e = absurd (omega arith)
 length-before (x ∷ r) (xs ∷ F) e = ap suc (length-before r F (omega arith))
+length-before _ _ e = absurd (omega arith)
 
 before_long :
     (given : List Scalar) (X : Inputs) (r : Row) (F : List Stream) → AreLong X F →
     AreLong (given ∷ X) (before r F)
-before_long given X [] F h = tt
-before_long given X (x ∷ r) [] h = tt
 before_long given X (x ∷ r) (xs ∷ F) h = (ap suc h.0, before_long given X r F h.1)
+before_long given X _ _ h = tt
 
 -- ## No instants
 

@@ -87,6 +87,11 @@ module _ (row : Row) (clocks : List Clock) (clock rest : Option ClockId) (depth 
 
 -- ## Computing
 
+here_is :
+    {A : Type 0} (i : ℕ) (d : A) (xs : List A) → i < length xs →
+    drop i xs ≡ get_or xs i d ∷ drop (i + 1) xs
+here_is i d xs lt = rw (add-one, drop-cons xs i d)
+
 -- filling `row` by the equations from `i` on gives what filling `first` by all of them gives
 pub record IsFilling {A : Type 0} (f : A → FlatEquation) (given : List scalars.Scalar)
     (row first : List Cell) (all : List A) (i : ℕ) : Type 0 where
@@ -111,11 +116,9 @@ pub fill_step :
     IsFilling f given (set row (f (get_or all i d)).element c) first all (i + 1)
 fill_step f given row first all i d c lt h is_c =
     let q = f (get_or all i d) in
-    let here : drop i all ≡ get_or all i d ∷ drop (i + 1) all =
-    rw (add-one, drop-cons all i d) in
     record {
       as_long = length-set row q.element c ∙ h.as_long;
-      rest = cc (map-set row q.element c, h.rest);
+      rest = cc (here_is i d all lt, map-set row q.element c, h.rest);
     }
 
 pub all_filled :
@@ -169,12 +172,10 @@ module _ (clocks : List Clock) (row : List Cell) (steps first : List Equation) (
           operation = x;
         }) is_o)
         ∙ ap (λ k. moved (map cell_of row) k (map (equation_of clocks) steps)) at)
-        ∙ sym (ap (λ ns. all_moved (map cell_of row) ns (map (equation_of clocks) steps)) here)
+        ∙ sym (ap (λ ns. all_moved (map cell_of row) ns (map (equation_of clocks) steps))
+        (here_is i 0 places lt))
         ∙ h.rest;
   }
-    where
-      here : drop i places ≡ get_or places i 0 ∷ drop (i + 1) places
-      here = rw (add-one, drop-cons places i 0)
 
 -- each place of a memory is the place of a step
 pub places_there :
@@ -239,11 +240,6 @@ module _ (row : List Cell) (count i : ℕ) (in_row : count ≤ length row)
 
 -- ## Selecting
 
-here_is :
-    (i : ℕ) (d : Equation) (qs : List Equation) → i < length qs →
-    drop i qs ≡ get_or qs i d ∷ drop (i + 1) qs
-here_is i d qs lt = rw (add-one, drop-cons qs i d)
-
 -- the equations before index `i` are put apart: with the inputs and the steps among the rest, they
 -- give all inputs and all steps
 pub record AreApart (size : ℕ) (clocks : List Clock) (qs : List Equation) (i : ℕ)
@@ -270,13 +266,7 @@ memory_places_more n (p ∷ Q) q =
     let place : suc n + length Q ≡ n + suc (length Q) = omega arith in
     let rest = memory_places_more (suc n) Q q
     ∙ ap (λ k. memory_places (suc n) Q ++ place_of_memory (has_memory q.operation) k) place in
-    by_test _ (λ yes. ap (λ b. cond b (n ∷ memory_places (suc n) (Q ++ q ∷ []))
-    (memory_places (suc n) (Q ++ q ∷ []))) yes ∙ ap (λ ks. n ∷ ks) rest ∙ sym (ap (λ b. cond b
-    (n ∷ memory_places (suc n) Q) (memory_places (suc n) Q) ++ place_of_memory
-    (has_memory q.operation) (n + suc (length Q))) yes)) (λ no. ap (λ b. cond b
-    (n ∷ memory_places (suc n) (Q ++ q ∷ [])) (memory_places (suc n) (Q ++ q ∷ []))) no ∙ rest
-    ∙ sym (ap (λ b. cond b (n ∷ memory_places (suc n) Q) (memory_places (suc n) Q)
-    ++ place_of_memory (has_memory q.operation) (n + suc (length Q))) no))
+    by_test (has_memory p.operation) (λ yes. rw yes (ap (λ ks. n ∷ ks) rest)) (λ no. rw no rest)
 
 pub one_memory_more : (memories more : List ℕ) (b : Bool) (n k : ℕ) → b ≡ true → k ≡ n →
     more ≡ memories ++ k ∷ [] → more ≡ memories ++ place_of_memory b n

@@ -49,12 +49,13 @@ fitting_ordered inputs K N Q Q' o fit = record {
 abbrev pub in_order : FlatProgram → List FlatEquation → FlatProgram
 in_order f Q = record f { equations = Q }
 
-module _ (wanted : List Kind) (kinds : ℕ → Kind) (f : FlatProgram) (Q : List FlatEquation)
-    (o : IsOrderingOf f.equations Q) (X : Inputs) (F : List Stream) where
+module _ (wanted : List Kind) (kinds : ℕ → Kind) where
   -- a solution of a flat program is a solution of it in order
-  pub solution_there : IsFlatSolution wanted kinds f X F →
+  pub solution_there :
+      (f : FlatProgram) (Q : List FlatEquation) → IsOrderingOf f.equations Q →
+      (X : Inputs) (F : List Stream) → IsFlatSolution wanted kinds f X F →
       IsFlatSolution wanted kinds (in_order f Q) X F
-  solution_there s = record {
+  solution_there f Q o X F s = record {
     rows = s.rows;
     equations = record {
       elements = s.equations.elements;
@@ -65,17 +66,12 @@ module _ (wanted : List Kind) (kinds : ℕ → Kind) (f : FlatProgram) (Q : List
   }
 
   -- a solution of the flat program in order is a solution of the flat program
-  pub solution_back : IsFlatSolution wanted kinds (in_order f Q) X F →
+  pub solution_back :
+      (f : FlatProgram) (Q : List FlatEquation) → IsOrderingOf f.equations Q →
+      (X : Inputs) (F : List Stream) → IsFlatSolution wanted kinds (in_order f Q) X F →
       IsFlatSolution wanted kinds f X F
-  solution_back s = record {
-    rows = s.rows;
-    equations = record {
-      elements = s.equations.elements;
-      as_long = s.equations.as_long;
-      equations = Every-ordered (Holds X F) f.equations Q o.there s.equations.equations;
-    };
-    cells = Every-ordered (IsCellFit kinds X F) f.equations Q o.there s.cells;
-  }
+  solution_back f Q o X F s =
+      solution_there (in_order f Q) f.equations (record { there = o.back; back = o.there }) X F s
 
 -- what is watched does not depend on the order of the equations
 pub watched_there :
@@ -188,79 +184,6 @@ module _ (wanted : List Kind) (kinds : ℕ → Kind) (f : FlatProgram)
       IsFlatSolution wanted kinds f X (streams_of f.size (run f.size f.equations X))
   run_solves rows = solution_of _ rows (exists f.size X f.equations ready)
 
-  -- each solution is what the run computes
-  pub only_run : (F : List Stream) → IsFlatSolution wanted kinds f X F →
-      F ≡ streams_of f.size (run f.size f.equations X)
-  only_run F s = unique f.size X f.equations F ready s.equations
-
--- ## The program that a flat program stands for
-
-module _ (P : Program) (Y : Layout) (kinds : ℕ → Kind) (f : FlatProgram)
-    (ready : Ready f.size [] f.equations) (K : ℕ → FlatClock)
-    (fit : IsFitting (input_kinds P) K kinds f.equations)
-    (solves : (X : Inputs) (F : List Stream) → IsFlatSolution (input_kinds P) kinds f X F →
-    Solves P X (history_of Y X F))
-    (solved : (X : Inputs) (H : History) → Solves P X H →
-    (F : List Stream) × IsFlatSolution (input_kinds P) kinds f X F
-    × AreSame P (history_of Y X F) H)
-    (watched : (X : Inputs) (F : List Stream) → IsFlatSolution (input_kinds P) kinds f X F →
-    (t : ℕ) → t < length X → IsWatched P f X F (history_of Y X F) t) where
-  abbrev streams_on : Inputs → List Stream
-  streams_on X = streams_of f.size (run f.size f.equations X)
-
-  module _ (X : Inputs) (trace : IsTrace P X) where
-    own : IsFlatSolution (input_kinds P) kinds f X (streams_on X)
-    own = run_solves (input_kinds P) kinds f ready K fit X trace
-
-    -- the verdict of the flat program is that of the program
-    pub run_verdict : HasVerdict P X (flat_verdict f X)
-    run_verdict = (
-      history_of Y X (streams_on X),
-      solves X (streams_on X) own,
-      flat_ends P f X (streams_on X) (history_of Y X (streams_on X)) ready own.equations
-          (watched X (streams_on X) own),
-    )
-
-    -- the program has exactly one history
-    pub run_alone : HasOneHistory P X
-    run_alone = record {
-      history = history_of Y X (streams_on X);
-      solves = solves X (streams_on X) own;
-      only = λ H h.
-          let g = solved X H h in
-          subst (λ F. AreSame P (history_of Y X F) H)
-          (only_run (input_kinds P) kinds f ready K fit X g.0 g.1) g.2;
-    }
-
-  -- what happens up to an instant does not depend on what comes after it
-  pub run_prefix :
-      (X Z : Inputs) (H H' : History) → Solves P (X ++ Z) H → Solves P X H' →
-      IsPrefix P H' H (length X)
-  run_prefix X Z H H' whole part =
-      let r = solved (X ++ Z) H whole in
-      let s = solved X H' part in
-      let same =
-      only_run (input_kinds P) kinds f ready K fit X s.0 s.1
-      ∙ streams_taken Z f.size f.equations X ready
-      ∙ sym (ap (map (take (length X)))
-      (only_run (input_kinds P) kinds f ready K fit (X ++ Z) r.0 r.1)) in
-      instances_prefix Z X Y r.0 s.0 same H' H (instances P) s.2 r.2
-
-  pub run_determined : IsDetermined P
-  run_determined = record { one = run_alone; prefix = run_prefix }
-
-  -- the verdict of a recorded trace is the only one
-  module _ (accepted : static_refusal P ≡ None) (checked : check_refusal P ≡ None)
-      (r : Recording) (k : ℕ) (same : signature P ≡ r.signature) (lawful : IsRecording r)
-      (below : k < length r.traces) where
-    -- the verdict of the flat program on a recorded trace is the only verdict of the program
-    pub run_recorded :
-        (v : Verdict) → v ≡ flat_verdict f (inputs_of r k) → IsOnlyVerdict P (inputs_of r k) v
-    run_recorded v e =
-        let trace = trace_given P r k same lawful below in
-        only_verdict P accepted checked (inputs_of r k) (run_alone (inputs_of r k) trace) v
-        (subst (HasVerdict P (inputs_of r k)) (sym e) (run_verdict (inputs_of r k) trace))
-
 -- A history that agrees with a solution of an accepted program is a solution too, where an observer
 -- would run at every instant.
 
@@ -348,48 +271,56 @@ module _ (P : Program) (f : FlatProgram) (s : IsFlatOf P f) where
 
   -- ## Runs
 
-  -- the solutions on the kinds of the program's inputs
-  given : (X : Inputs) (F : List Stream) →
-      IsFlatSolution (input_kinds P) (kind_among f.kinds) f X F →
-      IsFlatSolution f.inputs (kind_among f.kinds) f X F
-  given X F g = subst (λ l. IsFlatSolution l (kind_among f.kinds) f X F) (sym s.signature) g
-
-  own_fitting : IsFitting (input_kinds P) s.fitting.0 (kind_among f.kinds) f.equations
-  own_fitting =
-      subst (λ l. IsFitting l s.fitting.0 (kind_among f.kinds) f.equations) s.signature s.fitting.1
-
-  own_solves :
-      (X : Inputs) (F : List Stream) →
-      IsFlatSolution (input_kinds P) (kind_among f.kinds) f X F →
-      Solves P X (history_of (layout P) X F)
-  own_solves X F g = s.solves X F (given X F g)
-
-  own_solved :
-      (X : Inputs) (H : History) → Solves P X H →
-      (F : List Stream) × IsFlatSolution (input_kinds P) (kind_among f.kinds) f X F
-      × AreSame P (history_of (layout P) X F) H
-  own_solved X H h =
-      let r = s.solved X H h in
-      (r.0, subst (λ l. IsFlatSolution l (kind_among f.kinds) f X r.0) s.signature r.1, r.2)
-
-  own_watched :
-      (X : Inputs) (F : List Stream) →
-      IsFlatSolution (input_kinds P) (kind_among f.kinds) f X F → (t : ℕ) → t < length X →
-      IsWatched P f X F (history_of (layout P) X F) t
-  own_watched X F g t lt = s.watched X F (given X F g) t lt
-
   module _ (ready : Ready f.size [] f.equations) where
-    -- the verdict of a run is that of the program
-    pub standing_verdict : (X : Inputs) → IsTrace P X → HasVerdict P X (flat_verdict f X)
-    standing_verdict X trace =
-        run_verdict P (layout P) (kind_among f.kinds) f ready s.fitting.0 own_fitting own_solves
-        own_solved own_watched X trace
+    abbrev streams_on : Inputs → List Stream
+    streams_on X = streams_of f.size (run f.size f.equations X)
+
+    -- each solution is what the run computes
+    is_run :
+        (X : Inputs) (F : List Stream) → IsFlatSolution f.inputs (kind_among f.kinds) f X F →
+        F ≡ streams_on X
+    is_run X F g = unique f.size X f.equations F ready g.equations
+
+    module _ (X : Inputs) (trace : IsTrace P X) where
+      own : IsFlatSolution f.inputs (kind_among f.kinds) f X (streams_on X)
+      own =
+          run_solves f.inputs (kind_among f.kinds) f ready s.fitting.0 s.fitting.1 X
+          (subst (λ kinds. Every (λ row. is_row kinds row ≡ true) X) (sym s.signature) trace)
+
+      -- the verdict of a run is that of the program
+      pub standing_verdict : HasVerdict P X (flat_verdict f X)
+      standing_verdict = (
+        history_of (layout P) X (streams_on X),
+        s.solves X (streams_on X) own,
+        flat_ends P f X (streams_on X) (history_of (layout P) X (streams_on X)) ready
+            own.equations (s.watched X (streams_on X) own),
+      )
+
+      -- the program has exactly one history
+      standing_alone : HasOneHistory P X
+      standing_alone = record {
+        history = history_of (layout P) X (streams_on X);
+        solves = s.solves X (streams_on X) own;
+        only = λ H h.
+            let g = s.solved X H h in
+            subst (λ F. AreSame P (history_of (layout P) X F) H) (is_run X g.0 g.1) g.2;
+      }
+
+    -- what happens up to an instant does not depend on what comes after it
+    standing_prefix :
+        (X Z : Inputs) (H H' : History) → Solves P (X ++ Z) H → Solves P X H' →
+        IsPrefix P H' H (length X)
+    standing_prefix X Z H H' whole part =
+        let r = s.solved (X ++ Z) H whole in
+        let p = s.solved X H' part in
+        let same =
+        is_run X p.0 p.1 ∙ streams_taken Z f.size f.equations X ready
+        ∙ sym (ap (map (take (length X))) (is_run (X ++ Z) r.0 r.1)) in
+        instances_prefix Z X (layout P) r.0 p.0 same H' H (instances P) p.2 r.2
 
     -- inputs determine the history, instant by instant
     pub standing_determined : IsDetermined P
-    standing_determined =
-        run_determined P (layout P) (kind_among f.kinds) f ready s.fitting.0 own_fitting own_solves
-        own_solved own_watched
+    standing_determined = record { one = standing_alone; prefix = standing_prefix }
 
     -- the verdict of a recorded trace is the only one
     pub standing_recorded :
@@ -397,8 +328,9 @@ module _ (P : Program) (f : FlatProgram) (s : IsFlatOf P f) where
         k < length r.traces → (v : Verdict) → v ≡ flat_verdict f (inputs_of r k) →
         IsOnlyVerdict P (inputs_of r k) v
     standing_recorded r k same lawful below v e =
-        run_recorded P (layout P) (kind_among f.kinds) f ready s.fitting.0 own_fitting own_solves
-        own_solved own_watched s.accepted s.checked r k same lawful below v e
+        let trace = trace_given P r k same lawful below in
+        only_verdict P s.accepted s.checked (inputs_of r k) (standing_alone (inputs_of r k) trace)
+        v (subst (HasVerdict P (inputs_of r k)) (sym e) (standing_verdict (inputs_of r k) trace))
 
 -- A flat program that is put in order is an expansion of the same programs as before.
 

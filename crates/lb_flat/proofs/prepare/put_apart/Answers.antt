@@ -26,31 +26,24 @@ loop-i-preserved c =
           (input_put clocks qs i _ lt c.args.size inputs steps memories h w.in-Input.input
           w.in-Input.is (c.requires.within i _ lt))
       | in_default+then-is_step+in_ok-push-3 w ↦
-          elim w.if-has_memory.branch [
+          apart_same c.args.size clocks qs (i + 1) _ _ _ _ _ _
+          (ap (λ v. v.items) w.inputs-is)
+          (ap (λ v. v.items) w.steps-is ∙ w.in_ok-push-3.ensures.items)
+          (ap (λ v. v.items) w.memories-is)
+          (step_put clocks qs i _ lt c.args.size inputs steps memories h _
+          w.in_default.not-Input (sym w.is_step.ensures ∙ w.if-is_step.true)
+          (c.requires.within i _ lt)
+          (elim w.if-has_memory.branch [
             | then-has_memory+in_ok-push-2 w' ↦
                 let count : w'.len.result ≡ length steps = search rules in
-                apart_same c.args.size clocks qs (i + 1) _ _ _ _ _ _
-                (ap (λ v. v.items) w.inputs-is)
-                (ap (λ v. v.items) w.steps-is ∙ w.in_ok-push-3.ensures.items)
-                (ap (λ v. v.items) w.memories-is)
-                (step_put clocks qs i _ lt c.args.size inputs steps memories h _
-                w.in_default.not-Input (sym w.is_step.ensures ∙ w.if-is_step.true)
-                (c.requires.within i _ lt)
-                (one_memory_more memories _ _ (length steps) w'.len.result
+                one_memory_more memories _ _ (length steps) w'.len.result
                 (sym w.has_memory.ensures ∙ w'.if-has_memory.true) count
-                (ap (λ v. v.items) w'.memories-is ∙ w'.in_ok-push-2.ensures.items)))
+                (ap (λ v. v.items) w'.memories-is ∙ w'.in_ok-push-2.ensures.items)
             | else-has_memory w' ↦
-                apart_same c.args.size clocks qs (i + 1) _ _ _ _ _ _
-                (ap (λ v. v.items) w.inputs-is)
-                (ap (λ v. v.items) w.steps-is ∙ w.in_ok-push-3.ensures.items)
-                (ap (λ v. v.items) w.memories-is)
-                (step_put clocks qs i _ lt c.args.size inputs steps memories h _
-                w.in_default.not-Input (sym w.is_step.ensures ∙ w.if-is_step.true)
-                (c.requires.within i _ lt)
-                (no_memory_more memories _ _ (length steps)
+                no_memory_more memories _ _ (length steps)
                 (sym w.has_memory.ensures ∙ w'.if-has_memory.false)
-                (ap (λ v. v.items) w'.memories-is)))
-          ]
+                (ap (λ v. v.items) w'.memories-is)
+          ]))
       | in_default+else-is_step w ↦
           apart_same c.args.size clocks qs (i + 1) _ _ _ _ _ _
           (ap (λ v. v.items) w.inputs-is) (ap (λ v. v.items) w.steps-is)

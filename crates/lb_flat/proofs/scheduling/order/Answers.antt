@@ -12,10 +12,10 @@ use Rattle.lb_flat.specs.Judging as judging
 use Rattle.lb_flat.proofs.scheduling.order.Goals as goal
 
 is_order :
-    (p : FlatProgram) (qs : List Equation) → AreOrdered p qs →
+    (p : FlatProgram) {qs : List Equation} → AreOrdered p qs →
     IsOrderOf (program_of p)
     (record (program_of p) { equations = flat_equations p.clocks.items qs })
-is_order p qs ordered = record {
+is_order p {qs} ordered = record {
   same = refl;
   ordering = ordered.ordering;
   ready = ready_of p.size (flat_equations p.clocks.items qs) ordered.in_order;
@@ -25,20 +25,19 @@ pub invariant_of-result-clause-stands : goal.invariant_of-result-clause-stands
 invariant_of-result-clause-stands c =
     let p = c.args.flat.program in
     stands_in_order (program_of p) _
-    (is_order p c.in_ok-equations.equations.items c.in_ok-equations.ensures.order)
-    c.args.flat.stands
+    (is_order p c.in_ok-equations.ensures.order) c.args.flat.stands
 
 pub returns-clause-stands : goal.returns-clause-stands
 returns-clause-stands c P expansion =
     let p = c.args.flat.program in
     flat_in_order P (program_of p) expansion.flat _
-    (is_order p c.in_ok-equations.equations.items c.in_ok-equations.ensures.order)
+    (is_order p c.in_ok-equations.ensures.order)
 
 pub returns-clause-kept : goal.returns-clause-kept
 returns-clause-kept c P expansion =
     let p = c.args.flat.program in
     expansion_in_order P (program_of p) _
-    (is_order p c.in_ok-equations.equations.items c.in_ok-equations.ensures.order) expansion
+    (is_order p c.in_ok-equations.ensures.order) expansion
 
 pub returns-clause-determined : goal.returns-clause-determined
 returns-clause-determined c P flat =
@@ -56,8 +55,7 @@ returns-clause-causal c P expansion =
 
 pub returns-clause-order : goal.returns-clause-order
 returns-clause-order c =
-    is_order c.args.flat.program c.in_ok-equations.equations.items
-    c.in_ok-equations.ensures.order
+    is_order c.args.flat.program c.in_ok-equations.ensures.order
 
 -- a cycle that is found is a cycle of each program that the equations come from
 of_cyclic : (f : judging.FlatProgram) (e : OrderError) → IsCycleFound f e → AreOfCyclic f e
