@@ -4,12 +4,11 @@ use Words.{◌≡◌, ℕ, suc, ◌+◌, ◌<◌, List, [], ◌∷◌, ◌++◌,
 use Words.{refl, ap, sym, ◌∙◌, arith, slice_get, range_with_len, slice_get_within}
 use Words.{get_or_from_slice_get, append_assoc, append-nil, length-take-le, map-append, take_more}
 use Words.{take-append-drop, flat_map-append, zero, ◌*◌, ◌≤◌, Bool, true, false, Option, None}
-use Words.{option_map, length-map-range_with_len, get_or-map-range_with_len, either_or, listed}
-use Words.{get_later, item_at, CallId, ResolvedNode, InstanceId, declared_in, CallClock, sign_place}
-use Words.{count_at, ClockId, ElementId, Some, length-append, get_or-append-add, Sources}
-use Words.{variable_number, clock_id, found_call, node_at, row_runs, table_runs, caller_number}
-use Words.{no_element, own_element, serving_element, row_serving, table_serving, signed_clock}
-use Words.{node_clocks, clocks_among}
+use Words.{length-map-range_with_len, get_or-map-range_with_len, get_later, item_at, CallId}
+use Words.{ResolvedNode, InstanceId, declared_in, CallClock, sign_place, count_at, ClockId}
+use Words.{ElementId, Some, length-append, get_or-append-add, Sources, variable_number, clock_id}
+use Words.{found_call, node_at, row_runs, table_runs, caller_number, no_element, own_element}
+use Words.{serving_element, row_serving, table_serving, signed_clock, clocks_among}
 use Rattle.std.proofs.lemmas.List.{get_or_append_left, get_or_at}
 use Rattle.lb_check.specs.declared.own_clock.Clock.{Clock, TheVariants.{Base, On}}
 use Rattle.{lb_flat.proofs.lists.Lists.range_last, lb_expand.specs.TableClocks.added_after}
@@ -231,9 +230,8 @@ module _ (from : Sources) (counted : AreCounted from) where
       let s = split_added (λ j i before. row_runs from before i.origin ∷ []) rows k i at in
       let done = table_runs from (take k rows) in
       let within = slice_get_within rows k i at in
-      ap (λ l. get_or l k None) s.1
-      ∙ get_or_at done (row_runs from done i.origin) s.0 None k
-      (runs_long k (omega (arith, within)))
+      cc (get_or_at done (row_runs from done i.origin) s.0 None k (runs_long k
+      (omega (arith, within))))
 
   runs_before :
       (k j : ℕ) → k ≤ length from.table.instances.items → j < k →
@@ -242,8 +240,7 @@ module _ (from : Sources) (counted : AreCounted from) where
   runs_before k j le lt =
       let f = front_added (λ j i before. row_runs from before i.origin ∷ []) rows k in
       let long = runs_long k le in
-      sym (ap (λ l. get_or l j None) f.1
-      ∙ get_or_append_left (table_runs from (take k rows)) f.0 None j (omega (arith, long, lt)))
+      cc (get_or_append_left (table_runs from (take k rows)) f.0 None j (omega (arith, long, lt)))
 
   -- a row that is called runs on the clock of its call
   pub runs_called :
@@ -346,11 +343,10 @@ module _ (from : Sources) (counted : AreCounted from) where
       let done = table_serving from (take k rows) in
       let within = slice_get_within rows k i at in
       let long = serving_long k (omega (arith, within)) in
-      serving_read k i at x lt
-      ∙ ap (λ o. either_or (option_map (λ n. get_or done n no_element) o)
-      (own_element from.variables from.starts k x)) some
-      ∙ sym (ap (λ l. get_or l n no_element) f.1
-      ∙ get_or_append_left done f.0 no_element n (omega (arith, long, low)))
+      cc (
+        serving_read k i at x lt,
+        get_or_append_left done f.0 no_element n (omega (arith, long, low)),
+      )
 
   -- ## The table
 
@@ -373,8 +369,7 @@ module _ (from : Sources) (counted : AreCounted from) where
         length (clock_row k i) ≡ 2 * count_at from.variables k
     row_long k i at =
         let n = nodes k i at in
-        ap (λ o. length (listed (node_clocks from.variables runs serving k) o)) n.1
-        ∙ pairs_long (clock_for k n.0 false) (clock_for k n.0 true) 0 (count_at from.variables k)
+        cc (pairs_long (clock_for k n.0 false) (clock_for k n.0 true) 0 (count_at from.variables k))
 
     -- there are two clocks for each variable of the first rows
     pub clocks_long :

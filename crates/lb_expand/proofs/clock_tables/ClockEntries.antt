@@ -52,10 +52,9 @@ module _ (P : Program) (accepted : static_refusal P ≡ None) (checked : check_r
       let u = caller_of P accepted checked own clocks place runs before is p call index c at in
       let path = path_is P p u.caller u.above in
       let up = runs_within p u.caller u.above in
-      let there = id_within u.caller u.stands (subst (λ q. IsClock clocks (runs q)) (sym path) up)
-      (site_clock P u.occurrence.clock u.occurrence.expr)
-      (site_is_own P accepted checked own clocks place runs before is u.caller u.stands
-      u.occurrence u.occurs) in
+      let there = id_within u.caller u.stands (rw path up) (site_clock P u.occurrence.clock
+      u.occurrence.expr) (site_is_own P accepted checked own clocks place runs before is u.caller
+      u.stands u.occurrence u.occurs) in
       subst (IsClock clocks) (sym (is.called p call index c u.caller u.occurrence at u.above
       u.found))
       (subst (λ q. IsClock clocks (clock_place place runs q
@@ -76,8 +75,7 @@ module _ (P : Program) (accepted : static_refusal P ≡ None) (checked : check_r
       let z = is.rows here on x on_x sign in
       let same = same_Some z.row c (sym z.stands ∙ stands) in
       let signs = sym (ap (λ (ns : List ℕ). slice_get ns 0) (signs_are P here on x)) ∙ z.serves in
-      subst (IsTableClock (length (program_elements P)) clocks) same
-      (record {
+      rw (← same) (record {
         element =
             first_below _ _ _ (numbers_below P accepted (serving P here.path x).0
             (serving P here.path x).1) signs;
@@ -101,13 +99,9 @@ module _ (P : Program) (accepted : static_refusal P ≡ None) (checked : check_r
       ap (λ m. Some (record { 0 = m })) (sym spot) in
       let up : flat_clock (layout P) here.path own_clock ≡ clock_of clocks z.row.parent =
       sym (ap (clock_of clocks) z.parent ∙ found own_clock (declared_own here.node x)) in
-      subst (λ (t : table.Clock). clock_of clocks (Some k)
-      ≡ Where (clock_of clocks t.parent) t.element.0 t.sign) same
-      (ap (clock_of clocks) id
-      ∙ (found (On own_clock x sign) (refl, on_x)
-      ∙ (first_signed (flat_clock (layout P) here.path own_clock) sign (signs_of P here.path x)
-      z.row.element.0 z.serves
-      ∙ ap₂ (λ l s. Where l z.row.element.0 s) up (sym z.signed))))
+      rw (← same) (ap (clock_of clocks) id ∙ (found (On own_clock x sign) (refl, on_x) ∙
+      (first_signed (flat_clock (layout P) here.path own_clock) sign (signs_of P here.path x)
+      z.row.element.0 z.serves ∙ ap₂ (λ l s. Where l z.row.element.0 s) up (sym z.signed))))
 
 -- ## All entries
 
@@ -267,13 +261,10 @@ module _ (c : Checking) (lawful : IsChecked c) (l : Layout)
       let size : length (program_elements P) ≡ l.count =
       sym (laid.count ∙ element_total_is P c.elab.reached c.elab.table lawful.elaborated.reached
       lawful.elaborated.table) in
-      subst (λ n. IsTableClock n C (get_or C m d)) size
-      (subst (IsTableClock (length (program_elements P)) C)
-      (sym (get_or_from_slice_get C m e.0 d e.1))
-      (entry_within P lawful.elaborated.accepted lawful.accepted terms_own C
-      (path_place P l.variables.items) (path_runs P (all_runs (sources_of c l)))
-      (path_before P l.variables.items) by_formula w.here w.stands (at_path P w.here w.stands) w.x
-      w.named w.sign e.0 (ap (slice_get C) w.spot ∙ e.1)))
+      rw (← size) (rw (← (get_or_from_slice_get C m e.0 d e.1)) at (entry_within P
+      lawful.elaborated.accepted lawful.accepted terms_own C (path_place P l.variables.items)
+      (path_runs P (all_runs (sources_of c l))) (path_before P l.variables.items) by_formula w.here
+      w.stands (at_path P w.here w.stands) w.x w.named w.sign e.0 (ap (slice_get C) w.spot ∙ e.1)))
 
   -- each clock that is filled in is the instants of its parent at which its element has its sign
   pub filled_whole : AreWhole (all_clocks (sources_of c l))

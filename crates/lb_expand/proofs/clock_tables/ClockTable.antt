@@ -305,13 +305,9 @@ module _ (P : Program) (accepted : static_refusal P ≡ None) (checked : check_r
           (declared_clock callee d.name))
       output_clock d on =
           let here_on = in_second d callee.inputs callee.outputs on in
-          subst (λ xs.
-          flat_clock Y (Child here.path n 0) (declared_clock callee d.name)
-          ≡ flat_clock Y here.path
-          (outer (base_clock k callee) (given_with xs) (declared_clock callee d.name))) whole
-          (parameter_clock d here_on
-          (subst (λ xs. IsOver (IsGiven (given_with xs)) (declared_clock callee d.name)) (sym whole)
-          (parameter_given callee declares here.node es given_all lefts pairs.as_many d here_on)))
+          rw (← whole) (parameter_clock d here_on (subst (λ xs. IsOver (IsGiven (given_with xs))
+          (declared_clock callee d.name)) (sym whole) (parameter_given callee declares here.node es
+          given_all lefts pairs.as_many d here_on)))
 
       pub left_clocks_are : HasLeftClocks (layout P) here k n es callee lefts
       left_clocks_are =
@@ -414,10 +410,7 @@ module _ (P : Program) (accepted : static_refusal P ≡ None) (checked : check_r
       (index : ℕ) (b : Clock) → site_clock P o.clock o.expr ≡ b →
       (layout P).runs (Child here.path o.calls_before index) ≡ flat_clock (layout P) here.path b
   instance_runs o i is index b e =
-      ap (numbered_clock P)
-      (called_runs P here (at_path P here stands) o (own o i is) index
-      ∙ ap (whole_clock P here.path (runs_on P here.path)) e)
-      ∙ sym (flat_is P here stands b)
+      cc (called_runs P here (at_path P here stands) o (own o i is) index, flat_is P here stands b)
 
   runs_there :
       (H : History) (k : Clock) (n : ℕ) (e : Expr) →
@@ -515,8 +508,7 @@ module _ (P : Program) (accepted : static_refusal P ≡ None) (checked : check_r
   rows_stand here stands r Base h = r
   rows_stand here stands r (On k x sign) h =
       let row = is.rows here stands x h.1 sign in
-      let up = rows_stand here stands r k
-      (subst (IsOwn here.node) (sym h.0) (declared_own here.node x)) in
+      let up = rows_stand here stands r k (rw h.0 (declared_own here.node x)) in
       let parent : StandsFor clocks row.row.parent (flat_clock (layout P) here.path k) =
       rw (← (ap (clock_place place runs here.path) h.0 ∙ sym row.parent)) up in
       let found : StandsFor clocks (clock_place place runs here.path (On k x sign))
@@ -529,8 +521,7 @@ module _ (P : Program) (accepted : static_refusal P ≡ None) (checked : check_r
         row.signed,
         parent,
       ) in
-      subst (StandsFor clocks (clock_place place runs here.path (On k x sign)))
-      (sym (first_signed _ sign _ _ row.serves)) found
+      rw (first_signed _ sign _ _ row.serves) found
 
   -- the caller of an instance, and the occurrence of the call
   pub record IsCallerOf (p : Path) (call index : ℕ) : Type 0 where

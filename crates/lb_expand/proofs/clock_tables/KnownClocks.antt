@@ -100,10 +100,8 @@ module _ (P : Program) (accepted : static_refusal P ≡ None) where
           AreNumbers P (clock_reads (flat_clock (layout P) here.path k)) (waits_for P here k)
       clock_numbers k over =
           let at = at_path P here stands in
-          subst (λ c. AreNumbers P (clock_reads c) (waits_for P here k)) (sym (flat_is P here
-          stands k))
-          (numbered_reads (whole_clock P here.path (runs_on P here.path) k)
-          (whole_numbered P accepted checked here.path here at (runs_on P here.path)
+          rw (flat_is P here stands k) (numbered_reads (whole_clock P here.path (runs_on P
+          here.path) k) (whole_numbered P accepted checked here.path here at (runs_on P here.path)
           (runs_numbered P accepted checked here.path here at) k over))
 
       -- each element that a clock waits for has a number that the flat clock reads
@@ -228,9 +226,8 @@ module _ (P : Program) (accepted : static_refusal P ≡ None) (checked : check_r
       let is_in : In d (variables callee) =
       in_second d callee.inputs (callee.outputs ++ callee.locals)
       (in_first d callee.outputs callee.locals on) in
-      rw (← there.path) (own_runs _ there.stands d (subst (λ (m : Node). In d (variables m))
-      (sym there.node) is_in) k (ap₂ (λ (p : Path) (m : Node). flat_clock (layout P) p
-      (declared_clock m d.name)) there.path there.node ∙ e))
+      rw (← there.path) (own_runs _ there.stands d (rw there.node is_in) k (ap₂ (λ (p : Path) (m :
+      Node). flat_clock (layout P) p (declared_clock m d.name)) there.path there.node ∙ e))
 
   variable_run :
       (k : Clock) (x : Name) → is_on_clock P here.node k (Variable x) ≡ true →

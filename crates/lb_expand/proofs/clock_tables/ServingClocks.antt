@@ -92,8 +92,7 @@ module _ (t : Texts) (n : Counts) where
     whens_are (Truth b) w = nothing t.variables n.variables
     whens_are (Variable x) w = nothing t.variables n.variables
     whens_are (Value i) w =
-        subst (Named t.variables n.variables []) (sym (value_none (static_at t.statics i)))
-        (nothing t.variables n.variables)
+        rw (value_none (static_at t.statics i)) (nothing t.variables n.variables)
     whens_are (Group' p e) w = whens_are e w
     whens_are (Unary' op p a) w = whens_are a w
     whens_are (Pre' p a) w = whens_are a w
@@ -196,8 +195,7 @@ module _ (names : List Name) (bound : ℕ) (many : bound ≡ length names)
   one_is : (y : ℕ) → nat_lt y bound ≡ true → (y == x) ≡ bytes_eq z (name_of names bound y)
   one_is y lt =
       let w = held_at names y (subst (λ n. nat_lt y n ≡ true) many lt) in
-      let named : name_of names bound y ≡ w.0 = ap (λ o. either_or o []) w.1 in
-      sym (distinct_at names x y z w.0 distinct at w.1) ∙ ap (bytes_eq z) (sym named)
+      cc (distinct_at names x y z w.0 distinct at w.1)
 
   among_is : (xs : List ℕ) → Every (λ y. nat_lt y bound ≡ true) xs →
       is_among xs x ≡ among z (map (name_of names bound) xs)
@@ -229,8 +227,7 @@ serves_by_number nodes r own distinct x d e =
     (clocks_of (flat_map (λ s. parts (right_side s)) m.body)) declared body in
     let at = slice_get-map (λ (d : Declaration). d.name) (variables m) x
     ∙ ap (option_map (λ (d : Declaration). d.name)) e in
-    among_is names n.variables (sym long) distinct x d.name at (clocks_named r) all.within
-    ∙ ap (among d.name) all.same
+    cc (among_is names n.variables (sym long) distinct x d.name at (clocks_named r) all.within)
 
 -- The code that finds which variables of a node serve as clocks.
 
@@ -274,8 +271,7 @@ if_whens t c a b is = rw is refl
 list_of_row : (n : _) (row : Row_of-Term n) →
     whens_in_row row ≡ whens_in_all (items-the_row-Term n row)
 list_of_row n end_of-Term = refl
-list_of_row n (more_of-Term e rest) =
-    ap (λ (xs : List ℕ). whens_in e ++ xs) (list_of_row _ rest)
+list_of_row n (more_of-Term e rest) = cc (list_of_row _ rest)
 
 row_is : (t : Term) (es : Vec Term Global) →
     items-the_row-Term (row_in t).0 (row_in t).1 ≡ es.items →
@@ -309,8 +305,7 @@ leaf_whens t (inr (inr (inr (i, is)))) = rw is refl
 -- a list grows by the pieces `xs` and `ys`, one after the other
 pub tail_added : {A : Type 0} (before mid xs ys all : List A) → mid ≡ before ++ xs →
     all ≡ xs ++ ys → mid ++ ys ≡ before ++ all
-tail_added before mid xs ys all h e =
-    ap (λ l. l ++ ys) h ∙ (append_assoc before xs ys ∙ ap (λ l. before ++ l) (sym e))
+tail_added before mid xs ys all h e = cc (append_assoc before xs ys)
 
 -- ## Flags
 
@@ -319,8 +314,7 @@ other_number m x e is = absurd (grind (arith, nat_tests))
 
 among_last : (xs : List ℕ) (m x : ℕ) → is_among (xs ++ m ∷ []) x ≡ (is_among xs x || (m == x))
 among_last [] m x = or-false (m == x)
-among_last (y ∷ xs) m x =
-    ap (λ b. (y == x) || b) (among_last xs m x) ∙ sym (or_assoc (y == x) (is_among xs x) (m == x))
+among_last (y ∷ xs) m x = cc (among_last xs m x, or_assoc (y == x) (is_among xs x) (m == x))
   where
     or_assoc : (a b c : Bool) → ((a || b) || c) ≡ (a || (b || c))
     or_assoc true b c = refl
@@ -408,9 +402,8 @@ filters_agree p q (suc n) h =
 pub flagged_are : (n : ResolvedNode) (flags : List Bool) →
     HasFlags (length n.variables.items) (clocks_named n) flags → flagged flags ≡ clock_numbers n
 flagged_are n flags h =
-    ap (flagged_below flags) h.long
-    ∙ filters_agree (λ x. get_or flags x false) (is_among (clocks_named n))
-    (length n.variables.items) h.flag
+    cc (filters_agree (λ x. get_or flags x false) (is_among (clocks_named n)) (length
+    n.variables.items) h.flag)
 
 -- ## Variable after variable
 
@@ -427,9 +420,7 @@ module _ (places : ℕ → List ℕ) (flags : List Bool) where
   last_flag x b d lt e =
       let so = flagged_below flags x in
       let is = same_there flags x false d lt ∙ e in
-      ap (flat_map places) (filter_last (λ x. get_or flags x false) x
-      ∙ ap (λ b. so ++ cond b (x ∷ []) []) is)
-      ∙ flat_map-append places so (cond b (x ∷ []) [])
+      cc (filter_last (λ x. get_or flags x false) x, flat_map-append places so (cond b (x ∷ []) []))
 
   -- a variable with a flag adds its elements
   pub flag_put :

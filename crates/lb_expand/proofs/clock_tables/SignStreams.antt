@@ -219,11 +219,9 @@ module _ (P : Program) (accepted : static_refusal P ≡ None) (checked : check_r
       let joined = Every-at (IsJoined P H here) (node_occurrences P here.node)
       (at k n (Call f statics es)) (solved here call.stands).calls call.occurs in
       let call_joined = subst (λ z. IsCallJoined P H here k n es z) t.node joined in
-      ap (λ q. H.columns q x) t.path
-      ∙ received_same P H here
-      (λ d. outer (base_clock k c.node) (given_inputs c.node.inputs es)
+      cc (received_same P H here (λ d. outer (base_clock k c.node) (given_inputs c.node.inputs es)
       (declared_clock c.node d.name)) (n + 1) (Child here.path n 0) c.node.inputs es x g v.0 v.1
-      call_joined.1 found
+      call_joined.1 found)
 
   of_result :
       (here : Instance) (k : Clock) (n : ℕ) (f : Name) (statics : List Static) (es : Exprs)
@@ -307,9 +305,7 @@ module _ (P : Program) (accepted : static_refusal P ≡ None) (checked : check_r
       where
         by : (o : Option (ℕ × Instance)) → found_from P 0 (instances P) p ≡ o →
             columns X F ((layout P).places p x) ≡ columns X F ((layout P).signs p x)
-        by None e =
-            ap (columns X F) (places_nowhere P p x e)
-            ∙ sym (ap (columns X F) (signs_nowhere P p x e))
+        by None e = cc (places_nowhere P p x e, signs_nowhere P p x e)
         by (Some s) e =
             let c = found_some P 0 (instances P) p s.0 s.1 e in
             ap (λ q. columns X F ((layout P).places q x)) (sym c.1)
@@ -551,12 +547,9 @@ module _ (P : Program) (accepted : static_refusal P ≡ None) (checked : check_r
       sym (ungrouped_types P here r.right) ∙ ap (data_types P here) r.is ∙ t.result in
       let types = left_types P accepted checked here call.stands lefts r.right t.outs
       (zip_first here.node.body _ (Equation lefts r.right, q) r.stands) of_right in
-      result_same here call.stands c call.callee_stands x g.1
-      (result_copied Y P here c cs c.node.outputs lefts t.outs types.0
-      (output_counts here call.stands c call.callee_stands) (own_count here call.stands) t.outputs
-      types.1 types.2 x g found
-      (subst (λ js. Within Y P cs (copied (flat_map (targets Y here.node here.path) lefts) js))
-      found_is own.1))
+      result_same here call.stands c call.callee_stands x g.1 (result_copied Y P here c cs
+      c.node.outputs lefts t.outs types.0 (output_counts here call.stands c call.callee_stands)
+      (own_count here call.stands) t.outputs types.1 types.2 x g found (rw (← found_is) own.1))
 
   -- a variable that serves for another in a clock has the streams of the other
   pub signs_flat :

@@ -1,26 +1,26 @@
 -- The copies that an instance emits for its calls.
 use Rattle.lb_expand.proofs.Words
-use Words.{ℕ, ◌+◌, List, [], ◌∷◌, ◌++◌, flat_map, zip, subst, Every, In, Node_named, Symbol, Expr}
-use Words.{Literal, Truth, Variable, Group, Unary, Binary, If, Arrow, Fby, Pre, Current, When}
-use Words.{Replicate, Index, Slice, Join, Array, AtMostOne, Nor, Call, Iterate, Exprs, Nil, Cons}
-use Words.{Statement, Equation, Assertion, Program, Instance, Child, node_named, On, declared_clock}
-use Words.{Occurrence, at, call_count, call_clocks, occurrences, occurrences_in, occurrences_each}
-use Words.{statement_clock, right_sides, statements, node_occurrences, number, outputs_of, iterated}
+use Words.{heads_same, ℕ, ◌+◌, List, [], ◌∷◌, ◌++◌, flat_map, zip, subst, Every, In, Node_named}
+use Words.{Symbol, Expr, Literal, Truth, Variable, Group, Unary, Binary, If, Arrow, Fby, Pre}
+use Words.{Current, When, Replicate, Index, Slice, Join, Array, AtMostOne, Nor, Call, Iterate}
+use Words.{Exprs, Nil, Cons, Statement, Equation, Assertion, Program, Instance, Child, node_named}
+use Words.{On, Occurrence, call_count, call_clocks, occurrences, occurrences_in, occurrences_each}
+use Words.{statement_clock, right_sides, statements, node_occurrences, number, outputs_of}
 use Words.{Every-append, Every-first, Every-second, Operation, FlatEquation, Layout, flat_clock}
 use Words.{State, Emitted, add, keep, assert, joins, targets, copied, call_copies, iterator_copies}
-use Words.{emit, emit_all, emit_each, emit_body, emit_instances, ◌≡◌, ◌&&◌, inl, inr, Bool, true}
-use Words.{false, cond, Option, Some, None, length, map, refl, sym, ap, ap₂, ◌∙◌, bytes_eq}
-use Words.{bytes_eq-Decides, same_Some, all_some, listed, Name, Static, Declaration, and_first}
-use Words.{and_second, DataType, is_type, are_types, variables, variable_type, width, named}
-use Words.{type_of_name, data_types, all_types, singly, found_in, bound, first_of_all, found_name}
-use Words.{received, as_variable, given_outputs, ungrouped}
+use Words.{emit, emit_all, emit_each, emit_body, emit_instances, ◌≡◌, inl, inr, Bool, true, false}
+use Words.{cond, Option, Some, None, length, map, refl, sym, ap, ◌∙◌, bytes_eq, bytes_eq-Decides}
+use Words.{same_Some, all_some, listed, Name, Static, Declaration, DataType, is_type, are_types}
+use Words.{variables, variable_type, width, named, type_of_name, data_types, all_types, singly}
+use Words.{found_in, bound, first_of_all, found_name, received, as_variable, given_outputs}
+use Words.{ungrouped}
 use Rattle.lb_check.specs.Clocks.{Clock, given_inputs}
 use Rattle.lb_expand.proofs.emission.EmissionSteps.{add_copies, keep_copies, nor_copies}
 use Rattle.lb_expand.proofs.emission.EmissionSteps.{at_most_one_copies, symbol_copies, name_copies}
 use Rattle.lb_expand.proofs.numbering.ReceivedInputs.{copied_append, target_count}
-use Rattle.lb_expand.proofs.solutions.{Emission.joins_copies, Solving.occurrences_of}
-use Rattle.lb_expand.proofs.{solutions.Solving.assert_copies, widths.TypeFacts.{each, width_of}}
-use Rattle.lb_expand.proofs.widths.TypeFacts.{same_count}
+use Rattle.lb_expand.proofs.solutions.Emission.{joins_copies}
+use Rattle.lb_expand.proofs.solutions.Solving.{occurrences_of, assert_copies}
+use Rattle.lb_expand.proofs.widths.TypeFacts.{each, width_of, same_count, types_first}
 
 -- The copies that an instance emits: for each call in its text, copies into the inputs of its
 -- callee, and for each equation, copies into its left variables.
@@ -64,18 +64,20 @@ module _ (Y : Layout) (P : Program) (cs : List FlatEquation) where
       pub before : Within s.copies
       pub calls : Every IsCopied os
 
-    next : (s : State) (o : Occurrence) (os : List Occurrence) → IsCopied o → AreThere s os →
-        AreThere s (o ∷ os)
-    next s o os c h = record { before = h.before; calls = (c, h.calls) }
+    next :
+        {s : State} {o : Occurrence} {os : List Occurrence} → IsCopied o → AreThere s os → AreThere
+        s (o ∷ os)
+    next c h = record { before = h.before; calls = (c, h.calls) }
 
-    both : (s t : State) (os os' : List Occurrence) → (Within t.copies → AreThere s os) →
-        AreThere t os' → AreThere s (os ++ os')
-    both s t os os' f h =
+    both :
+        {s t : State} {os os' : List Occurrence} → (Within t.copies → AreThere s os) → AreThere t
+        os' → AreThere s (os ++ os')
+    both {os = os} {os' = os'} f h =
         let g = f h.before in
         record { before = g.before; calls = Every-append IsCopied os os' g.calls h.calls }
 
-    nothing : (s : State) → Within s.copies → AreThere s []
-    nothing s h = record { before = h; calls = tt }
+    nothing : {s : State} → Within s.copies → AreThere s []
+    nothing h = record { before = h; calls = tt }
 
     -- if the copies after `add` are among `cs`, so are the copies before it
     before_add : (k : Clock) (s : State) (os : List Operation) →
@@ -93,7 +95,7 @@ module _ (Y : Layout) (P : Program) (cs : List FlatEquation) where
         AreThere x.state (occurrences P here.node k (n + call_count a) b) →
         AreThere s
         (occurrences P here.node k n a ++ occurrences P here.node k (n + call_count a) b))
-    two_copies k n s a b f h = both s _ _ _ f h
+    two_copies k n s a b f h = both f h
 
     mutual
       unfolding emit
@@ -102,87 +104,73 @@ module _ (Y : Layout) (P : Program) (cs : List FlatEquation) where
           (k : Clock) (n : ℕ) (s : State) (e : Expr) →
           Within (emit Y P here k n s e).state.copies →
           AreThere s (occurrences P here.node k n e)
-      copies_there k n s (Literal m) h = next _ _ _ tt (nothing s (before_add k s _ h))
-      copies_there k n s (Truth b) h = next _ _ _ tt (nothing s (before_add k s _ h))
+      copies_there k n s (Literal m) h = next tt (nothing (before_add k s _ h))
+      copies_there k n s (Truth b) h = next tt (nothing (before_add k s _ h))
       copies_there k n s (Variable x) h =
-          next _ _ _ tt (nothing s (subst Within (name_copies Y P here k s x _) h))
+          next tt (nothing (subst Within (name_copies Y P here k s x _) h))
       copies_there k n s (Group a) h = copies_there k n s a h
-      copies_there k n s (Unary op a) h =
-          next _ _ _ tt (copies_there k n s a (before_add k _ _ h))
+      copies_there k n s (Unary op a) h = next tt (copies_there k n s a (before_add k _ _ h))
       copies_there k n s (Binary op a b) h =
-          next _ _ _ tt (two_copies k n s a b (copies_there k n s a)
+          next tt (two_copies k n s a b (copies_there k n s a)
           (copies_there k _ _ b (before_add k _ _ h)))
       copies_there k n s (If c a b) h =
           let na = n + call_count c in
           let z = emit Y P here k n s c in
-          next _ _ _ tt (both s z.state _ _ (copies_there k n s c)
+          next tt (both (copies_there k n s c)
           (two_copies k na z.state a b (copies_there k na z.state a)
           (copies_there k _ _ b (before_add k _ _ h))))
       copies_there k n s (Arrow a b) h =
-          next _ _ _ tt (two_copies k n s a b (copies_there k n s a)
+          next tt (two_copies k n s a b (copies_there k n s a)
           (copies_there k _ _ b (before_add k _ _ h)))
       copies_there k n s (Fby a b) h =
-          next _ _ _ tt (two_copies k n s a b (copies_there k n s a)
+          next tt (two_copies k n s a b (copies_there k n s a)
           (copies_there k _ _ b (before_keep _ (before_add k _ _ (before_add k _ _ h)))))
       copies_there k n s (Pre a) h =
-          next _ _ _ tt (copies_there k n s a (before_keep _ (before_add k _ _ h)))
+          next tt (copies_there k n s a (before_keep _ (before_add k _ _ h)))
       copies_there k n s (When a x sign) h =
-          let own = declared_clock here.node x in
-          next _ _ _ tt (copies_there own n s a (before_add (On own x sign) _ _ h))
+          next tt (copies_there _ n s a (before_add (On _ x sign) _ _ h))
       copies_there k n s (Current a) h =
-          next _ _ _ tt (copies_there _ n s a (before_keep _ (before_add k _ _ h)))
-      copies_there k n s (Replicate a m) h = next _ _ _ tt (copies_there k n s a h)
-      copies_there k n s (Index a i) h = next _ _ _ tt (copies_there k n s a h)
-      copies_there k n s (Slice a i j) h = next _ _ _ tt (copies_there k n s a h)
+          next tt (copies_there _ n s a (before_keep _ (before_add k _ _ h)))
+      copies_there k n s (Replicate a m) h = next tt (copies_there k n s a h)
+      copies_there k n s (Index a i) h = next tt (copies_there k n s a h)
+      copies_there k n s (Slice a i j) h = next tt (copies_there k n s a h)
       copies_there k n s (Join a b) h =
-          next _ _ _ tt (two_copies k n s a b (copies_there k n s a) (copies_there k _ _ b h))
-      copies_there k n s (Array es) h = next _ _ _ tt (row_copies k n s es h)
+          next tt (two_copies k n s a b (copies_there k n s a) (copies_there k _ _ b h))
+      copies_there k n s (Array es) h = next tt (row_copies k n s es h)
       copies_there k n s (AtMostOne es) h =
-          next _ _ _ tt (row_copies k n s es (subst Within (at_most_one_copies _ _ _) h))
+          next tt (row_copies k n s es (subst Within (at_most_one_copies _ _ _) h))
       copies_there k n s (Nor es) h =
-          next _ _ _ tt (row_copies k n s es (subst Within (nor_copies _ _ _) h))
+          next tt (row_copies k n s es (subst Within (nor_copies _ _ _) h))
       copies_there k n s (Call f statics es) h =
           let child = Child here.path n 0 in
-          let callee = node_named P f in
-          let ks = call_clocks k callee es in
+          let ks = call_clocks k (node_named P f) es in
           let r = emit_each Y P here ks (n + 1) s es in
-          let places = flat_map (λ o. Y.places child o.name) (outputs_of P here f) in
-          let qs = call_copies Y child callee r.found in
-          let all = subst Within (joins_copies r.state qs places) h in
-          next s (at k n (Call f statics es)) (occurrences_each P here.node ks (n + 1) es)
-          (s, Every-second (λ q. In q cs) r.state.copies qs all)
-          (each_copies ks (n + 1) s es (Every-first (λ q. In q cs) r.state.copies qs all))
+          let all = subst Within (joins_copies r.state _ _) h in
+          next (s, Every-second (λ q. In q cs) r.state.copies _ all)
+          (each_copies ks (n + 1) s es (Every-first (λ q. In q cs) r.state.copies _ all))
       copies_there k n s (Iterate it (Node_named f statics) m es) h =
           let count = number P here m in
           let r = emit_all Y P here k (n + 1) s es in
-          let places =
-          iterated (λ i x. Y.places (Child here.path n i) x) count it (outputs_of P here f) in
-          let qs = iterator_copies Y here.path n it count (node_named P f) r.found in
-          let all = subst Within (joins_copies r.state qs places) h in
-          next s (at k n (Iterate it (Node_named f statics) m es))
-          (occurrences_in P here.node k (n + 1) es)
-          (s, Every-second (λ q. In q cs) r.state.copies qs all)
-          (row_copies k (n + 1) s es (Every-first (λ q. In q cs) r.state.copies qs all))
+          let all = subst Within (joins_copies r.state _ _) h in
+          next (s, Every-second (λ q. In q cs) r.state.copies _ all)
+          (row_copies k (n + 1) s es (Every-first (λ q. In q cs) r.state.copies _ all))
       copies_there k n s (Iterate it (Symbol op) m es) h =
-          next _ _ _ tt
-          (row_copies k n s es (subst Within (symbol_copies _ op _ it _) h))
+          next tt (row_copies k n s es (subst Within (symbol_copies _ op _ it _) h))
 
       row_copies :
           (k : Clock) (n : ℕ) (s : State) (es : Exprs) →
           Within (emit_all Y P here k n s es).state.copies →
           AreThere s (occurrences_in P here.node k n es)
-      row_copies k n s Nil h = nothing s h
-      row_copies k n s (Cons e es) h =
-          both s _ _ _ (copies_there k n s e) (row_copies k _ _ es h)
+      row_copies k n s Nil h = nothing h
+      row_copies k n s (Cons e es) h = both (copies_there k n s e) (row_copies k _ _ es h)
 
       each_copies :
           (ks : List Clock) (n : ℕ) (s : State) (es : Exprs) →
           Within (emit_each Y P here ks n s es).state.copies →
           AreThere s (occurrences_each P here.node ks n es)
-      each_copies ks n s Nil h = nothing s h
-      each_copies [] n s (Cons e es) h = nothing s h
-      each_copies (k ∷ ks) n s (Cons e es) h =
-          both s _ _ _ (copies_there k n s e) (each_copies ks _ _ es h)
+      each_copies ks n s Nil h = nothing h
+      each_copies [] n s (Cons e es) h = nothing h
+      each_copies (k ∷ ks) n s (Cons e es) h = both (copies_there k n s e) (each_copies ks _ _ es h)
 
     -- ## Statements
 
@@ -200,15 +188,12 @@ module _ (Y : Layout) (P : Program) (cs : List FlatEquation) where
     unfolding emit_body
     body_copies n s [] h = record { before = h; calls = tt; lefts = tt }
     body_copies n s (Assertion e ∷ rest) h =
-        let k = statement_clock P here.node (Assertion e) in
         let m = n + call_count e in
-        let x = emit Y P here k n s e in
-        let r = body_copies m (assert x) rest h in
-        let a = copies_there k n s e (subst Within (assert_copies x) r.before) in
+        let r = body_copies m (assert _) rest h in
+        let a = copies_there _ n s e (subst Within (assert_copies _) r.before) in
         record {
           before = a.before;
-          calls =
-              Every-append IsCopied (occurrences P here.node k n e)
+          calls = Every-append IsCopied (occurrences P here.node _ n e)
               (occurrences_of P here.node (right_sides P here.node m rest)) a.calls r.calls;
           lefts = (tt, r.lefts);
         }
@@ -216,16 +201,14 @@ module _ (Y : Layout) (P : Program) (cs : List FlatEquation) where
         let k = statement_clock P here.node (Equation lefts e) in
         let m = n + call_count e in
         let x = emit Y P here k n s e in
-        let qs = copied (flat_map (targets Y here.node here.path) lefts) x.found in
-        let r = body_copies m (joins x.state qs []).state rest h in
-        let all = subst Within (joins_copies x.state qs []) r.before in
-        let a = copies_there k n s e (Every-first (λ q. In q cs) x.state.copies qs all) in
+        let r = body_copies m (joins x.state _ []).state rest h in
+        let all = subst Within (joins_copies x.state _ []) r.before in
+        let a = copies_there k n s e (Every-first (λ q. In q cs) x.state.copies _ all) in
         record {
           before = a.before;
-          calls =
-              Every-append IsCopied (occurrences P here.node k n e)
+          calls = Every-append IsCopied (occurrences P here.node k n e)
               (occurrences_of P here.node (right_sides P here.node m rest)) a.calls r.calls;
-          lefts = ((s, Every-second (λ q. In q cs) x.state.copies qs all), r.lefts);
+          lefts = ((s, Every-second (λ q. In q cs) x.state.copies _ all), r.lefts);
         }
 
   -- ## Instances
@@ -300,9 +283,6 @@ module _ (Y : Layout) (P : Program) (here : Instance) where
   singled : (o : Option DataType) (t : DataType) → singly o ≡ Some (t ∷ []) → o ≡ Some t
   singled None t e = absurd cc
   singled (Some u) t e = ap Some (heads_same u t [] [] (same_Some (u ∷ []) (t ∷ []) e))
-    where
-      heads_same : (a b : DataType) (xs ys : List DataType) → a ∷ xs ≡ b ∷ ys → a ≡ b
-      heads_same a b xs ys e = cc
 
   -- a variable given for an input has as many elements as the input
   argument_width :
@@ -337,11 +317,6 @@ module _ (Y : Layout) (P : Program) (here : Instance) where
       copies = h.copies;
     }
 
-    types_first :
-        (t u : DataType) (ts us ins args : List DataType) → ins ≡ t ∷ ts → args ≡ u ∷ us →
-        are_types ins args ≡ true → (is_type t u && are_types ts us) ≡ true
-    types_first t u ts us ins args p q e = ap₂ are_types (sym p) (sym q) ∙ e
-
     -- a given input of `d ∷ ds` is copied, if `d` is, and if the given inputs of `ds` are
     first_argument :
         (k : Clock) (d : Declaration) (ds : List Declaration) (a : Expr) (es : Exprs) (n : ℕ)
@@ -361,15 +336,14 @@ module _ (Y : Layout) (P : Program) (here : Instance) where
         this y var name given =
             let value : y ≡ g.1 = cc in
             let own = var ∙ ap (λ z. Some z) value in
-            let places = emit_variable k n s a g.1 v own is in
             record {
               input = d;
               among = inl refl;
               name = name;
               wide = argument_width c d a g.1 v t u is_t is_u same own is;
-              copies =
-                  rw (← name) (subst (λ fs. Within Y P cs
-                  (copied (targets Y c.node c.path d.name) fs)) places first);
+              copies = rw (← name)
+                  (subst (λ fs. Within Y P cs (copied (targets Y c.node c.path d.name) fs))
+                  (emit_variable k n s a g.1 v own is) first);
             }
 
         by_name : (y : Name) → as_variable a ≡ Some y → (b : Bool) → bytes_eq d.name x ≡ b →
@@ -394,12 +368,10 @@ module _ (Y : Layout) (P : Program) (here : Instance) where
         (v : Declaration) → named (λ d. d.name) g.1 (variables here.node) ≡ Some v →
         Within Y P cs (received Y c.node c.path ds (emit_each Y P here (map f ds) n s es).found) →
         IsArgument ds x v g.1
-    argument_copied f [] es n s ins args p q e x g found v is w = absurd cc
-    argument_copied f (d ∷ ds) Nil n s ins args p q e x g found v is w = absurd cc
     argument_copied f (d ∷ ds) (Cons a es) n s ins args p q e x g found v is w =
         let h = each (variable_type P c d) (map (variable_type P c) ds) ins p in
         let i = first_of_all P here a es args q in
-        let same = types_first h.first i.first h.rest i.rest ins args h.all i.all e in
+        let same = types_first h.all i.all e in
         let m = n + call_count a in
         let z = emit Y P here (f d) n s a in
         let own = copied (targets Y c.node c.path d.name) z.found in
@@ -407,13 +379,11 @@ module _ (Y : Layout) (P : Program) (here : Instance) where
         let all : Within Y P cs (own ++ rest) =
         subst (λ fs. Within Y P cs (received Y c.node c.path (d ∷ ds) fs))
         (each_found (f d) (map f ds) n s a es) w in
-        first_argument (f d) d ds a es n s h.first i.first h.is i.is
-        (and_first (is_type h.first i.first) _ same) x g v is
+        first_argument (f d) d ds a es n s h.first i.first h.is i.is same.0 x g v is
         (Every-first (λ q. In q cs) own rest all)
-        (λ later. argument_copied f ds es m z.state h.rest i.rest h.others i.others
-        (and_second (is_type h.first i.first) _ same) x g later v is
-        (Every-second (λ q. In q cs) own rest all))
-        found
+        (λ later. argument_copied f ds es m z.state h.rest i.rest h.others i.others same.1 x g later
+        v is (Every-second (λ q. In q cs) own rest all)) found
+    argument_copied f _ _ n s ins args p q e x g found v is w = absurd cc
 
     -- ## Left variables
 
@@ -484,18 +454,15 @@ module _ (Y : Layout) (P : Program) (here : Instance) where
         (copied (flat_map (targets Y here.node here.path) xs)
         (flat_map (λ o. Y.places c.path o.name) ds)) →
         IsResult ds x g.1
-    result_copied [] xs outs lefts wide own p q e x g found w = absurd cc
-    result_copied (d ∷ ds) [] outs lefts wide own p q e x g found w = absurd cc
     result_copied (d ∷ ds) (y ∷ xs) outs lefts wide own p q e x g found w =
         let h = each (variable_type P c d) (map (variable_type P c) ds) outs p in
         let i = each (type_of_name P here y) (map (type_of_name P here) xs) lefts q in
-        let same = types_first h.first i.first h.rest i.rest outs lefts h.all i.all e in
+        let same = types_first h.all i.all e in
         let v = bound (named (λ d. d.name) y (variables here.node)) (variable_type P here) i.first
         i.is in
         let width_same : width P c d ≡ width P here v.value =
-        width_of P c d h.first h.is
-        ∙ same_count h.first i.first (and_first (is_type h.first i.first) _ same)
-        ∙ sym (width_of P here v.value i.first v.gives) in
+        width_of P c d h.first h.is ∙ same_count h.first i.first same.0 ∙ sym
+        (width_of P here v.value i.first v.gives) in
         let ts = targets Y here.node here.path y in
         let is = Y.places c.path d.name in
         let us = flat_map (targets Y here.node here.path) xs in
@@ -506,7 +473,6 @@ module _ (Y : Layout) (P : Program) (here : Instance) where
         subst (Within Y P cs) (copied_append ts us is js as_long) w in
         first_result d ds y xs v.value v.is width_same x g
         (Every-first (λ q. In q cs) (copied ts is) (copied us js) split)
-        (λ later. result_copied ds xs h.rest i.rest wide.1 own h.others i.others
-        (and_second (is_type h.first i.first) _ same) x g later
-        (Every-second (λ q. In q cs) (copied ts is) (copied us js) split))
-        found
+        (λ later. result_copied ds xs h.rest i.rest wide.1 own h.others i.others same.1 x g later
+        (Every-second (λ q. In q cs) (copied ts is) (copied us js) split)) found
+    result_copied _ _ outs lefts wide own p q e x g found w = absurd cc

@@ -1,54 +1,31 @@
 -- The copies of all instances match the definitions of left variables and of the inputs of callees:
 -- each copy is such a definition, and each definition has its copy.
 use Rattle.lb_expand.proofs.Words
-use Words.{◌≡◌, ◌⊎◌, inl, inr, ℕ, ◌+◌, true, pos, Option, Some, None, List, [], ◌∷◌, ◌++◌, map}
-use Words.{length, flat_map, zip, refl, sym, ap, ◌∙◌, subst, arith, list_all, append-nil}
-use Words.{length-map, append_assoc, same_Some, flat_map-append, ArrayIterator, Map, Red, Fill}
-use Words.{Every, In, all_some, where_true, Name, Node_named, Symbol, Expr, Literal, Truth}
-use Words.{Variable, Group, Unary, Binary, If, Arrow, Fby, Pre, Current, When, Replicate, Index}
-use Words.{Slice, Join, Array, AtMostOne, Nor, Call, Iterate, Statement, Equation, Assertion}
-use Words.{and_first, and_second, Program, Instance, Path, Child, static_count, node_named}
-use Words.{DataType, are_types, are_same, length-all_some, data_types, unary_type, binary_type}
-use Words.{common_type, array_of, index_type, slice_type, join_type, list_type, iterator_types}
-use Words.{all_types, name_data_type, singly, from_one, from_truths, operator_types, type_of_name}
-use Words.{is_statement_typed, declared_clock, ungrouped, Element, Definition, elements_named}
-use Words.{itself, needs, output_elements, defined_as, is_site, call_definitions}
-use Words.{equation_definitions, Occurrence, at, call_count, call_clocks, occurrences}
-use Words.{statement_clock, right_sides, statements, node_occurrences, History, number, outputs_of}
-use Words.{iterated, in_first, in_second, in_either, truly, FlatClock, Always, FlatEquation, Layout}
-use Words.{flat_clock, State, Target, targets, copied, joins, assert, call_copies, iterator_copies}
-use Words.{emit, emit_all, emit_each, emit_body, emit_instances}
-use Rattle.{lb_check.specs.Clocks.Clock, lb_flat.proofs.lists.Lists.{Every-append, Every-first}}
-use Rattle.{lb_flat.proofs.lists.Lists.Every-second, lb_expand.proofs.copies.CopiedCalls.AreMatched}
-use Rattle.lb_expand.proofs.copies.CopiedCalls.{matched-none, matched-append, matched-moved}
-use Rattle.lb_expand.proofs.copies.CopiedCalls.{matched-pairs, IsDefinedBy, IsPassed, ArePassed}
-use Rattle.lb_expand.proofs.copies.CopiedCalls.{called_by, Defines, calls_defined}
-use Rattle.lb_expand.proofs.reads.LinkSymbols.{iterated_pairs, joins_found, red_out}
-use Rattle.lb_expand.proofs.reads.LinkTerms.{AreNumbered, IsKnown, outputs_numbered, each_output}
-use Rattle.lb_expand.proofs.reads.{LinkTerms.{linked, term_before}, LinkWords.{Pairs, pairs-append}}
-use Rattle.lb_expand.proofs.reads.LinkWords.{AllMeet, AreLinks, Link, variable_links}
+use Words.{Every-all, Bool, false, ◌≡◌, inl, ℕ, ◌+◌, true, Some, List, [], ◌∷◌, ◌++◌, map, length}
+use Words.{flat_map, zip, refl, sym, ap, ◌∙◌, subst, arith, list_all, append-nil, length-map}
+use Words.{append_assoc, flat_map-append, Every, all_some, Name, Node_named, Expr, Group, Call}
+use Words.{Iterate, Statement, Equation, Assertion, and_first, and_second, Program, Instance, Path}
+use Words.{DataType, are_types, length-all_some, data_types, type_of_name, is_statement_typed}
+use Words.{declared_clock, ungrouped, Element, Definition, elements_named, needs, defined_as}
+use Words.{is_site, call_definitions, equation_definitions, Occurrence, at, call_count, occurrences}
+use Words.{statement_clock, right_sides, statements, node_occurrences, History, in_first, in_second}
+use Words.{in_either, FlatClock, Always, FlatEquation, Layout, flat_clock, State, Target, targets}
+use Words.{copied, joins, assert, emit, emit_body, emit_instances}
+use Rattle.lb_check.specs.Clocks.{Clock}
+use Rattle.lb_flat.proofs.lists.Lists.{Every-append, Every-first, Every-second}
+use Rattle.lb_expand.proofs.copies.CopiedCalls.{AreMatched, matched-none, matched-append}
+use Rattle.lb_expand.proofs.copies.CopiedCalls.{matched-moved, matched-pairs, IsDefinedBy, IsPassed}
+use Rattle.lb_expand.proofs.copies.CopiedCalls.{ArePassed, called_by, Defines, calls_defined}
+use Rattle.lb_expand.proofs.fits.FitStatements.{one_result}
+use Rattle.lb_expand.proofs.reads.LinkTerms.{AreNumbered, IsKnown, call_linked, iterator_linked}
+use Rattle.lb_expand.proofs.reads.LinkTerms.{linked, term_before}
+use Rattle.lb_expand.proofs.reads.LinkWords.{Pairs, pairs-append, AllMeet, AreLinks, Link, either}
 use Rattle.lb_expand.proofs.solutions.Emission.{joins_equations, joins_copies}
 use Rattle.lb_expand.proofs.solutions.Solving.{assert_equations, assert_copies, occurrences_of}
-use Rattle.lb_expand.proofs.widths.{PlacedCalls.lengths_same, TypeFacts.{bound, one, two}}
-use Rattle.lb_expand.proofs.widths.TypeFacts.{from_true, alone, are_counts, constant, symbolic}
-use Rattle.lb_expand.proofs.widths.Widths.{called, placed, AreVariablesWide}
+use Rattle.lb_expand.proofs.widths.TypeFacts.{BothThere, both_there, one, are_counts}
+use Rattle.lb_expand.proofs.widths.{PlacedCalls.lengths_same, Widths.AreVariablesWide}
 
 -- ## Expressions with several results
-
--- both lists of types exist, and they are the same
-pub record BothThere (o p : Option (List DataType)) : Type 0 where
-  pub right : List DataType
-  pub left : List DataType
-  pub is_right : o ≡ Some right
-  pub is_left : p ≡ Some left
-  pub like : are_types right left ≡ true
-
-both_there :
-    (P : Program) (o p : Option (List DataType)) → are_same P o p ≡ true → BothThere o p
-both_there P None p e = absurd cc
-both_there P (Some ts) None e = absurd cc
-both_there P (Some ts) (Some us) e =
-    record { right = ts; left = us; is_right = refl; is_left = refl; like = e }
 
 -- two left variables do not fit a right side with one type
 too_many :
@@ -60,87 +37,6 @@ too_many P here x y lefts right left e like one =
     let names = length-map (x ∷ (y ∷ lefts)) (type_of_name P here) in
     let many = lengths_same right left (are_counts right left like) in
     absurd (omega (arith, count, names, many, one))
-
-symbol_single :
-    (n : ℕ) (it : ArrayIterator) (ins outs args ts : List DataType) → length outs ≡ 1 →
-    iterator_types it n ins outs args ≡ Some ts → length ts ≡ 1
-symbol_single n Map ins outs args ts one e =
-    let w = bound (all_some (map (array_of n) ins)) _ ts e in
-    let b = bound (where_true (are_types w.value args) outs) _ ts w.gives in
-    let h = truly (are_types w.value args) outs b.value b.is in
-    length-all_some (map (array_of n) b.value) ts b.gives
-    ∙ (length-map b.value (array_of n) ∙ (ap length (sym h.same) ∙ one))
-symbol_single n Red ins outs args ts one e = ap length (red_out n ins outs args ts e) ∙ one
-symbol_single n Fill [] outs args ts one e = absurd cc
-symbol_single n Fill (a ∷ (b ∷ ins)) outs args ts one e = absurd cc
-symbol_single n Fill (a ∷ []) [] args ts one e = absurd cc
-symbol_single n Fill (a ∷ []) (o ∷ []) args ts one e = absurd cc
-symbol_single n Fill (a ∷ []) (o ∷ (p ∷ outs)) args ts one e = absurd (omega (arith, one))
-
--- an expression with types is a call, or has exactly one type
-one_or_call :
-    (P : Program) (here : Instance) (e : Expr) (ts : List DataType) →
-    data_types P here e ≡ Some ts → (is_site (ungrouped e) ≡ true) ⊎ (length ts ≡ 1)
-one_or_call P here (Literal m) ts e = inr (ap length (constant (Some (pos m)) ts e).all)
-one_or_call P here (Truth b) ts e = inr (ap length (sym (same_Some _ _ e)))
-one_or_call P here (Variable x) ts e =
-    let i = alone (name_data_type P here x) ts e in inr (ap length i.all)
-one_or_call P here (Group a) ts e = one_or_call P here a ts e
-one_or_call P here (Unary op a) ts e =
-    let i = one (data_types P here a) (unary_type op) ts e in inr (ap length i.all)
-one_or_call P here (Binary op a b) ts e =
-    let i = two (data_types P here a) (data_types P here b) (binary_type op) ts e in
-    inr (ap length i.all)
-one_or_call P here (If c a b) ts e =
-    let t = bound (from_truths (from_one (data_types P here c) Some)) _ ts e in
-    let i = two (data_types P here a) (data_types P here b) common_type ts t.gives in
-    inr (ap length i.all)
-one_or_call P here (Arrow a b) ts e =
-    let i = two (data_types P here a) (data_types P here b) common_type ts e in
-    inr (ap length i.all)
-one_or_call P here (Fby a b) ts e =
-    let i = two (data_types P here a) (data_types P here b) common_type ts e in
-    inr (ap length i.all)
-one_or_call P here (Pre a) ts e =
-    let i = one (data_types P here a) Some ts e in inr (ap length i.all)
-one_or_call P here (Current a) ts e =
-    let i = one (data_types P here a) Some ts e in inr (ap length i.all)
-one_or_call P here (When a x sign) ts e =
-    let t = bound (from_truths (singly (name_data_type P here x))) _ ts e in
-    let i = one (data_types P here a) Some ts t.gives in
-    inr (ap length i.all)
-one_or_call P here (Replicate a m) ts e =
-    let c = bound (static_count P here m) _ ts e in
-    let i = one (data_types P here a) (array_of c.value) ts c.gives in
-    inr (ap length i.all)
-one_or_call P here (Index a s) ts e =
-    let c = bound (static_count P here s) _ ts e in
-    let i = one (data_types P here a) (index_type c.value) ts c.gives in
-    inr (ap length i.all)
-one_or_call P here (Slice a s t) ts e =
-    let c = bound (static_count P here s) _ ts e in
-    let d = bound (static_count P here t) _ ts c.gives in
-    let i = one (data_types P here a) (slice_type c.value d.value) ts d.gives in
-    inr (ap length i.all)
-one_or_call P here (Join a b) ts e =
-    let i = two (data_types P here a) (data_types P here b) join_type ts e in
-    inr (ap length i.all)
-one_or_call P here (Array es) ts e =
-    let b = bound (all_types P here es) _ ts e in
-    let i = alone (list_type b.value) ts b.gives in
-    inr (ap length i.all)
-one_or_call P here (AtMostOne es) ts e =
-    let t = from_true (all_types P here es) ts e in inr (ap length t.all)
-one_or_call P here (Nor es) ts e =
-    let t = from_true (all_types P here es) ts e in inr (ap length t.all)
-one_or_call P here (Call f statics es) ts e = inl refl
-one_or_call P here (Iterate it (Node_named f statics) m es) ts e = inl refl
-one_or_call P here (Iterate it (Symbol op) m es) ts e =
-    let c = bound (static_count P here m) _ ts e in
-    let o = bound (operator_types P here (Symbol op)) _ ts c.gives in
-    let a = bound (all_types P here es) _ ts o.gives in
-    inr (symbol_single _ it _ _ _ ts (ap (λ (t : List DataType × List DataType). length t.1)
-    (symbolic op _ o.is).are) a.gives)
 
 module _ (Y : Layout) (P : Program) (H : History)
     (same : (p : Path) (x : Name) → length (Y.places p x) ≡ length (H.columns p x))
@@ -157,11 +53,7 @@ module _ (Y : Layout) (P : Program) (H : History)
       (j : ℕ) (ys : List Element) → Link IsAt Under Left k j ys → Link IsAt Under Left t.clock j ys
 
   always : (t : Target) → Serves Always t
-  always t j ys l = record { there = l.there; back = λ g. from (l.back g) }
-    where
-      from : {A : Type 0} {B : Type 0} → A ⊎ ⊥ → A ⊎ B
-      from (inl g) = inl g
-      from (inr g) = absurd g
+  always t j ys l = record { there = l.there; back = λ g. either inl (λ n. absurd n) (l.back g) }
 
   -- the copies into some targets match the definitions of their elements
   targets_paired :
@@ -170,15 +62,12 @@ module _ (Y : Layout) (P : Program) (H : History)
       AreLinks IsAt Under Left k js yss →
       Pairs Defined (copied ts js) (defined_as ys yss)
   targets_paired k [] [] js yss c h l = tt
-  targets_paired k [] (y ∷ ys) js yss c h l = absurd h
-  targets_paired k (t ∷ ts) [] js yss c h l = absurd h
   targets_paired k (t ∷ ts) (y ∷ ys) [] [] c h l = tt
-  targets_paired k (t ∷ ts) (y ∷ ys) [] (zs ∷ yss) c h l = absurd l
-  targets_paired k (t ∷ ts) (y ∷ ys) (j ∷ js) [] c h l = absurd l
   targets_paired k (t ∷ ts) (y ∷ ys) (j ∷ js) (zs ∷ yss) c h l = (
     record { operand = j; copies = refl; is_at = h.0; link = c.0 j zs l.0 },
     targets_paired k ts ys js yss c.1 h.1 l.1,
   )
+  targets_paired k _ _ _ _ c h l = search
 
   module _ (here : Instance) (wide : AreVariablesWide P H here here)
       (numbered : AreNumbered Y P H same IsAt Under Left here here) where
@@ -209,44 +98,10 @@ module _ (Y : Layout) (P : Program) (H : History)
     unfolding emit needs
     call_links k n s (Group a) c p = call_links k n s a c p
     call_links k n s (Call f statics es) c p =
-        let t = p.0.typed in
-        let o = bound (operator_types P here (Node_named f statics)) _ t.types t.are in
-        let called_node = called P here f statics o.value o.is in
-        let there = placed P here f statics called_node.callee called_node.is in
-        let r = emit_each Y P here (call_clocks k (node_named P f) es) (n + 1) s es in
-        let callee : Instance = record called_node.callee { path = Child here.path n 0 } in
-        let output = outputs_numbered Y P H same IsAt Under Left here f statics n 0 callee
-        (there.at n 0) refl (p.0.linkable callee (there.at n 0)) in
-        let outs = outputs_of P here f in
-        let copies = call_copies Y (Child here.path n 0) (node_named P f) r.found in
-        let is = flat_map (λ o. Y.places (Child here.path n 0) o.name) outs in
-        let ys = flat_map (λ o. output_elements P here f statics n 0 o.name) outs in
-        subst (λ js. AreLinks IsAt Under Left Always js (itself ys))
-        (sym (joins_found r.state copies is))
-        (variable_links IsAt Under Left Always is ys
-        (each_output Y P H same IsAt Under Left here f statics n output outs))
+        call_linked Y P H same IsAt Under Left here wide numbered Always k n s f statics es p.0
     call_links k n s (Iterate it (Node_named f statics) m es) c p =
-        let t = p.0.typed in
-        let size = bound (static_count P here m) _ t.types t.are in
-        let o = bound (operator_types P here (Node_named f statics)) _ t.types size.gives in
-        let called_node = called P here f statics o.value o.is in
-        let there = placed P here f statics called_node.callee called_node.is in
-        let r = emit_all Y P here k (n + 1) s es in
-        let outs = outputs_of P here f in
-        let count = number P here m in
-        let copies = iterator_copies Y here.path n it count (node_named P f) r.found in
-        let is = iterated (λ i x. Y.places (Child here.path n i) x) count it outs in
-        let ys = iterated (output_elements P here f statics n) count it outs in
-        let callee : ℕ → Instance =
-        λ i. record called_node.callee { path = Child here.path n i } in
-        subst (λ js. AreLinks IsAt Under Left Always js (itself ys))
-        (sym (joins_found r.state copies is))
-        (variable_links IsAt Under Left Always is ys
-        (iterated_pairs (λ i y. IsAt y i) (λ i x. Y.places (Child here.path n i) x)
-        (output_elements P here f statics n) count
-        (λ i lt x. outputs_numbered Y P H same IsAt Under Left here f statics n i (callee i)
-        (there.at n i) refl (p.0.linkable.1 i lt (callee i) (there.at n i)) x)
-        p.0.linkable.0 it outs))
+        iterator_linked Y P H same IsAt Under Left here wide numbered Always k n s it f statics m
+        es p.0
     call_links k n s _ c p = absurd cc
 
     -- ## Left variables
@@ -256,9 +111,8 @@ module _ (Y : Layout) (P : Program) (H : History)
         Pairs (λ t y. IsAt y t.place)
         (map (λ i. let t : Target = record { place = i; clock = k } in t) is) ys
     places_paired k [] [] h = tt
-    places_paired k [] (y ∷ ys) h = absurd h
-    places_paired k (i ∷ is) [] h = absurd h
     places_paired k (i ∷ is) (y ∷ ys) h = (h.0, places_paired k is ys h.1)
+    places_paired k _ _ h = absurd h
 
     lefts_paired :
         (lefts : List Name) →
@@ -276,10 +130,6 @@ module _ (Y : Layout) (P : Program) (H : History)
     own_clock x [] = tt
     own_clock x (i ∷ is) = (λ j ys l. l, own_clock x is)
 
-    each_always : (ts : List Target) → Every (Serves Always) ts
-    each_always [] = tt
-    each_always (t ∷ ts) = (always t, each_always ts)
-
     -- the copies of an equation are its definitions
     equation_paired :
         (n : ℕ) (s : State) (lefts : List Name) (e : Expr) →
@@ -291,32 +141,27 @@ module _ (Y : Layout) (P : Program) (H : History)
         (defined_as (flat_map (elements_named P here) lefts) (needs P here n e))
     equation_paired n s [] e typed p h = tt
     equation_paired n s (x ∷ []) e typed p h =
-        let k = declared_clock here.node x in
-        let l = linked Y P H same IsAt Under Left here wide numbered k n s e p h in
-        targets_paired (flat_clock Y here.path k)
+        targets_paired (flat_clock Y here.path _)
         (flat_map (targets Y here.node here.path) (x ∷ []))
-        (flat_map (elements_named P here) (x ∷ [])) (emit Y P here k n s e).found
-        (needs P here n e)
-        (Every-append (Serves (flat_clock Y here.path k)) (targets Y here.node here.path x) []
-        (own_clock x (Y.places here.path x)) tt)
-        (lefts_paired (x ∷ [])) l
+        (flat_map (elements_named P here) (x ∷ [])) (emit Y P here _ n s e).found (needs P here n e)
+        (Every-append (Serves (flat_clock Y here.path _)) (targets Y here.node here.path x) []
+        (own_clock x (Y.places here.path x)) tt) (lefts_paired (x ∷ []))
+        (linked Y P H same IsAt Under Left here wide numbered _ n s e p h)
     equation_paired n s (x ∷ (y ∷ lefts)) e typed p h =
-        let k = declared_clock here.node x in
-        let ts = flat_map (targets Y here.node here.path) (x ∷ (y ∷ lefts)) in
         let t = both_there P (data_types P here e)
         (all_some (map (type_of_name P here) (x ∷ (y ∷ lefts)))) typed in
-        targets_paired Always ts (flat_map (elements_named P here) (x ∷ (y ∷ lefts)))
-        (emit Y P here k n s e).found (needs P here n e) (each_always ts)
-        (lefts_paired (x ∷ (y ∷ lefts)))
-        (call_links k n s e (by t (one_or_call P here e t.right t.is_right)) p)
+        targets_paired Always _ (flat_map (elements_named P here) (x ∷ (y ∷ lefts)))
+        (emit Y P here _ n s e).found (needs P here n e) (Every-all (Serves Always) always _)
+        (lefts_paired (x ∷ (y ∷ lefts))) (call_links _ n s e (by t (is_site (ungrouped e)) refl) p)
       where
         by :
             (t : BothThere (data_types P here e)
-            (all_some (map (type_of_name P here) (x ∷ (y ∷ lefts))))) →
-            (is_site (ungrouped e) ≡ true) ⊎ (length t.right ≡ 1) →
-            is_site (ungrouped e) ≡ true
-        by t (inl c) = c
-        by t (inr c) = absurd (too_many P here x y lefts t.right t.left t.is_left t.like c)
+            (all_some (map (type_of_name P here) (x ∷ (y ∷ lefts))))) (b : Bool) →
+            is_site (ungrouped e) ≡ b → is_site (ungrouped e) ≡ true
+        by t true c = c
+        by t false c =
+            absurd (too_many P here x y lefts t.right t.left t.is_left t.same
+            (ap length (one_result P here e t.right c t.is_right).1))
 
     -- ## Bodies
 
@@ -340,44 +185,20 @@ module _ (Y : Layout) (P : Program) (H : History)
         (cs qs es ds : List Definition) (new : List FlatEquation) →
         AreMatched Defined new (cs ++ (qs ++ (es ++ ds))) →
         AreMatched Defined new ((qs ++ es) ++ (cs ++ ds))
-    shuffled cs qs es ds new m = matched-moved Defined new _ _ m there back
-      where
-        of_last : (d : Definition) → In d es ⊎ In d ds → In d ((qs ++ es) ++ (cs ++ ds))
-        of_last d (inl i) = in_first d (qs ++ es) (cs ++ ds) (in_second d qs es i)
-        of_last d (inr i) = in_second d (qs ++ es) (cs ++ ds) (in_second d cs ds i)
-
-        of_later : (d : Definition) → In d qs ⊎ In d (es ++ ds) → In d ((qs ++ es) ++ (cs ++ ds))
-        of_later d (inl i) = in_first d (qs ++ es) (cs ++ ds) (in_first d qs es i)
-        of_later d (inr i) = of_last d (in_either d es ds i)
-
-        of_all :
-            (d : Definition) → In d cs ⊎ In d (qs ++ (es ++ ds)) →
-            In d ((qs ++ es) ++ (cs ++ ds))
-        of_all d (inl i) = in_second d (qs ++ es) (cs ++ ds) (in_first d cs ds i)
-        of_all d (inr i) = of_later d (in_either d qs (es ++ ds) i)
-
-        there : (d : Definition) → In d (cs ++ (qs ++ (es ++ ds))) → In d ((qs ++ es) ++ (cs ++ ds))
-        there d i = of_all d (in_either d cs (qs ++ (es ++ ds)) i)
-
-        to_left : (d : Definition) → In d qs ⊎ In d es → In d (cs ++ (qs ++ (es ++ ds)))
-        to_left d (inl i) =
-            in_second d cs (qs ++ (es ++ ds)) (in_first d qs (es ++ ds) i)
-        to_left d (inr i) =
-            in_second d cs (qs ++ (es ++ ds)) (in_second d qs (es ++ ds) (in_first d es ds i))
-
-        to_right : (d : Definition) → In d cs ⊎ In d ds → In d (cs ++ (qs ++ (es ++ ds)))
-        to_right d (inl i) = in_first d cs (qs ++ (es ++ ds)) i
-        to_right d (inr i) =
-            in_second d cs (qs ++ (es ++ ds)) (in_second d qs (es ++ ds) (in_second d es ds i))
-
-        to_all :
-            (d : Definition) → In d (qs ++ es) ⊎ In d (cs ++ ds) →
-            In d (cs ++ (qs ++ (es ++ ds)))
-        to_all d (inl i) = to_left d (in_either d qs es i)
-        to_all d (inr i) = to_right d (in_either d cs ds i)
-
-        back : (d : Definition) → In d ((qs ++ es) ++ (cs ++ ds)) → In d (cs ++ (qs ++ (es ++ ds)))
-        back d i = to_all d (in_either d (qs ++ es) (cs ++ ds) i)
+    shuffled cs qs es ds new m =
+        matched-moved Defined new _ _ m
+        (λ d i. either (λ c. in_second d (qs ++ es) (cs ++ ds) (in_first d cs ds c))
+        (λ r. either (λ q. in_first d (qs ++ es) (cs ++ ds) (in_first d qs es q))
+        (λ l. either (λ e. in_first d (qs ++ es) (cs ++ ds) (in_second d qs es e))
+        (λ e. in_second d (qs ++ es) (cs ++ ds) (in_second d cs ds e)) (in_either d es ds l))
+        (in_either d qs (es ++ ds) r)) (in_either d cs (qs ++ (es ++ ds)) i))
+        (λ d i. either (λ l. in_second d cs (qs ++ (es ++ ds))
+        (either (λ q. in_first d qs (es ++ ds) q)
+        (λ e. in_second d qs (es ++ ds) (in_first d es ds e)) (in_either d qs es l)))
+        (λ r. either (λ c. in_first d cs (qs ++ (es ++ ds)) c)
+        (λ e. in_second d cs (qs ++ (es ++ ds))
+        (in_second d qs (es ++ ds) (in_second d es ds e))) (in_either d cs ds r))
+        (in_either d (qs ++ es) (cs ++ ds) i))
 
     -- the copies of a statement, and then those of the statements after it, match all definitions
     joined_body :
@@ -499,9 +320,7 @@ module _ (Y : Layout) (P : Program) (H : History)
       record {
         before = a.before;
         new = a.new ++ r.new;
-        copies = r.copies
-            ∙ (ap (λ cs. cs ++ r.new) a.copies
-            ∙ append_assoc s.copies a.new r.new);
+        copies = r.copies ∙ (ap (λ cs. cs ++ r.new) a.copies ∙ append_assoc s.copies a.new r.new);
         matched = matched-append Defined a.new r.new (made_by here) (flat_map made_by rest)
             a.matched r.matched;
       }

@@ -1,34 +1,36 @@
 -- The copies that an expression emits match the definitions of the inputs of its callees.
 use Rattle.lb_expand.proofs.Words
-use Words.{◌≡◌, inl, inr, ℕ, zero, suc, ◌*◌, ◌/◌, ◌<◌, List, [], ◌∷◌, ◌++◌, map, length, take, drop}
-use Words.{flat_map, refl, sym, ap, ◌∙◌, subst, arith, ArrayIterator, Map, Red, Fill, Every, In}
-use Words.{part, joined, Name, Declaration, Node, Program, Instance, Path, Stream, declared_clock}
-use Words.{Element, Definition, elements, defined_as, accumulated, iterator_inputs, History}
-use Words.{Every-at, Every-from, FlatClock, Copy, FlatEquation, Layout, flat_clock, Target, targets}
-use Words.{copied, received, ◌+◌, ◌≤◌, Option, Some, None, range_with_len, append-nil, append_assoc}
-use Words.{flat_map-append, listed, Static, Node_named, Symbol, Expr, Literal, Truth, Variable}
-use Words.{Group, Unary, Binary, If, Arrow, Fby, Pre, Current, When, Replicate, Index, Slice, Join}
-use Words.{Array, AtMostOne, Nor, Call, Iterate, Exprs, Nil, Cons, named, Child, call_site}
-use Words.{callee_of, static_count, node_named, DataType, variables, all_types, operator_types}
-use Words.{itself, needs, all_needs, output_elements, call_definitions, Occurrence, at, call_count}
-use Words.{call_clocks, occurrences, occurrences_in, occurrences_each, number, outputs_of}
-use Words.{all_streams, argument_streams, iterated, first_of_all, Operation, State, Emitted}
-use Words.{call_copies, iterator_copies, add, keep, emit_name, emit, emit_all, emit_each, Given}
-use Words.{base_clock, outer}
+use Words.{heads_same, tails_same, ◌≡◌, inl, inr, ℕ, zero, suc, ◌*◌, ◌/◌, ◌<◌, List, [], ◌∷◌, ◌++◌}
+use Words.{map, length, take, drop, flat_map, refl, sym, ap, ◌∙◌, subst, arith, ArrayIterator, Map}
+use Words.{Red, Fill, Every, In, part, joined, Name, Declaration, Node, Program, Instance, Path}
+use Words.{Stream, declared_clock, Element, Definition, elements, defined_as, accumulated}
+use Words.{iterator_inputs, History, Every-at, Every-from, FlatClock, Copy, FlatEquation, Layout}
+use Words.{flat_clock, Target, targets, copied, received, ◌+◌, ◌≤◌, Option, Some, None}
+use Words.{range_with_len, append-nil, append_assoc, flat_map-append, listed, Static, Node_named}
+use Words.{Symbol, Expr, Literal, Truth, Variable, Group, Unary, Binary, If, Arrow, Fby, Pre}
+use Words.{Current, When, Replicate, Index, Slice, Join, Array, AtMostOne, Nor, Call, Iterate}
+use Words.{Exprs, Nil, Cons, named, Child, call_site, callee_of, static_count, node_named, DataType}
+use Words.{variables, all_types, operator_types, itself, needs, all_needs, output_elements}
+use Words.{call_definitions, Occurrence, at, call_count, call_clocks, occurrences, occurrences_in}
+use Words.{occurrences_each, number, all_streams, argument_streams, first_of_all, Operation, State}
+use Words.{Emitted, call_copies, iterator_copies, add, keep, emit_name, emit, emit_all, emit_each}
+use Words.{Given, base_clock, outer}
 use Rattle.lb_check.specs.{Clocks.{Clock, given_inputs}, Needs.input_definitions}
-use Rattle.lb_flat.proofs.lists.Lists.{Every-map, Every-append, Every-first, Every-second}
-use Rattle.lb_expand.proofs.{copies.GivenCalls.clocks_enough, emission.EmissionSteps.IsAdding}
-use Rattle.lb_expand.proofs.emission.EmissionSteps.{nor_step, at_most_one_step, symbol_step}
-use Rattle.lb_expand.proofs.emission.EmissionSteps.{add_copies, keep_copies, nor_copies}
-use Rattle.lb_expand.proofs.emission.EmissionSteps.{at_most_one_copies, symbol_copies}
+use Rattle.lb_flat.proofs.lists.Lists.{Every-of_range, Every-map, Every-append, Every-first}
+use Rattle.lb_flat.proofs.lists.Lists.{Every-second}
+use Rattle.lb_expand.proofs.copies.GivenCalls.{clocks_enough}
+use Rattle.lb_expand.proofs.emission.EmissionSteps.{IsAdding, nor_step, at_most_one_step}
+use Rattle.lb_expand.proofs.emission.EmissionSteps.{symbol_step, add_copies, keep_copies}
+use Rattle.lb_expand.proofs.emission.EmissionSteps.{nor_copies, at_most_one_copies, symbol_copies}
 use Rattle.lb_expand.proofs.lists.Lists.{SomeOf, some_first, some_second, some_of_in}
-use Rattle.lb_expand.proofs.reads.{LinkSymbols.keep_equations, LinkTerms.{AreNumbered, IsKnown}}
-use Rattle.lb_expand.proofs.reads.LinkTerms.{outputs_numbered, linked, all_linked, earlier}
-use Rattle.lb_expand.proofs.reads.LinkTerms.{term_before, all_before, each_before}
-use Rattle.lb_expand.proofs.reads.LinkWords.{Pairs, pairs-append, pairs-take, pairs-drop}
-use Rattle.lb_expand.proofs.reads.LinkWords.{pairs-count, AreLinks, Link, AllMeet, variable_links}
-use Rattle.lb_expand.proofs.{reads.LinkWords.added, solutions.Emission.joins_equations}
-use Rattle.lb_expand.proofs.solutions.{Emission.joins_copies, Placing.AreAsWide}
+use Rattle.lb_expand.proofs.reads.LinkSymbols.{keep_equations}
+use Rattle.lb_expand.proofs.reads.LinkTerms.{AreNumbered, IsKnown, outputs_numbered, linked}
+use Rattle.lb_expand.proofs.reads.LinkTerms.{all_linked, earlier, term_before, all_before}
+use Rattle.lb_expand.proofs.reads.LinkTerms.{each_before}
+use Rattle.lb_expand.proofs.reads.LinkWords.{pairs-pieces, Pairs, pairs-append, pairs-take}
+use Rattle.lb_expand.proofs.reads.LinkWords.{pairs-drop, pairs-count, AreLinks, Link, AllMeet}
+use Rattle.lb_expand.proofs.reads.LinkWords.{variable_links, added}
+use Rattle.lb_expand.proofs.solutions.{Emission.{joins_equations, joins_copies}, Placing.AreAsWide}
 use Rattle.lb_expand.proofs.widths.FoundWidths.{length-inputs, as_many, all_as_many}
 use Rattle.lb_expand.proofs.widths.{PlacedCalls.{call_as_wide, iterator_as_wide}, TypeFacts.bound}
 use Rattle.lb_expand.proofs.widths.Widths.{called, placed, AreVariablesWide, IsOccurrenceWide}
@@ -96,25 +98,23 @@ module _ {A B : Type 0} (R : A → B → Type 0) where
 
   pub matched-pairs : (xs : List A) (ys : List B) → Pairs R xs ys → AreMatched xs ys
   matched-pairs [] [] h = matched-none
-  matched-pairs [] (y ∷ ys) h = absurd h
-  matched-pairs (x ∷ xs) [] h = absurd h
   matched-pairs (x ∷ xs) (y ∷ ys) h =
       let rest = matched-pairs xs ys h.1 in
       record {
         first = (inl h.0, Every-map _ _ (λ x s. inr s) xs rest.first);
         second = (inl h.0, Every-map _ _ (λ y s. inr s) ys rest.second);
       }
+  matched-pairs _ _ h = absurd h
 
 -- the definitions of two lists of elements, joined
 defined-append :
     (xs us : List Element) (yss zss : List (List Element)) → length xs ≡ length yss →
     defined_as (xs ++ us) (yss ++ zss) ≡ defined_as xs yss ++ defined_as us zss
 defined-append [] us [] zss e = refl
-defined-append [] us (ys ∷ yss) zss e = absurd (omega arith)
-defined-append (x ∷ xs) us [] zss e = absurd (omega arith)
 defined-append (x ∷ xs) us (ys ∷ yss) zss e =
     ap (λ ds. record { element = x; needed = ys } ∷ ds)
     (defined-append xs us yss zss (omega arith))
+defined-append _ us _ zss e = absurd (omega arith)
 
 module _ (Y : Layout) (P : Program) (H : History)
     (same : (p : Path) (x : Name) → length (Y.places p x) ≡ length (H.columns p x))
@@ -141,15 +141,12 @@ module _ (Y : Layout) (P : Program) (H : History)
       AreLinks IsAt Under Left k js yss →
       Pairs IsDefinedBy (copied (map (target_at k) is) js) (defined_as ys yss)
   variable_paired k [] [] js yss h l = tt
-  variable_paired k [] (y ∷ ys) js yss h l = absurd h
-  variable_paired k (i ∷ is) [] js yss h l = absurd h
   variable_paired k (i ∷ is) (y ∷ ys) [] [] h l = tt
-  variable_paired k (i ∷ is) (y ∷ ys) [] (zs ∷ yss) h l = absurd l
-  variable_paired k (i ∷ is) (y ∷ ys) (j ∷ js) [] h l = absurd l
   variable_paired k (i ∷ is) (y ∷ ys) (j ∷ js) (zs ∷ yss) h l = (
     record { operand = j; copies = refl; is_at = h.0; link = l.0 },
     variable_paired k is ys js yss h.1 l.1,
   )
+  variable_paired k _ _ _ _ h l = search
 
   -- the elements copied into the inputs of an instance come from what is needed
   abbrev pub AreFed :
@@ -167,10 +164,6 @@ module _ (Y : Layout) (P : Program) (H : History)
       Pairs IsDefinedBy (received Y callee c.path ds iss)
       (defined_as (flat_map (elements P c) ds) (joined ysss))
   received_paired c callee [] [] [] h f = tt
-  received_paired c callee [] [] (ys ∷ ysss) h f = absurd f
-  received_paired c callee [] (is ∷ iss) ysss h f = absurd f
-  received_paired c callee (d ∷ ds) [] ysss h f = absurd f
-  received_paired c callee (d ∷ ds) (is ∷ iss) [] h f = absurd f
   received_paired c callee (d ∷ ds) (is ∷ iss) (yss ∷ ysss) h f =
       let k = flat_clock Y c.path (declared_clock callee d.name) in
       let own = variable_paired k (Y.places c.path d.name) (elements P c d) is yss h.0 f.0.0 in
@@ -184,6 +177,7 @@ module _ (Y : Layout) (P : Program) (H : History)
       (defined_as (elements P c d) yss) (received Y callee c.path ds iss)
       (defined_as (flat_map (elements P c) ds) (joined ysss)) own
       (received_paired c callee ds iss ysss h.1 f.1))
+  received_paired c callee _ _ _ h f = absurd f
 
   -- the inputs come from what is needed, where they are all on one clock
   pub fed_of :
@@ -193,25 +187,16 @@ module _ (Y : Layout) (P : Program) (H : History)
       Pairs (AreLinks IsAt Under Left k) iss ysss → AreAsWide H p ds xsss →
       map length iss ≡ map length xsss → AreFed p callee ds iss ysss
   fed_of k p callee [] [] [] xsss c l w e = tt
-  fed_of k p callee [] [] (ys ∷ ysss) xsss c l w e = absurd l
-  fed_of k p callee [] (is ∷ iss) ysss [] c l w e = absurd cc
-  fed_of k p callee [] (is ∷ iss) ysss (xs ∷ xsss) c l w e = absurd w
-  fed_of k p callee (d ∷ ds) iss ysss [] c l w e = absurd w
-  fed_of k p callee (d ∷ ds) [] ysss (xs ∷ xsss) c l w e = absurd cc
-  fed_of k p callee (d ∷ ds) (is ∷ iss) [] (xs ∷ xsss) c l w e = absurd l
   fed_of k p callee (d ∷ ds) (is ∷ iss) (yss ∷ ysss) (xs ∷ xsss) c l w e = (
     (
       subst (λ k. AreLinks IsAt Under Left k is yss) (sym c.0) l.0,
-      same p d.name ∙ (w.0 ∙ sym (first_same _ _ _ _ e)),
+      same p d.name ∙ (w.0 ∙ sym (heads_same _ _ _ _ e)),
     ),
-    fed_of k p callee ds iss ysss xsss c.1 l.1 w.1 (rest_same _ _ _ _ e),
+    fed_of k p callee ds iss ysss xsss c.1 l.1 w.1 (tails_same _ _ _ _ e),
   )
-    where
-      first_same : (a b : ℕ) (as' bs : List ℕ) → a ∷ as' ≡ b ∷ bs → a ≡ b
-      first_same a b as' bs e = cc
-
-      rest_same : (a b : ℕ) (as' bs : List ℕ) → a ∷ as' ≡ b ∷ bs → as' ≡ bs
-      rest_same a b as' bs e = cc
+  fed_of k p callee [] (is ∷ iss) ysss [] c l w e = absurd cc
+  fed_of k p callee (d ∷ ds) [] ysss (xs ∷ xsss) c l w e = absurd cc
+  fed_of k p callee _ _ _ _ c l w e = search
 
   -- ## The elements copied into the instances of an iterator
 
@@ -231,10 +216,9 @@ module _ (Y : Layout) (P : Program) (H : History)
     parts_linked : (n i : ℕ) (iss : List (List ℕ)) (ysss : List (List (List Element))) →
         Pairs Linked iss ysss → Pairs Linked (map (part n i) iss) (map (part n i) ysss)
     parts_linked n i [] [] l = tt
-    parts_linked n i [] (ys ∷ ysss) l = absurd l
-    parts_linked n i (is ∷ iss) [] l = absurd l
     parts_linked n i (is ∷ iss) (yss ∷ ysss) l =
         (part_linked n i is yss l.0, parts_linked n i iss ysss l.1)
+    parts_linked n i _ _ l = absurd l
 
     module _ (f : ℕ → Name → List ℕ) (g : ℕ → Name → List (List Element)) (n : ℕ)
         (outputs : (i : ℕ) → i < n → (x : Name) → Linked (f i x) (g i x)) where
@@ -260,15 +244,6 @@ module _ (Y : Layout) (P : Program) (H : History)
 
 -- The copies that an expression emits match the definitions of the inputs of its callees, in any
 -- order: each copy is such a definition, and each definition has its copy.
-
--- lists made of pieces by number are related item by item, where their pieces are
-range_pairs :
-    {A B : Type 0} (R : A → B → Type 0) (f : ℕ → List A) (g : ℕ → List B) (n a m : ℕ) →
-    a + m ≤ n → ((i : ℕ) → i < n → Pairs R (f i) (g i)) →
-    Pairs R (flat_map f (range_with_len a m)) (flat_map g (range_with_len a m))
-range_pairs R f g n a zero le h = tt
-range_pairs R f g n a (suc m) le h =
-    pairs-append R _ _ _ _ (h a (omega arith)) (range_pairs R f g n (a + 1) m (omega arith) h)
 
 module _ (Y : Layout) (P : Program) (H : History)
     (same : (p : Path) (x : Name) → length (Y.places p x) ≡ length (H.columns p x))
@@ -323,23 +298,18 @@ module _ (Y : Layout) (P : Program) (H : History)
     pub copies : t.copies ≡ s.copies ++ new
     pub matched : AreMatched Defined new ds
 
-  defines_none : (s t : State) → t.copies ≡ s.copies → Defines s t []
-  defines_none s t e = record {
-    new = [];
-    copies = e ∙ sym (append-nil s.copies);
-    matched = matched-none Defined;
-  }
+  defines_none : {s t : State} → t.copies ≡ s.copies → Defines s t []
+  defines_none {s = s} e =
+      record { new = []; copies = e ∙ sym (append-nil s.copies); matched = matched-none Defined }
 
   defines_after :
-      (s t u : State) (ds : List Definition) → Defines s t ds → u.copies ≡ t.copies →
-      Defines s u ds
-  defines_after s t u ds a e =
-      record { new = a.new; copies = e ∙ a.copies; matched = a.matched }
+      {s t u : State} {ds : List Definition} → Defines s t ds → u.copies ≡ t.copies → Defines s u ds
+  defines_after a e = record { new = a.new; copies = e ∙ a.copies; matched = a.matched }
 
   defines_two :
-      (s t u : State) (os os' : List Occurrence) → Defines s t (called_by os) →
-      Defines t u (called_by os') → Defines s u (called_by (os ++ os'))
-  defines_two s t u os os' a b = record {
+      {s t u : State} (os os' : List Occurrence) → Defines s t (called_by os) → Defines t u
+      (called_by os') → Defines s u (called_by (os ++ os'))
+  defines_two {s = s} os os' a b = record {
     new = a.new ++ b.new;
     copies = b.copies ∙ (ap (λ qs. qs ++ b.new) a.copies ∙ append_assoc s.copies a.new b.new);
     matched = subst (AreMatched Defined (a.new ++ b.new))
@@ -349,9 +319,9 @@ module _ (Y : Layout) (P : Program) (H : History)
 
   -- copies that match `ds`, and then copies that match `own`, match `own ++ ds`
   defines_call :
-      (s t u : State) (qs : List FlatEquation) (own ds : List Definition) → Defines s t ds →
+      {s t u : State} {qs : List FlatEquation} {own ds : List Definition} → Defines s t ds →
       u.copies ≡ t.copies ++ qs → AreMatched Defined qs own → Defines s u (own ++ ds)
-  defines_call s t u qs own ds a e m = record {
+  defines_call {s = s} {qs = qs} {own = own} {ds = ds} a e m = record {
     new = a.new ++ qs;
     copies = e ∙ (ap (λ rs. rs ++ qs) a.copies ∙ append_assoc s.copies a.new qs);
     matched = matched-crossed Defined a.new qs ds own a.matched m;
@@ -393,18 +363,15 @@ module _ (Y : Layout) (P : Program) (H : History)
       let ks : List Clock = map (λ d. outer b given (declared_clock callee d.name)) ds in
       let m = n + call_count e in
       let x = emit Y P here k n s e in
-      let oa = occurrences P here.node k n e in
-      let ob = occurrences_each P here.node ks m es in
       let f = first_of_all P here e es us is in
-      let kept = each_before Y P H same IsAt Under Left here ks m x.state es h in
       let l = linked Y P H same IsAt Under Left here variables_wide numbered k n s e
-      (fore oa ob parts) kept in (
+      (fore _ _ parts) (each_before Y P H same IsAt Under Left here ks m x.state es h) in (
         (
           subst (λ l. AreLinks IsAt Under Left l x.found (needs P here n e)) (sym c.0) l,
           same p d.name ∙ (w.0 ∙ sym (as_many Y P H here same k n s e)),
         ),
         each_fed p callee given b ds m x.state es f.rest f.others
-            (omega (arith, le, ap length f.all)) (aft oa ob parts) h c.1 w.1,
+            (omega (arith, le, ap length f.all)) (aft _ _ parts) h c.1 w.1,
       )
 
   call_matched :
@@ -504,7 +471,9 @@ module _ (Y : Layout) (P : Program) (H : History)
       fed) in
       let all = matched-pairs Defined (flat_map copies (range_with_len 0 count))
       (flat_map definitions (range_with_len 0 count))
-      (range_pairs Defined copies definitions count 0 count (omega arith) one) in
+      (pairs-pieces Defined copies definitions (range_with_len 0 count)
+      (Every-of_range (λ i. Pairs Defined (copies i) (definitions i)) 0 count
+      (λ i lt. subst (λ i. Pairs Defined (copies i) (definitions i)) (omega arith) (one i lt)))) in
       subst (λ o. AreMatched Defined (iterator_copies Y here.path n it count o found)
       (flat_map (λ i. input_definitions P (callee_of P here (call_site f statics) n i)
       (iterator_inputs outs count it (listed (λ n. n.outputs) o) args i)) (range_with_len 0 count)))
@@ -514,8 +483,8 @@ module _ (Y : Layout) (P : Program) (H : History)
 
   name_defines : (k : Clock) (s : State) (x : Name) (o : Option Declaration) →
       Defines s (emit_name Y P here k s x o).state []
-  name_defines k s x None = defines_none s _ (add_copies (flat k) s _)
-  name_defines k s x (Some d) = defines_none s s refl
+  name_defines k s x None = defines_none (add_copies (flat k) s _)
+  name_defines k s x (Some d) = defines_none refl
 
   added_met : (k : FlatClock) (s : State) (os : List Operation) → Met (add k s os).state → Met s
   added_met k s os h = let n = added IsAt Under Left k s os h in n.before
@@ -546,7 +515,7 @@ module _ (Y : Layout) (P : Program) (H : History)
       let oa = occurrences P here.node k n a in
       let ob = occurrences P here.node k m b in
       let first = term_before Y P H same IsAt Under Left here k _ _ b h in
-      defines_two s _ _ oa ob (left (fore _ _ p) (before _ _ g) first)
+      defines_two oa ob (left (fore _ _ p) (before _ _ g) first)
       (right (aft _ _ p) (behind _ _ g) h)
 
   mutual
@@ -557,17 +526,15 @@ module _ (Y : Layout) (P : Program) (H : History)
         (k : Clock) (n : ℕ) (s : State) (e : Expr) → Parts (occurrences P here.node k n e) →
         ArePassed (occurrences P here.node k n e) → Met (emit Y P here k n s e).state →
         Defines s (emit Y P here k n s e).state (called_by (occurrences P here.node k n e))
-    calls_defined k n s (Literal m) p g h = defines_none s _ (add_copies (flat k) s _)
-    calls_defined k n s (Truth b) p g h = defines_none s _ (add_copies (flat k) s _)
+    calls_defined k n s (Literal m) p g h = defines_none (add_copies (flat k) s _)
+    calls_defined k n s (Truth b) p g h = defines_none (add_copies (flat k) s _)
     calls_defined k n s (Variable x) p g h =
         name_defines k s x (named (λ d. d.name) x (variables here.node))
     calls_defined k n s (Group a) p g h = calls_defined k n s a p g h
     calls_defined k n s (Unary op a) p g h =
-        defines_after s _ _ _ (calls_defined k n s a p.1 g.1 (added_met _ _ _ h))
-        (add_copies _ _ _)
+        defines_after (calls_defined k n s a p.1 g.1 (added_met _ _ _ h)) (add_copies _ _ _)
     calls_defined k n s (Binary op a b) p g h =
-        defines_after s _ _ _
-        (two_defined k n s a b (calls_defined k n s a) (calls_defined k _ _ b) p.1 g.1
+        defines_after (two_defined k n s a b (calls_defined k n s a) (calls_defined k _ _ b) p.1 g.1
         (added_met _ _ _ h)) (add_copies _ _ _)
     calls_defined k n s (If c a b) p g h =
         let na = n + call_count c in
@@ -579,28 +546,24 @@ module _ (Y : Layout) (P : Program) (H : History)
         let met = added_met _ _ _ h in
         let second = term_before Y P H same IsAt Under Left here k _ x.state b met in
         let first = term_before Y P H same IsAt Under Left here k na z.state a second in
-        defines_after s _ _ _
-        (defines_two s z.state _ oc ob
-        (calls_defined k n s c (fore oc ob p.1) (before oc ob g.1) first)
+        defines_after
+        (defines_two oc ob (calls_defined k n s c (fore oc ob p.1) (before oc ob g.1) first)
         (two_defined k na z.state a b (calls_defined k na z.state a) (calls_defined k _ _ b)
         (aft oc ob p.1) (behind oc ob g.1) met)) (add_copies _ _ _)
     calls_defined k n s (Arrow a b) p g h =
-        defines_after s _ _ _
-        (two_defined k n s a b (calls_defined k n s a) (calls_defined k _ _ b) p.1 g.1
+        defines_after (two_defined k n s a b (calls_defined k n s a) (calls_defined k _ _ b) p.1 g.1
         (added_met _ _ _ h)) (add_copies _ _ _)
     calls_defined k n s (Fby a b) p g h =
-        defines_after s _ _ _
-        (two_defined k n s a b (calls_defined k n s a) (calls_defined k _ _ b) p.1 g.1
+        defines_after (two_defined k n s a b (calls_defined k n s a) (calls_defined k _ _ b) p.1 g.1
         (kept_met _ (added_met _ _ _ (added_met _ _ _ h))))
         (add_copies _ _ _ ∙ (add_copies _ _ _ ∙ keep_copies _))
     calls_defined k n s (Pre a) p g h =
-        defines_after s _ _ _ (calls_defined k n s a p.1 g.1 (kept_met _ (added_met _ _ _ h)))
+        defines_after (calls_defined k n s a p.1 g.1 (kept_met _ (added_met _ _ _ h)))
         (add_copies _ _ _ ∙ keep_copies _)
     calls_defined k n s (When a y sign) p g h =
-        defines_after s _ _ _ (calls_defined _ n s a p.1 g.1 (added_met _ _ _ h))
-        (add_copies _ _ _)
+        defines_after (calls_defined _ n s a p.1 g.1 (added_met _ _ _ h)) (add_copies _ _ _)
     calls_defined k n s (Current a) p g h =
-        defines_after s _ _ _ (calls_defined _ n s a p.1 g.1 (kept_met _ (added_met _ _ _ h)))
+        defines_after (calls_defined _ n s a p.1 g.1 (kept_met _ (added_met _ _ _ h)))
         (add_copies _ _ _ ∙ keep_copies _)
     calls_defined k n s (Replicate a m) p g h = calls_defined k n s a p.1 g.1 h
     calls_defined k n s (Index a i) p g h = calls_defined k n s a p.1 g.1 h
@@ -609,54 +572,41 @@ module _ (Y : Layout) (P : Program) (H : History)
         two_defined k n s a b (calls_defined k n s a) (calls_defined k _ _ b) p.1 g.1 h
     calls_defined k n s (Array es) p g h = all_defined k n s es p.1 g.1 h
     calls_defined k n s (AtMostOne es) p g h =
-        defines_after s _ _ _
-        (all_defined k n s es p.1 g.1 (at_most_one_step Earlier adding _ _ _ h))
+        defines_after (all_defined k n s es p.1 g.1 (at_most_one_step Earlier adding _ _ _ h))
         (at_most_one_copies _ _ _)
     calls_defined k n s (Nor es) p g h =
-        defines_after s _ _ _
-        (all_defined k n s es p.1 g.1 (nor_step Earlier adding _ _ _ h))
+        defines_after (all_defined k n s es p.1 g.1 (nor_step Earlier adding _ _ _ h))
         (nor_copies _ _ _)
     calls_defined k n s (Call f statics es) p g h =
         let ks = call_clocks k (node_named P f) es in
         let r = emit_each Y P here ks (n + 1) s es in
-        let copies = call_copies Y (Child here.path n 0) (node_named P f) r.found in
-        let is = flat_map (λ o. Y.places (Child here.path n 0) o.name) (outputs_of P here f) in
-        let met = subst (AllMeet IsAt Under Left) (joins_equations r.state copies is) h in
-        defines_call s r.state _ copies (call_definitions P here n (Call f statics es))
-        (called_by (occurrences_each P here.node ks (n + 1) es))
-        (each_defined ks (n + 1) s es p.1 g.1 met) (joins_copies r.state copies is)
+        let met = subst (AllMeet IsAt Under Left) (joins_equations r.state _ _) h in
+        defines_call (each_defined ks (n + 1) s es p.1 g.1 met) (joins_copies r.state _ _)
         (call_matched k n s f statics es p.0.typed g.0 p.1 met)
     calls_defined k n s (Iterate it (Node_named f statics) m es) p g h =
         let r = emit_all Y P here k (n + 1) s es in
         let count = number P here m in
-        let copies = iterator_copies Y here.path n it count (node_named P f) r.found in
-        let is = iterated (λ i x. Y.places (Child here.path n i) x) count it
-        (outputs_of P here f) in
-        let met = subst (AllMeet IsAt Under Left) (joins_equations r.state copies is) h in
+        let met = subst (AllMeet IsAt Under Left) (joins_equations r.state _ _) h in
         let l = all_linked Y P H same IsAt Under Left here variables_wide numbered k (n + 1) s es
         p.1 met in
-        defines_call s r.state _ copies
-        (call_definitions P here n (Iterate it (Node_named f statics) m es))
-        (called_by (occurrences_in P here.node k (n + 1) es))
-        (all_defined k (n + 1) s es p.1 g.1 met) (joins_copies r.state copies is)
+        defines_call (all_defined k (n + 1) s es p.1 g.1 met) (joins_copies r.state _ _)
         (iterator_matched k n s it f statics m es p.0 g.0 l)
     calls_defined k n s (Iterate it (Symbol op) m es) p g h =
-        defines_after s _ _ _
-        (all_defined k n s es p.1 g.1 (symbol_step Earlier adding _ op _ it _ h))
+        defines_after (all_defined k n s es p.1 g.1 (symbol_step Earlier adding _ op _ it _ h))
         (symbol_copies _ op _ it _)
 
     all_defined :
         (k : Clock) (n : ℕ) (s : State) (es : Exprs) → Parts (occurrences_in P here.node k n es) →
         ArePassed (occurrences_in P here.node k n es) → Met (emit_all Y P here k n s es).state →
         Defines s (emit_all Y P here k n s es).state (called_by (occurrences_in P here.node k n es))
-    all_defined k n s Nil p g h = defines_none s s refl
+    all_defined k n s Nil p g h = defines_none refl
     all_defined k n s (Cons e es) p g h =
         let m = n + call_count e in
         let x = emit Y P here k n s e in
         let oa = occurrences P here.node k n e in
         let ob = occurrences_in P here.node k m es in
         let first = all_before Y P H same IsAt Under Left here k m x.state es h in
-        defines_two s x.state _ oa ob (calls_defined k n s e (fore oa ob p) (before oa ob g) first)
+        defines_two oa ob (calls_defined k n s e (fore oa ob p) (before oa ob g) first)
         (all_defined k m x.state es (aft oa ob p) (behind oa ob g) h)
 
     each_defined :
@@ -666,13 +616,13 @@ module _ (Y : Layout) (P : Program) (H : History)
         Met (emit_each Y P here ks n s es).state →
         Defines s (emit_each Y P here ks n s es).state
         (called_by (occurrences_each P here.node ks n es))
-    each_defined ks n s Nil p g h = defines_none s s refl
-    each_defined [] n s (Cons e es) p g h = defines_none s s refl
+    each_defined ks n s Nil p g h = defines_none refl
+    each_defined [] n s (Cons e es) p g h = defines_none refl
     each_defined (k ∷ ks) n s (Cons e es) p g h =
         let m = n + call_count e in
         let x = emit Y P here k n s e in
         let oa = occurrences P here.node k n e in
         let ob = occurrences_each P here.node ks m es in
         let first = each_before Y P H same IsAt Under Left here ks m x.state es h in
-        defines_two s x.state _ oa ob (calls_defined k n s e (fore oa ob p) (before oa ob g) first)
+        defines_two oa ob (calls_defined k n s e (fore oa ob p) (before oa ob g) first)
         (each_defined ks m x.state es (aft oa ob p) (behind oa ob g) h)

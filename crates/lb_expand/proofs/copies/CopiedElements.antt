@@ -1,7 +1,7 @@
 -- The equations of an expansion give elements of the program: copies give the elements of
 -- variables, and the other equations give the elements after them.
 use Rattle.lb_expand.proofs.Words
-use Words.{◌≡◌, ℕ, suc, ◌+◌, ◌<◌, ◌≤◌, Option, Some, None, List, [], ◌∷◌, ◌++◌, map, length}
+use Words.{◌≡◌, ℕ, suc, ◌+◌, ◌<◌, Option, Some, None, List, [], ◌∷◌, ◌++◌, map, length}
 use Words.{flat_map, sym, subst, arith, range_with_len, ArrayIterator, Every, Name, Declaration}
 use Words.{Node, Program, Instance, Path, Root, Observer, Child, instance_at, instances}
 use Words.{declared_clock, iterator_inputs, FlatEquation, Layout, flat_clock, State, Target, joins}
@@ -10,9 +10,9 @@ use Words.{given_inputs, observed, observed_places, before_instances, expanded}
 use Rattle.lb_flat.proofs.lists.Lists.{Every-map, Every-append}
 use Rattle.lb_expand.{specs.Emit.input_targets, proofs.emission.EmissionSteps.add_copies}
 use Rattle.lb_expand.proofs.emission.EmissionSteps.{keep_copies, IsStep, AreJoined, instances_step}
-use Rattle.lb_expand.proofs.{lists.Lists.Every-pieces, solutions.Closing.{Closed, Below}}
+use Rattle.lb_expand.proofs.{lists.Lists.Every-pieces, solutions.Closing.{Below}}
 use Rattle.lb_expand.proofs.solutions.{Emission.joins_copies, Filling.Fresh, Solving.IsLaidOut}
-use Rattle.lb_expand.proofs.solutions.Solving.{assert_copies, all_closed}
+use Rattle.lb_expand.proofs.solutions.Solving.{assert_copies, start_closed}
 
 -- ## Copies
 
@@ -145,13 +145,11 @@ expanded_within count Y P laid =
     let s = emit_instances Y P (before_instances count) (instances P) in
     let given = given_inputs Y (instance_at P Root) in
     let seen = observed Y (instance_at P Root) (instance_at P Observer) in
-    let closed : Closed count s =
-    all_closed count Y P laid _ _ (record { fresh = tt; next = omega arith }) in
-    let within : count ≤ s.next = omega (arith, closed.next) in
+    let closed = start_closed count Y P laid in
     let widen : (qs : List FlatEquation) → Every (λ q. q.element < count) qs →
     Every (λ q. q.element < s.next) qs =
     λ qs h. Every-map (λ q. q.element < count) (λ q. q.element < s.next)
-    (λ q lt. omega (arith, lt, within)) qs h in
+    (λ q lt. omega (arith, lt, closed.next)) qs h in
     Every-append (λ q. q.element < s.next) given (seen ++ (s.copies ++ s.equations))
     (widen given (given_below count Y P laid.places _)) (Every-append (λ q. q.element < s.next)
     seen (s.copies ++ s.equations) (widen seen (observed_below count Y P laid.places _ _))

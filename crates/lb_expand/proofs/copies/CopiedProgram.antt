@@ -24,7 +24,7 @@ use Rattle.lb_expand.proofs.numbering.NumberedPlaces.{elements_numbered, element
 use Rattle.lb_expand.proofs.{numbering.NumberedPlaces.places_width, reads.LinkTerms.AreNumbered}
 use Rattle.lb_expand.proofs.reads.LinkTerms.{IsAwaited, IsRunning, IsLinkable, IsKnown}
 use Rattle.lb_expand.proofs.reads.LinkWords.{Pairs, AllMeet, variable_links}
-use Rattle.lb_expand.proofs.{solutions.Placing.AreAsWide, widths.SoundInstances.body_typed}
+use Rattle.lb_expand.proofs.{solutions.Placing.AreAsWide, widths.SoundInstances.occurrences_at}
 use Rattle.lb_expand.proofs.widths.{SoundInstances.calls_wide, Widths.{IsTypedAt, AreVariablesWide}}
 
 -- In an accepted program whose rules hold, what has to be known of each instance for its copies to
@@ -166,7 +166,7 @@ module _ (P : Program) (accepted : static_refusal P ≡ None) (checked : check_r
       let own = wide here j in
       let numbered = elements_numbered P accepted here j in
       let os = node_occurrences P here.node in
-      let of_types = body_typed Y P H here own 0 here.node.body (statements_typed P checked here j)
+      let of_types = occurrences_at P accepted checked H here j
       (calls_wide P accepted H wide here j) in
       let passed = λ (o : Occurrence).
       IsPassed Y P H same IsAt Under Left here own numbered o.clock o.calls_before o.expr in
@@ -185,8 +185,7 @@ module _ (P : Program) (accepted : static_refusal P ≡ None) (checked : check_r
               typed = h.0;
               linkable = linkable_at here o.clock o.calls_before o.expr h.1.0 h.1.1.0;
               running = h.1.1.1;
-            }) os
-            (Every-both (IsTypedAt P H here) (λ o. places o × known o) os of_types both);
+            }) os (Every-both (IsTypedAt P H here) (λ o. places o × known o) os of_types both);
         passed = Every-map (λ o. places o × known o) passed
             (λ o h. passed_at here own numbered o.clock o.calls_before o.expr h.0 h.1.0) os both;
       })

@@ -1,14 +1,14 @@
 -- Each element of the expansion of an accepted program has exactly one equation.
 use Rattle.lb_expand.proofs.Words
-use Words.{◌≡◌, ℕ, zero, suc, ◌+◌, ◌≤◌, Option, Some, None, List, [], ◌∷◌, flat_map, refl, sym, ap}
-use Words.{ap₂, ◌∙◌, arith, Every, listed, Program, Instance, Root, Observer, instance_at, children}
-use Words.{instances, level, Every-map, Every-both, Every-first, Every-second, path_is, ◌⊎◌, inl}
-use Words.{inr, Bool, true, false, cond, nat_eq, ◌++◌, map, subst, list_all, bytes_eq, sum_by-cons}
-use Words.{bytes_eq-Decides, map-append, eqb-true, In, all_some, Name, Declaration, Node, Statement}
-use Words.{Equation, Assertion, and_first, and_second, named, DataType, variables, are_same}
-use Words.{are_distinct, among, left_names, variable_names, in_map, map_in, any_in, found_passes}
-use Words.{type_of_name, is_statement_typed, data_types, in_either, Every-at, find_in, bound, ◌<◌}
-use Words.{IfSome, length, range_with_len, cases_lt, length-map, holds, unless, width, Path}
+use Words.{found_name, ◌≡◌, ℕ, zero, suc, ◌+◌, ◌≤◌, Option, Some, None, List, [], ◌∷◌, flat_map}
+use Words.{refl, sym, ap, ap₂, ◌∙◌, arith, Every, listed, Program, Instance, Root, Observer}
+use Words.{instance_at, children, instances, level, Every-map, Every-both, Every-first}
+use Words.{Every-second, path_is, ◌⊎◌, inl, inr, Bool, true, false, cond, nat_eq, ◌++◌, map, subst}
+use Words.{list_all, bytes_eq, sum_by-cons, bytes_eq-Decides, map-append, eqb-true, In, all_some}
+use Words.{Name, Declaration, Node, Statement, Equation, Assertion, and_first, and_second, named}
+use Words.{DataType, variables, are_distinct, among, left_names, variable_names, in_map, map_in}
+use Words.{any_in, type_of_name, is_statement_typed, data_types, in_either, Every-at, find_in}
+use Words.{bound, ◌<◌, IfSome, length, range_with_len, length-map, holds, unless, width, Path}
 use Words.{static_refusal, is_root, check_refusal, declared_clock, program_elements, columns_at}
 use Words.{History, is_typed, Every-from, second_none, kept, instantiation_kept, Every-all}
 use Words.{Every-append, variables_distinct, IsEntered, all_entered, statements_typed, FlatEquation}
@@ -16,21 +16,23 @@ use Words.{column, history_of, IsGiven, Layout, flat_clock, layout, clock_reads,
 use Words.{equation_reads, State, Target, targets, before_instances, emit_instances, from_inputs}
 use Words.{given_inputs, observed_places, observed, expanded, not, count_by}
 use Rattle.{lb_syntax.specs.Refusals.{E9, E10, E11}, lb_static.specs.Instances.instances_from}
-use Rattle.lb_check.specs.{ClockRules.is_clocked, DefinitionRules.{definition_count, defines_once}}
-use Rattle.lb_check.{specs.DefinitionRules.is_defined, proofs.lists.Members.Every-tested}
-use Rattle.lb_check.proofs.{lists.Members.{Every-piece, flat_same}, programs.SameHistories.deeper}
-use Rattle.lb_expand.{specs.Emit.input_targets, proofs.copies.GivenCalls.{IsReady, in_names}}
-use Rattle.lb_expand.proofs.copies.GivenCalls.{in_instance, instances_added, element_numbers}
-use Rattle.lb_expand.proofs.copies.GivenCalls.{target_places, received_gives, in_inputs, given_in}
-use Rattle.lb_expand.proofs.{copies.GivenCalls.given-append, lists.Lists.{total, total-append}}
-use Rattle.lb_expand.proofs.lists.Lists.{total-plus, total-same, total-pieces, is_name, named_in}
-use Rattle.lb_expand.proofs.lists.Lists.{in_named, map-pieces, total-map, times, times_of, of_times}
-use Rattle.lb_expand.proofs.lists.Lists.{once_apart, range_low, range_high, range_once, same_sums}
+use Rattle.lb_check.specs.ClockRules.{is_clocked}
+use Rattle.lb_check.specs.DefinitionRules.{definition_count, defines_once, is_defined}
+use Rattle.lb_check.proofs.lists.Members.{Every-tested, Every-piece, flat_same}
+use Rattle.{lb_check.proofs.programs.SameHistories.deeper, lb_expand.specs.Emit.input_targets}
+use Rattle.lb_expand.proofs.copies.GivenCalls.{IsReady, in_names, in_instance, instances_added}
+use Rattle.lb_expand.proofs.copies.GivenCalls.{element_numbers, target_places, received_gives}
+use Rattle.lb_expand.proofs.copies.GivenCalls.{in_inputs, given_in, given-append}
+use Rattle.lb_expand.proofs.lists.Lists.{total, total-append, total-plus, total-same, total-pieces}
+use Rattle.lb_expand.proofs.lists.Lists.{is_name, named_in, in_named, map-pieces, total-map, times}
+use Rattle.lb_expand.proofs.lists.Lists.{times_of, of_times, once_apart, range_low, range_high}
+use Rattle.lb_expand.proofs.lists.Lists.{range_once, same_sums}
 use Rattle.lb_expand.proofs.numbering.NumberedPlaces.{places_walk, places_width, is_laid_out}
 use Rattle.lb_expand.proofs.solutions.{Closing.Closed, Filling.Fresh, Placing.AreAsWide}
-use Rattle.lb_expand.proofs.solutions.{Solving.all_closed, Watching.all_places}
-use Rattle.lb_expand.proofs.widths.{PlacedCalls.body_wide, PropertyOutput.rooted}
-use Rattle.lb_expand.proofs.widths.{SoundInstances.{body_typed, calls_wide}, TypeFacts.each}
+use Rattle.lb_expand.proofs.solutions.{Solving.start_closed, Watching.all_places}
+use Rattle.lb_expand.proofs.widths.{TypeFacts.{both_there, each}, PlacedCalls.body_wide}
+use Rattle.lb_expand.proofs.widths.PropertyOutput.{rooted}
+use Rattle.lb_expand.proofs.widths.SoundInstances.{occurrences_at, calls_wide}
 
 -- Every instance is a start or is called by exactly one instance. So the sum over all instances is
 -- the sum over the starts, plus the sum over the instances that each instance calls.
@@ -75,22 +77,13 @@ module _ (P : Program) where
     no_sum [] = refl
     no_sum (c ∷ cs) = no_sum cs
 
-    each_sum :
-        (n : ℕ) →
-        ((c : Instance) → total f (instances_from P (suc n) c)
-        ≡ f c + total of_children (instances_from P n c)) → (cs : List Instance) →
-        Every (λ c. total f (instances_from P (suc n) c)
-        ≡ f c + total of_children (instances_from P n c)) cs
-    each_sum n h [] = tt
-    each_sum n h (c ∷ cs) = (h c, each_sum n h cs)
-
     from_sum : (n : ℕ) (here : Instance) →
         total f (instances_from P (suc n) here)
         ≡ f here + total of_children (instances_from P n here)
     from_sum zero here = ap (λ m. f here + m) (no_sum (children P here))
     from_sum (suc n) here =
         ap (λ m. f here + m)
-        (deeper_sums n (children P here) (each_sum n (from_sum n) (children P here)))
+        (deeper_sums n (children P here) (Every-all _ (from_sum n) (children P here)))
 
     full_sum :
         (n : ℕ) (here : Instance) → level P here.path + n ≡ 65 →
@@ -185,13 +178,10 @@ module _ (P : Program) (here : Instance) where
   known : (x : Name) (t : DataType) → type_of_name P here x ≡ Some t →
       In x (variable_names here.node)
   known x t e =
-      let test = λ (d : Declaration). bytes_eq d.name x in
-      let b = bound (named (λ d. d.name) x (variables here.node)) _ t e in
-      let is_in = find_in test (variables here.node) b.value b.is in
-      let same = (bytes_eq-Decides b.value.name x).0
-      (found_passes test (variables here.node) b.value b.is) in
-      subst (λ y. In y (variable_names here.node)) same
-      (in_map (λ d. d.name) (variables here.node) b.value is_in)
+      let ds = variables here.node in
+      let b = bound (named (λ d. d.name) x ds) _ t e in
+      subst (λ y. In y (variable_names here.node)) (found_name x ds b.value b.is)
+      (in_map (λ d. d.name) ds b.value (find_in (λ d. bytes_eq d.name x) ds b.value b.is))
 
   all_known : (xs : List Name) (ts : List DataType) →
       all_some (map (type_of_name P here) xs) ≡ Some ts → (x : Name) → In x xs →
@@ -203,11 +193,6 @@ module _ (P : Program) (here : Instance) where
   all_known (y ∷ xs) ts e x (inr i) =
       let h = each (type_of_name P here y) (map (type_of_name P here) xs) ts e in
       all_known xs h.rest h.others x i
-
-  second_there : (o p : Option (List DataType)) → are_same P o p ≡ true →
-      (ts : List DataType) × (p ≡ Some ts)
-  second_there (Some ss) (Some ts) e = (ts, refl)
-  second_there _ _ e = absurd cc
 
   -- the left variables of typed statements are variables
   pub lefts_known :
@@ -224,9 +209,9 @@ module _ (P : Program) (here : Instance) where
           (In x (flat_map left_names rest) → In x (variable_names here.node)) →
           In x (variable_names here.node)
       by (inl j) later =
-          let ts = second_there (data_types P here a) (all_some (map (type_of_name P here) lefts))
+          let t = both_there P (data_types P here a) (all_some (map (type_of_name P here) lefts))
           (and_first (is_statement_typed P here (Equation lefts a)) _ e) in
-          all_known lefts ts.0 ts.1 x j
+          all_known lefts t.left t.is_left x j
       by (inr j) later = later j
 
 module _ (n : Node) (distinct : are_distinct (variable_names n) ≡ true)
@@ -271,13 +256,10 @@ module _ (n : Node) (distinct : are_distinct (variable_names n) ≡ true)
           _ once) input in
           absurd (omega (arith, none, le)))
       by (suc m) e =
-          let there = named_in x inner (omega (arith, e)) in
           let one = defined x 1 (n.outputs ++ n.locals)
           (and_first (list_all (λ d. nat_eq (definition_count n d.name) 1) (n.outputs ++ n.locals))
-          _ once) there in
-          let few = distinct_once x (variable_names n) distinct in
-          let parts = split x in
-          omega (arith, one, few, parts, e)
+          _ once) (named_in x inner (omega (arith, e))) in
+          omega (arith, one, distinct_once x (variable_names n) distinct, split x, e)
 
 -- Each element of the expansion of an accepted program whose rules hold has exactly one equation,
 -- and the equation of a temporary reads only lower elements.
@@ -312,6 +294,21 @@ fresh_lower V n (q ∷ qs) h = (
       (Every-append below (reads q.operation) (clock_reads q.clock) of_reads of_clock),
   fresh_lower V (suc n) qs h.1,
 )
+
+-- a number stands `n` times, which is at most once, and once where it is below `all`
+record IsOnce (i all n : ℕ) : Type 0 where
+  most : n ≤ 1
+  least : i < all → 1 ≤ n
+
+-- two ranges, one after the other, give a number at most once, and each number in them once
+once_each :
+    (i count others n : ℕ) →
+    n ≡ times i (range_with_len 0 count) + times i (range_with_len count others) →
+    IsOnce i (count + others) n
+once_each i count others n e = record {
+  most = grind (arith, e, range_once, range_low, range_high);
+  least = λ lt. grind (arith, e, lt, range_once);
+}
 
 -- ## Targets
 
@@ -412,12 +409,11 @@ module _ (P : Program) (accepted : static_refusal P ≡ None) (checked : check_r
     ready =
         Every-from (IsReady Y P H same i) (instances P) (λ here j.
         let of_calls = calls_wide P accepted H wide here j in
-        let own = wide here j in
         let typed = statements_typed P checked here j in
         record {
-          variables = own;
-          wide = body_wide P H here own 0 here.node.body typed of_calls;
-          typed = body_typed Y P H here own 0 here.node.body typed of_calls;
+          variables = wide here j;
+          wide = body_wide P H here (wide here j) 0 here.node.body typed of_calls;
+          typed = occurrences_at P accepted checked H here j of_calls;
         })
 
     -- ## Sums over instances
@@ -476,17 +472,15 @@ module _ (P : Program) (accepted : static_refusal P ≡ None) (checked : check_r
         let ds = root.node.inputs in
         let places : map (λ t. t.place) (input_targets Y root)
         ≡ flat_map (λ d. Y.places Root d.name) ds =
-        sym (map-pieces (λ (t : Target). t.place)
-        (λ (d : Declaration). targets Y root.node Root d.name) (λ d. Y.places Root d.name)
+        sym
+        (map-pieces (λ (t : Target). t.place) (λ (d : Declaration). targets Y root.node Root d.name)
+        (λ d. Y.places Root d.name)
         (λ d. target_places (flat_clock Y Root (declared_clock root.node d.name))
         (Y.places Root d.name)) ds) in
-        let path = path_is P Root root e in
-        ap (times i) (input_places 0 (input_targets Y root) ∙ places
-        ∙ ap (λ p. flat_map (λ d. Y.places p d.name) ds) (sym path))
-        ∙ none_more (in_inputs Y i root)
-      where
-        none_more : (m : ℕ) → m ≡ m + 0
-        none_more m = omega arith
+        ap (times i)
+        (input_places 0 (input_targets Y root) ∙ places
+        ∙ ap (λ p. flat_map (λ d. Y.places p d.name) ds) (sym (path_is P Root root e)))
+        ∙ omega arith
 
     observer_given :
         (o p : Option Instance) → instance_at P Observer ≡ p → holds (is_root P) o ≡ true →
@@ -502,13 +496,10 @@ module _ (P : Program) (accepted : static_refusal P ≡ None) (checked : check_r
         (observed_places Y root) (columns_at H Root ds) w
         (each_count (λ (d : Declaration). Y.places Root d.name)
         (λ (d : Declaration). H.columns Root d.name) (λ d. same Root d.name) ds) in
-        let path = path_is P Observer observer e in
-        ap (times i) (given
-        ∙ ap (λ p. flat_map (λ d. Y.places p d.name) observer.node.inputs) (sym path))
-        ∙ none_more (in_inputs Y i observer)
-      where
-        none_more : (m : ℕ) → m ≡ m + 0
-        none_more m = omega arith
+        ap (times i)
+        (given
+        ∙ ap (λ p. flat_map (λ d. Y.places p d.name) observer.node.inputs)
+        (sym (path_is P Observer observer e))) ∙ omega arith
 
   -- ## All equations
 
@@ -524,15 +515,14 @@ module _ (P : Program) (accepted : static_refusal P ≡ None) (checked : check_r
   abbrev firsts : ℕ → ℕ
   firsts i = given_in i of_root + (given_in i of_observer + given_in i final.copies)
 
-  none_before : (m : ℕ) → 0 + m ≡ m
-  none_before m = omega arith
-
   -- the inputs and the copies give each element of a variable once
   firsts_are : (i : ℕ) → firsts i ≡ times i (range_with_len 0 count)
   firsts_are i =
       let copied : given_in i final.copies ≡ total (in_instance Y P i) (instances P) =
-      instances_added Y P H same i (before_instances count) (instances P) (ready i)
-      ∙ none_before (total (in_instance Y P i) (instances P)) in
+      omega (
+        arith,
+        instances_added Y P H same i (before_instances count) (instances P) (ready i),
+      ) in
       ap₂ (λ a b. a + b) (root_given i (instance_at P Root) refl)
       (ap₂ (λ a b. a + b)
       (observer_given i (instance_at P Root) (instance_at P Observer) refl
@@ -541,9 +531,7 @@ module _ (P : Program) (accepted : static_refusal P ≡ None) (checked : check_r
       ∙ (sym (places_are i) ∙ ap (times i) (places_walk P accepted))
 
   closed : Closed count final
-  closed =
-      all_closed count Y P (is_laid_out P accepted) (before_instances count) (instances P)
-      (record { fresh = tt; next = omega arith })
+  closed = start_closed count Y P (is_laid_out P accepted)
 
   abbrev Q : List FlatEquation
   Q = (expanded Y P count).equations
@@ -569,41 +557,10 @@ module _ (P : Program) (accepted : static_refusal P ≡ None) (checked : check_r
       (ap (times i) (fresh_numbers count final.equations closed.fresh))))
 
   at_most_once : (i : ℕ) → times i (element_numbers Q) ≤ 1
-  at_most_once i = by (cases_lt i count)
-    where
-      by : (i < count) ⊎ (count ≤ i) → times i (element_numbers Q) ≤ 1
-      by (inl lt) =
-          let all = equations_are i in
-          let low = range_once 0 count i (omega arith) (omega (arith, lt)) in
-          let high = range_low count furthers i lt in
-          omega (arith, all, low, high)
-      by (inr le) = by_end (cases_lt i (count + furthers))
-        where
-          by_end : (i < count + furthers) ⊎ (count + furthers ≤ i) →
-              times i (element_numbers Q) ≤ 1
-          by_end (inl lt) =
-              let all = equations_are i in
-              let low = range_high 0 count i (omega (arith, le)) in
-              let high = range_once count furthers i le lt in
-              omega (arith, all, low, high)
-          by_end (inr ge) =
-              let all = equations_are i in
-              let low = range_high 0 count i (omega (arith, le)) in
-              let high = range_high count furthers i ge in
-              omega (arith, all, low, high)
+  at_most_once i = (once_each i count furthers _ (equations_are i)).most
 
   at_least_once : (i : ℕ) → i < count + furthers → 1 ≤ times i (element_numbers Q)
-  at_least_once i lt = by (cases_lt i count)
-    where
-      by : (i < count) ⊎ (count ≤ i) → 1 ≤ times i (element_numbers Q)
-      by (inl less) =
-          let all = equations_are i in
-          let low = range_once 0 count i (omega arith) (omega (arith, less)) in
-          omega (arith, all, low)
-      by (inr le) =
-          let all = equations_are i in
-          let high = range_once count furthers i le lt in
-          omega (arith, all, high)
+  at_least_once i lt = (once_each i count furthers _ (equations_are i)).least lt
 
   -- equations that give only first elements give no temporary, so `ReadsLower` holds of them
   of_first :

@@ -1,7 +1,7 @@
 -- The words of the code that expand calls and the beginning of a flat program.
 use Rattle.lb_expand.proofs.Words
 use Words.{◌≡◌, ◌<◌, ◌≤◌, ℕ, zero, suc, ◌+◌, ◌*◌, ◌-◌, List, [], ◌∷◌, ◌++◌, length, take, drop}
-use Words.{get_or, min, arith, refl, sym, ap, ap₂, subst, ◌∙◌, nat_le, range_with_len, nat_tests}
+use Words.{get_or, min, arith, refl, sym, ap, ap₂, ◌∙◌, nat_le, range_with_len, nat_tests}
 use Words.{length-range_with_len, get_or-range_with_len, length-map-range_with_len}
 use Words.{get_or-map-range_with_len, ArrayIterator, Map, Red, Fill, Callee, State, Emitted, gives}
 use Words.{joins, Target, copied, Context, input_targets, part_copies, accumulator, index_copies}
@@ -114,9 +114,8 @@ copy_step k j s t whole first n i e a js lt more h et clock place at =
     let rest = copied (drop (i + 1) ts) (drop (i + 1) js) in
     let target = get_or-map-range_with_len f first n i e (f 0) lt (sym place) in
     let one : FlatEquation = copy_of k e a in
-    let step : copied (drop i ts) (drop i js) ≡ one ∷ rest =
-    copied_more ts js i (f 0) 0 (subst (λ n. i < n) (sym size) lt) more
-    ∙ ap₂ (λ (t : Target) (j : ℕ). copy_of t.clock t.place j ∷ rest) target (sym at) in
+    let step : copied (drop i ts) (drop i js) ≡ one ∷ rest = copied_more ts js i (f 0) 0 (rw size
+    lt) more ∙ ap₂ (λ (t : Target) (j : ℕ). copy_of t.clock t.place j ∷ rest) target (sym at) in
     copying_more s t whole (one ∷ []) rest (copied (drop i ts) (drop i js))
     (et ∙ ap (λ (k : FlatClock). with_copies s (copy_of k e a ∷ [])) clock) step h
 
@@ -324,16 +323,7 @@ module _ (ctx : Context) (c : ℕ) where
   unfolding joins
   call_done from n x y z t found end is et cut same to put =
       let size : end - n.inputs ≡ n.outputs = omega (arith, to) in
-      let given = copied (flat_map (input_targets ctx c 0) (range_with_len 0 n.inputs))
-      (drop from x.found) in
-      put ∙ ap (λ (y : Emitted). onto y.found (gives y.state (gathered_at ctx c 1
-      (range_with_len n.inputs (end - n.inputs))))) cut ∙ ap₂ (λ (t : State) (is : List ℕ). onto
-      (take from is) (gives t (gathered_at ctx c 1 (range_with_len n.inputs (end - n.inputs)))))
-      et same ∙ ap (λ (is : List ℕ). onto (take from x.found)
-      (gives (with_copies x.state given) is)) (ap
-      (λ k. gathered_at ctx c 1 (range_with_len n.inputs k)) size ∙ flat_single (ctx.child c 0)
-      (ctx.child c) _ (λ x. refl)) ∙ ap (λ (o : Option Callee). onto (take from x.found) (joins
-      x.state (call_copies ctx c o (drop from x.found)) (call_outputs ctx c o))) (sym is)
+      cc (flat_single (ctx.child c 0) (ctx.child c) _ (λ x. refl))
 
   pub iterate_done :
       (from : ℕ) (it : ArrayIterator) (n : Callee) (x y z : Emitted) (t : State)

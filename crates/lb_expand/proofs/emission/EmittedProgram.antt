@@ -11,6 +11,7 @@ use Words.{numbers_of, onto, IsTableClock, AreClocks, Clock}
 use Rattle.{std.proofs.lemmas.List.get_or_past, lb_flat.specs.declared.equation.Equation.Equation}
 use Rattle.lb_expand.specs.AssembledPrograms.{after_copies, assembled}
 use Rattle.lb_expand.proofs.{emission.TermSteps.next_of_rows, fits.KindFacts.length-kinds_from}
+use Rattle.lb_expand.proofs.emission.TermSteps.{rows_grow}
 
 -- The equations of a flat program are the copies and the other equations that were emitted.
 
@@ -100,20 +101,28 @@ clocks_later n m clocks h le =
       parent = w.parent;
     }) clocks h
 
--- there are as many kinds as elements
-pub kinds_counted :
-    (count : ℕ) (rows : List (Context × List ResolvedStatement)) (kinds all : List Kind)
-    (qs : List FlatEquation) (next : ℕ) → length kinds ≡ count →
-    qs ≡ (emit_rows (before_instances count) rows).equations →
-    next ≡ (emit_rows (before_instances count) rows).next →
-    all ≡ kinds ++ kinds_from kinds qs → length all ≡ next
-kinds_counted count rows kinds all qs next size is last e =
-    let both = ap (λ (ks : List Kind). length ks) e in
-    let parts = length-append kinds (kinds_from kinds qs) in
-    let more = length-kinds_from kinds qs in
-    let same = ap (λ (qs : List FlatEquation). length qs) is in
-    let total = next_of_rows count rows in
-    omega (arith, both, parts, more, same, total, size, last)
+module _ (rows : List (Context × List ResolvedStatement)) {s u : State} {count : ℕ}
+    (emitted : u ≡ emit_rows s rows) (start : s ≡ before_instances count) where
+  -- the rows are emitted behind the elements of variables
+  pub rows_later : count ≤ u.next
+  rows_later =
+      let first = ap (λ (s : State). s.next) start in
+      let last = ap (λ (s : State). s.next) emitted in
+      omega (arith, first, last, rows_grow s rows)
+
+  -- there are as many kinds as elements
+  pub kinds_counted :
+      (kinds : List Kind) {all : List Kind} {next : ℕ} → length kinds ≡ count → next ≡ u.next →
+      all ≡ kinds ++ kinds_from kinds u.equations → length all ≡ next
+  kinds_counted kinds size last e =
+      let total = next_of_rows count rows in
+      let same : u ≡ emit_rows (before_instances count) rows = cc in
+      let equations = ap (λ (s : State). length s.equations) same in
+      let numbers = ap (λ (s : State). s.next) same in
+      let both = ap (λ (ks : List Kind). length ks) e in
+      let parts = length-append kinds (kinds_from kinds u.equations) in
+      let more = length-kinds_from kinds u.equations in
+      omega (arith, both, parts, more, equations, numbers, total, size, last)
 
 -- the emitted rows, with their beginning, are the whole program
 module _ (r : Reached) (t : Table) (cs : ℕ → Context) (inputs kinds : List Kind) (count : ℕ) where

@@ -15,6 +15,7 @@ use Rattle.std.proofs.lemmas.List.{take-take, drop-take}
 use Rattle.lb_static.specs.declared.resolved.Term.{Unary, Binary, Arrow, Fby, Pre, Current, When}
 use Rattle.lb_static.specs.declared.resolved.Term.{Join, Array, AtMostOne, Nor}
 use Rattle.lb_expand.proofs.emission.EmittedStacks.{added_none, without_operands, length_of_part}
+use Rattle.lb_expand.proofs.emission.EmittedStacks.{numbers_many}
 use Rattle.lb_expand.proofs.emission.TermSteps.{next_of_add}
 use Rattle.lb_flat.specs.Flat as flat
 
@@ -23,23 +24,6 @@ use Rattle.lb_flat.specs.Flat as flat
 
 -- ## One operand
 
-module _ (ctx : Context) (at : Cursor) (t : Term) (e : Box Term Global) (k : FlatClock) where
-  pub unary_form : (op : UnaryOperator) → t ≡ Unary op e → k ≡ ctx.clock at.term →
-      (x : Emitted) → with_one ctx at t x ≡ each k (ApplyUnary op) x
-  unary_form op is clock x = rw (is, clock) refl
-
-  pub pre_form : t ≡ Pre e → k ≡ ctx.clock at.term → (x : Emitted) →
-      with_one ctx at t x ≡ memory k (Previous first_value) x
-  pre_form is clock x = rw (is, clock) refl
-
-  pub current_form : t ≡ Current e → k ≡ ctx.clock at.term → (x : Emitted) →
-      with_one ctx at t x ≡ memory k (Latest first_value) x
-  current_form is clock x = rw (is, clock) refl
-
-  pub when_form : (y : VariableId) (sign : Bool) → t ≡ When e y sign → k ≡ ctx.sampled y.0 sign →
-      (x : Emitted) → with_one ctx at t x ≡ each k Sample x
-  when_form y sign is clock x = rw (is, clock) refl
-
 -- equal words do the same on the top of a stack
 pub top_form : (from : ℕ) (f g : Emitted → Emitted) (x : Emitted) →
     ((z : Emitted) → f z ≡ g z) → on_top from g x ≡ on_top from f x
@@ -47,16 +31,9 @@ top_form from f g x is = sym (ap (onto (take from x.found)) (is (above from x)))
 
 -- ## Two operands
 
-module _ (ctx : Context) (at : Cursor) (t : Term) (a b : Box Term Global) (k : FlatClock) where
-  pub binary_form : (op : BinaryOperator) → t ≡ Binary op a b → k ≡ ctx.clock at.term →
-      (xs : List ℕ) (y : Emitted) → with_two ctx at t xs y ≡ pairs k (ApplyBinary op) xs y
-  binary_form op is clock xs y = rw (is, clock) refl
-
-  pub arrow_form : t ≡ Arrow a b → k ≡ ctx.clock at.term → (xs : List ℕ) (y : Emitted) →
-      with_two ctx at t xs y ≡ pairs k (FirstThen false) xs y
-  arrow_form is clock xs y = rw (is, clock) refl
-
-  pub fby_form : t ≡ Fby a b → k ≡ ctx.clock at.term → (xs : List ℕ) (y : Emitted) →
+module _ (ctx : Context) (at : Cursor) {t : Term} {a b : Box Term Global} where
+  pub fby_form : {k : FlatClock} → t ≡ Fby a b → k ≡ ctx.clock at.term → (xs : List ℕ)
+      (y : Emitted) →
       with_two ctx at t xs y
       ≡ pairs k (FirstThen false) xs (memory k (Previous first_value) y)
   fby_form is clock xs y = rw (is, clock) refl
@@ -68,9 +45,7 @@ module _ (ctx : Context) (at : Cursor) (t : Term) (a b : Box Term Global) (k : F
 pub two_form : (from middle : ℕ) (f g : List ℕ → Emitted → Emitted) (x : Emitted) →
     ((xs : List ℕ) (z : Emitted) → f xs z ≡ g xs z) →
     on_two from middle g x ≡ on_two from middle f x
-two_form from middle f g x is =
-    sym (ap (onto (take from x.found))
-    (is (slice_range x.found from middle) (above middle x)))
+two_form from middle f g x is = cc (is (slice_range x.found from middle) (above middle x))
 
 -- a list is its part before `from`, its part from `from` to `middle`, and the rest
 pub three_parts : (from middle : ℕ) (all : List ℕ) → from ≤ middle →
@@ -128,17 +103,9 @@ pairs_after k f g from middle x y le within e =
 
 -- ## A row
 
-module _ (ctx : Context) (at : Cursor) (t : Term) (es : Vec Term Global) (k : FlatClock) where
-  pub one_form : t ≡ AtMostOne es → k ≡ ctx.clock at.term → (r : Emitted) →
-      with_all ctx at t r ≡ emit_at_most_one k r.state r.found
-  one_form is clock r = rw (is, clock) refl
-
-  pub nor_form : t ≡ Nor es → k ≡ ctx.clock at.term → (r : Emitted) →
-      with_all ctx at t r ≡ emit_nor k r.state r.found
-  nor_form is clock r = rw (is, clock) refl
-
-  pub array_form : t ≡ Array es → (r : Emitted) → with_all ctx at t r ≡ r
-  array_form is r = rw is refl
+pub array_form : (ctx : Context) (at : Cursor) {t : Term} (es : Vec Term Global) → t ≡ Array es →
+    (r : Emitted) → with_all ctx at t r ≡ r
+array_form ctx at es is r = rw is refl
 
 -- ## A choice, an iterated symbol
 
@@ -232,9 +199,7 @@ zip_length f (x ∷ xs) (y ∷ ys) = let h = zip_length f xs ys in grind (arith,
 
 pub pairs_next : (k : FlatClock) (f : ℕ → ℕ → Operation) (xs : List ℕ) (y : Emitted) →
     (pairs k f xs y).state.next ≡ y.state.next + min (length xs) (length y.found)
-pairs_next k f xs y =
-    next_of_add k y.state (zip2 f xs y.found)
-    ∙ ap (λ n. y.state.next + n) (zip_length f xs y.found)
+pairs_next k f xs y = cc (next_of_add k y.state (zip2 f xs y.found), zip_length f xs y.found)
 
 pub chosen_next : (k : FlatClock) (c : ℕ) (cs xs : List ℕ) (y : Emitted) →
     (choose k (c ∷ cs) xs y).state.next ≡ y.state.next + min (length xs) (length y.found)
@@ -305,46 +270,59 @@ red_next k op s (i ∷ is) = let h = chained_next k op s i is in omega (arith, h
 
 -- a clock in a frame is the flat clock of the code, where both have the same table of clocks
 pub same_clock :
-    (cs ds : List Clock) (i : Option ClockId) (k : FlatClock) → ds ≡ cs → clock_of ds i ≡ k →
+    {cs ds : List Clock} (i : Option ClockId) {k : FlatClock} → ds ≡ cs → clock_of ds i ≡ k →
     clock_of cs i ≡ k
-same_clock cs ds i k e is = ap (λ cs. clock_of cs i) (sym e) ∙ is
+same_clock i e is = cc
 
 module _ (e : TermEmission) (from : ℕ) where
   abbrev top : Emitted
   top = above from (emitted_of e)
 
   long : length top.found ≡ length e.found.items - from
-  long =
-      let all = length-map e.found.items (λ (a : ElementId). a.0) in
-      length-drop from (numbers_of e.found.items) ∙ ap (λ n. n - from) all
+  long = omega (arith, length-drop from (numbers_of e.found.items), numbers_many e.found.items)
 
-  pub each_room : (k : FlatClock) (f : ℕ → Operation) (z : Emitted) → z ≡ each k f top →
-      z.state.next < 2 ^ 32 → e.next + (length e.found.items - from) < 2 ^ 32
-  each_room k f z is lt =
-      let size = long in
-      let more = ap (λ (z : Emitted). z.state.next) is ∙ each_next k f top in
-      omega (arith, size, more, lt)
+  -- a word that takes a number for each element of the top has room for them
+  pub top_room : {n : ℕ} → n ≡ e.next + length top.found → n < 2 ^ 32 →
+      e.next + (length e.found.items - from) < 2 ^ 32
+  top_room is lt = omega (arith, long)
 
-  pub memory_room : (k : FlatClock) (f : ℕ → Operation) (z : Emitted) → z ≡ memory k f top →
-      z.state.next < 2 ^ 32 → e.next + (length e.found.items - from) < 2 ^ 32
-  memory_room k f z is lt =
-      let size = long in
-      let more = ap (λ (z : Emitted). z.state.next) is ∙ memory_next k f top in
-      omega (arith, size, more, lt)
+  module _ (ctx : Context) (at : Cursor) {t : Term} {a : Box Term Global} where
+    -- each word on one operand takes a number for each element of the operand
+    pub unary_room : {op : UnaryOperator} → t ≡ Unary op a →
+        (with_one ctx at t top).state.next < 2 ^ 32 →
+        e.next + (length e.found.items - from) < 2 ^ 32
+    unary_room {op} is lt =
+        top_room (each_next (ctx.clock at.term) (ApplyUnary op) top) (rw is at lt)
 
-  pub nor_room : (k : FlatClock) (z : Emitted) → z ≡ emit_nor k top.state top.found →
-      z.state.next < 2 ^ 32 → e.next + 2 + (length e.found.items - from) < 2 ^ 32
-  nor_room k z is lt =
-      let size = long in
-      let more = ap (λ (z : Emitted). z.state.next) is ∙ nor_next k top.state top.found in
-      omega (arith, size, more, lt)
+    pub pre_room : t ≡ Pre a → (with_one ctx at t top).state.next < 2 ^ 32 →
+        e.next + (length e.found.items - from) < 2 ^ 32
+    pre_room is lt =
+        top_room (memory_next (ctx.clock at.term) (Previous first_value) top) (rw is at lt)
 
-  pub one_room : (k : FlatClock) (z : Emitted) → z ≡ emit_at_most_one k top.state top.found →
-      z.state.next < 2 ^ 32 → e.next + 2 + 3 * (length e.found.items - from) < 2 ^ 32
-  one_room k z is lt =
-      let size = long in
-      let more = ap (λ (z : Emitted). z.state.next) is ∙ one_next k top.state top.found in
-      omega (arith, size, more, lt)
+    pub current_room : t ≡ Current a → (with_one ctx at t top).state.next < 2 ^ 32 →
+        e.next + (length e.found.items - from) < 2 ^ 32
+    current_room is lt =
+        top_room (memory_next (ctx.clock at.term) (Latest first_value) top) (rw is at lt)
+
+    pub when_room : {y : VariableId} {sign : Bool} → t ≡ When a y sign →
+        (with_one ctx at t top).state.next < 2 ^ 32 →
+        e.next + (length e.found.items - from) < 2 ^ 32
+    when_room {y} {sign} is lt =
+        top_room (each_next (ctx.sampled y.0 sign) Sample top) (rw is at lt)
+
+  module _ (ctx : Context) (at : Cursor) {t : Term} (es : Vec Term Global) where
+    -- the words on a row of truths have room for what they emit
+    pub nor_room : t ≡ Nor es → (with_all ctx at t top).state.next < 2 ^ 32 →
+        e.next + 2 + (length e.found.items - from) < 2 ^ 32
+    nor_room is lt =
+        let room = rw is at lt in
+        omega (arith, long, nor_next (ctx.clock at.term) top.state top.found, room)
+
+    pub one_room : t ≡ AtMostOne es → (with_all ctx at t top).state.next < 2 ^ 32 →
+        e.next + 2 + 3 * (length e.found.items - from) < 2 ^ 32
+    one_room is lt =
+        let room = rw is at lt in
+        omega (arith, long, one_next (ctx.clock at.term) top.state top.found, room)
 
 pub red_room :
     (from most : ℕ) (x : Emitted) (k : FlatClock) (op : BinaryOperator) (z : Emitted) →
@@ -375,15 +353,33 @@ module _ (e : TermEmission) (from middle : ℕ) (le : from ≤ middle)
   abbrev both : List ℕ
   both = slice_range (emitted_of e).found from middle
 
-  pub two_room :
-      (k : FlatClock) (f : ℕ → ℕ → Operation) (z : Emitted) →
-      z ≡ pairs k f both (above middle (emitted_of e)) → z.state.next < 2 ^ 32 →
-      e.next + min (middle - from) (length e.found.items - middle) < 2 ^ 32
-  two_room k f z is lt =
-      let size = length-map e.found.items (λ (a : ElementId). a.0) in
-      subst (λ n. e.next + min (middle - from) (n - middle) < 2 ^ 32) size
-      (pairs_room from middle (2 ^ 32) (emitted_of e) k f le (omega (arith, size, within))
-      (subst (λ (z : Emitted). z.state.next < 2 ^ 32) is lt))
+  -- a word that takes a number for each pair of elements has room for them
+  two_room :
+      {n : ℕ} → n ≡ e.next + min (length both) (length (drop middle (numbers_of e.found.items))) →
+      n < 2 ^ 32 → e.next + min (middle - from) (length e.found.items - middle) < 2 ^ 32
+  two_room is lt =
+      let all = numbers_of e.found.items in
+      let size = numbers_many e.found.items in
+      let first = length_of_part all from middle (omega (arith, size, within)) in
+      omega (arith, size, first, length-drop middle all)
+
+  module _ (ctx : Context) (at : Cursor) {t : Term} {a b : Box Term Global} where
+    -- each word on two operands takes a number for each pair of their elements
+    pub binary_room : {op : BinaryOperator} → t ≡ Binary op a b →
+        (with_two ctx at t both (above middle (emitted_of e))).state.next < 2 ^ 32 →
+        e.next + min (middle - from) (length e.found.items - middle) < 2 ^ 32
+    binary_room {op} is lt =
+        two_room
+        (pairs_next (ctx.clock at.term) (ApplyBinary op) both (above middle (emitted_of e)))
+        (rw is at lt)
+
+    pub arrow_room : t ≡ Arrow a b →
+        (with_two ctx at t both (above middle (emitted_of e))).state.next < 2 ^ 32 →
+        e.next + min (middle - from) (length e.found.items - middle) < 2 ^ 32
+    arrow_room is lt =
+        two_room
+        (pairs_next (ctx.clock at.term) (FirstThen false) both (above middle (emitted_of e)))
+        (rw is at lt)
 
 -- the room of a choice, where there is a condition
 pub choose_room :

@@ -5,7 +5,7 @@ use Words.{reads, keeps, operation_of, suc, ◌+◌, length, map, take, drop, ge
 use Words.{refl, sym, ap, ap₂, ◌∙◌, take-append_seam, drop-append_seam, append_assoc, append-nil}
 use Words.{drop_more, drop_all, drop-map, take-map, get_or-map, get_or-drop, length-append}
 use Words.{length-map, length-drop, take-append-le, All-take, All-drop, All-append, slice_range}
-use Words.{nat_le, nat_tests, zip2, ClockId, Emitted, numbered, numbers, after, add, FlatClock}
+use Words.{nat_le, nat_tests, zip2, ClockId, Emitted, numbered, numbers, add, FlatClock}
 use Words.{FlatEquation, flat_equations, equation_of, IsClock, IsWithin, add-sub_cancel_left, Bool}
 use Words.{true, false, All-push, All-weaker, onto, on_top, on_two, without, pushed, Clock}
 use Rattle.std.proofs.lemmas.List.{get_or-take, length-take, Elements.{All-nil, All-cons}}
@@ -56,6 +56,10 @@ keeps_below n m _ h le = none_below m
 
 pub below_later : (n m : ℕ) (is : List ℕ) → Below n is → n ≤ m → Below m is
 below_later n m is h le = All-weaker (λ i. i < n) (λ i. i < m) (λ i lt. omega arith) is h
+
+-- the numbers of some elements are as many as the elements
+pub numbers_many : (xs : List ElementId) → length (numbers_of xs) ≡ length xs
+numbers_many xs = length-map xs (λ (a : ElementId). a.0)
 
 -- ## More elements
 
@@ -165,11 +169,10 @@ pub added_more : (k : FlatClock) (o : flat.Operation) (os : List flat.Operation)
 unfolding add
 added_more k o os x =
     let one : FlatEquation = record { element = x.state.next; clock = k; operation = o } in
-    ap₂ (λ qs is. record {
-      state = record x.state { equations = qs; next = after (suc x.state.next) os };
-      found = is;
-    }) (append_assoc x.state.equations (one ∷ []) (numbered (suc x.state.next) k os))
-    (append_assoc x.found (x.state.next ∷ []) (numbers (suc x.state.next) os))
+    cc (
+      append_assoc x.state.equations (one ∷ []) (numbered (suc x.state.next) k os),
+      append_assoc x.found (x.state.next ∷ []) (numbers (suc x.state.next) os),
+    )
 
 -- ## Loops that put elements on the stack
 
@@ -244,8 +247,7 @@ pub zip_more :
     (f : ℕ → ℕ → flat.Operation) (xs ys : List ℕ) (i d : ℕ) → i < length xs → i < length ys →
     zip2 f (drop i xs) (drop i ys)
     ≡ f (get_or xs i d) (get_or ys i d) ∷ zip2 f (drop (i + 1) xs) (drop (i + 1) ys)
-zip_more f xs ys i d lt more =
-    ap₂ (zip2 f) (drop_more xs i d lt) (drop_more ys i d more)
+zip_more f xs ys i d lt more = cc (drop_more xs i d lt, drop_more ys i d more)
 
 no_second : (f : ℕ → ℕ → flat.Operation) (xs : List ℕ) → zip2 f xs [] ≡ []
 no_second f [] = refl

@@ -4,6 +4,7 @@ use Words.{◌≡◌, ◌<◌, ℕ, ◌+◌, ◌-◌, ◌^◌, List, ◌++◌, l
 use Words.{sym, ap, ap₂, subst, ◌∙◌, slice_range, take-append_seam, drop-append_seam, append_assoc}
 use Words.{length-append, add-sub_cancel_left, Term, State, Emitted, Context, Cursor, PlacedEmitted}
 use Words.{placed, next_term, choose, emit_term, emit_list, FlatClock, HasPlaces, HasRoom, stacked}
+use Words.{with_two, on_two}
 use Words.{onto, above, on_three, ◌≤◌, ◌∷◌, get_or, min, drop_more, drop_all, length-map}
 use Words.{ResolvedStatement, VariableId, assert, joins, copied, PlacedState, left_targets}
 use Words.{emit_statement, with_copies, with_asserted, suc, [], Some, None, Every, listed, Reached}
@@ -11,9 +12,12 @@ use Words.{ResolvedNode, Table, Every-first, Every-second, with_body, body_in, b
 use Words.{first_place, emit_statements, emit_rows, node_at, flat_map}
 use Rattle.{lb_static.specs.declared.resolved.Term.If, lb_expand.specs.Frames.placed_state}
 use Rattle.lb_expand.proofs.emission.EmittedCalls.{items_step, items_end}
-use Rattle.lb_expand.proofs.emission.EmittedWalks.{place_grows, list_later, emitted_if}
-use Rattle.lb_expand.proofs.emission.EmittedWalks.{places_before, above_onto, place_in, emitted_in}
-use Rattle.lb_expand.proofs.emission.EmittedWalks.{IsNotAfter, then_later}
+use Rattle.lb_expand.proofs.emission.EmittedStacks.{on_two_onto}
+use Rattle.lb_expand.proofs.emission.EmittedWalks.{place_grows, list_later, emitted_pair}
+use Rattle.lb_expand.proofs.emission.EmittedWalks.{emitted_if, places_before, IsLeft, left_place}
+use Rattle.lb_expand.proofs.emission.EmittedWalks.{left_emitted, left_above, if_word, IsNotAfter}
+use Rattle.lb_expand.proofs.emission.EmittedWalks.{then_later}
+use Rattle.lb_static.specs.TermForms.{IsPair}
 use Rattle.lb_expand.proofs.emission.TermSteps.{statements_grow, rows_grow}
 use Rattle.lb_static.specs.declared.resolved.ResolvedStatement.TheVariants as statement
 use Rattle.lb_static.specs.declared.table.Instance as row
@@ -55,67 +59,65 @@ on_three_onto f below cs xs y =
     ap₂ onto first
     (ap₂ (λ (cs xs : List ℕ). g cs xs last) second third ∙ ap (g cs xs) fourth)
 
-module _ (ctx : Context) where
+module _ (ctx : Context) (e : Term) {below : List ℕ} {r : PlacedEmitted} {to : Cursor}
+    {mid : Emitted} (left : IsLeft below r to mid) where
   -- one more operand, above the operands that are on the stack
-  pub then_operand :
-      (below : List ℕ) (to up : Cursor) (mid next : Emitted) (x : PlacedEmitted) (e : Term) →
-      placed to mid ≡ stacked below x →
-      placed up next ≡ stacked mid.found (emit_term ctx to mid.state e) →
-      placed up next
-      ≡ stacked (below ++ x.emitted.found) (emit_term ctx x.place x.emitted.state e)
-  then_operand below to up mid next x e h g =
-      g ∙ ap₂ (λ (at : Cursor) (z : Emitted). stacked z.found (emit_term ctx at z.state e))
-      (place_in to mid (stacked below x) h) (emitted_in to mid (stacked below x) h)
+  pub then_left :
+      {up : Cursor} {next : Emitted} → IsLeft mid.found (emit_term ctx to mid.state e) up next →
+      IsLeft (below ++ r.emitted.found) (emit_term ctx r.place r.emitted.state e) up next
+  then_left above = record { is = cc (left_place left, left_emitted left, above.is) }
 
   -- the next operand has room in the code if it has room in the mirror
-  pub moved_room :
-      (below : List ℕ) (to : Cursor) (mid : Emitted) (x : PlacedEmitted) (e : Term) →
-      placed to mid ≡ stacked below x → HasRoom (emit_term ctx x.place x.emitted.state e) →
+  pub moved_room : HasRoom (emit_term ctx r.place r.emitted.state e) →
       HasRoom (emit_term ctx to mid.state e)
-  moved_room below to mid x e h room =
-      subst (λ (r : PlacedEmitted). HasRoom (emit_term ctx r.place r.emitted.state e)) (sym h) room
+  moved_room room =
+      subst (λ (r : PlacedEmitted). HasRoom (emit_term ctx r.place r.emitted.state e))
+      (sym left.is) room
 
--- the size of the stack after an operand, and the next free number
-pub left_size : (below : List ℕ) (to : Cursor) (mid : Emitted) (x : PlacedEmitted) →
-    placed to mid ≡ stacked below x → length mid.found ≡ length below + length x.emitted.found
-left_size below to mid x h =
-    ap (λ (r : PlacedEmitted). length r.emitted.found) h ∙ length-append below x.emitted.found
+-- two operands, cut out of the stack at the places where they begin
+module _ {below : List ℕ} {x y : PlacedEmitted} {to up : Cursor} {mid next : Emitted}
+    (first : IsLeft below x to mid) (second : IsLeft (below ++ x.emitted.found) y up next)
+    {m n : ℕ} (from : m ≡ length below) (middle : n ≡ length mid.found) where
+  middle_is : n ≡ length (below ++ x.emitted.found)
+  middle_is = cc (left_emitted first)
 
-pub left_next : (below : List ℕ) (to : Cursor) (mid : Emitted) (x : PlacedEmitted) →
-    placed to mid ≡ stacked below x → mid.state.next ≡ x.emitted.state.next
-left_next below to mid x h = ap (λ (r : PlacedEmitted). r.emitted.state.next) h
-
--- the two operands, cut out of the stack at the places where they begin
-module _ (below : List ℕ) (to up : Cursor) (mid next : Emitted) (x y : PlacedEmitted)
-    (h : placed to mid ≡ stacked below x)
-    (g : placed up next ≡ stacked (below ++ x.emitted.found) y) where
-  middle_is : length mid.found ≡ length (below ++ x.emitted.found)
-  middle_is = ap (λ (r : PlacedEmitted). length r.emitted.found) h
-
-  next_is : next ≡ onto (below ++ x.emitted.found) y.emitted
-  next_is = emitted_in up next (stacked (below ++ x.emitted.found) y) g
-
-  pub first_part : slice_range next.found (length below) (length mid.found) ≡ x.emitted.found
+  pub first_part : slice_range next.found m n ≡ x.emitted.found
   first_part =
-      ap₂ (λ (z : Emitted) (n : ℕ). slice_range z.found (length below) n) next_is middle_is
-      ∙ slice_seam below x.emitted.found y.emitted.found
+      cc (left_emitted second, middle_is, slice_seam below x.emitted.found y.emitted.found)
 
-  pub second_part : above (length mid.found) next ≡ y.emitted
-  second_part =
-      ap₂ above middle_is next_is ∙ above_onto (below ++ x.emitted.found) y.emitted
+  pub second_part : above n next ≡ y.emitted
+  second_part = left_above second middle_is
 
-  pub two_left : (f : List ℕ → Emitted → Emitted) (most : ℕ) →
-      (f x.emitted.found y.emitted).state.next < most →
-      (f (slice_range next.found (length below) (length mid.found))
-      (above (length mid.found) next)).state.next < most
-  two_left f most lt = rw (ap₂ f first_part second_part) lt
+  two_top : (f : List ℕ → Emitted → Emitted) →
+      on_two m n f next ≡ onto below (f x.emitted.found y.emitted)
+  two_top f =
+      cc (left_emitted second, middle_is, on_two_onto f below x.emitted.found y.emitted)
+
+-- a term with two operands is done when the word on both is
+pub pair_done :
+    (ctx : Context) (at : Cursor) (s : State) {t : Term} {a b : Box Term Global} {below : List ℕ}
+    {to up : Cursor} {mid next new : Emitted} {m n : ℕ} → IsPair t a b →
+    IsLeft below (emit_term ctx (next_term at) s a.value) to mid →
+    IsLeft mid.found (emit_term ctx to mid.state b.value) up next → m ≡ length below →
+    n ≡ length mid.found → new ≡ on_two m n (with_two ctx at t) next →
+    placed up new ≡ stacked below (emit_term ctx at s t)
+pair_done ctx at s {t = t} {a = a} {b = b} is first second from middle word =
+    let both = then_left ctx b.value first second in
+    cc (
+      left_place both,
+      two_top first both from middle (with_two ctx at t),
+      emitted_pair ctx at s t
+          a b _ _ is refl refl,
+    )
 
 -- the three operands of a choice, cut out of the stack
-module _ (ctx : Context) (at : Cursor) (s : State) (below : List ℕ) (c a b : Box Term Global)
-    (to up top : Cursor) (one mid next : Emitted)
-    (h : placed to one ≡ stacked below (emit_term ctx (next_term at) s c.value))
-    (g : placed up mid ≡ stacked one.found (emit_term ctx to one.state a.value))
-    (f : placed top next ≡ stacked mid.found (emit_term ctx up mid.state b.value)) where
+module _ (ctx : Context) (at : Cursor) (s : State) {t : Term} {c a b : Box Term Global}
+    (is : t ≡ If c a b) {below : List ℕ} {to up top : Cursor} {one mid next : Emitted}
+    (h : IsLeft below (emit_term ctx (next_term at) s c.value) to one)
+    (g : IsLeft one.found (emit_term ctx to one.state a.value) up mid)
+    (f : IsLeft mid.found (emit_term ctx up mid.state b.value) top next) {l m n : ℕ}
+    (from : l ≡ length below) (second : m ≡ length one.found) (third : n ≡ length mid.found)
+    {k : FlatClock} (clock : k ≡ ctx.clock at.term) where
   abbrev z_of : PlacedEmitted
   z_of = emit_term ctx (next_term at) s c.value
 
@@ -125,91 +127,62 @@ module _ (ctx : Context) (at : Cursor) (s : State) (below : List ℕ) (c a b : B
   abbrev y_of : PlacedEmitted
   y_of = emit_term ctx x_of.place x_of.emitted.state b.value
 
-  mid_is : placed up mid ≡ stacked (below ++ z_of.emitted.found) x_of
-  mid_is = then_operand ctx below to up one mid z_of a.value h g
+  mid_is : IsLeft (below ++ z_of.emitted.found) x_of up mid
+  mid_is = then_left ctx a.value h g
 
-  last_is : placed top next ≡ stacked ((below ++ z_of.emitted.found) ++ x_of.emitted.found) y_of
-  last_is = then_operand ctx _ up top mid next x_of _ mid_is f
+  last_is : IsLeft ((below ++ z_of.emitted.found) ++ x_of.emitted.found) y_of top next
+  last_is = then_left ctx b.value mid_is f
 
-  one_size : length one.found ≡ length (below ++ z_of.emitted.found)
-  one_size = ap (λ (r : PlacedEmitted). length r.emitted.found) h
+  -- the word on three operands on the stack is the word on what they emitted
+  three_is :
+      on_three l m n (choose k) next
+      ≡ onto below
+      (choose (ctx.clock at.term) z_of.emitted.found x_of.emitted.found y_of.emitted)
+  three_is =
+      cc (
+        left_emitted h,
+        left_emitted mid_is,
+        left_emitted last_is,
+        on_three_onto (choose k) below
+            z_of.emitted.found x_of.emitted.found y_of.emitted,
+      )
 
-  mid_size : length mid.found
-      ≡ length ((below ++ z_of.emitted.found) ++ x_of.emitted.found)
-  mid_size = ap (λ (r : PlacedEmitted). length r.emitted.found) mid_is
-
-  -- a word on three operands on the stack is the word on what they emitted
-  pub three_is : (w : List ℕ → List ℕ → Emitted → Emitted) →
-      on_three (length below) (length one.found) (length mid.found) w next
-      ≡ onto below (w z_of.emitted.found x_of.emitted.found y_of.emitted)
-  three_is w =
-      ap₂ (λ m n. on_three (length below) m n w next) one_size mid_size
-      ∙ ap (on_three (length below) (length (below ++ z_of.emitted.found))
-      (length ((below ++ z_of.emitted.found) ++ x_of.emitted.found)) w)
-      (emitted_in top next
-      (stacked ((below ++ z_of.emitted.found) ++ x_of.emitted.found) y_of) last_is)
-      ∙ on_three_onto w below z_of.emitted.found x_of.emitted.found y_of.emitted
-
-  pub if_done : (t : Term) (k : FlatClock) (new : Emitted) → t ≡ If c a b →
-      k ≡ ctx.clock at.term →
-      new ≡ on_three (length below) (length one.found) (length mid.found) (choose k) next →
+  pub if_done : {new : Emitted} → new ≡ on_three l m n (choose k) next →
       placed top new ≡ stacked below (emit_term ctx at s t)
-  if_done t k new is clock e =
-      let form = ap (emit_term ctx at s) is
-      ∙ emitted_if ctx at s c a b z_of x_of y_of refl refl refl in
-      ap₂ placed (place_in top next
-      (stacked ((below ++ z_of.emitted.found) ++ x_of.emitted.found) y_of) last_is)
-      (e ∙ three_is (choose k)
-      ∙ ap (λ (k : FlatClock). onto below
-      (choose k z_of.emitted.found x_of.emitted.found y_of.emitted)) clock)
-      ∙ sym (ap (stacked below) form)
+  if_done word =
+      cc (left_place last_is, three_is, emitted_if ctx at s c a b z_of x_of y_of refl refl refl)
 
-  -- a choice has room on the stack if it has room over what its operands emitted
-  pub three_left : (k : FlatClock) (most : ℕ) →
-      (choose k z_of.emitted.found x_of.emitted.found y_of.emitted).state.next < most →
-      (choose k (slice_range next.found (length below) (length one.found))
-      (slice_range next.found (length one.found) (length mid.found))
-      (above (length mid.found) next)).state.next < most
-  three_left k most lt = rw (ap (λ (z : Emitted). z.state.next) (three_is (choose k))) lt
+  -- a choice that has room has room on the stack
+  pub three_left : HasRoom (emit_term ctx at s t) →
+      (choose k (slice_range next.found l m) (slice_range next.found m n)
+      (above n next)).state.next < 2 ^ 32
+  three_left room =
+      rw (ap (λ (z : Emitted). z.state.next) three_is) (if_word ctx at s is room)
 
 -- ## Where operands begin
 
-pub start_room : (ctx : Context) (at : Cursor) (s : State) (e : Term) →
-    HasRoom (emit_term ctx at s e) → HasPlaces at
-start_room ctx at s e h = places_before at _ (place_grows ctx at s e) h.places
+-- a term with an operand that has room has a place for the operand
+pub start_fits : (ctx : Context) (at : Cursor) (s : State) (e : Term) →
+    HasRoom (emit_term ctx (next_term at) s e) → at.term + 1 < 2 ^ 64
+start_fits ctx at s e h =
+    let later = place_grows ctx (next_term at) s e in
+    let lt = h.places.terms in
+    omega (arith, later, lt)
 
 pub list_start : (ctx : Context) (at : Cursor) (s : State) (es : List Term) →
     HasRoom (emit_list ctx at s es) → HasPlaces at
 list_start ctx at s es h = places_before at _ (list_later ctx at s es) h.places
 
-pub next_fits : (at : Cursor) → HasPlaces (next_term at) → at.term + 1 < 2 ^ 64
-next_fits at h = let lt = h.terms in omega (arith, lt)
-
 -- a term has room if an equal term at an equal place has room
 pub same_room :
-    (ctx : Context) (p q : Cursor) (s : State) (e f : Term) → q ≡ p → f ≡ e →
+    (ctx : Context) (s : State) {p q : Cursor} {e f : Term} → q ≡ p → f ≡ e →
     HasRoom (emit_term ctx p s e) → HasRoom (emit_term ctx q s f)
-same_room ctx p q s e f place is h =
-    subst HasRoom (sym (ap₂ (λ p e. emit_term ctx p s e) place is)) h
+same_room ctx s place is h = rw (ap₂ (λ p e. emit_term ctx p s e) place is) h
 
 pub same_list :
-    (ctx : Context) (p q : Cursor) (s : State) (es fs : List Term) → q ≡ p → fs ≡ es →
+    (ctx : Context) (s : State) {p q : Cursor} {es fs : List Term} → q ≡ p → fs ≡ es →
     HasRoom (emit_list ctx p s es) → HasRoom (emit_list ctx q s fs)
-same_list ctx p q s es fs place is h =
-    subst HasRoom (sym (ap₂ (λ p es. emit_list ctx p s es) place is)) h
-
--- what the code left for an equal term at an equal place is what the mirror emits
-pub placed_as :
-    (ctx : Context) (p q to : Cursor) (s : State) (e f : Term) (below : List ℕ) (x : Emitted) →
-    q ≡ p → f ≡ e → placed to x ≡ stacked below (emit_term ctx q s f) →
-    placed to x ≡ stacked below (emit_term ctx p s e)
-placed_as ctx p q to s e f below x place is h = cc
-
-pub listed_as :
-    (ctx : Context) (p q to : Cursor) (s : State) (es fs : List Term) (below : List ℕ)
-    (x : Emitted) → q ≡ p → fs ≡ es → placed to x ≡ stacked below (emit_list ctx q s fs) →
-    placed to x ≡ stacked below (emit_list ctx p s es)
-listed_as ctx p q to s es fs below x place is h = cc
+same_list ctx s place is h = rw (ap₂ (λ p es. emit_list ctx p s es) place is) h
 
 -- The code that expands resolved statements: left variables are copies of what their term left on
 -- the stack.
@@ -240,86 +213,66 @@ module _ (ctx : Context) where
 
   -- the room of a statement is that of its term
   equation_is :
-      (at : Cursor) (s : State) (x : ResolvedStatement) (lefts : _) (e : Term) →
+      (at : Cursor) (s : State) {x : ResolvedStatement} {lefts : _} {e : Term} →
       x ≡ statement.Equation lefts e →
       emit_statement ctx at s x
       ≡ (let r = emit_term ctx at s e in
       placed_state r.place (with_copies r.emitted.state
       (copied (flat_map (left_targets ctx) lefts.items) r.emitted.found)))
   unfolding emit_statement joins
-  equation_is at s x lefts e is = rw is refl
+  equation_is at s is = rw is refl
 
   assertion_is :
-      (at : Cursor) (s : State) (x : ResolvedStatement) (e : Term) → x ≡ statement.Assertion e →
+      (at : Cursor) (s : State) {x : ResolvedStatement} {e : Term} → x ≡ statement.Assertion e →
       emit_statement ctx at s x
       ≡ (let r = emit_term ctx at s e in placed_state r.place (assert r.emitted))
   unfolding emit_statement
-  assertion_is at s x e is = rw is refl
+  assertion_is at s is = rw is refl
 
   pub equation_room :
-      (at : Cursor) (s : State) (x : ResolvedStatement) (lefts : _) (e : Term) →
-      x ≡ statement.Equation lefts e →
-      (emit_statement ctx at s x).state.next < 2 ^ 32 →
+      (at : Cursor) (s : State) {x : ResolvedStatement} {lefts : _} {e : Term} →
+      x ≡ statement.Equation lefts e → (emit_statement ctx at s x).state.next < 2 ^ 32 →
       HasPlaces (emit_statement ctx at s x).place → HasRoom (emit_term ctx at s e)
-  equation_room at s x lefts e is lt places =
-      let same = equation_is at s x lefts e is in
-      record {
-        elements = subst (λ (r : PlacedState). r.state.next < 2 ^ 32) same lt;
-        places = subst (λ (r : PlacedState). HasPlaces r.place) same places;
-      }
+  equation_room at s is lt places =
+      let same = equation_is at s is in
+      record { elements = rw same at lt; places = rw same at places }
 
   pub assertion_room :
-      (at : Cursor) (s : State) (x : ResolvedStatement) (e : Term) → x ≡ statement.Assertion e →
+      (at : Cursor) (s : State) {x : ResolvedStatement} {e : Term} → x ≡ statement.Assertion e →
       (emit_statement ctx at s x).state.next < 2 ^ 32 →
       HasPlaces (emit_statement ctx at s x).place → HasRoom (emit_term ctx at s e)
   unfolding assert
-  assertion_room at s x e is lt places =
-      let same = assertion_is at s x e is in
-      record {
-        elements = subst (λ (r : PlacedState). r.state.next < 2 ^ 32) same lt;
-        places = subst (λ (r : PlacedState). HasPlaces r.place) same places;
-      }
+  assertion_room at s is lt places =
+      let same = assertion_is at s is in
+      record { elements = rw same at lt; places = rw same at places }
 
   -- an equation is done when its term is emitted and its left variables are copied
   pub equation_done :
-      (at to : Cursor) (s t : State) (x : ResolvedStatement) (lefts : _) (e : Term)
-      (below : List ℕ) (mid : Emitted) → x ≡ statement.Equation lefts e →
-      placed to mid ≡ stacked below (emit_term ctx at s e) →
+      (at : Cursor) (s : State) {t : State} {to : Cursor} {x : ResolvedStatement} {lefts : _}
+      {e : Term} {below : List ℕ} {mid : Emitted} {n : ℕ} → x ≡ statement.Equation lefts e →
+      IsLeft below (emit_term ctx at s e) to mid → n ≡ length below →
       t ≡ with_copies mid.state
-      (copied (flat_map (left_targets ctx) lefts.items) (drop (length below) mid.found)) →
+      (copied (flat_map (left_targets ctx) lefts.items) (drop n mid.found)) →
       placed_state to t ≡ emit_statement ctx at s x
-  equation_done at to s t x lefts e below mid is h et =
-      let r = emit_term ctx at s e in
-      let ts = flat_map (left_targets ctx) lefts.items in
-      let same : above (length below) mid ≡ r.emitted =
-      ap (above (length below)) (emitted_in to mid (stacked below r) h)
-      ∙ above_onto below r.emitted in
-      ap₂ placed_state (place_in to mid (stacked below r) h)
-      (et ∙ ap (λ (z : Emitted). with_copies z.state (copied ts z.found)) same)
-      ∙ sym (equation_is at s x lefts e is)
+  equation_done at s is left size et =
+      cc (left_place left, left_above left size, equation_is at s is)
 
   pub assertion_done :
-      (at to : Cursor) (s t : State) (x : ResolvedStatement) (e : Term) (below : List ℕ)
-      (mid : Emitted) → x ≡ statement.Assertion e →
-      placed to mid ≡ stacked below (emit_term ctx at s e) →
-      t ≡ with_asserted mid.state (drop (length below) mid.found) →
+      (at : Cursor) (s : State) {t : State} {to : Cursor} {x : ResolvedStatement} {e : Term}
+      {below : List ℕ} {mid : Emitted} {n : ℕ} → x ≡ statement.Assertion e →
+      IsLeft below (emit_term ctx at s e) to mid → n ≡ length below →
+      t ≡ with_asserted mid.state (drop n mid.found) →
       placed_state to t ≡ emit_statement ctx at s x
   unfolding assert
-  assertion_done at to s t x e below mid is h et =
-      let r = emit_term ctx at s e in
-      let same : above (length below) mid ≡ r.emitted =
-      ap (above (length below)) (emitted_in to mid (stacked below r) h)
-      ∙ above_onto below r.emitted in
-      ap₂ placed_state (place_in to mid (stacked below r) h) (et ∙ ap assert same)
-      ∙ sym (assertion_is at s x e is)
+  assertion_done at s is left size et =
+      cc (left_place left, left_above left size, assertion_is at s is)
 
 -- after a term, the lower part of the stack is still `below`
 pub stack_kept :
-    (to : Cursor) (below : List ℕ) (mid : Emitted) (r : PlacedEmitted) →
-    placed to mid ≡ stacked below r → take (length below) mid.found ≡ below
-stack_kept to below mid r h =
-    ap (λ (z : PlacedEmitted). take (length below) z.emitted.found) h
-    ∙ take-append_seam below r.emitted.found
+    {below : List ℕ} {to : Cursor} {mid : Emitted} {r : PlacedEmitted} {n : ℕ} →
+    IsLeft below r to mid → n ≡ length below → take n mid.found ≡ below
+stack_kept {below = below} {r = r} left size =
+    cc (left_emitted left, take-append_seam below r.emitted.found)
 
 -- The code that expands the rows of the table of instances: statement after statement, and row
 -- after row.
@@ -383,8 +336,7 @@ module _ (ctx : Context) where
       let same = ap (λ (r : PlacedState). r.state.next)
       (sym h ∙ statements_more at s xs i d lt) in
       let first : r.state.next < 2 ^ 32 = omega (arith, grows, same, most) in
-      subst (λ (x : ResolvedStatement). (emit_statement ctx at s x).state.next < 2 ^ 32) (sym is)
-      first
+      rw is first
 
   pub statement_places :
       (at : Cursor) (s : State) (xs : List ResolvedStatement) (i : ℕ) (x d : ResolvedStatement)
@@ -516,5 +468,4 @@ module _ (r : Reached) (t : Table) (cs : ℕ → Context) where
       (xs : List ResolvedStatement) → node_at r t i ≡ Some n → ctx ≡ cs j →
       xs ≡ n.body.items → Every IsCounted (body_in r t cs j i) →
       HasPlaces (emit_statements ctx first_place s xs).place
-  row_places s j i n ctx xs e at is h =
-      (subst (Every IsCounted) (found_body j i n ctx xs e at is) h).0 s
+  row_places s j i n ctx xs e at is h = (rw (found_body j i n ctx xs e at is) at h).0 s

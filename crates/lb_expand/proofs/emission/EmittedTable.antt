@@ -154,16 +154,14 @@ module _ (Y : Layout) (P : Program) (H : History) (here : Instance) (texts : Tex
       let is = term_is Y P H here texts n ctx context same variables_wide k at s e
       (and_second (list_all (is_variable n) lefts.items) (is_within n e) ew) eu
       (along_first (IsTermAt Y P H here ctx) at.term os rest h) in
-      ap (λ (x : PlacedEmitted).
-      (emit_statements ctx x.place
-      (joins x.emitted.state
-      (copied (flat_map (left_targets ctx) lefts.items) x.emitted.found) []).state ss).place) is
-      ∙ places_are to
-      (joins y.state (copied (flat_map (left_targets ctx) lefts.items) y.found) []).state ss
-      (and_second own _ w)
-      (and_second (is_statement_unhidden texts (statement.Equation lefts e)) _ u)
-      (along_second (IsTermAt Y P H here ctx) at.term os rest h)
-      ∙ past_both at os rest (sites x) (flat_map statement_sites trees)
+      cc (
+        places_are to
+            (joins y.state (copied (flat_map (left_targets ctx) lefts.items) y.found) []).state ss
+            (and_second own _ w)
+            (and_second (is_statement_unhidden texts (statement.Equation lefts e)) _ u)
+            (along_second (IsTermAt Y P H here ctx) at.term os rest h),
+        past_both at os rest (sites x) (flat_map statement_sites trees),
+      )
   places_are at s (statement.Assertion e ∷ ss) w u h =
       let own = is_statement_within n (statement.Assertion e) in
       let x = expr_of texts e in
@@ -283,10 +281,8 @@ module _ (P : Program) (accepted : static_refusal P ≡ None) (checked : check_r
     terms_there :
         Along (IsTermAt (layout P) P wide_history here ctx) 0 (node_occurrences P here.node)
     terms_there =
-        along_from (IsTermAt (layout P) P wide_history here ctx) 0 (node_occurrences P here.node)
-        (λ j o e.
-        let start : j ≡ 0 + j = omega arith in
-        subst (λ t. IsTermAt (layout P) P wide_history here ctx t o) start (term_there j o e))
+        along_from (IsTermAt (layout P) P wide_history here ctx) 0 (node_occurrences P here.node) (λ
+        j o e. let start : j ≡ 0 + j = omega arith in rw (← start) (term_there j o e))
 
     -- the statements of a resolved node emit what the body of its instance emits
     pub instance_body_is :

@@ -113,10 +113,8 @@ module _ (Y : Layout) (P : Program) (H : History) (here : Instance)
       (number_is P H here m size.value size.is) ∙ a.gives in
       let found = all_as_many Y P H here same k n s es
       ∙ all_wide P H here variables_wide k n es a.value a.is parts in
-      subst (λ ls. AreFed it (number P here m) two_scalars ls) (sym found)
-      (subst (λ ws. AreFed it (number P here m) ws (map element_count a.value))
-      (scalar_types op o.value o.is)
-      (fed_by_types it (number P here m) o.value.0 o.value.1 a.value ts types))
+      rw found (rw (scalar_types op o.value o.is) at (fed_by_types it (number P here m) o.value.0
+      o.value.1 a.value ts types))
 
 -- A term with resolved names emits what the expression that it stands for emits.
 

@@ -3,16 +3,16 @@ use Rattle.lb_expand.proofs.Words
 use Words.{◌≤◌, List, [], ◌∷◌, arith, Term, Value, Group', Unary', Binary', If', Arrow', Fby', Pre'}
 use Words.{Current', When', Replicate', Index', Slice', Join', Array', AtMostOne', Nor', Call'}
 use Words.{IterateNode', IterateSymbol', Row_of-Term, end_of-Term, more_of-Term, State, Context}
-use Words.{Cursor, next_term, next_call, emit_term, emit_row, emit_list, ◌≡◌, ◌<◌, ℕ, ◌+◌, ◌++◌}
-use Words.{length, drop, get_or, Vec, Box, Global, refl, sym, ap, ◌∙◌, inl, inr, drop_more}
+use Words.{Cursor, next_term, next_call, emit_term, emit_row, emit_list, ◌≡◌, ◌<◌, ℕ, ◌+◌, length}
+use Words.{drop, get_or, Vec, Box, Global, refl, sym, ap, ◌∙◌, inl, inr, drop_more, length-append}
 use Words.{append_assoc, append-nil, IterateNode, IterateSymbol, items-the_row-Term}
 use Words.{items_hidden-the_row-Term-0, Emitted, gives, PlacedEmitted, placed, row_place, choose}
 use Words.{with_one, with_two, with_all, onto, IsPair, IsRow, row_in, ◌^◌, ap₂, subst}
 use Words.{drop-append_seam, Scalar, Boolean, StaticId, VariableId, add, literal, constant}
-use Words.{HasPlaces, HasRoom, stacked, FlatClock, Constant, above, on_top, on_two, pushed, Bool}
+use Words.{HasPlaces, HasRoom, stacked, FlatClock, Constant, above, on_top, pushed, Bool}
 use Rattle.lb_static.specs.{TermForms.IsSingle, declared.resolved.Term.{Literal, Truth, Variable}}
 use Rattle.lb_static.specs.declared.resolved.Term.{If, Array, AtMostOne, Nor, Call, Group}
-use Rattle.lb_expand.proofs.emission.EmittedStacks.{on_top_onto, on_two_onto}
+use Rattle.lb_expand.proofs.emission.EmittedStacks.{on_top_onto}
 use Rattle.lb_expand.proofs.emission.TermSteps.{next_grows, list_grows, one_grows, two_grows}
 use Rattle.lb_expand.proofs.emission.TermSteps.{all_grows, add_grows, next_of_add}
 
@@ -253,38 +253,33 @@ room_before x y le h g =
       places = places_before x.place y.place h g.places;
     }
 
-module _ (ctx : Context) (at : Cursor) (s : State) (t : Term) where
+module _ (ctx : Context) (at : Cursor) (s : State) {t : Term} where
   -- if a term with one operand has room, so has the operand
-  pub single_room : (e : Box Term Global) → IsSingle t e → HasRoom (emit_term ctx at s t) →
+  pub single_room : {e : Box Term Global} → IsSingle t e → HasRoom (emit_term ctx at s t) →
       HasRoom (emit_term ctx (next_term at) s e.value)
-  single_room e is h =
+  single_room is h =
       room_before _ _ (one_grows ctx at t _) (same_place _)
-      (subst HasRoom (emitted_single ctx at s t e _ is refl) h)
+      (subst HasRoom (emitted_single ctx at s t _ _ is refl) h)
 
-  pub single_word : (e : Box Term Global) → IsSingle t e → HasRoom (emit_term ctx at s t) →
+  pub single_word : {e : Box Term Global} → IsSingle t e → HasRoom (emit_term ctx at s t) →
       (let x = emit_term ctx (next_term at) s e.value in
       (with_one ctx at t x.emitted).state.next < 2 ^ 32)
-  single_word e is h = (subst HasRoom (emitted_single ctx at s t e _ is refl) h).elements
+  single_word is h = (subst HasRoom (emitted_single ctx at s t _ _ is refl) h).elements
 
   -- if a term with two operands has room, so have both operands
-  pub pair_room : (a b : Box Term Global) → IsPair t a b → HasRoom (emit_term ctx at s t) →
+  pub pair_room : {a b : Box Term Global} → IsPair t a b → HasRoom (emit_term ctx at s t) →
       (let x = emit_term ctx (next_term at) s a.value in
       HasRoom x × HasRoom (emit_term ctx x.place x.emitted.state b.value))
-  pair_room a b is h =
-      let x = emit_term ctx (next_term at) s a.value in
-      let y = emit_term ctx x.place x.emitted.state b.value in
-      let second : HasRoom y =
-      room_before _ _ (two_grows ctx at t _ _) (same_place _) (subst HasRoom
-      (emitted_pair ctx at s t a b _ _ is refl refl) h) in
-      let first : HasRoom x =
-      room_before _ _ (next_grows ctx _ _ _) (place_grows ctx _ _ _) second in
-      (first, second)
+  pair_room is h =
+      let second = room_before _ _ (two_grows ctx at t _ _) (same_place _)
+      (subst HasRoom (emitted_pair ctx at s t _ _ _ _ is refl refl) h) in
+      (room_before _ _ (next_grows ctx _ _ _) (place_grows ctx _ _ _) second, second)
 
-  pub pair_word : (a b : Box Term Global) → IsPair t a b → HasRoom (emit_term ctx at s t) →
+  pub pair_word : {a b : Box Term Global} → IsPair t a b → HasRoom (emit_term ctx at s t) →
       (let x = emit_term ctx (next_term at) s a.value in
       let y = emit_term ctx x.place x.emitted.state b.value in
       (with_two ctx at t x.emitted.found y.emitted).state.next < 2 ^ 32)
-  pair_word a b is h = (subst HasRoom (emitted_pair ctx at s t a b _ _ is refl refl) h).elements
+  pair_word is h = (subst HasRoom (emitted_pair ctx at s t _ _ _ _ is refl refl) h).elements
 
   -- if a term with a row of operands has room, so has the row
   pub row_room : (es : Vec Term Global) → IsRow t es → HasRoom (emit_term ctx at s t) →
@@ -299,7 +294,7 @@ module _ (ctx : Context) (at : Cursor) (s : State) (t : Term) where
   row_word es is h = (subst HasRoom (emitted_all ctx at s t es _ _ is refl refl) h).elements
 
 -- a choice, with its three operands placed one after another
-module _ (ctx : Context) (at : Cursor) (s : State) (t : Term) (c a b : Box Term Global)
+module _ (ctx : Context) (at : Cursor) (s : State) {t : Term} {c a b : Box Term Global}
     (is : t ≡ If c a b) where
   abbrev first_of_three : PlacedEmitted
   first_of_three = emit_term ctx (next_term at) s c.value
@@ -334,81 +329,78 @@ module _ (ctx : Context) (at : Cursor) (s : State) (t : Term) (c a b : Box Term 
 
 -- ## What a term leaves
 
--- the part of `onto below x` above `below` is `x`
-pub above_onto : (below : List ℕ) (x : Emitted) → above (length below) (onto below x) ≡ x
-above_onto below x =
-    ap (λ (is : List ℕ). record { state = x.state; found = is }) (drop-append_seam below x.found)
+-- the code is at place `to`, with the elements of the emission `r` above `below` on its stack
+pub record IsLeft (below : List ℕ) (r : PlacedEmitted) (to : Cursor) (x : Emitted) : Type 0 where
+  pub is : placed to x ≡ stacked below r
 
--- the place and the emission of `r`, where `placed at x` is `r`
-pub place_in : (at : Cursor) (x : Emitted) (r : PlacedEmitted) → placed at x ≡ r → at ≡ r.place
-place_in at x r e = ap (λ (r : PlacedEmitted). r.place) e
+-- what the code left for an equal term at an equal place
+pub term_left :
+    (ctx : Context) (s : State) (below : List ℕ) {p q to : Cursor} {e f : Term} {x : Emitted} →
+    q ≡ p → f ≡ e → placed to x ≡ stacked below (emit_term ctx q s f) →
+    IsLeft below (emit_term ctx p s e) to x
+term_left ctx s below place same h = record { is = cc }
 
-pub emitted_in : (at : Cursor) (x : Emitted) (r : PlacedEmitted) → placed at x ≡ r → x ≡ r.emitted
-emitted_in at x r e = ap (λ (r : PlacedEmitted). r.emitted) e
+-- the same for a list of terms
+pub list_left :
+    (ctx : Context) (s : State) (below : List ℕ) {p q to : Cursor} {es fs : List Term}
+    {x : Emitted} → q ≡ p → fs ≡ es → placed to x ≡ stacked below (emit_list ctx q s fs) →
+    IsLeft below (emit_list ctx p s es) to x
+list_left ctx s below place same h = record { is = cc }
 
-module _ (ctx : Context) (at : Cursor) (s : State) (t : Term) (below : List ℕ) where
+module _ {below : List ℕ} {r : PlacedEmitted} {to : Cursor} {x : Emitted}
+    (left : IsLeft below r to x) where
+  -- the code is at the place, and has the emission, that `r` says
+  pub left_place : to ≡ r.place
+  left_place = ap (λ (r : PlacedEmitted). r.place) left.is
+
+  pub left_emitted : x ≡ onto below r.emitted
+  left_emitted = ap (λ (r : PlacedEmitted). r.emitted) left.is
+
+  -- the next free number, and the size of the stack
+  pub left_next : x.state.next ≡ r.emitted.state.next
+  left_next = ap (λ (r : PlacedEmitted). r.emitted.state.next) left.is
+
+  pub left_size : length x.found ≡ length below + length r.emitted.found
+  left_size = cc (left_emitted, length-append below r.emitted.found)
+
+  -- above `below` the code has what `r` emitted
+  pub left_above : {n : ℕ} → n ≡ length below → above n x ≡ r.emitted
+  left_above size =
+      ap₂ above size left_emitted
+      ∙ ap (λ (is : List ℕ). gives r.emitted.state is) (drop-append_seam below r.emitted.found)
+
+  -- a word on the top of the stack is the word on what `r` emitted
+  pub left_top : (f : Emitted → Emitted) {n : ℕ} → n ≡ length below →
+      on_top n f x ≡ onto below (f r.emitted)
+  left_top f size = cc (left_emitted, on_top_onto f below r.emitted)
+
+module _ (ctx : Context) (at : Cursor) (s : State) {t : Term} {below : List ℕ} {to : Cursor}
+    {mid new : Emitted} {n : ℕ} where
   -- a term with one operand is done when the word on the operand is
   pub single_done :
-      (e : Box Term Global) (to : Cursor) (mid new : Emitted) → IsSingle t e →
-      placed to mid ≡ stacked below (emit_term ctx (next_term at) s e.value) →
-      new ≡ on_top (length below) (with_one ctx at t) mid →
-      placed to new ≡ stacked below (emit_term ctx at s t)
-  single_done e to mid new is h f =
-      let leaves = f ∙ ap (on_top (length below) (with_one ctx at t)) (emitted_in to mid _ h)
-      ∙ on_top_onto (with_one ctx at t) below _ in
-      ap₂ placed (place_in to mid _ h) leaves ∙ ap (stacked below)
-      (sym (emitted_single ctx at s t e _ is refl))
-
-  pub single_left :
-      (e : Box Term Global) (to : Cursor) (mid : Emitted) (most : ℕ) →
-      placed to mid ≡ stacked below (emit_term ctx (next_term at) s e.value) →
-      (let x = emit_term ctx (next_term at) s e.value in
-      (with_one ctx at t x.emitted).state.next < most) →
-      (with_one ctx at t (above (length below) mid)).state.next < most
-  single_left e to mid most h lt =
-      let same = ap (above (length below)) (emitted_in to mid _ h) ∙ above_onto below _ in
-      rw same lt
-
-  -- a term with two operands is done when the word on both is
-  pub pair_done :
-      (a b : Box Term Global) (to up : Cursor) (mid next new : Emitted) → IsPair t a b →
-      placed to mid ≡ stacked below (emit_term ctx (next_term at) s a.value) →
-      placed up next ≡ stacked mid.found (emit_term ctx to mid.state b.value) →
-      new ≡ on_two (length below) (length mid.found) (with_two ctx at t) next →
-      placed up new ≡ stacked below (emit_term ctx at s t)
-  pair_done a b to up mid next new is h g f =
-      let x = emit_term ctx (next_term at) s a.value in
-      let y = emit_term ctx x.place x.emitted.state b.value in
-      let first = emitted_in to mid _ h in
-      let second : placed up next ≡ stacked (below ++ x.emitted.found) y =
-      cc (place_in to mid (stacked below x) h) in
-      let size = ap (λ (z : Emitted). length z.found) first in
-      let leaves = f ∙ ap₂ (λ n z. on_two (length below) n (with_two ctx at t) z) size
-      (emitted_in up next _ second) ∙ on_two_onto (with_two ctx at t) below _ _ in
-      ap₂ placed (place_in up next _ second) leaves ∙ ap (stacked below)
-      (sym (emitted_pair ctx at s t a b _ _ is refl refl))
+      {e : Box Term Global} → IsSingle t e →
+      IsLeft below (emit_term ctx (next_term at) s e.value) to mid → n ≡ length below →
+      new ≡ on_top n (with_one ctx at t) mid → placed to new ≡ stacked below (emit_term ctx at s t)
+  single_done {e = e} is left size word =
+      cc (
+        left_place left,
+        left_top left (with_one ctx at t) size,
+        emitted_single ctx at s t e _ is
+            refl,
+      )
 
   -- a term with a row of operands is done when the word on the row is
   pub row_done :
-      (es : Vec Term Global) (to : Cursor) (mid new : Emitted) → IsRow t es →
-      placed to mid ≡ stacked below (emit_list ctx (row_place at t) s es.items) →
-      new ≡ on_top (length below) (with_all ctx at t) mid →
-      placed to new ≡ stacked below (emit_term ctx at s t)
-  row_done es to mid new is h f =
-      let leaves = f ∙ ap (on_top (length below) (with_all ctx at t)) (emitted_in to mid _ h)
-      ∙ on_top_onto (with_all ctx at t) below _ in
-      ap₂ placed (place_in to mid _ h) leaves ∙ ap (stacked below)
-      (sym (emitted_all ctx at s t es _ _ is refl refl))
-
--- the word on a row has room on a stack where it has room on what the row emitted
-pub row_left :
-    (ctx : Context) (at : Cursor) (t : Term) (below : List ℕ) (r : PlacedEmitted) (to : Cursor)
-    (mid : Emitted) (most : ℕ) → placed to mid ≡ stacked below r →
-    (with_all ctx at t r.emitted).state.next < most →
-    (with_all ctx at t (above (length below) mid)).state.next < most
-row_left ctx at t below r to mid most h lt =
-    let same = ap (above (length below)) (emitted_in to mid _ h) ∙ above_onto below _ in
-    rw same lt
+      (es : Vec Term Global) → IsRow t es →
+      IsLeft below (emit_list ctx (row_place at t) s es.items) to mid → n ≡ length below →
+      new ≡ on_top n (with_all ctx at t) mid → placed to new ≡ stacked below (emit_term ctx at s t)
+  row_done es is left size word =
+      cc (
+        left_place left,
+        left_top left (with_all ctx at t) size,
+        emitted_all ctx at s t es _ _ is
+            refl refl,
+      )
 
 -- ## Lists of terms
 
@@ -423,59 +415,63 @@ listed_room ctx at x es i d lt h =
 
 -- ## Terms without parts, and parentheses
 
-module _ (ctx : Context) (at : Cursor) (s : State) (t : Term) where
-  pub literal_is : (n : ℕ) → t ≡ Literal n →
-      emit_term ctx at s t
-      ≡ placed (next_term at) (constant (ctx.clock at.term) s (literal n))
-  unfolding emit_term
-  literal_is n is = rw is refl
+-- the term `t` has no parts, and emits the one value `v`
+pub record IsValued (ctx : Context) (at : Cursor) (s : State) (t : Term) (v : Scalar) :
+    Type 0 where
+  pub is : emit_term ctx at s t ≡ placed (next_term at) (constant (ctx.clock at.term) s v)
 
-  pub truth_is : (b : Bool) → t ≡ Truth b →
-      emit_term ctx at s t
-      ≡ placed (next_term at) (constant (ctx.clock at.term) s (Boolean b))
+module _ (ctx : Context) (at : Cursor) (s : State) {t : Term} where
+  pub literal_is : {n : ℕ} → t ≡ Literal n → IsValued ctx at s t (literal n)
   unfolding emit_term
-  truth_is b is = rw is refl
+  literal_is is = record { is = rw is refl }
 
-  pub variable_is : (x : VariableId) → t ≡ Variable x →
+  pub truth_is : {b : Bool} → t ≡ Truth b → IsValued ctx at s t (Boolean b)
+  unfolding emit_term
+  truth_is is = record { is = rw is refl }
+
+  pub value_is : {i : StaticId} → t ≡ Value i → IsValued ctx at s t (ctx.value i.0)
+  unfolding emit_term
+  value_is is = record { is = rw is refl }
+
+  pub variable_is : {x : VariableId} → t ≡ Variable x →
       emit_term ctx at s t ≡ placed (next_term at) (gives s (ctx.places x.0))
   unfolding emit_term
-  variable_is x is = rw is refl
+  variable_is is = rw is refl
 
-  pub value_is : (i : StaticId) → t ≡ Value i →
-      emit_term ctx at s t
-      ≡ placed (next_term at) (constant (ctx.clock at.term) s (ctx.value i.0))
-  unfolding emit_term
-  value_is i is = rw is refl
-
-  pub group_is : (e : Box Term Global) → t ≡ Group e →
+  pub group_is : {e : Box Term Global} → t ≡ Group e →
       emit_term ctx at s t ≡ emit_term ctx at s e.value
   unfolding emit_term
-  group_is e is = rw is refl
+  group_is is = rw is refl
 
--- a leaf that has room leaves room for one new element
-pub leaf_room :
-    (at : Cursor) (k : FlatClock) (s : State) (v : Scalar) (r : PlacedEmitted) →
-    r ≡ placed at (constant k s v) → HasRoom r → s.next + 1 < 2 ^ 32
-leaf_room at k s v r is h =
-    let more = next_of_add k s (Constant v ∷ []) in
-    let same = ap (λ (r : PlacedEmitted). r.emitted.state.next) is in
-    let room = h.elements in
-    omega (arith, more, same, room)
+-- a term that emits at the next place, and has room, leaves room for that place
+pub leaf_fits : {at : Cursor} {x : Emitted} {r : PlacedEmitted} → r ≡ placed (next_term at) x →
+    HasRoom r → at.term + 1 < 2 ^ 64
+leaf_fits is h =
+    let place = ap (λ (r : PlacedEmitted). r.place.term) is in
+    let lt = h.places.terms in
+    omega (arith, place, lt)
 
-pub leaf_places :
-    (at : Cursor) (x : Emitted) (r : PlacedEmitted) → r ≡ placed at x → HasRoom r → HasPlaces at
-leaf_places at x r is h = subst HasPlaces (ap (λ (r : PlacedEmitted). r.place) is) h.places
+module _ {ctx : Context} {at : Cursor} {s : State} {t : Term} {v : Scalar}
+    (valued : IsValued ctx at s t v) where
+  -- a term of one value that has room leaves room for one new element
+  pub value_room : HasRoom (emit_term ctx at s t) → s.next + 1 < 2 ^ 32
+  value_room h =
+      let more = next_of_add (ctx.clock at.term) s (Constant v ∷ []) in
+      let same = ap (λ (r : PlacedEmitted). r.emitted.state.next) valued.is in
+      let room = h.elements in
+      omega (arith, more, same, room)
 
-pub leaf_done :
-    (at to : Cursor) (k j : FlatClock) (v w : Scalar) (s : State) (below : List ℕ)
-    (new : Emitted) (r : PlacedEmitted) → r ≡ placed at (constant k s v) → to ≡ at →
-    new ≡ pushed j (Constant w) (gives s below) → j ≡ k → w ≡ v →
-    placed to new ≡ stacked below r
-unfolding add
-leaf_done at to k j v w s below new r is place h clock value = cc
+  -- a term of one value is done when an element with the value is pushed
+  pub value_done :
+      {to : Cursor} {k : FlatClock} {w : Scalar} {new : Emitted} (below : List ℕ) →
+      to ≡ next_term at → new ≡ pushed k (Constant w) (gives s below) → k ≡ ctx.clock at.term →
+      w ≡ v → placed to new ≡ stacked below (emit_term ctx at s t)
+  unfolding add
+  value_done below place h clock value = cc (valued.is)
 
+-- a variable is done when its elements are put
 pub variable_done :
-    (at to : Cursor) (is js below : List ℕ) (s : State) (new : Emitted) (r : PlacedEmitted) →
-    r ≡ placed at (gives s js) → to ≡ at → new ≡ onto below (gives s is) → is ≡ js →
-    placed to new ≡ stacked below r
-variable_done at to is js below s new r form place h same = cc
+    {at to : Cursor} {is js : List ℕ} {s : State} {new : Emitted} {r : PlacedEmitted}
+    (below : List ℕ) → r ≡ placed at (gives s js) → to ≡ at → new ≡ onto below (gives s is) →
+    is ≡ js → placed to new ≡ stacked below r
+variable_done below form place h same = cc

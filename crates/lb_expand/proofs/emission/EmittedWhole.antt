@@ -48,12 +48,10 @@ module _ {A D : Type 0} where
   passed_by_number p q f g j [] tests same = refl
   passed_by_number p q f g j (d ∷ ds) tests same =
       let first : j ≡ j + 0 = omega arith in
-      filtered p q f g j d _ ds (ap p first ∙ tests 0 d refl) (ap f first ∙ same 0 d refl)
+      cc (filtered p q f g j d _ ds (ap p first ∙ tests 0 d refl) (ap f first ∙ same 0 d refl)
       (passed_by_number p q f g (j + 1) ds (λ x e at. let next : (j + 1) + x ≡ j + suc x = omega
-      arith in
-      ap p next ∙ tests (suc x) e at)
-      (λ x e at. let next : (j + 1) + x ≡ j + suc x = omega arith in
-      ap f next ∙ same (suc x) e at))
+      arith in ap p next ∙ tests (suc x) e at) (λ x e at. let next : (j + 1) + x ≡ j + suc x = omega
+      arith in ap f next ∙ same (suc x) e at)))
 
 -- ## The elements that the observer receives
 
@@ -289,13 +287,11 @@ module _ (P : Program) (r : Reached) (t : Table) (reached : IsReached P r)
 
       inputs_many : is.node.inputs ≡ length here.node.inputs
       inputs_many =
-          (own_resolved P r t reached table accepted k i here is).inputs
-          ∙ ap (λ (n : Node). length n.inputs) (own_node k i here is)
+          cc ((own_resolved P r t reached table accepted k i here is).inputs, own_node k i here is)
 
       outputs_many : is.node.outputs ≡ length here.node.outputs
       outputs_many =
-          (own_resolved P r t reached table accepted k i here is).outputs
-          ∙ ap (λ (n : Node). length n.outputs) (own_node k i here is)
+          cc ((own_resolved P r t reached table accepted k i here is).outputs, own_node k i here is)
 
       -- the targets of the inputs of a row are those of the inputs of its instance
       pub inputs_are :
@@ -508,19 +504,5 @@ module _ (P : Program) (r : Reached) (t : Table) (reached : IsReached P r)
           (count : ℕ) →
           whole r t cs (input_kinds P) (element_kinds P) count ≡ expanded (layout P) P count
       whole_is emits count =
-          let s = emit_rows (before_instances count) (bodies r t cs 0 t.instances.items) in
-          let given = given_at cs (start_in r t false) in
-          let seen = observed_at cs (start_in r t false) (start_in r t true) in
-          let clocks = row_clocks r t cs 0 t.instances.items in
-          let outs = outputs_at cs (or_else (start_in r t true) (start_in r t false)) in
-          let given' = given_inputs (layout P) (instance_at P Root) in
-          let seen' = observed (layout P) (instance_at P Root) (instance_at P Observer) in
-          let s' = emit_instances (layout P) P (before_instances count) (instances P) in
-          let clocks' = clock_places (layout P) (instances P) in
-          ap (λ (g : List FlatEquation). assembled count g seen s clocks outs) given_is
-          ∙ (ap (λ (o : List FlatEquation). assembled count given' o s clocks outs) observed_is
-          ∙ (ap (λ (s : State). assembled count given' seen' s clocks outs)
-          (emits (before_instances count))
-          ∙ (ap (λ (is : List ℕ). assembled count given' seen' s' is outs) clocks_are
-          ∙ ap (λ (is : List ℕ). assembled count given' seen' s' clocks' is) property_is)))
+          cc (given_is, observed_is, emits (before_instances count), clocks_are, property_is)
       -- ## Bodies

@@ -15,6 +15,7 @@ use Rattle.lb_expand.proofs.fits.FitWords.{AreOn, IsFit, AllFit, copy_fit, IsVar
 use Rattle.lb_expand.proofs.fits.FitWords.{AreVariablesOn, IsCalleeOn, seen_clock, IsCallOn}
 use Rattle.lb_expand.proofs.fits.{FitWords.IsIteratorOn, KindFacts.{type_kind, array_kind}}
 use Rattle.lb_expand.proofs.{fits.KindFacts.variable_kind, widths.TypeFacts.{bound, each}}
+use Rattle.lb_expand.proofs.widths.TypeFacts.{types_first, types_missing, types_left}
 use Rattle.lb_expand.proofs.widths.Widths.{called, placed}
 
 pub nothing_same : {A : Type 0} {B : Type 0} (x : A) (xs : List A) → [] ≡ x ∷ xs → B
@@ -88,17 +89,12 @@ module _ (S : Sorts) (Y : Layout) (P : Program) where
       arguments_given at [] us args iss o same g = tt
       arguments_given at (d ∷ ds) us args [] o same g = tt
       arguments_given at (d ∷ ds) us [] (is ∷ iss) o same g =
-          let h = each (variable_type P c d) (map (variable_type P c) ds) us o in
-          let none : are_types (h.first ∷ h.rest) [] ≡ true =
-          subst (λ vs. are_types vs [] ≡ true) h.all same in
-          absurd cc
+          types_left (each (variable_type P c d) (map (variable_type P c) ds) us o).all refl same
       arguments_given at (d ∷ ds) us (t ∷ args) (is ∷ iss) o same g =
           let h = each (variable_type P c d) (map (variable_type P c) ds) us o in
-          let all = subst (λ vs. are_types vs (t ∷ args) ≡ true) h.all same in
-          let first = and_first (is_type h.first t) (are_types h.rest args) all in
-          let others = and_second (is_type h.first t) (are_types h.rest args) all in (
-            as_kind _ _ _ is (sym (type_kind _ t first) ∙ variable_kind P c d _ h.is) g.0,
-            arguments_given at ds h.rest args iss h.others others g.1,
+          let fit = types_first h.all refl same in (
+            as_kind _ _ _ is (sym (type_kind _ t fit.0) ∙ variable_kind P c d _ h.is) g.0,
+            arguments_given at ds h.rest args iss h.others fit.1 g.1,
           )
 
       -- arguments of exactly these types on one clock
@@ -158,24 +154,17 @@ module _ (S : Sorts) (Y : Layout) (P : Program) where
       parts_on k n m i [] wanted [] [] o same g = tt
       parts_on k n m i [] wanted [] (is ∷ iss) o same g = absurd g
       parts_on k n m i [] wanted (t ∷ args) iss o same g =
-          let none : are_types [] (t ∷ args) ≡ true =
-          subst (λ vs. are_types vs (t ∷ args) ≡ true) (sym (same_Some _ _ o)) same in
-          absurd cc
+          types_missing (sym (same_Some _ _ o)) refl same
       parts_on k n m i (u ∷ ins) wanted [] iss o same g =
-          let h = each (array_of n u) (map (array_of n) ins) wanted o in
-          let none : are_types (h.first ∷ h.rest) [] ≡ true =
-          subst (λ vs. are_types vs [] ≡ true) h.all same in
-          absurd cc
+          types_left (each (array_of n u) (map (array_of n) ins) wanted o).all refl same
       parts_on k n m i (u ∷ ins) wanted (t ∷ args) [] o same g = absurd g
       parts_on k n m i (u ∷ ins) wanted (t ∷ args) (is ∷ iss) o same g =
           let h = each (array_of n u) (map (array_of n) ins) wanted o in
-          let all = subst (λ vs. are_types vs (t ∷ args) ≡ true) h.all same in
-          let first = and_first (is_type h.first t) (are_types h.rest args) all in
-          let others = and_second (is_type h.first t) (are_types h.rest args) all in (
+          let fit = types_first h.all refl same in (
             part_on _ u.kind m i is
                 (as_kind _ t.kind u.kind is
-                (sym (array_kind n u h.first h.is ∙ type_kind h.first t first)) g.0),
-            parts_on k n m i ins h.rest args iss h.others others g.1,
+                (sym (array_kind n u h.first h.is ∙ type_kind h.first t fit.0)) g.0),
+            parts_on k n m i ins h.rest args iss h.others fit.1 g.1,
           )
 
       inputs_on :
@@ -189,10 +178,6 @@ module _ (S : Sorts) (Y : Layout) (P : Program) where
           let b = bound (where_true (are_types wanted.value args) outs) _ ts wanted.gives in
           let t = truly (are_types wanted.value args) outs b.value b.is in
           parts_on k n m i ins _ args iss wanted.is t.holds g
-      inputs_on k outputs n m i lt Red ds [] outs args ts iss w o e g = cc
-      inputs_on k outputs n m i lt Red ds (a ∷ ins) [] args ts iss w o e g = cc
-      inputs_on k outputs n m i lt Red ds (a ∷ ins) (u ∷ (v ∷ us)) args ts iss w o e g = cc
-      inputs_on k outputs n m i lt Red ds (a ∷ ins) (u ∷ []) [] ts iss w o e g = cc
       inputs_on k outputs n m i lt Red ds (a ∷ ins) (u ∷ []) (t ∷ args) ts [] w o e g = absurd g
       inputs_on k outputs n m i lt Red ds (a ∷ ins) (u ∷ []) (t ∷ args) ts (x ∷ iss) w o e g =
           let wanted = bound (all_some (map (array_of n) ins)) _ ts e in
@@ -205,14 +190,6 @@ module _ (S : Sorts) (Y : Layout) (P : Program) where
                 (as_kind _ _ _ x (sym initial ∙ out) g.0) w o),
             parts_on k n m i ins _ args iss wanted.is (and_second (is_type a t) arrays inner) g.1,
           )
-      inputs_on k outputs n m i lt Fill ds [] outs args ts iss w o e g = cc
-      inputs_on k outputs n m i lt Fill ds (a ∷ (b ∷ ins)) outs args ts iss w o e g = cc
-      inputs_on k outputs n m i lt Fill ds (a ∷ []) [] args ts iss w o e g = cc
-      inputs_on k outputs n m i lt Fill ds (a ∷ []) (u ∷ []) args ts iss w o e g = cc
-      inputs_on k outputs n m i lt Fill ds (a ∷ []) (u ∷ (v ∷ us)) [] ts iss w o e g = cc
-      inputs_on k outputs n m i lt Fill ds (a ∷ []) (u ∷ (v ∷ us)) (t ∷ (s ∷ args)) ts iss w o e
-          g =
-          cc
       inputs_on k outputs n m i lt Fill ds (a ∷ []) (u ∷ (v ∷ us)) (t ∷ []) ts [] w o e g =
           absurd g
       inputs_on k outputs n m i lt Fill ds (a ∷ []) (u ∷ (v ∷ us)) (t ∷ []) ts (x ∷ iss) w o e
@@ -225,6 +202,7 @@ module _ (S : Sorts) (Y : Layout) (P : Program) where
                 (as_kind _ _ _ x (sym initial ∙ out) g.0) w o),
             tt,
           )
+      inputs_on k outputs n m i lt _ ds _ _ _ ts _ w o e g = cc
 
     -- ## The copies of a call, and of an iterator
 
@@ -433,17 +411,15 @@ module _ (S : Sorts) (Y : Layout) (P : Program) where
           gathered_found c number [] us t own o e = tt
           gathered_found c number (d ∷ ds) us t own o e =
               let h = each (variable_type P c d) (map (variable_type P c) ds) us o in
-              let arrays = subst (λ vs. all_some (map (array_of number) vs) ≡ Some (t ∷ [])) h.all e
-              in
+              let arrays = subst (λ vs. all_some (map (array_of number) vs) ≡ Some (t ∷ [])) h.all
+              e in
               let g = each (array_of number h.first) (map (array_of number) h.rest) (t ∷ [])
               arrays in
               let first : t ≡ g.first = heads_same _ _ _ _ g.all in
               let kind = ap (λ (u : DataType). u.kind) first
-              ∙ sym (array_kind number h.first g.first g.is)
-              ∙ variable_kind P c d h.first h.is in
-              let piece = flat_map (λ i. outputs i d.name) (range_with_len 0 m) in
-              Every-append _ piece (gathered outputs m ds)
-              (as_kind _ d.kind t.kind piece (sym kind) (output_on d (λ i lt. (own i lt).0)))
+              ∙ sym (array_kind number h.first g.first g.is) ∙ variable_kind P c d h.first h.is in
+              Every-append _ _ (gathered outputs m ds)
+              (as_kind _ d.kind t.kind _ (sym kind) (output_on d (λ i lt. (own i lt).0)))
               (no_more ds h.rest h.others (g.others ∙ ap Some (sym (tails_same _ _ _ _ g.all))))
             where
               no_more :
@@ -454,9 +430,8 @@ module _ (S : Sorts) (Y : Layout) (P : Program) where
               no_more [] us o e = tt
               no_more (d ∷ ds) us o e =
                   let h = each (variable_type P c d) (map (variable_type P c) ds) us o in
-                  let arrays = subst (λ vs. all_some (map (array_of number) vs) ≡ Some []) h.all
-                  e in
-                  let g = each (array_of number h.first) (map (array_of number) h.rest) [] arrays in
+                  let g = each (array_of number h.first) (map (array_of number) h.rest) []
+                  (subst (λ vs. all_some (map (array_of number) vs) ≡ Some []) h.all e) in
                   nothing_same g.first g.rest g.all
 
           last_found :

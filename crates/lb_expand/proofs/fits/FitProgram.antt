@@ -1,42 +1,28 @@
 -- The equations of instances, of inputs and of the whole flat program fit.
 use Rattle.lb_expand.proofs.Words
 use Words.{◌≡◌, ℕ, zero, suc, ◌+◌, true, Option, Some, None, List, [], ◌∷◌, ◌++◌, map, length}
-use Words.{flat_map, replicate, zip, refl, sym, ap, ◌∙◌, subst, subst₂, arith, list_all, length-map}
+use Words.{flat_map, replicate, zip, refl, sym, ap, ◌∙◌, subst, arith, list_all, length-map}
 use Words.{length-replicate, slice_get_within, Kind, Every, all_some, Declaration, Statement}
-use Words.{Equation, Assertion, and_first, and_second, Program, Instance, are_same, DataType, truth}
-use Words.{is_type, are_types, width, variable_type, data_types, type_of_name, is_statement_typed}
-use Words.{Base, declared_clock, call_count, occurrences, statement_clock, right_sides, FlatClock}
-use Words.{Always, FlatEquation, Layout, flat_clock, State, Emitted, Target, targets, copied, joins}
-use Words.{assert, emit, emit_body, emit_instances, from_inputs, Path, Root, Observer, instance_at}
-use Words.{instances, fits_observer, input_types, before_instances, given_inputs, received}
-use Words.{observed, expanded, slice_get}
-use Rattle.lb_flat.{specs.Fitting.IsFitting, proofs.lists.Lists.{Every-append, Every-first}}
-use Rattle.lb_flat.proofs.lists.Lists.{Every-second, Every-map}
+use Words.{Equation, Assertion, and_first, and_second, Program, Instance, DataType, truth}
+use Words.{are_types, width, variable_type, data_types, type_of_name, is_statement_typed, Base}
+use Words.{declared_clock, call_count, statement_clock, right_sides, FlatClock, Always}
+use Words.{FlatEquation, Layout, flat_clock, State, Emitted, Target, targets, joins, assert, emit}
+use Words.{emit_body, emit_instances, from_inputs, Path, Root, Observer, instance_at, instances}
+use Words.{fits_observer, input_types, before_instances, given_inputs, received, observed, expanded}
+use Words.{slice_get}
+use Rattle.lb_flat.specs.Fitting.{IsFitting}
+use Rattle.lb_flat.proofs.lists.Lists.{Every-append, Every-first, Every-second, Every-map}
+use Rattle.lb_expand.proofs.widths.TypeFacts.{both_there, each, types_first}
 use Rattle.lb_expand.proofs.fits.FitCalls.{as_kind, AreGiven, received_fit}
-use Rattle.lb_expand.proofs.fits.{FitStatements.equation_fit, FitTerms.fits_term, FitWords.Sorts}
-use Rattle.lb_expand.proofs.fits.FitWords.{IsOn, AreOn, AllSorted, IsFit, AllFit, Grown, not_grown}
-use Rattle.lb_expand.proofs.fits.FitWords.{then_grown, IsVariableOn, AreVariablesOn, IsSet}
-use Rattle.lb_expand.proofs.fits.FitWords.{IsStatementSet, IsInstanceSet, all_fitting}
+use Rattle.lb_expand.proofs.fits.{FitStatements.equation_fit, FitTerms.fits_term}
+use Rattle.lb_expand.proofs.fits.FitWords.{Sorts, IsOn, AreOn, AllSorted, IsFit, AllFit, Grown}
+use Rattle.lb_expand.proofs.fits.FitWords.{not_grown, then_grown, IsVariableOn, AreVariablesOn}
+use Rattle.lb_expand.proofs.fits.FitWords.{IsSet, IsStatementSet, IsInstanceSet, all_fitting}
 use Rattle.lb_expand.proofs.fits.KindFacts.{type_kind, variable_kind}
-use Rattle.lb_expand.proofs.solutions.{Emission.joins_equations, Solving.occurrences_of}
-use Rattle.lb_expand.proofs.{solutions.Solving.assert_equations, widths.TypeFacts.each}
+use Rattle.lb_expand.proofs.solutions.Emission.{joins_equations}
+use Rattle.lb_expand.proofs.solutions.Solving.{occurrences_of, assert_equations}
 
 -- The equations of instances and of inputs fit; the observer is given what it takes.
-
--- the types of the right and of the left side exist and agree
-pub record AreThere (o p : Option (List DataType)) : Type 0 where
-  pub right : List DataType
-  pub left : List DataType
-  pub is_right : o ≡ Some right
-  pub is_left : p ≡ Some left
-  pub same : are_types right left ≡ true
-
-pub both_there :
-    (P : Program) (o p : Option (List DataType)) → are_same P o p ≡ true → AreThere o p
-both_there P None p e = cc
-both_there P (Some ts) None e = cc
-both_there P (Some ts) (Some us) e =
-    record { right = ts; left = us; is_right = refl; is_left = refl; same = e }
 
 module _ (S : Sorts) where
   joins_grown :
@@ -67,54 +53,44 @@ module _ (S : Sorts) (Y : Layout) (P : Program) where
         AllSorted S (emit_body Y P here n s body).equations →
         Grown S s (emit_body Y P here n s body)
     unfolding emit_body
-    body_grown n s [] typed w c h = not_grown S s h
+    body_grown n s [] typed w c h = not_grown S h
     body_grown n s (Equation lefts e ∷ rest) typed w c h =
         let k = statement_clock P here.node (Equation lefts e) in
-        let m = n + call_count e in
         let x = emit Y P here k n s e in
-        let qs = copied (flat_map (targets Y here.node here.path) lefts) x.found in
-        let t : State = (joins x.state qs []).state in
-        let oa = occurrences P here.node k n e in
-        let ob = occurrences_of P here.node (right_sides P here.node m rest) in
         let first = is_statement_typed P here (Equation lefts e) in
         let others = list_all (is_statement_typed P here) rest in
         let b = both_there P (data_types P here e) (all_some (map (type_of_name P here) lefts))
         (and_first first others typed) in
-        let own = Every-first (IsSet S Y P here) oa ob w in
-        let r = body_grown m t rest (and_second first others typed)
-        (Every-second (IsSet S Y P here) oa ob w) c.1 h in
+        let own = Every-first (IsSet S Y P here) _ _ w in
+        let r = body_grown (n + call_count e) _ rest (and_second first others typed)
+        (Every-second (IsSet S Y P here) _ _ w) c.1 h in
         let a = fits_term S Y P here variables_on k n s e b.right b.is_right own
-        (subst (AllSorted S) (joins_equations x.state qs []) r.before) in
+        (subst (AllSorted S) (joins_equations x.state _ []) r.before) in
         let new = equation_fit S Y P here variables_on lefts b.left b.is_left k n s e b.right
         b.is_right b.same own c.0.clocked c.0.calls a in
-        then_grown S s t _ (joins_grown S s x.state qs [] a.grown new) r
+        then_grown S (joins_grown S s x.state _ [] a.grown new) r
     body_grown n s (Assertion e ∷ rest) typed w c h =
-        let k = statement_clock P here.node (Assertion e) in
-        let m = n + call_count e in
-        let x = emit Y P here k n s e in
-        let oa = occurrences P here.node k n e in
-        let ob = occurrences_of P here.node (right_sides P here.node m rest) in
         let first = is_statement_typed P here (Assertion e) in
         let others = list_all (is_statement_typed P here) rest in
         let b = both_there P (data_types P here e) (Some (truth ∷ []))
         (and_first first others typed) in
-        let r = body_grown m (assert x) rest (and_second first others typed)
-        (Every-second (IsSet S Y P here) oa ob w) c.1 h in
-        let a = fits_term S Y P here variables_on k n s e b.right b.is_right
-        (Every-first (IsSet S Y P here) oa ob w)
-        (subst (AllSorted S) (assert_equations x) r.before) in
-        then_grown S s (assert x) _ (assert_grown S s x a.grown) r
+        let r = body_grown (n + call_count e) (assert _) rest (and_second first others typed)
+        (Every-second (IsSet S Y P here) _ _ w) c.1 h in
+        let a = fits_term S Y P here variables_on _ n s e b.right b.is_right
+        (Every-first (IsSet S Y P here) _ _ w)
+        (subst (AllSorted S) (assert_equations _) r.before) in
+        then_grown S (assert_grown S s _ a.grown) r
 
   -- the equations of instances
   pub all_grown :
       (s : State) (is : List Instance) → Every (IsInstanceSet S Y P) is →
       AllSorted S (emit_instances Y P s is).equations → Grown S s (emit_instances Y P s is)
   unfolding emit_instances
-  all_grown s [] w h = not_grown S s h
+  all_grown s [] w h = not_grown S h
   all_grown s (here ∷ rest) w h =
       let t = emit_body Y P here 0 s here.node.body in
       let r = all_grown t rest w.1 h in
-      then_grown S s t _
+      then_grown S
       (body_grown here w.0.variables_on 0 s here.node.body w.0.typed w.0.all_set w.0.bodies_set
       r.before) r
 
@@ -153,10 +129,9 @@ module _ (S : Sorts) (Y : Layout) (P : Program) where
       (ts us : List Target) (cs ds : List Kind) → length ts ≡ length cs → AreInputs ts cs →
       AreInputs us ds → AreInputs (ts ++ us) (cs ++ ds)
   inputs_append [] us [] ds e a b = b
-  inputs_append [] us (c ∷ cs) ds e a b = absurd (omega (arith, e))
-  inputs_append (t ∷ ts) us [] ds e a b = absurd a
   inputs_append (t ∷ ts) us (c ∷ cs) ds e a b =
       (a.0, a.1, inputs_append ts us cs ds (omega (arith, e)) a.2 b)
+  inputs_append _ us _ ds e a b = absurd (omega (arith, e))
 
   variable_inputs :
       (k : FlatClock) (c : Kind) (is : List ℕ) (n : ℕ) → k ≡ Always → length is ≡ n →
@@ -203,15 +178,12 @@ module _ (S : Sorts) (Y : Layout) (P : Program) where
   observed_given root observer (d ∷ ds) (e ∷ es) us vs o p same v b runs =
       let h = each (variable_type P observer d) (map (variable_type P observer) ds) us o in
       let g = each (variable_type P root e) (map (variable_type P root) es) vs p in
-      let all : are_types (h.first ∷ h.rest) (g.first ∷ g.rest) ≡ true =
-      subst₂ (λ xs ys. are_types xs ys ≡ true) h.all g.all same in
-      let first = and_first (is_type h.first g.first) (are_types h.rest g.rest) all in
-      let kind = sym (variable_kind P root e g.first g.is) ∙ sym (type_kind h.first g.first first)
+      let fit = types_first h.all g.all same in
+      let kind = sym (variable_kind P root e g.first g.is) ∙ sym (type_kind h.first g.first fit.0)
       ∙ variable_kind P observer d h.first h.is in (
         subst (λ k. AreOn S k d.kind (Y.places root.path e.name)) (b.0 ∙ sym runs)
             (as_kind S Y P _ e.kind d.kind _ kind v.0.elements),
-        observed_given root observer ds es h.rest g.rest h.others g.others
-            (and_second (is_type h.first g.first) (are_types h.rest g.rest) all) v.1 b.1 runs,
+        observed_given root observer ds es h.rest g.rest h.others g.others fit.1 v.1 b.1 runs,
       )
 
 -- The clocks and the kinds of the whole flat program fit.

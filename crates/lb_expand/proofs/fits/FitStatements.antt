@@ -1,32 +1,32 @@
 -- The copies of the left variables of an equation fit.
 use Rattle.lb_expand.proofs.Words
-use Words.{◌≡◌, ℕ, ◌+◌, ◌*◌, ◌<◌, true, false, pos, Some, IfSome, List, [], ◌∷◌, ◌++◌, map, length}
-use Words.{flat_map, zip, refl, sym, ap, ◌∙◌, subst, subst₂, arith, range_with_len, bytes_eq}
+use Words.{found_name, ◌≡◌, ℕ, ◌+◌, ◌*◌, ◌<◌, true, false, pos, Some, IfSome, List, [], ◌∷◌, ◌++◌}
+use Words.{map, length, flat_map, zip, refl, sym, ap, ◌∙◌, subst, arith, range_with_len, bytes_eq}
 use Words.{length-map, append-nil, same_Some, ArrayIterator, Map, Red, Fill, Every, joined}
 use Words.{all_some, where_true, listed, Name, Static, Node_named, Symbol, Expr, Literal, Truth}
 use Words.{Variable, Group, Unary, Binary, If, Arrow, Fby, Pre, Current, When, Replicate, Index}
 use Words.{Slice, Join, Array, AtMostOne, Nor, Call, Iterate, Declaration, Node, and_first}
-use Words.{and_second, name_same, named, Program, Instance, Child, static_count, node_named}
-use Words.{DataType, int, truth, is_type, are_types, variables, width, variable_type, element_count}
-use Words.{data_types, all_types, singly, name_data_type, from_one, from_truths, unary_type}
-use Words.{binary_type, common_type, array_of, index_type, slice_type, join_type, list_type}
-use Words.{operator_types, iterator_types, type_of_name, declared_clock, ungrouped, is_site}
-use Words.{outputs_of, gathered, truly, Layout, flat_clock, Target, targets, copied, ◌-◌, Bool}
-use Words.{list_all, either_or, heads_same, tails_same, is_clock, left_clocks, are_on_results}
-use Words.{occurrences, number, iterated, clock_same, State, emit}
+use Words.{and_second, named, Program, Instance, Child, static_count, node_named, DataType, int}
+use Words.{truth, is_type, are_types, variables, width, variable_type, element_count, data_types}
+use Words.{all_types, singly, name_data_type, from_one, from_truths, unary_type, binary_type}
+use Words.{common_type, array_of, index_type, slice_type, join_type, list_type, operator_types}
+use Words.{iterator_types, type_of_name, declared_clock, ungrouped, is_site, outputs_of, gathered}
+use Words.{truly, Layout, flat_clock, Target, targets, copied, ◌-◌, Bool, list_all, either_or}
+use Words.{heads_same, tails_same, is_clock, left_clocks, are_on_results, occurrences, number}
+use Words.{iterated, clock_same, State, emit}
 use Rattle.{lb_check.specs.Clocks.Clock, lb_flat.proofs.lists.Lists.{Every-append, Every-map}}
 use Rattle.lb_expand.proofs.fits.FitCalls.{copied_fit, as_kind, as_clock, outputs_in, outputs_at}
 use Rattle.lb_expand.proofs.fits.{FitCalls.{output_on, iterator_found}, FitTerms.TermFits}
 use Rattle.lb_expand.proofs.fits.FitWords.{Sorts, AreOn, AllFit, IsFit, IsVariableOn}
 use Rattle.lb_expand.proofs.fits.FitWords.{AreVariablesOn, IsCalleeOn, IsIteratorOn, AreLeftsOn}
-use Rattle.lb_expand.proofs.fits.{FitWords.{AreCallLeftsOn, IsSet}, KindFacts.type_kind}
-use Rattle.lb_expand.proofs.fits.KindFacts.{array_kind, variable_kind}
+use Rattle.lb_expand.proofs.fits.FitWords.{AreCallLeftsOn, IsSet}
+use Rattle.lb_expand.proofs.fits.KindFacts.{type_kind, array_kind, variable_kind}
 use Rattle.lb_expand.proofs.{numbering.ReceivedInputs.copied_append, reads.LinkSymbols.joins_found}
-use Rattle.lb_expand.proofs.widths.{PlacedCalls.found_passes, TypeFacts.{bound, alone, one, two}}
-use Rattle.lb_expand.proofs.widths.TypeFacts.{from_true, same_count, array_count, constant}
-use Rattle.lb_expand.proofs.widths.TypeFacts.{symbolic, found_in, each, width_of, length-range}
-use Rattle.lb_expand.proofs.widths.{TypeFacts.{Each, Filled, red_of, fill_of}, Widths.called}
-use Rattle.lb_expand.proofs.widths.Widths.{placed}
+use Rattle.lb_expand.proofs.widths.TypeFacts.{bound, alone, one, two, types_missing, from_true}
+use Rattle.lb_expand.proofs.widths.TypeFacts.{same_count, array_count, constant, symbolic, found_in}
+use Rattle.lb_expand.proofs.widths.TypeFacts.{each, width_of, length-range, Each, Filled, red_of}
+use Rattle.lb_expand.proofs.widths.TypeFacts.{fill_of, types_first, types_left}
+use Rattle.lb_expand.proofs.widths.Widths.{called, placed}
 
 -- The left variables of an equation are copies that fit, also where its right side is a call or an
 -- iterated node with several results.
@@ -48,12 +48,10 @@ symbol_one n Map u ins args ts e =
     let first = each (array_of n u) [] ts gives in
     let none : [] ≡ first.rest = same_Some _ _ first.others in
     (first.first, first.all ∙ ap (λ us. first.first ∷ us) (sym none))
-symbol_one n Red u [] args ts e = cc
-symbol_one n Red u (a ∷ ins) [] ts e = cc
 symbol_one n Red u (a ∷ ins) (i ∷ args) ts e =
-    let wanted = bound (all_some (map (array_of n) ins)) _ ts e in
-    let h = truly _ (u ∷ []) ts wanted.gives in
+    let h = truly _ (u ∷ []) ts (bound (all_some (map (array_of n) ins)) _ ts e).gives in
     (u, sym h.same)
+symbol_one n Red u _ _ ts e = cc
 symbol_one n Fill u [] args ts e = cc
 symbol_one n Fill u (a ∷ []) args ts e = cc
 symbol_one n Fill u (a ∷ (b ∷ ins)) args ts e = cc
@@ -103,8 +101,7 @@ module _ (P : Program) (here : Instance) where
   one_result (Array es) ts s e =
       let b = bound (all_types P here es) _ ts e in
       let a = alone (list_type b.value) ts b.gives in (a.data_type, a.all)
-  one_result (AtMostOne es) ts s e =
-      let t = from_true (all_types P here es) ts e in (truth, t.all)
+  one_result (AtMostOne es) ts s e = (truth, (from_true (all_types P here es) ts e).all)
   one_result (Nor es) ts s e = let t = from_true (all_types P here es) ts e in (truth, t.all)
   one_result (Call f statics es) ts s e = absurd cc
   one_result (Iterate it (Node_named f statics) m es) ts s e = absurd cc
@@ -124,6 +121,33 @@ pub joined_pieces :
 joined_pieces f [] = refl
 joined_pieces f (b ∷ bs) = ap (λ xs. f b ++ xs) (joined_pieces f bs)
 
+-- the static count `n` of an iterator is the number of its instances
+number_is :
+    (P : Program) (here : Instance) (m : Static) (n : ℕ) → static_count P here m ≡ Some n →
+    number P here m ≡ n
+number_is P here m n e = ap (λ o. either_or o 0) e
+
+-- each left variable is on the clock of the right side
+lefts_on :
+    (here : Node) (k : Clock) (xs : List Name) →
+    list_all (is_clock k) (left_clocks here xs) ≡ true →
+    Every (λ x. k ≡ declared_clock here x) xs
+lefts_on here k [] e = tt
+lefts_on here k (x ∷ xs) e = (
+  clock_same k (declared_clock here x)
+      (and_first (is_clock k (declared_clock here x))
+      (list_all (is_clock k) (left_clocks here xs)) e),
+  lefts_on here k xs
+      (and_second (is_clock k (declared_clock here x))
+      (list_all (is_clock k) (left_clocks here xs)) e),
+)
+
+no_call_on :
+    (P : Program) (here : Node) (k : Clock) (xs : List Name) (e : Expr) → is_site e ≡ false →
+    are_on_results P here k xs e ≡ true → list_all (is_clock k) (left_clocks here xs) ≡ true
+no_call_on P here k xs (Call f statics es) s h = absurd cc
+no_call_on P here k xs e s h = h
+
 module _ (S : Sorts) (Y : Layout) (P : Program) (here : Instance)
     (variables_on : AreVariablesOn S Y P here) where
   abbrev pub left_targets : List Name → List Target
@@ -140,13 +164,11 @@ module _ (S : Sorts) (Y : Layout) (P : Program) (here : Instance)
 
   left : (x : Name) (t : DataType) → type_of_name P here x ≡ Some t → IsLeft x t
   left x t e =
-      let test = λ (d : Declaration). bytes_eq d.name x in
       let b = bound (named (λ d. d.name) x (variables here.node)) _ t e in
-      let name : b.value.name ≡ x = name_same b.value.name x
-      (subst (λ o. IfSome o (λ d. test d ≡ true)) b.is
-      (found_passes test (variables here.node))) in
+      let name = found_name x (variables here.node) b.value b.is in
       let own = subst (λ o. IfSome o (IsVariableOn S Y P here)) b.is
-      (found_in (IsVariableOn S Y P here) test (variables here.node) variables_on) in
+      (found_in (IsVariableOn S Y P here) (λ d. bytes_eq d.name x) (variables here.node)
+      variables_on) in
       record {
         wide = ap (λ y. length (Y.places here.path y)) (sym name) ∙ own.wide
             ∙ width_of P here b.value t b.gives;
@@ -176,20 +198,18 @@ module _ (S : Sorts) (Y : Layout) (P : Program) (here : Instance)
   results_fit (x ∷ xs) us (t ∷ ts) [] e same r = absurd r
   results_fit (x ∷ xs) us (t ∷ ts) (is ∷ iss) e same r =
       let h = each (type_of_name P here x) (map (type_of_name P here) xs) us e in
-      let all = subst (λ vs. are_types (t ∷ ts) vs ≡ true) h.all same in
-      let first = and_first (is_type t h.first) (are_types ts h.rest) all in
+      let fit = types_first refl h.all same in
       let own = left x h.first h.is in
       let k = flat_clock Y here.path (declared_clock here.node x) in
       let ps = targets Y here.node here.path x in
       let long : length ps ≡ length is =
       length-map (Y.places here.path x) (λ i. record { place = i; clock = k }) ∙ own.wide
-      ∙ sym (same_count t h.first first) ∙ sym r.0 in
+      ∙ sym (same_count t h.first fit.0) ∙ sym r.0 in
       subst (AllFit S) (sym (copied_append ps (left_targets xs) is (joined iss) long))
       (Every-append (IsFit S) (copied ps is) (copied (left_targets xs) (joined iss))
       (copied_fit S Y P k t.kind (Y.places here.path x) is
-      (as_kind S Y P k h.first.kind t.kind _ (sym (type_kind t h.first first)) own.elements) r.1)
-      (results_fit xs h.rest ts iss h.others
-      (and_second (is_type t h.first) (are_types ts h.rest) all) r.2))
+      (as_kind S Y P k h.first.kind t.kind _ (sym (type_kind t h.first fit.0)) own.elements) r.1)
+      (results_fit xs h.rest ts iss h.others fit.1 r.2))
 
   -- one left variable and its one result, which may be of any width
   pub result_fit :
@@ -200,23 +220,18 @@ module _ (S : Sorts) (Y : Layout) (P : Program) (here : Instance)
   result_fit [] us t k is e same c r = tt
   result_fit (x ∷ []) us t k is e same c r =
       let h = each (type_of_name P here x) [] us e in
-      let all = subst (λ vs. are_types (t ∷ []) vs ≡ true) h.all same in
-      let first = and_first (is_type t h.first) (are_types [] h.rest) all in
-      let own = left x h.first h.is in
-      let ps = targets Y here.node here.path x in
-      subst (λ ts. AllFit S (copied ts is)) (sym (append-nil ps))
+      let fit = types_first {us = []} refl h.all same in
+      subst (λ ts. AllFit S (copied ts is)) (sym (append-nil _))
       (copied_fit S Y P (flat_clock Y here.path (declared_clock here.node x)) t.kind
       (Y.places here.path x) is
-      (as_kind S Y P _ h.first.kind t.kind _ (sym (type_kind t h.first first)) own.elements)
+      (as_kind S Y P _ h.first.kind t.kind _ (sym (type_kind t h.first fit.0))
+      (left x h.first h.is).elements)
       (subst (λ l. AreOn S (flat_clock Y here.path l) t.kind is) c.0 r))
   result_fit (x ∷ (y ∷ xs)) us t k is e same c r =
       let o = type_of_name P here y in let os = map (type_of_name P here) xs in
       let h = each (type_of_name P here x) (o ∷ os) us e in
-      let g = each o os h.rest h.others in
-      let all = subst (λ vs. are_types (t ∷ []) vs ≡ true)
-      (h.all ∙ ap (λ vs. h.first ∷ vs) g.all) same in
-      let none = and_second (is_type t h.first) (are_types [] (g.first ∷ g.rest)) all in
-      absurd cc
+      let fit = types_first {us = []} refl h.all same in
+      types_missing refl (each o os h.rest h.others).all fit.1
 
   -- ## The results of a call
 
@@ -232,28 +247,22 @@ module _ (S : Sorts) (Y : Layout) (P : Program) (here : Instance)
   each_result c [] ts us [] o e same v k =
       subst (λ vs. AreResults [] vs []) (same_Some _ _ o) tt
   each_result c [] ts us (x ∷ xs) o e same v k =
-      let h = each (type_of_name P here x) (map (type_of_name P here) xs) us e in
-      let none : are_types [] (h.first ∷ h.rest) ≡ true =
-      subst₂ (λ vs ws. are_types vs ws ≡ true) (sym (same_Some _ _ o)) h.all same in
-      absurd cc
+      types_missing (sym (same_Some _ _ o))
+      (each (type_of_name P here x) (map (type_of_name P here) xs) us e).all same
   each_result c (d ∷ ds) ts us [] o e same v k =
-      let h = each (variable_type P c d) (map (variable_type P c) ds) ts o in
-      let none : are_types (h.first ∷ h.rest) [] ≡ true =
-      subst₂ (λ vs ws. are_types vs ws ≡ true) h.all (sym (same_Some _ _ e)) same in
-      absurd cc
+      types_left (each (variable_type P c d) (map (variable_type P c) ds) ts o).all
+      (sym (same_Some _ _ e)) same
   each_result c (d ∷ ds) ts us (x ∷ xs) o e same v k =
       let h = each (variable_type P c d) (map (variable_type P c) ds) ts o in
       let g = each (type_of_name P here x) (map (type_of_name P here) xs) us e in
-      let all : are_types (h.first ∷ h.rest) (g.first ∷ g.rest) ≡ true =
-      subst₂ (λ vs ws. are_types vs ws ≡ true) h.all g.all same in
+      let fit = types_first h.all g.all same in
       subst (λ vs. AreResults (x ∷ xs) vs (map (λ d. Y.places c.path d.name) (d ∷ ds)))
       (sym h.all) (
         v.0.wide ∙ width_of P c d h.first h.is,
         as_clock S Y P _ _ h.first.kind _ k.0
             (as_kind S Y P _ d.kind h.first.kind _ (sym (variable_kind P c d h.first h.is))
             v.0.elements),
-        each_result c ds h.rest g.rest xs h.others g.others
-            (and_second (is_type h.first g.first) (are_types h.rest g.rest) all) v.1 k.1,
+        each_result c ds h.rest g.rest xs h.others g.others fit.1 v.1 k.1,
       )
 
   module _ (f : Name) (statics : List Static) (types : List DataType × List DataType) (n : ℕ)
@@ -299,33 +308,26 @@ module _ (S : Sorts) (Y : Layout) (P : Program) (here : Instance)
     each_array c k m g [] outs ts us (x ∷ xs) o a e same v w =
         let none = subst (λ vs. all_some (map (array_of m) vs) ≡ Some ts) (sym (same_Some _ _ o)) a
         in
-        let h = each (type_of_name P here x) (map (type_of_name P here) xs) us e in
-        let never : are_types [] (h.first ∷ h.rest) ≡ true =
-        subst₂ (λ vs ws. are_types vs ws ≡ true) (sym (same_Some _ _ none)) h.all same in
-        absurd cc
+        types_missing (sym (same_Some _ _ none))
+        (each (type_of_name P here x) (map (type_of_name P here) xs) us e).all same
     each_array c k m g (d ∷ ds) outs ts us [] o a e same v w =
         let h = each (variable_type P c d) (map (variable_type P c) ds) outs o in
         let arrays = subst (λ vs. all_some (map (array_of m) vs) ≡ Some ts) h.all a in
-        let b = each (array_of m h.first) (map (array_of m) h.rest) ts arrays in
-        let never : are_types (b.first ∷ b.rest) [] ≡ true =
-        subst₂ (λ vs ws. are_types vs ws ≡ true) b.all (sym (same_Some _ _ e)) same in
-        absurd cc
+        types_left (each (array_of m h.first) (map (array_of m) h.rest) ts arrays).all
+        (sym (same_Some _ _ e)) same
     each_array c k m g (d ∷ ds) outs ts us (x ∷ xs) o a e same v w =
         let h = each (variable_type P c d) (map (variable_type P c) ds) outs o in
-        let arrays = subst (λ vs. all_some (map (array_of m) vs) ≡ Some ts) h.all a in
-        let b = each (array_of m h.first) (map (array_of m) h.rest) ts arrays in
+        let b = each (array_of m h.first) (map (array_of m) h.rest) ts
+        (subst (λ vs. all_some (map (array_of m) vs) ≡ Some ts) h.all a) in
         let l = each (type_of_name P here x) (map (type_of_name P here) xs) us e in
-        let all : are_types (b.first ∷ b.rest) (l.first ∷ l.rest) ≡ true =
-        subst₂ (λ vs ws. are_types vs ws ≡ true) b.all l.all same in
-        let kind = sym (variable_kind P c d h.first h.is)
-        ∙ array_kind m h.first b.first b.is in
+        let fit = types_first b.all l.all same in
+        let kind = sym (variable_kind P c d h.first h.is) ∙ array_kind m h.first b.first b.is in
         subst (λ vs. AreResults (x ∷ xs) vs (map g (d ∷ ds))) (sym b.all) (
           v.0.0 ∙ ap (λ q. m * q) (width_of P c d h.first h.is)
               ∙ sym (array_count m h.first b.first b.is),
           as_clock S Y P _ _ b.first.kind _ (ap (flat_clock Y here.path) w.0)
               (as_kind S Y P _ d.kind b.first.kind _ kind v.0.1),
-          each_array c k m g ds h.rest b.rest l.rest xs h.others b.others l.others
-              (and_second (is_type b.first l.first) (are_types b.rest l.rest) all) v.1 w.1,
+          each_array c k m g ds h.rest b.rest l.rest xs h.others b.others l.others fit.1 v.1 w.1,
         )
 
     module _ (k : Clock) (m : ℕ) (positive : 0 < m)
@@ -399,162 +401,104 @@ module _ (S : Sorts) (Y : Layout) (P : Program) (here : Instance)
             (each_array the_callee k m by_instance ds outs ts us lefts o a typed same
             (pieces ds h g) on))
 
--- The copies of an equation fit, whatever its right side is.
+        -- the results of `fill`
+        fill_results :
+            (ds : List Declaration) (outs ts : List DataType) → Filled m outs ts →
+            all_some (map (variable_type P the_callee) ds) ≡ Some outs → are_types ts us ≡ true →
+            ((i : ℕ) → i < m → Every (λ d. length (outputs i d.name) ≡ width P the_callee d) ds) →
+            ((i : ℕ) → i < m →
+            Every (λ d. AreOn S (flat_clock Y here.path k) d.kind (outputs i d.name)) ds) →
+            Every (λ x. k ≡ declared_clock here.node x) lefts →
+            AllFit S
+            (copied (left_targets lefts) (iterated outputs m Fill ds))
+        fill_results [] outs ts z o same h g on =
+            let none : [] ≡ z.out ∷ z.others = same_Some _ _ o ∙ z.outs_is in
+            absurd cc
+        fill_results (d ∷ ds) outs ts z o same h g on = by lefts us typed on all
+          where
+            last : ℕ
+            last = m - 1
 
--- the static count `n` of an iterator is the number of its instances
-number_is :
-    (P : Program) (here : Instance) (m : Static) (n : ℕ) → static_count P here m ≡ Some n →
-    number P here m ≡ n
-number_is P here m n e = ap (λ o. either_or o 0) e
+            le : last < m
+            le = omega (arith, positive)
 
--- each left variable is on the clock of the right side
-lefts_on :
-    (here : Node) (k : Clock) (xs : List Name) →
-    list_all (is_clock k) (left_clocks here xs) ≡ true →
-    Every (λ x. k ≡ declared_clock here x) xs
-lefts_on here k [] e = tt
-lefts_on here k (x ∷ xs) e = (
-  clock_same k (declared_clock here x)
-      (and_first (is_clock k (declared_clock here x))
-      (list_all (is_clock k) (left_clocks here xs)) e),
-  lefts_on here k xs
-      (and_second (is_clock k (declared_clock here x))
-      (list_all (is_clock k) (left_clocks here xs)) e),
-)
+            first : Each (variable_type P the_callee d) (map (variable_type P the_callee) ds)
+                (z.out ∷ z.others)
+            first = each (variable_type P the_callee d) (map (variable_type P the_callee) ds)
+                (z.out ∷ z.others)
+                (o ∙ ap Some z.outs_is)
 
-no_call_on :
-    (P : Program) (here : Node) (k : Clock) (xs : List Name) (e : Expr) → is_site e ≡ false →
-    are_on_results P here k xs e ≡ true → list_all (is_clock k) (left_clocks here xs) ≡ true
-no_call_on P here k xs (Call f statics es) s h = absurd cc
-no_call_on P here k xs e s h = h
+            out_is : z.out ≡ first.first
+            out_is = heads_same _ _ _ _ first.all
 
-module _ (S : Sorts) (Y : Layout) (P : Program) (here : Instance)
-    (variables_on : AreVariablesOn S Y P here) where
-  module _ (f : Name) (statics : List Static) (types : List DataType × List DataType) (n : ℕ)
-      (is_operator : operator_types P here (Node_named f statics) ≡ Some types)
-      (lefts : List Name) (us : List DataType)
-      (typed : all_some (map (type_of_name P here) lefts) ≡ Some us) (k : Clock) (m : ℕ)
-      (positive : 0 < m)
-      (w : (i : ℕ) → i < m → IsCalleeOn S Y P here n f statics i
-      × ((callee : Node) → node_named P f ≡ Some callee → IsIteratorOn S Y P here k n i callee))
-    where
-      abbrev out_places : ℕ → Name → List ℕ
-      out_places i x = Y.places (Child here.path n i) x
+            others_is : first.rest ≡ z.others
+            others_is = sym (tails_same _ _ _ _ first.all)
 
-      abbrev callee : Instance
-      callee = the_callee S Y P here variables_on f statics types n is_operator lefts us typed k m
-          positive w
+            all : are_types (z.out ∷ z.arrays) us ≡ true
+            all = subst (λ vs. are_types vs us ≡ true) z.ts_is same
 
-      abbrev arrays_of : Declaration → List ℕ
-      arrays_of d = flat_map (λ i. out_places i d.name) (range_with_len 0 m)
+            by :
+                (xs : List Name) (ls : List DataType) →
+                all_some (map (type_of_name P here) xs) ≡ Some ls →
+                Every (λ x. k ≡ declared_clock here.node x) xs →
+                are_types (z.out ∷ z.arrays) ls ≡ true →
+                AllFit S
+                (copied (left_targets xs) (iterated outputs m Fill (d ∷ ds)))
+            by [] ls e on same = tt
+            by (x ∷ xs) ls e on same =
+                let b = each (type_of_name P here x) (map (type_of_name P here) xs) ls e in
+                let both = subst (λ vs. are_types (z.out ∷ z.arrays) vs ≡ true) b.all same in
+                let kind = sym (variable_kind P the_callee d first.first first.is)
+                ∙ ap (λ (t : DataType). t.kind) (sym out_is) in
+                subst (λ is. AllFit S (copied (left_targets (x ∷ xs))
+                (outputs last d.name ++ is))) (sym (joined_pieces by_instance ds))
+                (results_fit (x ∷ xs) ls (z.out ∷ z.arrays)
+                (outputs last d.name ∷ map by_instance ds) e same (
+                  (h last le).0 ∙ width_of P the_callee d first.first first.is
+                      ∙ ap element_count (sym out_is),
+                  as_clock S Y P _ _ z.out.kind _ (ap (flat_clock Y here.path) on.0)
+                      (as_kind S Y P _ d.kind z.out.kind _ kind (g last le).0),
+                  each_array the_callee k m by_instance ds z.others z.arrays b.rest xs
+                      (first.others ∙ ap Some others_is) z.gives b.others
+                      (and_second (is_type z.out b.first) (are_types z.arrays b.rest) both)
+                      (pieces ds (λ i lt. (h i lt).1) (λ i lt. (g i lt).1)) on.1,
+                ))
 
-      -- the results of `fill`
-      fill_results :
-          (ds : List Declaration) (outs ts : List DataType) → Filled m outs ts →
-          all_some (map (variable_type P callee) ds) ≡ Some outs → are_types ts us ≡ true →
-          ((i : ℕ) → i < m → Every (λ d. length (out_places i d.name) ≡ width P callee d) ds) →
-          ((i : ℕ) → i < m →
-          Every (λ d. AreOn S (flat_clock Y here.path k) d.kind (out_places i d.name)) ds) →
-          Every (λ x. k ≡ declared_clock here.node x) lefts →
-          AllFit S
-          (copied (left_targets S Y P here variables_on lefts) (iterated out_places m Fill ds))
-      fill_results [] outs ts z o same h g on =
-          let none : [] ≡ z.out ∷ z.others = same_Some _ _ o ∙ z.outs_is in
-          absurd cc
-      fill_results (d ∷ ds) outs ts z o same h g on = by lefts us typed on all
-        where
-          last : ℕ
-          last = m - 1
-
-          le : last < m
-          le = omega (arith, positive)
-
-          first : Each (variable_type P callee d) (map (variable_type P callee) ds)
-              (z.out ∷ z.others)
-          first = each (variable_type P callee d) (map (variable_type P callee) ds)
-              (z.out ∷ z.others)
-              (o ∙ ap Some z.outs_is)
-
-          out_is : z.out ≡ first.first
-          out_is = heads_same _ _ _ _ first.all
-
-          others_is : first.rest ≡ z.others
-          others_is = sym (tails_same _ _ _ _ first.all)
-
-          all : are_types (z.out ∷ z.arrays) us ≡ true
-          all = subst (λ vs. are_types vs us ≡ true) z.ts_is same
-
-          by :
-              (xs : List Name) (ls : List DataType) →
-              all_some (map (type_of_name P here) xs) ≡ Some ls →
-              Every (λ x. k ≡ declared_clock here.node x) xs →
-              are_types (z.out ∷ z.arrays) ls ≡ true →
-              AllFit S
-              (copied (left_targets S Y P here variables_on xs) (iterated out_places m Fill (d ∷ ds)))
-          by [] ls e on same = tt
-          by (x ∷ xs) ls e on same =
-              let b = each (type_of_name P here x) (map (type_of_name P here) xs) ls e in
-              let both = subst (λ vs. are_types (z.out ∷ z.arrays) vs ≡ true) b.all same in
-              let kind = sym (variable_kind P callee d first.first first.is)
-              ∙ ap (λ (t : DataType). t.kind) (sym out_is) in
-              subst (λ is. AllFit S (copied (left_targets S Y P here variables_on (x ∷ xs))
-              (out_places last d.name ++ is))) (sym (joined_pieces arrays_of ds))
-              (results_fit S Y P here variables_on (x ∷ xs) ls (z.out ∷ z.arrays)
-              (out_places last d.name ∷ map arrays_of ds) e same (
-                (h last le).0 ∙ width_of P callee d first.first first.is
-                    ∙ ap element_count (sym out_is),
-                as_clock S Y P _ _ z.out.kind _ (ap (flat_clock Y here.path) on.0)
-                    (as_kind S Y P _ d.kind z.out.kind _ kind (g last le).0),
-                each_array S Y P here variables_on f statics types n is_operator lefts us typed
-                    callee
-                    k m arrays_of ds z.others z.arrays b.rest xs
-                    (first.others ∙ ap Some others_is) z.gives b.others
-                    (and_second (is_type z.out b.first) (are_types z.arrays b.rest) both)
-                    (pieces S Y P here variables_on f statics types n is_operator lefts us typed k m
-                    positive w ds (λ i lt. (h i lt).1) (λ i lt. (g i lt).1)) on.1,
-              ))
-
-      -- the left variables of an iterated node
-      iterator_results :
-          (it : ArrayIterator) (args ts : List DataType) →
-          iterator_types it m types.0 types.1 args ≡ Some ts → are_types ts us ≡ true →
-          Every (λ x. k ≡ declared_clock here.node x) lefts →
-          AllFit S
-          (copied (left_targets S Y P here variables_on lefts)
-          (iterated out_places m it (outputs_of P here f)))
-      iterator_results Red args ts e same on =
-          let r = red_of m types.0 types.1 args ts e in
-          result_fit S Y P here variables_on lefts us r.out k _ typed
-          (subst (λ vs. are_types vs us ≡ true) r.ts_is same) on
-          (iterator_found S Y P here f statics types n is_operator k m w Red m args ts r.out e
-          r.ts_is positive)
-      iterator_results Map args ts e same on =
-          let c = called P here f statics types is_operator in
-          let named = (placed P here f statics c.callee c.is).node in
-          let wanted = bound (all_some (map (array_of m) types.0)) _ ts e in
-          let b = bound (where_true (are_types wanted.value args) types.1) _ ts wanted.gives in
-          let h = truly (are_types wanted.value args) types.1 b.value b.is in
-          subst (λ o. AllFit S (copied (left_targets S Y P here variables_on lefts)
-          (iterated out_places m Map (listed (λ (e : Node). e.outputs) o)))) (sym named)
-          (map_results S Y P here variables_on f statics types n is_operator lefts us typed k m
-          positive w c.callee.node.outputs b.value ts (c.outputs ∙ ap Some h.same) b.gives same
-          (wide_at S Y P here variables_on f statics types n is_operator lefts us typed k m positive
-          w)
-          (on_at S Y P here variables_on f statics types n is_operator lefts us typed k m positive
-          w)
-          on)
-      iterator_results Fill args ts e same on =
-          let c = called P here f statics types is_operator in
-          let named = (placed P here f statics c.callee c.is).node in
-          subst (λ o. AllFit S (copied (left_targets S Y P here variables_on lefts)
-          (iterated out_places m Fill (listed (λ (e : Node). e.outputs) o)))) (sym named)
-          (fill_results c.callee.node.outputs types.1 ts (fill_of m types.0 types.1 args ts e)
-          c.outputs same
-          (wide_at S Y P here variables_on f statics types n is_operator lefts us typed k m positive
-          w)
-          (on_at S Y P here variables_on f statics types n is_operator lefts us typed k m positive
-          w)
-          on)
+        -- the left variables of an iterated node
+        iterator_results :
+            (it : ArrayIterator) (args ts : List DataType) →
+            iterator_types it m types.0 types.1 args ≡ Some ts → are_types ts us ≡ true →
+            Every (λ x. k ≡ declared_clock here.node x) lefts →
+            AllFit S
+            (copied (left_targets lefts)
+            (iterated outputs m it (outputs_of P here f)))
+        iterator_results Red args ts e same on =
+            let r = red_of m types.0 types.1 args ts e in
+            result_fit lefts us r.out k _ typed
+            (subst (λ vs. are_types vs us ≡ true) r.ts_is same) on
+            (iterator_found S Y P here f statics types n is_operator k m w Red m args ts r.out e
+            r.ts_is positive)
+        iterator_results Map args ts e same on =
+            let c = called P here f statics types is_operator in
+            let named = (placed P here f statics c.callee c.is).node in
+            let wanted = bound (all_some (map (array_of m) types.0)) _ ts e in
+            let b = bound (where_true (are_types wanted.value args) types.1) _ ts wanted.gives in
+            let h = truly (are_types wanted.value args) types.1 b.value b.is in
+            subst (λ o. AllFit S (copied (left_targets lefts)
+            (iterated outputs m Map (listed (λ (e : Node). e.outputs) o)))) (sym named)
+            (map_results c.callee.node.outputs b.value ts (c.outputs ∙ ap Some h.same) b.gives same
+            wide_at
+            on_at
+            on)
+        iterator_results Fill args ts e same on =
+            let c = called P here f statics types is_operator in
+            let named = (placed P here f statics c.callee c.is).node in
+            subst
+            (λ o. AllFit S
+            (copied (left_targets lefts)
+            (iterated outputs m Fill (listed (λ (e : Node). e.outputs) o)))) (sym named)
+            (fill_results c.callee.node.outputs types.1 ts (fill_of m types.0 types.1 args ts e)
+            c.outputs same wide_at on_at on)
 
   module _ (lefts : List Name) (us : List DataType)
       (typed : all_some (map (type_of_name P here) lefts) ≡ Some us) (k : Clock) (n : ℕ)
@@ -567,24 +511,22 @@ module _ (S : Sorts) (Y : Layout) (P : Program) (here : Instance)
         are_on_results P here.node k lefts (ungrouped e) ≡ true →
         AreCallLeftsOn S Y P here n lefts e →
         AllFit S
-        (copied (left_targets S Y P here variables_on lefts) (emit Y P here k n s e).found)
+        (copied (left_targets lefts) (emit Y P here k n s e).found)
     unfolding emit
     site_results (Group a) ts is e same w on calls = site_results a ts is e same w on calls
     site_results (Call f statics es) ts is e same w on calls =
         let o = bound (operator_types P here (Node_named f statics)) _ ts e in
         let a = bound (all_types P here es) _ ts o.gives in
         let t = truly (are_types o.value.0 a.value) o.value.1 ts a.gives in
-        subst (λ is. AllFit S (copied (left_targets S Y P here variables_on lefts) is))
-        (sym (joins_found _ _ _))
-        (call_results S Y P here variables_on f statics o.value n o.is lefts us typed
+        subst (λ is. AllFit S (copied (left_targets lefts) is)) (sym (joins_found _ _ _))
+        (call_results f statics o.value n o.is lefts us typed
         (subst (λ vs. are_types vs us ≡ true) (sym t.same) same) w.0.at_it.0
         (λ callee named. calls f statics es callee refl named))
     site_results (Iterate it (Node_named f statics) m es) ts is e same w on calls =
         let c = bound (static_count P here m) _ ts e in
         let o = bound (operator_types P here (Node_named f statics)) _ ts c.gives in
         let a = bound (all_types P here es) _ ts o.gives in
-        subst (λ is. AllFit S (copied (left_targets S Y P here variables_on lefts) is))
-        (sym (joins_found _ _ _))
+        subst (λ is. AllFit S (copied (left_targets lefts) is)) (sym (joins_found _ _ _))
         (iterator_results f statics o.value n o.is lefts us typed k (number P here m) w.0.at_it.0
         w.0.at_it.1 it a.value ts
         (ap (λ count. iterator_types it count o.value.0 o.value.1 a.value)
@@ -599,18 +541,16 @@ module _ (S : Sorts) (Y : Layout) (P : Program) (here : Instance)
         AreCallLeftsOn S Y P here n lefts e →
         TermFits S Y P here variables_on s (emit Y P here k n s e) k ts →
         AllFit S
-        (copied (left_targets S Y P here variables_on lefts) (emit Y P here k n s e).found)
+        (copied (left_targets lefts) (emit Y P here k n s e).found)
     equation_fit e ts is same w on calls r = by (is_site (ungrouped e)) refl
       where
         by :
             (b : Bool) → is_site (ungrouped e) ≡ b →
             AllFit S
-            (copied (left_targets S Y P here variables_on lefts) (emit Y P here k n s e).found)
+            (copied (left_targets lefts) (emit Y P here k n s e).found)
         by true site = site_results e ts site is same w on calls
         by false site =
             let t = one_result P here e ts site is in
-            result_fit S Y P here variables_on lefts us t.0 k _ typed
-            (subst (λ vs. are_types vs us ≡ true) t.1 same)
-            (lefts_on here.node k lefts
-            (no_call_on P here.node k lefts (ungrouped e) site on))
+            result_fit lefts us t.0 k _ typed (subst (λ vs. are_types vs us ≡ true) t.1 same)
+            (lefts_on here.node k lefts (no_call_on P here.node k lefts (ungrouped e) site on))
             (r.found t.0 t.1)

@@ -1,60 +1,51 @@
 -- The equations of an expression fit; its elements are on its clock and of the kind of its type.
 use Rattle.lb_expand.proofs.Words
-use Words.{◌≡◌, ℕ, ◌+◌, Bool, true, false, ◌&&◌, ◌||◌, not, cond, ℤ, pos, ◌⊎◌, inl, inr, Option}
-use Words.{Some, None, IfSome, option_map, List, [], ◌∷◌, ◌++◌, map, refl, sym, ap, ◌∙◌, subst}
-use Words.{subst₂, bytes_eq, bytes_eq-Decides, same_Some, BinaryOperator, Plus, Minus, Times}
-use Words.{Divide, Modulo, ArrayIterator, Map, Red, Fill, Kind, Int, Every, joined, all_some}
+use Words.{found_name, any_in, in_map, find_in, arith, heads_same, ◌≡◌, ℕ, ◌+◌, true, false, ◌&&◌}
+use Words.{◌||◌, not, ℤ, pos, ◌⊎◌, inl, inr, Option, Some, None, IfSome, option_map, List, [], ◌∷◌}
+use Words.{◌++◌, map, refl, sym, ap, ◌∙◌, subst, subst₂, bytes_eq, bytes_eq-Decides, same_Some}
+use Words.{BinaryOperator, ArrayIterator, Map, Red, Fill, Kind, Int, Every, joined, all_some}
 use Words.{either_or, where_true, Name, Node_named, Symbol, Expr, Literal, Truth, Variable, Group}
 use Words.{Unary, Binary, If, Arrow, Fby, Pre, Current, When, Replicate, Index, Slice, Join, Array}
 use Words.{AtMostOne, Nor, Call, Iterate, Exprs, Nil, Cons, Declaration, implied, and_first}
-use Words.{and_second, name_same, named, Program, Instance, static_count, node_named, name_value}
-use Words.{DataType, int, truth, is_type, are_types, variables, variable_type, among}
-use Words.{variable_names, data_types, all_types, singly, name_data_type, from_one, from_truths}
-use Words.{unary_type, binary_type, common_type, array_of, index_type, slice_type, join_type}
-use Words.{list_type, is_arithmetic, is_logical, constant_type, operator_types, iterator_types}
-use Words.{Scalar, Integer, Boolean, or_fault, first_value, is_clock, Occurrence, call_count}
-use Words.{call_clocks, occurrences, occurrences_in, occurrences_each, number, clock_same}
-use Words.{first_of_all, truly, FlatClock, Where, Constant, ApplyUnary, ApplyBinary, FirstThen}
-use Words.{Previous, Latest, Sample, FlatEquation, Layout, where_signed, flat_clock, State, Emitted}
-use Words.{EmittedAll, add, joins, emit_symbol, emit_name, emit, emit_all, emit_each, Truth_kind}
-use Words.{On, clock_or, declared_clock}
+use Words.{and_second, named, Program, Instance, static_count, node_named, name_value, DataType}
+use Words.{int, truth, is_type, are_types, variables, variable_type, among, variable_names}
+use Words.{data_types, all_types, singly, name_data_type, from_one, from_truths, unary_type}
+use Words.{binary_type, common_type, array_of, index_type, slice_type, join_type, list_type}
+use Words.{is_arithmetic, is_logical, constant_type, operator_types, iterator_types, Scalar}
+use Words.{Integer, Boolean, or_fault, first_value, is_clock, Occurrence, call_count, call_clocks}
+use Words.{occurrences, occurrences_in, occurrences_each, number, clock_same, first_of_all, truly}
+use Words.{FlatClock, Where, Constant, ApplyUnary, ApplyBinary, FirstThen, Previous, Latest, Sample}
+use Words.{FlatEquation, Layout, where_signed, flat_clock, State, Emitted, EmittedAll, add, joins}
+use Words.{emit_symbol, emit_name, emit, emit_all, emit_each, Truth_kind, On, clock_or}
+use Words.{declared_clock}
 use Rattle.{lb_check.specs.Clocks.{Clock, clock_of}, lb_flat.specs.Fitting.{IsOf, binary_kind}}
 use Rattle.lb_flat.proofs.lists.Lists.{Every-append, Every-first, Every-second, Every-take}
 use Rattle.lb_flat.proofs.lists.Lists.{Every-drop, Every-copies, Every-joined}
-use Rattle.{lb_flat.proofs.runs.Fitting.nil_of, lb_expand.proofs.fits.FitCalls.AreArguments}
-use Rattle.lb_expand.proofs.fits.FitCalls.{AllOn, call_fit, call_found, iterator_fit}
-use Rattle.lb_expand.proofs.fits.{FitCalls.iterator_found, FitWords.{Sorts, IsOn, AreOn, AllSorted}}
-use Rattle.lb_expand.proofs.fits.FitWords.{AllFit, IsFit, Gives, integer_gives, boolean_gives}
-use Rattle.lb_expand.proofs.fits.FitWords.{fault_gives, unary_sorted, binary_sorted}
-use Rattle.lb_expand.proofs.fits.FitWords.{first_then_sorted, previous_sorted, latest_sorted}
-use Rattle.lb_expand.proofs.fits.FitWords.{sample_sorted, Grown, Fit, not_grown, then_grown}
-use Rattle.lb_expand.proofs.fits.FitWords.{then_fit, add_fit, keep_fit, one_fit, two_fit}
-use Rattle.lb_expand.proofs.fits.FitWords.{choice_fit, nor_before, nor_fit, at_most_one_before}
-use Rattle.lb_expand.proofs.fits.FitWords.{at_most_one_fit, symbol_before, symbol_fit, IsVariableOn}
-use Rattle.lb_expand.proofs.fits.{FitWords.{AreVariablesOn, IsSet}, KindFacts.{AllOf, type_kind}}
-use Rattle.lb_expand.proofs.fits.KindFacts.{kinds_alike, arrays_alike, unary_kinds, binary_kinds}
-use Rattle.lb_expand.proofs.fits.KindFacts.{common_kinds, array_kind, index_kind, slice_kind}
-use Rattle.lb_expand.proofs.fits.KindFacts.{join_kinds, list_kinds, variable_kind}
-use Rattle.lb_expand.proofs.{solutions.Emission.joins_equations, widths.PlacedCalls.found_passes}
+use Rattle.lb_flat.proofs.runs.Fitting.{nil_of}
+use Rattle.lb_expand.proofs.fits.FitCalls.{AreArguments, AllOn, call_fit, call_found, iterator_fit}
+use Rattle.lb_expand.proofs.fits.FitCalls.{iterator_found}
+use Rattle.lb_expand.proofs.fits.FitWords.{Sorts, IsOn, AreOn, AllSorted, AllFit, IsFit, Gives}
+use Rattle.lb_expand.proofs.fits.FitWords.{integer_gives, boolean_gives, fault_gives, unary_sorted}
+use Rattle.lb_expand.proofs.fits.FitWords.{binary_sorted, first_then_sorted, previous_sorted}
+use Rattle.lb_expand.proofs.fits.FitWords.{latest_sorted, sample_sorted, Grown, Fit, not_grown}
+use Rattle.lb_expand.proofs.fits.FitWords.{then_grown, then_fit, add_fit, keep_fit, one_fit}
+use Rattle.lb_expand.proofs.fits.FitWords.{two_fit, choice_fit, nor_fit, Earlier, earlier}
+use Rattle.lb_expand.proofs.fits.FitWords.{at_most_one_fit, symbol_fit, IsVariableOn}
+use Rattle.lb_expand.proofs.fits.FitWords.{AreVariablesOn, IsSet}
+use Rattle.lb_expand.proofs.emission.EmissionSteps.{nor_step, at_most_one_step, symbol_step}
+use Rattle.lb_expand.proofs.fits.KindFacts.{AllOf, type_kind, kinds_alike, arrays_alike}
+use Rattle.lb_expand.proofs.fits.KindFacts.{unary_kinds, binary_kinds, common_kinds, array_kind}
+use Rattle.lb_expand.proofs.fits.KindFacts.{index_kind, slice_kind, join_kinds, list_kinds}
+use Rattle.lb_expand.proofs.{fits.KindFacts.variable_kind, solutions.Emission.joins_equations}
 use Rattle.lb_expand.proofs.widths.TypeFacts.{bound, alone, one, two, from_true, Symbolic, constant}
 use Rattle.lb_expand.proofs.widths.TypeFacts.{symbolic, found_in, each}
 
 arithmetic_kind :
     (op : BinaryOperator) → is_arithmetic op ≡ true → binary_kind op Int Int ≡ Some Int
-arithmetic_kind Plus e = refl
-arithmetic_kind Minus e = refl
-arithmetic_kind Times e = refl
-arithmetic_kind Divide e = refl
-arithmetic_kind Modulo e = refl
-arithmetic_kind _ e = cc
+arithmetic_kind op e = grind arith
 
 no_arithmetic : (op : BinaryOperator) → is_logical op ≡ true → is_arithmetic op ≡ false
-no_arithmetic Plus e = absurd cc
-no_arithmetic Minus e = absurd cc
-no_arithmetic Times e = absurd cc
-no_arithmetic Divide e = absurd cc
-no_arithmetic Modulo e = absurd cc
-no_arithmetic _ e = refl
+no_arithmetic op e = grind arith
 
 -- an operator that is iterated gives the kind of its operands
 symbol_kind :
@@ -69,27 +60,14 @@ symbol_kind op types y w = by y.of
     by (inl (a, e)) = rw e (arithmetic_kind op a)
     by (inr (l, e)) = rw e (w (no_arithmetic op l))
 
-head_same : (s t : DataType) (ss ts : List DataType) → s ∷ ss ≡ t ∷ ts → s ≡ t
-head_same s t ss ts e = cc
-
 -- a name by which a variable is found is among the names of the variables
-among_first :
-    (c d : Declaration) (ds : List Declaration) (x : Name) (a b : Bool) →
-    bytes_eq c.name x ≡ a → bytes_eq x c.name ≡ b →
-    cond a (Some c) (named (λ d. d.name) x ds) ≡ Some d →
-    (named (λ d. d.name) x ds ≡ Some d → among x (map (λ d. d.name) ds) ≡ true) →
-    among x (map (λ d. d.name) (c ∷ ds)) ≡ true
-among_first c d ds x a true p q e later = cc
-among_first c d ds x true false p q e later =
-    let same = (bytes_eq-Decides x c.name).1 (sym ((bytes_eq-Decides c.name x).0 p)) in
-    absurd cc
-among_first c d ds x false false p q e later = cc (later e)
-
 found_among :
     (ds : List Declaration) (x : Name) (d : Declaration) →
     named (λ d. d.name) x ds ≡ Some d → among x (map (λ d. d.name) ds) ≡ true
-found_among [] x d e = cc
-found_among (c ∷ ds) x d e = among_first c d ds x _ _ refl refl e (found_among ds x d)
+found_among ds x d e =
+    any_in (bytes_eq x) (map (λ d. d.name) ds) d.name
+    (in_map (λ d. d.name) ds d (find_in (λ (d : Declaration). bytes_eq d.name x) ds d e))
+    ((bytes_eq-Decides x d.name).1 (sym (found_name x ds d e)))
 
 module _ (S : Sorts) (Y : Layout) (P : Program) (here : Instance)
     (variables_on : AreVariablesOn S Y P here) where
@@ -115,21 +93,19 @@ module _ (S : Sorts) (Y : Layout) (P : Program) (here : Instance)
     pub found : AreArguments S Y P here ks ts r.found
 
   one_type :
-      (s : State) (r : Emitted) (k : Clock) (u : DataType) (ts : List DataType) →
-      Fit S s r (flat k) u.kind → ts ≡ u ∷ [] → TermFits s r k ts
-  one_type s r k u ts f all = record {
-    grown = f.grown;
-    found = λ t e. rw (← (head_same u t [] [] (sym all ∙ e))) f.found;
-  }
+      {s : State} {r : Emitted} {k : Clock} {u : DataType} {ts : List DataType} → Fit S s r (flat k)
+      u.kind → ts ≡ u ∷ [] → TermFits s r k ts
+  one_type {u = u} f all =
+      record { grown = f.grown; found = λ t e. rw (← (heads_same u t [] [] (sym all ∙ e))) f.found }
 
   -- an expression with one result of kind `c` fits on its clock and kind
   fit_of :
-      (s : State) (r : Emitted) (k : Clock) (u : DataType) (c : Kind) → u.kind ≡ c →
-      TermFits s r k (u ∷ []) → Fit S s r (flat k) c
-  fit_of s r k u c e f = record {
-    grown = f.grown;
-    found = subst (λ b. AreOn S (flat k) b r.found) e (f.found u refl);
-  }
+      {s : State} {r : Emitted} {k : Clock} {u : DataType} {c : Kind} → u.kind ≡ c →
+      (AllSorted S r.state.equations → TermFits s r k (u ∷ [])) →
+      AllSorted S r.state.equations → Fit S s r (flat k) c
+  fit_of {r = r} {k = k} {u = u} e part h =
+      let f = part h in
+      record { grown = f.grown; found = subst (λ b. AreOn S (flat k) b r.found) e (f.found u refl) }
 
   -- ## Names and constants
 
@@ -138,7 +114,7 @@ module _ (S : Sorts) (Y : Layout) (P : Program) (here : Instance)
       Gives S (flat k) u.kind (Constant v) → ts ≡ u ∷ [] →
       AllSorted S (add (flat k) s (Constant v ∷ [])).state.equations →
       TermFits s (add (flat k) s (Constant v ∷ [])) k ts
-  constant_fits k s v u ts g all h = one_type s _ k u ts (add_fit S _ _ s _ (g, tt) h) all
+  constant_fits k s v u ts g all h = one_type (add_fit S _ (g, tt) h) all
 
   named_gives :
       (k : FlatClock) (o : Option ℤ) → IsOf Int (or_fault o) →
@@ -162,22 +138,21 @@ module _ (S : Sorts) (Y : Layout) (P : Program) (here : Instance)
       (constant (name_value P here x) ts e).all h
   name_fits k s x (Some d) ts is w c e h =
       let a = alone (variable_type P here d) ts e in
-      let test = λ (d : Declaration). bytes_eq d.name x in
       let own = subst (λ o. IfSome o (IsVariableOn S Y P here)) is
-      (found_in (IsVariableOn S Y P here) test (variables here.node) variables_on) in
-      let name : d.name ≡ x = name_same d.name x
-      (subst (λ o. IfSome o (λ d. test d ≡ true)) is
-      (found_passes test (variables here.node))) in
-      let clock : k ≡ declared_clock here.node x = clock_same k (declared_clock here.node x)
-      (implied (among x (variable_names here.node)) _ c
-      (found_among (variables here.node) x d is)) in
+      (found_in (IsVariableOn S Y P here) (λ d. bytes_eq d.name x) (variables here.node)
+      variables_on) in
+      let name = found_name x (variables here.node) d is in
+      let clock : k ≡ declared_clock here.node x =
+      clock_same k (declared_clock here.node x)
+      (implied (among x (variable_names here.node)) _ c (found_among (variables here.node) x d is))
+      in
       let same : declared_clock here.node d.name ≡ k =
       ap (declared_clock here.node) name ∙ sym clock in
-      let kind = variable_kind P here d a.data_type a.is in
-      one_type s _ k a.data_type ts (record {
-        grown = not_grown S s h;
-        found = subst₂ (λ l b. AreOn S l b (Y.places here.path d.name)) (ap flat same) (sym kind)
-            own.elements;
+      one_type
+      (record {
+        grown = not_grown S h;
+        found = subst₂ (λ l b. AreOn S l b (Y.places here.path d.name)) (ap flat same)
+            (sym (variable_kind P here d a.data_type a.is)) own.elements;
       }) a.all
 
   -- ## Results that are picked, joined and given by calls
@@ -201,9 +176,8 @@ module _ (S : Sorts) (Y : Layout) (P : Program) (here : Instance)
       (k : Clock) (c : Kind) (ts : List DataType) (iss : List (List ℕ)) → AllOf c ts →
       AllOn S Y P here k ts iss → Every (AreOn S (flat k) c) iss
   each_alike k c [] [] a g = tt
-  each_alike k c [] (is ∷ iss) a g = absurd g
-  each_alike k c (t ∷ ts) [] a g = absurd g
   each_alike k c (t ∷ ts) (is ∷ iss) a g = (rw (← a.0) g.0, each_alike k c ts iss a.1 g.1)
+  each_alike k c _ _ a g = absurd g
 
   joined_on :
       (k : Clock) (c : Kind) (ts : List DataType) (iss : List (List ℕ)) → AllOf c ts →
@@ -225,11 +199,11 @@ module _ (S : Sorts) (Y : Layout) (P : Program) (here : Instance)
       (AllSorted S r.state.equations → AllFitOn s r k args) →
       TermFits s (emit_symbol (flat k) op r.state it r.found) k ts
   symbol_fits k op u takes n it args ts s r e h part =
-      let g = part (symbol_before S (flat k) op r.state it r.found h) in
+      let g = part (symbol_step (Earlier S) (earlier S) (flat k) op r.state it r.found h) in
       let f = symbol_fit S (flat k) u.kind op takes r.state it r.found
       (each_alike k u.kind args r.found (arguments_alike it args e) g.found) h in
       record {
-        grown = then_grown S s r.state _ g.grown f.grown;
+        grown = then_grown S g.grown f.grown;
         found = λ t one.
             subst (λ b. AreOn S (flat k) b (emit_symbol (flat k) op r.state it r.found).found)
             (result_kind it args t (e ∙ ap Some one)) f.found;
@@ -241,9 +215,8 @@ module _ (S : Sorts) (Y : Layout) (P : Program) (here : Instance)
       arguments_alike Map args e =
           let wanted = bound (all_some (map (array_of n) (u ∷ (u ∷ [])))) _ ts e in
           let b = bound (where_true (are_types wanted.value args) (u ∷ [])) _ ts wanted.gives in
-          let t = truly (are_types wanted.value args) (u ∷ []) b.value b.is in
           arrays_alike n u.kind (u ∷ (u ∷ [])) wanted.value args (refl, (refl, tt)) wanted.is
-          t.holds
+          (truly (are_types wanted.value args) (u ∷ []) b.value b.is).holds
       arguments_alike Red [] e = cc
       arguments_alike Red (i ∷ args) e =
           let wanted = bound (all_some (map (array_of n) (u ∷ []))) _ ts e in
@@ -263,17 +236,16 @@ module _ (S : Sorts) (Y : Layout) (P : Program) (here : Instance)
           let wanted = bound (all_some (map (array_of n) (u ∷ (u ∷ [])))) _ (t ∷ []) e in
           let b = bound (where_true (are_types wanted.value args) (u ∷ [])) _ (t ∷ [])
           wanted.gives in
-          let h = truly (are_types wanted.value args) (u ∷ []) b.value b.is in
-          let gives = subst (λ us. all_some (map (array_of n) us) ≡ Some (t ∷ [])) (sym h.same)
-          b.gives in
+          let gives = subst (λ us. all_some (map (array_of n) us) ≡ Some (t ∷ []))
+          (sym (truly (are_types wanted.value args) (u ∷ []) b.value b.is).same) b.gives in
           let first = each (array_of n u) [] (t ∷ []) gives in
           array_kind n u first.first first.is
-          ∙ ap (λ (v : DataType). v.kind) (sym (head_same t first.first [] first.rest first.all))
+          ∙ ap (λ (v : DataType). v.kind) (sym (heads_same t first.first [] first.rest first.all))
       result_kind Red [] t e = cc
       result_kind Red (i ∷ args) t e =
           let wanted = bound (all_some (map (array_of n) (u ∷ []))) _ (t ∷ []) e in
           let h = truly _ (u ∷ []) (t ∷ []) wanted.gives in
-          ap (λ (v : DataType). v.kind) (head_same u t [] [] h.same)
+          ap (λ (v : DataType). v.kind) (heads_same u t [] [] h.same)
       result_kind Fill args t e = cc
 
   -- ## Expressions
@@ -310,91 +282,65 @@ module _ (S : Sorts) (Y : Layout) (P : Program) (here : Instance)
     fits_term k n s (Group a) ts e w h = fits_term k n s a ts e w h
     fits_term k n s (Unary op a) ts e w h =
         let i = one (data_types P here a) (unary_type op) ts e in
-        one_type s _ k i.result ts
-        (one_fit S (flat k) (flat k) i.data_type.kind i.result.kind s _ (ApplyUnary op)
-        (λ x p. unary_sorted S (flat k) i.data_type.kind i.result.kind op
-        (unary_kinds op i.data_type i.result i.gives) x p)
-        (λ g. fit_of s _ k i.data_type i.data_type.kind refl
-        (fits_term k n s a (i.data_type ∷ []) i.is w.1 g)) h) i.all
+        one_type (one_fit S (ApplyUnary op)
+        (unary_sorted S _ _ _ op (unary_kinds op i.data_type _ i.gives))
+        (fit_of refl (fits_term k n s a _ i.is w.1)) h) i.all
     fits_term k n s (Binary op a b) ts e w h =
         let m = n + call_count a in
         let i = two (data_types P here a) (data_types P here b) (binary_type op) ts e in
-        one_type s _ k i.result ts
-        (two_fit S (flat k) i.first.kind i.second.kind i.result.kind s _ _ (ApplyBinary op)
-        (λ x y p q. binary_sorted S (flat k) i.first.kind i.second.kind i.result.kind op
-        (binary_kinds op i.first i.second i.result i.gives) x y p q)
-        (λ g. fit_of s _ k i.first i.first.kind refl
-        (fits_term k n s a (i.first ∷ []) i.is_first (fore (parts k n a) (parts k m b) w.1) g))
-        (λ g. fit_of _ _ k i.second i.second.kind refl
-        (fits_term k m _ b (i.second ∷ []) i.is_second (aft (parts k n a) (parts k m b) w.1) g))
-        h) i.all
+        one_type
+        (two_fit S (ApplyBinary op)
+        (binary_sorted S _ _ _ _ op (binary_kinds op i.first i.second _ i.gives))
+        (fit_of refl (fits_term k n s a _ i.is_first (fore _ _ w.1)))
+        (fit_of refl (fits_term k m _ b _ i.is_second (aft _ _ w.1))) h) i.all
     fits_term k n s (If c a b) ts e w h =
         let na = n + call_count c in let nb = na + call_count a in
-        let oc = parts k n c in let oa = parts k na a in let ob = parts k nb b in
-        let branches = aft oc (oa ++ ob) w.1 in
+        let branches = aft (parts k n c) _ w.1 in
         let t = bound (from_truths (from_one (data_types P here c) Some)) _ ts e in
         let truths = from_true (from_one (data_types P here c) Some) t.value t.is in
         let z = one (data_types P here c) Some truths.data_types truths.is in
         let i = two (data_types P here a) (data_types P here b) common_type ts t.gives in
         let same = common_kinds i.first i.second i.result i.gives in
-        one_type s _ k i.result ts
-        (choice_fit S (flat k) z.data_type.kind i.result.kind s _ _ _
-        (λ g. fit_of s _ k z.data_type z.data_type.kind refl
-        (fits_term k n s c (z.data_type ∷ []) z.is (fore oc (oa ++ ob) w.1) g))
-        (λ g. fit_of _ _ k i.first i.result.kind same.first
-        (fits_term k na _ a (i.first ∷ []) i.is_first (fore oa ob branches) g))
-        (λ g. fit_of _ _ k i.second i.result.kind same.second
-        (fits_term k nb _ b (i.second ∷ []) i.is_second (aft oa ob branches) g)) h) i.all
+        one_type (choice_fit S (fit_of refl (fits_term k n s c _ z.is (fore _ _ w.1)))
+        (fit_of same.first (fits_term k na _ a _ i.is_first (fore _ _ branches)))
+        (fit_of same.second (fits_term k nb _ b _ i.is_second (aft _ _ branches))) h) i.all
     fits_term k n s (Arrow a b) ts e w h =
         let m = n + call_count a in
         let i = two (data_types P here a) (data_types P here b) common_type ts e in
-        let c = i.result.kind in
         let same = common_kinds i.first i.second i.result i.gives in
-        one_type s _ k i.result ts
-        (two_fit S (flat k) c c c s _ _ (FirstThen false)
-        (λ x y p q. first_then_sorted S (flat k) c x y p q)
-        (λ g. fit_of s _ k i.first c same.first
-        (fits_term k n s a (i.first ∷ []) i.is_first (fore (parts k n a) (parts k m b) w.1) g))
-        (λ g. fit_of _ _ k i.second c same.second
-        (fits_term k m _ b (i.second ∷ []) i.is_second (aft (parts k n a) (parts k m b) w.1) g))
-        h) i.all
+        one_type
+        (two_fit S (FirstThen false) (first_then_sorted S _ i.result.kind)
+        (fit_of same.first (fits_term k n s a _ i.is_first (fore _ _ w.1)))
+        (fit_of same.second (fits_term k m _ b _ i.is_second (aft _ _ w.1))) h) i.all
     fits_term k n s (Fby a b) ts e w h =
         let m = n + call_count a in
         let i = two (data_types P here a) (data_types P here b) common_type ts e in
         let c = i.result.kind in
         let same = common_kinds i.first i.second i.result i.gives in
-        one_type s _ k i.result ts
-        (two_fit S (flat k) c c c s _ _ (FirstThen false)
-        (λ x y p q. first_then_sorted S (flat k) c x y p q)
-        (λ g. fit_of s _ k i.first c same.first
-        (fits_term k n s a (i.first ∷ []) i.is_first (fore (parts k n a) (parts k m b) w.1) g))
-        (λ g. one_fit S (flat k) (flat k) c c _ _ (Previous first_value)
-        (λ x p. previous_sorted S (flat k) (flat k) c first_value (nil_of c) x p)
-        (λ g. keep_fit S _ _ (flat k) c
-        (λ g. fit_of _ _ k i.second c same.second
-        (fits_term k m _ b (i.second ∷ []) i.is_second (aft (parts k n a) (parts k m b) w.1) g))
-        g) g) h) i.all
+        one_type
+        (two_fit S (FirstThen false) (first_then_sorted S _ c)
+        (fit_of same.first (fits_term k n s a _ i.is_first (fore _ _ w.1)))
+        (λ g. one_fit S (Previous first_value)
+        (previous_sorted S _ (flat k) c first_value (nil_of c))
+        (keep_fit S (fit_of same.second (fits_term k m _ b _ i.is_second (aft _ _ w.1)))) g) h)
+        i.all
     fits_term k n s (Pre a) ts e w h =
         let i = one (data_types P here a) Some ts e in
         let c = i.result.kind in
-        one_type s _ k i.result ts
-        (one_fit S (flat k) (flat k) c c s _ (Previous first_value)
-        (λ x p. previous_sorted S (flat k) (flat k) c first_value (nil_of c) x p)
-        (λ g. keep_fit S s _ (flat k) c
-        (λ g. fit_of s _ k i.data_type c
-        (ap (λ (t : DataType). t.kind) (same_Some _ _ i.gives))
-        (fits_term k n s a (i.data_type ∷ []) i.is w.1 g)) g) h) i.all
+        one_type
+        (one_fit S (Previous first_value) (previous_sorted S _ (flat k) c first_value (nil_of c))
+        (keep_fit S
+        (fit_of (ap (λ (t : DataType). t.kind) (same_Some _ _ i.gives))
+        (fits_term k n s a _ i.is w.1))) h) i.all
     fits_term k n s (Current a) ts e w h =
         let own = clock_or (clock_of P here.node a) in
         let i = one (data_types P here a) Some ts e in
         let c = i.result.kind in
-        one_type s _ k i.result ts
-        (one_fit S (flat own) (flat k) c c s _ (Latest first_value)
-        (λ x p. latest_sorted S (flat k) (flat own) c first_value (nil_of c) x p)
-        (λ g. keep_fit S s _ (flat own) c
-        (λ g. fit_of s _ own i.data_type c
-        (ap (λ (t : DataType). t.kind) (same_Some _ _ i.gives))
-        (fits_term own n s a (i.data_type ∷ []) i.is w.1 g)) g) h) i.all
+        one_type
+        (one_fit S (Latest first_value) (latest_sorted S _ (flat own) c first_value (nil_of c))
+        (keep_fit S
+        (fit_of (ap (λ (t : DataType). t.kind) (same_Some _ _ i.gives))
+        (fits_term own n s a _ i.is w.1))) h) i.all
     fits_term k n s (When a x sign) ts e w h =
         let own = declared_clock here.node x in
         let t = bound (from_truths (singly (name_data_type P here x))) _ ts e in
@@ -404,76 +350,68 @@ module _ (S : Sorts) (Y : Layout) (P : Program) (here : Instance)
         let at_it = w.0.at_it in
         let sampled : flat (On own x sign) ≡ Where (flat own) at_it.0 sign =
         ap (where_signed (flat own) sign) at_it.2 in
-        one_type s _ k i.result ts
+        one_type
         (subst (λ l. Fit S s (emit Y P here k n s (When a x sign)) (flat l) c) (sym clock)
-        (one_fit S (flat own) (flat (On own x sign)) c c s _ Sample
+        (one_fit S Sample
         (λ x p. subst (λ l. Gives S l c (Sample x)) (sym sampled)
         (sample_sorted S (flat own) c at_it.0 sign x p))
-        (λ g. fit_of s _ own i.data_type c
-        (ap (λ (t : DataType). t.kind) (same_Some _ _ i.gives))
-        (fits_term own n s a (i.data_type ∷ []) i.is w.1 g)) h)) i.all
+        (fit_of (ap (λ (t : DataType). t.kind) (same_Some _ _ i.gives))
+        (fits_term own n s a _ i.is w.1)) h)) i.all
     fits_term k n s (Replicate a m) ts e w h =
         let c = bound (static_count P here m) _ ts e in
         let i = one (data_types P here a) (array_of c.value) ts c.gives in
-        let x = fit_of s _ k i.data_type i.result.kind
-        (array_kind c.value i.data_type i.result i.gives)
-        (fits_term k n s a (i.data_type ∷ []) i.is w.1 h) in
-        one_type s _ k i.result ts
-        (record { grown = x.grown; found = Every-copies _ (number P here m) _ x.found }) i.all
+        let x = fit_of (array_kind c.value i.data_type i.result i.gives)
+        (fits_term k n s a _ i.is w.1) h in
+        one_type (record { grown = x.grown; found = Every-copies _ (number P here m) _ x.found })
+        i.all
     fits_term k n s (Index a j) ts e w h =
         let c = bound (static_count P here j) _ ts e in
         let i = one (data_types P here a) (index_type c.value) ts c.gives in
-        let x = fit_of s _ k i.data_type i.result.kind
-        (index_kind c.value i.data_type i.result i.gives)
-        (fits_term k n s a (i.data_type ∷ []) i.is w.1 h) in
-        one_type s _ k i.result ts
-        (record { grown = x.grown; found = Every-take _ _ _ (Every-drop _ _ _ x.found) }) i.all
+        let x = fit_of (index_kind c.value i.data_type i.result i.gives)
+        (fits_term k n s a _ i.is w.1) h in
+        one_type (record { grown = x.grown; found = Every-take _ _ _ (Every-drop _ _ _ x.found) })
+        i.all
     fits_term k n s (Slice a j l) ts e w h =
         let c = bound (static_count P here j) _ ts e in
         let d = bound (static_count P here l) _ ts c.gives in
         let i = one (data_types P here a) (slice_type c.value d.value) ts d.gives in
-        let x = fit_of s _ k i.data_type i.result.kind
-        (slice_kind c.value d.value i.data_type i.result i.gives)
-        (fits_term k n s a (i.data_type ∷ []) i.is w.1 h) in
-        one_type s _ k i.result ts
-        (record { grown = x.grown; found = Every-take _ _ _ (Every-drop _ _ _ x.found) }) i.all
+        let x = fit_of (slice_kind c.value d.value i.data_type i.result i.gives)
+        (fits_term k n s a _ i.is w.1) h in
+        one_type (record { grown = x.grown; found = Every-take _ _ _ (Every-drop _ _ _ x.found) })
+        i.all
     fits_term k n s (Join a b) ts e w h =
         let m = n + call_count a in
         let i = two (data_types P here a) (data_types P here b) join_type ts e in
         let same = join_kinds i.first i.second i.result i.gives in
-        let y = fit_of _ _ k i.second i.result.kind same.second
-        (fits_term k m _ b (i.second ∷ []) i.is_second (aft (parts k n a) (parts k m b) w.1) h) in
-        let x = fit_of s _ k i.first i.result.kind same.first
-        (fits_term k n s a (i.first ∷ []) i.is_first (fore (parts k n a) (parts k m b) w.1)
-        y.grown.before) in
-        one_type s _ k i.result ts
-        (record {
-          grown = then_grown S s _ _ x.grown y.grown;
-          found = Every-append _ _ _ x.found y.found;
-        }) i.all
+        let y = fit_of same.second (fits_term k m _ b _ i.is_second (aft _ _ w.1)) h in
+        let x = fit_of same.first (fits_term k n s a _ i.is_first (fore _ _ w.1)) y.grown.before in
+        one_type
+        (record
+        { grown = then_grown S x.grown y.grown; found = Every-append _ _ _ x.found y.found }) i.all
     fits_term k n s (Array es) ts e w h =
         let b = bound (all_types P here es) _ ts e in
         let a = alone (list_type b.value) ts b.gives in
         let r = fits_all k n s es b.value b.is w.1 h in
-        one_type s _ k a.data_type ts
-        (record {
+        one_type (record {
           grown = r.grown;
           found = joined_on k a.data_type.kind b.value _ (list_kinds b.value a.data_type a.is)
               r.found;
         }) a.all
     fits_term k n s (AtMostOne es) ts e w h =
         let t = from_true (all_types P here es) ts e in
-        let r = fits_all k n s es t.data_types t.is w.1 (at_most_one_before S (flat k) _ _ h) in
-        one_type s _ k truth ts
-        (then_fit S s _ _ (flat k) Truth_kind r.grown
+        let r = fits_all k n s es t.data_types t.is w.1
+        (at_most_one_step (Earlier S) (earlier S) (flat k) _ _ h) in
+        one_type
+        (then_fit S r.grown
         (at_most_one_fit S (flat k) _ _
         (joined_on k Truth_kind t.data_types _
         (kinds_alike truth t.data_types Truth_kind t.truths refl) r.found) h)) t.all
     fits_term k n s (Nor es) ts e w h =
         let t = from_true (all_types P here es) ts e in
-        let r = fits_all k n s es t.data_types t.is w.1 (nor_before S (flat k) _ _ h) in
-        one_type s _ k truth ts
-        (then_fit S s _ _ (flat k) Truth_kind r.grown
+        let r = fits_all k n s es t.data_types t.is w.1
+        (nor_step (Earlier S) (earlier S) (flat k) _ _ h) in
+        one_type
+        (then_fit S r.grown
         (nor_fit S (flat k) _ _
         (joined_on k Truth_kind t.data_types _
         (kinds_alike truth t.data_types Truth_kind t.truths refl) r.found) h)) t.all
@@ -522,17 +460,15 @@ module _ (S : Sorts) (Y : Layout) (P : Program) (here : Instance)
         AllSorted S (emit_all Y P here k n s es).state.equations →
         AllFitOn s (emit_all Y P here k n s es) k ts
     fits_all k n s Nil ts e w h = record {
-      grown = not_grown S s h;
+      grown = not_grown S h;
       found = subst (λ us. AllOn S Y P here k us []) (same_Some _ _ e) tt;
     }
     fits_all k n s (Cons e es) ts is w h =
-        let m = n + call_count e in
-        let oa = parts k n e in let ob = occurrences_in P here.node k m es in
         let i = first_of_all P here e es ts is in
-        let r = fits_all k m _ es i.rest i.others (aft oa ob w) h in
-        let x = fits_term k n s e (i.first ∷ []) i.is (fore oa ob w) r.grown.before in
+        let r = fits_all k (n + call_count e) _ es i.rest i.others (aft _ _ w) h in
+        let x = fits_term k n s e (i.first ∷ []) i.is (fore _ _ w) r.grown.before in
         record {
-          grown = then_grown S s _ _ x.grown r.grown;
+          grown = then_grown S x.grown r.grown;
           found = subst (λ us. AllOn S Y P here k us (emit_all Y P here k n s (Cons e es)).found)
               (sym i.all) (x.found i.first refl, r.found);
         }
@@ -543,18 +479,16 @@ module _ (S : Sorts) (Y : Layout) (P : Program) (here : Instance)
         all_types P here es ≡ Some ts → AllSet (occurrences_each P here.node ks n es) →
         AllSorted S (emit_each Y P here ks n s es).state.equations →
         EachFits s (emit_each Y P here ks n s es) ks ts
-    fits_each ks n s Nil ts e w h =
-        record { grown = not_grown S s h; found = no_arguments ks ts }
-    fits_each [] n s (Cons e es) ts is w h = record { grown = not_grown S s h; found = tt }
+    fits_each ks n s Nil ts e w h = record { grown = not_grown S h; found = no_arguments ks ts }
+    fits_each [] n s (Cons e es) ts is w h = record { grown = not_grown S h; found = tt }
     fits_each (k ∷ ks) n s (Cons e es) ts is w h =
-        let m = n + call_count e in
-        let oa = parts k n e in let ob = occurrences_each P here.node ks m es in
         let i = first_of_all P here e es ts is in
-        let r = fits_each ks m _ es i.rest i.others (aft oa ob w) h in
-        let x = fits_term k n s e (i.first ∷ []) i.is (fore oa ob w) r.grown.before in
+        let r = fits_each ks (n + call_count e) _ es i.rest i.others (aft _ _ w) h in
+        let x = fits_term k n s e (i.first ∷ []) i.is (fore _ _ w) r.grown.before in
         record {
-          grown = then_grown S s _ _ x.grown r.grown;
-          found = subst (λ us. AreArguments S Y P here (k ∷ ks) us
+          grown = then_grown S x.grown r.grown;
+          found = subst
+              (λ us. AreArguments S Y P here (k ∷ ks) us
               (emit_each Y P here (k ∷ ks) n s (Cons e es)).found) (sym i.all)
               (x.found i.first refl, r.found);
         }

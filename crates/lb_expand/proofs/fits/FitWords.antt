@@ -1,22 +1,24 @@
 -- The small words of expansion give equations that fit, under conditions on places and clocks.
 use Rattle.lb_expand.proofs.Words
-use Words.{◌≡◌, ℕ, suc, Bool, false, ℤ, Some, List, [], ◌∷◌, map, length, refl, sym, ap, ap₂, ◌∙◌}
-use Words.{subst, UnaryOperator, Not, Negate, BinaryOperator, Or, And, Plus, ArrayIterator, Map}
-use Words.{Red, Kind, Int, Every, zip2, Scalar, Integer, Boolean, Bad, FlatClock, Where, Operation}
-use Words.{Constant, Copy, ApplyUnary, ApplyBinary, Choose, FirstThen, Previous, Latest, Sample}
-use Words.{FlatEquation, operation_kind, State, Emitted, numbered, numbers, add, keep, push}
-use Words.{chosen_by, chained, twice, negated, emit_nor, emit_at_most_one, emit_symbol, ◌<◌, true}
-use Words.{pos, None, ◌++◌, zip, list_all, Name, Static, Node_named, Symbol, Expr, Literal}
-use Words.{Variable, When, Call, Iterate, Exprs, Declaration, Node, Statement, Equation, Assertion}
-use Words.{Program, Instance, Child, call_site, callee_of, node_named, name_value, named, variables}
-use Words.{width, or_fault, is_occurrence_clocked, is_statement_clocked, is_statement_typed}
-use Words.{is_arithmetic, Occurrence, node_occurrences, statements, number, Layout, flat_clock}
-use Words.{declared_clock, base_clock, outer, ungrouped}
+use Words.{arith, ◌≡◌, ℕ, suc, Bool, false, ℤ, Some, List, [], ◌∷◌, map, length, refl, sym, ap, ap₂}
+use Words.{◌∙◌, subst, UnaryOperator, Not, BinaryOperator, Or, And, ArrayIterator, Map, Red, Kind}
+use Words.{Int, Every, zip2, Scalar, Integer, Boolean, Bad, FlatClock, Where, Operation, Constant}
+use Words.{Copy, ApplyUnary, ApplyBinary, Choose, FirstThen, Previous, Latest, Sample, FlatEquation}
+use Words.{operation_kind, State, Emitted, numbered, numbers, add, keep, push, chosen_by, chained}
+use Words.{twice, negated, emit_nor, emit_at_most_one, emit_symbol, ◌<◌, true, pos, None, ◌++◌, zip}
+use Words.{list_all, Name, Static, Node_named, Symbol, Expr, Literal, Variable, When, Call, Iterate}
+use Words.{Exprs, Declaration, Node, Statement, Equation, Assertion, Program, Instance, Child}
+use Words.{call_site, callee_of, node_named, name_value, named, variables, width, or_fault}
+use Words.{is_occurrence_clocked, is_statement_clocked, is_statement_typed, is_arithmetic}
+use Words.{Occurrence, node_occurrences, statements, number, Layout, flat_clock, declared_clock}
+use Words.{base_clock, outer, ungrouped}
 use Rattle.lb_syntax.specs.declared.tree.Kind.TheVariants.{Bool as Truth}
-use Rattle.{lb_check.specs.Clocks.{Clock, given_inputs}, lb_flat.specs.Fitting.OperandsFit}
-use Rattle.lb_flat.specs.Fitting.{ClockFits, IsOf, binary_kind, unary_kind, OperandKinds, KindFits}
-use Rattle.lb_flat.specs.{Fitting.IsFitting, TemporaryKinds.{unary_result, binary_result}}
+use Rattle.lb_check.specs.Clocks.{Clock, given_inputs}
+use Rattle.lb_flat.specs.Fitting.{OperandsFit, ClockFits, IsOf, binary_kind, unary_kind}
+use Rattle.lb_flat.specs.Fitting.{OperandKinds, KindFits, IsFitting}
+use Rattle.lb_flat.specs.TemporaryKinds.{unary_result, binary_result}
 use Rattle.lb_flat.proofs.lists.Lists.{Every-append, Every-first, Every-second}
+use Rattle.lb_expand.proofs.emission.EmissionSteps.{IsAdding, push_step, chained_step, twice_step}
 
 -- The small words of expansion give elements on a clock and of a kind, and equations that fit.
 
@@ -30,13 +32,11 @@ pub record Sorts : Type 0 where
 
 integers_result :
     (op : BinaryOperator) (r : Kind) → binary_kind op Int Int ≡ Some r → binary_result op ≡ r
-integers_result Plus r e = cc
-integers_result _ r e = cc
+integers_result op r e = grind arith
 
 truths_result :
     (op : BinaryOperator) (r : Kind) → binary_kind op Truth Truth ≡ Some r → binary_result op ≡ r
-truths_result Or r e = cc
-truths_result _ r e = cc
+truths_result op r e = grind arith
 
 -- where an operator takes two kinds, the kind that it gives is its one kind of result
 pub binary_gives :
@@ -48,10 +48,7 @@ binary_gives op Truth Int r e = cc
 
 pub unary_gives :
     (op : UnaryOperator) (k r : Kind) → unary_kind op k ≡ Some r → unary_result op ≡ r
-unary_gives Not Int r e = cc
-unary_gives Not Truth r e = cc
-unary_gives Negate Int r e = cc
-unary_gives Negate Truth r e = cc
+unary_gives op k r e = grind arith
 
 module _ (S : Sorts) where
   -- ## Elements on a clock and of a kind
@@ -203,20 +200,19 @@ module _ (S : Sorts) where
     pub grown : Grown s r.state
     pub found : AreOn k c r.found
 
-  pub not_grown : (s : State) → AllSorted s.equations → Grown s s
-  not_grown s h = record { before = h; equations = λ f. f; copies = λ f. f }
+  pub not_grown : {s : State} → AllSorted s.equations → Grown s s
+  not_grown h = record { before = h; equations = λ f. f; copies = λ f. f }
 
-  pub then_grown : (s t u : State) → Grown s t → Grown t u → Grown s u
-  then_grown s t u a b = record {
+  pub then_grown : {s t u : State} → Grown s t → Grown t u → Grown s u
+  then_grown a b = record {
     before = a.before;
     equations = λ f. b.equations (a.equations f);
     copies = λ f. b.copies (a.copies f);
   }
 
   pub then_fit :
-      (s t : State) (r : Emitted) (k : FlatClock) (c : Kind) → Grown s t → Fit t r k c →
-      Fit s r k c
-  then_fit s t r k c a b = record { grown = then_grown s t r.state a b.grown; found = b.found }
+      {s t : State} {r : Emitted} {k : FlatClock} {c : Kind} → Grown s t → Fit t r k c → Fit s r k c
+  then_fit a b = record { grown = then_grown a b.grown; found = b.found }
 
   -- ## New elements
 
@@ -244,43 +240,39 @@ module _ (S : Sorts) where
   add_before k s os h = Every-first IsSorted s.equations (numbered s.next k os) h
 
   pub add_fit :
-      (k : FlatClock) (c : Kind) (s : State) (os : List Operation) → AllGive k c os →
-      AllSorted (add k s os).state.equations → Fit s (add k s os) k c
+      {k : FlatClock} {c : Kind} {s : State} (os : List Operation) → AllGive k c os → AllSorted
+      (add k s os).state.equations → Fit s (add k s os) k c
   unfolding add
-  add_fit k c s os g h =
-      let new = numbered s.next k os in
-      let n = numbered_fit s.next k c os (Every-second IsSorted s.equations new h) g in
+  add_fit {k = k} {c = c} {s = s} os g h =
+      let n = numbered_fit s.next k c os (Every-second IsSorted s.equations _ h) g in
       record {
         grown = record {
-          before = Every-first IsSorted s.equations new h;
-          equations = λ f. Every-append IsFit s.equations new f n.0;
+          before = Every-first IsSorted s.equations _ h;
+          equations = λ f. Every-append IsFit s.equations _ f n.0;
           copies = λ f. f;
         };
         found = n.1;
       }
 
   pub keep_fit :
-      (s : State) (x : Emitted) (k : FlatClock) (c : Kind) →
-      (AllSorted x.state.equations → Fit s x k c) → AllSorted (keep x).state.equations →
-      Fit s (keep x) k c
+      {s : State} {x : Emitted} {k : FlatClock} {c : Kind} →
+      (AllSorted x.state.equations → Fit s x k c) → AllSorted (keep x).state.equations → Fit s
+      (keep x) k c
   unfolding keep
-  keep_fit s x k c part h =
+  keep_fit part h =
       let r = part h in
       record {
-        grown = record {
-          before = r.grown.before;
-          equations = r.grown.equations;
-          copies = r.grown.copies;
-        };
+        grown = record
+            { before = r.grown.before; equations = r.grown.equations; copies = r.grown.copies };
         found = r.found;
       }
 
-  push_before :
-      (k : FlatClock) (s : State) (o : Operation) → AllSorted (push k s o).equations →
-      AllSorted s.equations
-  push_before k s o h =
-      Every-first IsSorted s.equations
-      (record { element = s.next; clock = k; operation = o } ∷ []) h
+  -- where the elements of `t` have their clocks and kinds, so do the elements of `s`
+  abbrev pub Earlier : State → State → Type 0
+  Earlier s t = AllSorted t.equations → AllSorted s.equations
+
+  pub earlier : IsAdding Earlier
+  earlier = record { none = λ s h. h; both = λ s t u a b h. a (b h); adds = add_before }
 
   -- the state with one new element, which is on this clock and of this kind
   record Pushed (k : FlatClock) (c : Kind) (s : State) (o : Operation) : Type 0 where
@@ -306,141 +298,102 @@ module _ (S : Sorts) where
   -- ## From one operand, and from two
 
   pub one_fit :
-      (k l : FlatClock) (c d : Kind) (s : State) (x : Emitted) (f : ℕ → Operation) →
+      {k l : FlatClock} {c d : Kind} {s : State} {x : Emitted} (f : ℕ → Operation) →
       ((i : ℕ) → IsOn k c i → Gives l d (f i)) → (AllSorted x.state.equations → Fit s x k c) →
-      AllSorted (add l x.state (map f x.found)).state.equations →
-      Fit s (add l x.state (map f x.found)) l d
-  one_fit k l c d s x f g part h =
-      let a = part (add_before l _ _ h) in
-      then_fit s _ _ l d a.grown (add_fit l d _ _ (each_gives k l c d f g _ a.found) h)
+      AllSorted (add l x.state (map f x.found)).state.equations → Fit s
+      (add l x.state (map f x.found)) l d
+  one_fit f g part h =
+      let a = part (add_before _ _ _ h) in
+      then_fit a.grown (add_fit _ (each_gives _ _ _ _ f g _ a.found) h)
 
   pub two_fit :
-      (k : FlatClock) (c d r : Kind) (s : State) (x y : Emitted) (f : ℕ → ℕ → Operation) →
+      {k : FlatClock} {c d r : Kind} {s : State} {x y : Emitted} (f : ℕ → ℕ → Operation) →
       ((i j : ℕ) → IsOn k c i → IsOn k d j → Gives k r (f i j)) →
       (AllSorted x.state.equations → Fit s x k c) →
-      (AllSorted y.state.equations → Fit x.state y k d) →
-      AllSorted (add k y.state (zip2 f x.found y.found)).state.equations →
-      Fit s (add k y.state (zip2 f x.found y.found)) k r
-  two_fit k c d r s x y f g left right h =
-      let b = right (add_before k _ _ h) in
+      (AllSorted y.state.equations → Fit x.state y k d) → AllSorted
+      (add k y.state (zip2 f x.found y.found)).state.equations → Fit s
+      (add k y.state (zip2 f x.found y.found)) k r
+  two_fit f g left right h =
+      let b = right (add_before _ _ _ h) in
       let a = left b.grown.before in
-      then_fit s _ _ k r (then_grown s _ _ a.grown b.grown) (add_fit k r _ _
-      (two_give k c d r f g _ _ a.found b.found) h)
+      then_fit (then_grown a.grown b.grown) (add_fit _ (two_give _ _ _ _ f g _ _ a.found b.found) h)
 
   pub choice_fit :
-      (k : FlatClock) (c d : Kind) (s : State) (z x y : Emitted) →
+      {k : FlatClock} {c d : Kind} {s : State} {z x y : Emitted} →
       (AllSorted z.state.equations → Fit s z k c) →
       (AllSorted x.state.equations → Fit z.state x k d) →
-      (AllSorted y.state.equations → Fit x.state y k d) →
-      AllSorted (add k y.state (chosen_by z.found x.found y.found)).state.equations →
-      Fit s (add k y.state (chosen_by z.found x.found y.found)) k d
-  choice_fit k c d s z x y condition left right h =
-      let b = right (add_before k _ _ h) in
+      (AllSorted y.state.equations → Fit x.state y k d) → AllSorted
+      (add k y.state (chosen_by z.found x.found y.found)).state.equations → Fit s
+      (add k y.state (chosen_by z.found x.found y.found)) k d
+  choice_fit condition left right h =
+      let b = right (add_before _ _ _ h) in
       let a = left b.grown.before in
       let w = condition a.grown.before in
-      then_fit s _ _ k d (then_grown s _ _ (then_grown s _ _ w.grown a.grown) b.grown) (add_fit k
-      d _ _ (choices_give k c d _ _ _ w.found a.found b.found) h)
+      then_fit (then_grown (then_grown w.grown a.grown) b.grown)
+      (add_fit _ (choices_give _ _ _ _ _ _ w.found a.found b.found) h)
 
   -- ## `#` and `nor`
-
-  pub chained_before :
-      (k : FlatClock) (op : BinaryOperator) (s : State) (init : ℕ) (ys : List ℕ) →
-      AllSorted (chained k op s init ys).state.equations → AllSorted s.equations
-  unfolding chained
-  chained_before k op s init [] h = h
-  chained_before k op s init (y ∷ ys) h =
-      push_before k s _ (chained_before k op (push k s (ApplyBinary op init y)) s.next ys h)
 
   pub chained_fit :
       (k : FlatClock) (c : Kind) (op : BinaryOperator) → binary_kind op c c ≡ Some c →
       (s : State) (init : ℕ) (ys : List ℕ) → IsOn k c init → AreOn k c ys →
       AllSorted (chained k op s init ys).state.equations → Fit s (chained k op s init ys) k c
   unfolding chained
-  chained_fit k c op e s init [] i p h = record { grown = not_grown s h; found = (i, tt) }
+  chained_fit k c op e s init [] i p h = record { grown = not_grown h; found = (i, tt) }
   chained_fit k c op e s init (y ∷ ys) i p h =
       let o = ApplyBinary op init y in
-      let t : State = push k s o in
       let new = push_fit k c s _ (binary_sorted k c c c op e init y i p.0)
-      (chained_before k op _ _ ys h) in
-      then_fit s _ _ k c new.grown (chained_fit k c op e t s.next ys new.is_on p.1 h)
-
-  twice_before :
-      (k : FlatClock) (s : State) (any two : ℕ) (xs : List ℕ) →
-      AllSorted (twice k s any two xs).state.equations → AllSorted s.equations
-  unfolding twice
-  twice_before k s any two [] h = h
-  twice_before k s any two (x ∷ xs) h =
-      let t : State = push k s (ApplyBinary And any x) in
-      let u : State = push k t (ApplyBinary Or two s.next) in
-      let v : State = push k u (ApplyBinary Or any x) in
-      push_before k s _ (push_before k t _
-      (push_before k u _ (twice_before k v u.next t.next xs h)))
+      (chained_step Earlier earlier k op _ _ ys h) in
+      then_fit new.grown (chained_fit k c op e _ s.next ys new.is_on p.1 h)
 
   twice_fit :
       (k : FlatClock) (s : State) (any two : ℕ) (xs : List ℕ) → IsOn k Truth any →
       IsOn k Truth two → AreOn k Truth xs → AllSorted (twice k s any two xs).state.equations →
       Fit s (twice k s any two xs) k Truth
   unfolding twice
-  twice_fit k s any two [] a b p h = record { grown = not_grown s h; found = (b, tt) }
+  twice_fit k s any two [] a b p h = record { grown = not_grown h; found = (b, tt) }
   twice_fit k s any two (x ∷ xs) a b p h =
       let t : State = push k s (ApplyBinary And any x) in
       let u : State = push k t (ApplyBinary Or two s.next) in
-      let v : State = push k u (ApplyBinary Or any x) in
-      let h3 = twice_before k v u.next t.next xs h in
-      let h2 = push_before k u (ApplyBinary Or any x) h3 in
-      let h1 = push_before k t (ApplyBinary Or two s.next) h2 in
+      let h3 = twice_step Earlier earlier k _ u.next t.next xs h in
+      let h2 = push_step Earlier earlier k u (ApplyBinary Or any x) h3 in
       let n1 = push_fit k Truth s (ApplyBinary And any x)
-      (binary_sorted k Truth Truth Truth And refl any x a p.0) h1 in
+      (binary_sorted k Truth Truth Truth And refl any x a p.0)
+      (push_step Earlier earlier k t (ApplyBinary Or two s.next) h2) in
       let n2 = push_fit k Truth t (ApplyBinary Or two s.next)
       (binary_sorted k Truth Truth Truth Or refl two s.next b n1.is_on) h2 in
       let n3 = push_fit k Truth u (ApplyBinary Or any x)
       (binary_sorted k Truth Truth Truth Or refl any x a p.0) h3 in
-      then_fit s v (twice k v u.next t.next xs) k Truth
-      (then_grown s u v (then_grown s t u n1.grown n2.grown) n3.grown)
-      (twice_fit k v u.next t.next xs n3.is_on n2.is_on p.1 h)
+      then_fit (then_grown (then_grown n1.grown n2.grown) n3.grown)
+      (twice_fit k _ u.next t.next xs n3.is_on n2.is_on p.1 h)
 
   negated_fit :
       (k : FlatClock) (s : State) (x : Emitted) →
       (AllSorted x.state.equations → Fit s x k Truth) →
       AllSorted (negated k x).state.equations → Fit s (negated k x) k Truth
   negated_fit k s x part h =
-      one_fit k k Truth Truth s x (ApplyUnary Not)
-      (λ i p. unary_sorted k Truth Truth Not refl i p) part h
-
-  pub nor_before :
-      (k : FlatClock) (s : State) (is : List ℕ) → AllSorted (emit_nor k s is).state.equations →
-      AllSorted s.equations
-  nor_before k s is h = push_before k s _ (chained_before k Or _ _ is (add_before k _ _ h))
+      one_fit (ApplyUnary Not) (λ i p. unary_sorted k Truth Truth Not refl i p) part h
 
   pub nor_fit :
       (k : FlatClock) (s : State) (is : List ℕ) → AreOn k Truth is →
       AllSorted (emit_nor k s is).state.equations → Fit s (emit_nor k s is) k Truth
-  nor_fit k s is p h = negated_fit k s _ (λ g.
-      let new = push_fit k Truth s _ (boolean_gives k false) (chained_before k Or _ _ is g) in
-      then_fit s _ _ k Truth new.grown (chained_fit k Truth Or refl _ _ is new.is_on p g)) h
-
-  pub at_most_one_before :
-      (k : FlatClock) (s : State) (is : List ℕ) →
-      AllSorted (emit_at_most_one k s is).state.equations → AllSorted s.equations
-  at_most_one_before k s is h = push_before k s _ (twice_before k _ _ _ is (add_before k _ _ h))
+  nor_fit k s is p h =
+      negated_fit k s _ (λ g.
+      let new = push_fit k Truth s _ (boolean_gives k false)
+      (chained_step Earlier earlier k Or _ _ is g) in
+      then_fit new.grown (chained_fit k Truth Or refl _ _ is new.is_on p g)) h
 
   pub at_most_one_fit :
       (k : FlatClock) (s : State) (is : List ℕ) → AreOn k Truth is →
       AllSorted (emit_at_most_one k s is).state.equations →
       Fit s (emit_at_most_one k s is) k Truth
-  at_most_one_fit k s is p h = negated_fit k s _ (λ g.
-      let new = push_fit k Truth s _ (boolean_gives k false) (twice_before k _ _ _ is g) in
-      then_fit s _ _ k Truth new.grown (twice_fit k _ _ _ is new.is_on new.is_on p g)) h
+  at_most_one_fit k s is p h =
+      negated_fit k s _ (λ g.
+      let new = push_fit k Truth s _ (boolean_gives k false)
+      (twice_step Earlier earlier k _ _ _ is g) in
+      then_fit new.grown (twice_fit k _ _ _ is new.is_on new.is_on p g)) h
 
   -- ## Iterated symbols
-
-  pub symbol_before :
-      (k : FlatClock) (op : BinaryOperator) (s : State) (it : ArrayIterator)
-      (found : List (List ℕ)) → AllSorted (emit_symbol k op s it found).state.equations →
-      AllSorted s.equations
-  symbol_before k op s Map (xs ∷ (ys ∷ [])) h = add_before k s (zip2 (ApplyBinary op) xs ys) h
-  symbol_before k op s Red ((init ∷ []) ∷ (ys ∷ [])) h = chained_before k op s init ys h
-  symbol_before k op s it found h = h
 
   pub symbol_fit :
       (k : FlatClock) (c : Kind) (op : BinaryOperator) → binary_kind op c c ≡ Some c →
@@ -448,11 +401,11 @@ module _ (S : Sorts) where
       AllSorted (emit_symbol k op s it found).state.equations →
       Fit s (emit_symbol k op s it found) k c
   symbol_fit k c op e s Map (xs ∷ (ys ∷ [])) p h =
-      add_fit k c s _ (two_give k c c c (ApplyBinary op)
+      add_fit _ (two_give k c c c (ApplyBinary op)
       (λ i j q r. binary_sorted k c c c op e i j q r) xs ys p.0 p.1.0) h
   symbol_fit k c op e s Red ((init ∷ []) ∷ (ys ∷ [])) p h =
       chained_fit k c op e s init ys p.0.0 p.1.0 h
-  symbol_fit k c op e s it found p h = record { grown = not_grown s h; found = tt }
+  symbol_fit k c op e s it found p h = record { grown = not_grown h; found = tt }
 
 -- Conditions on the places and clocks of variables under which the equations of expansion fit: for
 -- an instance, for what it calls, and for each occurrence of an expression in it.

@@ -17,17 +17,15 @@ use Rattle.lb_syntax.specs.declared.tree.OperatorClass.TheVariants.{Arithmetic, 
 use Rattle.lb_flat.specs.Fitting.{class_on_integers, binary_kind, unary_kind}
 use Rattle.lb_flat.{specs.declared.equation.Equation.Equation, proofs.lists.Lists.Every-second}
 use Rattle.lb_expand.{specs.EquationKinds.equation_kind, proofs.fits.FitWords.{Sorts, AllSorted}}
-use Rattle.lb_expand.proofs.{solutions.Filling.Fresh, widths.TypeFacts.{bound, each}}
+use Rattle.lb_expand.proofs.{solutions.Filling.Fresh, widths.TypeFacts.{bound, each, types_first}}
+use Rattle.lb_expand.proofs.widths.TypeFacts.{types_missing}
 
 -- The kinds of the parts of an expression, from its types.
 
 -- ## The same kind
 
 pub same_kind : (k l : Kind) → is_kind k l ≡ true → k ≡ l
-same_kind Int Int e = refl
-same_kind Int Truth e = cc
-same_kind Truth Int e = cc
-same_kind Truth Truth e = refl
+same_kind k l e = grind arith
 
 pub type_kind : (s t : DataType) → is_type s t ≡ true → s.kind ≡ t.kind
 type_kind s t e =
@@ -47,34 +45,26 @@ unary_kinds Negate s r e =
     ap (unary_kind Negate) (type_kind s int t.holds)
     ∙ ap (λ (u : DataType). Some u.kind) t.same
 
-ints :
-    (op : BinaryOperator) (s t u r : DataType) → binary_kind op Int Int ≡ Some u.kind →
-    where_true (are_ints s t) u ≡ Some r → binary_kind op s.kind t.kind ≡ Some r.kind
-ints op s t u r is e =
-    let h = truly (are_ints s t) u r e in
-    ap₂ (binary_kind op) (type_kind s int (and_first (is_type s int) (is_type t int) h.holds))
-    (type_kind t int (and_second (is_type s int) (is_type t int) h.holds))
-    ∙ is ∙ ap (λ (v : DataType). Some v.kind) h.same
-
-truths :
-    (op : BinaryOperator) (s t u r : DataType) → binary_kind op Truth Truth ≡ Some u.kind →
-    where_true (are_truths s t) u ≡ Some r → binary_kind op s.kind t.kind ≡ Some r.kind
-truths op s t u r is e =
-    let h = truly (are_truths s t) u r e in
-    ap₂ (binary_kind op)
-    (type_kind s truth (and_first (is_type s truth) (is_type t truth) h.holds))
-    (type_kind t truth (and_second (is_type s truth) (is_type t truth) h.holds))
-    ∙ is ∙ ap (λ (v : DataType). Some v.kind) h.same
+-- an operator on two operands of the type `base`
+both_of :
+    (base : DataType) (op : BinaryOperator) (s t u r : DataType) →
+    binary_kind op base.kind base.kind ≡ Some u.kind →
+    where_true (is_type s base && is_type t base) u ≡ Some r →
+    binary_kind op s.kind t.kind ≡ Some r.kind
+both_of base op s t u r is e =
+    let h = truly (is_type s base && is_type t base) u r e in
+    ap₂ (binary_kind op) (type_kind s base (and_first (is_type s base) (is_type t base) h.holds))
+    (type_kind t base (and_second (is_type s base) (is_type t base) h.holds)) ∙ is ∙ ap
+    (λ (v : DataType). Some v.kind) h.same
 
 either :
     (op : BinaryOperator) (s t r : DataType) → binary_kind op Int Int ≡ Some Truth →
     binary_kind op Truth Truth ≡ Some Truth → (a b : Bool) → are_ints s t ≡ a →
     are_truths s t ≡ b → where_true (a || b) truth ≡ Some r →
     binary_kind op s.kind t.kind ≡ Some r.kind
-either op s t r i j true b p q e =
-    ints op s t truth r i (ap (λ d. where_true d truth) p ∙ e)
+either op s t r i j true b p q e = both_of int op s t truth r i (ap (λ d. where_true d truth) p ∙ e)
 either op s t r i j false b p q e =
-    truths op s t truth r j (ap (λ d. where_true d truth) q ∙ e)
+    both_of truth op s t truth r j (ap (λ d. where_true d truth) q ∙ e)
 
 -- an operator takes operands of the kinds of its types
 pub binary_kinds :
@@ -83,9 +73,9 @@ pub binary_kinds :
 binary_kinds op s t r e = by (class_of op) refl
   where
     by : (c : OperatorClass) → class_of op ≡ c → binary_kind op s.kind t.kind ≡ Some r.kind
-    by Arithmetic is = ints op s t int r (ap class_on_integers is) (rw is at e)
-    by Order is = ints op s t truth r (ap class_on_integers is) (rw is at e)
-    by Logical is = truths op s t truth r (ap class_on_truths is) (rw is at e)
+    by Arithmetic is = both_of int op s t int r (ap class_on_integers is) (rw is at e)
+    by Order is = both_of int op s t truth r (ap class_on_integers is) (rw is at e)
+    by Logical is = both_of truth op s t truth r (ap class_on_truths is) (rw is at e)
     by Equality is =
         either op s t r (ap class_on_integers is) (ap class_on_truths is) _ _ refl refl (rw is at e)
 
@@ -171,18 +161,13 @@ pub arrays_alike :
     (n : ℕ) (c : Kind) (ins wanted args : List DataType) → AllOf c ins →
     all_some (map (array_of n) ins) ≡ Some wanted → are_types wanted args ≡ true → AllOf c args
 arrays_alike n c [] wanted [] a o same = tt
-arrays_alike n c [] wanted (t ∷ args) a o same =
-    let none : are_types [] (t ∷ args) ≡ true =
-    subst (λ vs. are_types vs (t ∷ args) ≡ true) (sym (same_Some _ _ o)) same in
-    absurd cc
+arrays_alike n c [] wanted (t ∷ args) a o same = types_missing (sym (same_Some _ _ o)) refl same
 arrays_alike n c (u ∷ ins) wanted [] a o same = tt
 arrays_alike n c (u ∷ ins) wanted (t ∷ args) a o same =
     let h = each (array_of n u) (map (array_of n) ins) wanted o in
-    let all = subst (λ vs. are_types vs (t ∷ args) ≡ true) h.all same in
-    let first = and_first (is_type h.first t) (are_types h.rest args) all in (
-      sym (array_kind n u h.first h.is ∙ type_kind h.first t first) ∙ a.0,
-      arrays_alike n c ins h.rest args a.1 h.others
-          (and_second (is_type h.first t) (are_types h.rest args) all),
+    let fit = types_first h.all refl same in (
+      sym (array_kind n u h.first h.is ∙ type_kind h.first t fit.0) ∙ a.0,
+      arrays_alike n c ins h.rest args a.1 h.others fit.1,
     )
 
 -- ## Variables

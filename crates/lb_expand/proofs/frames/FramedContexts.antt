@@ -73,8 +73,7 @@ pub held_none :
     [] ≡ held_below count ns
 held_none ns start end count is le =
     let none : end - start ≡ 0 = omega (arith, le) in
-    sym (by (nat_le (0 + 0) count))
-    ∙ ap (held_below count) (sym (ap (range_with_len start) none) ∙ is)
+    cc (by (nat_le (0 + 0) count))
   where
     nothing : List ℕ
     nothing = []
@@ -112,14 +111,7 @@ row_not_there c j there none =
 -- each row with a node is there
 pub rows_there : (c : Checking) → HasRows c.elab.reached c.elab.table (is_row c)
 rows_there c j i at n found =
-    ap (λ (o : Option (Specialization × ResolvedNode)).
-    either_or (option_map (λ (u : Specialization × ResolvedNode). true) o) false)
-    (ap (λ (o : Option row.Instance).
-    o >>= λ i.
-    slice_get c.elab.table.specializations.items i.specialization.0 >>= λ s.
-    option_map {U = Specialization × ResolvedNode} (λ n. (s, n))
-    (slice_get c.elab.reached.nodes.items s.node.0)) at)
-    ∙ by (slice_get c.elab.table.specializations.items i.specialization.0) found
+    cc (by (slice_get c.elab.table.specializations.items i.specialization.0) found)
   where
     is_some : Option (Specialization × ResolvedNode) → Bool
     is_some o = either_or (option_map (λ (u : Specialization × ResolvedNode). true) o) false
@@ -133,9 +125,7 @@ rows_there c j i at n found =
         (o >>= λ s. slice_get c.elab.reached.nodes.items s.node.0) ≡ Some n →
         is_some (o >>= of) ≡ true
     by None e = absurd cc
-    by (Some s) e =
-        ap (λ (o : Option ResolvedNode).
-        is_some (option_map {U = Specialization × ResolvedNode} (λ n. (s, n)) o)) e
+    by (Some s) e = cc
 
 -- The static value of a row that stands for an operand is an `int`, where the operand has types.
 
@@ -218,18 +208,14 @@ module _ (c : Checking) (lawful : IsChecked c) (l : Layout) (all : Children) (k 
     parts_from m o = either_or (option_map (λ types. parts_of (found_in types) m) o) 0
 
     types_of_row : found_types c j ≡ lent
-    types_of_row =
-        ap (λ (o : Option row.Instance). o >>= λ i.
-        c.types >>= λ (found : Vec NodeTypes Global).
-        slice_get found.items i.specialization.0) is.row_is
+    types_of_row = cc
 
     -- the instance of the row's specialization at the path of the row is `here`
     specialized_here :
         specialized_at c.elab.reached here.path is.specialization ≡ Some here
     specialized_here =
-        specialized_instance P c.elab.reached c.elab.table lawful.elaborated.reached
-        lawful.elaborated.table is.specialization is.node here.path is.resolved
-        ∙ ap (λ (z : Instance). Some z) (sym is.same)
+        cc (specialized_instance P c.elab.reached c.elab.table lawful.elaborated.reached
+        lawful.elaborated.table is.specialization is.node here.path is.resolved)
 
     -- the number of scalar elements of each element of the array that a term is
     parts_read :

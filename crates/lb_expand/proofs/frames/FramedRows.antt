@@ -341,8 +341,7 @@ module _ (c : Checking) (lawful : IsChecked c) (l : Layout) (all : Children) (k 
         let q = place_in (instances P) inst.instance inst.stands in
         let w = row_of P r t table _ _ q.1 in
         let place = kept j m e ∙ child_found P r t _ j m e _ i here _ is q.1 path in
-        of q.0 w.0 inst.instance w.1 path inst.node place
-        (subst (IsResolved (source_names P)) own_callee called.resolved)
+        of q.0 w.0 inst.instance w.1 path inst.node place (rw (← own_callee) called.resolved)
       where
         of :
             (q : ℕ) (z : row.Instance) (inner : Instance)

@@ -4,18 +4,18 @@ use Words.{◌≡◌, ◌<◌, ℕ, suc, ◌+◌, Some, None, List, [], ◌∷�
 use Words.{arith, length-map, Every, listed, Node, Program, Instance, node_sites, static_refusal}
 use Words.{IsTable, IsReached, node_of, Reached, ResolvedStatement, Table, check_refusal}
 use Words.{HasFoundClocks, node_occurrences, clock_in, NodeClocks, Every-append, IsCounted, bodies}
-use Words.{body_in, with_body, Context, HasPlaces, ◌≤◌, inl, inr, ◌*◌, Bool, true, Option, ◌++◌}
-use Words.{flat_map, ap₂, sum_by, range_with_len, ForSome, length-append, length-range_with_len}
-use Words.{sum_by-append, sum_by-cons, same_Some, leb-true, Kind, In, Declaration, item_at}
-use Words.{input_kinds, scalar_elements, signature, width, Root, instances, instance_at, in_at}
-use Words.{declared_clock, element_kinds, instance_elements, program_elements, elements}
-use Words.{instance_size, is_small, size, property_path, instantiation_kept, length_kinds}
-use Words.{Every-all, Every-first, in_instances, length_elements, Target, expanded, targets}
-use Words.{HasRows, IsReady, parameter_targets, start_in, start_of, whole, FlatProgram, Layout}
-use Words.{flat_clock, layout, table_kinds, element_total, elaborated_program, Elements, kinds_of}
-use Words.{IsChecked, Checking, AreWhole, IsBounded, IsExpansionOf, program_of, found_row}
-use Words.{frame_contexts, called_row, child_row, IsLayoutOf, all_clocks, all_runs, sources_of}
-use Words.{Children, Clocks, Global, ◌^◌, slice_get, Vec, Result, Err, IfOk, flat_map-append, Clock}
+use Words.{body_in, Context, ◌≤◌, inl, inr, ◌*◌, Bool, true, Option, ◌++◌, flat_map, ap₂, sum_by}
+use Words.{range_with_len, ForSome, length-append, length-range_with_len, sum_by-append}
+use Words.{sum_by-cons, same_Some, leb-true, Kind, In, Declaration, item_at, input_kinds}
+use Words.{scalar_elements, signature, width, Root, instances, instance_at, in_at, declared_clock}
+use Words.{element_kinds, instance_elements, program_elements, elements, instance_size, is_small}
+use Words.{size, property_path, instantiation_kept, length_kinds, Every-all, Every-first}
+use Words.{in_instances, length_elements, Target, expanded, targets, HasRows, IsReady}
+use Words.{parameter_targets, start_in, start_of, whole, FlatProgram, Layout, flat_clock, layout}
+use Words.{table_kinds, element_total, elaborated_program, kinds_of, IsChecked, Checking, AreWhole}
+use Words.{IsBounded, IsExpansionOf, program_of, found_row, frame_contexts, called_row, child_row}
+use Words.{IsLayoutOf, all_clocks, all_runs, sources_of, Children, Clocks, Global, ◌^◌, slice_get}
+use Words.{Vec, Result, Err, IfOk, flat_map-append, Clock}
 use Rattle.{std.{specs.Option.MatchOption, proofs.Common.Ok}, lb_expand.specs.RowFrames.IsFrameOf}
 use Rattle.lb_expand.specs.RowFrames.{contexts_of, is_row, is_row_of, read_of}
 use Rattle.lb_expand.specs.declared.layout.Layout.{Layout as StoredLayout}
@@ -54,8 +54,7 @@ module _ (P : Program) (r : Reached) (t : Table) (reached : IsReached P r)
       (k : ℕ) (i : row.Instance) (here : Instance) → IsRow P r t table k i here →
       Every Q (body_in r t cs k i)
   one_body k i here is =
-      subst (λ o. Every Q (listed (with_body (cs k)) o))
-      (sym (node_found P r t reached table accepted k i here is)) (each k i here is, tt)
+      rw (node_found P r t reached table accepted k i here is) (each k i here is, tt)
 
   bodies_from :
       (j : ℕ) (rows : List row.Instance) →
@@ -117,8 +116,7 @@ module _ (P : Program) (accepted : static_refusal P ≡ None) (checked : check_r
         table k i here is (cs k) (contexts k i here is) s in
         let terms = terms_few in
         let calls = calls_few in
-        subst HasPlaces (sym at)
-        (record { terms = omega (arith, terms); calls = omega (arith, calls) })
+        rw at (record { terms = omega (arith, terms); calls = omega (arith, calls) })
 
   -- the places of the terms and calls of all rows can be counted
   pub bodies_counted : Every IsCounted (bodies r t cs 0 t.instances.items)
@@ -226,8 +224,7 @@ module _ (P : Program) (accepted : static_refusal P ≡ None) (checked : check_r
             let found = node_found P r t reached table accepted st.number st.line here st.at in
             let same : start_of st.number st.at.node ≡ s =
             same_Some (start_of st.number st.at.node) s (sym st.found ∙ e) in
-            subst (IsReady cs is_row) same
-            (record {
+            rw (← same) (record {
               there = rows st.number st.line st.at.row_is st.at.node found;
               inputs_counted = inputs_counted st.number st.line here st.at;
               all_counted = all_counted st.number st.line here st.at;
@@ -326,8 +323,7 @@ module _ (P : Program) (accepted : static_refusal P ≡ None) where
   module _ (r : Reached) (t : Table) (reached : IsReached P r) (table : IsTable P r t) where
     -- there is at least one element
     pub total_some : 0 < element_total r t
-    total_some =
-        subst (λ n. 0 < n) (sym (element_total_is P r t reached table)) program_some
+    total_some = rw (element_total_is P r t reached table) program_some
 
     -- there are as many kinds as elements
     pub kinds_many : length (table_kinds r t) ≡ element_total r t
@@ -436,12 +432,11 @@ module _ (c : Checking) (lawful : IsChecked c) (l : StoredLayout)
       let table = lawful.elaborated.table in
       record {
         kinds = kinds_many P accepted r t reached table ∙ sym laid.count;
-        positive = subst (λ n. 0 < n) (sym laid.count) (total_some P accepted r t reached table);
+        positive = rw laid.count (total_some P accepted r t reached table);
         elements = whole_few P accepted lawful.accepted r t reached table small cs contexts framed
             (kinds_of c.elab.signature) (table_kinds r t) l.count laid.count;
         inputs =
-            subst (λ (s : Elements). length (kinds_of s) ≤ 65536) lawful.elaborated.inputs
-            (signature_few P accepted small);
+            rw (← lawful.elaborated.inputs) (signature_few P accepted small);
         places = bodies_counted P accepted lawful.accepted r t reached table c.clocks.items
             lawful.clocks cs contexts;
         there = rows;

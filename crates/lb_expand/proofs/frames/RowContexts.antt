@@ -35,9 +35,8 @@ module _ {A : Type 0} where
       (xs : List A) (os : List (Option A)) (i : ℕ) (o : Option A) → map Some xs ≡ os →
       slice_get os i ≡ Some o → slice_get xs i ≡ o
   held_there xs os i o e at =
-      some_some (slice_get xs i) o
-      (sym (slice_get-map Some xs i)
-      ∙ (ap (λ (l : List (Option A)). slice_get l i) e ∙ at))
+      cc (some_some (slice_get xs i) o (sym (slice_get-map Some xs i) ∙ (ap (λ (l : List (Option
+      A)). slice_get l i) e ∙ at)))
 
 module _ (P : Program) (r : Reached) (t : Table) (reached : IsReached P r)
     (table : IsTable P r t) (accepted : static_refusal P ≡ None) (k : ℕ) (i : row.Instance)
@@ -71,11 +70,9 @@ module _ (P : Program) (r : Reached) (t : Table) (reached : IsReached P r)
       value_at is.specialization.statics.items j ≡ or_fault (name_value P here x)
   value_are j x e =
       let own = instance_of here.path (node_of is.node) is.specialization.values.items in
-      ap or_fault (held_there is.specialization.statics.items
-      (map (static_value P own) (statics_of is.node)) j (name_value P own x) own_values
-      (slice_get-map (static_value P own) (statics_of is.node) j
-      ∙ ap (option_map (static_value P own)) e))
-      ∙ ap (λ (c : Instance). or_fault (name_value P c x)) (sym is.same)
+      cc (held_there is.specialization.statics.items (map (static_value P own) (statics_of is.node))
+      j (name_value P own x) own_values (slice_get-map (static_value P own) (statics_of is.node) j ∙
+      ap (option_map (static_value P own)) e))
 
   -- the value of a static that is a size or an index
   pub size_are :
@@ -83,9 +80,8 @@ module _ (P : Program) (r : Reached) (t : Table) (reached : IsReached P r)
       size_at is.specialization.statics.items j.0
       ≡ number P here (static_at (statics_of is.node) j)
   size_are j within =
-      ap (λ o. either_or o 0) (sym (static_is P r t is.specialization is.node here.path
-      own_resolved own_names own_values j within))
-      ∙ ap (λ (c : Instance). number P c (static_at (statics_of is.node) j)) (sym is.same)
+      cc (static_is P r t is.specialization is.node here.path own_resolved own_names own_values j
+      within)
 
   -- ## Calls
 

@@ -238,9 +238,8 @@ pub with_branches :
     ≡ placed (past at (o ∷ (oc ++ (oa ++ ob))) (length (sc ++ (sa ++ sb)))) w
 with_branches at o oc oa ob sc sa sb z f g t u v w F hz hx hy e =
     let from = past (next_term at) oc (length sc) in
-    ap (λ (z : PlacedEmitted).
-    let x = f z.place z.emitted.state in let y = g x.place x.emitted.state in
-    placed y.place (F z.emitted x.emitted y.emitted)) hz
-    ∙ then_operand from oa ob sa sb (f from t.state) g u v w (F t) hx hy e
-    ∙ ap (λ p. placed p w) (past_both (next_term at) oc (oa ++ ob) sc (sa ++ sb))
-    ∙ ap (λ p. placed p w) (past_one at o (oc ++ (oa ++ ob)) (length (sc ++ (sa ++ sb))))
+    cc (
+      then_operand from oa ob sa sb (f from t.state) g u v w (F t) hx hy e,
+      past_both (next_term at) oc (oa ++ ob) sc (sa ++ sb),
+      past_one at o (oc ++ (oa ++ ob)) (length (sc ++ (sa ++ sb))),
+    )

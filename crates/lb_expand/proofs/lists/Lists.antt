@@ -28,21 +28,18 @@ module _ {A B : Type 0} (g : A → B) where
 
   pub map-copies : (n : ℕ) (xs : List A) → map g (copies n xs) ≡ copies n (map g xs)
   map-copies zero xs = refl
-  map-copies (suc n) xs =
-      map-append g xs (copies n xs) ∙ ap (λ zs. map g xs ++ zs) (map-copies n xs)
+  map-copies (suc n) xs = cc (map-append g xs (copies n xs), map-copies n xs)
 
   pub map-joined : (xss : List (List A)) → map g (joined xss) ≡ joined (map (map g) xss)
   map-joined [] = refl
-  map-joined (xs ∷ xss) =
-      map-append g xs (joined xss) ∙ ap (λ zs. map g xs ++ zs) (map-joined xss)
+  map-joined (xs ∷ xss) = cc (map-append g xs (joined xss), map-joined xss)
 
   -- a `flat_map` whose pieces are equal piece by piece
   pub map-pieces :
       {C : Type 0} (f : C → List A) (h : C → List B) → ((c : C) → h c ≡ map g (f c)) →
       (cs : List C) → flat_map h cs ≡ map g (flat_map f cs)
   map-pieces f h e [] = refl
-  map-pieces f h e (c ∷ cs) =
-      ap₂ (λ xs ys. xs ++ ys) (e c) (map-pieces f h e cs) ∙ sym (map-append g (f c) (flat_map f cs))
+  map-pieces f h e (c ∷ cs) = cc (e c, map-pieces f h e cs, map-append g (f c) (flat_map f cs))
 
 -- ## `Every`
 
@@ -123,8 +120,7 @@ module _ {A B : Type 0} where
   pub total-pieces : (f : B → ℕ) (g : A → List B) (xs : List A) →
       total f (flat_map g xs) ≡ total (λ x. total f (g x)) xs
   total-pieces f g [] = refl
-  total-pieces f g (x ∷ xs) =
-      total-append f (g x) (flat_map g xs) ∙ ap (λ a. total f (g x) + a) (total-pieces f g xs)
+  total-pieces f g (x ∷ xs) = cc (total-append f (g x) (flat_map g xs), total-pieces f g xs)
 
 -- ## How often a number stands in a list
 

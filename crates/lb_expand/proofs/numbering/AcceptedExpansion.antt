@@ -1,8 +1,8 @@
 -- The flat program of an accepted program, in the layout by numbers, stands for it and is its
 -- expansion.
 use Rattle.lb_expand.proofs.Words
-use Words.{◌≡◌, ℕ, None, List, [], ◌++◌, length, refl, subst, sym, Every, In, Name, Declaration}
-use Words.{variables, input_kinds, Program, Instance, Path, Root, Observer, instance_at, instances}
+use Words.{◌≡◌, ℕ, None, List, [], ◌++◌, length, refl, sym, Every, In, Name, Declaration, variables}
+use Words.{input_kinds, Program, Instance, Path, Root, Observer, instance_at, instances}
 use Words.{static_refusal, map_in, check_refusal, program_elements, node_occurrences, Stream}
 use Words.{Inputs, Solves, History, in_first, in_second, Every-at, Every-from, at_path, IsVariable}
 use Words.{given_inputs, observed, before_instances, emit_instances, expanded, FlatEquation, Holds}
@@ -93,8 +93,7 @@ module _ (P : Program) (accepted : static_refusal P ≡ None)
         here
         (filled_columns P (layout P) (length (program_elements P)) (program_sorts P).clock_of
         (program_sorts P).kind_of size placing (is_in_order P accepted).variables X H h) i in
-        subst (λ y. columns X filled ((layout P).places here.path y) ≡ H.columns here.path y) d.2
-        (Every-at (HasColumns here) (variables here.node) d.0 all d.1)
+        rw (← d.2) (Every-at (HasColumns here) (variables here.node) d.0 all d.1)
 
     -- a variable that serves for another in a clock has the streams of the other here too
     served : (p : Path) (x : Name) →
@@ -173,5 +172,4 @@ pub expansion_of :
     (P : Program) → static_refusal P ≡ None → check_refusal P ≡ None → (f : FlatProgram) →
     f ≡ expanded (layout P) P (length (program_elements P)) → IsExpansionOf P f
 expansion_of P accepted checked f is =
-    subst (IsExpansionOf P) (sym is)
-    (program_expansion P accepted checked (accepted_scalars P accepted checked))
+    rw is (program_expansion P accepted checked (accepted_scalars P accepted checked))

@@ -30,8 +30,8 @@ use Rattle.lb_expand.proofs.fits.FitWords.{AllSorted, IsVariableOn, AreVariables
 use Rattle.lb_expand.proofs.fits.{FitWords.{CallLefts, IsInstanceSet}, KindFacts.got_first}
 use Rattle.lb_expand.proofs.fits.KindFacts.{sorts_of, further_sorted, length-kinds_from}
 use Rattle.lb_expand.proofs.numbering.NumberedPlaces.{places_width, signs_are, is_laid_out}
-use Rattle.lb_expand.proofs.{numbering.NumberedPlaces.clock_on, solutions.Filling.Fresh}
-use Rattle.lb_expand.proofs.{solutions.Solving.all_closed, widths.TypeFacts.bound}
+use Rattle.lb_expand.proofs.{numbering.NumberedPlaces.clock_on, solutions.Solving.all_closed}
+use Rattle.lb_expand.proofs.{widths.TypeFacts.bound}
 
 -- the equations of the temporaries
 abbrev pub further : Program → List FlatEquation
@@ -102,8 +102,7 @@ module _ (P : Program) (accepted : static_refusal P ≡ None) where
       let closed = all_closed count (layout P) P (is_laid_out P accepted) (before_instances count)
       (instances P) (record { fresh = tt; next = omega arith }) in
       further_sorted (input_kinds P) (element_values P (clock_on P)) (element_kinds P) (further P)
-      (length_values P (clock_on P) ∙ sym (length_kinds P))
-      (subst (λ n. Fresh n (further P)) (sym (length_kinds P)) closed.fresh)
+      (length_values P (clock_on P) ∙ sym (length_kinds P)) (rw (length_kinds P) closed.fresh)
 
   -- `program_sorts` gives the first elements the clocks and kinds of their variables
   pub clocks_first :
@@ -148,9 +147,8 @@ module _ (P : Program) (accepted : static_refusal P ≡ None) where
       (root observer : Instance) → instance_at P Root ≡ Some root →
       instance_at P Observer ≡ Some observer → has_property P root (Some observer) ≡ true
   observer_is root observer e g =
-      sym (ap (has_property P root) g)
-      ∙ and_second (nat_le (length (signature P)) 1023) _
-      (and_second (has_plain_clocks P root) _ (root_is root e))
+      cc (and_second (nat_le (length (signature P)) 1023) _ (and_second (has_plain_clocks P root) _
+      (root_is root e)))
 
   module _ (checked : check_refusal P ≡ None) where
     starts_on :
@@ -194,8 +192,7 @@ module _ (P : Program) (accepted : static_refusal P ≡ None) where
             let n = bound (node_named P s.callee) _ c e in
             let there = instance_there P accepted checked here i o s n.value index on own n.is lt in
             let same = same_Some there.instance c (sym there.is ∙ e) in
-            subst (AreVariablesOn (program_sorts P) (layout P) P) same
-            (variables_on there.instance there.stands)
+            rw (← same) (variables_on there.instance there.stands)
 
         -- an iterator has at least one instance
         positive :
@@ -203,10 +200,9 @@ module _ (P : Program) (accepted : static_refusal P ≡ None) where
             0 < number P here m
         positive o m on own =
             let part = part_of_node P accepted checked here i o on in
-            let size = in_second m (declared_sizes here.node)
-            (flat_map own_sizes (node_parts here.node))
-            (to_pieces own_sizes m o.expr (node_parts here.node) part
-            (subst (In m) (sym own) (inl refl))) in
+            let size = in_second m (declared_sizes here.node) (flat_map own_sizes (node_parts
+            here.node)) (to_pieces own_sizes m o.expr (node_parts here.node) part (rw own (inl
+            refl))) in
             by (static_count P here m)
             (all_in (is_between P here 1 4096) (node_sizes here.node) m
             (and_first _ _ (valued P accepted here i).in_range) size)

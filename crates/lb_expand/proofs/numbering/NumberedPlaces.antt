@@ -1,18 +1,18 @@
 -- The layout of an accepted program by numbers: places, elements and widths.
 use Rattle.lb_expand.proofs.Words
-use Words.{◌≡◌, ℕ, Bool, Option, Some, None, List, [], ◌∷◌, length, refl, ap, ap₂, range_with_len}
-use Words.{Every, In, listed, Name, variables, width, Program, Instance, Path, instances}
-use Words.{static_refusal, Base, On, found_from, numbers_from, program_elements, WholeClock}
-use Words.{serving, runs_on, whole_clock, FlatClock, where_signed, flat_clock, numbered_clock}
-use Words.{signs_of, layout, clock_reads, ◌<◌, ◌≤◌, ◌++◌, flat_map, get_or, ◌∙◌, arith, slice_get}
-use Words.{Kind, Declaration, declared_clock, element_kinds, property_path, Every-at, Every-from}
-use Words.{instantiation_kept, kinds_at_numbers, element_values, values_at_numbers, in_instances}
-use Words.{property_places, before_instances, expanded, inl, inr, suc, ◌+◌, true, false, cond, sym}
-use Words.{subst, find, bytes_eq, length-range_with_len, bytes_eq-Decides, slice_get_within}
-use Words.{same_Some, mapped_from, are_distinct, variable_names, named, found_passes, Element}
-use Words.{elements, elements_named, number_of, find_in, variables_distinct, length_elements}
-use Words.{length-map, Expr, DataType, occurrences, Stream, Inputs, History, data_types, State}
-use Words.{emit, column, history_of, Always_whole, Where_whole, numbers_below}
+use Words.{◌≡◌, ℕ, Bool, Option, Some, None, List, [], ◌∷◌, length, refl, ap, range_with_len, Every}
+use Words.{In, listed, Name, variables, width, Program, Instance, Path, instances, static_refusal}
+use Words.{Base, On, found_from, numbers_from, program_elements, WholeClock, serving, runs_on}
+use Words.{whole_clock, FlatClock, where_signed, flat_clock, numbered_clock, signs_of, layout}
+use Words.{clock_reads, ◌<◌, ◌≤◌, ◌++◌, get_or, ◌∙◌, arith, slice_get, Kind, Declaration}
+use Words.{declared_clock, element_kinds, property_path, Every-at, Every-from, instantiation_kept}
+use Words.{kinds_at_numbers, element_values, values_at_numbers, in_instances, property_places}
+use Words.{before_instances, expanded, inl, inr, suc, ◌+◌, true, false, cond, sym, find, bytes_eq}
+use Words.{length-range_with_len, bytes_eq-Decides, slice_get_within, same_Some, mapped_from}
+use Words.{are_distinct, variable_names, named, found_passes, Element, elements, elements_named}
+use Words.{number_of, find_in, variables_distinct, length_elements, length-map, Expr, DataType}
+use Words.{occurrences, Stream, Inputs, History, data_types, State, emit, column, history_of}
+use Words.{Always_whole, Where_whole, numbers_below}
 use Rattle.lb_check.specs.{Clocks.Clock, Elements.numbers_of}
 use Rattle.lb_check.proofs.programs.AcceptedElements.{numbers_walk, numbers_width, same_declaration}
 use Rattle.lb_check.proofs.programs.Numbers.{found_at, range_get, numbers_some}
@@ -55,8 +55,7 @@ module _ (P : Program) where
       flat_clock (layout P) here.path k
       ≡ numbered_clock P (whole_clock P here.path (runs_on P here.path) k)
   flat_is here i Base = refl
-  flat_is here i (On k x sign) =
-      ap₂ (λ c is. where_signed c sign is) (flat_is here i k) (signs_are here i x)
+  flat_is here i (On k x sign) = cc (flat_is here i k, signs_are here i x)
 
 -- ## Elements of accepted programs
 
@@ -188,9 +187,7 @@ module _ (P : Program) (accepted : static_refusal P ≡ None) where
       let wide = Every-first _ outputs locals
       (Every-second _ p.here.node.inputs (outputs ++ locals)
       (places_width P accepted p.here is_in)) in
-      ap (λ o. length (listed (λ (here : Instance).
-      flat_map (λ d. numbers_of P here.path d.name) here.node.outputs) o)) p.stands
-      ∙ output_width P p.here outputs (λ d. numbers_of P p.here.path d.name) p.is_truth wide
+      cc (output_width P p.here outputs (λ d. numbers_of P p.here.path d.name) p.is_truth wide)
 
   -- the elements of variables are the first ones, and the property has one
   pub is_in_order : IsInOrder (layout P) P (length (program_elements P))
@@ -319,8 +316,7 @@ module _ (P : Program) (accepted : static_refusal P ≡ None) where
           let same = same_declaration (variables c.node) b d distinct is_in i name in
           let named_so : elements_named P c d.name ≡ elements P c d =
           ap (listed (elements P c)) e ∙ ap (elements P c) same in
-          subst (Pairs (λ i y. slice_get (program_elements P) i ≡ Some y)
-          (numbers_of P c.path d.name)) named_so (elements_numbered c j d.name)
+          rw (← named_so) (elements_numbered c j d.name)
 
 -- In the layout by numbers, the variables and the expressions of an accepted program are as wide as
 -- their types, in the history of any streams.

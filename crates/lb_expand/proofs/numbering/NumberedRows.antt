@@ -10,7 +10,7 @@ use Words.{are_distinct, variable_names, IsReached, source_names, IsResolved, no
 use Words.{declaration_of, is_variable, Reached, ResolvedNode, VariableId, Specialization, Table}
 use Words.{in_at, instance_elements, found_from, numbers_from, elements, name_in, Every-at}
 use Words.{get_name, values_at, declared_is, variables_distinct, same_path, same_instance}
-use Words.{instances_apart, get_mapped, sum_of, declared_width, widths_of, widths_in, first_of_row}
+use Words.{instances_apart, get_mapped, sum_of, declared_width, widths_in, first_of_row}
 use Words.{row_numbers, flat_map-append, append-nil, length-map, take_more, slice_get_within}
 use Words.{Every-from, variables_before, element_total, count_at, ℤ, ◌<◌, ◌≤◌, Declared, AreApart}
 use Words.{length_elements}
@@ -157,12 +157,8 @@ module _ (P : Program) (r : Reached) (t : Table) (reached : IsReached P r)
       widths_in r t i ≡ map (width P here) (variables here.node)
   row_widths_are k i here is =
       let s = is.specialization in
-      ap (listed (widths_of r)) is.specialized
-      ∙ (ap (listed (λ (n : ResolvedNode). map (declared_width s.statics.items) n.variables.items))
-      is.resolved
-      ∙ (specialized_widths here.path s is.node
-      (table.specialized i.specialization.0 s is.specialized).0 is.resolved
-      ∙ ap (λ (c : Instance). map (width P c) (variables c.node)) (sym is.same)))
+      cc (specialized_widths here.path s is.node (table.specialized i.specialization.0 s
+      is.specialized).0 is.resolved)
 
   -- a row has as many variables as its instance, with the same names
   pub row_variables :
@@ -329,9 +325,8 @@ module _ (P : Program) (r : Reached) (t : Table) (reached : IsReached P r)
       let stands = in_at (instances P) k here s.1.instance_is in
       let some = Every-from (λ d. 0 < width P here d) (variables here.node)
       (λ d on. width_positive P accepted here stands d on) in
-      subst (λ ws. length ws ≤ sum_of ws)
-      (sym (row_widths_are P r t reached table k i here s.1))
-      (some_wide (width P here) (variables here.node) some)
+      rw (row_widths_are P r t reached table k i here s.1) (some_wide (width P here) (variables
+      here.node) some)
 
   -- there are no more variables before a row than elements in all
   pub variables_few : (k : ℕ) → variables_before r t k ≤ element_total r t
@@ -381,5 +376,4 @@ module _ (P : Program) (r : Reached) (t : Table) (reached : IsReached P r)
         let up = before_later j d (omega (arith, le)) in
         let next = count_next (j + d) (omega (arith, le)) in
         let same : (j + d) + 1 ≡ j + suc d = omega arith in
-        subst (λ m. get_or held_variables j 0 ≤ get_or held_variables m 0) same
-        (omega (arith, up, next))
+        rw (← same) (omega (arith, up, next))

@@ -5,8 +5,8 @@ use Rattle.lb_expand.proofs.Words
 use Words.{◌≡◌, ℕ, zero, suc, ◌+◌, ◌-◌, ◌*◌, ◌/◌, ◌<◌, ◌≤◌, Some, List, [], ◌∷◌, ◌++◌, map, length}
 use Words.{take, drop, flat_map, refl, sym, ap, ap₂, ◌∙◌, subst, arith, slice_get, range_with_len}
 use Words.{mul-div_cancel_left, mul-le-mul_right, drop-append_seam, length-map, length-drop}
-use Words.{drop-append-le, ArrayIterator, Map, Red, Fill, joined, part, listed, Name, Declaration}
-use Words.{Node, heads_same, tails_same, get_first, get_later, Program, Instance, Path, Child, Site}
+use Words.{drop-append-le, ArrayIterator, Map, Red, Fill, joined, part, Name, Declaration, Node}
+use Words.{heads_same, tails_same, get_first, get_later, Program, Instance, Path, Child, Site}
 use Words.{node_named, declared_clock, accumulated, iterator_inputs, gathered, iterated, outputs_of}
 use Words.{count_of, Target, targets, copied, received, call_copies, iterator_copies, Context}
 use Words.{input_targets, part_copies, accumulator, index_copies, gathered_at, index_outputs}
@@ -172,22 +172,17 @@ module _ (Y : Layout) where
         (i q : ℕ) (d : Declaration) → slice_get callee.outputs q ≡ Some d →
         ctx.child c i (own.parameters.inputs + q) ≡ Y.places (at i) d.name
     output_is i q d e =
-        ap (λ n. ctx.child c i (n + q)) own.inputs
-        ∙ own.child i (length callee.inputs + q) d
-        (get_later callee.inputs (callee.outputs ++ callee.locals) q
-        ∙ get_first callee.outputs callee.locals q d e)
+        cc (own.child i (length callee.inputs + q) d (get_later callee.inputs (callee.outputs ++
+        callee.locals) q ∙ get_first callee.outputs callee.locals q d e))
 
     inputs_are :
         0 < count_of P here site →
         flat_map (input_targets ctx c 0) (range_with_len 0 own.parameters.inputs)
         ≡ inputs_at callee (at 0) callee.inputs
     inputs_are within =
-        ap (λ n. flat_map (input_targets ctx c 0) (range_with_len 0 n)) own.inputs
-        ∙ by_number (input_targets ctx c 0)
-        (λ (d : Declaration). targets Y callee (at 0) d.name) 0 callee.inputs
-        (λ q d e.
-        let start : 0 + q ≡ q = omega arith in
-        ap (input_targets ctx c 0) start ∙ input_is 0 within q d e)
+        cc (by_number (input_targets ctx c 0) (λ (d : Declaration). targets Y callee (at 0) d.name)
+        0 callee.inputs (λ q d e. let start : 0 + q ≡ q = omega arith in ap (input_targets ctx c 0)
+        start ∙ input_is 0 within q d e))
 
     -- ## Calls
 
@@ -198,22 +193,15 @@ module _ (Y : Layout) where
         terms.call_copies ctx c (ctx.callee c) (joined iss)
         ≡ call_copies Y (at 0) (node_named P site.callee) iss
     call_received iss within e =
-        ap (λ o. terms.call_copies ctx c o (joined iss)) own.found
-        ∙ ap (λ (ts : List Target). copied ts (joined iss)) (inputs_are within)
-        ∙ received_joined callee (at 0) callee.inputs iss e
-        ∙ ap (λ o. call_copies Y (at 0) o iss) (sym own.named)
+        cc (inputs_are within, received_joined callee (at 0) callee.inputs iss e)
 
     -- the outputs that the instance of a call gives
     pub call_given :
         terms.call_outputs ctx c (ctx.callee c)
         ≡ flat_map (λ o. Y.places (at 0) o.name) (outputs_of P here site.callee)
     call_given =
-        ap (terms.call_outputs ctx c) own.found
-        ∙ ap (λ n. flat_map (ctx.child c 0) (range_with_len own.parameters.inputs n)) own.outputs
-        ∙ by_number (ctx.child c 0) (λ (d : Declaration). Y.places (at 0) d.name)
-        own.parameters.inputs callee.outputs (output_is 0)
-        ∙ ap (λ o. flat_map (λ (d : Declaration). Y.places (at 0) d.name)
-        (listed (λ n. n.outputs) o)) (sym own.named)
+        cc (by_number (ctx.child c 0) (λ (d : Declaration). Y.places (at 0) d.name)
+        own.parameters.inputs callee.outputs (output_is 0))
 
     -- ## Iterators
 

@@ -5,11 +5,11 @@ use Words.{option_map, refl, ap, ap₂, sym, ◌∙◌, arith, eqb-true, and_fro
 use Words.{same_Some, listed, item_at, and_first, and_second, variables, Program, Instance, Path}
 use Words.{Root, Observer, Child, instance_at, instances, static_refusal, IsTable, paths_of}
 use Words.{IsReached, node_of, counts_of, is_variable, Reached, CallId, ResolvedNode, VariableId}
-use Words.{InstanceId, Origin, Table, in_at, place_in, found_from, numbers_from, name_in, at_path}
-use Words.{found_some, child_row, row_numbers, child_numbers, ◌==◌, bytes_eq, nat_tests}
-use Words.{bytes_eq-Decides, In, either_or, Name, is_path, are_distinct, variable_names}
-use Words.{distinct_at, same_path, ◌+◌, ◌<◌, cond, ◌++◌, take, get_or, take_more, or_else, ◌&&◌}
-use Words.{nat_eq, slice_get, if◌then◌else◌, is_some, row_number, variable_place, called_row}
+use Words.{InstanceId, Origin, Table, in_at, place_in, found_from, name_in, at_path, found_some}
+use Words.{child_row, row_numbers, child_numbers, ◌==◌, bytes_eq, nat_tests, bytes_eq-Decides, In}
+use Words.{either_or, Name, is_path, are_distinct, variable_names, distinct_at, same_path, ◌+◌, ◌<◌}
+use Words.{cond, ◌++◌, take, get_or, take_more, or_else, ◌&&◌, nat_eq, slice_get, if◌then◌else◌}
+use Words.{is_some, row_number, variable_place, called_row}
 use Rattle.std.{specs.HashMap.{HashMap, get}, proofs.lemmas.Bool.eq-eqb}
 use Rattle.lb_check.{specs.Elements.numbers_of, proofs.programs.InstancePaths.is_path-same}
 use Rattle.lb_expand.specs.{ClockPlaces.name_number, Rows.{is_called, place_where, same_call}}
@@ -239,19 +239,15 @@ module _ (P : Program) (r : Reached) (t : Table) (table : IsTable P r t) where
       by : (o : Option ℕ) → child_row t j c i ≡ o →
           listed (λ k. row_numbers r t k x) o
           ≡ numbers_of P (Child here.path c i) (name_in m x)
-      by None e =
-          sym (ap (listed (λ (s : ℕ × Instance).
-          numbers_from P s.1 s.0 (variables s.1.node) (name_in m x)))
-          (child_none j c i own here is e))
+      by None e = cc (child_none j c i own here is e)
       by (Some k) e =
           let found = child_is j c i k own here is e in
           let there = found.there in
           let stands : instance_at P (Child here.path c i) ≡ Some there =
           ap (instance_at P) (sym found.below)
           ∙ at_path P there (in_at (instances P) k there found.stands.instance_is) in
-          row_numbers_are P r t reached table accepted k found.row_there there found.stands m many
-          (node there stands) x within
-          ∙ ap (λ p. numbers_of P p (name_in m x)) found.below
+          cc (row_numbers_are P r t reached table accepted k found.row_there there found.stands m
+          many (node there stands) x within)
 
 -- The number of the row at a path, and the number of a variable in its instance.
 
@@ -292,9 +288,7 @@ pub variable_place_is :
     are_distinct (variable_names here.node) ≡ true → (y : ℕ) (x : Name) →
     slice_get (variable_names here.node) y ≡ Some x → variable_place P here.path x ≡ y
 variable_place_is P here stands apart y x at =
-    ap (λ o. name_number (listed (λ (c : Instance). variable_names c.node) o) x)
-    (at_path P here stands)
-    ∙ name_number_is (variable_names here.node) apart y x at
+    cc (at_path P here stands, name_number_is (variable_names here.node) apart y x at)
 
 -- The map of rows by their calls keeps, for each call, the first row with its origin.
 
@@ -399,8 +393,7 @@ module _ {S : Type 0} where
       pub again_passed :
           is_some (get same_call m (caller.0, call.0, index)) ≡ true →
           HasCalls m (take (k + 1) rows)
-      again_passed there j c i =
-          by (is_called j c i own.origin) refl ∙ sym (next_row j c i)
+      again_passed there j c i = cc (by (is_called j c i own.origin) refl, next_row j c i)
         where
           by : (b : Bool) → is_called j c i own.origin ≡ b →
               called_row m j c i ≡ or_else (called_row m j c i) (if b then Some k else None)

@@ -170,8 +170,7 @@ module _ (P : Program) (r : Reached) (t : Table) (table : IsTable P r t) where
   as_many_pairs [] [] long = refl
   as_many_pairs [] (i ∷ rows) long = absurd (omega (arith, long))
   as_many_pairs (p ∷ ps) [] long = absurd (omega (arith, long))
-  as_many_pairs (p ∷ ps) (i ∷ rows) long =
-      ap suc (as_many_pairs ps rows (omega (arith, long)))
+  as_many_pairs (p ∷ ps) (i ∷ rows) long = cc (as_many_pairs ps rows (omega (arith, long)))
 
   paths_many : length (paths_of t) ≡ length t.instances.items
   paths_many = let more = paths_length [] t.instances.items in omega (arith, more)
@@ -179,8 +178,7 @@ module _ (P : Program) (r : Reached) (t : Table) (table : IsTable P r t) where
   -- there are as many rows as instances
   pub rows_many : length t.instances.items ≡ length (instances P)
   rows_many =
-      sym (as_many_pairs (paths_of t) t.instances.items paths_many)
-      ∙ (ap length table.instances ∙ length-map (instances P) Some)
+      cc (as_many_pairs (paths_of t) t.instances.items paths_many, length-map (instances P) Some)
 
   -- the instance that a specialization makes at path `p`, with its node
   record IsMade (p : Path) (s : Specialization) (here : Instance) : Type 0 where
@@ -261,8 +259,7 @@ module _ (P : Program) (r : Reached) (t : Table) (table : IsTable P r t) where
       places (c ∷ is) (suc j) zero here apart e f =
           let same : c ≡ here = same_Some c here f in
           absurd (apart.0 (subst (λ z. In z is) (sym same) (in_at is j here e)))
-      places (c ∷ is) (suc j) (suc k) here apart e f =
-          ap suc (places is j k here apart.1 e f)
+      places (c ∷ is) (suc j) (suc k) here apart e f = cc (places is j k here apart.1 e f)
 
 -- The kinds that are found row by row are the kinds of the elements of the program.
 
@@ -293,9 +290,7 @@ pub copy_added :
     after ≡ before ++ replicate n x → more ≡ after ++ x ∷ [] →
     more ≡ before ++ replicate (n + 1) x
 copy_added x n before after more h e =
-    e ∙ (ap (λ l. l ++ x ∷ []) h
-    ∙ (append_assoc before (replicate n x) (x ∷ [])
-    ∙ ap (λ l. before ++ l) (last n ∙ ap (λ m. replicate m x) next)))
+    cc (append_assoc before (replicate n x) (x ∷ []), last n, next)
   where
     next : suc n ≡ n + 1
     next = omega arith

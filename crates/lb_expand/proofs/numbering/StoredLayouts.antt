@@ -120,8 +120,7 @@ module _ {A : Type 0} (f : A → ℕ) where
       let total = sum_append ws (f x ∷ []) in
       let last_one = sum_one (f x) in
       let end : more ≡ (last + sum_of ws) + f x = omega (arith, sum, next_is, exact) in
-      subst (λ l. AreAdded l last before longer more) (sym split)
-      (record {
+      rw split (record {
         starts = pushed
             ∙ (ap (λ l. l ++ more ∷ []) h.starts
             ∙ (append_assoc before (sums_after last ws) (more ∷ [])
@@ -252,8 +251,7 @@ module _ {A : Type 0} (f : A → List ℕ) where
       let same : y ≡ x = cc in
       let start : 0 + n ≡ n = omega arith in
       let long : n ≤ length (f y) = subst (λ z. n ≤ length (f z)) (sym same) le in
-      ap (λ m. take m (f y ++ flat_map f xs)) start
-      ∙ (take_first (f y) (flat_map f xs) n long ∙ ap (λ z. take n (f z)) same)
+      cc (take_first (f y) (flat_map f xs) n long)
   take_pieces (y ∷ xs) (suc j) x e n le =
       let rest = flat_map f (take j xs) in
       let start : length (f y ++ rest) + n ≡ length (f y) + (length rest + n) =

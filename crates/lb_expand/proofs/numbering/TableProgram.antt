@@ -246,8 +246,7 @@ module _ (P : Program) (accepted : static_refusal P ≡ None) (checked : check_r
           subst (λ (c : Instance). are_distinct (variable_names c.node) ≡ true) is.same
           (Every-at (λ (c : Instance). are_distinct (variable_names c.node) ≡ true) (instances P)
           here (variables_distinct P accepted) (in_at (instances P) k here is.instance_is)) in
-          serves_by_number (source_names P) is.node own distinct x d (own_at x d e)
-          ∙ ap (λ (m : Node). among d.name (clock_names m)) (sym node_is)
+          cc (serves_by_number (source_names P) is.node own distinct x d (own_at x d e), node_is)
 
     -- what is emitted from the rows is the flat program of all instances
     pub program_is :

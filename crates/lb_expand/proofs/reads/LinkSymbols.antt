@@ -1,33 +1,29 @@
 -- The elements that iterated nodes and iterated symbols give, one by one.
 use Rattle.lb_expand.proofs.Words
-use Words.{◌≡◌, inl, inr, ℕ, zero, suc, ◌+◌, ◌-◌, ◌<◌, ◌≤◌, true, ◌⊎◌, Some, List, [], ◌∷◌, ◌++◌}
-use Words.{map, length, flat_map, refl, sym, ap, ◌∙◌, subst, arith, range_with_len, BinaryOperator}
-use Words.{ArrayIterator, Map, Red, Fill, Every, zip2, joined, tail_of, all_some, Name, Declaration}
-use Words.{DataType, int, truth, array_of, is_arithmetic, is_logical, red_types, symbol_types}
-use Words.{Element, gathered, last_of, iterated, truly, FlatClock, FlatEquation, ApplyBinary}
-use Words.{clock_reads, where_signed, State, Emitted, keep, joins, emit_symbol}
-use Rattle.{lb_check.specs.Needs.symbol_needs, lb_expand.proofs.lists.Lists.SomeOf}
+use Words.{◌≡◌, inl, inr, ℕ, ◌-◌, ◌<◌, true, ◌⊎◌, Some, List, [], ◌∷◌, ◌++◌, length, flat_map, refl}
+use Words.{sym, ap, ◌∙◌, subst, arith, range_with_len, BinaryOperator, ArrayIterator, Map, Red}
+use Words.{Fill, zip2, joined, tail_of, Name, Declaration, DataType, int, truth, is_arithmetic}
+use Words.{is_logical, symbol_types, Element, gathered, last_of, iterated, FlatClock, FlatEquation}
+use Words.{ApplyBinary, clock_reads, where_signed, State, Emitted, keep, joins, emit_symbol}
+use Rattle.{lb_flat.proofs.lists.Lists.Every-of_range, lb_check.specs.Needs.symbol_needs}
+use Rattle.lb_expand.proofs.lists.Lists.{SomeOf}
 use Rattle.lb_expand.proofs.reads.LinkWords.{Pairs, pairs-append, pairs-pieces, AllMeet, AreLinks}
 use Rattle.lb_expand.proofs.reads.LinkWords.{added, each_two, all_links, two_links, step}
-use Rattle.lb_expand.proofs.{reads.LinkWords.chained_gives, widths.TypeFacts.{elements_in, bound}}
-use Rattle.lb_expand.proofs.widths.TypeFacts.{symbolic}
+use Rattle.lb_expand.proofs.reads.LinkWords.{chained_gives}
+use Rattle.lb_expand.proofs.widths.TypeFacts.{elements_in, symbolic}
 
 -- ## What iterated nodes give
 
 module _ {A B : Type 0} (R : A → B → Type 0) (f : ℕ → Name → List A) (g : ℕ → Name → List B)
     (n : ℕ) (same : (i : ℕ) → i < n → (x : Name) → Pairs R (f i x) (g i x)) where
-  each_range : (a m : ℕ) (x : Name) → a + m ≤ n →
-      Every (λ i. Pairs R (f i x) (g i x)) (range_with_len a m)
-  each_range a zero x le = tt
-  each_range a (suc m) x le = (same a (omega arith) x, each_range (a + 1) m x (omega arith))
-
   gathered_pairs : (outs : List Declaration) → Pairs R (gathered f n outs) (gathered g n outs)
   gathered_pairs [] = tt
   gathered_pairs (o ∷ outs) =
       pairs-append R (flat_map (λ i. f i o.name) (range_with_len 0 n))
       (flat_map (λ i. g i o.name) (range_with_len 0 n)) (gathered f n outs) (gathered g n outs)
       (pairs-pieces R (λ i. f i o.name) (λ i. g i o.name) (range_with_len 0 n)
-      (each_range 0 n o.name (omega arith)))
+      (Every-of_range (λ i. Pairs R (f i o.name) (g i o.name)) 0 n
+      (λ i lt. subst (λ i. Pairs R (f i o.name) (g i o.name)) (omega arith) (same i lt o.name))))
       (gathered_pairs outs)
 
   last_pairs : 0 < n → (outs : List Declaration) → Pairs R (last_of f n outs) (last_of g n outs)
@@ -70,14 +66,6 @@ symbol_out op types e =
     by u (inl (a, e)) = ap (λ (t : DataType). elements_in (t ∷ [])) e
     by u (inr (l, e)) = ap (λ (t : DataType). elements_in (t ∷ [])) e
 
-pub red_out :
-    (n : ℕ) (ins outs args ts : List DataType) → red_types n ins outs args ≡ Some ts → ts ≡ outs
-red_out n (a ∷ ins) (o ∷ []) (i ∷ args) ts e =
-    let w = bound (all_some (map (array_of n) ins)) _ ts e in
-    let h = truly _ (o ∷ []) ts w.gives in
-    sym h.same
-red_out n _ _ _ ts e = absurd cc
-
 -- ## Clocks
 
 pub signed_wider :
@@ -112,16 +100,6 @@ module _ (IsAt : Element → ℕ → Type 0) (Under : ℕ → ℕ → Type 0) (L
       0 < length (emit_symbol k op s Red found).found →
       AllMeet IsAt Under Left (emit_symbol k op s Red found).state.equations →
       AreLinks IsAt Under Left k (emit_symbol k op s Red found).found (symbol_needs Red ysss)
-  red_linked k op s [] ysss l lt h = absurd (omega (arith, lt))
-  red_linked k op s ([] ∷ found) ysss l lt h = absurd (omega (arith, lt))
-  red_linked k op s ((i ∷ (j ∷ is)) ∷ found) ysss l lt h = absurd (omega (arith, lt))
-  red_linked k op s ((i ∷ []) ∷ []) ysss l lt h = absurd (omega (arith, lt))
-  red_linked k op s ((i ∷ []) ∷ (x ∷ (y ∷ found))) ysss l lt h = absurd (omega (arith, lt))
-  red_linked k op s ((i ∷ []) ∷ (x ∷ [])) [] l lt h = absurd l
-  red_linked k op s ((i ∷ []) ∷ (x ∷ [])) ([] ∷ ysss) l lt h = absurd l.0
-  red_linked k op s ((i ∷ []) ∷ (x ∷ [])) ((y ∷ (z ∷ ys)) ∷ ysss) l lt h = absurd l.0.1
-  red_linked k op s ((i ∷ []) ∷ (x ∷ [])) ((y ∷ []) ∷ []) l lt h = absurd l.1
-  red_linked k op s ((i ∷ []) ∷ (x ∷ [])) ((y ∷ []) ∷ (zs ∷ (ws ∷ ysss))) l lt h = absurd l.1.1
   red_linked k op s ((i ∷ []) ∷ (x ∷ [])) ((y ∷ []) ∷ (zs ∷ [])) l lt h =
       let g = chained_gives IsAt Under Left k op s i x h in
       let first = all_links IsAt Under Left k (i ∷ []) (y ∷ []) l.0 in
@@ -132,3 +110,5 @@ module _ (IsAt : Element → ℕ → Type 0) (Under : ℕ → ℕ → Type 0) (L
             (two_links IsAt Under Left k (i ∷ []) x (joined (y ∷ [])) (joined zs) first others),
         tt,
       )
+  red_linked k op s ((i ∷ []) ∷ (x ∷ [])) _ l lt h = search
+  red_linked k op s _ ysss l lt h = absurd (omega (arith, lt))

@@ -1,40 +1,41 @@
 -- The found elements of an expression come from the elements of the variables that it needs,
 -- element by element, or are left by what its clock reads.
 use Rattle.lb_expand.proofs.Words
-use Words.{◌≡◌, ℕ, suc, ◌+◌, ◌-◌, ◌*◌, ◌<◌, true, false, pos, Option, Some, None, List, [], ◌∷◌}
-use Words.{◌++◌, map, length, flat_map, refl, sym, ap, ◌∙◌, subst, arith, list_all, bytes_eq}
-use Words.{bytes_eq-Decides, length-map, same_Some, found_passes, Not, BinaryOperator}
-use Words.{ArrayIterator, Map, Red, Fill, ◌>>=◌, Every, In, zip2, joined, either_or, listed, Name}
-use Words.{Static, Node_named, Symbol, Expr, Literal, Truth, Variable, Group, Unary, Binary, If}
-use Words.{Arrow, Fby, Pre, Current, When, Replicate, Index, Slice, Join, Array, AtMostOne, Nor}
-use Words.{Call, Iterate, Exprs, Nil, Cons, Declaration, and_first, named, Program, Instance, Path}
-use Words.{Child, call_site, callee_of, static_count, node_named, DataType, truth, variables}
-use Words.{is_type, data_types, all_types, from_one, from_truths, common_type, array_of, index_type}
-use Words.{slice_type, join_type, operator_types, Integer, Boolean, first_value, Element, elements}
-use Words.{elements_named, itself, both, needs, all_needs, output_elements, waits_for, Occurrence}
-use Words.{at, call_count, call_clocks, occurrences, occurrences_in, History, number, part_count}
-use Words.{outputs_of, iterated, first_of_all, FlatClock, Operation, Constant, ApplyUnary}
-use Words.{ApplyBinary, FirstThen, Previous, Latest, Sample, clock_reads, reads, Layout, flat_clock}
-use Words.{State, Emitted, EmittedAll, call_copies, iterator_copies, add, keep, push, chosen_by}
+use Words.{found_name, ◌≡◌, ℕ, suc, ◌+◌, ◌-◌, ◌*◌, ◌<◌, true, false, pos, Option, Some, None, List}
+use Words.{[], ◌∷◌, ◌++◌, map, length, flat_map, refl, sym, ap, ◌∙◌, subst, arith, list_all}
+use Words.{length-map, same_Some, Not, BinaryOperator, ArrayIterator, Map, Red, Fill, ◌>>=◌, Every}
+use Words.{In, zip2, joined, either_or, listed, Name, Static, Node_named, Symbol, Expr, Literal}
+use Words.{Truth, Variable, Group, Unary, Binary, If, Arrow, Fby, Pre, Current, When, Replicate}
+use Words.{Index, Slice, Join, Array, AtMostOne, Nor, Call, Iterate, Exprs, Nil, Cons, Declaration}
+use Words.{and_first, named, Program, Instance, Path, Child, call_site, callee_of, static_count}
+use Words.{DataType, truth, variables, is_type, data_types, all_types, from_one, from_truths}
+use Words.{common_type, array_of, index_type, slice_type, join_type, operator_types, Integer}
+use Words.{Boolean, first_value, Element, elements, elements_named, itself, both, needs, all_needs}
+use Words.{output_elements, waits_for, Occurrence, at, call_count, occurrences, occurrences_in}
+use Words.{History, number, part_count, outputs_of, iterated, first_of_all, FlatClock, Operation}
+use Words.{Constant, ApplyUnary, ApplyBinary, FirstThen, Previous, Latest, Sample, clock_reads}
+use Words.{reads, Layout, flat_clock, State, Emitted, EmittedAll, add, keep, push, chosen_by}
 use Words.{chained, negated, emit_symbol, emit_name, emit, emit_all, emit_each, On, clock_or}
 use Words.{declared_clock}
-use Rattle.{lb_check.specs.Clocks.{Clock, clock_of}, lb_flat.proofs.lists.Lists.Every-append}
-use Rattle.lb_flat.proofs.lists.Lists.{Every-take, Every-drop, Every-copies, Every-joined}
-use Rattle.lb_flat.proofs.lists.Lists.{Every-first, Every-second}
+use Rattle.lb_check.specs.Clocks.{Clock, clock_of}
+use Rattle.lb_flat.proofs.lists.Lists.{Every-append, Every-take, Every-drop, Every-copies}
+use Rattle.lb_flat.proofs.lists.Lists.{Every-joined, Every-first, Every-second}
 use Rattle.lb_expand.proofs.emission.EmissionSteps.{IsStep, Any, any_joined, symbol_step, emit_step}
 use Rattle.lb_expand.proofs.emission.EmissionSteps.{all_step, each_step}
 use Rattle.lb_expand.proofs.reads.LinkSymbols.{iterated_pairs, keep_found, keep_equations}
-use Rattle.lb_expand.proofs.reads.LinkSymbols.{joins_found, symbol_out, red_out, signed_wider}
-use Rattle.lb_expand.proofs.reads.{LinkSymbols.{map_linked, red_linked}, LinkWords.Pairs}
-use Rattle.lb_expand.proofs.reads.LinkWords.{pairs-append, pairs-take, pairs-drop, pairs-copies}
-use Rattle.lb_expand.proofs.reads.LinkWords.{pairs-joined, AllMeet, AreLinks, Link, New, Waits}
-use Rattle.lb_expand.proofs.reads.LinkWords.{Gives, step, all_links, variable_links, added}
-use Rattle.lb_expand.proofs.reads.LinkWords.{each_one, each_two, each_choice, each_first, memories}
-use Rattle.lb_expand.proofs.reads.LinkWords.{each_memory, each_constant, each_latest, each_sample}
-use Rattle.lb_expand.proofs.reads.LinkWords.{pushed, chained_gives, nor_gives, at_most_one_gives}
-use Rattle.lb_expand.proofs.{reads.LinkWords.passed, solutions.Emission.joins_equations}
-use Rattle.lb_expand.proofs.widths.{FoundWidths.{as_many, add_count}, TypeFacts.elements_in}
-use Rattle.lb_expand.proofs.widths.TypeFacts.{bound, one, two, from_true, alike, truth_is}
+use Rattle.lb_expand.proofs.reads.LinkSymbols.{joins_found, symbol_out, signed_wider}
+use Rattle.lb_expand.proofs.reads.LinkSymbols.{map_linked, red_linked}
+use Rattle.lb_expand.proofs.reads.LinkWords.{Pairs, pairs-append, pairs-take, pairs-drop}
+use Rattle.lb_expand.proofs.reads.LinkWords.{pairs-copies, pairs-joined, AllMeet, AreLinks, Link}
+use Rattle.lb_expand.proofs.reads.LinkWords.{New, Waits, Gives, step, all_links, variable_links}
+use Rattle.lb_expand.proofs.reads.LinkWords.{added, each_one, each_two, each_choice, each_first}
+use Rattle.lb_expand.proofs.reads.LinkWords.{memories, each_memory, each_constant, each_latest}
+use Rattle.lb_expand.proofs.reads.LinkWords.{each_sample, pushed, chained_gives, nor_gives}
+use Rattle.lb_expand.proofs.reads.LinkWords.{at_most_one_gives, passed}
+use Rattle.lb_expand.proofs.solutions.Emission.{joins_equations}
+use Rattle.lb_expand.proofs.widths.FoundWidths.{as_many, add_count}
+use Rattle.lb_expand.proofs.widths.TypeFacts.{elements_in, bound, one, two, from_true, alike}
+use Rattle.lb_expand.proofs.widths.TypeFacts.{truth_is, red_of}
 use Rattle.lb_expand.proofs.widths.Widths.{called, placed, AreVariablesWide, IsOccurrenceWide, wide}
 use Rattle.lb_expand.proofs.widths.Widths.{IsTypedAt}
 
@@ -152,8 +153,7 @@ module _ (Y : Layout) (P : Program) (H : History)
       AllMeet IsAt Under Left (add k s (o ∷ [])).state.equations →
       AreLinks IsAt Under Left k (add k s (o ∷ [])).found ([] ∷ [])
   constant_linked k s o e h =
-      let n = added IsAt Under Left k s (o ∷ []) h in
-      each_constant IsAt Under Left k o e _ n.new
+      each_constant IsAt Under Left k o e _ (added IsAt Under Left k s (o ∷ []) h).new
 
   pub name_linked :
       (k : Clock) (s : State) (x : Name) (o : Option Declaration) →
@@ -163,8 +163,7 @@ module _ (Y : Layout) (P : Program) (H : History)
       (either_or (o >>= λ d. Some (itself (elements P here d))) ([] ∷ []))
   name_linked k s x None e numbered h = constant_linked _ s _ refl h
   name_linked k s x (Some d) e numbered h =
-      let test = λ (d : Declaration). bytes_eq d.name x in
-      let name = (bytes_eq-Decides d.name x).0 (found_passes test (variables here.node) d e) in
+      let name = found_name x (variables here.node) d e in
       variable_links IsAt Under Left (flat k) (Y.places here.path d.name) (elements P here d)
       (subst (λ y. Pairs (λ i y. IsAt y i) (Y.places here.path y) (elements P here d)) (sym name)
       (subst (Pairs (λ i y. IsAt y i) (Y.places here.path x)) (named_elements x d e)
@@ -216,8 +215,7 @@ module _ (Y : Layout) (P : Program) (H : History)
       RunOn k (emit_name Y P here k s x o).found
   name_runs k s x None e r h = added_runs k s _ h
   name_runs k s x (Some d) e r h =
-      let test = λ (d : Declaration). bytes_eq d.name x in
-      let name = (bytes_eq-Decides d.name x).0 (found_passes test (variables here.node) d e) in
+      let name = found_name x (variables here.node) d e in
       rw name r
 
   chained_runs :
@@ -227,8 +225,7 @@ module _ (Y : Layout) (P : Program) (H : History)
   unfolding chained
   chained_runs k op s init [] h r = r
   chained_runs k op s init (y ∷ ys) h r =
-      let g = chained_gives IsAt Under Left _ op _ _ ys h in
-      let p = pushed IsAt Under Left _ s _ g.before in
+      let p = pushed IsAt Under Left _ s _ (chained_gives IsAt Under Left _ op _ _ ys h).before in
       chained_runs k op (push (flat k) s (ApplyBinary op init y)) s.next ys h (p.clock, tt)
 
   pub symbol_runs :
@@ -304,9 +301,6 @@ module _ (Y : Layout) (P : Program) (H : History)
         length (emit Y P here k n s c).found ≡ 1
     condition_one k n s c a b t =
         let m = n + call_count c in
-        let oc = occurrences P here.node k n c in
-        let others = occurrences P here.node k m a
-        ++ occurrences P here.node k (m + call_count a) b in
         let u = bound (from_truths (from_one (data_types P here c) Some)) _ t.types t.are in
         let truths = from_true (from_one (data_types P here c) Some) u.value u.is in
         let z = one (data_types P here c) Some truths.data_types truths.is in
@@ -314,7 +308,7 @@ module _ (Y : Layout) (P : Program) (H : History)
         and_first (is_type truth z.data_type) true
         (ap (λ us. list_all (is_type truth) us)
         (sym (z.all ∙ ap (λ u. u ∷ []) (sym (same_Some _ _ z.gives)))) ∙ truths.truths) in
-        counted k n s c _ z.is (Every-first (IsOccurrenceWide P H here) oc others t.parts.1)
+        counted k n s c _ z.is (Every-first (IsOccurrenceWide P H here) _ _ t.parts.1)
         ∙ (ap (λ m. m + 0) (truth_is _ condition) ∙ omega arith)
 
     -- both operands of `fby` have equally many elements
@@ -324,15 +318,14 @@ module _ (Y : Layout) (P : Program) (H : History)
         ≡ length (emit Y P here k (n + call_count a) t b).found
     sides_same k n s t a b h =
         let m = n + call_count a in
-        let oa = occurrences P here.node k n a in
-        let ob = occurrences P here.node k m b in
         let i = two (data_types P here a) (data_types P here b) common_type h.types h.are in
         let like = alike i.first i.second i.result i.gives in
         counted k n s a (i.first ∷ []) i.is_first
-        (Every-first (IsOccurrenceWide P H here) oa ob h.parts.1)
+        (Every-first (IsOccurrenceWide P H here) _ _ h.parts.1)
         ∙ (ap (λ m. m + 0) (like.first ∙ sym like.second)
-        ∙ sym (counted k m t b (i.second ∷ []) i.is_second
-        (Every-second (IsOccurrenceWide P H here) oa ob h.parts.1)))
+        ∙ sym
+        (counted k m t b (i.second ∷ []) i.is_second
+        (Every-second (IsOccurrenceWide P H here) _ _ h.parts.1)))
 
     -- a reduction by a symbol has one element
     pub red_some :
@@ -343,11 +336,52 @@ module _ (Y : Layout) (P : Program) (H : History)
         let c = bound (static_count P here m) _ t.types t.are in
         let o = bound (operator_types P here (Symbol op)) _ t.types c.gives in
         let a = bound (all_types P here es) _ t.types o.gives in
-        let out = symbol_out op o.value o.is in
-        let result = red_out c.value o.value.0 o.value.1 a.value t.types a.gives in
-        let count = counted k n s (Iterate Red (Symbol op) m es) t.types t.are t.parts in
-        let one : elements_in t.types ≡ 1 = ap elements_in result ∙ out in
-        omega (arith, count, one)
+        let r = red_of c.value o.value.0 o.value.1 a.value t.types a.gives in
+        let one = ap elements_in (r.ts_is ∙ sym r.outs_is) ∙ symbol_out op o.value o.is in
+        omega (arith, counted k n s (Iterate Red (Symbol op) m es) t.types t.are t.parts, one)
+
+    -- a call finds elements of variables, whatever the clock
+    pub call_linked :
+        (l : FlatClock) (k : Clock) (n : ℕ) (s : State) (f : Name) (statics : List Static)
+        (es : Exprs) → IsKnown (at k n (Call f statics es)) →
+        AreLinks IsAt Under Left l (emit Y P here k n s (Call f statics es)).found
+        (needs P here n (Call f statics es))
+    unfolding emit needs
+    call_linked l k n s f statics es known =
+        let t = known.typed in
+        let o = bound (operator_types P here (Node_named f statics)) _ t.types t.are in
+        let c = called P here f statics o.value o.is in
+        let there = placed P here f statics c.callee c.is in
+        let callee : Instance = record c.callee { path = Child here.path n 0 } in
+        let output = outputs_numbered f statics n 0 callee (there.at n 0) refl
+        (known.linkable callee (there.at n 0)) in
+        rw joins_found
+        (variable_links IsAt Under Left l _ _
+        (each_output f statics n output (outputs_of P here f)))
+
+    -- and so does an iterator of a node
+    pub iterator_linked :
+        (l : FlatClock) (k : Clock) (n : ℕ) (s : State) (it : ArrayIterator) (f : Name)
+        (statics : List Static) (m : Static) (es : Exprs) →
+        IsKnown (at k n (Iterate it (Node_named f statics) m es)) →
+        AreLinks IsAt Under Left l
+        (emit Y P here k n s (Iterate it (Node_named f statics) m es)).found
+        (needs P here n (Iterate it (Node_named f statics) m es))
+    unfolding emit needs
+    iterator_linked l k n s it f statics m es known =
+        let t = known.typed in
+        let size = bound (static_count P here m) _ t.types t.are in
+        let o = bound (operator_types P here (Node_named f statics)) _ t.types size.gives in
+        let c = called P here f statics o.value o.is in
+        let there = placed P here f statics c.callee c.is in
+        let callee : ℕ → Instance = λ i. record c.callee { path = Child here.path n i } in
+        rw joins_found
+        (variable_links IsAt Under Left l _ _
+        (iterated_pairs (λ i y. IsAt y i) (λ i x. Y.places (Child here.path n i) x)
+        (output_elements P here f statics n) (number P here m)
+        (λ i lt x. outputs_numbered f statics n i (callee i) (there.at n i) refl
+        (known.linkable.1 i lt (callee i) (there.at n i)) x) known.linkable.0 it
+        (outputs_of P here f)))
 
     mutual
       unfolding emit needs
@@ -368,16 +402,13 @@ module _ (Y : Layout) (P : Program) (H : History)
           (λ i. refl) (linked k n s a p.1) h
       linked k n s (Binary op a b) p h =
           let m = n + call_count a in
-          let oa = occurrences P here.node k n a in
-          let ob = occurrences P here.node k m b in
           let x = emit Y P here k n s a in
-          two_linked (flat k) x (emit Y P here k m x.state b) (needs P here n a)
-          (needs P here m b) (ApplyBinary op) (λ i j. refl) (term_before k m x.state b)
-          (linked k n s a (fore oa ob p.1)) (linked k m x.state b (aft oa ob p.1)) h
+          two_linked (flat k) x (emit Y P here k m x.state b) (needs P here n a) (needs P here m b)
+          (ApplyBinary op) (λ i j. refl) (term_before k m x.state b) (linked k n s a (fore _ _ p.1))
+          (linked k m x.state b (aft _ _ p.1)) h
       linked k n s (If c a b) p h =
           let na = n + call_count c in
           let nb = na + call_count a in
-          let oc = occurrences P here.node k n c in
           let oa = occurrences P here.node k na a in
           let ob = occurrences P here.node k nb b in
           let z = emit Y P here k n s c in
@@ -387,44 +418,38 @@ module _ (Y : Layout) (P : Program) (H : History)
           let met = term_before k nb x.state b new.before in
           each_choice IsAt Under Left (flat k) z.found _ x.found y.found (needs P here n c)
           (needs P here na a) (needs P here nb b) (condition_one k n s c a b p.0.typed) new.new
-          (linked k n s c (fore oc (oa ++ ob) p.1) (term_before k na z.state a met))
-          (linked k na z.state a (fore oa ob (aft oc (oa ++ ob) p.1)) met)
-          (linked k nb x.state b (aft oa ob (aft oc (oa ++ ob) p.1)) new.before)
+          (linked k n s c (fore _ (oa ++ ob) p.1) (term_before k na z.state a met))
+          (linked k na z.state a (fore oa ob (aft _ (oa ++ ob) p.1)) met)
+          (linked k nb x.state b (aft oa ob (aft _ (oa ++ ob) p.1)) new.before)
       linked k n s (Arrow a b) p h =
           let m = n + call_count a in
-          let oa = occurrences P here.node k n a in
-          let ob = occurrences P here.node k m b in
           let x = emit Y P here k n s a in
-          two_linked (flat k) x (emit Y P here k m x.state b) (needs P here n a)
-          (needs P here m b) (FirstThen false) (λ i j. refl) (term_before k m x.state b)
-          (linked k n s a (fore oa ob p.1)) (linked k m x.state b (aft oa ob p.1)) h
+          two_linked (flat k) x (emit Y P here k m x.state b) (needs P here n a) (needs P here m b)
+          (FirstThen false) (λ i j. refl) (term_before k m x.state b)
+          (linked k n s a (fore _ _ p.1)) (linked k m x.state b (aft _ _ p.1)) h
       linked k n s (Fby a b) p h =
-          let m = n + call_count a in
-          let oa = occurrences P here.node k n a in
-          let ob = occurrences P here.node k m b in
           let x = emit Y P here k n s a in
-          let y = emit Y P here k m x.state b in
-          let before = map (Previous first_value) (keep y).found in
-          let z = add (flat k) (keep y).state before in
+          let before = map (Previous first_value) (keep _).found in
+          let z = add (flat k) (keep _).state before in
           let new = added IsAt Under Left (flat k) z.state (zip2 (FirstThen false) x.found z.found)
           h in
-          let memory = added IsAt Under Left (flat k) (keep y).state before new.before in
-          let met = term_before k m x.state b (earlier.keeps y memory.before) in
+          let memory = added IsAt Under Left (flat k) (keep _).state before new.before in
+          let met = term_before k (n + call_count a) x.state b (earlier.keeps _ memory.before) in
           let many : length x.found ≡ length z.found =
           sides_same k n s x.state a b p.0.typed
-          ∙ sym (add_count (flat k) (keep y).state before
-          ∙ (length-map (keep y).found (Previous first_value) ∙ ap length (keep_found y))) in
+          ∙ sym
+          (add_count (flat k) (keep _).state before
+          ∙ (length-map (keep _).found (Previous first_value) ∙ ap length (keep_found _))) in
           each_first IsAt Under Left (flat k) (FirstThen false) (λ i j. refl) _ x.found z.found
-          (needs P here n a) many new.new (linked k n s a (fore oa ob p.1) met)
+          (needs P here n a) many new.new (linked k n s a (fore _ _ p.1) met)
           (memories IsAt Under Left (flat k) (Previous first_value) (λ i. refl) z.found
-          (keep y).found memory.new)
+          (keep _).found memory.new)
       linked k n s (Pre a) p h =
-          let x = emit Y P here k n s a in
-          let new = added IsAt Under Left (flat k) (keep x).state
-          (map (Previous first_value) (keep x).found) h in
+          let new = added IsAt Under Left (flat k) (keep _).state
+          (map (Previous first_value) (keep _).found) h in
           each_memory IsAt Under Left (flat k) (Previous first_value) (λ i. refl) (flat k) _
-          (keep x).found (needs P here n a) new.new
-          (keep_linked x (flat k) _ (linked k n s a p.1 (earlier.keeps x new.before)))
+          (keep _).found (needs P here n a) new.new
+          (keep_linked _ (flat k) _ (linked k n s a p.1 (earlier.keeps _ new.before)))
       linked k n s (When a y sign) p h =
           let own = declared_clock here.node y in
           let x = emit Y P here own n s a in
@@ -434,17 +459,15 @@ module _ (Y : Layout) (P : Program) (H : History)
           (signed_wider Left (flat own) sign (Y.signs here.path y)) _ x.found (needs P here n a)
           new.new (linked own n s a p.1 new.before)
       linked k n s (Current a) p h =
-          let own = clock_or (clock_of P here.node a) in
-          let x = emit Y P here own n s a in
-          let new = added IsAt Under Left (flat k) (keep x).state
-          (map (Latest first_value) (keep x).found) h in
-          let kept = earlier.keeps x new.before in
+          let new = added IsAt Under Left (flat k) (keep _).state
+          (map (Latest first_value) (keep _).found) h in
+          let kept = earlier.keeps _ new.before in
           let i = one (data_types P here a) Some p.0.typed.types p.0.typed.are in
-          let run = runs own n s a i.data_type i.is p.1 kept in
-          each_latest IsAt Under Left (flat k) (Latest first_value) (λ i. refl) (flat own)
-          (waits_for P here own) (awaited k own p.0.linkable) _ (keep x).found (needs P here n a)
-          new.new (keep_linked x (flat own) _ (linked own n s a p.1 kept))
-          (subst (RunOn own) (sym (keep_found x)) run)
+          let run = runs _ n s a i.data_type i.is p.1 kept in
+          each_latest IsAt Under Left (flat k) (Latest first_value) (λ i. refl) (flat _)
+          (waits_for P here _) (awaited k _ p.0.linkable) _ (keep _).found (needs P here n a)
+          new.new (keep_linked _ (flat _) _ (linked _ n s a p.1 kept))
+          (subst (RunOn _) (sym (keep_found _)) run)
       linked k n s (Replicate a m) p h =
           pairs-copies (Link IsAt Under Left (flat k)) (number P here m) _ _ (linked k n s a p.1 h)
       linked k n s (Index a i) p h =
@@ -458,12 +481,10 @@ module _ (Y : Layout) (P : Program) (H : History)
           (linked k n s a p.1 h))
       linked k n s (Join a b) p h =
           let m = n + call_count a in
-          let oa = occurrences P here.node k n a in
-          let ob = occurrences P here.node k m b in
           let x = emit Y P here k n s a in
           pairs-append (Link IsAt Under Left (flat k)) _ _ _ _
-          (linked k n s a (fore oa ob p.1) (term_before k m x.state b h))
-          (linked k m x.state b (aft oa ob p.1) h)
+          (linked k n s a (fore _ _ p.1) (term_before k m x.state b h))
+          (linked k m x.state b (aft _ _ p.1) h)
       linked k n s (Array es) p h =
           pairs-joined (Link IsAt Under Left (flat k)) _ _ (all_linked k n s es p.1 h)
       linked k n s (AtMostOne es) p h =
@@ -474,43 +495,9 @@ module _ (Y : Layout) (P : Program) (H : History)
           let x = emit_all Y P here k n s es in
           let g = nor_gives IsAt Under Left (flat k) x.state (joined x.found) h in
           gathered_linked (flat k) x _ (all_needs P here n es) (all_linked k n s es p.1) g
-      linked k n s (Call f statics es) p h =
-          let t = p.0.typed in
-          let o = bound (operator_types P here (Node_named f statics)) _ t.types t.are in
-          let c = called P here f statics o.value o.is in
-          let there = placed P here f statics c.callee c.is in
-          let ks = call_clocks k (node_named P f) es in
-          let r = emit_each Y P here ks (n + 1) s es in
-          let callee : Instance = record c.callee { path = Child here.path n 0 } in
-          let output = outputs_numbered f statics n 0 callee (there.at n 0) refl
-          (p.0.linkable callee (there.at n 0)) in
-          let outs = outputs_of P here f in
-          let copies = call_copies Y (Child here.path n 0) (node_named P f) r.found in
-          let is = flat_map (λ o. Y.places (Child here.path n 0) o.name) outs in
-          let ys = flat_map (λ o. output_elements P here f statics n 0 o.name) outs in
-          subst (λ js. AreLinks IsAt Under Left (flat k) js (itself ys))
-          (sym (joins_found r.state copies is))
-          (variable_links IsAt Under Left (flat k) is ys (each_output f statics n output outs))
+      linked k n s (Call f statics es) p h = call_linked (flat k) k n s f statics es p.0
       linked k n s (Iterate it (Node_named f statics) m es) p h =
-          let t = p.0.typed in
-          let size = bound (static_count P here m) _ t.types t.are in
-          let o = bound (operator_types P here (Node_named f statics)) _ t.types size.gives in
-          let c = called P here f statics o.value o.is in
-          let there = placed P here f statics c.callee c.is in
-          let r = emit_all Y P here k (n + 1) s es in
-          let outs = outputs_of P here f in
-          let count = number P here m in
-          let copies = iterator_copies Y here.path n it count (node_named P f) r.found in
-          let is = iterated (λ i x. Y.places (Child here.path n i) x) count it outs in
-          let ys = iterated (output_elements P here f statics n) count it outs in
-          let callee : ℕ → Instance = λ i. record c.callee { path = Child here.path n i } in
-          subst (λ js. AreLinks IsAt Under Left (flat k) js (itself ys))
-          (sym (joins_found r.state copies is))
-          (variable_links IsAt Under Left (flat k) is ys
-          (iterated_pairs (λ i y. IsAt y i) (λ i x. Y.places (Child here.path n i) x)
-          (output_elements P here f statics n) count
-          (λ i lt x. outputs_numbered f statics n i (callee i) (there.at n i) refl
-          (p.0.linkable.1 i lt (callee i) (there.at n i)) x) p.0.linkable.0 it outs))
+          iterator_linked (flat k) k n s it f statics m es p.0
       linked k n s (Iterate Map (Symbol op) m es) p h =
           let r = emit_all Y P here k n s es in
           let met = symbol_step Earlier earlier.adding (flat k) op r.state Map r.found h in
@@ -531,11 +518,9 @@ module _ (Y : Layout) (P : Program) (H : History)
       all_linked k n s Nil p h = tt
       all_linked k n s (Cons e es) p h =
           let m = n + call_count e in
-          let oa = occurrences P here.node k n e in
-          let ob = occurrences_in P here.node k m es in
           let x = emit Y P here k n s e in (
-            linked k n s e (fore oa ob p) (all_before k m x.state es h),
-            all_linked k m x.state es (aft oa ob p) h,
+            linked k n s e (fore _ _ p) (all_before k m x.state es h),
+            all_linked k m x.state es (aft _ _ p) h,
           )
 
       -- the found elements run on the clock of the expression, where it has one result
@@ -563,8 +548,7 @@ module _ (Y : Layout) (P : Program) (H : History)
           added_runs k (emit Y P here k (n + call_count a) x.state b).state _ h
       runs k n s (Fby a b) t is p h =
           let y = keep (emit Y P here k (n + call_count a) (emit Y P here k n s a).state b) in
-          let z = add (flat k) y.state (map (Previous first_value) y.found) in
-          added_runs k z.state _ h
+          added_runs k (add (flat k) y.state (map (Previous first_value) y.found)).state _ h
       runs k n s (Pre a) t is p h = added_runs k (keep (emit Y P here k n s a)).state _ h
       runs k n s (When a y sign) t is p h =
           let own = declared_clock here.node y in
@@ -593,33 +577,19 @@ module _ (Y : Layout) (P : Program) (H : History)
           (emit Y P here k n s a).found (runs k n s a i.data_type i.is p.1 h))
       runs k n s (Join a b) t is p h =
           let m = n + call_count a in
-          let oa = occurrences P here.node k n a in
-          let ob = occurrences P here.node k m b in
           let x = emit Y P here k n s a in
           let i = two (data_types P here a) (data_types P here b) join_type (t ∷ []) is in
           Every-append (IsRunAt k) x.found (emit Y P here k m x.state b).found
-          (runs k n s a i.first i.is_first (fore oa ob p.1) (term_before k m x.state b h))
-          (runs k m x.state b i.second i.is_second (aft oa ob p.1) h)
+          (runs k n s a i.first i.is_first (fore _ _ p.1) (term_before k m x.state b h))
+          (runs k m x.state b i.second i.is_second (aft _ _ p.1) h)
       runs k n s (Array es) t is p h =
           let b = bound (all_types P here es) _ (t ∷ []) is in
           Every-joined (IsRunAt k) (emit_all Y P here k n s es).found
           (all_runs k n s es b.value b.is p.1 h)
       runs k n s (AtMostOne es) t is p h = negated_runs k _ h
       runs k n s (Nor es) t is p h = negated_runs k _ h
-      runs k n s (Call f statics es) t is p h =
-          let q = emit_each Y P here (call_clocks k (node_named P f) es) (n + 1) s es in
-          subst (RunOn k)
-          (sym (joins_found q.state (call_copies Y (Child here.path n 0) (node_named P f) q.found)
-          (flat_map (λ o. Y.places (Child here.path n 0) o.name) (outputs_of P here f))))
-          (p.0.running t is)
-      runs k n s (Iterate it (Node_named f statics) m es) t is p h =
-          let q = emit_all Y P here k (n + 1) s es in
-          let count = number P here m in
-          subst (RunOn k)
-          (sym (joins_found q.state
-          (iterator_copies Y here.path n it count (node_named P f) q.found)
-          (iterated (λ i x. Y.places (Child here.path n i) x) count it (outputs_of P here f))))
-          p.0.running
+      runs k n s (Call f statics es) t is p h = rw joins_found (p.0.running t is)
+      runs k n s (Iterate it (Node_named f statics) m es) t is p h = rw joins_found p.0.running
       runs k n s (Iterate Map (Symbol op) m es) t is p h =
           let c = bound (static_count P here m) _ (t ∷ []) is in
           let o = bound (operator_types P here (Symbol op)) _ (t ∷ []) c.gives in
@@ -644,10 +614,8 @@ module _ (Y : Layout) (P : Program) (H : History)
       all_runs k n s Nil ts is p h = tt
       all_runs k n s (Cons e es) ts is p h =
           let m = n + call_count e in
-          let oa = occurrences P here.node k n e in
-          let ob = occurrences_in P here.node k m es in
           let x = emit Y P here k n s e in
           let f = first_of_all P here e es ts is in (
-            runs k n s e f.first f.is (fore oa ob p) (all_before k m x.state es h),
-            all_runs k m x.state es f.rest f.others (aft oa ob p) h,
+            runs k n s e f.first f.is (fore _ _ p) (all_before k m x.state es h),
+            all_runs k m x.state es f.rest f.others (aft _ _ p) h,
           )

@@ -6,10 +6,10 @@ use Words.{flat_map, refl, sym, ap, subst, arith, Not, BinaryOperator, Or, And, 
 use Words.{copies, joined, Boolean, Element, both, itself, FlatClock, Operation, Constant}
 use Words.{ApplyUnary, ApplyBinary, Choose, FlatEquation, clock_reads, reads, equation_reads, State}
 use Words.{Emitted, numbered, numbers, add, chosen_by, push, chained, twice, negated, emit_nor}
-use Words.{emit_at_most_one}
-use Rattle.{lb_syntax.specs.Lists.heads, lb_flat.proofs.lists.Lists.{Every-append, Every-first}}
-use Rattle.{lb_flat.proofs.lists.Lists.Every-second, lb_expand.proofs.lists.Lists.SomeOf}
-use Rattle.lb_expand.proofs.lists.Lists.{some_first, some_second, some_split}
+use Words.{emit_at_most_one, append-nil}
+use Rattle.{std.proofs.lemmas.List.map-id, lb_syntax.specs.Lists.heads}
+use Rattle.lb_flat.proofs.lists.Lists.{Every-append, Every-first, Every-second}
+use Rattle.lb_expand.proofs.lists.Lists.{SomeOf, some_first, some_second, some_split}
 
 -- ## Two lists side by side
 
@@ -23,25 +23,22 @@ module _ {A B : Type 0} (R : A → B → Type 0) where
       (xs : List A) (ys : List B) (us : List A) (vs : List B) → Pairs R xs ys → Pairs R us vs →
       Pairs R (xs ++ us) (ys ++ vs)
   pairs-append [] [] us vs h g = g
-  pairs-append [] (y ∷ ys) us vs h g = absurd h
-  pairs-append (x ∷ xs) [] us vs h g = absurd h
   pairs-append (x ∷ xs) (y ∷ ys) us vs h g = (h.0, pairs-append xs ys us vs h.1 g)
+  pairs-append _ _ us vs h g = absurd h
 
   pub pairs-take : (n : ℕ) (xs : List A) (ys : List B) → Pairs R xs ys →
       Pairs R (take n xs) (take n ys)
   pairs-take zero xs ys h = tt
   pairs-take (suc n) [] [] h = tt
-  pairs-take (suc n) [] (y ∷ ys) h = absurd h
-  pairs-take (suc n) (x ∷ xs) [] h = absurd h
   pairs-take (suc n) (x ∷ xs) (y ∷ ys) h = (h.0, pairs-take n xs ys h.1)
+  pairs-take (suc n) _ _ h = absurd h
 
   pub pairs-drop : (n : ℕ) (xs : List A) (ys : List B) → Pairs R xs ys →
       Pairs R (drop n xs) (drop n ys)
   pairs-drop zero xs ys h = h
   pairs-drop (suc n) [] [] h = tt
-  pairs-drop (suc n) [] (y ∷ ys) h = absurd h
-  pairs-drop (suc n) (x ∷ xs) [] h = absurd h
   pairs-drop (suc n) (x ∷ xs) (y ∷ ys) h = pairs-drop n xs ys h.1
+  pairs-drop (suc n) _ _ h = absurd h
 
   pub pairs-copies : (n : ℕ) (xs : List A) (ys : List B) → Pairs R xs ys →
       Pairs R (copies n xs) (copies n ys)
@@ -52,16 +49,14 @@ module _ {A B : Type 0} (R : A → B → Type 0) where
   pub pairs-joined : (xss : List (List A)) (yss : List (List B)) → Pairs (Pairs R) xss yss →
       Pairs R (joined xss) (joined yss)
   pairs-joined [] [] h = tt
-  pairs-joined [] (ys ∷ yss) h = absurd h
-  pairs-joined (xs ∷ xss) [] h = absurd h
   pairs-joined (xs ∷ xss) (ys ∷ yss) h =
       pairs-append xs ys (joined xss) (joined yss) h.0 (pairs-joined xss yss h.1)
+  pairs-joined _ _ h = absurd h
 
   pub pairs-count : (xs : List A) (ys : List B) → Pairs R xs ys → length xs ≡ length ys
   pairs-count [] [] h = refl
-  pairs-count [] (y ∷ ys) h = absurd h
-  pairs-count (x ∷ xs) [] h = absurd h
   pairs-count (x ∷ xs) (y ∷ ys) h = ap suc (pairs-count xs ys h.1)
+  pairs-count _ _ h = absurd h
 
   pub pairs-pieces :
       {C : Type 0} (f : C → List A) (g : C → List B) → (cs : List C) →
@@ -71,6 +66,27 @@ module _ {A B : Type 0} (R : A → B → Type 0) where
       pairs-append (f c) (g c) (flat_map f cs) (flat_map g cs) h.0 (pairs-pieces f g cs h.1)
 
 -- ## What elements come from
+
+-- what follows from each of two facts follows from either
+pub either : {A B C : Type 0} → (A → C) → (B → C) → A ⊎ B → C
+either f g (inl a) = f a
+either f g (inr b) = g b
+
+-- where an element of a count is `Left`, so is the count before, an operand or an element read by
+-- the clock, since the three elements of a step come from those
+counted_back :
+    {A I T R K J L M : Type 0} → (J → (A ⊎ (I ⊎ ⊥)) ⊎ K) → (L → (T ⊎ (J ⊎ ⊥)) ⊎ K) →
+    (M → (A ⊎ (I ⊎ ⊥)) ⊎ K) → (L ⊎ (M ⊎ R)) ⊎ K → (T ⊎ (A ⊎ (I ⊎ R))) ⊎ K
+counted_back a b c g = grind (arith, a, b, c)
+
+-- where a count begins with a constant, which is `Left` by its clock alone, an operand is left
+none_back : {I K R : Type 0} → (I → ⊥ ⊎ K) → (I ⊎ (I ⊎ R)) ⊎ K → R ⊎ K
+none_back a g = grind (arith, a)
+
+-- `fby` is `Left` where its initial value is, since a memory is so by its clock alone
+first_back :
+    {I J K Y : Type 0} → (I → Y ⊎ K) → (J → ⊥ ⊎ K) → (I ⊎ (J ⊎ ⊥)) ⊎ K → Y ⊎ K
+first_back a b g = grind (arith, a, b)
 
 -- where `Under t` holds of an element, it holds of all that the element comes from; an element that
 -- is `Left` comes from another one that is `Left`
@@ -117,11 +133,7 @@ module _ (IsAt : Element → ℕ → Type 0) (Under : ℕ → ℕ → Type 0) (L
   no_links k = record { there = λ t h. tt; back = λ h. absurd h }
 
   pub one_link : (k : FlatClock) (i : ℕ) (ys : List Element) → Link k i ys → Links k (i ∷ []) ys
-  one_link k i ys l = record { there = λ t h. l.there t h.0; back = from }
-    where
-      from : SomeOf Left (i ∷ []) → SomeOf (Has Left) ys ⊎ SomeOf Left (clock_reads k)
-      from (inl g) = l.back g
-      from (inr g) = absurd g
+  one_link k i ys l = record { there = λ t h. l.there t h.0; back = either l.back (λ g. absurd g) }
 
   pub two_links :
       (k : FlatClock) (is js : List ℕ) (ys zs : List Element) → Links k is ys → Links k js zs →
@@ -130,55 +142,48 @@ module _ (IsAt : Element → ℕ → Type 0) (Under : ℕ → ℕ → Type 0) (L
     there = λ t h.
         Every-append (Has (Under t)) ys zs
         (a.there t (Every-first (Under t) is js h)) (b.there t (Every-second (Under t) is js h));
-    back = λ h. either (some_split Left is js h);
+    back = λ h.
+        either (λ g. either (λ y. inl (some_first (Has Left) ys zs y)) inr (a.back g))
+        (λ g. either (λ z. inl (some_second (Has Left) ys zs z)) inr (b.back g))
+        (some_split Left is js h);
   }
-    where
-      on_first : SomeOf (Has Left) ys ⊎ SomeOf Left (clock_reads k) →
-          SomeOf (Has Left) (ys ++ zs) ⊎ SomeOf Left (clock_reads k)
-      on_first (inl g) = inl (some_first (Has Left) ys zs g)
-      on_first (inr g) = inr g
-
-      on_second : SomeOf (Has Left) zs ⊎ SomeOf Left (clock_reads k) →
-          SomeOf (Has Left) (ys ++ zs) ⊎ SomeOf Left (clock_reads k)
-      on_second (inl g) = inl (some_second (Has Left) ys zs g)
-      on_second (inr g) = inr g
-
-      either : SomeOf Left is ⊎ SomeOf Left js →
-          SomeOf (Has Left) (ys ++ zs) ⊎ SomeOf Left (clock_reads k)
-      either (inl g) = on_first (a.back g)
-      either (inr g) = on_second (b.back g)
 
   -- an element that comes from linked ones is linked
   pub step :
       (k : FlatClock) (i : ℕ) (is : List ℕ) (ys : List Element) → Comes k i is → Links k is ys →
       Link k i ys
   step k i is ys c l =
-      record { there = λ t h. l.there t (c.there t h); back = λ g. from (c.back g) }
-    where
-      from : SomeOf Left is ⊎ SomeOf Left (clock_reads k) →
-          SomeOf (Has Left) ys ⊎ SomeOf Left (clock_reads k)
-      from (inl g) = l.back g
-      from (inr g) = inr g
+      record { there = λ t h. l.there t (c.there t h); back = λ g. either l.back inr (c.back g) }
+
+  -- an element that comes from another comes from what that one comes from
+  through :
+      (k : FlatClock) (i j : ℕ) (is js : List ℕ) → Comes k i (j ∷ js) → Comes k j is →
+      Comes k i (is ++ js)
+  through k i j is js c d = record {
+    there = λ t h.
+        let u = c.there t h in Every-append (Under t) is js (d.there t u.0) u.1;
+    back = λ g.
+        either (either (λ x. either (λ y. inl (some_first Left is js y)) inr (d.back x))
+        (λ y. inl (some_second Left is js y))) inr (c.back g);
+  }
 
   -- all elements of an array together come from all that they need
   pub all_links : (k : FlatClock) (is : List ℕ) (yss : List (List Element)) → AreLinks k is yss →
       Links k is (joined yss)
   all_links k [] [] h = no_links k
-  all_links k [] (ys ∷ yss) h = absurd h
-  all_links k (i ∷ is) [] h = absurd h
   all_links k (i ∷ is) (ys ∷ yss) h =
       two_links k (i ∷ []) is ys (joined yss) (one_link k i ys h.0) (all_links k is yss h.1)
+  all_links k _ _ h = absurd h
 
   -- the numbers of elements of variables come from those elements
   pub variable_links : (k : FlatClock) (is : List ℕ) (ys : List Element) →
       Pairs (λ i y. IsAt y i) is ys → AreLinks k is (itself ys)
   variable_links k [] [] h = tt
-  variable_links k [] (y ∷ ys) h = absurd h
-  variable_links k (i ∷ is) [] h = absurd h
   variable_links k (i ∷ is) (y ∷ ys) h = (
     record { there = λ t u. ((i, h.0, u), tt); back = λ g. inl (inl (i, h.0, g)) },
     variable_links k is ys h.1,
   )
+  variable_links k _ _ h = absurd h
 
   -- ## New elements
 
@@ -238,67 +243,55 @@ module _ (IsAt : Element → ℕ → Type 0) (Under : ℕ → ℕ → Type 0) (L
         (yss : List (List Element)) → Pairs (New k) js (map f is) → AreLinks k is yss →
         AreLinks k js yss
     each_one f e [] [] [] n l = tt
-    each_one f e (j ∷ js) [] yss n l = absurd n
-    each_one f e [] [] (ys ∷ yss) n l = absurd l
-    each_one f e js (i ∷ is) [] n l = absurd l
-    each_one f e [] (i ∷ is) (ys ∷ yss) n l = absurd n
     each_one f e (j ∷ js) (i ∷ is) (ys ∷ yss) n l =
         let comes = subst (Comes k j) (e i) n.0.comes in (
           step k j (i ∷ []) ys comes (one_link k i ys l.0),
           each_one f e js is yss n.1 l.1,
         )
+    each_one f e _ _ _ n l = search
+
+    -- an operation on each two of some elements comes from `g` of what both need
+    each_pair :
+        (f : ℕ → ℕ → Operation) (g : List Element → List Element) →
+        ((j i i' : ℕ) (ys zs : List Element) → New k j (f i i') →
+        Links k (i ∷ i' ∷ []) (ys ++ zs) → Link k j (g (ys ++ zs))) →
+        (js is is' : List ℕ) (yss zss : List (List Element)) →
+        Pairs (New k) js (zip2 f is is') → AreLinks k is yss → AreLinks k is' zss →
+        AreLinks k js (map g (both yss zss))
+    each_pair f g h (j ∷ js) (i ∷ is) (i' ∷ is') (ys ∷ yss) (zs ∷ zss) n l m = (
+      h j i i' ys zs n.0
+          (two_links k (i ∷ []) (i' ∷ []) ys zs (one_link k i ys l.0) (one_link k i' zs m.0)),
+      each_pair f g h js is is' yss zss n.1 l.1 m.1,
+    )
+    each_pair f g h [] (i ∷ is) (i' ∷ is') yss zss n l m = absurd n
+    each_pair f g h [] [] is' [] zss n l m = tt
+    each_pair f g h [] (i ∷ is) [] (ys ∷ yss) [] n l m = tt
+    each_pair f g h (j ∷ js) [] is' yss zss n l m = absurd n
+    each_pair f g h (j ∷ js) (i ∷ is) [] yss zss n l m = absurd n
+    each_pair f g h _ _ _ _ _ n l m = search
 
     pub each_two :
         (f : ℕ → ℕ → Operation) → ((i j : ℕ) → reads (f i j) ≡ i ∷ j ∷ []) →
         (js is is' : List ℕ) (yss zss : List (List Element)) →
         Pairs (New k) js (zip2 f is is') → AreLinks k is yss → AreLinks k is' zss →
         AreLinks k js (both yss zss)
-    each_two f e js (i ∷ is) is' [] zss n l m = absurd l
-    each_two f e js [] is' (ys ∷ yss) zss n l m = absurd l
-    each_two f e [] [] is' [] zss n l m = tt
-    each_two f e (j ∷ js) [] is' [] zss n l m = absurd n
-    each_two f e js (i ∷ is) [] (ys ∷ yss) (zs ∷ zss) n l m = absurd m
-    each_two f e js (i ∷ is) (i' ∷ is') (ys ∷ yss) [] n l m = absurd m
-    each_two f e [] (i ∷ is) [] (ys ∷ yss) [] n l m = tt
-    each_two f e (j ∷ js) (i ∷ is) [] (ys ∷ yss) [] n l m = absurd n
-    each_two f e [] (i ∷ is) (i' ∷ is') (ys ∷ yss) (zs ∷ zss) n l m = absurd n
-    each_two f e (j ∷ js) (i ∷ is) (i' ∷ is') (ys ∷ yss) (zs ∷ zss) n l m =
-        let comes = subst (Comes k j) (e i i') n.0.comes in (
-          step k j (i ∷ i' ∷ []) (ys ++ zs) comes
-              (two_links k (i ∷ []) (i' ∷ []) ys zs (one_link k i ys l.0) (one_link k i' zs m.0)),
-          each_two f e js is is' yss zss n.1 l.1 m.1,
-        )
-
-    -- both branches of `if` under one condition
-    branches :
-        (c : ℕ) (ws : List Element) → Link k c ws → (js is is' : List ℕ)
-        (yss zss : List (List Element)) → Pairs (New k) js (zip2 (Choose c) is is') →
-        AreLinks k is yss → AreLinks k is' zss →
-        AreLinks k js (map (λ xs. ws ++ xs) (both yss zss))
-    branches c ws a js (i ∷ is) is' [] zss n l m = absurd l
-    branches c ws a js [] is' (ys ∷ yss) zss n l m = absurd l
-    branches c ws a [] [] is' [] zss n l m = tt
-    branches c ws a (j ∷ js) [] is' [] zss n l m = absurd n
-    branches c ws a js (i ∷ is) [] (ys ∷ yss) (zs ∷ zss) n l m = absurd m
-    branches c ws a js (i ∷ is) (i' ∷ is') (ys ∷ yss) [] n l m = absurd m
-    branches c ws a [] (i ∷ is) [] (ys ∷ yss) [] n l m = tt
-    branches c ws a (j ∷ js) (i ∷ is) [] (ys ∷ yss) [] n l m = absurd n
-    branches c ws a [] (i ∷ is) (i' ∷ is') (ys ∷ yss) (zs ∷ zss) n l m = absurd n
-    branches c ws a (j ∷ js) (i ∷ is) (i' ∷ is') (ys ∷ yss) (zs ∷ zss) n l m = (
-      step k j (c ∷ i ∷ i' ∷ []) (ws ++ (ys ++ zs)) n.0.comes
-          (two_links k (c ∷ []) (i ∷ i' ∷ []) ws (ys ++ zs) (one_link k c ws a)
-          (two_links k (i ∷ []) (i' ∷ []) ys zs (one_link k i ys l.0) (one_link k i' zs m.0))),
-      branches c ws a js is is' yss zss n.1 l.1 m.1,
-    )
+    each_two f e js is is' yss zss n l m =
+        subst (AreLinks k js) (map-id (both yss zss))
+        (each_pair f (λ ys. ys)
+        (λ j i i' ys zs n l. step k j (i ∷ i' ∷ []) (ys ++ zs) (subst (Comes k j) (e i i') n.comes)
+        l) js is is' yss zss n l m)
 
     pub each_choice :
         (cs js is is' : List ℕ) (wss yss zss : List (List Element)) → length cs ≡ 1 →
         Pairs (New k) js (chosen_by cs is is') → AreLinks k cs wss → AreLinks k is yss →
         AreLinks k is' zss → AreLinks k js (map (λ xs. heads wss ++ xs) (both yss zss))
+    each_choice (c ∷ cs) js is is' (ws ∷ wss) yss zss one n a l m =
+        each_pair (Choose c) (λ xs. ws ++ xs)
+        (λ j i i' ys zs n l. step k j (c ∷ i ∷ i' ∷ []) (ws ++ (ys ++ zs)) n.comes
+        (two_links k (c ∷ []) (i ∷ i' ∷ []) ws (ys ++ zs) (one_link k c ws a.0) l))
+        js is is' yss zss n l m
     each_choice [] js is is' wss yss zss one n a l m = absurd (omega arith)
     each_choice (c ∷ cs) js is is' [] yss zss one n a l m = absurd a
-    each_choice (c ∷ cs) js is is' (ws ∷ wss) yss zss one n a l m =
-        branches c ws a.0 js is is' yss zss n l m
 
     -- `fby` comes from its initial value
     pub each_first :
@@ -306,64 +299,45 @@ module _ (IsAt : Element → ℕ → Type 0) (Under : ℕ → ℕ → Type 0) (L
         (js is is' : List ℕ) (yss : List (List Element)) → length is ≡ length is' →
         Pairs (New k) js (zip2 f is is') → AreLinks k is yss → Every (λ i. Comes k i []) is' →
         AreLinks k js yss
-    each_first f e js [] is' (ys ∷ yss) same n l m = absurd l
-    each_first f e js (i ∷ is) is' [] same n l m = absurd l
     each_first f e [] [] is' [] same n l m = tt
-    each_first f e (j ∷ js) [] is' [] same n l m = absurd n
-    each_first f e js (i ∷ is) [] (ys ∷ yss) same n l m = absurd (omega arith)
-    each_first f e [] (i ∷ is) (i' ∷ is') (ys ∷ yss) same n l m = absurd n
     each_first f e (j ∷ js) (i ∷ is) (i' ∷ is') (ys ∷ yss) same n l m =
         let comes = subst (Comes k j) (e i i') n.0.comes in (
           record {
             there = λ t u. l.0.there t (comes.there t u).0;
-            back = λ g. from (comes.back g);
+            back = λ g. first_back l.0.back m.0.back (comes.back g);
           },
           each_first f e js is is' yss (omega arith) n.1 l.1 m.1,
         )
-      where
-        of_memory : SomeOf Left [] ⊎ SomeOf Left (clock_reads k) →
-            SomeOf (Has Left) ys ⊎ SomeOf Left (clock_reads k)
-        of_memory (inl g) = absurd g
-        of_memory (inr g) = inr g
-
-        from : SomeOf Left (i ∷ i' ∷ []) ⊎ SomeOf Left (clock_reads k) →
-            SomeOf (Has Left) ys ⊎ SomeOf Left (clock_reads k)
-        from (inl (inl g)) = l.0.back g
-        from (inl (inr (inl g))) = of_memory (m.0.back g)
-        from (inl (inr (inr g))) = absurd g
-        from (inr g) = inr g
+    each_first f e (j ∷ js) [] is' yss same n l m = absurd n
+    each_first f e js (i ∷ is) [] yss same n l m = absurd (omega arith)
+    each_first f e _ _ _ _ same n l m = search
 
     -- a memory comes from its clock alone
     pub memories :
         (f : ℕ → Operation) → ((i : ℕ) → reads (f i) ≡ []) → (js is : List ℕ) →
         Pairs (New k) js (map f is) → Every (λ i. Comes k i []) js
     memories f e [] [] n = tt
-    memories f e [] (i ∷ is) n = absurd n
-    memories f e (j ∷ js) [] n = absurd n
     memories f e (j ∷ js) (i ∷ is) n =
         (subst (Comes k j) (e i) n.0.comes, memories f e js is n.1)
+    memories f e _ _ n = absurd n
 
     pub each_memory :
         (f : ℕ → Operation) → ((i : ℕ) → reads (f i) ≡ []) → (l : FlatClock) (js is : List ℕ)
         (yss : List (List Element)) → Pairs (New k) js (map f is) → AreLinks l is yss →
         AreLinks k js (map (λ xs. []) yss)
     each_memory f e l [] [] [] n a = tt
-    each_memory f e l (j ∷ js) [] yss n a = absurd n
-    each_memory f e l [] [] (ys ∷ yss) n a = absurd a
-    each_memory f e l js (i ∷ is) [] n a = absurd a
-    each_memory f e l [] (i ∷ is) (ys ∷ yss) n a = absurd n
     each_memory f e l (j ∷ js) (i ∷ is) (ys ∷ yss) n a = (
       step k j [] [] (subst (Comes k j) (e i) n.0.comes) (no_links k),
       each_memory f e l js is yss n.1 a.1,
     )
+    each_memory f e l _ _ _ n a = search
 
     pub each_constant :
         (o : Operation) → reads o ≡ [] → (js : List ℕ) → Pairs (New k) js (o ∷ []) →
         AreLinks k js ([] ∷ [])
-    each_constant o e [] n = absurd n
     each_constant o e (j ∷ []) n =
         (step k j [] [] (subst (Comes k j) e n.0.comes) (no_links k), tt)
-    each_constant o e (j ∷ (i ∷ js)) n = absurd n.1
+    each_constant o e _ n = search
 
     -- ## A clock that is passed
 
@@ -414,31 +388,20 @@ module _ (IsAt : Element → ℕ → Type 0) (Under : ℕ → ℕ → Type 0) (L
         Every (λ i. (t : ℕ) → Under t i → Every (Under t) (clock_reads l)) is →
         AreLinks k js (map (λ xs. ps ++ xs) yss)
     each_latest f e l ps w [] [] [] n a r = tt
-    each_latest f e l ps w (j ∷ js) [] yss n a r = absurd n
-    each_latest f e l ps w [] [] (ys ∷ yss) n a r = absurd a
-    each_latest f e l ps w js (i ∷ is) [] n a r = absurd a
-    each_latest f e l ps w [] (i ∷ is) (ys ∷ yss) n a r = absurd n
     each_latest f e l ps w (j ∷ js) (i ∷ is) (ys ∷ yss) n a r =
         let comes = subst (Comes k j) (e i) n.0.comes in (
           record {
             there = λ t u.
                 let v = (comes.there t u).0 in
                 Every-append (Has (Under t)) ps ys (w.there t (r.0 t v)) (a.0.there t v);
-            back = λ g. from (comes.back g);
+            back = λ g.
+                either (either (λ x. inl (either (some_second (Has Left) ps ys)
+                (λ c. some_first (Has Left) ps ys (w.back c)) (a.0.back x)))
+                (λ x. absurd x)) inr (comes.back g);
           },
           each_latest f e l ps w js is yss n.1 a.1 r.1,
         )
-      where
-        of_operand : SomeOf (Has Left) ys ⊎ SomeOf Left (clock_reads l) →
-            SomeOf (Has Left) (ps ++ ys) ⊎ SomeOf Left (clock_reads k)
-        of_operand (inl g) = inl (some_second (Has Left) ps ys g)
-        of_operand (inr g) = inl (some_first (Has Left) ps ys (w.back g))
-
-        from : SomeOf Left (i ∷ []) ⊎ SomeOf Left (clock_reads k) →
-            SomeOf (Has Left) (ps ++ ys) ⊎ SomeOf Left (clock_reads k)
-        from (inl (inl g)) = of_operand (a.0.back g)
-        from (inl (inr g)) = absurd g
-        from (inr g) = inr g
+    each_latest f e l ps w _ _ _ n a r = search
 
   -- `when` comes from its operand and from the elements `ps` that the clock `l` waits for
   pub each_sample :
@@ -448,31 +411,20 @@ module _ (IsAt : Element → ℕ → Type 0) (Under : ℕ → ℕ → Type 0) (L
       (yss : List (List Element)) → Pairs (New l) js (map f is) → AreLinks m is yss →
       AreLinks k js (map (λ xs. ps ++ xs) yss)
   each_sample f e k l m ps w wider [] [] [] n a = tt
-  each_sample f e k l m ps w wider (j ∷ js) [] yss n a = absurd n
-  each_sample f e k l m ps w wider [] [] (ys ∷ yss) n a = absurd a
-  each_sample f e k l m ps w wider js (i ∷ is) [] n a = absurd a
-  each_sample f e k l m ps w wider [] (i ∷ is) (ys ∷ yss) n a = absurd n
   each_sample f e k l m ps w wider (j ∷ js) (i ∷ is) (ys ∷ yss) n a =
       let comes = subst (Comes l j) (e i) n.0.comes in (
         record {
           there = λ t u.
               let v = (comes.there t u).0 in
               Every-append (Has (Under t)) ps ys (w.there t (n.0.clock t u)) (a.0.there t v);
-          back = λ g. from (comes.back g);
+          back = λ g.
+              inl (either (either (λ x. either (some_second (Has Left) ps ys)
+              (λ c. some_first (Has Left) ps ys (w.back (wider c))) (a.0.back x))
+              (λ x. absurd x)) (λ c. some_first (Has Left) ps ys (w.back c)) (comes.back g));
         },
         each_sample f e k l m ps w wider js is yss n.1 a.1,
       )
-    where
-      of_operand : SomeOf (Has Left) ys ⊎ SomeOf Left (clock_reads m) →
-          SomeOf (Has Left) (ps ++ ys) ⊎ SomeOf Left (clock_reads k)
-      of_operand (inl g) = inl (some_second (Has Left) ps ys g)
-      of_operand (inr g) = inl (some_first (Has Left) ps ys (w.back (wider g)))
-
-      from : SomeOf Left (i ∷ []) ⊎ SomeOf Left (clock_reads l) →
-          SomeOf (Has Left) (ps ++ ys) ⊎ SomeOf Left (clock_reads k)
-      from (inl (inl g)) = of_operand (a.0.back g)
-      from (inl (inr g)) = absurd g
-      from (inr g) = inl (some_first (Has Left) ps ys (w.back g))
+  each_sample f e k l m ps w wider _ _ _ n a = search
 
   -- ## `#` and `nor`
 
@@ -505,26 +457,8 @@ module _ (IsAt : Element → ℕ → Type 0) (Under : ℕ → ℕ → Type 0) (L
           before = p.before;
           element = r.element;
           is_found = r.is_found;
-          comes = record {
-            there = λ t u.
-                let x = r.comes.there t u in let v = p.comes.there t x.0 in
-                (v.0, (v.1.0, x.1));
-            back = λ g. from s.next p.comes (r.comes.back g);
-          };
+          comes = through k r.element s.next (init ∷ y ∷ []) ys r.comes p.comes;
         }
-      where
-        of_pair : SomeOf Left (init ∷ y ∷ []) ⊎ FromClock →
-            SomeOf Left (init ∷ (y ∷ ys)) ⊎ FromClock
-        of_pair (inl (inl g)) = inl (inl g)
-        of_pair (inl (inr (inl g))) = inl (inr (inl g))
-        of_pair (inl (inr (inr g))) = absurd g
-        of_pair (inr g) = inr g
-
-        from : (j : ℕ) → Comes k j (init ∷ y ∷ []) → SomeOf Left (j ∷ ys) ⊎ FromClock →
-            SomeOf Left (init ∷ (y ∷ ys)) ⊎ FromClock
-        from j c (inl (inl g)) = of_pair (c.back g)
-        from j c (inl (inr g)) = inl (inr (inr g))
-        from j c (inr g) = inr g
 
     -- whether two are true comes from whether two, or one, were true before, and from `is`
     record Counted (s : State) (r : Emitted) (any two : ℕ) (is : List ℕ) : Type 0 where
@@ -533,10 +467,6 @@ module _ (IsAt : Element → ℕ → Type 0) (Under : ℕ → ℕ → Type 0) (L
       is_found : r.found ≡ element ∷ []
       there : (t : ℕ) → Under t element → Every (Under t) (two ∷ is)
       back : Left element → SomeOf Left (two ∷ (any ∷ is)) ⊎ FromClock
-
-    -- an element of the count so far or of `is` is `Left`, or one that the clock reads
-    abbrev OfOthers : (any two : ℕ) → List ℕ → Type 0
-    OfOthers any two is = SomeOf Left (two ∷ (any ∷ is)) ⊎ FromClock
 
     twice_counted :
         (s : State) (any two : ℕ) (is : List ℕ) →
@@ -563,33 +493,11 @@ module _ (IsAt : Element → ℕ → Type 0) (Under : ℕ → ℕ → Type 0) (L
           element = r.element;
           is_found = r.is_found;
           there = λ w g.
-              let x = r.there w g in let y = b.comes.there w x.0 in
-              let z = a.comes.there w y.1.0 in
-              (y.0, (z.1.0, x.1));
-          back = λ g. counted s.next t.next u.next a.comes b.comes c.comes (r.back g);
+              let x = r.there w g in
+              let y = b.comes.there w x.0 in
+              (y.0, ((a.comes.there w y.1.0).1.0, x.1));
+          back = λ g. counted_back a.comes.back b.comes.back c.comes.back (r.back g);
         }
-      where
-        of_one : SomeOf Left (any ∷ i ∷ []) ⊎ FromClock → OfOthers any two (i ∷ is)
-        of_one (inl (inl g)) = inl (inr (inl g))
-        of_one (inl (inr (inl g))) = inl (inr (inr (inl g)))
-        of_one (inl (inr (inr g))) = absurd g
-        of_one (inr g) = inr g
-
-        of_two : (j : ℕ) → Comes k j (any ∷ i ∷ []) → SomeOf Left (two ∷ j ∷ []) ⊎ FromClock →
-            OfOthers any two (i ∷ is)
-        of_two j a (inl (inl g)) = inl (inl g)
-        of_two j a (inl (inr (inl g))) = of_one (a.back g)
-        of_two j a (inl (inr (inr g))) = absurd g
-        of_two j a (inr g) = inr g
-
-        counted :
-            (j l m : ℕ) → Comes k j (any ∷ i ∷ []) → Comes k l (two ∷ j ∷ []) →
-            Comes k m (any ∷ i ∷ []) → SomeOf Left (l ∷ (m ∷ is)) ⊎ FromClock →
-            OfOthers any two (i ∷ is)
-        counted j l m a b c (inl (inl g)) = of_two j a (b.back g)
-        counted j l m a b c (inl (inr (inl g))) = of_one (c.back g)
-        counted j l m a b c (inl (inr (inr g))) = inl (inr (inr (inr g)))
-        counted j l m a b c (inr g) = inr g
 
     -- an operator on the one element found
     negated_gives :
@@ -605,23 +513,13 @@ module _ (IsAt : Element → ℕ → Type 0) (Under : ℕ → ℕ → Type 0) (L
           before = a.before;
           element = f.0;
           is_found = f.1;
-          comes = record {
-            there = λ t u. a.comes.there t (f.2.there t u).0;
-            back = λ g. from a.element a.comes (f.2.back g);
-          };
+          comes = subst (Comes k f.0) (append-nil is) (through k f.0 a.element is [] f.2 a.comes);
         }
       where
         single : (js : List ℕ) (i : ℕ) → Pairs (New k) js (ApplyUnary Not i ∷ []) →
             (j : ℕ) × (js ≡ j ∷ []) × Comes k j (i ∷ [])
-        single [] i n = absurd n
         single (j ∷ []) i n = (j, refl, n.0.comes)
-        single (j ∷ (l ∷ js)) i n = absurd n.1
-
-        from : (i : ℕ) → Comes k i is → SomeOf Left (i ∷ []) ⊎ FromClock →
-            SomeOf Left is ⊎ FromClock
-        from i c (inl (inl g)) = c.back g
-        from i c (inl (inr g)) = absurd g
-        from i c (inr g) = inr g
+        single _ i n = search
 
     -- `nor` comes from its operands
     pub nor_gives :
@@ -636,21 +534,8 @@ module _ (IsAt : Element → ℕ → Type 0) (Under : ℕ → ℕ → Type 0) (L
           before = p.before;
           element = r.element;
           is_found = r.is_found;
-          comes = record {
-            there = λ w u. (r.comes.there w u).1;
-            back = λ u. from s.next p.comes (r.comes.back u);
-          };
+          comes = through k r.element s.next [] is r.comes p.comes;
         }) h
-      where
-        of_constant : SomeOf Left [] ⊎ FromClock → SomeOf Left is ⊎ FromClock
-        of_constant (inl g) = absurd g
-        of_constant (inr g) = inr g
-
-        from : (i : ℕ) → Comes k i [] → SomeOf Left (i ∷ is) ⊎ FromClock →
-            SomeOf Left is ⊎ FromClock
-        from i c (inl (inl g)) = of_constant (c.back g)
-        from i c (inl (inr g)) = inl g
-        from i c (inr g) = inr g
 
     -- the result of at most one comes from its operands
     pub at_most_one_gives :
@@ -665,19 +550,6 @@ module _ (IsAt : Element → ℕ → Type 0) (Under : ℕ → ℕ → Type 0) (L
           before = p.before;
           element = r.element;
           is_found = r.is_found;
-          comes = record {
-            there = λ w u. (r.there w u).1;
-            back = λ u. from s.next p.comes (r.back u);
-          };
+          comes = record
+              { there = λ w u. (r.there w u).1; back = λ u. none_back p.comes.back (r.back u) };
         }) h
-      where
-        of_constant : SomeOf Left [] ⊎ FromClock → SomeOf Left is ⊎ FromClock
-        of_constant (inl g) = absurd g
-        of_constant (inr g) = inr g
-
-        from : (i : ℕ) → Comes k i [] → SomeOf Left (i ∷ (i ∷ is)) ⊎ FromClock →
-            SomeOf Left is ⊎ FromClock
-        from i c (inl (inl g)) = of_constant (c.back g)
-        from i c (inl (inr (inl g))) = of_constant (c.back g)
-        from i c (inl (inr (inr g))) = inl g
-        from i c (inr g) = inr g

@@ -15,13 +15,13 @@ use Words.{expanded}
 use Rattle.lb_check.{specs.Elements.numbers_of, proofs.lists.Members.apart_single}
 use Rattle.{lb_check.proofs.programs.AcceptedElements.number_in, lb_expand.specs.Emit.input_targets}
 use Rattle.lb_expand.proofs.clock_tables.KnownClocks.{reads_wait, clocks_known}
-use Rattle.lb_expand.proofs.copies.{CopiedCalls.IsDefinedBy, CopiedProgram.{made, copies_defined}}
-use Rattle.lb_expand.proofs.copies.CopiedProgram.{made_in, same, AreClocksKnown}
-use Rattle.lb_expand.proofs.{copies.GivenProgram.given_whole, lists.Lists.{SomeOf, some_of_in}}
-use Rattle.lb_expand.proofs.lists.Lists.{in_some, some_split}
-use Rattle.lb_expand.proofs.{numbering.NumberedPlaces.is_laid_out, reads.LinkWords.{AllMeet, Meets}}
-use Rattle.lb_expand.proofs.solutions.{Closing.Closed, Filling.Fresh, Solving.all_closed}
-use Rattle.lb_expand.proofs.widths.SoundPrograms.{observer_wide_in}
+use Rattle.lb_expand.proofs.copies.CopiedCalls.{IsDefinedBy}
+use Rattle.lb_expand.proofs.copies.CopiedProgram.{made, copies_defined, made_in, same}
+use Rattle.lb_expand.proofs.copies.{CopiedProgram.AreClocksKnown, GivenProgram.given_whole}
+use Rattle.lb_expand.proofs.lists.Lists.{SomeOf, some_of_in, in_some, some_split}
+use Rattle.lb_expand.proofs.numbering.NumberedPlaces.{is_laid_out}
+use Rattle.lb_expand.proofs.{reads.LinkWords.{AllMeet, Meets, either}, solutions.Filling.Fresh}
+use Rattle.lb_expand.proofs.{solutions.Solving.start_closed, widths.SoundPrograms.observer_wide_in}
 
 -- Where an element of a variable reads another by way of temporaries, it needs that element.
 
@@ -124,8 +124,7 @@ fresh_high n [] h q i = absurd i
 fresh_high n (p ∷ qs) h q (inl e) =
     let own : n ≡ q.element = sym h.0.element ∙ ap (λ (r : FlatEquation). r.element) e in
     omega (arith, own)
-fresh_high n (p ∷ qs) h q (inr i) =
-    let above = fresh_high (suc n) qs h.1 q i in omega (arith, above)
+fresh_high n (p ∷ qs) h q (inr i) = omega (arith, fresh_high (suc n) qs h.1 q i)
 
 -- the operations of inputs read no elements
 inputs_read : (j : ℕ) (ts : List Target) → Every (λ q. reads q.operation ≡ []) (from_inputs j ts)
@@ -181,13 +180,29 @@ element_of P accepted i lt =
           (number_in P accepted i x.0 x.1);
     }
 
+-- the flat clock of a variable of an instance
+abbrev pub clock_at : Program → Instance → Declaration → FlatClock
+clock_at P c d = flat_clock (layout P) c.path (declared_clock c.node d.name)
+
+-- the elements of the variables of an instance are on the clocks of their declarations
+abbrev pub AreDeclaredOn : Program → (ℕ → FlatClock) → Instance → Type 0
+AreDeclaredOn P K c =
+    Every (λ d. Every (λ i. K i ≡ clock_at P c d) (numbers_of P c.path d.name)) (variables c.node)
+
+-- where `Under t` holds of an element of a variable, it holds of all that the clock of this reads
+abbrev pub IsRunAt : Program → (ℕ → ℕ → Type 0) → Instance → Declaration → ℕ → Type 0
+IsRunAt P Under c d i = (t : ℕ) → Under t i → Every (Under t) (clock_reads (clock_at P c d))
+
+-- and so it is for all elements of the variables of an instance
+abbrev pub AreRunAt : Program → (ℕ → ℕ → Type 0) → Instance → Type 0
+AreRunAt P Under c =
+    Every (λ d. Every (IsRunAt P Under c d) (numbers_of P c.path d.name)) (variables c.node)
+
 module _ (P : Program) (accepted : static_refusal P ≡ None) (checked : check_refusal P ≡ None)
     (K : ℕ → FlatClock)
     (own : Every (λ q. K q.element ≡ q.clock)
     (expanded (layout P) P (length (program_elements P))).equations)
-    (declared : (c : Instance) → In c (instances P) →
-    Every (λ d. Every (λ i. K i ≡ flat_clock (layout P) c.path (declared_clock c.node d.name))
-    (numbers_of P c.path d.name)) (variables c.node)) where
+    (declared : (c : Instance) → In c (instances P) → AreDeclaredOn P K c) where
   abbrev Y : Layout
   Y = layout P
 
@@ -202,11 +217,6 @@ module _ (P : Program) (accepted : static_refusal P ≡ None) (checked : check_r
 
   abbrev IsAt : Element → ℕ → Type 0
   IsAt y i = slice_get (program_elements P) i ≡ Some y
-
-  closed : Closed count final
-  closed =
-      all_closed count Y P (is_laid_out P accepted) (before_instances count) (instances P)
-      (record { fresh = tt; next = omega arith })
 
   -- ## Needs by a clock
 
@@ -244,11 +254,9 @@ module _ (P : Program) (accepted : static_refusal P ≡ None) (checked : check_r
       let k = declared_clock c.node d.name in
       let clock : q.clock ≡ flat_clock (layout P) c.path k =
       sym (Every-at (λ q. K q.element ≡ q.clock) f.equations q own is)
-      ∙ Every-at (λ i. K i ≡ flat_clock (layout P) c.path k) (numbers_of P c.path d.name) q.element
-      (Every-at (λ d. Every
-      (λ i. K i ≡ flat_clock (layout P) c.path (declared_clock c.node d.name))
-      (numbers_of P c.path d.name)) (variables c.node) d (declared c e.stands) e.declares)
-      e.numbered in
+      ∙ Every-at (λ i. K i ≡ clock_at P c d) (numbers_of P c.path d.name) q.element
+      (Every-at (λ d. Every (λ i. K i ≡ clock_at P c d) (numbers_of P c.path d.name))
+      (variables c.node) d (declared c e.stands) e.declares) e.numbered in
       let read = in_some Left (clock_reads q.clock) some in
       let back = Every-at (λ i.
       (x : Element) × In x (waits_for P c k) × (slice_get (program_elements P) i ≡ Some x))
@@ -277,7 +285,8 @@ module _ (P : Program) (accepted : static_refusal P ≡ None) (checked : check_r
         (in_second q final.copies final.equations i))
 
     further_high : (q : FlatEquation) → In q final.equations → count ≤ q.element
-    further_high q i = fresh_high count final.equations closed.fresh q i
+    further_high q i =
+        fresh_high count final.equations (start_closed count Y P (is_laid_out P accepted)).fresh q i
 
     met : AllMeet IsAt Under Left final.equations
     met =
@@ -286,18 +295,12 @@ module _ (P : Program) (accepted : static_refusal P ≡ None) (checked : check_r
           back = λ g. passes q (further_in q i) (further_high q i) g;
         })
 
-    runs :
-        (c : Instance) → In c (instances P) →
-        Every (λ d. Every (λ i. (t : ℕ) → Under t i →
-        Every (Under t) (clock_reads (flat_clock (layout P) c.path (declared_clock c.node d.name))))
-        (numbers_of P c.path d.name)) (variables c.node)
+    runs : (c : Instance) → In c (instances P) → AreRunAt P Under c
     runs c j =
-        Every-from (λ d. Every (λ i. (t : ℕ) → Under t i →
-        Every (Under t) (clock_reads (flat_clock (layout P) c.path (declared_clock c.node d.name))))
-        (numbers_of P c.path d.name)) (variables c.node) (λ d i.
-        Every-from (λ i. (t : ℕ) → Under t i →
-        Every (Under t) (clock_reads (flat_clock (layout P) c.path (declared_clock c.node d.name))))
-        (numbers_of P c.path d.name) (λ m at t u. absurd u))
+        Every-from (λ d. Every (IsRunAt P Under c d) (numbers_of P c.path d.name))
+        (variables c.node)
+        (λ d i. Every-from (IsRunAt P Under c d) (numbers_of P c.path d.name)
+        (λ m at t u. absurd u))
 
     known : (here : Instance) → In here (instances P) →
         AreClocksKnown P accepted checked Under Left here (node_occurrences P here.node)
@@ -319,29 +322,21 @@ module _ (P : Program) (accepted : static_refusal P ≡ None) (checked : check_r
         (q : FlatEquation) (d : Definition) → In d made_all → Defined q d → In q f.equations →
         q.element < count → SomeOf Left (equation_reads q) → IsNeeding P Left q.element
     defined_needs q d stands by is low some =
-        either (some_split Left (reads q.operation) (clock_reads q.clock) some)
+        either
+        (λ h. either (λ g. either linked (λ g. by_clock Left q is low g) (by.link.back g))
+        (λ n. absurd n) (subst (λ o. SomeOf Left (reads o)) by.copies h))
+        (λ g. by_clock Left q is low g)
+        (some_split Left (reads q.operation) (clock_reads q.clock) some)
       where
-        linked :
-            SomeOf (HasNumber P Left) d.needed ⊎ SomeOf Left (clock_reads q.clock) →
-            IsNeeding P Left q.element
-        linked (inl h) = record {
-          definition = d;
-          stands =
-              made_in P accepted checked (observer_wide_in P accepted [] []) Under Left known d stands;
-          is_at = by.is_at;
-          needed = h;
-        }
-        linked (inr h) = by_clock Left q is low h
-
-        single : SomeOf Left (by.operand ∷ []) → IsNeeding P Left q.element
-        single (inl g) = linked (by.link.back g)
-        single (inr h) = absurd h
-
-        either :
-            SomeOf Left (reads q.operation) ⊎ SomeOf Left (clock_reads q.clock) →
-            IsNeeding P Left q.element
-        either (inl h) = single (subst (λ o. SomeOf Left (reads o)) by.copies h)
-        either (inr h) = by_clock Left q is low h
+        linked : SomeOf (HasNumber P Left) d.needed → IsNeeding P Left q.element
+        linked h =
+            record {
+              definition = d;
+              stands = made_in P accepted checked (observer_wide_in P accepted [] []) Under Left
+                  known d stands;
+              is_at = by.is_at;
+              needed = h;
+            }
 
     copied :
         (q : FlatEquation) → In q every_copy → In q f.equations → q.element < count →
@@ -356,45 +351,35 @@ module _ (P : Program) (accepted : static_refusal P ≡ None) (checked : check_r
     -- an element of a variable that reads an element that is `Left` needs one
     reading : ReadsNeeds P f Left
     reading q is low some =
-        first (in_either q (given_inputs Y (instance_at P Root)) _ is)
+        either given
+        (λ i. either of_observer (λ i. either of_copies of_temporaries (in_either q _ _ i))
+        (in_either q _ _ i)) (in_either q inputs _ is)
       where
-        given : In q (given_inputs Y (instance_at P Root)) →
-            SomeOf Left (reads q.operation) ⊎ SomeOf Left (clock_reads q.clock) →
-            IsNeeding P Left q.element
-        given i (inl h) =
-            absurd (subst (SomeOf Left)
-            (Every-at (λ q. reads q.operation ≡ []) (given_inputs Y (instance_at P Root)) q
-            (given_read Y (instance_at P Root)) i) h)
-        given i (inr h) = by_clock Left q is low h
+        inputs : List FlatEquation
+        inputs = given_inputs Y (instance_at P Root)
 
-        third : In q final.copies ⊎ In q final.equations → IsNeeding P Left q.element
-        third (inl i) =
-            copied q
-            (in_second q (observed Y (instance_at P Root) (instance_at P Observer)) final.copies i)
-            is low some
-        third (inr i) = let high = further_high q i in absurd (omega (arith, high, low))
+        seen : List FlatEquation
+        seen = observed Y (instance_at P Root) (instance_at P Observer)
 
-        second :
-            In q (observed Y (instance_at P Root) (instance_at P Observer))
-            ⊎ In q (final.copies ++ final.equations) →
-            IsNeeding P Left q.element
-        second (inl i) =
-            copied q
-            (in_first q (observed Y (instance_at P Root) (instance_at P Observer)) final.copies i)
-            is low some
-        second (inr i) = third (in_either q final.copies final.equations i)
+        given : In q inputs → IsNeeding P Left q.element
+        given i =
+            either
+            (λ h. absurd
+            (subst (SomeOf Left)
+            (Every-at (λ q. reads q.operation ≡ []) inputs q (given_read Y (instance_at P Root)) i)
+            h)) (λ h. by_clock Left q is low h)
+            (some_split Left (reads q.operation) (clock_reads q.clock) some)
 
-        first :
-            In q (given_inputs Y (instance_at P Root))
-            ⊎ In q
-            (observed Y (instance_at P Root) (instance_at P Observer)
-            ++ (final.copies ++ final.equations)) →
-            IsNeeding P Left q.element
-        first (inl i) =
-            given i (some_split Left (reads q.operation) (clock_reads q.clock) some)
-        first (inr i) =
-            second (in_either q (observed Y (instance_at P Root) (instance_at P Observer))
-            (final.copies ++ final.equations) i)
+        of_observer : In q seen → IsNeeding P Left q.element
+        of_observer i = copied q (in_first q seen final.copies i) is low some
+
+        -- an equation among the copies gives an element that needs what is left
+        of_copies : In q final.copies → IsNeeding P Left q.element
+        of_copies i = copied q (in_second q seen final.copies i) is low some
+
+        -- and none of the equations of temporaries gives an element of a variable
+        of_temporaries : In q final.equations → IsNeeding P Left q.element
+        of_temporaries i = let high = further_high q i in absurd (omega (arith, high, low))
 
   -- where element `j` leads to element `i` of a variable, `i` needs `j`
   pub needs_by_copies :

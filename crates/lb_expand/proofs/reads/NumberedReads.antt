@@ -8,21 +8,23 @@ use Words.{definitions_at, observer_definitions, equation_definitions, call_defi
 use Words.{clock_definitions, waits_for, Needs, statements, node_occurrences, columns_at}
 use Words.{numbers_below, in_first, in_second, in_either, Every-at, Every-from, of_pieces}
 use Words.{to_pieces, HasReads, FlatClock, FlatEquation, history_of, IsGiven, FlatProgram, Layout}
-use Words.{flat_clock, layout, Chain, one_read, more_reads, clock_reads, reads, equation_reads}
-use Words.{State, before_instances, emit_instances, given_inputs, observed, expanded, input_kinds}
+use Words.{layout, Chain, one_read, more_reads, clock_reads, reads, equation_reads, State}
+use Words.{before_instances, emit_instances, given_inputs, observed, expanded, input_kinds}
 use Words.{declared_over, IsVariable, own_variables, Leads, NeedsAt}
 use Rattle.{lb_check.specs.Elements.numbers_of, lb_flat.specs.Fitting.ClockFits}
 use Rattle.lb_flat.proofs.lists.Lists.{Every-second, Every-map}
 use Rattle.lb_expand.proofs.clock_tables.KnownClocks.{waits_read, clocks_known}
-use Rattle.lb_expand.proofs.copies.{CopiedCalls.IsDefinedBy, CopiedProgram.{made, copies_defined}}
-use Rattle.lb_expand.proofs.copies.{CopiedProgram.{same, AreClocksKnown}, GivenProgram.given_whole}
-use Rattle.lb_expand.proofs.{fits.FitWords.{IsVariableOn, IsOn}, lists.Lists.{SomeOf, in_some}}
+use Rattle.lb_expand.proofs.copies.CopiedCalls.{IsDefinedBy}
+use Rattle.lb_expand.proofs.copies.CopiedProgram.{made, copies_defined, same, AreClocksKnown}
+use Rattle.lb_expand.proofs.{copies.GivenProgram.given_whole, fits.FitWords.{IsVariableOn, IsOn}}
+use Rattle.lb_expand.proofs.lists.Lists.{SomeOf, in_some}
 use Rattle.lb_expand.proofs.numbering.NumberedFits.{AreScalars, program_sorts, program_fits}
-use Rattle.lb_expand.proofs.numbering.{NumberedFits.variables_on, NumberedPlaces.elements_declared}
-use Rattle.lb_expand.proofs.{numbering.NumberedPlaces.is_laid_out, reads.LinkWords.{Pairs, AllMeet}}
-use Rattle.lb_expand.proofs.reads.{LinkWords.Meets, NeedsOfCopies.needs_by_copies}
-use Rattle.lb_expand.proofs.solutions.{Closing.Closed, Placing.AreAsWide, Solving.all_closed}
-use Rattle.lb_expand.proofs.widths.SoundPrograms.{observer_wide_in}
+use Rattle.lb_expand.proofs.numbering.NumberedFits.{variables_on}
+use Rattle.lb_expand.proofs.numbering.NumberedPlaces.{elements_declared, is_laid_out}
+use Rattle.lb_expand.proofs.reads.LinkWords.{Pairs, AllMeet, Meets, either}
+use Rattle.lb_expand.proofs.reads.NeedsOfCopies.{needs_by_copies, clock_at, AreDeclaredOn, IsRunAt}
+use Rattle.lb_expand.proofs.{reads.NeedsOfCopies.AreRunAt, solutions.Placing.AreAsWide}
+use Rattle.lb_expand.proofs.{solutions.Solving.start_closed, widths.SoundPrograms.observer_wide_in}
 
 -- What an element of an accepted program needs, its number reads: by its copy, or by its clock. So
 -- an element that reaches itself by needs reaches itself by reads.
@@ -40,12 +42,25 @@ chain_on f q e is read _ (more_reads r m stands own rest) =
 pub pairs_second :
     {A B : Type 0} (R : A → B → Type 0) (xs : List A) (ys : List B) → Pairs R xs ys → (y : B) →
     In y ys → (x : A) × In x xs × R x y
-pairs_second R [] [] h y i = absurd i
-pairs_second R [] (z ∷ ys) h y i = absurd h
-pairs_second R (x ∷ xs) [] h y i = absurd h
 pairs_second R (x ∷ xs) (z ∷ ys) h y (inl e) = (x, inl refl, subst (R x) e h.0)
 pairs_second R (x ∷ xs) (z ∷ ys) h y (inr i) =
     let r = pairs_second R xs ys h.1 y i in (r.0, inr r.1, r.2)
+pairs_second R [] [] h y i = absurd i
+pairs_second R _ _ h y i = absurd h
+
+-- element `y` of a variable has number `i`
+abbrev IsAt : Program → Element → ℕ → Type 0
+IsAt P y i = slice_get (program_elements P) i ≡ Some y
+
+-- the clock of a variable reads the element `y` of a variable
+abbrev IsReadBy : Program → Instance → Declaration → Element → Type 0
+IsReadBy P c d y = (i : ℕ) × In i (clock_reads (clock_at P c d)) × IsAt P y i
+
+-- the clock of each variable of an instance reads the elements that it waits for
+abbrev AreAwaited : Program → Instance → Type 0
+AreAwaited P c =
+    Every (λ d. Every (IsReadBy P c d) (waits_for P c (declared_clock c.node d.name)))
+    (variables c.node)
 
 module _ (P : Program) (accepted : static_refusal P ≡ None) (checked : check_refusal P ≡ None)
     (observer_wide :
@@ -53,24 +68,14 @@ module _ (P : Program) (accepted : static_refusal P ≡ None) (checked : check_r
     AreAsWide (history_of (layout P) [] []) Observer observer.node.inputs
     (columns_at (history_of (layout P) [] []) Root (root.node.inputs ++ root.node.outputs)))))
     (clocks : (Under : ℕ → ℕ → Type 0) (Left : ℕ → Type 0) (here : Instance) →
-    ((c : Instance) → In c (instances P) →
-    Every (λ d. Every (λ i. (t : ℕ) → Under t i →
-    Every (Under t) (clock_reads (flat_clock (layout P) c.path (declared_clock c.node d.name))))
-    (numbers_of P c.path d.name)) (variables c.node)) → In here (instances P) →
+    ((c : Instance) → In c (instances P) → AreRunAt P Under c) → In here (instances P) →
     AreClocksKnown P accepted checked Under Left here (node_occurrences P here.node))
     (given : IsGiven (expanded (layout P) P (length (program_elements P))))
     (K : ℕ → FlatClock)
     (own : Every (λ q. K q.element ≡ q.clock)
     (expanded (layout P) P (length (program_elements P))).equations)
-    (declared : (c : Instance) → In c (instances P) →
-    Every (λ d. Every (λ i. K i ≡ flat_clock (layout P) c.path (declared_clock c.node d.name))
-    (numbers_of P c.path d.name)) (variables c.node))
-    (awaited : (c : Instance) → In c (instances P) →
-    Every (λ d. Every (λ y.
-    (i : ℕ)
-    × In i (clock_reads (flat_clock (layout P) c.path (declared_clock c.node d.name)))
-    × (slice_get (program_elements P) i ≡ Some y))
-    (waits_for P c (declared_clock c.node d.name))) (variables c.node)) where
+    (declared : (c : Instance) → In c (instances P) → AreDeclaredOn P K c)
+    (awaited : (c : Instance) → In c (instances P) → AreAwaited P c) where
   abbrev Y : Layout
   Y = layout P
 
@@ -90,8 +95,7 @@ module _ (P : Program) (accepted : static_refusal P ≡ None) (checked : check_r
   abbrev Left : ℕ → Type 0
   Left e = ⊥
 
-  meets : (q : FlatEquation) → In q f.equations →
-      Meets (λ y i. slice_get (program_elements P) i ≡ Some y) Under Left q
+  meets : (q : FlatEquation) → In q f.equations → Meets (IsAt P) Under Left q
   meets q is = record {
     there = λ t u. Every-from (Under t) (equation_reads q) (λ e i. by t e i u);
     back = λ g. absurd g;
@@ -104,34 +108,21 @@ module _ (P : Program) (accepted : static_refusal P ≡ None) (checked : check_r
   -- each element of a variable has an equation
   own_reads : (i : ℕ) → i < count → (q : FlatEquation) × In q f.equations × (q.element ≡ i)
   own_reads i lt =
-      let more = closed.next in
       map_in (λ (q : FlatEquation). q.element) f.equations i
-      (given.each i (omega (arith, lt, more)))
-    where
-      closed : Closed count final
-      closed =
-          all_closed count Y P (is_laid_out P accepted) (before_instances count) (instances P)
-          (record { fresh = tt; next = omega arith })
+      (given.each i
+      (omega (arith, lt, (start_closed count Y P (is_laid_out P accepted)).next)))
 
-  variable_runs :
-      (c : Instance) → In c (instances P) →
-      Every (λ d. Every (λ i. (t : ℕ) → Under t i →
-      Every (Under t) (clock_reads (flat_clock Y c.path (declared_clock c.node d.name))))
-      (numbers_of P c.path d.name)) (variables c.node)
+  variable_runs : (c : Instance) → In c (instances P) → AreRunAt P Under c
   variable_runs c j =
-      Every-from (λ d. Every (λ i. (t : ℕ) → Under t i →
-      Every (Under t) (clock_reads (flat_clock Y c.path (declared_clock c.node d.name))))
-      (numbers_of P c.path d.name)) (variables c.node) (λ d i.
-      let all = Every-at (λ d. Every (λ i. K i ≡ flat_clock Y c.path (declared_clock c.node d.name))
-      (numbers_of P c.path d.name)) (variables c.node) d (declared c j) i in
-      Every-from (λ i. (t : ℕ) → Under t i →
-      Every (Under t) (clock_reads (flat_clock Y c.path (declared_clock c.node d.name))))
-      (numbers_of P c.path d.name) (λ m at t u.
+      Every-from (λ d. Every (IsRunAt P Under c d) (numbers_of P c.path d.name)) (variables c.node)
+      (λ d i.
+      let all = Every-at (λ d. Every (λ i. K i ≡ clock_at P c d) (numbers_of P c.path d.name))
+      (variables c.node) d (declared c j) i in
+      Every-from (IsRunAt P Under c d) (numbers_of P c.path d.name) (λ m at t u.
       let q = own_reads m (below c.path d m at) in
-      let clock : q.0.clock ≡ flat_clock Y c.path (declared_clock c.node d.name) =
+      let clock : q.0.clock ≡ clock_at P c d =
       sym (Every-at (λ q. K q.element ≡ q.clock) f.equations q.0 own q.1)
-      ∙ (ap K q.2 ∙ Every-at (λ i. K i ≡ flat_clock Y c.path (declared_clock c.node d.name))
-      (numbers_of P c.path d.name) m all at) in
+      ∙ (ap K q.2 ∙ Every-at (λ i. K i ≡ clock_at P c d) (numbers_of P c.path d.name) m all at) in
       let seen = (meets q.0 q.1).there t (subst (Under t) (sym q.2) u) in
       subst (λ k. Every (Under t) (clock_reads k)) clock
       (Every-second (Under t) (reads q.0.operation) (clock_reads q.0.clock) seen)))
@@ -140,11 +131,9 @@ module _ (P : Program) (accepted : static_refusal P ≡ None) (checked : check_r
       below p d m at = Every-at (λ i. i < count) (numbers_of P p d.name) m
           (numbers_below P accepted p d.name) at
 
-  further_met :
-      AllMeet (λ y i. slice_get (program_elements P) i ≡ Some y) Under Left final.equations
+  further_met : AllMeet (IsAt P) Under Left final.equations
   further_met =
-      Every-from (Meets (λ y i. slice_get (program_elements P) i ≡ Some y) Under Left)
-      final.equations (λ q i.
+      Every-from (Meets (IsAt P) Under Left) final.equations (λ q i.
       meets q
       (in_second q (given_inputs Y (instance_at P Root)) _
       (in_second q (observed Y (instance_at P Root) (instance_at P Observer)) _
@@ -155,25 +144,16 @@ module _ (P : Program) (accepted : static_refusal P ≡ None) (checked : check_r
       In q f.equations
   copies_in q i =
       in_second q (given_inputs Y (instance_at P Root)) _
-      (by (in_either q (observed Y (instance_at P Root) (instance_at P Observer)) final.copies i))
-    where
-      by :
-          In q (observed Y (instance_at P Root) (instance_at P Observer)) ⊎ In q final.copies →
-          In q
-          (observed Y (instance_at P Root) (instance_at P Observer)
-          ++ (final.copies ++ final.equations))
-      by (inl j) = in_first q (observed Y (instance_at P Root) (instance_at P Observer)) _ j
-      by (inr j) =
-          in_second q (observed Y (instance_at P Root) (instance_at P Observer)) _
-          (in_first q final.copies final.equations j)
+      (either (λ j. in_first q (observed Y (instance_at P Root) (instance_at P Observer)) _ j)
+      (λ j. in_second q (observed Y (instance_at P Root) (instance_at P Observer)) _
+      (in_first q final.copies final.equations j)) (in_either q _ _ i))
 
   -- ## Needs by statements, calls and the observer
 
   abbrev Defined : FlatEquation → Definition → Type 0
   Defined q d =
       IsDefinedBy Y P (history_of (layout P) [] [])
-      (λ p x. same P accepted checked Under Left p x)
-      (λ y i. slice_get (program_elements P) i ≡ Some y) Under Left q d
+      (λ p x. same P accepted checked Under Left p x) (IsAt P) Under Left q d
 
   abbrev every_copy : List FlatEquation
   every_copy = observed Y (instance_at P Root) (instance_at P Observer) ++ final.copies
@@ -194,8 +174,7 @@ module _ (P : Program) (accepted : static_refusal P ≡ None) (checked : check_r
       let by : Defined q.0 d = q.2 in
       let copied : In by.operand (equation_reads q.0) =
       subst (λ o. In by.operand (reads o ++ clock_reads q.0.clock)) (sym by.copies) (inl refl) in
-      let there = Every-at
-      (λ y. (m : ℕ) × (slice_get (program_elements P) m ≡ Some y) × Under by.operand m) d.needed y
+      let there = Every-at (λ y. (m : ℕ) × IsAt P y m × Under by.operand m) d.needed y
       (by.link.there by.operand (inl refl)) names in
       record {
         one = q.0.element;
@@ -219,31 +198,20 @@ module _ (P : Program) (accepted : static_refusal P ≡ None) (checked : check_r
       (x y : Element) → In x (elements P c v) →
       In y (waits_for P c (declared_clock c.node v.name)) → HasReads P f x y
   by_clock c k v of x y among names =
-      let n = pairs_second (λ i y. slice_get (program_elements P) i ≡ Some y)
-      (numbers_of P c.path v.name) (elements P c v)
-      (Every-at (λ d. Pairs (λ i y. slice_get (program_elements P) i ≡ Some y)
-      (numbers_of P c.path d.name) (elements P c d)) (variables c.node) v
-      (elements_declared P accepted c k) of) x among in
-      let clock = Every-at
-      (λ i. K i ≡ flat_clock Y c.path (declared_clock c.node v.name))
-      (numbers_of P c.path v.name) n.0
-      (Every-at (λ d. Every (λ i. K i ≡ flat_clock Y c.path (declared_clock c.node d.name))
-      (numbers_of P c.path d.name)) (variables c.node) v (declared c k) of) n.1 in
-      let waited = Every-at (λ y.
-      (i : ℕ) × In i (clock_reads (flat_clock Y c.path (declared_clock c.node v.name)))
-      × (slice_get (program_elements P) i ≡ Some y))
-      (waits_for P c (declared_clock c.node v.name)) y
-      (Every-at (λ d. Every (λ y.
-      (i : ℕ) × In i (clock_reads (flat_clock Y c.path (declared_clock c.node d.name)))
-      × (slice_get (program_elements P) i ≡ Some y))
-      (waits_for P c (declared_clock c.node d.name))) (variables c.node) v (awaited c k) of)
-      names in
+      let n = pairs_second (λ i y. IsAt P y i) (numbers_of P c.path v.name) (elements P c v)
+      (Every-at (λ d. Pairs (λ i y. IsAt P y i) (numbers_of P c.path d.name) (elements P c d))
+      (variables c.node) v (elements_declared P accepted c k) of) x among in
+      let clock = Every-at (λ i. K i ≡ clock_at P c v) (numbers_of P c.path v.name) n.0
+      (Every-at (λ d. Every (λ i. K i ≡ clock_at P c d) (numbers_of P c.path d.name))
+      (variables c.node) v (declared c k) of) n.1 in
+      let waited = Every-at (IsReadBy P c v) (waits_for P c (declared_clock c.node v.name)) y
+      (Every-at (λ d. Every (IsReadBy P c d) (waits_for P c (declared_clock c.node d.name)))
+      (variables c.node) v (awaited c k) of) names in
       let q = own_reads n.0 (slice_get_within (program_elements P) n.0 x n.2) in
-      let own_clock : flat_clock Y c.path (declared_clock c.node v.name) ≡ q.0.clock =
-      sym clock ∙ (sym (ap K q.2)
-      ∙ Every-at (λ q. K q.element ≡ q.clock) f.equations q.0 own q.1) in
-      let read : In waited.0 (clock_reads q.0.clock) =
-      subst (λ l. In waited.0 (clock_reads l)) own_clock waited.1 in
+      let own_clock : clock_at P c v ≡ q.0.clock = sym clock
+      ∙ (sym (ap K q.2) ∙ Every-at (λ q. K q.element ≡ q.clock) f.equations q.0 own q.1) in
+      let read : In waited.0 (clock_reads q.0.clock) = subst (λ l. In waited.0 (clock_reads l))
+      own_clock waited.1 in
       record {
         one = n.0;
         other = waited.0;
@@ -289,7 +257,9 @@ module _ (P : Program) (accepted : static_refusal P ≡ None) (checked : check_r
       (d : Definition) (y : Element) (c : Instance) → In c (instances P) →
       In d (definitions_at P c) → In y d.needed → HasReads P f d.element y
   instance_read d y c k stands names =
-      by (in_either d (eqs c) (calls c ++ of_clocks c) stands)
+      either (λ h. copied (in_first d (eqs c) (calls c) h))
+      (λ h. either (λ h. copied (in_second d (eqs c) (calls c) h)) (λ h. clock_read d y c k h names)
+      (in_either d (calls c) (of_clocks c) h)) (in_either d (eqs c) (calls c ++ of_clocks c) stands)
     where
       copied : In d (made_at c) → HasReads P f d.element y
       copied h =
@@ -297,28 +267,15 @@ module _ (P : Program) (accepted : static_refusal P ≡ None) (checked : check_r
           (in_first d (flat_map made_at (instances P)) of_observer
           (to_pieces made_at d c (instances P) k h)) names
 
-      by_call : In d (calls c) ⊎ In d (of_clocks c) → HasReads P f d.element y
-      by_call (inl h) = copied (in_second d (eqs c) (calls c) h)
-      by_call (inr h) = clock_read d y c k h names
-
-      by : In d (eqs c) ⊎ In d (calls c ++ of_clocks c) → HasReads P f d.element y
-      by (inl h) = copied (in_first d (eqs c) (calls c) h)
-      by (inr h) = by_call (in_either d (calls c) (of_clocks c) h)
-
   -- where an element needs another, its number reads the number of the other
   pub needs_read : (x y : Element) → Needs P x y → HasReads P f x y
   needs_read x y n =
       subst (λ x. HasReads P f x y) n.is_of
-      (by (in_either n.by (flat_map (definitions_at P) (instances P)) of_observer n.stands))
-    where
-      by :
-          In n.by (flat_map (definitions_at P) (instances P)) ⊎ In n.by of_observer →
-          HasReads P f n.by.element y
-      by (inl h) =
-          let p = of_pieces (definitions_at P) n.by (instances P) h in
-          instance_read n.by y p.source p.is_in p.holds n.names
-      by (inr h) =
-          by_copy n.by y (in_second n.by (flat_map made_at (instances P)) of_observer h) n.names
+      (either (λ h.
+      let p = of_pieces (definitions_at P) n.by (instances P) h in
+      instance_read n.by y p.source p.is_in p.holds n.names)
+      (λ h. by_copy n.by y (in_second n.by (flat_map made_at (instances P)) of_observer h) n.names)
+      (in_either n.by (flat_map (definitions_at P) (instances P)) of_observer n.stands))
 
 -- In the layout by numbers, the reads of the elements of an accepted program are their needs: each
 -- element is given once, a read from variable to variable is a need, a need is a chain of reads, a
@@ -331,41 +288,23 @@ module _ (P : Program) (accepted : static_refusal P ≡ None) (checked : check_r
     given_once = given_whole P accepted checked (observer_wide_in P accepted [] [])
 
     -- the clock of a variable reads the elements that it waits for
-    awaited :
-        (c : Instance) → In c (instances P) →
-        Every (λ d. Every (λ y.
-        (i : ℕ)
-        × In i (clock_reads (flat_clock (layout P) c.path (declared_clock c.node d.name)))
-        × (slice_get (program_elements P) i ≡ Some y))
-        (waits_for P c (declared_clock c.node d.name))) (variables c.node)
+    awaited : (c : Instance) → In c (instances P) → AreAwaited P c
     awaited c j =
-        Every-from (λ d. Every (λ y.
-        (i : ℕ)
-        × In i (clock_reads (flat_clock (layout P) c.path (declared_clock c.node d.name)))
-        × (slice_get (program_elements P) i ≡ Some y))
-        (waits_for P c (declared_clock c.node d.name))) (variables c.node) (λ d i.
+        Every-from (λ d. Every (IsReadBy P c d) (waits_for P c (declared_clock c.node d.name)))
+        (variables c.node) (λ d i.
         waits_read P accepted checked c j (declared_clock c.node d.name)
         (declared_over (IsVariable c.node) c.node (own_variables c.node) d.name))
 
     -- the elements of variables are on the clocks of their declarations
     declared :
-        (c : Instance) → In c (instances P) →
-        Every (λ d. Every (λ i.
-        (program_sorts P).clock_of i ≡ flat_clock (layout P) c.path (declared_clock c.node d.name))
-        (numbers_of P c.path d.name)) (variables c.node)
+        (c : Instance) → In c (instances P) → AreDeclaredOn P (program_sorts P).clock_of c
     declared c j =
         Every-map (IsVariableOn (program_sorts P) (layout P) P c)
-        (λ d. Every (λ i.
-        (program_sorts P).clock_of i ≡ flat_clock (layout P) c.path (declared_clock c.node d.name))
+        (λ d. Every (λ i. (program_sorts P).clock_of i ≡ clock_at P c d)
         (numbers_of P c.path d.name))
-        (λ d on.
-        Every-map
-        (IsOn (program_sorts P) (flat_clock (layout P) c.path (declared_clock c.node d.name))
-        d.kind)
-        (λ i.
-        (program_sorts P).clock_of i ≡ flat_clock (layout P) c.path (declared_clock c.node d.name))
-        (λ i h. h.0) (numbers_of P c.path d.name) on.elements)
-        (variables c.node) (variables_on P accepted c j)
+        (λ d on. Every-map (IsOn (program_sorts P) (clock_at P c d) d.kind)
+        (λ i. (program_sorts P).clock_of i ≡ clock_at P c d) (λ i h. h.0)
+        (numbers_of P c.path d.name) on.elements) (variables c.node) (variables_on P accepted c j)
 
     module _ (scalars : AreScalars P) where
       -- each equation is on the clock of its element

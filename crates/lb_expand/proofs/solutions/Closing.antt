@@ -8,9 +8,9 @@ use Words.{Array, AtMostOne, Nor, Call, Iterate, Exprs, Nil, Cons, Declaration, 
 use Words.{Path, Child, node_named, Boolean, first_value, On, declared_clock, call_clocks, gathered}
 use Words.{last_of, iterated, FlatClock, Operation, Constant, ApplyUnary, ApplyBinary, Choose}
 use Words.{FirstThen, Previous, Latest, Sample, FlatEquation, clock_reads, reads, keeps, Layout}
-use Words.{flat_clock, State, Emitted, EmittedAll, numbered, numbers, after, add, joins, chosen_by}
+use Words.{flat_clock, State, Emitted, EmittedAll, gives, numbered, numbers, after, add, joins}
 use Words.{push, chained, twice, negated, keep, assert, emit_nor, emit_at_most_one, emit_symbol}
-use Words.{emit_name, emit, emit_all, emit_each, length-append}
+use Words.{chosen_by, emit_name, emit, emit_all, emit_each, length-append}
 use Rattle.{lb_check.specs.Clocks.Clock, lb_flat.proofs.lists.Lists.{Every-map, Every-append}}
 use Rattle.lb_flat.proofs.lists.Lists.{Every-take, Every-drop, Every-copies, Every-joined}
 use Rattle.lb_expand.proofs.{lists.Lists.Every-pieces, solutions.Filling.Fresh}
@@ -116,6 +116,12 @@ module _ (V : ℕ) where
     found = h.found;
   }
 
+  -- other elements of the same state in place of what is found
+  gives_tight :
+      (s : State) (x : Emitted) (is : List ℕ) → Tight s x → Below x.state.next is →
+      Tight s (gives x.state is)
+  gives_tight s x is h below = record { state = h.state; grows = h.grows; found = below }
+
   pub assert_closed : (x : Emitted) → Closed x.state → Closed (assert x)
   unfolding assert
   assert_closed x h = record { fresh = h.fresh; next = h.next }
@@ -160,9 +166,9 @@ module _ (V : ℕ) where
     push_tight : (s : State) (o : Operation) → Closed s → Reaches s.next o → Closed (push k s o)
     push_tight s o closed h =
         let one : FlatEquation = record { element = s.next; clock = k; operation = o } in
-        let of_clock = higher V s.next _ (omega (arith, closed.next)) c in
         let fresh_one : Fresh s.next (one ∷ []) =
-        numbered_fresh s.next k (o ∷ []) of_clock (h, tt) in
+        numbered_fresh s.next k (o ∷ []) (higher V s.next _ (omega (arith, closed.next)) c)
+        (h, tt) in
         record {
           fresh = Fresh-append V s.equations (one ∷ []) closed.fresh
               (subst (λ n. Fresh n (one ∷ [])) closed.next fresh_one);
@@ -219,11 +225,9 @@ module _ (V : ℕ) where
         (s : State) (is : List ℕ) → Closed s → Below s.next is →
         Tight s (emit_at_most_one k s is)
     at_most_one_tight s is closed h =
-        let t : State = push k s (Constant (Boolean false)) in
-        let t_closed = push_tight s (Constant (Boolean false)) closed tt in
-        let r = twice_tight t s.next s.next is t_closed (omega arith) (omega arith)
-        (higher s.next _ is (omega arith) h) in
-        then_tight s t _ (omega arith) (negated_tight t _ r)
+        let r = twice_tight _ s.next s.next is (push_tight s (Constant (Boolean false)) closed tt)
+        (omega arith) (omega arith) (higher s.next _ is (omega arith) h) in
+        then_tight s _ _ (omega arith) (negated_tight _ _ r)
 
     symbol_tight :
         (op : BinaryOperator) (s : State) (it : ArrayIterator) (found : List (List ℕ)) →
@@ -334,21 +338,13 @@ module _ (V : ℕ) where
           (λ n i p. (p, tt)) (tight _ n s a c)
       tight k n s (Replicate a m) c =
           let x = tight k n s a c in
-          record { state = x.state; grows = x.grows; found = Every-copies _ _ _ x.found }
+          gives_tight s _ _ x (Every-copies _ _ _ x.found)
       tight k n s (Index a i) c =
           let x = tight k n s a c in
-          record {
-            state = x.state;
-            grows = x.grows;
-            found = Every-take _ _ _ (Every-drop _ _ _ x.found);
-          }
+          gives_tight s _ _ x (Every-take _ _ _ (Every-drop _ _ _ x.found))
       tight k n s (Slice a i j) c =
           let x = tight k n s a c in
-          record {
-            state = x.state;
-            grows = x.grows;
-            found = Every-take _ _ _ (Every-drop _ _ _ x.found);
-          }
+          gives_tight s _ _ x (Every-take _ _ _ (Every-drop _ _ _ x.found))
       tight k n s (Join a b) c =
           let x = tight k n s a c in
           let y = tight k _ _ b x.state in

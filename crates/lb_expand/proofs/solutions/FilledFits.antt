@@ -1,25 +1,25 @@
 -- Streams that are filled in along equations that fit have their kinds and are present on their
 -- clocks.
 use Rattle.lb_expand.proofs.Words
-use Words.{Kind, Or, And, Every, zip2, tail_of, and_first, and_second, Scalar, Integer, Boolean}
-use Words.{Bad, Stream, two_scalars, one_scalar, is_of_kind, constantly, along, along_two, choice}
-use Words.{previous, first_then, sample, latest, newest, first_cell, Inputs, column_of, fits}
-use Words.{is_row, FlatClock, Operation, Input, Constant, Copy, ApplyUnary, ApplyBinary, Choose}
-use Words.{FirstThen, Previous, Latest, Sample, FlatEquation, column, instants, operate, Holds}
-use Words.{reads, keeps, ◌+◌, ◌&&◌, is_some, map, length, replicate, refl, ap, ap₂, ◌∙◌, arith}
-use Words.{shows, AreLong, ◌≡◌, ℕ, suc, ◌<◌, Bool, true, false, ℤ, Some, None, List, [], ◌∷◌, sym}
-use Words.{slice_get, subst}
+use Words.{heads_same, tails_same, Kind, Or, And, Every, zip2, tail_of, and_first, and_second}
+use Words.{Scalar, Integer, Boolean, Bad, Stream, two_scalars, one_scalar, is_of_kind, constantly}
+use Words.{along, along_two, choice, previous, first_then, sample, latest, newest, first_cell}
+use Words.{Inputs, column_of, fits, is_row, FlatClock, Operation, Input, Constant, Copy, ApplyUnary}
+use Words.{ApplyBinary, Choose, FirstThen, Previous, Latest, Sample, FlatEquation, column, instants}
+use Words.{operate, Holds, reads, keeps, ◌+◌, ◌&&◌, is_some, map, length, replicate, refl, ap, ap₂}
+use Words.{◌∙◌, arith, shows, AreLong, ◌≡◌, ℕ, suc, ◌<◌, Bool, true, false, ℤ, Some, None, List, []}
+use Words.{◌∷◌, sym, slice_get, subst}
 use Rattle.lb_syntax.specs.declared.tree.Kind.TheVariants.{Bool as Truth}
-use Rattle.{lb_check.specs.{Scalars.Nil, Streams.sampled_at}, lb_flat.specs.Fitting.IsOf}
-use Rattle.lb_flat.specs.Fitting.{OperandKinds, KindFits, OperandsFit, ClockFits}
+use Rattle.lb_check.specs.{Scalars.Nil, Streams.sampled_at}
+use Rattle.lb_flat.specs.Fitting.{IsOf, OperandKinds, KindFits, OperandsFit, ClockFits}
 use Rattle.lb_flat.proofs.lists.Lists.{choice_step, latest_step, column_long, instants_long}
-use Rattle.lb_flat.proofs.{lists.Lists.Every-map, runs.Fitting.{unary_of, binary_of, CellOf}}
-use Rattle.lb_flat.proofs.runs.Fitting.{held_of, kept_of, newest_of, one_of, two_of, chosen_cell_of}
-use Rattle.lb_flat.proofs.runs.Fitting.{given_kind, all_given, held_present, one_present}
-use Rattle.lb_flat.proofs.runs.Fitting.{two_present, choice_present, kept_present}
-use Rattle.lb_expand.proofs.{lists.Counting.IsTruth, solutions.Filling.{Fresh, below_reads}}
-use Rattle.lb_expand.proofs.solutions.{Filling.{below_keeps, below_next}, Placing.HasTruths}
-use Rattle.lb_expand.proofs.solutions.Solving.{second_of_or, second_of_and}
+use Rattle.lb_flat.proofs.lists.Lists.{Every-map}
+use Rattle.lb_flat.proofs.runs.Fitting.{unary_of, binary_of, CellOf, held_of, kept_of, newest_of}
+use Rattle.lb_flat.proofs.runs.Fitting.{one_of, two_of, chosen_cell_of, given_kind, all_given}
+use Rattle.lb_flat.proofs.runs.Fitting.{held_present, one_present, two_present, choice_present}
+use Rattle.{lb_flat.proofs.runs.Fitting.kept_present, lb_expand.proofs.lists.Counting.IsTruth}
+use Rattle.lb_expand.proofs.solutions.Filling.{Fresh, below_reads, below_keeps, below_next}
+use Rattle.lb_expand.proofs.solutions.{Placing.HasTruths, Solving.{second_of_or, second_of_and}}
 
 -- Streams that are filled in along equations whose kinds fit hold scalars of their kinds; so the
 -- operands that have to be truth values are truth values.
@@ -38,15 +38,15 @@ module _ (kind : Kind) where
   choice_of :
       (cs xs ys : Stream) → StreamOf kind xs → StreamOf kind ys →
       StreamOf kind (choice cs xs ys)
+  choice_of (c ∷ cs) (x ∷ xs) (y ∷ ys) h g =
+      subst (StreamOf kind) (sym (choice_step c x y cs xs ys))
+      (chosen_cell_of kind c x y h.0 g.0, choice_of cs xs ys h.1 g.1)
   choice_of [] xs ys h g = tt
   choice_of (None ∷ cs) [] ys h g = tt
   choice_of (Some c ∷ cs) [] ys h g = tt
   choice_of (None ∷ cs) (x ∷ xs) [] h g = tt
   choice_of (Some c ∷ cs) (None ∷ xs) [] h g = tt
   choice_of (Some c ∷ cs) (Some v ∷ xs) [] h g = tt
-  choice_of (c ∷ cs) (x ∷ xs) (y ∷ ys) h g =
-      subst (StreamOf kind) (sym (choice_step c x y cs xs ys))
-      (chosen_cell_of kind c x y h.0 g.0, choice_of cs xs ys h.1 g.1)
 
   first_of_stream : (xs : Stream) → StreamOf kind xs → CellOf kind (first_cell xs)
   first_of_stream [] h = tt
@@ -207,12 +207,6 @@ module _ (inputs : List Kind) (N : ℕ → Kind) (X : Inputs)
 abbrev pub presence_of : Stream → List Bool
 presence_of xs = map is_some xs
 
-first_is : (b c : Bool) (bs cs : List Bool) → b ∷ bs ≡ c ∷ cs → b ≡ c
-first_is b c bs cs e = cc
-
-rest_is : (b c : Bool) (bs cs : List Bool) → b ∷ bs ≡ c ∷ cs → bs ≡ cs
-rest_is b c bs cs e = cc
-
 -- a list is not both empty and of one item or more
 ends : {A : Type 0} (b : Bool) (bs cs : List Bool) → b ∷ bs ≡ cs → [] ≡ cs → A
 ends b bs cs p q = let e : b ∷ bs ≡ [] = p ∙ sym q in absurd cc
@@ -253,9 +247,8 @@ along_two_there f [] ys bs p q = p
 along_two_there f (x ∷ xs) [] bs p q = q
 along_two_there f (x ∷ xs) (y ∷ ys) [] p q = absurd cc
 along_two_there f (x ∷ xs) (y ∷ ys) (b ∷ bs) p q =
-    ap₂ (λ c cs. c ∷ cs)
-    (two_present f x y b (first_is _ _ _ _ p) (first_is _ _ _ _ q))
-    (along_two_there f xs ys bs (rest_is _ _ _ _ p) (rest_is _ _ _ _ q))
+    ap₂ (λ c cs. c ∷ cs) (two_present f x y b (heads_same _ _ _ _ p) (heads_same _ _ _ _ q))
+    (along_two_there f xs ys bs (tails_same _ _ _ _ p) (tails_same _ _ _ _ q))
 
 choice_there :
     (cs xs ys : Stream) (bs : List Bool) → presence_of cs ≡ bs → presence_of xs ≡ bs →
@@ -265,10 +258,9 @@ choice_there (c ∷ cs) [] ys bs p q r = ends _ _ bs p q
 choice_there (c ∷ cs) (x ∷ xs) [] bs p q r = ends _ _ bs p r
 choice_there (c ∷ cs) (x ∷ xs) (y ∷ ys) [] p q r = absurd cc
 choice_there (c ∷ cs) (x ∷ xs) (y ∷ ys) (b ∷ bs) p q r =
-    ap presence_of (choice_step c x y cs xs ys)
-    ∙ ap₂ (λ d ds. d ∷ ds)
-    (choice_present c x y b (first_is _ _ _ _ p) (first_is _ _ _ _ q) (first_is _ _ _ _ r))
-    (choice_there cs xs ys bs (rest_is _ _ _ _ p) (rest_is _ _ _ _ q) (rest_is _ _ _ _ r))
+    ap presence_of (choice_step c x y cs xs ys) ∙ ap₂ (λ d ds. d ∷ ds)
+    (choice_present c x y b (heads_same _ _ _ _ p) (heads_same _ _ _ _ q) (heads_same _ _ _ _ r))
+    (choice_there cs xs ys bs (tails_same _ _ _ _ p) (tails_same _ _ _ _ q) (tails_same _ _ _ _ r))
 
 first_then_there :
     (xs ys : Stream) (bs : List Bool) → presence_of xs ≡ bs → presence_of ys ≡ bs →
@@ -279,8 +271,10 @@ first_then_there (Some v ∷ xs) [] bs p q = ends _ _ bs p q
 first_then_there (None ∷ xs) (y ∷ ys) [] p q = absurd cc
 first_then_there (Some v ∷ xs) (y ∷ ys) [] p q = absurd cc
 first_then_there (None ∷ xs) (y ∷ ys) (b ∷ bs) p q =
-    cc (first_is _ _ _ _ p, first_then_there xs ys bs (rest_is _ _ _ _ p) (rest_is _ _ _ _ q))
-first_then_there (Some v ∷ xs) (y ∷ ys) (b ∷ bs) p q = cc (first_is _ _ _ _ p, rest_is _ _ _ _ q)
+    cc
+    (heads_same _ _ _ _ p, first_then_there xs ys bs (tails_same _ _ _ _ p) (tails_same _ _ _ _ q))
+first_then_there (Some v ∷ xs) (y ∷ ys) (b ∷ bs) p q =
+    cc (heads_same _ _ _ _ p, tails_same _ _ _ _ q)
 
 previous_there : (v : Scalar) (bs : List Bool) (xs : Stream) →
     presence_of (previous v bs xs) ≡ bs

@@ -9,15 +9,16 @@ use Words.{emit_instances, None, Name, Path, Root, Observer, instance_at, static
 use Words.{check_refusal, declared_clock, AgreeAt, AreSame, solves_same, given_inputs, observed}
 use Words.{expanded, FlatEquation, instants, FlatSolves, IsFlatSolution, history_of, flat_clock}
 use Rattle.lb_check.proofs.{lists.ListPairs.cons_same, programs.SolutionStreams.fits_length}
-use Rattle.lb_flat.{specs.Fitting.{KindFits, IsFitting, ClockFits}, proofs.lists.Lists.Every-map}
-use Rattle.lb_flat.proofs.lists.Lists.{Every-of_pieces, Every-range, Every-both, Every-second}
-use Rattle.lb_flat.proofs.solutions.StandingRuns.{cells_fit}
+use Rattle.lb_flat.specs.Fitting.{KindFits, IsFitting, ClockFits}
+use Rattle.lb_flat.proofs.lists.Lists.{Every-map, Every-of_pieces, Every-range, Every-both}
+use Rattle.lb_flat.proofs.{lists.Lists.Every-second, solutions.StandingRuns.cells_fit}
 use Rattle.lb_expand.proofs.{copies.CopiedElements.expanded_within, lists.Lists.map-pieces}
-use Rattle.lb_expand.proofs.solutions.{Closing.{Closed, Below}, FilledFits.{ElementOf, fits_of}}
-use Rattle.lb_expand.proofs.solutions.{FilledFits.{fresh_truths, fresh_fits}, Filling.filled_keeps}
-use Rattle.lb_expand.proofs.solutions.{Filling.filled_solves, Placing.{columns, HasTruths, Agrees}}
-use Rattle.lb_expand.proofs.solutions.{Placing.presence_flat, Solving.{all_closed, all_streams_of}}
-use Rattle.lb_expand.proofs.solutions.Solving.{IsElement, IsVariablePlaced, IsPlacing, IsSolvedAt}
+use Rattle.lb_expand.proofs.solutions.Closing.{Closed, Below}
+use Rattle.lb_expand.proofs.solutions.FilledFits.{ElementOf, fits_of, fresh_truths, fresh_fits}
+use Rattle.lb_expand.proofs.solutions.Filling.{filled_keeps, filled_solves}
+use Rattle.lb_expand.proofs.solutions.Placing.{columns, HasTruths, Agrees, presence_flat}
+use Rattle.lb_expand.proofs.solutions.Solving.{start_closed, all_streams_of, IsElement}
+use Rattle.lb_expand.proofs.solutions.Solving.{IsVariablePlaced, IsPlacing, IsSolvedAt}
 use Rattle.lb_expand.proofs.solutions.Solving.{IsProgramSound, IsTied, to_flat}
 use Rattle.lb_expand.proofs.solutions.Watching.{all_places}
 
@@ -119,16 +120,21 @@ module _ (P : Program) (Y : Layout) (count : ℕ) (K : ℕ → FlatClock) (N : �
   of_instance G here =
       flat_map (λ d. columns X G (Y.places here.path d.name)) (variables here.node)
 
+  -- what is known of the variables and of the solution of each instance
+  known_of :
+      Every (λ here. Every (Placed here) (variables here.node) × SolvesAt P H here) (instances P)
+  known_of =
+      Every-both (λ here. Every (Placed here) (variables here.node)) (SolvesAt P H) (instances P)
+      placing.variables s.instances
+
   widths_same :
-      (G : List Stream) (is : List Instance) →
-      Every (λ here. Every (Placed here) (variables here.node)) is → Every (SolvesAt P H) is →
-      Every (λ here. length (of_instance G here) ≡ length (variable_columns H here)) is
-  widths_same G [] p f = tt
-  widths_same G (here ∷ is) p f = (
-    pieces_count (λ d. columns X G (Y.places here.path d.name)) (λ d. H.columns here.path d.name)
-        (variables here.node) (width_same G here (variables here.node) p.0 f.0.variables),
-    widths_same G is p.1 f.1,
-  )
+      (G : List Stream) →
+      Every (λ here. length (of_instance G here) ≡ length (variable_columns H here)) (instances P)
+  widths_same G =
+      Every-map _ (λ here. length (of_instance G here) ≡ length (variable_columns H here))
+      (λ here z. pieces_count (λ d. columns X G (Y.places here.path d.name))
+      (λ d. H.columns here.path d.name) (variables here.node)
+      (width_same G here (variables here.node) z.0 z.1.variables)) (instances P) known_of
 
   places_flat :
       (G : List Stream) →
@@ -144,7 +150,7 @@ module _ (P : Program) (Y : Layout) (count : ℕ) (K : ℕ → FlatClock) (N : �
   pub gathered_count : length F ≡ count
   gathered_count =
       sym (pieces_count (of_instance F) (variable_columns H) (instances P)
-      (widths_same F (instances P) placing.variables s.instances))
+      (widths_same F))
       ∙ ap length (places_flat F) ∙ length-map (all_places Y P) (column X F)
       ∙ ap length instance_order ∙ length-range_with_len 0 count
 
@@ -155,22 +161,15 @@ module _ (P : Program) (Y : Layout) (count : ℕ) (K : ℕ → FlatClock) (N : �
       places_flat F ∙ ap (columns X F) instance_order
       ∙ ap (λ n. columns X F (range_with_len 0 n)) (sym gathered_count) ∙ all_columns X F
 
-  each_instance :
-      (is : List Instance) →
-      Every (λ here. Every (Placed here) (variables here.node)) is → Every (SolvesAt P H) is →
-      Every (λ here. of_instance F here ≡ variable_columns H here) is →
-      Every (λ here. Every (HasColumns F here) (variables here.node)) is
-  each_instance [] p f e = tt
-  each_instance (here ∷ is) p f e = (
-    pieces_same (λ d. columns X F (Y.places here.path d.name)) (λ d. H.columns here.path d.name)
-        (variables here.node) (width_same F here (variables here.node) p.0 f.0.variables) e.0,
-    each_instance is p.1 f.1 e.1,
-  )
-
   gathered_columns : Every (λ here. Every (HasColumns F here) (variables here.node)) (instances P)
   gathered_columns =
-      each_instance _ placing.variables s.instances (pieces_same (of_instance F)
-      (variable_columns H) _ (widths_same F _ placing.variables s.instances) gathered_flat)
+      Every-map _ (λ here. Every (HasColumns F here) (variables here.node))
+      (λ here z. pieces_same (λ d. columns X F (Y.places here.path d.name))
+      (λ d. H.columns here.path d.name) (variables here.node)
+      (width_same F here (variables here.node) z.1.0 z.1.1.variables) z.0) (instances P)
+      (Every-both (λ here. of_instance F here ≡ variable_columns H here) _ (instances P)
+      (pieces_same (of_instance F) (variable_columns H) (instances P) (widths_same F)
+      gathered_flat) known_of)
 
   -- ## Lengths
 
@@ -184,30 +183,20 @@ module _ (P : Program) (Y : Layout) (count : ℕ) (K : ℕ → FlatClock) (N : �
   cells_long kind bs (xs ∷ xss) e h =
       (fits_length kind bs xs h.0 ∙ e, cells_long kind bs xss e h.1)
 
-  each_long :
-      (here : Instance) (ds : List Declaration) → Every (IsPresent here) ds →
-      Every (Fits P H here) ds → Every (λ d. AreLong X (H.columns here.path d.name)) ds
-  each_long here [] p f = tt
-  each_long here (d ∷ ds) p f = (
-    cells_long d.kind (variable_presence H here d) (H.columns here.path d.name) p.0 f.0.cells,
-    each_long here ds p.1 f.1,
-  )
-
-  instances_long :
-      (is : List Instance) → Every (λ here. Every (IsPresent here) (variables here.node)) is →
-      Every (SolvesAt P H) is → Every (λ here. AreLong X (variable_columns H here)) is
-  instances_long [] p f = tt
-  instances_long (here ∷ is) p f = (
-    Every-of_pieces IsLong (λ d. H.columns here.path d.name) (variables here.node)
-        (each_long here (variables here.node) p.0 f.0.variables),
-    instances_long is p.1 f.1,
-  )
-
   -- where the clocks of variables have the instants of the trace, so have their streams
   pub gathered_long :
       Every (λ here. Every (IsPresent here) (variables here.node)) (instances P) → AreLong X F
   gathered_long p =
-      Every-of_pieces IsLong (variable_columns H) (instances P) (instances_long _ p s.instances)
+      Every-of_pieces IsLong (variable_columns H) (instances P)
+      (Every-map _ (λ here. AreLong X (variable_columns H here))
+      (λ here z. Every-of_pieces IsLong (λ d. H.columns here.path d.name) (variables here.node)
+      (Every-map _ (λ d. AreLong X (H.columns here.path d.name))
+      (λ d w. cells_long d.kind (variable_presence H here d) (H.columns here.path d.name) w.0
+      w.1.cells) (variables here.node)
+      (Every-both (IsPresent here) (Fits P H here) (variables here.node) z.0 z.1.variables)))
+      (instances P)
+      (Every-both (λ here. Every (IsPresent here) (variables here.node)) (SolvesAt P H)
+      (instances P) p s.instances))
 
   -- ## The streams of all elements
 
@@ -218,18 +207,7 @@ module _ (P : Program) (Y : Layout) (count : ℕ) (K : ℕ → FlatClock) (N : �
   further = emit_instances Y P (before_instances count) (instances P)
 
   closed : Closed count further
-  closed = all_closed count Y P placing.laid _ _ (record { fresh = tt; next = omega arith })
-
-  filled_same :
-      (here : Instance) (ds : List Declaration) → Every (HasColumns F here) ds →
-      Every (HasColumns all_gathered here) ds
-  filled_same here [] h = tt
-  filled_same here (d ∷ ds) h = (
-    columns_same X all_gathered F count
-        (λ i lt. filled_keeps X F further.equations i (omega (arith, gathered_count)))
-        (Y.places here.path d.name) (placing.laid.places here.path d.name) ∙ h.0,
-    filled_same here ds h.1,
-  )
+  closed = start_closed count Y P placing.laid
 
   -- each variable has the streams of its elements
   pub filled_columns :
@@ -237,7 +215,11 @@ module _ (P : Program) (Y : Layout) (count : ℕ) (K : ℕ → FlatClock) (N : �
   filled_columns =
       Every-map (λ here. Every (HasColumns F here) (variables here.node))
       (λ here. Every (HasColumns all_gathered here) (variables here.node))
-      (λ here h. filled_same here (variables here.node) h) (instances P) gathered_columns
+      (λ here h. Every-map (HasColumns F here) (HasColumns all_gathered here)
+      (λ d e. columns_same X all_gathered F count
+      (λ i lt. filled_keeps X F further.equations i (omega (arith, gathered_count)))
+      (Y.places here.path d.name) (placing.laid.places here.path d.name) ∙ e)
+      (variables here.node) h) (instances P) gathered_columns
 
   -- ## Truth values
 
@@ -254,38 +236,30 @@ module _ (P : Program) (Y : Layout) (count : ℕ) (K : ℕ → FlatClock) (N : �
     elements_of k kind bs is h.1 f.1,
   )
 
-  variable_elements :
-      (here : Instance) (ds : List Declaration) → Every (Placed here) ds →
-      Every (Fits P H here) ds → Every (HasColumns all_gathered here) ds →
-      Every (λ d. Every IsOfKind (Y.places here.path d.name)) ds
-  variable_elements here [] p f h = tt
-  variable_elements here (d ∷ ds) p f h =
-      let bs = variable_presence H here d in (
-        elements_of _ d.kind bs (Y.places here.path d.name) p.0.elements
-            (subst (Every (λ xs. fits d.kind bs xs ≡ true)) (sym h.0) f.0.cells),
-        variable_elements here ds p.1 f.1 h.1,
-      )
-
   instance_elements :
-      (is : List Instance) → Every (λ here. Every (Placed here) (variables here.node)) is →
-      Every (SolvesAt P H) is →
-      Every (λ here. Every (HasColumns all_gathered here) (variables here.node)) is →
       Every (λ here.
-      Every IsOfKind (flat_map (λ d. Y.places here.path d.name) (variables here.node))) is
-  instance_elements [] p f h = tt
-  instance_elements (here ∷ is) p f h = (
-    Every-of_pieces IsOfKind (λ d. Y.places here.path d.name) (variables here.node)
-        (variable_elements here (variables here.node) p.0 f.0.variables h.0),
-    instance_elements is p.1 f.1 h.1,
-  )
+      Every IsOfKind (flat_map (λ d. Y.places here.path d.name) (variables here.node)))
+      (instances P)
+  instance_elements =
+      Every-map _ (λ here.
+      Every IsOfKind (flat_map (λ d. Y.places here.path d.name) (variables here.node)))
+      (λ here z. Every-of_pieces IsOfKind (λ d. Y.places here.path d.name) (variables here.node)
+      (Every-map _ (λ d. Every IsOfKind (Y.places here.path d.name))
+      (λ d w. elements_of _ d.kind (variable_presence H here d) (Y.places here.path d.name)
+      w.0.elements (subst (Every (λ xs. fits d.kind (variable_presence H here d) xs ≡ true))
+      (sym w.1.0) w.1.1.cells)) (variables here.node)
+      (Every-both (Placed here) _ (variables here.node) z.1.0
+      (Every-both (HasColumns all_gathered here) (Fits P H here) (variables here.node) z.0
+      z.1.1.variables)))) (instances P)
+      (Every-both (λ here. Every (HasColumns all_gathered here) (variables here.node)) _
+      (instances P) filled_columns known_of)
 
   below_count : (i : ℕ) → i < count → IsOfKind i
   below_count i lt =
-      let e : 0 + i ≡ i = omega arith in
-      subst IsOfKind e (Every-range IsOfKind 0 count i (subst (Every IsOfKind) instance_order
+      subst IsOfKind (omega arith)
+      (Every-range IsOfKind 0 count i (subst (Every IsOfKind) instance_order
       (Every-of_pieces IsOfKind (λ here. flat_map (λ d. Y.places here.path d.name)
-      (variables here.node)) (instances P) (instance_elements _ placing.variables s.instances
-      filled_columns))) lt)
+      (variables here.node)) (instances P) instance_elements)) lt)
 
   -- in these streams, the operands that have to be truth values are truth values
   pub gathered_truths :
@@ -311,9 +285,7 @@ module _ (P : Program) (elaborated : static_refusal P ≡ None) (checked : check
   further_state = emit_instances Y P (before_instances count) (instances P)
 
   further_closed : Closed count further_state
-  further_closed =
-      all_closed count Y P placing.laid (before_instances count) (instances P)
-      (record { fresh = tt; next = omega arith })
+  further_closed = start_closed count Y P placing.laid
 
   -- what holds of all equations holds of the equations of the temporaries
   of_further :
@@ -441,8 +413,7 @@ module _ (P : Program) (elaborated : static_refusal P ≡ None) (checked : check
 
       below_fit : (i : ℕ) → i < count → IsFit i
       below_fit i lt =
-          let e : 0 + i ≡ i = omega arith in
-          subst IsFit e
+          subst IsFit (omega arith)
           (Every-range IsFit 0 count i (subst (Every IsFit) order all_fit) lt)
 
       each_fit : (i : ℕ) → i < size → IsFit i

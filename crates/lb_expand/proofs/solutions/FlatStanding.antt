@@ -3,7 +3,7 @@ use Rattle.lb_expand.proofs.Words
 use Words.{◌≡◌, ℕ, ◌<◌, ◌≤◌, true, inl, inr, None, List, [], ◌∷◌, ◌++◌, map, length, replicate}
 use Words.{refl, sym, ap, ap₂, ◌∙◌, subst, arith, get_or-eq_default, length-map, cases_lt, Or, And}
 use Words.{Kind, Every, In, Name, Declaration, variables, input_kinds, Program, Instance, Path}
-use Words.{Root, Observer, instance_at, instances, declared_clock, Stream, Inputs, fits, Fits}
+use Words.{Root, Observer, instance_at, instances, Stream, Inputs, fits, Fits}
 use Words.{SolvesAt, Solves, State, given_inputs, observed, before_instances, emit_instances}
 use Words.{expanded, FlatClock, Operation, ApplyBinary, FlatEquation, column, instants, Holds}
 use Words.{IsCellFit, IsFlatSolution, history_of, IsWatched, FlatProgram, Layout, flat_clock, width}
@@ -118,14 +118,13 @@ module _ (P : Program) (Y : Layout) (count : ℕ) (K : ℕ → FlatClock) (N : �
         IsVariablePlaced Y P K N (expanded Y P count).size here d →
         Fits P (history_of Y X F) here d
     variable_fits here d h =
-        let own = declared_clock here.node d.name in
         record {
           width = length-map (Y.places here.path d.name) (column X F) ∙ h.width;
-          cells =
-              subst (λ bs. Every (λ xs. fits d.kind bs xs ≡ true)
+          cells = subst
+              (λ bs. Every (λ xs. fits d.kind bs xs ≡ true)
               (columns X F (Y.places here.path d.name)))
-              (sym (presence_flat Y X (history_of Y X F) F agrees here.path own))
-              (elements_fit (flat_clock Y here.path own) d.kind (Y.places here.path d.name)
+              (sym (presence_flat Y X (history_of Y X F) F agrees here.path _))
+              (elements_fit (flat_clock Y here.path _) d.kind (Y.places here.path d.name)
               h.elements);
         }
 

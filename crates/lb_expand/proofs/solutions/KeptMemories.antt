@@ -1,22 +1,23 @@
 -- Each part of a text is emitted, and its memories stand in the flat program.
 use Rattle.lb_expand.proofs.Words
-use Words.{◌≡◌, inl, inr, ℕ, ◌+◌, List, [], ◌∷◌, ◌++◌, flat_map, sym, subst, BinaryOperator}
+use Words.{◌≡◌, inl, inr, ℕ, ◌+◌, List, [], ◌∷◌, ◌++◌, sym, subst, BinaryOperator}
 use Words.{ArrayIterator, Every, In, Node_named, Symbol, Expr, Literal, Truth, Variable, Group}
 use Words.{Unary, Binary, If, Arrow, Fby, Pre, Current, When, Replicate, Index, Slice, Join, Array}
 use Words.{AtMostOne, Nor, Call, Iterate, Exprs, Nil, Cons, Statement, Equation, Assertion, Program}
 use Words.{Instance, node_named, Occurrence, call_count, call_clocks, occurrences, occurrences_in}
-use Words.{occurrences_each, statement_clock, right_sides, node_occurrences, FlatClock}
+use Words.{occurrences_each, right_sides, node_occurrences, FlatClock}
 use Words.{FlatEquation, Operation, Layout, State, Emitted, numbered, add, emit_nor}
-use Words.{emit_at_most_one, keep, assert, joins, copied, targets, emit_symbol, emit, emit_all}
+use Words.{emit_at_most_one, keep, assert, joins, emit_symbol, emit, emit_all}
 use Words.{emit_each, emit_body, emit_instances, suc, false, None, Some, map, length, refl, ap, ◌∙◌}
 use Words.{length-map, Kind, zip2, Name, DataType, variables, width, input_kinds, Path, instances}
-use Words.{static_refusal, check_refusal, clock_or, at, Stream, Inputs, History, data_types}
+use Words.{static_refusal, check_refusal, at, Stream, Inputs, History, data_types}
 use Words.{common_type, HasTypes, occurrences_typed, length-both, Every-from, numbers}
 use Words.{before_instances, FirstThen, Previous, Latest, column, IsFlatSolution, history_of}
 use Words.{FlatProgram, flat_clock, KeepsOperand, KeepsFlag, HasMemories, HasAllMemories}
-use Rattle.lb_check.specs.{Clocks.{Clock, clock_of}, Scalars.Nil as Nil_value}
+use Rattle.lb_check.specs.{Clocks.{Clock}, Scalars.Nil as Nil_value}
 use Rattle.lb_flat.{specs.MemoryPlaces.{equations_at, HoldStreams}, proofs.lists.Lists.Every-append}
-use Rattle.lb_flat.proofs.lists.Lists.{Every-map, Every-both, Every-in}
+use Rattle.lb_flat.proofs.lists.Lists.{Every-map, Every-both, Every-in, Every-first, Every-second}
+use Rattle.lb_expand.proofs.widths.Widths.{PartsHave, nested_node}
 use Rattle.lb_expand.proofs.emission.EmissionSteps.{IsStep, Any, any_joined, nor_step}
 use Rattle.lb_expand.proofs.emission.EmissionSteps.{at_most_one_step, symbol_step, emit_step}
 use Rattle.lb_expand.proofs.emission.EmissionSteps.{all_step, each_step, body_step, instances_step}
@@ -107,70 +108,34 @@ module _ (Y : Layout) (P : Program) (here : Instance) where
 
   -- ## Parts
 
-  module _ (final : List FlatEquation) (all : List Occurrence) where
-    -- the expression of an occurrence is emitted from some state; its equations stay in `final`,
-    -- and its parts are in `all`
+  module _ (final : List FlatEquation) where
+    -- the expression of an occurrence is emitted from some state, and its equations stay in `final`
     pub record IsEmitted (o : Occurrence) : Type 0 where
       pub from : State
       pub stay : Stay (emit Y P here o.clock o.calls_before from o.expr).state.equations final
-      pub inside :
-          (p : Occurrence) → In p (occurrences P here.node o.clock o.calls_before o.expr) →
-          In p all
-
-    -- the occurrences `os` are in `all`
-    abbrev pub AreInside : List Occurrence → Type 0
-    AreInside os = (p : Occurrence) → In p os → In p all
-
-    -- if the occurrences `os ++ os'` are inside, so are `os`
-    pub fore : (os os' : List Occurrence) → AreInside (os ++ os') → AreInside os
-    fore os os' h p i = h p (left_in os os' p i)
-      where
-        left_in : (os os' : List Occurrence) (p : Occurrence) → In p os → In p (os ++ os')
-        left_in [] os' p i = absurd i
-        left_in (o ∷ os) os' p (inl e) = inl e
-        left_in (o ∷ os) os' p (inr i) = inr (left_in os os' p i)
-
-    -- if the occurrences `os ++ os'` are inside, so are `os'`
-    pub aft : (os os' : List Occurrence) → AreInside (os ++ os') → AreInside os'
-    aft os os' h p i = h p (right_in os os' p i)
-      where
-        right_in : (os os' : List Occurrence) (p : Occurrence) → In p os' → In p (os ++ os')
-        right_in [] os' p i = i
-        right_in (o ∷ os) os' p i = inr (right_in os os' p i)
-
-    below : (o : Occurrence) (os : List Occurrence) → AreInside (o ∷ os) → AreInside os
-    below o os h p i = h p (inr i)
 
     abbrev AllEmitted : List Occurrence → Type 0
     AllEmitted os = Every IsEmitted os
 
-    own : (o : Occurrence) (s : State) →
-        Stay (emit Y P here o.clock o.calls_before s o.expr).state.equations final →
-        AreInside (occurrences P here.node o.clock o.calls_before o.expr) → IsEmitted o
-    own o s g h = record { from = s; stay = g; inside = h }
+    own :
+        {o : Occurrence} (s : State) →
+        Stay (emit Y P here o.clock o.calls_before s o.expr).state.equations final → IsEmitted o
+    own s g = record { from = s; stay = g }
 
     -- two operands, one after another, are emitted
     both_emitted :
         (k : Clock) (n : ℕ) (s : State) (a b : Expr) →
         (Stay (emit Y P here k n s a).state.equations final →
-        AreInside (occurrences P here.node k n a) →
         AllEmitted (occurrences P here.node k n a)) →
-        (AreInside (occurrences P here.node k (n + call_count a) b) →
-        AllEmitted (occurrences P here.node k (n + call_count a) b)) →
+        AllEmitted (occurrences P here.node k (n + call_count a) b) →
         Stay (emit Y P here k (n + call_count a) (emit Y P here k n s a).state b).state.equations
         final →
-        AreInside
-        (occurrences P here.node k n a ++ occurrences P here.node k (n + call_count a) b) →
         AllEmitted
         (occurrences P here.node k n a ++ occurrences P here.node k (n + call_count a) b)
-    both_emitted k n s a b left right stay h =
-        let m = n + call_count a in
-        let oa = occurrences P here.node k n a in
-        let ob = occurrences P here.node k m b in
-        let x = emit Y P here k n s a in
-        Every-append IsEmitted oa ob
-        (left (λ q i. stay q (emit_stays k m x.state b q i)) (fore oa ob h))
-        (right (aft oa ob h))
+    both_emitted k n s a b left right stay =
+        Every-append IsEmitted _ _
+        (left (λ q i. stay q (emit_stays k (n + call_count a) (emit Y P here k n s a).state b q i)))
+        right
 
     mutual
       unfolding emit
@@ -178,139 +143,96 @@ module _ (Y : Layout) (P : Program) (here : Instance) where
       parts_emitted :
           (k : Clock) (n : ℕ) (s : State) (e : Expr) →
           Stay (emit Y P here k n s e).state.equations final →
-          AreInside (occurrences P here.node k n e) → AllEmitted (occurrences P here.node k n e)
-      parts_emitted k n s (Literal m) g h = (own _ s g h, tt)
-      parts_emitted k n s (Truth b) g h = (own _ s g h, tt)
-      parts_emitted k n s (Variable x) g h = (own _ s g h, tt)
-      parts_emitted k n s (Group a) g h = parts_emitted k n s a g h
-      parts_emitted k n s (Unary op a) g h = (
-        own _ s g h,
-        parts_emitted k n s a (λ q i. g q (add_stays _ _ _ q i)) (below _ _ h),
+          AllEmitted (occurrences P here.node k n e)
+      parts_emitted k n s (Literal m) g = (own s g, tt)
+      parts_emitted k n s (Truth b) g = (own s g, tt)
+      parts_emitted k n s (Variable x) g = (own s g, tt)
+      parts_emitted k n s (Group a) g = parts_emitted k n s a g
+      parts_emitted k n s (Unary op a) g =
+          (own s g, parts_emitted k n s a (λ q i. g q (add_stays _ _ _ q i)))
+      parts_emitted k n s (Binary op a b) g = (
+        own s g,
+        both_emitted k n s a b (parts_emitted k n s a)
+            (parts_emitted k _ _ b (λ q i. g q (add_stays _ _ _ q i)))
+            (λ q i. g q (add_stays _ _ _ q i)),
       )
-      parts_emitted k n s (Binary op a b) g h =
-          let m = n + call_count a in
-          let x = emit Y P here k n s a in (
-            own _ s g h,
-            both_emitted k n s a b (parts_emitted k n s a)
-                (parts_emitted k m x.state b (λ q i. g q (add_stays _ _ _ q i)))
-                (λ q i. g q (add_stays _ _ _ q i)) (below _ _ h),
-          )
-      parts_emitted k n s (If c a b) g h =
+      parts_emitted k n s (If c a b) g =
           let na = n + call_count c in
           let nb = na + call_count a in
           let z = emit Y P here k n s c in
           let x = emit Y P here k na z.state a in
           let y = emit Y P here k nb x.state b in
-          let oc = occurrences P here.node k n c in
-          let oa = occurrences P here.node k na a in
-          let ob = occurrences P here.node k nb b in
-          let last : Stay y.state.equations final = λ q i. g q (add_stays _ _ _ q i) in
-          let some = below _ _ h in (
-            own _ s g h,
-            Every-append IsEmitted oc (oa ++ ob)
+          let last : Stay y.state.equations final = λ q i. g q (add_stays _ _ _ q i) in (
+            own s g,
+            Every-append IsEmitted _ _
                 (parts_emitted k n s c
-                (λ q i. last q (emit_stays k nb x.state b q (emit_stays k na z.state a q i)))
-                (fore oc (oa ++ ob) some))
+                (λ q i. last q (emit_stays k nb x.state b q (emit_stays k na z.state a q i))))
                 (both_emitted k na z.state a b (parts_emitted k na z.state a)
-                (parts_emitted k nb x.state b last) last (aft oc (oa ++ ob) some)),
+                (parts_emitted k nb x.state b last) last),
           )
-      parts_emitted k n s (Arrow a b) g h =
-          let m = n + call_count a in
-          let x = emit Y P here k n s a in (
-            own _ s g h,
-            both_emitted k n s a b (parts_emitted k n s a)
-                (parts_emitted k m x.state b (λ q i. g q (add_stays _ _ _ q i)))
-                (λ q i. g q (add_stays _ _ _ q i)) (below _ _ h),
-          )
-      parts_emitted k n s (Fby a b) g h =
-          let m = n + call_count a in
-          let x = emit Y P here k n s a in
-          let y = emit Y P here k m x.state b in
+      parts_emitted k n s (Arrow a b) g = (
+        own s g,
+        both_emitted k n s a b (parts_emitted k n s a)
+            (parts_emitted k _ _ b (λ q i. g q (add_stays _ _ _ q i)))
+            (λ q i. g q (add_stays _ _ _ q i)),
+      )
+      parts_emitted k n s (Fby a b) g =
+          let y = emit Y P here k (n + call_count a) (emit Y P here k n s a).state b in
           let last : Stay y.state.equations final =
           λ q i. g q (add_stays _ _ _ q (add_stays _ _ _ q (keep_stays y q i))) in (
-            own _ s g h,
-            both_emitted k n s a b (parts_emitted k n s a)
-                (parts_emitted k m x.state b last) last (below _ _ h),
+            own s g,
+            both_emitted k n s a b (parts_emitted k n s a) (parts_emitted k _ _ b last) last,
           )
-      parts_emitted k n s (Pre a) g h = (
-        own _ s g h,
-        parts_emitted k n s a (λ q i. g q (add_stays _ _ _ q (keep_stays _ q i))) (below _ _ h),
-      )
-      parts_emitted k n s (Current a) g h = (
-        own _ s g h,
-        parts_emitted _ n s a (λ q i. g q (add_stays _ _ _ q (keep_stays _ q i))) (below _ _ h),
-      )
-      parts_emitted k n s (When a x sign) g h = (
-        own _ s g h,
-        parts_emitted _ n s a (λ q i. g q (add_stays _ _ _ q i)) (below _ _ h),
-      )
-      parts_emitted k n s (Replicate a m) g h =
-          (own _ s g h, parts_emitted k n s a g (below _ _ h))
-      parts_emitted k n s (Index a m) g h =
-          (own _ s g h, parts_emitted k n s a g (below _ _ h))
-      parts_emitted k n s (Slice a m l) g h =
-          (own _ s g h, parts_emitted k n s a g (below _ _ h))
-      parts_emitted k n s (Join a b) g h =
-          let m = n + call_count a in
-          let x = emit Y P here k n s a in (
-            own _ s g h,
-            both_emitted k n s a b (parts_emitted k n s a) (parts_emitted k m x.state b g) g
-                (below _ _ h),
-          )
-      parts_emitted k n s (Array es) g h =
-          (own _ s g h, all_emitted k n s es g (below _ _ h))
-      parts_emitted k n s (AtMostOne es) g h = (
-        own _ s g h,
-        all_emitted k n s es (λ q i. g q (at_most_one_stays _ _ _ q i)) (below _ _ h),
-      )
-      parts_emitted k n s (Nor es) g h = (
-        own _ s g h,
-        all_emitted k n s es (λ q i. g q (nor_stays _ _ _ q i)) (below _ _ h),
-      )
-      parts_emitted k n s (Call f statics es) g h = (
-        own _ s g h,
+      parts_emitted k n s (Pre a) g =
+          (own s g, parts_emitted k n s a (λ q i. g q (add_stays _ _ _ q (keep_stays _ q i))))
+      parts_emitted k n s (Current a) g =
+          (own s g, parts_emitted _ n s a (λ q i. g q (add_stays _ _ _ q (keep_stays _ q i))))
+      parts_emitted k n s (When a x sign) g =
+          (own s g, parts_emitted _ n s a (λ q i. g q (add_stays _ _ _ q i)))
+      parts_emitted k n s (Replicate a m) g = (own s g, parts_emitted k n s a g)
+      parts_emitted k n s (Index a m) g = (own s g, parts_emitted k n s a g)
+      parts_emitted k n s (Slice a m l) g = (own s g, parts_emitted k n s a g)
+      parts_emitted k n s (Join a b) g =
+          (own s g, both_emitted k n s a b (parts_emitted k n s a) (parts_emitted k _ _ b g) g)
+      parts_emitted k n s (Array es) g = (own s g, all_emitted k n s es g)
+      parts_emitted k n s (AtMostOne es) g =
+          (own s g, all_emitted k n s es (λ q i. g q (at_most_one_stays _ _ _ q i)))
+      parts_emitted k n s (Nor es) g =
+          (own s g, all_emitted k n s es (λ q i. g q (nor_stays _ _ _ q i)))
+      parts_emitted k n s (Call f statics es) g = (
+        own s g,
         each_emitted (call_clocks k (node_named P f) es) (n + 1) s es
-            (λ q i. g q (joins_stays _ _ _ q i)) (below _ _ h),
+            (λ q i. g q (joins_stays _ _ _ q i)),
       )
-      parts_emitted k n s (Iterate it (Node_named f statics) m es) g h = (
-        own _ s g h,
-        all_emitted k (n + 1) s es (λ q i. g q (joins_stays _ _ _ q i)) (below _ _ h),
-      )
-      parts_emitted k n s (Iterate it (Symbol op) m es) g h = (
-        own _ s g h,
-        all_emitted k n s es (λ q i. g q (symbol_stays _ op _ it _ q i)) (below _ _ h),
-      )
+      parts_emitted k n s (Iterate it (Node_named f statics) m es) g =
+          (own s g, all_emitted k (n + 1) s es (λ q i. g q (joins_stays _ _ _ q i)))
+      parts_emitted k n s (Iterate it (Symbol op) m es) g =
+          (own s g, all_emitted k n s es (λ q i. g q (symbol_stays _ op _ it _ q i)))
 
       all_emitted :
           (k : Clock) (n : ℕ) (s : State) (es : Exprs) →
           Stay (emit_all Y P here k n s es).state.equations final →
-          AreInside (occurrences_in P here.node k n es) →
           AllEmitted (occurrences_in P here.node k n es)
-      all_emitted k n s Nil g h = tt
-      all_emitted k n s (Cons e es) g h =
+      all_emitted k n s Nil g = tt
+      all_emitted k n s (Cons e es) g =
           let m = n + call_count e in
-          let oa = occurrences P here.node k n e in
-          let ob = occurrences_in P here.node k m es in
           let x = emit Y P here k n s e in
-          Every-append IsEmitted oa ob
-          (parts_emitted k n s e (λ q i. g q (all_stay k m x.state es q i)) (fore oa ob h))
-          (all_emitted k m x.state es g (aft oa ob h))
+          Every-append IsEmitted _ _
+          (parts_emitted k n s e (λ q i. g q (all_stay k m x.state es q i)))
+          (all_emitted k m x.state es g)
 
       each_emitted :
           (ks : List Clock) (n : ℕ) (s : State) (es : Exprs) →
           Stay (emit_each Y P here ks n s es).state.equations final →
-          AreInside (occurrences_each P here.node ks n es) →
           AllEmitted (occurrences_each P here.node ks n es)
-      each_emitted ks n s Nil g h = tt
-      each_emitted [] n s (Cons e es) g h = tt
-      each_emitted (k ∷ ks) n s (Cons e es) g h =
+      each_emitted ks n s Nil g = tt
+      each_emitted [] n s (Cons e es) g = tt
+      each_emitted (k ∷ ks) n s (Cons e es) g =
           let m = n + call_count e in
-          let oa = occurrences P here.node k n e in
-          let ob = occurrences_each P here.node ks m es in
           let x = emit Y P here k n s e in
-          Every-append IsEmitted oa ob
-          (parts_emitted k n s e (λ q i. g q (each_stays ks m x.state es q i)) (fore oa ob h))
-          (each_emitted ks m x.state es g (aft oa ob h))
+          Every-append IsEmitted _ _
+          (parts_emitted k n s e (λ q i. g q (each_stays ks m x.state es q i)))
+          (each_emitted ks m x.state es g)
 
   -- ## Statements
 
@@ -319,36 +241,22 @@ module _ (Y : Layout) (P : Program) (here : Instance) where
   body_stays = body_step Any Stays staying Y (any_joined Y) P assert_stays here
 
   body_emitted :
-      (final : List FlatEquation) (all : List Occurrence) (n : ℕ) (s : State)
-      (body : List Statement) → Stay (emit_body Y P here n s body).equations final →
-      AreInside final all (occurrences_of P here.node (right_sides P here.node n body)) →
-      Every (IsEmitted final all) (occurrences_of P here.node (right_sides P here.node n body))
+      (final : List FlatEquation) (n : ℕ) (s : State) (body : List Statement) →
+      Stay (emit_body Y P here n s body).equations final →
+      Every (IsEmitted final) (occurrences_of P here.node (right_sides P here.node n body))
   unfolding emit_body
-  body_emitted final all n s [] g h = tt
-  body_emitted final all n s (Equation lefts e ∷ rest) g h =
-      let k = statement_clock P here.node (Equation lefts e) in
+  body_emitted final n s [] g = tt
+  body_emitted final n s (Equation lefts e ∷ rest) g =
       let m = n + call_count e in
-      let x = emit Y P here k n s e in
-      let qs = copied (flat_map (targets Y here.node here.path) lefts) x.found in
-      let t = (joins x.state qs []).state in
-      let oa = occurrences P here.node k n e in
-      let ob = occurrences_of P here.node (right_sides P here.node m rest) in
-      Every-append (IsEmitted final all) oa ob
-      (parts_emitted final all k n s e
-      (λ q i. g q (body_stays m t rest q (joins_stays x.state qs [] q i)))
-      (fore final all oa ob h))
-      (body_emitted final all m t rest g (aft final all oa ob h))
-  body_emitted final all n s (Assertion e ∷ rest) g h =
-      let k = statement_clock P here.node (Assertion e) in
+      Every-append (IsEmitted final) _ _
+      (parts_emitted final _ n s e (λ q i. g q (body_stays m _ rest q (joins_stays _ _ [] q i))))
+      (body_emitted final m _ rest g)
+  body_emitted final n s (Assertion e ∷ rest) g =
       let m = n + call_count e in
-      let x = emit Y P here k n s e in
-      let oa = occurrences P here.node k n e in
-      let ob = occurrences_of P here.node (right_sides P here.node m rest) in
-      Every-append (IsEmitted final all) oa ob
-      (parts_emitted final all k n s e
-      (λ q i. g q (body_stays m (assert x) rest q (assert_stays x q i)))
-      (fore final all oa ob h))
-      (body_emitted final all m (assert x) rest g (aft final all oa ob h))
+      Every-append (IsEmitted final) _ _
+      (parts_emitted final _ n s e
+      (λ q i. g q (body_stays m (assert _) rest q (assert_stays _ q i))))
+      (body_emitted final m (assert _) rest g)
 
 -- ## All instances
 
@@ -362,14 +270,12 @@ module _ (Y : Layout) (P : Program) where
   pub all_parts_emitted :
       (final : List FlatEquation) (s : State) (is : List Instance) →
       Stay (emit_instances Y P s is).equations final →
-      Every (λ here. Every (IsEmitted Y P here final (node_occurrences P here.node))
-      (node_occurrences P here.node)) is
+      Every (λ here. Every (IsEmitted Y P here final) (node_occurrences P here.node)) is
   unfolding emit_instances
   all_parts_emitted final s [] g = tt
   all_parts_emitted final s (here ∷ is) g =
       let t = emit_body Y P here 0 s here.node.body in (
-        body_emitted Y P here final (node_occurrences P here.node) 0 s here.node.body
-            (λ q i. g q (instances_stay t is q i)) (λ p i. i),
+        body_emitted Y P here final 0 s here.node.body (λ q i. g q (instances_stay t is q i)),
         all_parts_emitted final t is g,
       )
 
@@ -427,8 +333,9 @@ module _ (P : Program) (Y : Layout) (kinds : ℕ → Kind) (f : FlatProgram)
     abbrev StaysAt : Clock → ℕ → State → Expr → Type 0
     StaysAt k n s e = Stay (emit Y P here k n s e).state.equations final
 
+    -- the parts of an expression are among the occurrences of the instance
     abbrev InsideAt : Clock → ℕ → Expr → Type 0
-    InsideAt k n e = AreInside Y P here final all (occurrences P here.node k n e)
+    InsideAt k n e = Every (λ p. In p all) (occurrences P here.node k n e)
 
     -- the elements found have the streams of the expression
     held :
@@ -439,13 +346,10 @@ module _ (P : Program) (Y : Layout) (kinds : ℕ → Kind) (f : FlatProgram)
         let H = history_of Y X F in
         let agrees : Agrees Y X H F =
         record { columns = λ p x. refl; signs = r.signs; ticks = λ p. refl } in
-        let os = occurrences P here.node k n e in
-        let qs = (emit Y P here k n s e).state.equations in
         (sound Y P X H F solution.equations.as_long agrees here k n s e
-        (Every-from (IsPlaced Y P H here) os
-        (λ p i. Every-in (IsPlaced Y P H here) p all r.placed (inside p i)))
-        (Every-from (IsMet X F) qs
-        (λ q i. Every-in (IsMet X F) q final r.met (stay q i)))).found
+        (Every-map (λ p. In p all) (IsPlaced Y P H here)
+        (λ p i. Every-in (IsPlaced Y P H here) p all r.placed i) _ inside)
+        (Every-from (IsMet X F) _ (λ q i. Every-in (IsMet X F) q final r.met (stay q i)))).found
 
     -- the elements found are as many as the types of the expression have scalar elements
     found_wide :
@@ -454,11 +358,10 @@ module _ (P : Program) (Y : Layout) (kinds : ℕ → Kind) (f : FlatProgram)
         length (emit Y P here k n s e).found ≡ elements_in ts
     found_wide k n s e ts typed stay inside =
         let H = history_of Y [] [] in
-        let os = occurrences P here.node k n e in
         as_many Y P H here (λ p x. sym (length-map (Y.places p x) (column [] []))) k n s e
         ∙ wide P H here variables_wide k n e ts typed
-        (Every-from (IsOccurrenceWide P H here) os
-        (λ p i. Every-in (IsOccurrenceWide P H here) p all calls_wide (inside p i)))
+        (Every-map (λ p. In p all) (IsOccurrenceWide P H here)
+        (λ p i. Every-in (IsOccurrenceWide P H here) p all calls_wide i) _ inside)
 
     -- two operands of one type have equally many elements
     as_many_found :
@@ -470,12 +373,11 @@ module _ (P : Program) (Y : Layout) (kinds : ℕ → Kind) (f : FlatProgram)
         length (emit Y P here k (n + call_count a) (emit Y P here k n s a).state b).found
         ≡ length (emit Y P here k n s a).found
     as_many_found k n s a b t u v is_t is_u same stay_a in_a stay_b in_b =
-        let m = n + call_count a in
-        let x = emit Y P here k n s a in
         let counts = alike t u v same in
-        let wide_a = found_wide k n s a (t ∷ []) is_t stay_a in_a in
-        let wide_b = found_wide k m x.state b (u ∷ []) is_u stay_b in_b in
-        wide_b ∙ ap (λ c. c + 0) (counts.second ∙ sym counts.first) ∙ sym wide_a
+        let wide_b = found_wide k (n + call_count a) (emit Y P here k n s a).state b (u ∷ []) is_u
+        stay_b in_b in
+        wide_b ∙ ap (λ c. c + 0) (counts.second ∙ sym counts.first)
+        ∙ sym (found_wide k n s a (t ∷ []) is_t stay_a in_a)
 
     all_there : (qs : List FlatEquation) → Every (λ q. In q final) qs →
         Every (λ q. In q f.equations) qs
@@ -513,17 +415,16 @@ module _ (P : Program) (Y : Layout) (kinds : ℕ → Kind) (f : FlatProgram)
         length thens ≡ length firsts → HoldStreams P Y kinds f here a firsts →
         KeepsFlag P Y kinds f here k a
     flag_kept k a s firsts thens stay both h =
-        let own = flat_clock Y here.path k in
-        let os = zip2 (FirstThen false) firsts thens in record {
-          places = (add own s os).found;
+        let os = zip2 (FirstThen false) firsts thens in
+        record {
+          places = (add _ s os).found;
           firsts = firsts;
           thens = thens;
-          as_many = add_count own s os
+          as_many = add_count _ s os
               ∙ length-both (FirstThen false) (length firsts) firsts thens refl both;
           both = both;
-          equations =
-              all_there (equations_at own (add own s os).found os)
-              (added_there final own s os stay);
+          equations = all_there (equations_at _ (add _ s os).found os)
+              (added_there final _ s os stay);
           streams = h;
         }
 
@@ -534,40 +435,27 @@ module _ (P : Program) (Y : Layout) (kinds : ℕ → Kind) (f : FlatProgram)
         HasMemories P Y kinds f here k n e
     unfolding emit
     memory_at k n s (Pre a) ts typed stay inside =
-        let x = emit Y P here k n s a in
-        operand_kept k (at k n a) (Previous Nil_value) x stay
-        (held k n s a (λ q i. stay q (add_stays _ _ _ q (keep_stays x q i)))
-        (λ p i. inside p (inr i)))
+        operand_kept k (at k n a) (Previous Nil_value) _ stay
+        (held k n s a (λ q i. stay q (add_stays _ _ _ q (keep_stays _ q i))) inside.1)
     memory_at k n s (Current a) ts typed stay inside =
-        let own = clock_or (clock_of P here.node a) in
-        let x = emit Y P here own n s a in
-        operand_kept k (at own n a) (Latest Nil_value) x stay
-        (held own n s a (λ q i. stay q (add_stays _ _ _ q (keep_stays x q i)))
-        (λ p i. inside p (inr i)))
+        operand_kept k (at _ n a) (Latest Nil_value) _ stay
+        (held _ n s a (λ q i. stay q (add_stays _ _ _ q (keep_stays _ q i))) inside.1)
     memory_at k n s (Arrow a b) ts typed stay inside =
         let m = n + call_count a in
         let i = two (data_types P here a) (data_types P here b) common_type ts typed in
         let x = emit Y P here k n s a in
         let y = emit Y P here k m x.state b in
-        let oa = occurrences P here.node k n a in
-        let ob = occurrences P here.node k m b in
-        let own = flat_clock Y here.path k in
-        let stay_b : StaysAt k m x.state b = λ q i. stay q (add_stays own y.state _ q i) in
+        let stay_b : StaysAt k m x.state b = λ q i. stay q (add_stays _ y.state _ q i) in
         let stay_a : StaysAt k n s a = λ q i. stay_b q (emit_stays Y P here k m x.state b q i) in
-        let both : AreInside Y P here final all (oa ++ ob) = λ p i. inside p (inr i) in
-        let in_a = fore Y P here final all oa ob both in
-        let in_b = aft Y P here final all oa ob both in
+        let in_a : InsideAt k n a = Every-first (λ p. In p all) _ _ inside.1 in
         flag_kept k (at k n a) y.state x.found y.found stay
         (as_many_found k n s a b i.first i.second i.result i.is_first i.is_second i.gives stay_a
-        in_a stay_b in_b)
-        (held k n s a stay_a in_a)
+        in_a stay_b (Every-second (λ p. In p all) _ _ inside.1)) (held k n s a stay_a in_a)
     memory_at k n s (Fby a b) ts typed stay inside =
         let m = n + call_count a in
         let i = two (data_types P here a) (data_types P here b) common_type ts typed in
         let x = emit Y P here k n s a in
         let y = emit Y P here k m x.state b in
-        let oa = occurrences P here.node k n a in
-        let ob = occurrences P here.node k m b in
         let own = flat_clock Y here.path k in
         let before = map (Previous Nil_value) (keep y).found in
         let z = add own (keep y).state before in
@@ -575,9 +463,8 @@ module _ (P : Program) (Y : Layout) (kinds : ℕ → Kind) (f : FlatProgram)
         let stay_b : StaysAt k m x.state b =
         λ q i. stay_z q (add_stays own (keep y).state before q (keep_stays y q i)) in
         let stay_a : StaysAt k n s a = λ q i. stay_b q (emit_stays Y P here k m x.state b q i) in
-        let both : AreInside Y P here final all (oa ++ ob) = λ p i. inside p (inr i) in
-        let in_a = fore Y P here final all oa ob both in
-        let in_b = aft Y P here final all oa ob both in
+        let in_a : InsideAt k n a = Every-first (λ p. In p all) _ _ inside.1 in
+        let in_b : InsideAt k m b = Every-second (λ p. In p all) _ _ inside.1 in
         let as_many = as_many_found k n s a b i.first i.second i.result i.is_first i.is_second
         i.gives stay_a in_a stay_b in_b in
         let kept = add_count own (keep y).state before
@@ -590,13 +477,15 @@ module _ (P : Program) (Y : Layout) (kinds : ℕ → Kind) (f : FlatProgram)
 
     -- the memories of an instance
     instance_memories :
-        Every (IsEmitted Y P here final all) all → Every (HasTypes P here) all →
+        Every (IsEmitted Y P here final) all → Every (HasTypes P here) all →
         Every (λ o. HasMemories P Y kinds f here o.clock o.calls_before o.expr) all
     instance_memories emitted types =
         Every-map _ (λ o. HasMemories P Y kinds f here o.clock o.calls_before o.expr)
-        (λ o z. memory_at o.clock o.calls_before z.0.from o.expr z.1.types z.1.typed z.0.stay
-        z.0.inside) all
-        (Every-both (IsEmitted Y P here final all) (HasTypes P here) all emitted types)
+        (λ o z. memory_at o.clock o.calls_before z.0.from o.expr z.1.0.types z.1.0.typed z.0.stay
+        z.1.1) all
+        (Every-both (IsEmitted Y P here final) _ all emitted
+        (Every-both (HasTypes P here) (PartsHave P here.node (λ p. In p all)) all types
+        (nested_node P here.node (λ p. In p all) (Every-from (λ p. In p all) all (λ p i. i)))))
 
 -- ## A whole program
 
@@ -636,19 +525,18 @@ module _ (P : Program) (elaborated : static_refusal P ≡ None) (checked : check
   -- the memories of all operators stand in the flat program
   pub memories_are : HasAllMemories P Y kinds f
   memories_are =
-      Every-from (λ here.
-      Every (λ o. HasMemories P Y kinds f here o.clock o.calls_before o.expr)
+      Every-from
+      (λ here. Every (λ o. HasMemories P Y kinds f here o.clock o.calls_before o.expr)
       (node_occurrences P here.node)) (instances P)
-      (λ here i.
-      instance_memories P Y kinds f final there here
+      (λ here i. instance_memories P Y kinds f final there here
       (λ X F solution. Every-in (IsReadAt X F) here (instances P) (read_each X F solution) i)
       (Every-in (λ here. AreVariablesWide P (history_of Y [] []) here here) here (instances P)
       all_variables i)
-      (Every-in (λ here. Every (IsOccurrenceWide P (history_of Y [] []) here)
-      (node_occurrences P here.node)) here (instances P)
-      (all_wide P elaborated checked (history_of Y [] []) all_variables) i)
-      (Every-in (λ here. Every (IsEmitted Y P here final (node_occurrences P here.node))
-      (node_occurrences P here.node)) here (instances P)
-      (all_parts_emitted Y P final (before_instances count) (instances P) (λ q i. i)) i)
-      (Every-in (λ here. Every (HasTypes P here) (node_occurrences P here.node)) here
-      (instances P) (occurrences_typed P elaborated checked) i))
+      (Every-in
+      (λ here. Every (IsOccurrenceWide P (history_of Y [] []) here) (node_occurrences P here.node))
+      here (instances P) (all_wide P elaborated checked (history_of Y [] []) all_variables) i)
+      (Every-in (λ here. Every (IsEmitted Y P here final) (node_occurrences P here.node)) here
+      (instances P) (all_parts_emitted Y P final (before_instances count) (instances P) (λ q i. i))
+      i)
+      (Every-in (λ here. Every (HasTypes P here) (node_occurrences P here.node)) here (instances P)
+      (occurrences_typed P elaborated checked) i))

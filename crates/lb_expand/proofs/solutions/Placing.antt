@@ -17,6 +17,7 @@ use Words.{IsIteratorJoined, Target, targets, copied, received, call_copies, ite
 use Rattle.{lb_check.specs.Clocks.Clock, lb_flat.proofs.lists.Lists.{Every-first, Every-second}}
 use Rattle.lb_flat.proofs.lists.Lists.{column_long, instants_long, map-maps, Every-append}
 use Rattle.lb_flat.proofs.lists.Lists.{Every-piece, Every-of_pieces, Every-of_range, Every-range}
+use Rattle.lb_expand.proofs.emission.EmissionSteps.{IsAdding, twice_step}
 use Rattle.lb_expand.proofs.lists.Counting.{Count, Counted, more, read_by, any_counted, two_counted}
 use Rattle.lb_expand.proofs.lists.Counting.{any_step, two_step, none_yet, not_two_yet, none_chained}
 use Rattle.lb_expand.proofs.lists.Counting.{at_most_one_counts, AllTruths, IsTruth}
@@ -59,8 +60,8 @@ IsIteratorPlaced Y P H here k n it m es None = Unit {0}
 IsIteratorPlaced Y P H here k n it m es (Some callee) =
     let outputs : ℕ → Name → List Stream = λ i x. H.columns (Child here.path n i) x in
     let args = all_streams P H here k (n + 1) es in
-    (i : ℕ) → i < m →
-    IsCalleePlaced Y H here k (Child here.path n i) callee
+    (i : ℕ) → i
+    < m → IsCalleePlaced Y H here k (Child here.path n i) callee
     (iterator_inputs outputs m it callee.outputs args i)
 
 -- what an occurrence calls is placed: the instance of a call, or each instance of an iterator
@@ -137,10 +138,9 @@ module _ (X : Inputs) (F : List Stream) where
       AllMet (add k s os).state.equations → Added s (add k s os) (map (operate X F k) os)
   unfolding add
   add_sound k s os h =
-      let new = numbered s.next k os in
       record {
-        before = Every-first IsMet s.equations new h;
-        found = numbered_found s.next k os (Every-second IsMet s.equations new h);
+        before = Every-first IsMet s.equations _ h;
+        found = numbered_found s.next k os (Every-second IsMet s.equations _ h);
         copies = refl;
       }
 
@@ -195,14 +195,9 @@ module _ (X : Inputs) (F : List Stream) where
   unfolding chained
   chained_sound k op s init [] h = record { before = h; found = refl; copies = refl }
   chained_sound k op s init (y ∷ ys) h =
-      let o = ApplyBinary op init y in
-      let r = chained_sound k op (push k s o) s.next ys h in
+      let r = chained_sound k op (push k s (ApplyBinary op init y)) s.next ys h in
       let p = push_sound k s _ r.before in
-      record {
-        before = p.before;
-        found = cc (r.found, p.new);
-        copies = r.copies;
-      }
+      record { before = p.before; found = cc (r.found, p.new); copies = r.copies }
 
   -- each operand of a chain of `or` is a truth value
   chained_truths :
@@ -215,18 +210,16 @@ module _ (X : Inputs) (F : List Stream) where
       let r = chained_sound k Or (push k s o) s.next ys h in
       ((push_sound k s o r.before).truths, chained_truths k (push k s o) s.next ys h)
 
-  twice_before :
-      (k : FlatClock) (s : State) (any two : ℕ) (is : List ℕ) →
-      AllMet (twice k s any two is).state.equations → AllMet s.equations
-  unfolding twice
-  twice_before k s any two [] h = h
-  twice_before k s any two (i ∷ is) h =
-      let t = push k s (ApplyBinary And any i) in
-      let u = push k t (ApplyBinary Or two s.next) in
-      let v = push k u (ApplyBinary Or any i) in
-      let c = push_sound k u (ApplyBinary Or any i) (twice_before k v u.next t.next is h) in
-      let b = push_sound k t (ApplyBinary Or two s.next) c.before in
-      (push_sound k s (ApplyBinary And any i) b.before).before
+  -- where the equations behind the small words hold, the equations before them hold
+  abbrev pub Earlier : State → State → Type 0
+  Earlier s t = AllMet t.equations → AllMet s.equations
+
+  pub earlier : IsAdding Earlier
+  earlier = record {
+    none = λ s h. h;
+    both = λ s t u a b h. a (b h);
+    adds = λ k s os h. let r = add_sound k s os h in r.before;
+  }
 
   twice_truths :
       (k : FlatClock) (s : State) (any two : ℕ) (is : List ℕ) →
@@ -236,9 +229,9 @@ module _ (X : Inputs) (F : List Stream) where
   twice_truths k s any two (i ∷ is) h =
       let t = push k s (ApplyBinary And any i) in
       let u = push k t (ApplyBinary Or two s.next) in
-      let v = push k u (ApplyBinary Or any i) in
-      let c = push_sound k u (ApplyBinary Or any i) (twice_before k v u.next t.next is h) in
-      (c.truths, twice_truths k v u.next t.next is h)
+      let c = push_sound k u (ApplyBinary Or any i)
+      (twice_step Earlier earlier k _ u.next t.next is h) in
+      (c.truths, twice_truths k _ u.next t.next is h)
 
   twice_sound :
       (k : FlatClock) (s : State) (any two : ℕ) (is : List ℕ) (cs : List (Option Count)) →
@@ -252,16 +245,15 @@ module _ (X : Inputs) (F : List Stream) where
   twice_sound k s any two (i ∷ is) cs h p q =
       let t = push k s (ApplyBinary And any i) in
       let u = push k t (ApplyBinary Or two s.next) in
-      let v = push k u (ApplyBinary Or any i) in
       let xs = column X F i in
-      let c = push_sound k u (ApplyBinary Or any i) (twice_before k v u.next t.next is h) in
+      let c = push_sound k u (ApplyBinary Or any i)
+      (twice_step Earlier earlier k _ u.next t.next is h) in
       let b = push_sound k t (ApplyBinary Or two s.next) c.before in
       let a = push_sound k s (ApplyBinary And any i) b.before in
-      let r = twice_sound k v u.next t.next is (zip2 more cs xs) h
+      let r = twice_sound k _ u.next t.next is (zip2 more cs xs) h
       (c.new ∙ ap (λ ys. along_two (two_scalars Or) ys xs) p ∙ any_step cs xs)
       (b.new
-      ∙ ap₂ (along_two (two_scalars Or)) q
-      (a.new ∙ ap (λ ys. along_two (two_scalars And) ys xs) p)
+      ∙ ap₂ (along_two (two_scalars Or)) q (a.new ∙ ap (λ ys. along_two (two_scalars And) ys xs) p)
       ∙ two_step cs xs) in
       record { before = a.before; found = r.found; copies = r.copies }
 
@@ -295,17 +287,17 @@ module _ (X : Inputs) (F : List Stream) where
       AllMet (emit_nor k s is).state.equations →
       Added s (emit_nor k s is) (across none_true (instants X F k) (columns is) ∷ [])
   nor_sound long k s is h =
-      let t = push k s (Constant (Boolean false)) in
-      let x = chained k Or t s.next is in
-      let n = negated_sound k t x _ (chained_sound k Or t s.next is) h in
-      let all = add_sound k x.state (map (ApplyUnary Not) x.found) h in
-      let truths = chained_truths k t s.next is all.before in
+      let x = chained k Or _ s.next is in
+      let n = negated_sound k _ x _ (chained_sound k Or _ s.next is) h in
+      let truths = chained_truths k _ s.next is
+      (add_sound k x.state (map (ApplyUnary Not) x.found) h).before in
       let p = push_sound k s (Constant (Boolean false)) n.before in
       record {
         before = p.before;
         found = n.found
-            ∙ ap (λ ys.
-            along (one_scalar Not) (fold (along_two (two_scalars Or)) ys (columns is)) ∷ []) p.new
+            ∙ ap
+            (λ ys. along (one_scalar Not) (fold (along_two (two_scalars Or)) ys (columns is)) ∷ [])
+            p.new
             ∙ ap (λ ys. ys ∷ [])
             (none_chained (instants X F k) (columns is) (as_long_as long k is) truths);
         copies = n.copies;
@@ -323,7 +315,7 @@ module _ (X : Inputs) (F : List Stream) where
       let all = add_sound k x.state (map (ApplyUnary Not) x.found) h in
       let truths = twice_truths k t s.next s.next is all.before in
       let n = negated_sound k t x _ (λ g.
-      let p = push_sound k s start (twice_before k t s.next s.next is g) in
+      let p = push_sound k s start (twice_step Earlier earlier k t s.next s.next is g) in
       twice_sound k t s.next s.next is (map (held (Counted 0)) bs) g
       (p.new ∙ none_yet bs) (p.new ∙ not_two_yet bs)) h in
       let p = push_sound k s (Constant (Boolean false)) n.before in
@@ -409,13 +401,12 @@ module _ (Y : Layout) (X : Inputs) (H : History) (F : List Stream) (agrees : Agr
   received_sound callee p (d ∷ ds) [] w h = absurd w
   received_sound callee p (d ∷ ds) (is ∷ iss) w h =
       let ts = targets Y callee p d.name in
-      let rest = received Y callee p ds iss in
       let flat = targets_flat callee p d.name in
       let as_long : length ts ≡ length is =
       sym (length-map ts (λ t. column X F t.place)) ∙ ap length (sym flat) ∙ w.0
       ∙ length-map is (column X F) in (
-        flat ∙ copied_same X F ts is as_long (Every-first (IsMet X F) (copied ts is) rest h),
-        received_sound callee p ds iss w.1 (Every-second (IsMet X F) (copied ts is) rest h),
+        flat ∙ copied_same X F ts is as_long (Every-first (IsMet X F) (copied ts is) _ h),
+        received_sound callee p ds iss w.1 (Every-second (IsMet X F) (copied ts is) _ h),
       )
 
   pub received_holds :
@@ -424,9 +415,8 @@ module _ (Y : Layout) (X : Inputs) (H : History) (F : List Stream) (agrees : Agr
   received_holds callee p [] iss h = tt
   received_holds callee p (d ∷ ds) [] h = tt
   received_holds callee p (d ∷ ds) (is ∷ iss) h =
-      let ts = targets Y callee p d.name in
-      Every-append (IsMet X F) (copied ts is) (received Y callee p ds iss)
-      (copied_holds X F ts is (sym (targets_flat callee p d.name) ∙ h.0))
+      Every-append (IsMet X F) (copied _ is) (received Y callee p ds iss)
+      (copied_holds X F _ is (sym (targets_flat callee p d.name) ∙ h.0))
       (received_holds callee p ds iss h.1)
 
   -- where the copies hold, an instance that is placed on this clock is joined: it receives `args`

@@ -9,7 +9,7 @@ use Words.{emit, emit_body, emit_instances, suc, Option, Some, None, IfSome, ◌
 use Words.{range_with_len, Declaration, heads_same, tails_same, Root, Observer, instance_at}
 use Words.{instances, input_kinds, column_of, columns_at, Receives, FlatEquation, Holds, FlatSolves}
 use Words.{from_inputs, given_inputs, observed_places, observed, before_instances, expanded, zero}
-use Words.{◌<◌, Bool, true, false, replicate, Or, And, Kind, Int, variables, width, declared_clock}
+use Words.{◌<◌, Bool, true, false, replicate, Or, And, Kind, variables, width, declared_clock}
 use Words.{fits, FlatClock, Always, Boolean, Bad}
 use Rattle.std.proofs.Math.Numerals.{add-one}
 use Rattle.lb_syntax.specs.declared.tree.Kind.TheVariants.{Bool as Truth}
@@ -106,12 +106,10 @@ module _ (Y : Layout) (P : Program) (X : Inputs) (H : History) (F : List Stream)
         let k = statement_clock P here.node (Assertion e) in
         let m = n + call_count e in
         let x = emit Y P here k n s e in
-        let oa = occurrences P here.node k n e in
-        let ob = occurrences_of P here.node (right_sides P here.node m rest) in
         let r = body_sound m (assert x) rest wide.1
-        (Every-second (IsPlaced Y P H here) oa ob w) h in
+        (Every-second (IsPlaced Y P H here) _ _ w) h in
         let a = sound Y P X H F long agrees here k n s e
-        (Every-first (IsPlaced Y P H here) oa ob w)
+        (Every-first (IsPlaced Y P H here) _ _ w)
         (subst (AllMet X F) (assert_equations x) r.before) in
         record {
           before = a.before;
@@ -121,14 +119,14 @@ module _ (Y : Layout) (P : Program) (X : Inputs) (H : History) (F : List Stream)
               record {
                 copies = v.0;
                 equal = (tt, u.equal);
-                joined = Every-append (IsJoined P H here) oa ob v.1 u.joined;
+                joined = Every-append (IsJoined P H here) _ _ v.1 u.joined;
               };
           back = λ g.
-              let of_a = Every-first (IsJoined P H here) oa ob g.joined in
+              let of_a = Every-first (IsJoined P H here) _ _ g.joined in
               r.back (record {
                 copies = subst (AllMet X F) (sym (assert_copies x)) (a.joins.back g.copies of_a);
                 equal = g.equal.1;
-                joined = Every-second (IsJoined P H here) oa ob g.joined;
+                joined = Every-second (IsJoined P H here) _ _ g.joined;
               });
         }
     body_sound n s (Equation lefts e ∷ rest) wide w h =
@@ -138,11 +136,9 @@ module _ (Y : Layout) (P : Program) (X : Inputs) (H : History) (F : List Stream)
         let ts = left_targets lefts in
         let qs = copied ts x.found in
         let t = (joins x.state qs []).state in
-        let oa = occurrences P here.node k n e in
-        let ob = occurrences_of P here.node (right_sides P here.node m rest) in
-        let r = body_sound m t rest wide.1 (Every-second (IsPlaced Y P H here) oa ob w) h in
+        let r = body_sound m t rest wide.1 (Every-second (IsPlaced Y P H here) _ _ w) h in
         let a = sound Y P X H F long agrees here k n s e
-        (Every-first (IsPlaced Y P H here) oa ob w)
+        (Every-first (IsPlaced Y P H here) _ _ w)
         (subst (AllMet X F) (joins_equations x.state qs []) r.before) in
         let left = lefts_flat lefts in
         let as_long : length ts ≡ length x.found =
@@ -158,16 +154,16 @@ module _ (Y : Layout) (P : Program) (X : Inputs) (H : History) (F : List Stream)
               record {
                 copies = v.0;
                 equal = (left ∙ copied_same X F ts x.found as_long of_qs ∙ a.found, u.equal);
-                joined = Every-append (IsJoined P H here) oa ob v.1 u.joined;
+                joined = Every-append (IsJoined P H here) _ _ v.1 u.joined;
               };
           back = λ g.
-              let of_a = Every-first (IsJoined P H here) oa ob g.joined in
+              let of_a = Every-first (IsJoined P H here) _ _ g.joined in
               let of_qs = copied_holds X F ts x.found (sym left ∙ g.equal.0 ∙ sym a.found) in
               r.back (record {
                 copies = subst (AllMet X F) (sym (joins_copies x.state qs []))
                     (Every-append (IsMet X F) x.state.copies qs (a.joins.back g.copies of_a) of_qs);
                 equal = g.equal.1;
-                joined = Every-second (IsJoined P H here) oa ob g.joined;
+                joined = Every-second (IsJoined P H here) _ _ g.joined;
               });
         }
 
@@ -213,17 +209,13 @@ module _ (V : ℕ) (Y : Layout) (P : Program) (laid : IsLaidOut V Y) where
   unfolding emit_body
   body_closed here n s [] c = c
   body_closed here n s (Assertion e ∷ rest) c =
-      let k = statement_clock P here.node (Assertion e) in
-      let x = tight V Y P here laid.places (laid.clocks here.path) k n s e c in
-      body_closed here (n + call_count e) (assert (emit Y P here k n s e)) rest
-      (assert_closed V _ x.state)
+      body_closed here (n + call_count e) (assert (emit Y P here _ n s e)) rest
+      (assert_closed V _ (tight V Y P here laid.places (laid.clocks here.path) _ n s e c).state)
   body_closed here n s (Equation lefts e ∷ rest) c =
       let k = statement_clock P here.node (Equation lefts e) in
-      let x = emit Y P here k n s e in
-      let qs = copied (flat_map (targets Y here.node here.path) lefts) x.found in
-      let of_x = tight V Y P here laid.places (laid.clocks here.path) k n s e c in
-      body_closed here (n + call_count e) (joins x.state qs []).state rest
-      (joins_tight V _ _ [] of_x.state tt).state
+      body_closed here (n + call_count e) (joins (emit Y P here k n s e).state _ []).state rest
+      (joins_tight V _ _ [] (tight V Y P here laid.places (laid.clocks here.path) k n s e c).state
+      tt).state
 
   pub all_closed :
       (s : State) (instances : List Instance) → Closed V s →
@@ -339,6 +331,13 @@ module _ (Y : Layout) (P : Program) (X : Inputs) (H : History) (F : List Stream)
       received_holds Y X H F agrees observer.node Observer inputs (observed_places Y root)
       (subst (Receives H Observer inputs) (sym e) g)
 
+-- what expansion has emitted after all instances is closed
+pub start_closed :
+    (count : ℕ) (Y : Layout) (P : Program) → IsLaidOut count Y →
+    Closed count (emit_instances Y P (before_instances count) (instances P))
+start_closed count Y P laid =
+    all_closed count Y P laid _ _ (record { fresh = tt; next = omega arith })
+
 module _ (count : ℕ) (Y : Layout) (laid : IsLaidOut count Y) (P : Program) (X : Inputs) where
   abbrev s : State
   s = emit_instances Y P (before_instances count) (instances P)
@@ -350,7 +349,7 @@ module _ (count : ℕ) (Y : Layout) (laid : IsLaidOut count Y) (P : Program) (X 
   seen = observed Y (instance_at P Root) (instance_at P Observer)
 
   closed : Closed count s
-  closed = all_closed count Y P laid _ _ (record { fresh = tt; next = omega arith })
+  closed = start_closed count Y P laid
 
   -- streams that solve tie the history that they stand for
   pub from_flat :
@@ -418,16 +417,10 @@ absent_truths zero = tt
 absent_truths (suc n) = (tt, absent_truths n)
 
 pub second_of_or : (k l r : Kind) → binary_kind Or k l ≡ Some r → l ≡ Truth
-second_of_or Int Int r e = cc
-second_of_or Int Truth r e = refl
-second_of_or Truth Int r e = cc
-second_of_or Truth Truth r e = refl
+second_of_or k l r e = grind arith
 
 pub second_of_and : (k l r : Kind) → binary_kind And k l ≡ Some r → l ≡ Truth
-second_of_and Int Int r e = cc
-second_of_and Int Truth r e = refl
-second_of_and Truth Int r e = cc
-second_of_and Truth Truth r e = refl
+second_of_and k l r e = grind arith
 
 -- ## Variables
 

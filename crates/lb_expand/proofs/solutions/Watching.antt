@@ -1,29 +1,31 @@
 -- The elements that a flat program watches and keeps.
 use Rattle.lb_expand.proofs.Words
-use Words.{◌≡◌, ℕ, ◌+◌, Bool, true, false, ◌||◌, Option, Some, None, List, [], ◌∷◌, ◌++◌, map}
+use Words.{append-nil, arith, ◌≡◌, ℕ, ◌+◌, Bool, ◌||◌, Option, Some, None, List, [], ◌∷◌, ◌++◌, map}
 use Words.{flat_map, refl, sym, ap, ap₂, ◌∙◌, subst, map-append, Every, some_of, Node_named, Symbol}
 use Words.{Expr, Literal, Truth, Variable, Group, Unary, Binary, If, Arrow, Fby, Pre, Current, When}
 use Words.{Replicate, Index, Slice, Join, Array, AtMostOne, Nor, Call, Iterate, Exprs, Nil, Cons}
-use Words.{Program, Instance, node_named, Stream, first_value, Occurrence, call_count, occurrences}
-use Words.{occurrences_in, occurrences_each, call_clocks, History, Inputs, streams_at, FlatClock}
-use Words.{Operation, Previous, FlatEquation, column, AreLong, Layout, flat_clock, State, Emitted}
-use Words.{add, keep, joins, emit, emit_all, emit_each, zip, Statement, Equation, Assertion}
-use Words.{statement_clock, right_sides, copied, targets, assert, emit_body, emit_instances}
-use Words.{range_with_len, or-true, listed, Declaration, instance_at, instances, variables, is_bad}
-use Words.{is_nil, is_false, property_path, variable_columns, clock_variables, history_of}
-use Words.{IsWatched, before_instances, clock_places, property_places, expanded, slice_get}
-use Rattle.std.{specs.List.list_any, proofs.{Math.Bool.or_assoc, lemmas.List.Folds.list_any-append}}
-use Rattle.{lb_syntax.proofs.TruthValues.or_nothing, lb_check.specs.Clocks.Clock}
+use Words.{Program, Instance, Stream, first_value, Occurrence, call_count, occurrences}
+use Words.{occurrences_in, occurrences_each, History, Inputs, streams_at, FlatClock, Operation}
+use Words.{Previous, FlatEquation, column, AreLong, Layout, flat_clock, State, Emitted, add, keep}
+use Words.{joins, emit, emit_all, emit_each, zip, Statement, Equation, Assertion, statement_clock}
+use Words.{right_sides, assert, emit_body, emit_instances, range_with_len, listed, Declaration}
+use Words.{instance_at, instances, variables, is_bad, is_nil, is_false, property_path}
+use Words.{variable_columns, clock_variables, history_of, IsWatched, before_instances, clock_places}
+use Words.{property_places, expanded, slice_get}
+use Rattle.std.{specs.List.list_any, proofs.Math.Bool.or_assoc}
+use Rattle.{std.proofs.lemmas.List.Folds.list_any-append, lb_syntax.proofs.TruthValues.or_nothing}
+use Rattle.lb_check.specs.Clocks.{Clock}
 use Rattle.lb_check.specs.Verdicts.{memory_operand, assertion_of, memory_columns, assertion_columns}
-use Rattle.{lb_check.specs.Verdicts.property_columns, lb_flat.proofs.lists.Lists.Every-first}
-use Rattle.lb_flat.proofs.lists.Lists.{Every-second}
+use Rattle.lb_check.specs.Verdicts.{property_columns}
+use Rattle.lb_flat.proofs.lists.Lists.{Every-first, Every-second}
 use Rattle.lb_expand.proofs.emission.EmissionSteps.{IsAdding, IsStep, Any, any_joined, nor_step}
 use Rattle.lb_expand.proofs.emission.EmissionSteps.{at_most_one_step, symbol_step, name_step}
 use Rattle.lb_expand.proofs.emission.EmissionSteps.{emit_step, joins_asserted, assert_asserted}
 use Rattle.lb_expand.proofs.{emission.EmissionSteps.{assert_kept, asserts}, lists.Lists.map-pieces}
-use Rattle.lb_expand.proofs.{reads.LinkSymbols.keep_equations, solutions.Emission.joins_equations}
-use Rattle.lb_expand.proofs.solutions.{Emission.{sound, sound_all, sound_each}, Placing.columns}
-use Rattle.lb_expand.proofs.solutions.Placing.{AllMet, add_sound, Agrees, IsPlaced}
+use Rattle.lb_expand.proofs.reads.LinkSymbols.{keep_equations}
+use Rattle.lb_expand.proofs.solutions.Emission.{joins_equations, sound, sound_all, sound_each}
+use Rattle.lb_expand.proofs.solutions.Placing.{columns, AllMet, Agrees, IsPlaced, Earlier}
+use Rattle.lb_expand.proofs.solutions.Placing.{earlier as adding_met}
 use Rattle.lb_expand.proofs.solutions.Solving.{IsWide, IsSound, occurrences_of, assert_equations}
 use Rattle.lb_expand.proofs.solutions.Solving.{body_sound, all_sound}
 
@@ -31,11 +33,7 @@ use Rattle.lb_expand.proofs.solutions.Solving.{body_sound, all_sound}
 -- passes at a kept element exactly where it passes at such an operand.
 
 or_swap : (a b c : Bool) → ((a || b) || c) ≡ (a || (c || b))
-or_swap true b c = refl
-or_swap false true true = refl
-or_swap false true false = refl
-or_swap false false true = refl
-or_swap false false false = refl
+or_swap a b c = grind arith
 
 pub append_assoc : (xs ys zs : List Stream) → xs ++ (ys ++ zs) ≡ (xs ++ ys) ++ zs
 append_assoc [] ys zs = refl
@@ -102,15 +100,14 @@ module _ (Y : Layout) (P : Program) (X : Inputs) (H : History) (F : List Stream)
         ≡ (list_any test (columns X F s.memory_operands) || list_any test (operands os))
 
   keeps_on :
-      (s t u : State) (os : List Occurrence) → Keeps s t os → u.memory_operands ≡ t.memory_operands
-      → Keeps s u os
-  keeps_on s t u os h e =
-      record { same = λ test. ap (passes test) e ∙ h.same test }
+      {s t u : State} {os : List Occurrence} → Keeps s t os → u.memory_operands
+      ≡ t.memory_operands → Keeps s u os
+  keeps_on h e = record { same = λ test. ap (passes test) e ∙ h.same test }
 
   keeps_nothing :
-      (s t : State) (os : List Occurrence) → operands os ≡ []
-      → t.memory_operands ≡ s.memory_operands → Keeps s t os
-  keeps_nothing s t os q e = record {
+      {s t : State} {os : List Occurrence} → operands os ≡ [] → t.memory_operands
+      ≡ s.memory_operands → Keeps s t os
+  keeps_nothing {s = s} q e = record {
     same = λ test.
         ap (passes test) e ∙ or_nothing (passes test s.memory_operands)
         ∙ ap (λ xss. passes test s.memory_operands || list_any test xss) (sym q);
@@ -118,34 +115,32 @@ module _ (Y : Layout) (P : Program) (X : Inputs) (H : History) (F : List Stream)
 
   -- an occurrence that keeps nothing adds nothing to what its parts keep
   keeps_quiet :
-      (s t u : State) (o : Occurrence) (os : List Occurrence) →
-      operands (o ∷ os) ≡ operands os → Keeps s t os → u.memory_operands ≡ t.memory_operands
-      → Keeps s u (o ∷ os)
-  keeps_quiet s t u o os q h e = record {
+      {s t u : State} {o : Occurrence} {os : List Occurrence} → operands (o ∷ os) ≡ operands os →
+      Keeps s t os → u.memory_operands ≡ t.memory_operands → Keeps s u (o ∷ os)
+  keeps_quiet {s = s} q h e = record {
     same = λ test.
         ap (passes test) e ∙ h.same test
         ∙ ap (λ xss. passes test s.memory_operands || list_any test xss) (sym q);
   }
 
   pub keeps_two :
-      (s t u : State) (os os' : List Occurrence) → Keeps s t os → Keeps t u os' →
-      Keeps s u (os ++ os')
-  keeps_two s t u os os' a b = record {
-    same = λ test.
-        b.same test ∙ ap (λ c. c || list_any test (operands os')) (a.same test)
-        ∙ or_assoc (passes test s.memory_operands) (list_any test (operands os))
-        (list_any test (operands os'))
-        ∙ ap (λ c. passes test s.memory_operands || c)
-        (sym (list_any-append test (operands os) (operands os'))
-        ∙ ap (list_any test) (sym (operands-append os os')));
-  }
+      {s t u : State} {os os' : List Occurrence} → Keeps s t os → Keeps t u os' → Keeps s u
+      (os ++ os')
+  keeps_two {s = s} {os = os} {os' = os'} a b =
+      record {
+        same = λ test. b.same test ∙ ap (λ c. c || list_any test (operands os')) (a.same test)
+            ∙ or_assoc (passes test s.memory_operands) (list_any test (operands os))
+            (list_any test (operands os')) ∙ ap (λ c. passes test s.memory_operands || c)
+            (sym (list_any-append test (operands os) (operands os')) ∙ ap (list_any test)
+            (sym (operands-append os os')));
+      }
 
   -- an occurrence that keeps its operand adds the elements of the operand
   keeps_own :
-      (s : State) (x : Emitted) (xss : List Stream) (o : Occurrence) (os : List Occurrence) →
+      {s : State} (x : Emitted) {xss : List Stream} {o : Occurrence} {os : List Occurrence} →
       operands (o ∷ os) ≡ xss ++ operands os → columns X F x.found ≡ xss → Keeps s x.state os →
       Keeps s (keep x).state (o ∷ os)
-  keeps_own s x xss o os q e h = record {
+  keeps_own {s = s} x {xss = xss} {os = os} q e h = record {
     same = λ test.
         ap (passes test) (keep_kept x)
         ∙ ap (list_any test) (map-append (column X F) x.state.memory_operands x.found)
@@ -160,22 +155,15 @@ module _ (Y : Layout) (P : Program) (X : Inputs) (H : History) (F : List Stream)
       (x : Emitted) → AllMet X F (keep x).state.equations → AllMet X F x.state.equations
   unkept x h = subst (AllMet X F) (keep_equations x) h
 
-  abbrev Earlier : State → State → Type 0
-  Earlier s t = AllMet X F t.equations → AllMet X F s.equations
-
-  earlier : IsStep Any Earlier
+  earlier : IsStep Any (Earlier X F)
   earlier = record {
-    adding = record {
-      none = λ s h. h;
-      both = λ s t u a b h. a (b h);
-      adds = λ k s os h. let r = add_sound X F k s os h in r.before;
-    };
+    adding = adding_met X F;
     keeps = unkept;
     joining = λ s qs is q h. subst (AllMet X F) (joins_equations s qs is) h;
   }
 
   -- where the equations behind `add` hold, the equations before it hold
-  added : (k : FlatClock) (s : State) (os : List Operation) → Earlier s (add k s os).state
+  added : (k : FlatClock) (s : State) (os : List Operation) → Earlier X F s (add k s os).state
   added = earlier.adding.adds
 
   -- ## Expressions
@@ -204,10 +192,9 @@ module _ (Y : Layout) (P : Program) (X : Inputs) (H : History) (F : List Stream)
       AllPlaced (parts k n a ++ parts k m b) → AllMet X F y.state.equations →
       Keeps s y.state (parts k n a ++ parts k m b))
   keeps_both k n s a b left right w h =
-      let m = n + call_count a in
-      let x = emit Y P here k n s a in
-      let first = emit_step Any Earlier earlier Y (any_joined Y) P here k m x.state b h in
-      keeps_two s _ _ _ _ (left (fore _ _ w) first) (right (aft _ _ w) h)
+      let first = emit_step Any (Earlier X F) earlier Y (any_joined Y) P here k (n + call_count a)
+      (emit Y P here k n s a).state b h in
+      keeps_two (left (fore _ _ w) first) (right (aft _ _ w) h)
 
   mutual
     unfolding emit
@@ -216,33 +203,29 @@ module _ (Y : Layout) (P : Program) (X : Inputs) (H : History) (F : List Stream)
         (k : Clock) (n : ℕ) (s : State) (e : Expr) → AllPlaced (occurrences P here.node k n e) →
         AllMet X F (emit Y P here k n s e).state.equations →
         Keeps s (emit Y P here k n s e).state (occurrences P here.node k n e)
-    keeps k n s (Literal m) w h = keeps_nothing s _ _ refl (add_kept _ s _)
-    keeps k n s (Truth b) w h = keeps_nothing s _ _ refl (add_kept _ s _)
-    keeps k n s (Variable x) w h =
-        keeps_nothing s _ _ refl (name_step SameKept keeping Y P here k s x _)
+    keeps k n s (Literal m) w h = keeps_nothing refl (add_kept _ s _)
+    keeps k n s (Truth b) w h = keeps_nothing refl (add_kept _ s _)
+    keeps k n s (Variable x) w h = keeps_nothing refl (name_step SameKept keeping Y P here k s x _)
     keeps k n s (Group a) w h = keeps k n s a w h
     keeps k n s (Unary op a) w h =
-        keeps_quiet s _ _ _ _ refl (keeps k n s a w.1 (added _ _ _ h)) (add_kept _ _ _)
+        keeps_quiet refl (keeps k n s a w.1 (added _ _ _ h)) (add_kept _ _ _)
     keeps k n s (Binary op a b) w h =
-        keeps_quiet s _ _ _ _ refl
-        (keeps_both k n s a b (keeps k n s a) (keeps k _ _ b) w.1 (added _ _ _ h))
+        keeps_quiet refl (keeps_both k n s a b (keeps k n s a) (keeps k _ _ b) w.1 (added _ _ _ h))
         (add_kept _ _ _)
     keeps k n s (If c a b) w h =
         let na = n + call_count c in
-        let oc = parts k n c in
-        let ob = parts k na a ++ parts k (na + call_count a) b in
         let z = emit Y P here k n s c in
-        let x = emit Y P here k na z.state a in
         let met = added _ _ _ h in
-        let second = emit_step Any Earlier earlier Y (any_joined Y) P here k _ x.state b met in
-        let first = emit_step Any Earlier earlier Y (any_joined Y) P here k na z.state a second in
-        keeps_quiet s _ _ _ _ refl
-        (keeps_two s z.state _ oc ob (keeps k n s c (fore oc ob w.1) first)
-        (keeps_both k na z.state a b (keeps k na z.state a) (keeps k _ _ b) (aft oc ob w.1) met))
+        let second = emit_step Any (Earlier X F) earlier Y (any_joined Y) P here k _
+        (emit Y P here k na z.state a).state b met in
+        let first = emit_step Any (Earlier X F) earlier Y (any_joined Y) P here k na z.state a
+        second in
+        keeps_quiet refl
+        (keeps_two (keeps k n s c (fore _ _ w.1) first)
+        (keeps_both k na z.state a b (keeps k na z.state a) (keeps k _ _ b) (aft _ _ w.1) met))
         (add_kept _ _ _)
     keeps k n s (Arrow a b) w h =
-        keeps_quiet s _ _ _ _ refl
-        (keeps_both k n s a b (keeps k n s a) (keeps k _ _ b) w.1 (added _ _ _ h))
+        keeps_quiet refl (keeps_both k n s a b (keeps k n s a) (keeps k _ _ b) w.1 (added _ _ _ h))
         (add_kept _ _ _)
     keeps k n s (Fby a b) w h =
         let m = n + call_count a in
@@ -252,49 +235,45 @@ module _ (Y : Layout) (P : Program) (X : Inputs) (H : History) (F : List Stream)
         let sb = sound Y P X H F long agrees here k m x.state b (aft (parts k n a) _ w.1) met in
         let before = map (Previous first_value) (keep y).found in
         let z = add (flat_clock Y here.path k) (keep y).state before in
-        keeps_on s z.state _ _
-        (keeps_on s (keep y).state _ _
-        (keeps_own s y _ _ (parts k n a ++ parts k m b) refl sb.found
-        (keeps_both k n s a b (keeps k n s a) (keeps k m x.state b) w.1 met))
-        (add_kept _ _ _)) (add_kept _ _ _)
+        keeps_on
+        (keeps_on {u = z.state}
+        (keeps_own _ refl sb.found
+        (keeps_both k n s a b (keeps k n s a) (keeps k m x.state b) w.1 met)) (add_kept _ _ _))
+        (add_kept _ _ _)
     keeps k n s (Pre a) w h =
         let x = emit Y P here k n s a in
         let met = unkept x (added _ _ _ h) in
         let sa = sound Y P X H F long agrees here k n s a w.1 met in
-        keeps_on s (keep x).state _ _
-        (keeps_own s x _ _ _ refl sa.found (keeps k n s a w.1 met)) (add_kept _ _ _)
+        keeps_on (keeps_own _ refl sa.found (keeps k n s a w.1 met)) (add_kept _ _ _)
     keeps k n s (Current a) w h =
         let x = emit Y P here _ n s a in
         let met = unkept x (added _ _ _ h) in
         let sa = sound Y P X H F long agrees here _ n s a w.1 met in
-        keeps_on s (keep x).state _ _
-        (keeps_own s x _ _ _ refl sa.found (keeps _ n s a w.1 met)) (add_kept _ _ _)
+        keeps_on (keeps_own _ refl sa.found (keeps _ n s a w.1 met)) (add_kept _ _ _)
     keeps k n s (When a x sign) w h =
-        keeps_quiet s _ _ _ _ refl (keeps _ n s a w.1 (added _ _ _ h)) (add_kept _ _ _)
-    keeps k n s (Replicate a m) w h = keeps_quiet s _ _ _ _ refl (keeps k n s a w.1 h) refl
-    keeps k n s (Index a i) w h = keeps_quiet s _ _ _ _ refl (keeps k n s a w.1 h) refl
-    keeps k n s (Slice a i j) w h = keeps_quiet s _ _ _ _ refl (keeps k n s a w.1 h) refl
+        keeps_quiet refl (keeps _ n s a w.1 (added _ _ _ h)) (add_kept _ _ _)
+    keeps k n s (Replicate a m) w h = keeps_quiet refl (keeps k n s a w.1 h) refl
+    keeps k n s (Index a i) w h = keeps_quiet refl (keeps k n s a w.1 h) refl
+    keeps k n s (Slice a i j) w h = keeps_quiet refl (keeps k n s a w.1 h) refl
     keeps k n s (Join a b) w h =
-        keeps_quiet s _ _ _ _ refl (keeps_both k n s a b (keeps k n s a) (keeps k _ _ b) w.1 h) refl
-    keeps k n s (Array es) w h = keeps_quiet s _ _ _ _ refl (keeps_all k n s es w.1 h) refl
+        keeps_quiet refl (keeps_both k n s a b (keeps k n s a) (keeps k _ _ b) w.1 h) refl
+    keeps k n s (Array es) w h = keeps_quiet refl (keeps_all k n s es w.1 h) refl
     keeps k n s (AtMostOne es) w h =
-        keeps_quiet s _ _ _ _ refl
-        (keeps_all k n s es w.1 (at_most_one_step Earlier earlier.adding _ _ _ h))
+        keeps_quiet refl
+        (keeps_all k n s es w.1 (at_most_one_step (Earlier X F) earlier.adding _ _ _ h))
         (at_most_one_step SameKept keeping _ _ _)
     keeps k n s (Nor es) w h =
-        keeps_quiet s _ _ _ _ refl
-        (keeps_all k n s es w.1 (nor_step Earlier earlier.adding _ _ _ h))
+        keeps_quiet refl (keeps_all k n s es w.1 (nor_step (Earlier X F) earlier.adding _ _ _ h))
         (nor_step SameKept keeping _ _ _)
     keeps k n s (Call f statics es) w h =
-        let ks = call_clocks k (node_named P f) es in
-        keeps_quiet s _ _ _ _ refl
-        (keeps_each ks (n + 1) s es w.1 (earlier.joining _ _ _ tt h)) (joins_kept _ _ _)
+        keeps_quiet refl (keeps_each _ (n + 1) s es w.1 (earlier.joining _ _ _ tt h))
+        (joins_kept _ _ _)
     keeps k n s (Iterate it (Node_named f statics) m es) w h =
-        keeps_quiet s _ _ _ _ refl
+        keeps_quiet refl
         (keeps_all k (n + 1) s es w.1 (earlier.joining _ _ _ tt h)) (joins_kept _ _ _)
     keeps k n s (Iterate it (Symbol op) m es) w h =
-        keeps_quiet s _ _ _ _ refl
-        (keeps_all k n s es w.1 (symbol_step Earlier earlier.adding _ op _ it _ h))
+        keeps_quiet refl
+        (keeps_all k n s es w.1 (symbol_step (Earlier X F) earlier.adding _ op _ it _ h))
         (symbol_step SameKept keeping _ op _ it _)
 
     pub keeps_all :
@@ -302,13 +281,13 @@ module _ (Y : Layout) (P : Program) (X : Inputs) (H : History) (F : List Stream)
         AllPlaced (occurrences_in P here.node k n es) →
         AllMet X F (emit_all Y P here k n s es).state.equations →
         Keeps s (emit_all Y P here k n s es).state (occurrences_in P here.node k n es)
-    keeps_all k n s Nil w h = keeps_nothing s _ _ refl refl
+    keeps_all k n s Nil w h = keeps_nothing refl refl
     keeps_all k n s (Cons e es) w h =
         let m = n + call_count e in
         let oa = parts k n e in let ob = occurrences_in P here.node k m es in
         let x = emit Y P here k n s e in
         let r = sound_all Y P X H F long agrees here k m x.state es (aft oa ob w) h in
-        keeps_two s x.state _ oa ob (keeps k n s e (fore oa ob w) r.before)
+        keeps_two (keeps k n s e (fore oa ob w) r.before)
         (keeps_all k m x.state es (aft oa ob w) h)
 
     pub keeps_each :
@@ -316,105 +295,82 @@ module _ (Y : Layout) (P : Program) (X : Inputs) (H : History) (F : List Stream)
         AllPlaced (occurrences_each P here.node ks n es) →
         AllMet X F (emit_each Y P here ks n s es).state.equations →
         Keeps s (emit_each Y P here ks n s es).state (occurrences_each P here.node ks n es)
-    keeps_each ks n s Nil w h = keeps_nothing s _ _ refl refl
-    keeps_each [] n s (Cons e es) w h = keeps_nothing s _ _ refl refl
+    keeps_each ks n s Nil w h = keeps_nothing refl refl
+    keeps_each [] n s (Cons e es) w h = keeps_nothing refl refl
     keeps_each (k ∷ ks) n s (Cons e es) w h =
         let m = n + call_count e in
         let oa = parts k n e in let ob = occurrences_each P here.node ks m es in
         let x = emit Y P here k n s e in
         let r = sound_each Y P X H F long agrees here ks m x.state es (aft oa ob w) h in
-        keeps_two s x.state _ oa ob (keeps k n s e (fore oa ob w) r.before)
+        keeps_two (keeps k n s e (fore oa ob w) r.before)
         (keeps_each ks m x.state es (aft oa ob w) h)
+
+  -- ## Statements
+
+  -- the streams of the assertions among these statements
+  abbrev asserted_in : List (Statement × Occurrence) → List Stream
+  asserted_in ss =
+      flat_map (streams_at P H here) (some_of (map (λ s. assertion_of s.0 s.1) ss))
+
+  record BodyWatched (s t : State) (ss : List (Statement × Occurrence))
+      (os : List Occurrence) : Type 0 where
+    memory_operands : Keeps s t os
+    asserted : columns X F t.asserted ≡ columns X F s.asserted ++ asserted_in ss
+
+  body_watched :
+      (n : ℕ) (s : State) (body : List Statement) →
+      Every (λ s. IsWide P H here s.0 s.1) (zip body (right_sides P here.node n body)) →
+      Every (IsPlaced Y P H here) (occurrences_of P here.node (right_sides P here.node n body)) →
+      AllMet X F (emit_body Y P here n s body).equations →
+      BodyWatched s (emit_body Y P here n s body) (zip body (right_sides P here.node n body))
+      (occurrences_of P here.node (right_sides P here.node n body))
+  unfolding emit_body
+  body_watched n s [] wide w h = record {
+    memory_operands = record
+        { same = λ test. or_nothing (list_any test (columns X F s.memory_operands)) };
+    asserted = sym (append-nil (columns X F s.asserted));
+  }
+  body_watched n s (Assertion e ∷ rest) wide w h =
+      let k = statement_clock P here.node (Assertion e) in
+      let m = n + call_count e in
+      let x = emit Y P here k n s e in
+      let wa = Every-first (IsPlaced Y P H here) _ _ w in
+      let wb = Every-second (IsPlaced Y P H here) _ _ w in
+      let hx = subst (AllMet X F) (assert_equations x)
+      (body_sound Y P X H F long agrees here m (assert x) rest wide.1 wb h).before in
+      let r = body_watched m (assert x) rest wide.1 wb h in
+      record {
+        memory_operands = keeps_two (keeps_on (keeps k n s e wa hx) (assert_kept x))
+            r.memory_operands;
+        asserted = r.asserted
+            ∙ ap (λ xs. xs ++ asserted_in (zip rest (right_sides P here.node m rest)))
+            (ap (columns X F) (assert_asserted x) ∙ map-append (column X F) x.state.asserted x.found
+            ∙ ap₂ (λ xs ys. xs ++ ys) (ap (columns X F) (asserts Y P here k n s e))
+            (sound Y P X H F long agrees here k n s e wa hx).found)
+            ∙ sym (append_assoc (columns X F s.asserted) _ _);
+      }
+  body_watched n s (Equation lefts e ∷ rest) wide w h =
+      let k = statement_clock P here.node (Equation lefts e) in
+      let m = n + call_count e in
+      let x = emit Y P here k n s e in
+      let wb = Every-second (IsPlaced Y P H here) _ _ w in
+      let hx = subst (AllMet X F) (joins_equations x.state _ [])
+      (body_sound Y P X H F long agrees here m _ rest wide.1 wb h).before in
+      let r = body_watched m _ rest wide.1 wb h in
+      let q = keeps_on (keeps k n s e (Every-first (IsPlaced Y P H here) _ _ w) hx)
+      (joins_kept x.state _ []) in
+      record {
+        memory_operands = keeps_two q r.memory_operands;
+        asserted = r.asserted
+            ∙ ap (λ is. columns X F is ++ asserted_in (zip rest (right_sides P here.node m rest)))
+            (joins_asserted x.state _ [] ∙ asserts Y P here k n s e);
+      }
 
 -- The elements that a flat program lists as kept hold the operands that memories keep; those that
 -- it lists as asserted hold the assertions of all instances.
 
--- a list with nothing appended is the list
-append_nothing : (xs : List Stream) → xs ≡ xs ++ []
-append_nothing [] = refl
-append_nothing (x ∷ xs) = ap (λ ys. x ∷ ys) (append_nothing xs)
-
 module _ (Y : Layout) (P : Program) (X : Inputs) (H : History) (F : List Stream)
     (long : AreLong X F) (agrees : Agrees Y X H F) where
-  module _ (here : Instance) where
-    -- the streams of the assertions among these statements
-    abbrev asserted_in : List (Statement × Occurrence) → List Stream
-    asserted_in ss =
-        flat_map (streams_at P H here) (some_of (map (λ s. assertion_of s.0 s.1) ss))
-
-    record BodyWatched (s t : State) (ss : List (Statement × Occurrence))
-        (os : List Occurrence) : Type 0 where
-      memory_operands : Keeps Y P X H F long agrees here s t os
-      asserted : columns X F t.asserted ≡ columns X F s.asserted ++ asserted_in ss
-
-    keeps_by :
-        (s t u : State) (os : List Occurrence) → Keeps Y P X H F long agrees here s t os →
-        u.memory_operands ≡ t.memory_operands → Keeps Y P X H F long agrees here s u os
-    keeps_by s t u os h e = record {
-      same = λ test.
-          ap (λ is. list_any test (columns X F is)) e ∙ h.same test;
-    }
-
-    body_watched :
-        (n : ℕ) (s : State) (body : List Statement) →
-        Every (λ s. IsWide P H here s.0 s.1) (zip body (right_sides P here.node n body)) →
-        Every (IsPlaced Y P H here) (occurrences_of P here.node (right_sides P here.node n body)) →
-        AllMet X F (emit_body Y P here n s body).equations →
-        BodyWatched s (emit_body Y P here n s body) (zip body (right_sides P here.node n body))
-        (occurrences_of P here.node (right_sides P here.node n body))
-    unfolding emit_body
-    body_watched n s [] wide w h = record {
-      memory_operands = record
-          { same = λ test. or_nothing (list_any test (columns X F s.memory_operands)) };
-      asserted = append_nothing (columns X F s.asserted);
-    }
-    body_watched n s (Assertion e ∷ rest) wide w h =
-        let k = statement_clock P here.node (Assertion e) in
-        let m = n + call_count e in
-        let x = emit Y P here k n s e in
-        let oa = occurrences P here.node k n e in
-        let ob = occurrences_of P here.node (right_sides P here.node m rest) in
-        let wa = Every-first (IsPlaced Y P H here) oa ob w in
-        let wb = Every-second (IsPlaced Y P H here) oa ob w in
-        let after = body_sound Y P X H F long agrees here m (assert x) rest wide.1 wb h in
-        let hx = subst (AllMet X F) (assert_equations x) after.before in
-        let a = sound Y P X H F long agrees here k n s e wa hx in
-        let r = body_watched m (assert x) rest wide.1 wb h in
-        let q = keeps_by s x.state (assert x) oa
-        (keeps Y P X H F long agrees here k n s e wa hx) (assert_kept x) in
-        record {
-          memory_operands = keeps_two Y P X H F long agrees here s (assert x) _ oa ob q
-              r.memory_operands;
-          asserted = r.asserted
-              ∙ ap (λ xs. xs ++ asserted_in (zip rest (right_sides P here.node m rest)))
-              (ap (columns X F) (assert_asserted x)
-              ∙ map-append (column X F) x.state.asserted x.found
-              ∙ ap₂ (λ xs ys. xs ++ ys)
-              (ap (columns X F) (asserts Y P here k n s e)) a.found)
-              ∙ sym (append_assoc (columns X F s.asserted) _ _);
-        }
-    body_watched n s (Equation lefts e ∷ rest) wide w h =
-        let k = statement_clock P here.node (Equation lefts e) in
-        let m = n + call_count e in
-        let x = emit Y P here k n s e in
-        let qs = copied (flat_map (targets Y here.node here.path) lefts) x.found in
-        let t = (joins x.state qs []).state in
-        let oa = occurrences P here.node k n e in
-        let ob = occurrences_of P here.node (right_sides P here.node m rest) in
-        let wa = Every-first (IsPlaced Y P H here) oa ob w in
-        let wb = Every-second (IsPlaced Y P H here) oa ob w in
-        let after = body_sound Y P X H F long agrees here m t rest wide.1 wb h in
-        let hx = subst (AllMet X F) (joins_equations x.state qs []) after.before in
-        let r = body_watched m t rest wide.1 wb h in
-        let q = keeps_by s x.state t oa (keeps Y P X H F long agrees here k n s e wa hx)
-        (joins_kept x.state qs []) in
-        record {
-          memory_operands = keeps_two Y P X H F long agrees here s t _ oa ob q r.memory_operands;
-          asserted = r.asserted
-              ∙ ap (λ is. columns X F is ++ asserted_in (zip rest (right_sides P here.node m rest)))
-              (joins_asserted x.state qs [] ∙ asserts Y P here k n s e);
-        }
-
   -- a test passes at a kept or asserted element of `t` exactly where it does at one of `s`, or at a
   -- kept operand or an assertion of these instances
   pub record Watched (s t : State) (instances : List Instance) : Type 0 where
@@ -441,20 +397,18 @@ module _ (Y : Layout) (P : Program) (X : Inputs) (H : History) (F : List Stream)
   all_watched s (here ∷ rest) ok h =
       let t = emit_body Y P here 0 s here.node.body in
       let after = all_sound Y P X H F long agrees t rest ok.1 h in
-      let a = body_watched here 0 s here.node.body ok.0.wide ok.0.placed after.before in
+      let a = body_watched Y P X H F long agrees here 0 s here.node.body ok.0.wide ok.0.placed
+      after.before in
       let r = all_watched t rest ok.1 h in
       record {
-        memory_operands = λ test.
-            r.memory_operands test
-            ∙ ap (λ b. b || list_any (λ here. list_any test (memory_columns P H here)) rest)
-            (a.memory_operands.same test)
-            ∙ or_assoc (list_any test (columns X F s.memory_operands)) _ _;
-        asserted = λ test.
-            r.asserted test
-            ∙ ap (λ b. b || list_any (λ here. list_any test (assertion_columns P H here)) rest)
-            (ap (list_any test) a.asserted
-            ∙ list_any-append test (columns X F s.asserted) (assertion_columns P H here))
-            ∙ or_assoc (list_any test (columns X F s.asserted)) _ _;
+        memory_operands = λ test. r.memory_operands test ∙ ap
+            (λ b. b || list_any (λ here. list_any test (memory_columns P H here)) rest)
+            (a.memory_operands.same test) ∙ or_assoc (list_any test (columns X F s.memory_operands))
+            _ _;
+        asserted = λ test. r.asserted test ∙ ap
+            (λ b. b || list_any (λ here. list_any test (assertion_columns P H here)) rest)
+            (ap (list_any test) a.asserted ∙ list_any-append test (columns X F s.asserted)
+            (assertion_columns P H here)) ∙ or_assoc (list_any test (columns X F s.asserted)) _ _;
       }
 
 -- The elements that a flat program watches show each fault, each nil where a truth is wanted, each
@@ -463,10 +417,7 @@ module _ (Y : Layout) (P : Program) (X : Inputs) (H : History) (F : List Stream)
 three :
     (a b c d e g : Bool) →
     ((a || (b || c)) || (d || (e || g))) ≡ ((a || d) || ((b || e) || (c || g)))
-three true b c d e g = refl
-three false true c d e g = sym (or-true d)
-three false false true d e g = sym (ap (λ x. d || x) (or-true e) ∙ or-true d)
-three false false false d e g = refl
+three a b c d e g = grind arith
 
 -- a test of three joined lists for each item is a test of the first, the second or the third lists
 any_three :

@@ -9,7 +9,7 @@ use Words.{Pre, Current, When, Replicate, Index, Slice, Join, Array, AtMostOne, 
 use Words.{Exprs, Nil, Cons, Declaration, Statement, Equation, Assertion, and_first, and_second}
 use Words.{DataType, element_count, variables, variable_type, width, Program, Instance, name_value}
 use Words.{node_named, static_count, instances, parts, parts_in, node_parts, right_side, named}
-use Words.{check_refusal, On, clock_or, declared_clock, instance_elements, program_elements}
+use Words.{check_refusal, On, instance_elements, program_elements}
 use Words.{elements, Occurrence, call_count, call_clocks, occurrences, occurrences_in}
 use Words.{occurrences_each, statement_clock, right_sides, node_occurrences, Boolean, first_value}
 use Words.{is_clock_typed, is_statement_typed, is_typed, expression_size, instance_size, size}
@@ -20,7 +20,7 @@ use Words.{emit_nor, emit_at_most_one, keep, assert, joins, copied, targets, cho
 use Words.{emit_name, emit, emit_all, emit_each, emit_body, emit_instances, before_instances}
 use Words.{expanded, FlatClock, Operation, Constant, ApplyUnary, ApplyBinary, Choose, FirstThen}
 use Words.{Previous, Latest, Sample, FlatEquation, Layout, flat_clock, length-append}
-use Rattle.{lb_static.specs.DataTypes.total, lb_check.specs.Clocks.{Clock, clock_of}}
+use Rattle.{lb_static.specs.DataTypes.total, lb_check.specs.Clocks.{Clock}}
 use Rattle.lb_check.proofs.{programs.OccurrenceParts.right_typed, typing.OperandTypes.{one, two}}
 use Rattle.{lb_check.proofs.typing.OperandTypes.from_true, lb_flat.proofs.lists.Lists.Every-map}
 use Rattle.lb_flat.proofs.lists.Lists.{Every-both, Every-first, Every-second}
@@ -82,82 +82,102 @@ symbol_next k op s Map (xs ∷ (ys ∷ [])) =
     let c = length-append xs (ys ++ []) in
     omega (arith, a, b, c)
 symbol_next k op s Red ((init ∷ []) ∷ (ys ∷ [])) =
-    let a = chained_next k op s init ys in
-    let c = length-append ys [] in
-    omega (arith, a, c)
+    omega (arith, chained_next k op s init ys, length-append ys [])
 symbol_next k op s it found = omega arith
 
 -- ## Sizes
 
 total_is : (ts : List DataType) → total ts ≡ elements_in ts
 total_is [] = refl
-total_is (t ∷ ts) =
-    let a = sum_by-cons element_count t ts in let b = total_is ts in omega (arith, a, b)
+total_is (t ∷ ts) = omega (arith, sum_by-cons element_count t ts, total_is ts)
 
 -- ## A bound
 
 -- a text that weighs `weighs` and finds `many` elements takes few new ones: those from `before` to
 -- `next`
-abbrev pub IsFew : (before next many weighs : ℕ) → Type 0
-IsFew before next many weighs = next + 3 * many ≤ before + 5 * weighs
+pub record IsFew (before next many weighs : ℕ) : Type 0 where
+  pub few : next + 3 * many ≤ before + 5 * weighs
+
+-- a text that weighs `weighs` takes few new elements, however many it finds
+pub record IsCheap (before next weighs : ℕ) : Type 0 where
+  pub few : next ≤ before + 5 * weighs
+
+-- one new element, which is the one that is found, is few
+one_new :
+    {before next many weighs : ℕ} → next ≡ before + 1 → weighs ≡ many + 0 → many ≡ 1 →
+    IsFew before next many weighs
+one_new e is single = record { few = omega (arith, e, is, single) }
 
 -- a form with one operand, with at most as many new elements as the operand has, takes few
 after_one :
-    (before next a w many new end weighs : ℕ) → IsFew before next a w → end ≡ next + new →
-    new ≤ a → weighs ≡ many + w → IsFew before end many weighs
-after_one before next a w many new end weighs h e le is = omega (arith, h, e, le, is)
+    {before next a w many end weighs : ℕ} → IsFew before next a w → end ≤ next + a →
+    weighs ≡ many + w → IsFew before end many weighs
+after_one h le is = record { few = omega (arith, h, le, is) }
 
 -- a form with two operands, with at most as many new elements as both have, takes few
 after_two :
-    (before first next a b v w many new end weighs : ℕ) → IsFew before first a v →
-    IsFew first next b w → end ≡ next + new → new ≤ a + b → weighs ≡ many + (v + w) →
+    {before first next a b v w many end weighs : ℕ} → IsFew before first a v →
+    IsFew first next b w → end ≤ next + (a + b) → weighs ≡ many + (v + w) →
     IsFew before end many weighs
-after_two before first next a b v w many new end weighs g h e le is =
-    omega (arith, g, h, e, le, is)
+after_two g h le is = record { few = omega (arith, g, h, le, is) }
 
 -- a form with three operands, with at most as many new elements as the second has, takes few
 after_three :
-    (before first second next a b c u v w many new end weighs : ℕ) → IsFew before first a u →
-    IsFew first second b v → IsFew second next c w → end ≡ next + new → new ≤ b →
+    {before first second next a b c u v w many end weighs : ℕ} → IsFew before first a u →
+    IsFew first second b v → IsFew second next c w → end ≤ next + b →
     weighs ≡ many + (u + (v + w)) → IsFew before end many weighs
-after_three before first second next a b c u v w many new end weighs f g h e le is =
-    omega (arith, f, g, h, e, le, is)
+after_three f g h le is = record { few = omega (arith, f, g, h, le, is) }
 
 -- one truth from several operands, by two new elements and three for each one found, takes few
 after_truths :
-    (before next a w end weighs : ℕ) → IsFew before next a w → end ≤ next + 3 * a + 2 →
-    weighs ≡ 1 + w → IsFew before end 1 weighs
-after_truths before next a w end weighs h le is = omega (arith, h, le, is)
+    {before next a w many end weighs : ℕ} → many ≡ 1 → IsFew before next a w →
+    end ≤ next + 3 * a + 2 → weighs ≡ many + w → IsFew before end many weighs
+after_truths one h le is = record { few = omega (arith, one, h, le, is) }
 
 -- a call adds no new elements of its own, and so takes few
 after_calls :
-    (before next w many weighs : ℕ) → next ≤ before + 5 * w → weighs ≡ many + w →
+    {before next w many weighs : ℕ} → IsCheap before next w → weighs ≡ many + w →
     IsFew before next many weighs
-after_calls before next w many weighs h is = omega (arith, h, is)
+after_calls h is = record { few = omega (arith, h, is) }
 
 -- one operand and several others take few, where each part takes few
 after_more :
-    (before first next a b v w many weighs : ℕ) → IsFew before first a v → IsFew first next b w →
+    {before first next a b v w many weighs : ℕ} → IsFew before first a v → IsFew first next b w →
     many ≡ a + b → weighs ≡ v + w → IsFew before next many weighs
-after_more before first next a b v w many weighs g h e is = omega (arith, g, h, e, is)
-
--- an iterated symbol, with at most as many new elements as its operands have, takes few
-after_symbol :
-    (before next a w many end weighs new : ℕ) → IsFew before next a w → end ≤ next + new →
-    new ≡ a → weighs ≡ many + w → IsFew before end many weighs
-after_symbol before next a w many end weighs new h le e is = omega (arith, h, le, e, is)
+after_more g h e is = record { few = omega (arith, g, h, e, is) }
 
 each_more :
-    (before first next a v w weighs : ℕ) → IsFew before first a v → next ≤ first + 5 * w →
-    weighs ≡ v + w → next ≤ before + 5 * weighs
-each_more before first next a v w weighs g h is = omega (arith, g, h, is)
+    {before first next a v w weighs : ℕ} → IsFew before first a v → IsCheap first next w →
+    weighs ≡ v + w → IsCheap before next weighs
+each_more g h is = record { few = omega (arith, g, h, is) }
 
-one_and_more : (m n : ℕ) → m + n ≡ (m + 0) + n
-one_and_more m n = omega arith
+-- few new elements are taken, where one is added for each element of the one operand
+one_added :
+    {before a w many weighs : ℕ} (x : Emitted) (f : ℕ → Operation) (c : FlatClock) →
+    IsFew before x.state.next a w → length x.found ≡ a → weighs ≡ many + w →
+    IsFew before (add c x.state (map f x.found)).state.next many weighs
+one_added x f c h count is =
+    let next = next_of_add c x.state (map f x.found) in
+    after_one h (omega (arith, next, length-map x.found f, count)) is
 
-later : (end mid kept next a b : ℕ) → end ≡ mid + b → mid ≡ kept + a → kept ≡ next →
-    end ≡ next + (a + b)
-later end mid kept next a b e f g = omega (arith, e, f, g)
+one_kept :
+    {before a w many weighs : ℕ} (x : Emitted) (f : ℕ → Operation) (c : FlatClock) →
+    IsFew before x.state.next a w → length x.found ≡ a → weighs ≡ many + w →
+    IsFew before (add c (keep x).state (map f (keep x).found)).state.next many weighs
+one_kept x f c h count is =
+    let next = next_of_add c (keep x).state (map f (keep x).found) in
+    let kept = next_of_keep x in
+    let many = length-map (keep x).found f ∙ keep_count x in
+    after_one h (omega (arith, next, kept, many, count)) is
+
+-- few new elements are taken, where at most as many are added as the first of two operands has
+two_added :
+    {before a b v w many weighs : ℕ} (x y : Emitted) (os : List Operation) (c : FlatClock) →
+    IsFew before x.state.next a v → IsFew x.state.next y.state.next b w → length x.found ≡ a →
+    length os ≤ length x.found → weighs ≡ many + (v + w) →
+    IsFew before (add c y.state os).state.next many weighs
+two_added x y os c g h count le is =
+    let next = next_of_add c y.state os in after_two g h (omega (arith, next, le, count)) is
 
 module _ (P : Program) (here : Instance) where
   -- the weight of some expressions: the sum of their sizes
@@ -202,12 +222,7 @@ module _ (P : Program) (here : Instance) where
         data_types P here e ≡ Some ts → elements_in ts ≡ 1 →
         IsFew s.next (add k s (o ∷ [])).state.next (elements_in ts) (weight (e ∷ []))
     constant_few k s o e ts typed single =
-        by s.next (add k s (o ∷ [])).state.next (elements_in ts) (weight (e ∷ []))
-        (next_of_add k s (o ∷ [])) (own_weight e ts [] typed) single
-      where
-        by : (before next many weighs : ℕ) → next ≡ before + 1 → weighs ≡ many + 0 → many ≡ 1 →
-            IsFew before next many weighs
-        by before next many weighs e is single = omega (arith, e, is, single)
+        one_new (next_of_add k s (o ∷ [])) (own_weight e ts [] typed) single
 
     name_few :
         (k : Clock) (s : State) (x : Name) (ts : List DataType) →
@@ -217,65 +232,10 @@ module _ (P : Program) (here : Instance) where
         IsFew s.next (emit_name Y P here k s x d).state.next (elements_in ts)
         (weight (Variable x ∷ []))
     name_few k s x ts typed (Some d) is =
-        after_calls _ _ 0 _ _ (omega arith) (own_weight (Variable x) ts [] typed)
+        let own = own_weight (Variable x) ts [] typed in record { few = omega (arith, own) }
     name_few k s x ts typed None is =
         constant_few _ s _ (Variable x) ts typed
         (ap elements_in (constant (name_value P here x) ts is).all)
-
-    -- few new elements are taken, where one is added for each element of the one operand
-    one_added :
-        (k own : Clock) (n : ℕ) (s : State) (a e : Expr) (us ts : List DataType)
-        (f : ℕ → Operation) (c : FlatClock) → data_types P here a ≡ Some us →
-        data_types P here e ≡ Some ts → AllHave (parts_at own n a) → FewAt own n s a us →
-        IsFew s.next
-        (add c (emit Y P here own n s a).state (map f (emit Y P here own n s a).found)).state.next
-        (elements_in ts) (weight (e ∷ parts a))
-    one_added k own n s a e us ts f c is_us is_ts w h =
-        let x = emit Y P here own n s a in
-        let many : length (map f x.found) ≡ elements_in us =
-        length-map x.found f ∙ counted own n s a us is_us w in
-        after_one _ _ _ _ _ _ _ _ h (next_of_add c _ _) (omega (arith, many))
-        (own_weight e ts (parts a) is_ts)
-
-    one_kept :
-        (k own : Clock) (n : ℕ) (s : State) (a e : Expr) (us ts : List DataType)
-        (f : ℕ → Operation) (c : FlatClock) → data_types P here a ≡ Some us →
-        data_types P here e ≡ Some ts → AllHave (parts_at own n a) → FewAt own n s a us →
-        IsFew s.next
-        (add c (keep (emit Y P here own n s a)).state
-        (map f (keep (emit Y P here own n s a)).found)).state.next
-        (elements_in ts) (weight (e ∷ parts a))
-    one_kept k own n s a e us ts f c is_us is_ts w h =
-        let x = emit Y P here own n s a in
-        let os = map f (keep x).found in
-        let many : length os ≡ elements_in us =
-        length-map (keep x).found f ∙ keep_count _ ∙ counted own n s a us is_us w in
-        let next : (add c (keep x).state os).state.next ≡ x.state.next + length os =
-        cc (next_of_add c (keep x).state os, next_of_keep x) in
-        after_one _ _ _ _ _ _ _ _ h next (omega (arith, many)) (own_weight e ts (parts a) is_ts)
-
-    none_added :
-        (k : Clock) (n : ℕ) (s : State) (a e : Expr) (us ts : List DataType) →
-        data_types P here e ≡ Some ts → FewAt k n s a us →
-        IsFew s.next (emit Y P here k n s a).state.next (elements_in ts) (weight (e ∷ parts a))
-    none_added k n s a e us ts is_ts h =
-        after_one _ _ _ _ _ 0 _ _ h (omega arith) (omega arith) (own_weight e ts (parts a) is_ts)
-
-    -- few new elements are taken, where at most as many are added as the first of two operands has
-    two_added :
-        (k : Clock) (n : ℕ) (s : State) (a b e : Expr) (us vs ts : List DataType)
-        (os : List Operation) (c : FlatClock) → data_types P here a ≡ Some us →
-        data_types P here e ≡ Some ts → AllHave (parts_at k n a) → FewAt k n s a us →
-        FewAt k (n + call_count a) (emit Y P here k n s a).state b vs →
-        length os ≤ length (emit Y P here k n s a).found →
-        IsFew s.next
-        (add c (emit Y P here k (n + call_count a) (emit Y P here k n s a).state b).state
-        os).state.next
-        (elements_in ts) (weight (e ∷ (parts a ++ parts b)))
-    two_added k n s a b e us vs ts os c is_us is_ts w g h le =
-        let many = counted k n s a us is_us w in
-        after_two _ _ _ _ _ _ _ _ _ _ _ g h (next_of_add c _ os) (omega (arith, le, many))
-        (two_weights e ts (parts a) (parts b) is_ts)
 
     -- several operands have as many elements as their types
     all_counted :
@@ -290,13 +250,7 @@ module _ (P : Program) (here : Instance) where
         let r = emit_all Y P here k (n + call_count a) x.state es in
         let c = counted k n s a (i.first ∷ []) i.is (fore _ _ w) in
         let d = all_counted k (n + call_count a) x.state es i.rest i.others (aft _ _ w) in
-        let l = length-append x.found (joined r.found) in
-        sum_of (length (x.found ++ joined r.found)) (length x.found) (length (joined r.found))
-        (element_count i.first) (elements_in i.rest) l c d
-        ∙ ap elements_in (sym i.all)
-      where
-        sum_of : (l a b m n : ℕ) → l ≡ a + b → a ≡ m + 0 → b ≡ n → l ≡ m + n
-        sum_of l a b m n e p q = omega (arith, e, p, q)
+        omega (arith, length-append x.found (joined r.found), c, d, ap elements_in i.all)
 
     mutual
       unfolding emit
@@ -315,49 +269,35 @@ module _ (P : Program) (here : Instance) where
       few k n s (Group a) ts e w = few k n s a ts e w
       few k n s (Unary op a) ts e w =
           let i = one (data_types P here a) (unary_type op) ts e in
-          one_added k k n s a (Unary op a) (i.data_type ∷ []) ts (ApplyUnary op)
-          (flat_clock Y here.path k) i.is e w.1 (few k n s a (i.data_type ∷ []) i.is w.1)
+          one_added (emit Y P here k n s a) (ApplyUnary op) (flat_clock Y here.path k)
+          (few k n s a _ i.is w.1) (counted k n s a _ i.is w.1)
+          (own_weight (Unary op a) ts (parts a) e)
       few k n s (Binary op a b) ts e w =
           let i = two (data_types P here a) (data_types P here b) (binary_type op) ts e in
           let x = emit Y P here k n s a in
           let y = emit Y P here k (n + call_count a) x.state b in
-          let oa = parts_at k n a in
-          let ob = parts_at k (n + call_count a) b in
-          two_added k n s a b (Binary op a b) (i.first ∷ []) (i.second ∷ []) ts
-          (zip2 (ApplyBinary op) x.found y.found) (flat_clock Y here.path k) i.is_first e
-          (fore oa ob w.1) (few k n s a (i.first ∷ []) i.is_first (fore oa ob w.1))
-          (few k (n + call_count a) x.state b (i.second ∷ []) i.is_second (aft oa ob w.1))
-          (zip_few (ApplyBinary op) x.found y.found)
+          two_added x y (zip2 (ApplyBinary op) x.found y.found) (flat_clock Y here.path k)
+          (few k n s a _ i.is_first (fore _ _ w.1)) (few k _ x.state b _ i.is_second (aft _ _ w.1))
+          (counted k n s a _ i.is_first (fore _ _ w.1)) (zip_few (ApplyBinary op) x.found y.found)
+          (two_weights (Binary op a b) ts (parts a) (parts b) e)
       few k n s (If c a b) ts e v =
           let na = n + call_count c in
-          let nb = na + call_count a in
           let t = bound (from_truths (from_one (data_types P here c) Some)) _ ts e in
           let truths = from_true (from_one (data_types P here c) Some) t.value t.is in
           let z = one (data_types P here c) Some truths.data_types truths.is in
           let i = two (data_types P here a) (data_types P here b) common_type ts t.gives in
-          let zs = z.data_type ∷ [] in
-          let us = i.first ∷ [] in
-          let vs = i.second ∷ [] in
           let w = emit Y P here k n s c in
           let x = emit Y P here k na w.state a in
-          let y = emit Y P here k nb x.state b in
-          let os = chosen_by w.found x.found y.found in
+          let y = emit Y P here k (na + call_count a) x.state b in
+          let branches = aft (parts_at k n c) _ v.1 in
+          let next = next_of_add (flat_clock Y here.path k) y.state
+          (chosen_by w.found x.found y.found) in
           let le = chosen_few w.found x.found y.found in
-          let oc = parts_at k n c in
-          let oa = parts_at k na a in
-          let ob = parts_at k nb b in
-          let wc = fore oc (oa ++ ob) v.1 in
-          let wa = fore oa ob (aft oc (oa ++ ob) v.1) in
-          let wb = aft oa ob (aft oc (oa ++ ob) v.1) in
-          let many = counted k na w.state a us i.is_first wa in
-          after_three s.next w.state.next x.state.next y.state.next (elements_in zs)
-          (elements_in us) (elements_in vs) (weight (parts c)) (weight (parts a))
-          (weight (parts b)) (elements_in ts) (length os)
-          (add (flat_clock Y here.path k) y.state os).state.next
-          (weight (If c a b ∷ (parts c ++ (parts a ++ parts b))))
-          (few k n s c zs z.is wc) (few k na w.state a us i.is_first wa)
-          (few k nb x.state b vs i.is_second wb)
-          (next_of_add (flat_clock Y here.path k) y.state os) (omega (arith, le, many))
+          let many = counted k na w.state a _ i.is_first (fore _ _ branches) in
+          after_three (few k n s c _ z.is (fore _ _ v.1))
+          (few k na w.state a _ i.is_first (fore _ _ branches))
+          (few k (na + call_count a) x.state b _ i.is_second (aft _ _ branches))
+          (omega (arith, next, le, many))
           (two_weights (If c a b) ts (parts c) (parts a ++ parts b) e
           ∙ ap (λ n. elements_in ts + (weight (parts c) + n))
           (sum_by-append (expression_size P here) (parts a) (parts b)))
@@ -365,159 +305,101 @@ module _ (P : Program) (here : Instance) where
           let i = two (data_types P here a) (data_types P here b) common_type ts e in
           let x = emit Y P here k n s a in
           let y = emit Y P here k (n + call_count a) x.state b in
-          let oa = parts_at k n a in
-          let ob = parts_at k (n + call_count a) b in
-          two_added k n s a b (Arrow a b) (i.first ∷ []) (i.second ∷ []) ts
-          (zip2 (FirstThen false) x.found y.found) (flat_clock Y here.path k) i.is_first e
-          (fore oa ob w.1) (few k n s a (i.first ∷ []) i.is_first (fore oa ob w.1))
-          (few k (n + call_count a) x.state b (i.second ∷ []) i.is_second (aft oa ob w.1))
-          (zip_few (FirstThen false) x.found y.found)
+          two_added x y (zip2 (FirstThen false) x.found y.found) (flat_clock Y here.path k)
+          (few k n s a _ i.is_first (fore _ _ w.1)) (few k _ x.state b _ i.is_second (aft _ _ w.1))
+          (counted k n s a _ i.is_first (fore _ _ w.1)) (zip_few (FirstThen false) x.found y.found)
+          (two_weights (Arrow a b) ts (parts a) (parts b) e)
       few k n s (Fby a b) ts e w =
           let m = n + call_count a in
           let c = flat_clock Y here.path k in
           let i = two (data_types P here a) (data_types P here b) common_type ts e in
-          let us = i.first ∷ [] in
-          let vs = i.second ∷ [] in
           let x = emit Y P here k n s a in
           let y = emit Y P here k m x.state b in
           let before = map (Previous first_value) (keep y).found in
           let z = add c (keep y).state before in
-          let os = zip2 (FirstThen false) x.found z.found in
-          let oa = parts_at k n a in
-          let ob = parts_at k m b in
-          let of_a = counted k n s a us i.is_first (fore oa ob w.1) in
-          let of_b : length before ≡ elements_in vs =
+          let of_a = counted k n s a _ i.is_first (fore _ _ w.1) in
+          let of_b : length before ≡ elements_in (i.second ∷ []) =
           length-map (keep y).found (Previous first_value) ∙ keep_count y
-          ∙ counted k m x.state b vs i.is_second (aft oa ob w.1) in
+          ∙ counted k m x.state b _ i.is_second (aft _ _ w.1) in
           let le = zip_few (FirstThen false) x.found z.found in
-          let next : (add c z.state os).state.next ≡ y.state.next + (length before + length os) =
-          later (add c z.state os).state.next z.state.next (keep y).state.next y.state.next
-          (length before) (length os) (next_of_add c z.state os)
-          (next_of_add c (keep y).state before)
-          (next_of_keep y) in
-          after_two s.next x.state.next y.state.next (elements_in us) (elements_in vs)
-          (weight (parts a)) (weight (parts b)) (elements_in ts) (length before + length os)
-          (add c z.state os).state.next (weight (Fby a b ∷ (parts a ++ parts b)))
-          (few k n s a us i.is_first (fore oa ob w.1))
-          (few k m x.state b vs i.is_second (aft oa ob w.1)) next
-          (omega (arith, of_a, of_b, le)) (two_weights (Fby a b) ts (parts a) (parts b) e)
+          let last = next_of_add c z.state (zip2 (FirstThen false) x.found z.found) in
+          let mid = next_of_add c (keep y).state before in
+          let kept = next_of_keep y in
+          after_two (few k n s a _ i.is_first (fore _ _ w.1))
+          (few k m x.state b _ i.is_second (aft _ _ w.1))
+          (omega (arith, last, mid, kept, of_a, of_b, le))
+          (two_weights (Fby a b) ts (parts a) (parts b) e)
       few k n s (Pre a) ts e w =
           let i = one (data_types P here a) Some ts e in
-          one_kept k k n s a (Pre a) (i.data_type ∷ []) ts (Previous first_value)
-          (flat_clock Y here.path k) i.is e w.1 (few k n s a (i.data_type ∷ []) i.is w.1)
+          one_kept (emit Y P here k n s a) (Previous first_value) (flat_clock Y here.path k)
+          (few k n s a _ i.is w.1) (counted k n s a _ i.is w.1) (own_weight (Pre a) ts (parts a) e)
       few k n s (When a x sign) ts e w =
-          let own = declared_clock here.node x in
-          let t = bound (from_truths (singly (name_data_type P here x))) _ ts e in
-          let i = one (data_types P here a) Some ts t.gives in
-          one_added k own n s a (When a x sign) (i.data_type ∷ []) ts Sample
-          (flat_clock Y here.path (On own x sign)) i.is e w.1
-          (few own n s a (i.data_type ∷ []) i.is w.1)
+          let i = one (data_types P here a) Some ts
+          (bound (from_truths (singly (name_data_type P here x))) _ ts e).gives in
+          one_added (emit Y P here _ n s a) Sample (flat_clock Y here.path (On _ x sign))
+          (few _ n s a _ i.is w.1) (counted _ n s a _ i.is w.1)
+          (own_weight (When a x sign) ts (parts a) e)
       few k n s (Current a) ts e w =
-          let own = clock_or (clock_of P here.node a) in
           let i = one (data_types P here a) Some ts e in
-          one_kept k own n s a (Current a) (i.data_type ∷ []) ts (Latest first_value)
-          (flat_clock Y here.path k) i.is e w.1 (few own n s a (i.data_type ∷ []) i.is w.1)
+          one_kept (emit Y P here _ n s a) (Latest first_value) (flat_clock Y here.path k)
+          (few _ n s a _ i.is w.1) (counted _ n s a _ i.is w.1)
+          (own_weight (Current a) ts (parts a) e)
       few k n s (Replicate a m) ts e w =
           let c = bound (static_count P here m) _ ts e in
-          let i = one (data_types P here a) (array_of c.value) ts c.gives in
-          none_added k n s a (Replicate a m) (i.data_type ∷ []) ts e
-          (few k n s a (i.data_type ∷ []) i.is w.1)
+          after_one (few k n s a _ (one (data_types P here a) (array_of c.value) ts c.gives).is w.1)
+          (omega arith) (own_weight (Replicate a m) ts (parts a) e)
       few k n s (Index a m) ts e w =
           let c = bound (static_count P here m) _ ts e in
           let i = one (data_types P here a) (index_type c.value) ts c.gives in
-          none_added k n s a (Index a m) (i.data_type ∷ []) ts e
-          (few k n s a (i.data_type ∷ []) i.is w.1)
+          after_one (few k n s a _ i.is w.1) (omega arith) (own_weight (Index a m) ts (parts a) e)
       few k n s (Slice a m l) ts e w =
           let c = bound (static_count P here m) _ ts e in
           let d = bound (static_count P here l) _ ts c.gives in
           let i = one (data_types P here a) (slice_type c.value d.value) ts d.gives in
-          none_added k n s a (Slice a m l) (i.data_type ∷ []) ts e
-          (few k n s a (i.data_type ∷ []) i.is w.1)
+          after_one (few k n s a _ i.is w.1) (omega arith) (own_weight (Slice a m l) ts (parts a) e)
       few k n s (Join a b) ts e w =
-          let m = n + call_count a in
           let i = two (data_types P here a) (data_types P here b) join_type ts e in
-          let us = i.first ∷ [] in
-          let vs = i.second ∷ [] in
-          let x = emit Y P here k n s a in
-          let y = emit Y P here k m x.state b in
-          let oa = parts_at k n a in
-          let ob = parts_at k m b in
-          after_two s.next x.state.next y.state.next (elements_in us) (elements_in vs)
-          (weight (parts a)) (weight (parts b)) (elements_in ts) 0 y.state.next
-          (weight (Join a b ∷ (parts a ++ parts b))) (few k n s a us i.is_first (fore oa ob w.1))
-          (few k m x.state b vs i.is_second (aft oa ob w.1)) (omega arith) (omega arith)
-          (two_weights (Join a b) ts (parts a) (parts b) e)
+          after_two (few k n s a _ i.is_first (fore _ _ w.1))
+          (few k (n + call_count a) (emit Y P here k n s a).state b _ i.is_second (aft _ _ w.1))
+          (omega arith) (two_weights (Join a b) ts (parts a) (parts b) e)
       few k n s (Array es) ts e w =
           let b = bound (all_types P here es) _ ts e in
-          let r = emit_all Y P here k n s es in
-          after_one s.next r.state.next (elements_in b.value) (weight (parts_in es))
-          (elements_in ts) 0 r.state.next (weight (Array es ∷ parts_in es))
-          (few_all k n s es b.value b.is w.1) (omega arith) (omega arith)
+          after_one (few_all k n s es b.value b.is w.1) (omega arith)
           (own_weight (Array es) ts (parts_in es) e)
       few k n s (AtMostOne es) ts e w =
           let t = from_true (all_types P here es) ts e in
           let r = emit_all Y P here k n s es in
-          let is = joined r.found in
-          let next = at_most_one_next (flat_clock Y here.path k) r.state is in
+          let next = at_most_one_next (flat_clock Y here.path k) r.state (joined r.found) in
           let many = all_counted k n s es t.data_types t.is w.1 in
-          let single : elements_in ts ≡ 1 = ap elements_in t.all in
-          subst (λ m. IsFew s.next
-          (emit_at_most_one (flat_clock Y here.path k) r.state is).state.next m
-          (weight (AtMostOne es ∷ parts_in es))) (sym single)
-          (after_truths s.next r.state.next (elements_in t.data_types) (weight (parts_in es))
-          (emit_at_most_one (flat_clock Y here.path k) r.state is).state.next
-          (weight (AtMostOne es ∷ parts_in es)) (few_all k n s es t.data_types t.is w.1)
-          (omega (arith, next, many))
-          (own_weight (AtMostOne es) ts (parts_in es) e
-          ∙ ap (λ m. m + weight (parts_in es)) single))
+          after_truths (ap elements_in t.all) (few_all k n s es t.data_types t.is w.1)
+          (omega (arith, next, many)) (own_weight (AtMostOne es) ts (parts_in es) e)
       few k n s (Nor es) ts e w =
           let t = from_true (all_types P here es) ts e in
           let r = emit_all Y P here k n s es in
-          let is = joined r.found in
-          let next = nor_next (flat_clock Y here.path k) r.state is in
+          let next = nor_next (flat_clock Y here.path k) r.state (joined r.found) in
           let many = all_counted k n s es t.data_types t.is w.1 in
-          let single : elements_in ts ≡ 1 = ap elements_in t.all in
-          subst (λ m. IsFew s.next (emit_nor (flat_clock Y here.path k) r.state is).state.next m
-          (weight (Nor es ∷ parts_in es))) (sym single)
-          (after_truths s.next r.state.next (elements_in t.data_types) (weight (parts_in es))
-          (emit_nor (flat_clock Y here.path k) r.state is).state.next
-          (weight (Nor es ∷ parts_in es)) (few_all k n s es t.data_types t.is w.1)
-          (omega (arith, next, many))
-          (own_weight (Nor es) ts (parts_in es) e ∙ ap (λ m. m + weight (parts_in es)) single))
+          after_truths (ap elements_in t.all) (few_all k n s es t.data_types t.is w.1)
+          (omega (arith, next, many)) (own_weight (Nor es) ts (parts_in es) e)
       few k n s (Call f statics es) ts e w =
           let t = bound (operator_types P here (Node_named f statics)) _ ts e in
           let a = bound (all_types P here es) _ ts t.gives in
           let ks = call_clocks k (node_named P f) es in
-          let r = emit_each Y P here ks (n + 1) s es in
-          subst (λ next. IsFew s.next next (elements_in ts)
-          (weight (Call f statics es ∷ parts_in es))) (sym (joins_next r.state _ _))
-          (after_calls s.next r.state.next (weight (parts_in es)) (elements_in ts)
-          (weight (Call f statics es ∷ parts_in es)) (few_each ks (n + 1) s es a.value a.is w.1)
+          rw joins_next (after_calls (few_each ks (n + 1) s es a.value a.is w.1)
           (own_weight (Call f statics es) ts (parts_in es) e))
       few k n s (Iterate it (Node_named f statics) m es) ts e w =
           let c = bound (static_count P here m) _ ts e in
           let t = bound (operator_types P here (Node_named f statics)) _ ts c.gives in
           let a = bound (all_types P here es) _ ts t.gives in
-          let r = emit_all Y P here k (n + 1) s es in
-          subst (λ next. IsFew s.next next (elements_in ts)
-          (weight (Iterate it (Node_named f statics) m es ∷ parts_in es)))
-          (sym (joins_next r.state _ _))
-          (after_one s.next r.state.next (elements_in a.value) (weight (parts_in es))
-          (elements_in ts) 0 r.state.next
-          (weight (Iterate it (Node_named f statics) m es ∷ parts_in es))
-          (few_all k (n + 1) s es a.value a.is w.1) (omega arith) (omega arith)
+          rw joins_next (after_one (few_all k (n + 1) s es a.value a.is w.1) (omega arith)
           (own_weight (Iterate it (Node_named f statics) m es) ts (parts_in es) e))
-      few k n s (Iterate it (Symbol op) m es) ts e v =
+      few k n s (Iterate it (Symbol op) m es) ts e w =
           let c = bound (static_count P here m) _ ts e in
           let t = bound (operator_types P here (Symbol op)) _ ts c.gives in
           let a = bound (all_types P here es) _ ts t.gives in
           let r = emit_all Y P here k n s es in
-          let w = emit_symbol (flat_clock Y here.path k) op r.state it r.found in
           let next = symbol_next (flat_clock Y here.path k) op r.state it r.found in
-          let many = all_counted k n s es a.value a.is v.1 in
-          after_symbol s.next r.state.next (elements_in a.value) (weight (parts_in es))
-          (elements_in ts) w.state.next (weight (Iterate it (Symbol op) m es ∷ parts_in es))
-          (length (joined r.found)) (few_all k n s es a.value a.is v.1) next many
+          let many = all_counted k n s es a.value a.is w.1 in
+          after_one (few_all k n s es a.value a.is w.1) (omega (arith, next, many))
           (own_weight (Iterate it (Symbol op) m es) ts (parts_in es) e)
 
       few_all :
@@ -525,39 +407,23 @@ module _ (P : Program) (here : Instance) where
           all_types P here es ≡ Some ts → AllHave (occurrences_in P here.node k n es) →
           IsFew s.next (emit_all Y P here k n s es).state.next (elements_in ts)
           (weight (parts_in es))
-      few_all k n s Nil ts e w =
-          subst (λ m. IsFew s.next s.next m 0) (ap elements_in (same_Some [] ts e)) (omega arith)
+      few_all k n s Nil ts e w = record { few = omega (arith, ap elements_in (same_Some [] ts e)) }
       few_all k n s (Cons a es) ts e w =
           let i = first_of_all P here a es ts e in
-          let oa = parts_at k n a in
-          let ob = occurrences_in P here.node k (n + call_count a) es in
-          let x = emit Y P here k n s a in
-          let r = emit_all Y P here k (n + call_count a) x.state es in
-          after_more s.next x.state.next r.state.next (elements_in (i.first ∷ []))
-          (elements_in i.rest) (weight (parts a)) (weight (parts_in es)) (elements_in ts)
-          (weight (parts a ++ parts_in es))
-          (few k n s a (i.first ∷ []) i.is (fore oa ob w))
-          (few_all k (n + call_count a) x.state es i.rest i.others (aft oa ob w))
-          (ap elements_in i.all
-          ∙ one_and_more (element_count i.first) (elements_in i.rest))
+          after_more (few k n s a (i.first ∷ []) i.is (fore _ _ w))
+          (few_all k _ _ es i.rest i.others (aft _ _ w)) (omega (arith, ap elements_in i.all))
           (sum_by-append (expression_size P here) (parts a) (parts_in es))
 
       few_each :
           (ks : List Clock) (n : ℕ) (s : State) (es : Exprs) (ts : List DataType) →
           all_types P here es ≡ Some ts → AllHave (occurrences_each P here.node ks n es) →
-          (emit_each Y P here ks n s es).state.next ≤ s.next + 5 * weight (parts_in es)
-      few_each ks n s Nil ts e w = omega arith
-      few_each [] n s (Cons a es) ts e w = omega arith
+          IsCheap s.next (emit_each Y P here ks n s es).state.next (weight (parts_in es))
+      few_each ks n s Nil ts e w = record { few = omega arith }
+      few_each [] n s (Cons a es) ts e w = record { few = omega arith }
       few_each (k ∷ ks) n s (Cons a es) ts e w =
           let i = first_of_all P here a es ts e in
-          let oa = parts_at k n a in
-          let ob = occurrences_each P here.node ks (n + call_count a) es in
-          let x = emit Y P here k n s a in
-          let r = emit_each Y P here ks (n + call_count a) x.state es in
-          each_more s.next x.state.next r.state.next (elements_in (i.first ∷ []))
-          (weight (parts a)) (weight (parts_in es)) (weight (parts a ++ parts_in es))
-          (few k n s a (i.first ∷ []) i.is (fore oa ob w))
-          (few_each ks (n + call_count a) x.state es i.rest i.others (aft oa ob w))
+          each_more (few k n s a (i.first ∷ []) i.is (fore _ _ w))
+          (few_each ks _ _ es i.rest i.others (aft _ _ w))
           (sum_by-append (expression_size P here) (parts a) (parts_in es))
 
     -- ## Statements
@@ -566,52 +432,37 @@ module _ (P : Program) (here : Instance) where
         (n : ℕ) (s : State) (body : List Statement) →
         list_all (is_statement_typed P here) body ≡ true →
         AllHave (occurrences_of P here.node (right_sides P here.node n body)) →
-        (emit_body Y P here n s body).next
-        ≤ s.next + 5 * weight (flat_map (λ s. parts (right_side s)) body)
+        IsCheap s.next (emit_body Y P here n s body).next
+        (weight (flat_map (λ s. parts (right_side s)) body))
     unfolding emit_body
-    few_body n s [] e w = omega arith
+    few_body n s [] e w = record { few = omega arith }
     few_body n s (Equation lefts a ∷ rest) e w =
+        let typed = is_statement_typed P here (Equation lefts a) in
+        let t = right_typed P here (Equation lefts a) (and_first typed _ e) in
         let k = statement_clock P here.node (Equation lefts a) in
-        let oa = parts_at k n a in
-        let ob = occurrences_of P here.node (right_sides P here.node (n + call_count a) rest) in
-        let t = right_typed P here (Equation lefts a)
-        (and_first (is_statement_typed P here (Equation lefts a)) _ e) in
         let x = emit Y P here k n s a in
         let qs = copied (flat_map (targets Y here.node here.path) lefts) x.found in
-        let u = (joins x.state qs []).state in
-        each_more s.next x.state.next (emit_body Y P here (n + call_count a) u rest).next
-        (elements_in t.0) (weight (parts a))
-        (weight (flat_map (λ s. parts (right_side s)) rest))
-        (weight (parts a ++ flat_map (λ s. parts (right_side s)) rest))
-        (few k n s a t.0 t.1 (fore oa ob w))
-        (subst (λ m. (emit_body Y P here (n + call_count a) u rest).next
-        ≤ m + 5 * weight (flat_map (λ s. parts (right_side s)) rest)) (joins_next x.state qs [])
-        (few_body (n + call_count a) u rest
-        (and_second (is_statement_typed P here (Equation lefts a)) _ e) (aft oa ob w)))
+        each_more (few k n s a t.0 t.1 (fore _ _ w))
+        (rw joins_next at (few_body (n + call_count a) (joins x.state qs []).state rest
+        (and_second typed _ e) (aft _ _ w)))
         (sum_by-append (expression_size P here) (parts a)
         (flat_map (λ s. parts (right_side s)) rest))
     few_body n s (Assertion a ∷ rest) e w =
+        let typed = is_statement_typed P here (Assertion a) in
+        let t = right_typed P here (Assertion a) (and_first typed _ e) in
         let k = statement_clock P here.node (Assertion a) in
-        let oa = parts_at k n a in
-        let ob = occurrences_of P here.node (right_sides P here.node (n + call_count a) rest) in
-        let t = right_typed P here (Assertion a)
-        (and_first (is_statement_typed P here (Assertion a)) _ e) in
         let x = emit Y P here k n s a in
-        each_more s.next x.state.next
-        (emit_body Y P here (n + call_count a) (assert x) rest).next (elements_in t.0)
-        (weight (parts a)) (weight (flat_map (λ s. parts (right_side s)) rest))
-        (weight (parts a ++ flat_map (λ s. parts (right_side s)) rest))
-        (few k n s a t.0 t.1 (fore oa ob w))
-        (subst (λ m. (emit_body Y P here (n + call_count a) (assert x) rest).next
-        ≤ m + 5 * weight (flat_map (λ s. parts (right_side s)) rest)) (assert_next x)
-        (few_body (n + call_count a) (assert x) rest
-        (and_second (is_statement_typed P here (Assertion a)) _ e) (aft oa ob w)))
+        each_more (few k n s a t.0 t.1 (fore _ _ w))
+        (subst (λ m. IsCheap m (emit_body Y P here (n + call_count a) (assert x) rest).next
+        (weight (flat_map (λ s. parts (right_side s)) rest))) (assert_next x)
+        (few_body (n + call_count a) (assert x) rest (and_second typed _ e) (aft _ _ w)))
         (sum_by-append (expression_size P here) (parts a)
         (flat_map (λ s. parts (right_side s)) rest))
 
     -- the text of an instance takes few new elements
     pub few_here : (s : State) → is_typed P here ≡ true → AllHave (node_occurrences P here.node) →
-        (emit_body Y P here 0 s here.node.body).next ≤ s.next + 5 * weight (node_parts here.node)
+        IsCheap s.next (emit_body Y P here 0 s here.node.body).next
+        (weight (node_parts here.node))
     few_here s e w =
         few_body 0 s _ (and_second (list_all (is_clock_typed P here) (variables here.node)) _ e) w
 
@@ -622,15 +473,12 @@ length-elements : (P : Program) (here : Instance) (ds : List Declaration) →
     length (flat_map (elements P here) ds) ≡ sum_by (width P here) ds
 length-elements P here [] = refl
 length-elements P here (d ∷ ds) =
-    by (length (elements P here d ++ flat_map (elements P here) ds)) (length (elements P here d))
-    (length (flat_map (elements P here) ds)) (width P here d) (sum_by (width P here) ds)
-    (sum_by (width P here) (d ∷ ds))
-    (length-append (elements P here d) (flat_map (elements P here) ds))
-    (length-map (range_with_len 0 (width P here d)) _ ∙ length-range_with_len 0 (width P here d))
-    (length-elements P here ds) (sum_by-cons (width P here) d ds)
-  where
-    by : (l a b m n t : ℕ) → l ≡ a + b → a ≡ m → b ≡ n → t ≡ m + n → l ≡ t
-    by l a b m n t e p q r = omega (arith, e, p, q, r)
+    let all = length-append (elements P here d) (flat_map (elements P here) ds) in
+    let first : length (elements P here d) ≡ width P here d =
+    length-map (range_with_len 0 (width P here d)) _ ∙ length-range_with_len 0 (width P here d) in
+    let rest = length-elements P here ds in
+    let cons = sum_by-cons (width P here) d ds in
+    omega (arith, all, first, rest, cons)
 
 module _ (P : Program) (Y : Layout) (W : Instance → Occurrence → Type 0) where
   -- an expression of an instance has as many elements as its types, where this holds of its parts
@@ -654,19 +502,12 @@ module _ (P : Program) (Y : Layout) (W : Instance → Occurrence → Type 0) whe
   few_instances s [] h = omega arith
   few_instances s (here ∷ is) h =
       let t = emit_body Y P here 0 s here.node.body in
-      by s.next t.next (emit_instances Y P t is).next (length (instance_elements P here))
-      (length (flat_map (instance_elements P) is))
-      (length (instance_elements P here ++ flat_map (instance_elements P) is))
-      (weight P here (node_parts here.node)) (sum_by (width P here) (variables here.node))
-      (sum_by (instance_size P) is) (sum_by (instance_size P) (here ∷ is))
-      (few_here P here Y (W here) h.0.counted s h.0.typed h.0.holding) (few_instances t is h.1)
-      (length-append (instance_elements P here) (flat_map (instance_elements P) is))
-      (length-elements P here (variables here.node)) (sum_by-cons (instance_size P) here is)
-    where
-      by : (before mid end own rest all w v sizes total : ℕ) → mid ≤ before + 5 * w →
-          end + rest ≤ mid + 5 * sizes → all ≡ own + rest → own ≡ v →
-          total ≡ (v + w) + sizes → end + all ≤ before + 5 * total
-      by before mid end own rest all w v sizes total g h e p q = omega (arith, g, h, e, p, q)
+      let few = few_here P here Y (W here) h.0.counted s h.0.typed h.0.holding in
+      let rest = few_instances t is h.1 in
+      let all = length-append (instance_elements P here) (flat_map (instance_elements P) is) in
+      let own = length-elements P here (variables here.node) in
+      let cons = sum_by-cons (instance_size P) here is in
+      omega (arith, few, rest, all, own, cons)
 
   -- a flat program has at most five times as many elements as the size of its program
   pub few_elements :

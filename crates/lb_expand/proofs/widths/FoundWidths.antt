@@ -7,14 +7,13 @@ use Words.{BinaryOperator, Or, ArrayIterator, Map, Red, Fill, zip2, copies, join
 use Words.{either_or, Name, Node_named, Symbol, Expr, Literal, Truth, Variable, Group, Unary}
 use Words.{Binary, If, Arrow, Fby, Pre, Current, When, Replicate, Index, Slice, Join, Array}
 use Words.{AtMostOne, Nor, Call, Iterate, Exprs, Nil, Cons, Declaration, heads_same, tails_same}
-use Words.{Program, Instance, Path, Child, name_value, Stream, or_fault, On, clock_or}
-use Words.{declared_clock, call_count, History, presence, constantly, choice, choices, gathered}
-use Words.{last_of, iterated, symbols, streams, all_streams, argument_streams, accumulated}
-use Words.{iterator_inputs, FlatClock, Operation, ApplyUnary, ApplyBinary, Choose, Layout}
-use Words.{flat_clock, State, Emitted, numbers, add, joins, keep, chosen_by, negated, emit_nor}
-use Words.{emit_at_most_one, emit_symbol, emit_name, emit, emit_all, emit_each, length-append}
-use Rattle.lb_check.{specs.Clocks.{Clock, clock_of}, proofs.clocking.ClockDepths.same_taken}
-use Rattle.lb_check.proofs.clocking.ClockDepths.{same_dropped}
+use Words.{Program, Instance, Path, Child, name_value, Stream, or_fault, On, call_count, History}
+use Words.{presence, constantly, choice, choices, gathered, last_of, iterated, symbols, streams}
+use Words.{all_streams, argument_streams, accumulated, iterator_inputs, FlatClock, Operation}
+use Words.{ApplyUnary, ApplyBinary, Choose, Layout, flat_clock, State, Emitted, numbers, add, joins}
+use Words.{keep, chosen_by, negated, emit_nor, emit_at_most_one, emit_symbol, emit_name, emit}
+use Words.{emit_all, emit_each, length-append}
+use Rattle.lb_check.{specs.Clocks.Clock, proofs.clocking.ClockDepths.{same_taken, same_dropped}}
 use Rattle.lb_expand.proofs.emission.EmittedRooms.{chained_one, twice_one}
 
 -- ## Lists of one length
@@ -223,31 +222,26 @@ module _ (Y : Layout) (P : Program) (H : History) (here : Instance)
         let y = emit Y P here k (n + call_count a) x.state b in
         added_two k _ _ _ _ _ _ _ (as_many k n s a) (as_many k (n + call_count a) x.state b)
     as_many k n s (Fby a b) =
-        let x = emit Y P here k n s a in
-        let y = keep (emit Y P here k (n + call_count a) x.state b) in
-        added_two k _ _ _ _ _ _ _ (as_many k n s a) (added_one k s y _ _ _
-        (keep_count _ ∙ as_many k (n + call_count a) x.state b))
+        added_two k _ _ _ _ _ _ _ (as_many k n s a)
+        (added_one k s _ _ _ _
+        (keep_count _ ∙ as_many k (n + call_count a) (emit Y P here k n s a).state b))
     as_many k n s (Pre a) =
         added_one k s (keep (emit Y P here k n s a)) _ _ _ (keep_count _ ∙ as_many k n s a)
     as_many k n s (When a x sign) =
-        let own = declared_clock here.node x in
-        added_one (On own x sign) s (emit Y P here own n s a) _ _ (streams P H here own n a)
-        (as_many own n s a)
+        added_one (On _ x sign) s (emit Y P here _ n s a) _ _ (streams P H here _ n a)
+        (as_many _ n s a)
     as_many k n s (Current a) =
-        let own = clock_or (clock_of P here.node a) in
-        added_one k s (keep (emit Y P here own n s a)) _ _ (streams P H here own n a)
-        (keep_count _ ∙ as_many own n s a)
+        added_one k s (keep (emit Y P here _ n s a)) _ _ (streams P H here _ n a)
+        (keep_count _ ∙ as_many _ n s a)
     as_many k n s (Replicate a m) = length-copied _ _ _ (as_many k n s a)
     as_many k n s (Index a i) = same_taken _ _ _ (same_dropped _ _ _ (as_many k n s a))
     as_many k n s (Slice a i j) = same_taken _ _ _ (same_dropped _ _ _ (as_many k n s a))
     as_many k n s (Join a b) =
         let x = emit Y P here k n s a in
-        let y = emit Y P here k (n + call_count a) x.state b in
         cc (
-          length-append x.found y.found,
+          length-append x.found (emit Y P here k (n + call_count a) x.state b).found,
           as_many k n s a,
-          as_many k (n + call_count a) x.state
-              b,
+          as_many k (n + call_count a) x.state b,
           length-append (streams P H here k n a) (streams P H here k (n + call_count a) b),
         )
     as_many k n s (Array es) = length-joins _ _ (all_as_many k n s es)

@@ -1,61 +1,42 @@
 -- The widths of equations, of the inputs of calls, and of the operands that expansion finds for
 -- them.
 use Rattle.lb_expand.proofs.Words
-use Words.{list_all, bytes_eq, Every, all_some, Name, Expr, Exprs, Nil, Cons, Declaration}
-use Words.{Statement, Equation, Assertion, name_same, and_first, and_second, named, Program}
+use Words.{found_name, list_all, bytes_eq, Every, all_some, Name, Expr, Exprs, Nil, Cons}
+use Words.{Declaration, Statement, Equation, Assertion, and_first, and_second, named, Program}
 use Words.{Instance, Path, DataType, variables, width, variable_type, element_count, are_same}
 use Words.{data_types, all_types, type_of_name, is_statement_typed, at, call_count, occurrences}
 use Words.{occurrences_each, statement_clock, right_sides, Stream, History, argument_streams}
 use Words.{first_of_all, zero, suc, ◌*◌, ◌/◌, ◌<◌, ◌&&◌, ◌++◌, take, drop, length-map}
-use Words.{mul-div_cancel_left, same_Some, ArrayIterator, Map, Red, Fill, part, where_true, Static}
-use Words.{Node_named, Call, Iterate, Node, heads_same, tails_same, Child, static_count, node_named}
-use Words.{is_type, are_types, length-all_some, array_of, operator_types, iterator_types}
-use Words.{argument_clocks, occurrences_in, all_streams, number, accumulated, iterator_inputs}
-use Words.{truly, call_clocks, State, emit_all, emit_each, Layout, ◌≡◌, ℕ, ◌+◌, ◌≤◌, Bool, true}
-use Words.{false, Option, Some, None, IfSome, List, [], ◌∷◌, map, length, flat_map, zip, cond, find}
-use Words.{refl, sym, ap, ap₂, ◌∙◌, subst, arith, length-append}
+use Words.{mul-div_cancel_left, same_Some, ArrayIterator, Map, Red, Fill, part, Static, Node_named}
+use Words.{Call, Iterate, Node, heads_same, tails_same, Child, static_count, node_named, is_type}
+use Words.{are_types, array_of, operator_types, iterator_types, argument_clocks, occurrences_in}
+use Words.{all_streams, number, accumulated, iterator_inputs, truly, call_clocks, State, emit_all}
+use Words.{emit_each, Layout, ◌≡◌, ℕ, ◌+◌, ◌≤◌, true, Option, Some, None, IfSome, List, [], ◌∷◌}
+use Words.{map, length, flat_map, zip, refl, sym, ap, ap₂, ◌∙◌, subst, arith, length-append}
 use Rattle.lb_check.{specs.Clocks.Clock, proofs.programs.OccurrenceParts.as_many_clocks}
 use Rattle.lb_flat.proofs.lists.Lists.{Every-first, Every-second}
 use Rattle.lb_expand.proofs.numbering.ReceivedInputs.{widths, AreFed, HasAccumulator}
 use Rattle.lb_expand.proofs.solutions.{Placing.AreAsWide, Solving.{IsWide, occurrences_of}}
-use Rattle.lb_expand.proofs.widths.{FoundWidths.{all_as_many, each_as_many}, TypeFacts.elements_in}
-use Rattle.lb_expand.proofs.widths.TypeFacts.{bound, are_counts, found_in, each, width_of}
-use Rattle.lb_expand.proofs.widths.TypeFacts.{same_count, array_count, length-index}
+use Rattle.lb_expand.proofs.widths.FoundWidths.{all_as_many, each_as_many}
+use Rattle.lb_expand.proofs.widths.TypeFacts.{elements_in, bound, are_counts, found_in, each}
+use Rattle.lb_expand.proofs.widths.TypeFacts.{width_of, same_count, length-index}
 use Rattle.lb_expand.proofs.widths.Widths.{AreVariablesWide, IsOccurrenceWide, only_one, wide}
 use Rattle.lb_expand.proofs.widths.Widths.{called, Placed, placed, IsCalleeWide, number_is}
 use Rattle.lb_expand.proofs.widths.Widths.{all_wide, outputs_at}
+pub use Rattle.lb_expand.proofs.widths.TypeFacts.{fed_by_types}
 
 -- In an instance that is typed, the left variables of each equation are as wide as its right side,
 -- and the inputs of a call as its arguments.
 
 -- ## Names
 
-tested :
-    {A : Type 0} (test : A → Bool) (b : Bool) (x : A) (o : Option A) → test x ≡ b →
-    IfSome o (λ y. test y ≡ true) → IfSome (cond b (Some x) o) (λ y. test y ≡ true)
-tested test true x o e h = e
-tested test false x o e h = h
-
--- an item that a search finds passes the test
-pub found_passes :
-    {A : Type 0} (test : A → Bool) (xs : List A) → IfSome (find test xs) (λ x. test x ≡ true)
-found_passes test [] = tt
-found_passes test (x ∷ xs) = tested test (test x) x (find test xs) refl (found_passes test xs)
-
 counts_same :
     (ss ts : List DataType) → map element_count ss ≡ map element_count ts →
     elements_in ss ≡ elements_in ts
 counts_same [] [] e = refl
-counts_same [] (t ∷ ts) e = cc
-counts_same (s ∷ ss) [] e = cc
 counts_same (s ∷ ss) (t ∷ ts) e =
     ap₂ (λ a b. a + b) (heads_same _ _ _ _ e) (counts_same ss ts (tails_same _ _ _ _ e))
-  where
-    heads_same : (n m : ℕ) (ns ms : List ℕ) → n ∷ ns ≡ m ∷ ms → n ≡ m
-    heads_same n m ns ms e = cc
-
-    tails_same : (n m : ℕ) (ns ms : List ℕ) → n ∷ ns ≡ m ∷ ms → ns ≡ ms
-    tails_same n m ns ms e = cc
+counts_same _ _ e = cc
 
 module _ (P : Program) (H : History) (here : Instance)
     (variables_wide : AreVariablesWide P H here here) where
@@ -65,14 +46,12 @@ module _ (P : Program) (H : History) (here : Instance)
       (x : Name) (t : DataType) → type_of_name P here x ≡ Some t →
       length (H.columns here.path x) ≡ element_count t
   declared_wide x t e =
-      let test = λ (d : Declaration). bytes_eq d.name x in
       let b = bound (named (λ d. d.name) x (variables here.node)) _ t e in
-      let passes = subst (λ o. IfSome o (λ d. test d ≡ true)) b.is
-      (found_passes test (variables here.node)) in
       let known = subst (λ o. IfSome o (λ d.
       length (H.columns here.path d.name) ≡ width P here d)) b.is
-      (found_in _ test (variables here.node) variables_wide) in
-      ap (λ y. length (H.columns here.path y)) (sym (name_same b.value.name x passes))
+      (found_in _ (λ d. bytes_eq d.name x) (variables here.node) variables_wide) in
+      ap (λ y. length (H.columns here.path y))
+      (sym (found_name x (variables here.node) b.value b.is))
       ∙ known ∙ width_of P here b.value t b.gives
 
   lefts_wide :
@@ -82,15 +61,12 @@ module _ (P : Program) (H : History) (here : Instance)
   lefts_wide [] ts e = let none : [] ≡ ts = cc in ap elements_in none
   lefts_wide (x ∷ lefts) ts e =
       let h = each (type_of_name P here x) (map (type_of_name P here) lefts) ts e in
-      let first = declared_wide x h.first h.is in
-      let rest = lefts_wide lefts h.rest h.others in
       omega (
         arith,
         length-append (H.columns here.path x) (flat_map (H.columns here.path) lefts),
-        first,
-        rest,
-      )
-      ∙ sym (ap elements_in h.all)
+        declared_wide x h.first h.is,
+        lefts_wide lefts h.rest h.others,
+      ) ∙ sym (ap elements_in h.all)
 
   -- ## Statements
 
@@ -104,9 +80,6 @@ module _ (P : Program) (H : History) (here : Instance)
   pub typed_same :
       (e : Expr) (o p : Option (List DataType)) → data_types P here e ≡ p → are_same P p o ≡ true →
       Typed e o
-  typed_same e None None q h = cc
-  typed_same e None (Some ts) q h = cc
-  typed_same e (Some us) None q h = cc
   typed_same e (Some us) (Some ts) q h = record {
     right = ts;
     left = us;
@@ -114,6 +87,9 @@ module _ (P : Program) (H : History) (here : Instance)
     is_left = refl;
     same = counts_same ts us (are_counts ts us h);
   }
+  typed_same e (Some us) None q h = cc
+  typed_same e None None q h = cc
+  typed_same e None (Some ts) q h = cc
 
   statement_wide :
       (k : Clock) (n : ℕ) (lefts : List Name) (e : Expr) →
@@ -134,27 +110,20 @@ module _ (P : Program) (H : History) (here : Instance)
       Every (λ s. IsWide P H here s.0 s.1) (zip body (right_sides P here.node n body))
   body_wide n [] typed w = tt
   body_wide n (Equation lefts e ∷ rest) typed w =
-      let k = statement_clock P here.node (Equation lefts e) in
-      let m = n + call_count e in
-      let oa = occurrences P here.node k n e in
-      let ob = occurrences_of P here.node (right_sides P here.node m rest) in
       let first = is_statement_typed P here (Equation lefts e) in
       let others = list_all (is_statement_typed P here) rest in (
-        statement_wide k n lefts e (and_first first others typed)
-            (Every-first (IsOccurrenceWide P H here) oa ob w),
-        body_wide m rest (and_second first others typed)
-            (Every-second (IsOccurrenceWide P H here) oa ob w),
+        statement_wide _ n lefts e (and_first first others typed)
+            (Every-first (IsOccurrenceWide P H here) _ _ w),
+        body_wide (n + call_count e) rest (and_second first others typed)
+            (Every-second (IsOccurrenceWide P H here) _ _ w),
       )
   body_wide n (Assertion e ∷ rest) typed w =
-      let k = statement_clock P here.node (Assertion e) in
-      let m = n + call_count e in
-      let oa = occurrences P here.node k n e in
-      let ob = occurrences_of P here.node (right_sides P here.node m rest) in
-      let first = is_statement_typed P here (Assertion e) in
-      let others = list_all (is_statement_typed P here) rest in (
+      let k = statement_clock P here.node (Assertion e) in (
         tt,
-        body_wide m rest (and_second first others typed)
-            (Every-second (IsOccurrenceWide P H here) oa ob w),
+        body_wide (n + call_count e) rest
+            (and_second (is_statement_typed P here (Assertion e))
+            (list_all (is_statement_typed P here) rest) typed)
+            (Every-second (IsOccurrenceWide P H here) _ _ w),
       )
 
   -- ## Arguments
@@ -170,17 +139,13 @@ module _ (P : Program) (H : History) (here : Instance)
       let i = first_of_all P here e es ts h in
       absurd (omega (arith, le, ap length i.all))
   arguments_wide (k ∷ ks) n (Cons e es) ts h le w =
-      let m = n + call_count e in
-      let oa = occurrences P here.node k n e in
-      let ob = occurrences_each P here.node ks m es in
       let i = first_of_all P here e es ts h in
       ap₂ (λ x xs. x ∷ xs)
       (only_one P H here _ i.first
       (wide P H here variables_wide k n e (i.first ∷ []) i.is
-      (Every-first (IsOccurrenceWide P H here) oa ob w)))
-      (arguments_wide ks m es i.rest i.others (omega (arith, le, ap length i.all))
-      (Every-second (IsOccurrenceWide P H here) oa ob w))
-      ∙ sym (ap (map element_count) i.all)
+      (Every-first (IsOccurrenceWide P H here) _ _ w)))
+      (arguments_wide ks (n + call_count e) es i.rest i.others (omega (arith, le, ap length i.all))
+      (Every-second (IsOccurrenceWide P H here) _ _ w)) ∙ sym (ap (map element_count) i.all)
 
 -- the inputs of a node receive streams as wide as the types of its inputs
 pub inputs_as_wide :
@@ -192,30 +157,19 @@ pub inputs_as_wide :
 inputs_as_wide P H c p [] us [] w o e = tt
 inputs_as_wide P H c p [] us (xs ∷ xsss) w o e =
     let none : [] ≡ us = cc in
-    let lengths = e ∙ ap (map element_count) (sym none) in
-    absurd (not_empty _ _ lengths)
-  where
-    not_empty : (n : ℕ) (ns : List ℕ) → n ∷ ns ≡ [] → ⊥
-    not_empty n ns e = cc
+    let lengths : length xs ∷ map length xsss ≡ [] = e ∙ ap (map element_count) (sym none) in
+    absurd cc
 inputs_as_wide P H c p (d ∷ ds) us [] w o e =
     let h = each (variable_type P c d) (map (variable_type P c) ds) us o in
-    let lengths = e ∙ ap (map element_count) h.all in
-    absurd (not_empty _ _ lengths)
-  where
-    not_empty : (n : ℕ) (ns : List ℕ) → [] ≡ n ∷ ns → ⊥
-    not_empty n ns e = cc
+    let lengths : [] ≡ element_count h.first ∷ map element_count h.rest =
+    e ∙ ap (map element_count) h.all in
+    absurd cc
 inputs_as_wide P H c p (d ∷ ds) us (xs ∷ xsss) w o e =
     let h = each (variable_type P c d) (map (variable_type P c) ds) us o in
     let lengths = e ∙ ap (map element_count) h.all in (
-      w.0 ∙ width_of P c d h.first h.is ∙ sym (first_is _ _ _ _ lengths),
-      inputs_as_wide P H c p ds h.rest xsss w.1 h.others (rest_is _ _ _ _ lengths),
+      w.0 ∙ width_of P c d h.first h.is ∙ sym (heads_same _ _ _ _ lengths),
+      inputs_as_wide P H c p ds h.rest xsss w.1 h.others (tails_same _ _ _ _ lengths),
     )
-  where
-    first_is : (n m : ℕ) (ns ms : List ℕ) → n ∷ ns ≡ m ∷ ms → n ≡ m
-    first_is n m ns ms e = cc
-
-    rest_is : (n m : ℕ) (ns ms : List ℕ) → n ∷ ns ≡ m ∷ ms → ns ≡ ms
-    rest_is n m ns ms e = cc
 
 -- In a typed expression, the inputs of what is called are as wide as what they receive.
 
@@ -233,11 +187,7 @@ first_output :
 first_output P c outputs n j lt [] u us init w o = cc
 first_output P c outputs n j lt (d ∷ ds) u us init w o =
     let h = each (variable_type P c d) (map (variable_type P c) ds) (u ∷ us) o in
-    let same : u ≡ h.first = first_is _ _ _ _ h.all in
-    (w j lt).0 ∙ width_of P c d h.first h.is ∙ ap element_count (sym same)
-  where
-    first_is : (s t : DataType) (ss ts : List DataType) → s ∷ ss ≡ t ∷ ts → s ≡ t
-    first_is s t ss ts e = cc
+    (w j lt).0 ∙ width_of P c d h.first h.is ∙ ap element_count (sym (heads_same _ _ _ _ h.all))
 
 -- the accumulator that instance `i` receives is as wide as the type of the first output
 accumulator_wide :
@@ -261,42 +211,15 @@ part_wide n i lt w xs e =
     ap (λ l. l / n) e ∙ mul-div_cancel_left w (omega (arith, lt)) in
     ap (λ q. length (take q (drop (q * i) xs))) each_part ∙ length-index w i n xs e lt
 
--- the parts of arrays of the types `us` are as wide as `us`
+-- the parts of arrays of `n` parts each are as wide as these parts
 parts_wide :
-    (n i : ℕ) → i < n → (us ts : List DataType) (xsss : List (List Stream)) →
-    all_some (map (array_of n) us) ≡ Some ts → map length xsss ≡ map element_count ts →
-    map length (map (part n i) xsss) ≡ map element_count us
-parts_wide n i lt [] ts xsss o e =
-    let none : [] ≡ ts = same_Some _ _ o in
-    no_parts xsss (e ∙ ap (map element_count) (sym none))
-  where
-    no_parts : (yss : List (List Stream)) → map length yss ≡ [] →
-        map length (map (part n i) yss) ≡ []
-    no_parts [] e = refl
-    no_parts (ys ∷ yss) e = cc
-parts_wide n i lt (u ∷ us) ts xsss o e =
-    let h = each (array_of n u) (map (array_of n) us) ts o in
-    more_parts xsss (element_count h.first) (map element_count h.rest) (element_count u)
-    (map element_count us) (e ∙ ap (map element_count) h.all)
-    (array_count n u h.first h.is) (λ yss. parts_wide n i lt us h.rest yss h.others)
-  where
-    more_parts :
-        (yss : List (List Stream)) (m : ℕ) (ms : List ℕ) (w : ℕ) (ws : List ℕ) →
-        map length yss ≡ m ∷ ms → m ≡ n * w →
-        ((zss : List (List Stream)) → map length zss ≡ ms →
-        map length (map (part n i) zss) ≡ ws) →
-        map length (map (part n i) yss) ≡ w ∷ ws
-    more_parts [] m ms w ws e g rest = cc
-    more_parts (ys ∷ yss) m ms w ws e g rest =
-        let here : length ys ≡ m = head_is _ _ _ _ e in
-        let later : map length yss ≡ ms = tail_is _ _ _ _ e in
-        ap₂ (λ a as'. a ∷ as') (part_wide n i lt w ys (here ∙ g)) (rest yss later)
-      where
-        head_is : (a b : ℕ) (as' bs : List ℕ) → a ∷ as' ≡ b ∷ bs → a ≡ b
-        head_is a b as' bs e = cc
-
-        tail_is : (a b : ℕ) (as' bs : List ℕ) → a ∷ as' ≡ b ∷ bs → as' ≡ bs
-        tail_is a b as' bs e = cc
+    (n i : ℕ) → i < n → (ws : List ℕ) (xsss : List (List Stream)) →
+    map length xsss ≡ map (λ w. n * w) ws → map length (map (part n i) xsss) ≡ ws
+parts_wide n i lt [] [] e = refl
+parts_wide n i lt (w ∷ ws) (ys ∷ yss) e =
+    ap₂ (λ a as'. a ∷ as') (part_wide n i lt w ys (heads_same _ _ _ _ e))
+    (parts_wide n i lt ws yss (tails_same _ _ _ _ e))
+parts_wide n i lt _ _ e = cc
 
 -- ## Calls
 
@@ -327,15 +250,12 @@ module _ (P : Program) (H : History) (here : Instance)
       let p = placed P here f statics c.callee c.is in
       let same : callee ≡ c.callee.node = same_Some _ _ (sym named ∙ p.node) in
       let counts = are_counts o.value.0 a.value t.holds in
-      let as_many : length a.value ≡ length callee.inputs =
-      sym (lengths_same o.value.0 a.value counts)
-      ∙ length-all_some (map (variable_type P c.callee) c.callee.node.inputs) o.value.0 c.inputs
-      ∙ length-map c.callee.node.inputs (variable_type P c.callee)
-      ∙ ap (λ (n : Node). length n.inputs) (sym same) in
       let ks = argument_clocks k callee es in
-      let clocks : length ks ≡ length callee.inputs = length-map callee.inputs _ in
+      let clocks : length ks ≡ length a.value =
+      sym (ap (λ o. length (call_clocks k o es)) named)
+      ∙ as_many_clocks P here k f statics es ts a.value o.value o.is t.holds in
       let widths = arguments_wide P H here variables_wide ks (n + 1) es a.value a.is
-      (omega (arith, as_many, clocks)) parts in
+      (omega (arith, clocks)) parts in
       subst (λ (m : Node). AreAsWide H (Child here.path n 0) m.inputs
       (argument_streams P H here ks (n + 1) es)) (sym same)
       (inputs_as_wide P H c.callee (Child here.path n 0) c.callee.node.inputs o.value.0
@@ -355,31 +275,25 @@ module _ (P : Program) (H : History) (here : Instance)
       map length xsss ≡ map element_count args →
       map length (iterator_inputs outputs n it ds xsss i) ≡ map element_count ins
   inputs_of_instance c outputs n i lt Map ds ins outs args ts xsss w o e h =
-      let wanted = bound (all_some (map (array_of n) ins)) _ ts e in
-      let b = bound (where_true (are_types wanted.value args) outs) _ ts wanted.gives in
-      let t = truly (are_types wanted.value args) outs b.value b.is in
-      parts_wide n i lt ins _ xsss wanted.is (h ∙ sym (are_counts _ args t.holds))
+      parts_wide n i lt _ xsss (h ∙ fed_by_types Map n ins outs args ts e)
   inputs_of_instance c outputs n i lt Red ds (a ∷ ins) (u ∷ []) (t ∷ args) ts (x ∷ xsss) w o e h =
       let wanted = bound (all_some (map (array_of n) ins)) _ ts e in
-      let arrays = are_types wanted.value args in
-      let fit = truly (is_type a u && (is_type a t && arrays)) (u ∷ []) ts wanted.gives in
-      let inner = and_second (is_type a u) (is_type a t && arrays) fit.holds in
-      let out = same_count a u (and_first (is_type a u) (is_type a t && arrays) fit.holds) in
-      let initial = same_count a _ (and_first (is_type a t) arrays inner) in
-      let counts = are_counts _ args (and_second (is_type a t) arrays inner) in
-      let first : length x ≡ element_count t = heads_same _ _ _ _ h in
+      let fit = truly (is_type a u && _) (u ∷ []) ts wanted.gives in
+      let fed = fed_by_types Red n (a ∷ ins) (u ∷ []) (t ∷ args) ts e in
+      let first : length x ≡ element_count u =
+      heads_same _ _ _ _ h ∙ fed.0 ∙ same_count a u (and_first _ _ fit.holds) in
       cc (
-        accumulator_wide P c outputs n i lt ds u [] x (first ∙ sym initial ∙ out) w o,
-        parts_wide n i lt ins wanted.value xsss wanted.is (tails_same _ _ _ _ h ∙ sym counts),
+        accumulator_wide P c outputs n i lt ds u [] x first w o,
+        parts_wide n i lt _ xsss (tails_same _ _ _ _ h ∙ fed.1),
       )
   inputs_of_instance c outputs n i lt Fill ds (a ∷ []) (u ∷ (v ∷ us))
       (t ∷ []) ts (x ∷ xsss) w o e h =
       let arrays = bound (all_some (map (array_of n) (v ∷ us))) _ ts e in
-      let fit = truly (is_type a u && is_type a t) (u ∷ arrays.value) ts arrays.gives in
-      let out = same_count a u (and_first (is_type a u) (is_type a t) fit.holds) in
-      let initial = same_count a _ (and_second (is_type a u) (is_type a t) fit.holds) in
-      let first : length x ≡ element_count t = heads_same _ _ _ _ h in
-      cc (accumulator_wide P c outputs n i lt ds u (v ∷ us) x (first ∙ sym initial ∙ out) w o)
+      let fit = truly (is_type a u && _) (u ∷ arrays.value) ts arrays.gives in
+      let fed = fed_by_types Fill n (a ∷ []) (u ∷ (v ∷ us)) (t ∷ []) ts e in
+      let first : length x ≡ element_count u =
+      heads_same _ _ _ _ h ∙ fed ∙ same_count a u (and_first _ _ fit.holds) in
+      cc (accumulator_wide P c outputs n i lt ds u (v ∷ us) x first w o)
   inputs_of_instance c outputs n i lt _ ds _ _ _ ts _ w o e h = cc
 
   pub iterator_as_wide :
@@ -397,20 +311,19 @@ module _ (P : Program) (H : History) (here : Instance)
       let size = bound (static_count P here m) _ ts e in
       let o = bound (operator_types P here (Node_named f statics)) _ ts size.gives in
       let a = bound (all_types P here es) _ ts o.gives in
-      let types =
-      ap (λ count. iterator_types it count o.value.0 o.value.1 a.value)
+      let types = ap (λ count. iterator_types it count o.value.0 o.value.1 a.value)
       (number_is P H here m size.value size.is) ∙ a.gives in
       let c = called P here f statics o.value o.is in
       let p = placed P here f statics c.callee c.is in
       let same : callee ≡ c.callee.node = same_Some _ _ (sym named ∙ p.node) in
       let outputs = λ (i : ℕ) (x : Name). H.columns (Child here.path n i) x in
       let args = all_streams P H here k (n + 1) es in
-      let widths = all_wide P H here variables_wide k (n + 1) es a.value a.is parts in
       let given = inputs_of_instance c.callee outputs (number P here m) i lt it
       c.callee.node.outputs o.value.0 o.value.1 a.value ts args
       (λ j less. outputs_at P H here f statics c.callee p n j (w j less)) c.outputs types
-      widths in
-      subst (λ (node : Node). AreAsWide H (Child here.path n i) node.inputs
+      (all_wide P H here variables_wide k (n + 1) es a.value a.is parts) in
+      subst
+      (λ (node : Node). AreAsWide H (Child here.path n i) node.inputs
       (iterator_inputs outputs (number P here m) it node.outputs args i)) (sym same)
       (inputs_as_wide P H c.callee (Child here.path n i) c.callee.node.inputs o.value.0
       (iterator_inputs outputs (number P here m) it c.callee.node.outputs args i)
@@ -418,42 +331,6 @@ module _ (P : Program) (H : History) (here : Instance)
 
 -- In an expression with types, the elements that expansion finds for the operands of a call or an
 -- iterator are as wide as the inputs that they are for.
-
--- ## What the types of an iterator say
-
-arrays_wide :
-    (m : ℕ) (us ts : List DataType) → all_some (map (array_of m) us) ≡ Some ts →
-    map element_count ts ≡ map (λ w. m * w) (map element_count us)
-arrays_wide m [] ts e = ap (map element_count) (sym (same_Some _ _ e))
-arrays_wide m (u ∷ us) ts e =
-    let h = each (array_of m u) (map (array_of m) us) ts e in
-    ap (map element_count) h.all
-    ∙ ap₂ (λ n ns. n ∷ ns) (array_count m u h.first h.is) (arrays_wide m us h.rest h.others)
-
--- the operands of an iterator are as wide as its inputs, instance by instance
-pub fed_by_types :
-    (it : ArrayIterator) (m : ℕ) (ins outs args ts : List DataType) →
-    iterator_types it m ins outs args ≡ Some ts →
-    AreFed it m (map element_count ins) (map element_count args)
-fed_by_types Map m ins outs args ts e =
-    let wanted = bound (all_some (map (array_of m) ins)) _ ts e in
-    let b = bound (where_true (are_types wanted.value args) outs) _ ts wanted.gives in
-    let t = truly (are_types wanted.value args) outs b.value b.is in
-    sym (are_counts wanted.value args t.holds) ∙ arrays_wide m ins wanted.value wanted.is
-fed_by_types Red m (a ∷ ins) (u ∷ []) (t ∷ args) ts e =
-    let wanted = bound (all_some (map (array_of m) ins)) _ ts e in
-    let arrays = are_types wanted.value args in
-    let fit = truly (is_type a u && (is_type a t && arrays)) (u ∷ []) ts wanted.gives in
-    let inner = and_second (is_type a u) (is_type a t && arrays) fit.holds in (
-      sym (same_count a t (and_first (is_type a t) arrays inner)),
-      sym (are_counts wanted.value args (and_second (is_type a t) arrays inner))
-          ∙ arrays_wide m ins wanted.value wanted.is,
-    )
-fed_by_types Fill m (a ∷ []) (u ∷ (v ∷ us)) (t ∷ []) ts e =
-    let arrays = bound (all_some (map (array_of m) (v ∷ us))) _ ts e in
-    let fit = truly (is_type a u && is_type a t) (u ∷ arrays.value) ts arrays.gives in
-    sym (same_count a t (and_second (is_type a u) (is_type a t) fit.holds))
-fed_by_types _ m _ _ _ ts e = cc
 
 no_types : (P : Program) (c : Instance) (t : DataType) (ts : List DataType) →
     all_some (map (variable_type P c) []) ≡ Some (t ∷ ts) → ⊥
@@ -513,17 +390,16 @@ module _ (Y : Layout) (P : Program) (H : History) (here : Instance)
       let c = called P here f statics o.value o.is in
       let p = placed P here f statics c.callee c.is in
       let one : c.callee.node ≡ callee = same_Some _ _ (sym p.node ∙ named) in
-      let ks = call_clocks k (node_named P f) es in
       let clocks = as_many_clocks P here k f statics es ts a.value o.value o.is t.holds in
       record {
         types = a.value;
         typed = a.is;
         clocks = clocks;
-        wide = each_as_many Y P H here same ks (n + 1) s es
-            ∙ arguments_wide P H here variables_wide ks (n + 1) es a.value a.is
-            (omega (arith, clocks)) parts
-            ∙ sym (are_counts o.value.0 a.value t.holds)
-            ∙ sym (widths_are c.callee (Child here.path n 0) c.callee.node.inputs o.value.0
+        wide = each_as_many Y P H here same _ (n + 1) s es
+            ∙ arguments_wide P H here variables_wide _ (n + 1) es a.value a.is
+            (omega (arith, clocks)) parts ∙ sym (are_counts o.value.0 a.value t.holds)
+            ∙ sym
+            (widths_are c.callee (Child here.path n 0) c.callee.node.inputs o.value.0
             (inputs_at P H here variables_wide f statics c.callee p n 0 w) c.inputs)
             ∙ ap (λ (m : Node). widths Y (Child here.path n 0) m.inputs) one;
       }

@@ -4,18 +4,16 @@ use Words.{◌≡◌, ℕ, ◌≤◌, Some, None, length, refl, Every, In, Node_
 use Words.{Program, Instance, Site, node_sites, numbered_sites, children, instances, level}
 use Words.{static_refusal, variables, width, node_occurrences, History, Every-at, Every-from}
 use Words.{instantiation_kept, OfCalled, Every-map, Every-both, own_site, node_calls, IsEntered}
-use Words.{all_entered, all_children, all_called, ◌+◌, ◌<◌, true, Option, List, [], ◌∷◌, map, subst}
-use Words.{list_all, all_some, Node, Statement, Equation, Assertion, and_first, and_second, Child}
-use Words.{node_named, DataType, truth, data_types, base_clock, Occurrence, call_count, call_clocks}
-use Words.{occurrences, occurrences_each, statement_clock, right_sides, number, Layout, flat_clock}
-use Words.{type_of_name, is_clock_typed, is_statement_typed, is_typed}
-use Rattle.{lb_check.specs.Clocks.Clock, lb_flat.proofs.lists.Lists.{Every-append, Every-first}}
-use Rattle.lb_flat.proofs.lists.Lists.{Every-second}
+use Words.{all_entered, all_children, all_called, ◌+◌, ◌<◌, true, Option, List, subst, list_all}
+use Words.{Node, and_second, Child, node_named, DataType, data_types, base_clock, Occurrence}
+use Words.{call_clocks, occurrences, occurrences_each, number, Layout, flat_clock, check_refusal}
+use Words.{HasTypes, occurrences_typed, is_clock_typed, is_statement_typed, is_typed}
+use Rattle.lb_check.specs.Clocks.{Clock}
 use Rattle.lb_expand.proofs.solutions.Placing.{IsCallPlaced, IsIteratorPlaced, IsPlacedAt, IsPlaced}
-use Rattle.lb_expand.proofs.{solutions.Solving.{IsSound, occurrences_of}, widths.PlacedCalls.Typed}
-use Rattle.lb_expand.proofs.widths.PlacedCalls.{typed_same, body_wide, call_as_wide}
-use Rattle.lb_expand.proofs.widths.{PlacedCalls.iterator_as_wide, Widths.AreVariablesWide}
-use Rattle.lb_expand.proofs.widths.Widths.{IsWideAt, IsOccurrenceWide, IsTypedAt, typed}
+use Rattle.lb_expand.proofs.solutions.Solving.{IsSound}
+use Rattle.lb_expand.proofs.widths.PlacedCalls.{body_wide, call_as_wide, iterator_as_wide}
+use Rattle.lb_expand.proofs.widths.Widths.{AreVariablesWide, IsWideAt, IsOccurrenceWide, IsTypedAt}
+use Rattle.lb_expand.proofs.widths.Widths.{PartsHave, nested_node}
 pub use Rattle.lb_check.proofs.programs.AcceptedRules.{all_typed}
 
 -- In an accepted program whose rules hold, and in a history with a stream for each element of a
@@ -63,6 +61,22 @@ module _ (P : Program) (accepted : static_refusal P ≡ None) (H : History)
       (λ s is. Every-at (OfCalled P here Kept) (numbered_sites 0 (node_sites here.node))
       (o.calls_before, s) called (stands s is)))
       (node_occurrences P here.node) (node_calls P here.node).stand
+
+-- in an accepted program each occurrence in the text of an instance has types, and what is called
+-- in it is as wide as its types
+pub occurrences_at :
+    (P : Program) → static_refusal P ≡ None → check_refusal P ≡ None → (H : History)
+    (here : Instance) → In here (instances P) →
+    Every (IsOccurrenceWide P H here) (node_occurrences P here.node) →
+    Every (IsTypedAt P H here) (node_occurrences P here.node)
+occurrences_at P accepted checked H here i w =
+    let all = node_occurrences P here.node in
+    Every-map _ (IsTypedAt P H here)
+    (λ o z. record { types = z.0.types; are = z.0.typed; parts = z.1 }) all
+    (Every-both (HasTypes P here) (PartsHave P here.node (IsOccurrenceWide P H here)) all
+    (Every-at (λ here. Every (HasTypes P here) (node_occurrences P here.node)) (instances P) here
+    (occurrences_typed P accepted checked) i)
+    (nested_node P here.node (IsOccurrenceWide P H here) w))
 
 -- An instance that is typed is sound: its equations and its calls have the widths of their types.
 
@@ -116,60 +130,17 @@ module _ (Y : Layout) (P : Program) (H : History) (here : Instance) where
     occurrence_placed o h =
         call_placed o.clock o.calls_before o.expr h.0.types h.0.are h.1 h.0.parts
 
-    -- ## Statements
-
-    statement_typed :
-        (e : Expr) (lefts : Option (List DataType)) (k : Clock) (n : ℕ) →
-        Typed P H here variables_wide e lefts → AllWide (occurrences P here.node k n e) →
-        Every (IsTypedAt P H here) (occurrences P here.node k n e)
-    statement_typed e lefts k n t w = typed P H here k n e t.right t.is_right w
-
-    pub body_typed :
-        (n : ℕ) (body : List Statement) → list_all (is_statement_typed P here) body ≡ true →
-        AllWide (occurrences_of P here.node (right_sides P here.node n body)) →
-        Every (IsTypedAt P H here) (occurrences_of P here.node (right_sides P here.node n body))
-    body_typed n [] h w = tt
-    body_typed n (Equation lefts e ∷ rest) h w =
-        let k = statement_clock P here.node (Equation lefts e) in
-        let m = n + call_count e in
-        let oa = occurrences P here.node k n e in
-        let ob = occurrences_of P here.node (right_sides P here.node m rest) in
-        let first = is_statement_typed P here (Equation lefts e) in
-        let others = list_all (is_statement_typed P here) rest in
-        let left = all_some (map (type_of_name P here) lefts) in
-        let t = typed_same P H here variables_wide e left (data_types P here e) refl
-        (and_first first others h) in
-        Every-append (IsTypedAt P H here) oa ob
-        (statement_typed e left k n t (Every-first (IsOccurrenceWide P H here) oa ob w))
-        (body_typed m rest (and_second first others h)
-        (Every-second (IsOccurrenceWide P H here) oa ob w))
-    body_typed n (Assertion e ∷ rest) h w =
-        let k = statement_clock P here.node (Assertion e) in
-        let m = n + call_count e in
-        let oa = occurrences P here.node k n e in
-        let ob = occurrences_of P here.node (right_sides P here.node m rest) in
-        let first = is_statement_typed P here (Assertion e) in
-        let others = list_all (is_statement_typed P here) rest in
-        let t = typed_same P H here variables_wide e (Some (truth ∷ [])) (data_types P here e) refl
-        (and_first first others h) in
-        Every-append (IsTypedAt P H here) oa ob
-        (statement_typed e (Some (truth ∷ [])) k n t
-        (Every-first (IsOccurrenceWide P H here) oa ob w))
-        (body_typed m rest (and_second first others h)
-        (Every-second (IsOccurrenceWide P H here) oa ob w))
-
     -- a typed instance is sound, where what it calls runs on the clocks of the calls
     pub instance_sound :
         is_typed P here ≡ true → AllWide (node_occurrences P here.node) →
+        Every (IsTypedAt P H here) (node_occurrences P here.node) →
         Every RunsAt (node_occurrences P here.node) → IsSound Y P H here
-    instance_sound h w runs =
-        let clocks = list_all (is_clock_typed P here) (variables here.node) in
-        let statements = list_all (is_statement_typed P here) here.node.body in
-        let body = and_second clocks statements h in
+    instance_sound h w typed runs =
+        let body = and_second (list_all (is_clock_typed P here) (variables here.node))
+        (list_all (is_statement_typed P here) here.node.body) h in
         let all = node_occurrences P here.node in
         record {
           wide = body_wide P H here variables_wide 0 here.node.body body w;
           placed = Every-map _ (IsPlaced Y P H here) occurrence_placed all
-              (Every-both (IsTypedAt P H here) RunsAt all
-              (body_typed 0 here.node.body body w) runs);
+              (Every-both (IsTypedAt P H here) RunsAt all typed runs);
         }

@@ -5,22 +5,23 @@ use Words.{sym, ap, ◌∙◌, length-map, Kind, Every, either_or, listed, Name,
 use Words.{Instance, Root, instance_at, DataType, width, variable_type, element_count}
 use Words.{scalar_elements, signature, input_kinds, pieces_count, Layout, true, ◌++◌, ap₂, nat_le}
 use Words.{same_Some, all_some, and_first, and_second, heads_same, tails_same, Path, Observer}
-use Words.{instances, are_types, variables, input_types, static_refusal, has_plain_clocks}
-use Words.{has_property, fits_observer, are_same, is_root, check_refusal, node_occurrences, Stream}
-use Words.{Inputs, columns_at, History, all_typed, Every-at, Every-from, instantiation_kept}
-use Words.{in_instances, path_is, column, history_of, layout, ℕ, ◌*◌, ◌≤◌, arith, nat_tests}
-use Words.{program_elements, size, is_small, expanded, targets}
+use Words.{instances, variables, input_types, static_refusal, has_plain_clocks, has_property}
+use Words.{fits_observer, is_root, check_refusal, node_occurrences, Stream, Inputs, columns_at}
+use Words.{History, all_typed, Every-at, Every-from, instantiation_kept, in_instances, path_is}
+use Words.{column, history_of, layout, ℕ, ◌*◌, ◌≤◌, arith, nat_tests, program_elements, size}
+use Words.{is_small, expanded, targets}
 use Rattle.lb_static.{specs.DataTypes.element_names, proofs.ElementNames.length-element_names}
-use Rattle.{lb_check.proofs.clocking.NamedClocks.if_some, lb_flat.proofs.lists.Lists.Every-map}
-use Rattle.lb_flat.proofs.lists.Lists.{Every-both, Every-append, Every-first, Every-second}
-use Rattle.lb_flat.proofs.{lists.Lists.Every-in, solutions.StandingRuns.root_kept}
-use Rattle.lb_expand.{specs.Emit.input_targets, proofs.numbering.NumberedPlaces.variables_wide}
-use Rattle.lb_expand.proofs.{numbering.NumberedPlaces.found_wide, solutions.Placing.AreAsWide}
-use Rattle.lb_expand.proofs.solutions.Solving.{IsSound, IsProgramSound}
-use Rattle.lb_expand.proofs.widths.{ElementBound.{IsCounted, few_elements}, SoundInstances.RunsAt}
-use Rattle.lb_expand.proofs.widths.{SoundInstances.{instance_sound, calls_wide}, TypeFacts.each}
-use Rattle.lb_expand.proofs.widths.{TypeFacts.{width_of, are_counts}, Widths.AreVariablesWide}
-use Rattle.lb_expand.proofs.widths.Widths.{IsOccurrenceWide}
+use Rattle.lb_check.proofs.clocking.NamedClocks.{if_some}
+use Rattle.lb_flat.proofs.lists.Lists.{Every-map, Every-both, Every-append, Every-first}
+use Rattle.lb_flat.proofs.{lists.Lists.{Every-second, Every-in}, solutions.StandingRuns.root_kept}
+use Rattle.lb_expand.specs.Emit.{input_targets}
+use Rattle.lb_expand.proofs.numbering.NumberedPlaces.{variables_wide, found_wide}
+use Rattle.lb_expand.proofs.solutions.{Placing.AreAsWide, Solving.{IsSound, IsProgramSound}}
+use Rattle.lb_expand.proofs.widths.TypeFacts.{both_there, each, width_of, are_counts}
+use Rattle.lb_expand.proofs.widths.ElementBound.{IsCounted, few_elements}
+use Rattle.lb_expand.proofs.widths.SoundInstances.{RunsAt, instance_sound, calls_wide}
+use Rattle.lb_expand.proofs.widths.SoundInstances.{occurrences_at}
+use Rattle.lb_expand.proofs.widths.Widths.{AreVariablesWide, IsOccurrenceWide, IsTypedAt}
 
 -- ## The signature
 
@@ -67,14 +68,6 @@ module _ (Y : Layout) (P : Program) where
 -- ## The observer
 
 module _ (P : Program) where
-  types_there :
-      (o p : Option (List DataType)) → are_same P o p ≡ true →
-      (ts : List DataType) × (us : List DataType) × (o ≡ Some ts) × (p ≡ Some us)
-      × (are_types ts us ≡ true)
-  types_there None p e = cc
-  types_there (Some ts) None e = cc
-  types_there (Some ts) (Some us) e = (ts, us, refl, refl, e)
-
   widths_are :
       (c : Instance) (ds : List Declaration) (ts : List DataType) →
       all_some (map (variable_type P c) ds) ≡ Some ts →
@@ -131,14 +124,14 @@ module _ (P : Program) where
         let ins = root.node.inputs in
         let outs = root.node.outputs in
         let locals = root.node.locals in
-        let t = types_there (input_types P observer)
+        let t = both_there P (input_types P observer)
         (all_some (map (variable_type P root) (ins ++ outs))) (observer_fits root observer is also)
         in
         let shown = wide_there Root root is in
         let sees = wide_there Observer observer also in
         seen_wide H observer root observer.node.inputs (ins ++ outs)
-        (widths_are observer observer.node.inputs t.0 t.2 ∙ are_counts t.0 t.1 t.4
-        ∙ sym (widths_are root (ins ++ outs) t.1 t.3))
+        (widths_are observer observer.node.inputs t.right t.is_right
+        ∙ are_counts t.right t.left t.same ∙ sym (widths_are root (ins ++ outs) t.left t.is_left))
         (Every-first _ observer.node.inputs (observer.node.outputs ++ observer.node.locals) sees)
         (Every-append _ ins outs (Every-first _ ins (outs ++ locals) shown)
         (Every-first _ outs locals (Every-second _ ins (outs ++ locals) shown)))
@@ -167,6 +160,15 @@ module _ (P : Program) (elaborated : static_refusal P ≡ None)
         calls_wide P elaborated H
         (λ c j. Every-at (λ c. AreVariablesWide P H c c) (instances P) c wide j) here i)
 
+    -- all occurrences of all instances are typed, with the widths of their types
+    typed_at :
+        Every (λ here. Every (IsTypedAt P H here) (node_occurrences P here.node)) (instances P)
+    typed_at =
+        Every-from (λ here. Every (IsTypedAt P H here) (node_occurrences P here.node)) (instances P)
+        (λ here i. occurrences_at P elaborated checked H here i
+        (Every-at (λ here. Every (IsOccurrenceWide P H here) (node_occurrences P here.node))
+        (instances P) here all_wide i))
+
     -- the program is sound, where a layout gives the inputs of the node under test their elements
     pub sound_where_wide :
         (Y : Layout) →
@@ -177,10 +179,10 @@ module _ (P : Program) (elaborated : static_refusal P ≡ None)
     sound_where_wide Y runs placed = record {
       instances =
           Every-map _ (IsSound Y P H)
-          (λ here z. instance_sound Y P H here z.0.0 z.0.1 z.1.0 z.1.1) (instances P)
+          (λ here z. instance_sound Y P H here z.0.0 z.0.1 z.1.0.0 z.1.0.1 z.1.1) (instances P)
           (Every-both _ _ (instances P)
           (Every-both _ _ (instances P) wide (all_typed P checked))
-          (Every-both _ _ (instances P) all_wide runs));
+          (Every-both _ _ (instances P) (Every-both _ _ (instances P) all_wide typed_at) runs));
       inputs = inputs_count Y P (instance_at P Root) refl placed;
       observer = observer_wide P elaborated H wide;
     }

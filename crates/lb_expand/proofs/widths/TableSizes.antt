@@ -1,6 +1,6 @@
 -- The size of a program, as the rows of its table and the found types of its terms count it.
 use Rattle.lb_expand.proofs.Words
-use Words.{◌≡◌, ℕ, suc, ◌+◌, ◌<◌, ◌≤◌, min, Bool, true, false, List, [], ◌∷◌, flat_map, take}
+use Words.{◌≡◌, ℕ, suc, ◌+◌, ◌<◌, ◌≤◌, min, false, List, [], ◌∷◌, flat_map, take}
 use Words.{get_or, length, Some, refl, ap, sym, ◌∙◌, subst, arith, slice_get, sum_by, nat_le}
 use Words.{nat_lt, nat_tests, length-append, take_all, sum_by-cons, sum_by_more, same_Some}
 use Words.{variables, width, Program, Instance, instances, IsTable, node_parts, IsReached, Reached}
@@ -26,18 +26,11 @@ capped_sums :
     slice_get is j ≡ Some here → f i ≡ min (g here) 65537) →
     (a : ℕ) → min (a + sum_by f rows) 65537 ≡ min (a + sum_by g is) 65537
 capped_sums f g [] [] long same a = refl
-capped_sums f g [] (c ∷ is) long same a = absurd (omega (arith, long))
-capped_sums f g (i ∷ rows) [] long same a = absurd (omega (arith, long))
 capped_sums f g (i ∷ rows) (c ∷ is) long same a =
     let rest = capped_sums f g rows is (omega (arith, long))
     (λ j l here p q. same (suc j) l here p q) (a + f i) in
-    let one = same 0 i c refl refl in
-    by (f i) (g c) (sum_by f rows) (sum_by g is) (sum_by f (i ∷ rows)) (sum_by g (c ∷ is)) one rest
-    (sum_by-cons f i rows) (sum_by-cons g c is)
-  where
-    by : (m n s u v w : ℕ) → m ≡ min n 65537 → min ((a + m) + s) 65537 ≡ min ((a + m) + u) 65537 →
-        v ≡ m + s → w ≡ n + u → min (a + v) 65537 ≡ min (a + w) 65537
-    by m n s u v w one rest p q = omega (arith, one, rest, p, q)
+    omega (arith, same 0 i c refl refl, rest, sum_by-cons f i rows, sum_by-cons g c is)
+capped_sums f g _ _ long same a = absurd (omega (arith, long))
 
 -- a sum of counts that stop at 65,537 is at most the sum of the full counts
 lesser_sums :
@@ -46,28 +39,18 @@ lesser_sums :
     ((j : ℕ) (i : row.Instance) (here : Instance) → slice_get rows j ≡ Some i →
     slice_get is j ≡ Some here → f i ≡ min (g here) 65537) → sum_by f rows ≤ sum_by g is
 lesser_sums f g [] [] long same = omega arith
-lesser_sums f g [] (c ∷ is) long same = absurd (omega (arith, long))
-lesser_sums f g (i ∷ rows) [] long same = absurd (omega (arith, long))
 lesser_sums f g (i ∷ rows) (c ∷ is) long same =
     let rest = lesser_sums f g rows is (omega (arith, long))
     (λ j l here p q. same (suc j) l here p q) in
-    let one = same 0 i c refl refl in
-    let all = sum_by-cons f i rows in
-    let other = sum_by-cons g c is in
-    omega (arith, rest, one, all, other)
+    omega (arith, rest, same 0 i c refl refl, sum_by-cons f i rows, sum_by-cons g c is)
+lesser_sums f g _ _ long same = absurd (omega (arith, long))
 
 small_below : (m n : ℕ) → min m 65537 ≡ min n 65537 → nat_le m 65536 ≡ nat_le n 65536
-small_below m n e = by (nat_le m 65536) refl
-  where
-    by : (b : Bool) → nat_le m 65536 ≡ b → b ≡ nat_le n 65536
-    by true is =
-        let le : m ≤ 65536 = grind (arith, nat_tests) in
-        let other : n ≤ 65536 = omega (arith, le, e) in
-        grind (arith, nat_tests)
-    by false is =
-        let gt : 65536 < m = grind (arith, nat_tests) in
-        let other : 65536 < n = omega (arith, gt, e) in
-        grind (arith, nat_tests)
+small_below m n e = grind (arith, nat_tests)
+
+-- a number above 65,536 is not at most that
+over : (n : ℕ) → 65536 < n → nat_le n 65536 ≡ false
+over n lt = grind (arith, nat_tests)
 
 -- ## A loop over rows
 
@@ -78,8 +61,7 @@ module _ {A : Type 0} (f : A → ℕ) where
       left ≡ 65537 - (a + sum_by f (take i xs)) → size ≡ f (get_or xs i d) → rest ≡ left - size →
       rest ≡ 65537 - (a + sum_by f (take (i + 1) xs))
   less_left xs i d a left size rest lt h own next =
-      let more = sum_by_more f xs i d lt in
-      omega (arith, h, own, next, more)
+      omega (arith, h, own, next, sum_by_more f xs i d lt)
 
   -- room is left exactly where the sum is at most 65,536
   pub some_left :
@@ -98,11 +80,8 @@ sum_both :
     sum_by (λ x. f x + g x) xs ≡ sum_by f xs + sum_by g xs
 sum_both f g [] = refl
 sum_both f g (x ∷ xs) =
-    let rest = sum_both f g xs in
     let all = sum_by-cons (λ x. f x + g x) x xs in
-    let first = sum_by-cons f x xs in
-    let second = sum_by-cons g x xs in
-    omega (arith, rest, all, first, second)
+    omega (arith, sum_both f g xs, all, sum_by-cons f x xs, sum_by-cons g x xs)
 
 module _ (P : Program) where
   -- the elements of instances are as many as their variables are wide
@@ -113,10 +92,9 @@ module _ (P : Program) where
   wide_elements [] = refl
   wide_elements (c ∷ is) =
       let own = elements_wide P c (variables c.node) ∙ sum_mapped (width P c) (variables c.node) in
-      let rest = wide_elements is in
       let all = length-append (instance_elements P c) (flat_map (instance_elements P) is) in
       let cons = sum_by-cons (λ (c : Instance). sum_by (width P c) (variables c.node)) c is in
-      omega (arith, own, rest, all, cons)
+      omega (arith, own, wide_elements is, all, cons)
 
   -- the elements of the expressions of an instance
   abbrev parts_size : Instance → ℕ
@@ -134,11 +112,9 @@ module _ (P : Program) where
     total_is : element_total r t ≡ length (flat_map (instance_elements P) (instances P))
     total_is =
         let rows = t.instances.items in
-        let is = instances P in
-        let many = rows_many P r t table in
-        let all_rows = take_all (length rows) rows (omega arith) in
-        let all_is = take_all (length rows) is (omega (arith, many)) in
-        ap (λ l. sum_of (flat_map (widths_in r t) l)) (sym all_rows)
+        let all_is = take_all (length rows) (instances P) (omega (arith, rows_many P r t table)) in
+        ap (λ l. sum_of (flat_map (widths_in r t) l))
+        (sym (take_all (length rows) rows (omega arith)))
         ∙ (first_is P r t reached table (length rows)
         ∙ ap (λ l. length (flat_map (instance_elements P) l)) all_is)
 
@@ -149,14 +125,7 @@ module _ (P : Program) where
 
     -- a program with more than 65,536 elements is not small
     pub too_many : 65536 < element_total r t → is_small P ≡ false
-    too_many over =
-        let total = total_is in
-        let both = size_parts in
-        let large : 65536 < size P = omega (arith, over, total, both) in
-        by (size P) large
-      where
-        by : (n : ℕ) → 65536 < n → nat_le n 65536 ≡ false
-        by n lt = grind (arith, nat_tests)
+    too_many many = over (size P) (omega (arith, many, total_is, size_parts))
 
     -- a row of the table has the size of its instance, stopped at 65,537
     row_size :
@@ -186,26 +155,18 @@ module _ (P : Program) where
 
     -- the variables have no more elements than the program
     pub variables_within : element_total r t ≤ size P
-    variables_within =
-        let total = total_is in
-        let both = size_parts in
-        omega (arith, total, both)
+    variables_within = omega (arith, total_is, size_parts)
 
     -- the size that is counted is at most the size of the program
     pub counted_within :
         (sizes : ℕ → ℕ) → HasTermSizes P r t sizes →
         element_total r t + term_total t sizes ≤ size P
     counted_within sizes has =
-        let total = total_is in
-        let both = size_parts in
         let terms = lesser_sums (λ (i : row.Instance). sizes i.specialization.0) parts_size
         t.instances.items (instances P) (rows_many P r t table) (row_size sizes has) in
-        omega (arith, total, both, terms)
+        omega (arith, total_is, size_parts, terms)
 
 -- Whether a program is small, from the found types of its terms.
-
-past : (a b : ℕ) → 65536 < b → nat_le (a + b) 65536 ≡ false
-past a b lt = grind (arith, nat_tests)
 
 module _ (P : Program) (r : Reached) (t : Table) (reached : IsReached P r) (table : IsTable P r t)
   where
@@ -241,10 +202,10 @@ module _ (P : Program) (r : Reached) (t : Table) (reached : IsReached P r) (tabl
         by [] is = counted_small P r t reached table (lent_size None) (no_sizes is (lent_size None))
         by (i ∷ rows) is =
             let size = λ (k : row.Instance). lent_size None k.specialization.0 in
-            let total : term_total t (lent_size None) ≡ 65537 + sum_by size rows =
-            ap (sum_by size) is ∙ sum_by-cons size i rows in
-            past (element_total r t) (term_total t (lent_size None)) (omega (arith, total))
-            ∙ sym has
+            let total : term_total t (lent_size None) ≡ 65537 + sum_by size rows = ap (sum_by size)
+            is ∙ sum_by-cons size i rows in
+            over (element_total r t + term_total t (lent_size None)) (omega (arith, total)) ∙ sym
+            has
 
 -- a checked program is small exactly where something is left after all its rows are subtracted
 pub left_small :

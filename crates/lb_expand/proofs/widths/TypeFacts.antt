@@ -1,18 +1,20 @@
 -- The types of the parts of an expression, and the widths of lists and outputs.
 use Rattle.lb_expand.proofs.Words
-use Words.{eqb-true, ltb-true, leb-true, same_Some, UnaryOperator, Not, Negate, BinaryOperator}
-use Words.{Kind, holds, where_true, and_first, and_second, DataType, int, truth, is_kind, is_type}
-use Words.{are_types, same_sizes, product, element_count, is_arithmetic, is_logical, are_ints}
-use Words.{are_truths, unary_type, binary_type, common_type, array_of, element_with, element_of}
-use Words.{index_type, slice_type, join_type, singly, constant_type, symbol_types, truly, all_some}
-use Words.{red_types, zero, None, IfSome, option_map, length, take, drop, flat_map, cond, subst}
-use Words.{arith, range_with_len, mul-le-mul_right, length-take-le, length-drop, Every, copies}
-use Words.{either_or, Name, Declaration, Program, Instance, width, variable_type, Stream, choice}
-use Words.{choices, gathered, last_of, length-both, ◌≡◌, ◌⊎◌, inl, inr, ℤ, ℕ, suc, ◌+◌, ◌-◌, ◌*◌}
-use Words.{◌<◌, ◌≤◌, Bool, true, false, ◌&&◌, ◌||◌, nat_eq, nat_le, nat_lt, Option, Some, List, []}
-use Words.{◌∷◌, map, refl, sym, ap, ap₂, ◌∙◌, if◌then◌else◌, find, length-append}
-use Rattle.{std.proofs.Common.add-mul, lb_static.specs.Arithmetic.is_int as is_in_range}
+use Words.{are_same, heads_same, eqb-true, ltb-true, leb-true, same_Some, UnaryOperator, Not}
+use Words.{Negate, BinaryOperator, Kind, holds, where_true, and_first, and_second, DataType, int}
+use Words.{truth, is_kind, is_type, are_types, same_sizes, product, element_count, is_arithmetic}
+use Words.{is_logical, are_ints, are_truths, unary_type, binary_type, common_type, array_of}
+use Words.{element_with, element_of, index_type, slice_type, join_type, singly, constant_type}
+use Words.{symbol_types, truly, all_some, red_types, zero, None, IfSome, option_map, length, take}
+use Words.{drop, flat_map, cond, subst, arith, range_with_len, mul-le-mul_right, length-take-le}
+use Words.{length-drop, Every, copies, either_or, Name, Declaration, Program, Instance, width}
+use Words.{variable_type, Stream, choice, choices, gathered, last_of, length-both, ◌≡◌, ◌⊎◌, inl}
+use Words.{inr, ℤ, ℕ, suc, ◌+◌, ◌-◌, ◌*◌, ◌<◌, ◌≤◌, Bool, true, false, ◌&&◌, ◌||◌, nat_eq, nat_le}
+use Words.{nat_lt, Option, Some, List, [], ◌∷◌, map, refl, sym, ap, ap₂, ◌∙◌, if◌then◌else◌, find}
+use Words.{length-append, iterator_types, ArrayIterator, Map, Red, Fill}
+use Rattle.{std.proofs.Common.add-mul, lb_static.specs.Arithmetic.{is_int as is_in_range}}
 use Rattle.lb_check.specs.Types.{is_equality, fill_types}
+use Rattle.lb_expand.proofs.numbering.ReceivedInputs.{AreFed}
 pub use Rattle.lb_check.proofs.typing.OperandTypes.{Bound, bound, single, Single, alone, One, one}
 pub use Rattle.lb_check.proofs.typing.OperandTypes.{Two, two, Truths, from_true}
 
@@ -93,33 +95,26 @@ pub record Scalars (s t r : DataType) : Type 0 where
   pub second : element_count t ≡ 1
   pub result : element_count r ≡ 1
 
-ints :
-    (s t u r : DataType) → element_count u ≡ 1 → where_true (are_ints s t) u ≡ Some r →
-    Scalars s t r
-ints s t u r one e =
-    let h = truly (are_ints s t) u r e in
+-- two operands of the type `base`, each with one scalar element, and a result with one
+scalars :
+    (base s t u r : DataType) →
+    ((v : DataType) → is_type v base ≡ true → element_count v ≡ 1) → element_count u ≡ 1 →
+    where_true (is_type s base && is_type t base) u ≡ Some r → Scalars s t r
+scalars base s t u r single one e =
+    let h = truly (is_type s base && is_type t base) u r e in
     record {
-      first = is_int s (and_first _ (is_type t int) h.holds);
-      second = is_int t (and_second (is_type s int) _ h.holds);
-      result = ap element_count (sym h.same) ∙ one;
-    }
-
-truths :
-    (s t u r : DataType) → element_count u ≡ 1 → where_true (are_truths s t) u ≡ Some r →
-    Scalars s t r
-truths s t u r one e =
-    let h = truly (are_truths s t) u r e in
-    record {
-      first = is_truth s (and_first _ (is_type t truth) h.holds);
-      second = is_truth t (and_second (is_type s truth) _ h.holds);
+      first = single s (and_first _ (is_type t base) h.holds);
+      second = single t (and_second (is_type s base) _ h.holds);
       result = ap element_count (sym h.same) ∙ one;
     }
 
 same_scalars :
     (s t r : DataType) (b c : Bool) → are_ints s t ≡ b → are_truths s t ≡ c →
     where_true (b || c) truth ≡ Some r → Scalars s t r
-same_scalars s t r true c p q e = ints s t truth r refl (ap (λ d. where_true d truth) p ∙ e)
-same_scalars s t r false c p q e = truths s t truth r refl (ap (λ d. where_true d truth) q ∙ e)
+same_scalars s t r true c p q e =
+    scalars int s t truth r is_int refl (ap (λ d. where_true d truth) p ∙ e)
+same_scalars s t r false c p q e =
+    scalars truth s t truth r is_truth refl (ap (λ d. where_true d truth) q ∙ e)
 
 binary_by :
     (s t r : DataType) (a b c : Bool) →
@@ -127,10 +122,10 @@ binary_by :
     if b then where_true (are_truths s t) truth else
     if c then where_true (are_ints s t || are_truths s t) truth else
     where_true (are_ints s t) truth) ≡ Some r → Scalars s t r
-binary_by s t r true b c e = ints s t int r refl e
-binary_by s t r false true c e = truths s t truth r refl e
+binary_by s t r true b c e = scalars int s t int r is_int refl e
+binary_by s t r false true c e = scalars truth s t truth r is_truth refl e
 binary_by s t r false false true e = same_scalars s t r _ _ refl refl e
-binary_by s t r false false false e = ints s t truth r refl e
+binary_by s t r false false false e = scalars int s t truth r is_int refl e
 
 pub binary_count :
     (op : BinaryOperator) (s t r : DataType) → binary_type op s t ≡ Some r → Scalars s t r
@@ -141,11 +136,10 @@ binary_count op s t r e =
 
 sizes_same : (ns ms : List ℕ) → same_sizes ns ms ≡ true → product ns ≡ product ms
 sizes_same [] [] e = refl
-sizes_same [] (m ∷ ms) e = cc
-sizes_same (n ∷ ns) [] e = cc
 sizes_same (n ∷ ns) (m ∷ ms) e =
     ap₂ (λ a b. a * b) (eqb-true n m (and_first (nat_eq n m) (same_sizes ns ms) e))
     (sizes_same ns ms (and_second (nat_eq n m) (same_sizes ns ms) e))
+sizes_same _ _ e = cc
 
 pub same_count : (s t : DataType) → is_type s t ≡ true → element_count s ≡ element_count t
 same_count s t e =
@@ -167,11 +161,44 @@ pub are_counts :
     (ss ts : List DataType) → are_types ss ts ≡ true →
     map element_count ss ≡ map element_count ts
 are_counts [] [] e = refl
-are_counts [] (t ∷ ts) e = cc
-are_counts (s ∷ ss) [] e = cc
 are_counts (s ∷ ss) (t ∷ ts) e =
     ap₂ (λ n ns. n ∷ ns) (same_count s t (and_first (is_type s t) (are_types ss ts) e))
     (are_counts ss ts (and_second (is_type s t) (are_types ss ts) e))
+are_counts _ _ e = cc
+
+-- two lists of the same types have the same first types, and the same types behind them
+pub types_first :
+    {ss ts us vs : List DataType} {s t : DataType} → ss ≡ s ∷ us → ts ≡ t ∷ vs →
+    are_types ss ts ≡ true → (is_type s t ≡ true) × (are_types us vs ≡ true)
+types_first p q e =
+    let all = ap₂ are_types (sym p) (sym q) ∙ e in (and_first _ _ all, and_second _ _ all)
+
+-- lists of types of which one alone is empty are not the same
+pub types_missing :
+    {A : Type 0} {ss ts us : List DataType} {t : DataType} → ss ≡ [] → ts ≡ t ∷ us →
+    are_types ss ts ≡ true → A
+types_missing p q e = let never = ap₂ are_types (sym p) (sym q) ∙ e in absurd cc
+
+-- and so it is where the second list is the empty one
+pub types_left :
+    {A : Type 0} {ss ts us : List DataType} {s : DataType} → ss ≡ s ∷ us → ts ≡ [] →
+    are_types ss ts ≡ true → A
+types_left p q e = let never = ap₂ are_types (sym p) (sym q) ∙ e in absurd cc
+
+-- the types of the right and of the left side exist and agree
+pub record BothThere (o p : Option (List DataType)) : Type 0 where
+  pub right : List DataType
+  pub left : List DataType
+  pub is_right : o ≡ Some right
+  pub is_left : p ≡ Some left
+  pub same : are_types right left ≡ true
+
+pub both_there :
+    (P : Program) (o p : Option (List DataType)) → are_same P o p ≡ true → BothThere o p
+both_there P None p e = cc
+both_there P (Some ts) None e = cc
+both_there P (Some ts) (Some us) e =
+    record { right = ts; left = us; is_right = refl; is_left = refl; same = e }
 
 -- ## Arrays
 
@@ -258,8 +285,7 @@ pub red_of :
     (n : ℕ) (ins outs args ts : List DataType) → red_types n ins outs args ≡ Some ts →
     Reduced outs ts
 red_of n (a ∷ ins) (o ∷ []) (i ∷ args) ts e =
-    let w = bound (all_some (map (array_of n) ins)) _ ts e in
-    let h = truly _ (o ∷ []) ts w.gives in
+    let h = truly _ (o ∷ []) ts (bound (all_some (map (array_of n) ins)) _ ts e).gives in
     record { out = o; outs_is = refl; ts_is = sym h.same }
 red_of n _ _ _ ts e = cc
 
@@ -275,23 +301,17 @@ pub record Filled (n : ℕ) (outs ts : List DataType) : Type 0 where
 pub fill_of :
     (n : ℕ) (ins outs args ts : List DataType) → fill_types n ins outs args ≡ Some ts →
     Filled n outs ts
-fill_of n [] outs args ts e = cc
-fill_of n (a ∷ (b ∷ ins)) outs args ts e = cc
-fill_of n (a ∷ []) [] args ts e = cc
-fill_of n (a ∷ []) (o ∷ []) args ts e = cc
-fill_of n (a ∷ []) (o ∷ (p ∷ outs)) [] ts e = cc
-fill_of n (a ∷ []) (o ∷ (p ∷ outs)) (i ∷ (j ∷ args)) ts e = cc
 fill_of n (a ∷ []) (o ∷ (p ∷ outs)) (i ∷ []) ts e =
     let w = bound (all_some (map (array_of n) (p ∷ outs))) _ ts e in
-    let h = truly _ (o ∷ w.value) ts w.gives in
     record {
       out = o;
       others = p ∷ outs;
       arrays = w.value;
       outs_is = refl;
-      ts_is = sym h.same;
+      ts_is = sym (truly _ (o ∷ w.value) ts w.gives).same;
       gives = w.is;
     }
+fill_of n _ _ _ ts e = cc
 
 -- Widths of lists, and of the outputs of the instances of a call.
 
@@ -304,9 +324,8 @@ length-copies (suc n) xs = omega (arith, length-append xs (copies n xs), length-
 pub length-choices :
     (cs xss yss : List Stream) (n : ℕ) → length cs ≡ 1 → length xss ≡ n → length yss ≡ n →
     length (choices cs xss yss) ≡ n
-length-choices [] xss yss n c p q = absurd (omega arith)
 length-choices (z ∷ []) xss yss n c p q = length-both (choice z) n xss yss p q
-length-choices (z ∷ (w ∷ cs)) xss yss n c p q = absurd (omega arith)
+length-choices _ xss yss n c p q = absurd (omega arith)
 
 -- a part of `n` items, from a list of `m` items of `q` elements each, has `q * n` elements
 pub length-part :
@@ -373,6 +392,43 @@ each (Some x) os ys e = from (all_some os) refl e
     from (Some xs) q g =
         record { first = x; rest = xs; is = refl; others = q; all = sym (same_Some _ _ g) }
 
+-- ## What the types of an iterator say
+
+-- arrays of length `m` of the types `us` are `m` times as wide as these, type by type
+arrays_wide :
+    (m : ℕ) (us ts : List DataType) → all_some (map (array_of m) us) ≡ Some ts →
+    map element_count ts ≡ map (λ w. m * w) (map element_count us)
+arrays_wide m [] ts e = ap (map element_count) (sym (same_Some _ _ e))
+arrays_wide m (u ∷ us) ts e =
+    let h = each (array_of m u) (map (array_of m) us) ts e in
+    ap (map element_count) h.all
+    ∙ ap₂ (λ n ns. n ∷ ns) (array_count m u h.first h.is) (arrays_wide m us h.rest h.others)
+
+-- the operands of an iterator are as wide as its inputs, instance by instance
+pub fed_by_types :
+    (it : ArrayIterator) (m : ℕ) (ins outs args ts : List DataType) →
+    iterator_types it m ins outs args ≡ Some ts →
+    AreFed it m (map element_count ins) (map element_count args)
+fed_by_types Map m ins outs args ts e =
+    let wanted = bound (all_some (map (array_of m) ins)) _ ts e in
+    let b = bound (where_true (are_types wanted.value args) outs) _ ts wanted.gives in
+    let t = truly (are_types wanted.value args) outs b.value b.is in
+    sym (are_counts wanted.value args t.holds) ∙ arrays_wide m ins wanted.value wanted.is
+fed_by_types Red m (a ∷ ins) (u ∷ []) (t ∷ args) ts e =
+    let wanted = bound (all_some (map (array_of m) ins)) _ ts e in
+    let arrays = are_types wanted.value args in
+    let fit = truly (is_type a u && (is_type a t && arrays)) (u ∷ []) ts wanted.gives in
+    let inner = and_second (is_type a u) (is_type a t && arrays) fit.holds in (
+      sym (same_count a t (and_first (is_type a t) arrays inner)),
+      sym (are_counts wanted.value args (and_second (is_type a t) arrays inner))
+          ∙ arrays_wide m ins wanted.value wanted.is,
+    )
+fed_by_types Fill m (a ∷ []) (u ∷ (v ∷ us)) (t ∷ []) ts e =
+    let arrays = bound (all_some (map (array_of m) (v ∷ us))) _ ts e in
+    let fit = truly (is_type a u && is_type a t) (u ∷ arrays.value) ts arrays.gives in
+    sym (same_count a t (and_second (is_type a u) (is_type a t) fit.holds))
+fed_by_types _ m _ _ _ ts e = cc
+
 -- arrays of length `n` of the types `us` have `n` times as many elements as `us`
 pub arrays_count :
     (n : ℕ) (us ts : List DataType) → all_some (map (array_of n) us) ≡ Some ts →
@@ -380,9 +436,8 @@ pub arrays_count :
 arrays_count n [] ts e = ap elements_in (sym (same_Some _ _ e)) ∙ omega arith
 arrays_count n (u ∷ us) ts e =
     let h = each (array_of n u) (map (array_of n) us) ts e in
-    let one = array_count n u h.first h.is in
-    let others = arrays_count n us h.rest h.others in
-    ap elements_in h.all ∙ omega (arith, one, others)
+    ap elements_in h.all
+    ∙ omega (arith, array_count n u h.first h.is, arrays_count n us h.rest h.others)
 
 -- ## The outputs of an instance that is called
 
@@ -439,8 +494,5 @@ module _ (P : Program) (c : Instance) where
     last_wide positive [] u us w e = cc
     last_wide positive (d ∷ ds) u us w e =
         let h = each (variable_type P c d) (map (variable_type P c) ds) (u ∷ us) e in
-        let same : u ≡ h.first = first_same _ _ _ _ h.all in
-        (w (n - 1) (omega arith)).0 ∙ width_of d h.first h.is ∙ ap element_count (sym same)
-      where
-        first_same : (s t : DataType) (ss ts : List DataType) → s ∷ ss ≡ t ∷ ts → s ≡ t
-        first_same s t ss ts e = cc
+        (w (n - 1) (omega arith)).0 ∙ width_of d h.first h.is
+        ∙ ap element_count (sym (heads_same _ _ _ _ h.all))

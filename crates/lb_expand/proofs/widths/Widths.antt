@@ -1,6 +1,6 @@
 -- An expression has as many streams as its types have elements, and so has every part of it.
 use Rattle.lb_expand.proofs.Words
-use Words.{◌≡◌, ℕ, suc, ◌+◌, ◌-◌, ◌*◌, ◌<◌, ◌≤◌, true, ◌&&◌, ◌⊎◌, inl, inr, pos, Option, Some, None}
+use Words.{◌≡◌, ℕ, suc, ◌+◌, ◌-◌, ◌*◌, ◌<◌, ◌≤◌, true, ◌⊎◌, inl, inr, pos, Option, Some, None}
 use Words.{IfSome, option_map, List, [], ◌∷◌, ◌++◌, map, length, take, drop, flat_map, refl, sym}
 use Words.{ap, ap₂, ◌∙◌, arith, list_all, bytes_eq, length-map, same_Some, BinaryOperator}
 use Words.{ArrayIterator, Map, Red, Fill, ◌>>=◌, Every, joined, all_some, either_or, where_true}
@@ -15,18 +15,18 @@ use Words.{iterator_types, unary_type, binary_type, common_type, index_type, sli
 use Words.{constant_type, is_arithmetic, is_logical, Stream, or_fault, Occurrence, call_count}
 use Words.{occurrences, occurrences_in, History, presence, constantly, gathered, last_of, iterated}
 use Words.{symbols, streams, all_streams, number, part_count, outputs_of, data_type, first_of_all}
-use Words.{truly, length-both, call_clocks, occurrences_each, length-append, clock_or}
-use Words.{declared_clock}
-use Rattle.lb_check.specs.{Clocks.{Clock, clock_of}, Types.map_types}
+use Words.{truly, length-both, call_clocks, occurrences_each, length-append}
+use Words.{declared_clock, right_sides, node_occurrences}
+use Rattle.lb_check.specs.{Clocks.{Clock}, Types.map_types}
 use Rattle.lb_flat.proofs.lists.Lists.{Every-first, Every-second, Every-append}
 use Rattle.lb_expand.proofs.widths.TypeFacts.{One, elements_in, bound, alone, one, two, from_true}
 use Rattle.lb_expand.proofs.widths.TypeFacts.{unary_count, binary_count, alike, array_count}
 use Rattle.lb_expand.proofs.widths.TypeFacts.{indexed, sliced, joined_count, truth_is, same_count}
-use Rattle.lb_expand.proofs.widths.TypeFacts.{are_counts, Symbolic, constant, symbolic}
+use Rattle.lb_expand.proofs.widths.TypeFacts.{Symbolic, constant, symbolic}
 use Rattle.lb_expand.proofs.widths.TypeFacts.{length-copies, length-choices, length-part}
 use Rattle.lb_expand.proofs.widths.TypeFacts.{length-index, found_in, each, arrays_count, width_of}
 use Rattle.lb_expand.proofs.widths.TypeFacts.{outputs_wide, gathered_wide, last_wide, red_of}
-use Rattle.lb_expand.proofs.widths.TypeFacts.{fill_of}
+use Rattle.lb_expand.proofs.widths.TypeFacts.{fill_of, fed_by_types}
 pub use Rattle.lb_check.proofs.typing.OperandTypes.{Called, called, Placed, placed}
 
 -- An expression has as many streams as its types have scalar elements.
@@ -136,12 +136,11 @@ module _ (P : Program) (H : History) (here : Instance) where
       (xsss : List (List Stream)) (ts : List DataType) →
       map length xsss ≡ map element_count ts → length (joined xsss) ≡ elements_in ts
   joined_wide [] [] e = refl
-  joined_wide [] (t ∷ ts) e = cc
-  joined_wide (xss ∷ xsss) [] e = cc
   joined_wide (xss ∷ xsss) (t ∷ ts) e =
       let rest = joined_wide xsss ts (tails_same _ _ _ _ e) in
       let first = heads_same _ _ _ _ e in
       omega (arith, length-append xss (joined xsss), first, rest)
+  joined_wide _ _ e = cc
 
   all_alike :
       (t : DataType) (ts : List DataType) → list_all (is_type t) ts ≡ true →
@@ -198,21 +197,16 @@ module _ (P : Program) (H : History) (here : Instance) where
       let f = fill_of n ins outs args ts e in
       let all = o ∙ ap Some f.outs_is in
       let h = each (variable_type P c d) (map (variable_type P c) ds) (f.out ∷ f.others) all in
-      let same : f.others ≡ h.rest = rest_same _ _ _ _ h.all in
-      let last = last_wide P c outputs n positive (d ∷ ds) f.out f.others w all in
+      let same : f.others ≡ h.rest = tails_same _ _ _ _ h.all in
       let rest = gathered_wide P c outputs n ds f.others (λ i lt. (w i lt).1)
       (h.others ∙ ap Some (sym same)) in
       omega (
         arith,
         length-append (last_of outputs n (d ∷ ds)) (gathered outputs n ds),
-        last,
+        last_wide P c outputs n positive (d ∷ ds) f.out f.others w all,
         rest,
         arrays_count n f.others f.arrays f.gives,
-      )
-      ∙ sym (ap elements_in f.ts_is)
-    where
-      rest_same : (s t : DataType) (ss ts : List DataType) → s ∷ ss ≡ t ∷ ts → ss ≡ ts
-      rest_same s t ss ts e = cc
+      ) ∙ sym (ap elements_in f.ts_is)
 
   iterate_wide :
       (n : ℕ) (it : ArrayIterator) (f : Name) (statics : List Static) (m : ℕ)
@@ -266,43 +260,18 @@ module _ (P : Program) (H : History) (here : Instance) where
       iterator_types it n (k ∷ (k ∷ [])) (k ∷ []) args ≡ Some ts →
       length (symbols it op xsss) ≡ elements_in ts
   symbol_wide op n k scalar Map args ts xsss h e =
-      let w = bound (all_some (map (array_of n) (k ∷ (k ∷ [])))) _ ts e in
-      let b = bound (where_true (are_types w.value args) (k ∷ [])) _ ts w.gives in
-      let t = truly (are_types w.value args) (k ∷ []) b.value b.is in
-      let first = each (array_of n k) (array_of n k ∷ []) w.value w.is in
-      let second = each (array_of n k) [] first.rest first.others in
-      let nothing : [] ≡ second.rest = same_Some _ _ second.others in
-      let one : element_count first.first ≡ n =
-      omega (arith, array_count n k first.first first.is, ap (λ c. n * c) scalar) in
-      let two : element_count second.first ≡ n =
-      omega (arith, array_count n k second.first second.is, ap (λ c. n * c) scalar) in
-      let counts : map element_count w.value ≡ n ∷ (n ∷ []) =
-      ap (map element_count) (first.all ∙ ap (λ us. first.first ∷ us)
-      (second.all ∙ ap (λ us. second.first ∷ us) (sym nothing)))
-      ∙ ap₂ (λ a c. a ∷ (c ∷ [])) one two in
-      zipped op n xsss (h ∙ sym (are_counts w.value args t.holds) ∙ counts)
-      ∙ omega (
-        arith,
-        map_of n (k ∷ (k ∷ [])) (k ∷ []) args ts e,
-        scalar,
-        ap (λ c. n * c) scalar,
-      )
+      let fed = fed_by_types Map n (k ∷ (k ∷ [])) (k ∷ []) args ts e in
+      let one : n * element_count k ≡ n = omega (arith, ap (λ c. n * c) scalar) in
+      zipped op n xsss (h ∙ fed ∙ ap₂ (λ a c. a ∷ (c ∷ [])) one one)
+      ∙ omega (arith, map_of n (k ∷ (k ∷ [])) (k ∷ []) args ts e, scalar, ap (λ c. n * c) scalar)
   symbol_wide op n k scalar Fill args ts xsss h e = cc
   symbol_wide op n k scalar Red [] ts xsss h e = cc
   symbol_wide op n k scalar Red (i ∷ args) ts xsss h e =
-      let w = bound (all_some (map (array_of n) (k ∷ []))) _ ts e in
-      let both = is_type k i && are_types w.value args in
-      let t = truly (is_type k k && both) (k ∷ []) ts w.gives in
-      let inner = and_second (is_type k k) (is_type k i && are_types w.value args) t.holds in
-      let first = each (array_of n k) [] w.value w.is in
-      let nothing : [] ≡ first.rest = same_Some _ _ first.others in
-      let initial : element_count i ≡ 1 =
-      sym (same_count k i (and_first (is_type k i) (are_types w.value args) inner)) ∙ scalar in
-      let counts : map element_count args ≡ element_count first.first ∷ [] =
-      sym (are_counts w.value args (and_second (is_type k i) (are_types w.value args) inner))
-      ∙ ap (map element_count) (first.all ∙ ap (λ us. first.first ∷ us) (sym nothing)) in
-      folded op (element_count first.first) xsss (h ∙ ap₂ (λ a rest. a ∷ rest) initial counts)
-      ∙ sym (sym (ap elements_in t.same) ∙ omega (arith, scalar))
+      let fed = fed_by_types Red n (k ∷ (k ∷ [])) (k ∷ []) (i ∷ args) ts e in
+      let r = red_of n (k ∷ (k ∷ [])) (k ∷ []) (i ∷ args) ts e in
+      folded op (n * element_count k) xsss
+      (h ∙ ap₂ (λ a rest. a ∷ rest) (fed.0 ∙ scalar) fed.1)
+      ∙ sym (ap elements_in (r.ts_is ∙ sym r.outs_is) ∙ omega (arith, scalar))
 
   -- ## Expressions
 
@@ -364,13 +333,12 @@ module _ (P : Program) (H : History) (here : Instance) where
       wide k n (Binary op a b) ts e w =
           let m = n + call_count a in
           let i = two (data_types P here a) (data_types P here b) (binary_type op) ts e in
-          let oa = occurrences P here.node k n a in let ob = occurrences P here.node k m b in
           let s = binary_count op i.first i.second i.result i.gives in
           just_one _ i.result ts
           (length-both _ 1 (streams P H here k n a) (streams P H here k m b)
-          (only_one _ i.first (wide k n a _ i.is_first (fore oa ob w.1)) ∙ s.first)
-          (only_one _ i.second (wide k m b _ i.is_second (aft oa ob w.1)) ∙ s.second)
-          ∙ sym s.result) i.all
+          (only_one _ i.first (wide k n a _ i.is_first (fore _ _ w.1)) ∙ s.first)
+          (only_one _ i.second (wide k m b _ i.is_second (aft _ _ w.1)) ∙ s.second) ∙ sym s.result)
+          i.all
       wide k n (If c a b) ts e w =
           let na = n + call_count c in let nb = na + call_count a in
           let oc = occurrences P here.node k n c in
@@ -397,23 +365,20 @@ module _ (P : Program) (H : History) (here : Instance) where
       wide k n (Arrow a b) ts e w =
           let m = n + call_count a in
           let i = two (data_types P here a) (data_types P here b) common_type ts e in
-          let oa = occurrences P here.node k n a in let ob = occurrences P here.node k m b in
           let same = alike i.first i.second i.result i.gives in
           just_one _ i.result ts
           (length-both _ (element_count i.result) (streams P H here k n a) (streams P H here k m b)
-          (only_one _ i.first (wide k n a _ i.is_first (fore oa ob w.1)) ∙ same.first)
-          (only_one _ i.second (wide k m b _ i.is_second (aft oa ob w.1)) ∙ same.second)) i.all
+          (only_one _ i.first (wide k n a _ i.is_first (fore _ _ w.1)) ∙ same.first)
+          (only_one _ i.second (wide k m b _ i.is_second (aft _ _ w.1)) ∙ same.second)) i.all
       wide k n (Fby a b) ts e w =
           let m = n + call_count a in
           let i = two (data_types P here a) (data_types P here b) common_type ts e in
-          let oa = occurrences P here.node k n a in let ob = occurrences P here.node k m b in
           let same = alike i.first i.second i.result i.gives in
           just_one _ i.result ts
           (length-both _ (element_count i.result) (streams P H here k n a) _
-          (only_one _ i.first (wide k n a _ i.is_first (fore oa ob w.1)) ∙ same.first)
+          (only_one _ i.first (wide k n a _ i.is_first (fore _ _ w.1)) ∙ same.first)
           (length-map (streams P H here k m b) _
-          ∙ only_one _ i.second (wide k m b _ i.is_second (aft oa ob w.1))
-          ∙ same.second)) i.all
+          ∙ only_one _ i.second (wide k m b _ i.is_second (aft _ _ w.1)) ∙ same.second)) i.all
       wide k n (Pre a) ts e w =
           let i = one (data_types P here a) Some ts e in
           just_one _ i.result ts
@@ -421,19 +386,18 @@ module _ (P : Program) (H : History) (here : Instance) where
           ∙ only_one _ i.data_type (wide k n a (i.data_type ∷ []) i.is w.1)
           ∙ ap element_count (same_Some _ _ i.gives)) i.all
       wide k n (When a x sign) ts e w =
-          let t = bound (from_truths (singly (name_data_type P here x))) _ ts e in
-          let i = one (data_types P here a) Some ts t.gives in
+          let i = one (data_types P here a) Some ts
+          (bound (from_truths (singly (name_data_type P here x))) _ ts e).gives in
           just_one _ i.result ts
           (length-map (streams P H here (declared_clock here.node x) n a) _
           ∙ only_one _ i.data_type
           (wide (declared_clock here.node x) n a (i.data_type ∷ []) i.is w.1)
           ∙ ap element_count (same_Some _ _ i.gives)) i.all
       wide k n (Current a) ts e w =
-          let own = clock_or (clock_of P here.node a) in
           let i = one (data_types P here a) Some ts e in
           just_one _ i.result ts
-          (length-map (streams P H here own n a) _
-          ∙ only_one _ i.data_type (wide own n a (i.data_type ∷ []) i.is w.1)
+          (length-map (streams P H here _ n a) _
+          ∙ only_one _ i.data_type (wide _ n a (i.data_type ∷ []) i.is w.1)
           ∙ ap element_count (same_Some _ _ i.gives)) i.all
       wide k n (Replicate a m) ts e w =
           let c = bound (static_count P here m) _ ts e in
@@ -457,12 +421,10 @@ module _ (P : Program) (H : History) (here : Instance) where
       wide k n (Join a b) ts e w =
           let m = n + call_count a in
           let i = two (data_types P here a) (data_types P here b) join_type ts e in
-          let oa = occurrences P here.node k n a in let ob = occurrences P here.node k m b in
           just_one _ i.result ts
           (length-append (streams P H here k n a) (streams P H here k m b)
-          ∙ ap₂ (λ p q. p + q)
-          (only_one _ i.first (wide k n a _ i.is_first (fore oa ob w.1)))
-          (only_one _ i.second (wide k m b _ i.is_second (aft oa ob w.1)))
+          ∙ ap₂ (λ p q. p + q) (only_one _ i.first (wide k n a _ i.is_first (fore _ _ w.1)))
+          (only_one _ i.second (wide k m b _ i.is_second (aft _ _ w.1)))
           ∙ joined_count i.first i.second i.result i.gives) i.all
       wide k n (Array es) ts e w =
           let b = bound (all_types P here es) _ ts e in
@@ -473,8 +435,7 @@ module _ (P : Program) (H : History) (here : Instance) where
           ∙ list_count b.value a.data_type a.is) a.all
       wide k n (AtMostOne es) ts e w =
           let t = from_true (all_types P here es) ts e in sym (ap elements_in t.all)
-      wide k n (Nor es) ts e w =
-          let t = from_true (all_types P here es) ts e in sym (ap elements_in t.all)
+      wide k n (Nor es) ts e w = sym (ap elements_in (from_true (all_types P here es) ts e).all)
       wide k n (Call f statics es) ts e w =
           let o = bound (operator_types P here (Node_named f statics)) _ ts e in
           let a = bound (all_types P here es) _ ts o.gives in
@@ -503,157 +464,87 @@ module _ (P : Program) (H : History) (here : Instance) where
           map length (all_streams P H here k n es) ≡ map element_count ts
       all_wide k n Nil ts e w = ap (map element_count) (same_Some _ _ e)
       all_wide k n (Cons e es) ts h w =
-          let m = n + call_count e in
-          let oa = occurrences P here.node k n e in
-          let ob = occurrences_in P here.node k m es in
           let i = first_of_all P here e es ts h in
-          ap₂ (λ x xs. x ∷ xs)
-          (only_one _ i.first (wide k n e (i.first ∷ []) i.is (fore oa ob w)))
-          (all_wide k m es i.rest i.others (aft oa ob w))
+          ap₂ (λ x xs. x ∷ xs) (only_one _ i.first (wide k n e (i.first ∷ []) i.is (fore _ _ w)))
+          (all_wide k (n + call_count e) es i.rest i.others (aft _ _ w))
           ∙ sym (ap (map element_count) i.all)
 
--- Where an expression is typed, so is every part of it.
+-- What holds of all occurrences of an expression holds of all parts of each of them.
 
-module _ (P : Program) (H : History) (here : Instance) where
-  -- an occurrence has types, and what is called in it is as wide as its types
-  pub record IsTypedAt (o : Occurrence) : Type 0 where
-    pub types : List DataType
-    pub are : data_types P here o.expr ≡ Some types
-    pub parts :
-        Every (IsOccurrenceWide P H here)
-        (occurrences P here.node o.clock o.calls_before o.expr)
+module _ (P : Program) (here : Node) (Q : Occurrence → Type 0) where
+  abbrev AllHave : List Occurrence → Type 0
+  AllHave os = Every Q os
 
-  abbrev AllTyped : List Occurrence → Type 0
-  AllTyped os = Every IsTypedAt os
+  -- the property holds of all parts of an occurrence
+  abbrev pub PartsHave : Occurrence → Type 0
+  PartsHave o = AllHave (occurrences P here o.clock o.calls_before o.expr)
 
-  abbrev AllPartsWide : List Occurrence → Type 0
-  AllPartsWide os = Every (IsOccurrenceWide P H here) os
+  -- and so it does for all of these occurrences
+  abbrev AllPartsHave : List Occurrence → Type 0
+  AllPartsHave os = Every PartsHave os
 
-  fore_parts : (os os' : List Occurrence) → AllPartsWide (os ++ os') → AllPartsWide os
-  fore_parts os os' w = Every-first (IsOccurrenceWide P H here) os os' w
-
-  aft_parts : (os os' : List Occurrence) → AllPartsWide (os ++ os') → AllPartsWide os'
-  aft_parts os os' w = Every-second (IsOccurrenceWide P H here) os os' w
-
-  join : (os os' : List Occurrence) → AllTyped os → AllTyped os' → AllTyped (os ++ os')
-  join os os' a b = Every-append IsTypedAt os os' a b
+  -- what holds of the parts of each occurrence of two lists holds of those of both together
+  two_nested :
+      (os os' : List Occurrence) → (AllHave os → AllPartsHave os) →
+      (AllHave os' → AllPartsHave os') → AllHave (os ++ os') → AllPartsHave (os ++ os')
+  two_nested os os' f g h =
+      Every-append PartsHave os os' (f (Every-first Q os os' h)) (g (Every-second Q os os' h))
 
   mutual
-    pub typed :
-        (k : Clock) (n : ℕ) (e : Expr) (ts : List DataType) → data_types P here e ≡ Some ts →
-        AllPartsWide (occurrences P here.node k n e) → AllTyped (occurrences P here.node k n e)
-    typed k n (Literal m) ts e w = (record { types = ts; are = e; parts = w }, tt)
-    typed k n (Truth b) ts e w = (record { types = ts; are = e; parts = w }, tt)
-    typed k n (Variable x) ts e w = (record { types = ts; are = e; parts = w }, tt)
-    typed k n (Group a) ts e w = typed k n a ts e w
-    typed k n (Unary op a) ts e w =
-        let i = one (data_types P here a) (unary_type op) ts e in
-        (record { types = ts; are = e; parts = w }, typed k n a (i.data_type ∷ []) i.is w.1)
-    typed k n (Binary op a b) ts e w =
-        let i = two (data_types P here a) (data_types P here b) (binary_type op) ts e in (
-          record { types = ts; are = e; parts = w },
-          join _ _ (typed k n a (i.first ∷ []) i.is_first (fore_parts _ _ w.1)) (typed k
-              (n + call_count a) b (i.second ∷ []) i.is_second (aft_parts _ _ w.1)),
-        )
-    typed k n (If c a b) ts e w =
-        let na = n + call_count c in let nb = na + call_count a in
-        let t = bound (from_truths (from_one (data_types P here c) Some)) _ ts e in
-        let truths = from_true (from_one (data_types P here c) Some) t.value t.is in
-        let z = one (data_types P here c) Some truths.data_types truths.is in
-        let i = two (data_types P here a) (data_types P here b) common_type ts t.gives in
-        let branches = aft_parts _ _ w.1 in (
-          record { types = ts; are = e; parts = w },
-          join _ _ (typed k n c (z.data_type ∷ []) z.is (fore_parts _ _ w.1)) (join _ _
-              (typed k na a (i.first ∷ []) i.is_first (fore_parts _ _ branches)) (typed k nb b
-              (i.second ∷ []) i.is_second (aft_parts _ _ branches))),
-        )
-    typed k n (Arrow a b) ts e w =
-        let i = two (data_types P here a) (data_types P here b) common_type ts e in (
-          record { types = ts; are = e; parts = w },
-          join _ _ (typed k n a (i.first ∷ []) i.is_first (fore_parts _ _ w.1)) (typed k
-              (n + call_count a) b (i.second ∷ []) i.is_second (aft_parts _ _ w.1)),
-        )
-    typed k n (Fby a b) ts e w =
-        let i = two (data_types P here a) (data_types P here b) common_type ts e in (
-          record { types = ts; are = e; parts = w },
-          join _ _ (typed k n a (i.first ∷ []) i.is_first (fore_parts _ _ w.1)) (typed k
-              (n + call_count a) b (i.second ∷ []) i.is_second (aft_parts _ _ w.1)),
-        )
-    typed k n (Pre a) ts e w =
-        let i = one (data_types P here a) Some ts e in
-        (record { types = ts; are = e; parts = w }, typed k n a (i.data_type ∷ []) i.is w.1)
-    typed k n (When a x sign) ts e w =
-        let t = bound (from_truths (singly (name_data_type P here x))) _ ts e in
-        let i = one (data_types P here a) Some ts t.gives in (
-          record { types = ts; are = e; parts = w },
-          typed (declared_clock here.node x) n a (i.data_type ∷ []) i.is w.1,
-        )
-    typed k n (Current a) ts e w =
-        let i = one (data_types P here a) Some ts e in (
-          record { types = ts; are = e; parts = w },
-          typed (clock_or (clock_of P here.node a)) n a (i.data_type ∷ []) i.is w.1,
-        )
-    typed k n (Replicate a m) ts e w =
-        let c = bound (static_count P here m) _ ts e in
-        let i = one (data_types P here a) (array_of c.value) ts c.gives in
-        (record { types = ts; are = e; parts = w }, typed k n a (i.data_type ∷ []) i.is w.1)
-    typed k n (Index a s) ts e w =
-        let c = bound (static_count P here s) _ ts e in
-        let i = one (data_types P here a) (index_type c.value) ts c.gives in
-        (record { types = ts; are = e; parts = w }, typed k n a (i.data_type ∷ []) i.is w.1)
-    typed k n (Slice a s t) ts e w =
-        let c = bound (static_count P here s) _ ts e in
-        let d = bound (static_count P here t) _ ts c.gives in
-        let i = one (data_types P here a) (slice_type c.value d.value) ts d.gives in
-        (record { types = ts; are = e; parts = w }, typed k n a (i.data_type ∷ []) i.is w.1)
-    typed k n (Join a b) ts e w =
-        let i = two (data_types P here a) (data_types P here b) join_type ts e in (
-          record { types = ts; are = e; parts = w },
-          join _ _ (typed k n a (i.first ∷ []) i.is_first (fore_parts _ _ w.1)) (typed k
-              (n + call_count a) b (i.second ∷ []) i.is_second (aft_parts _ _ w.1)),
-        )
-    typed k n (Array es) ts e w =
-        let b = bound (all_types P here es) _ ts e in
-        (record { types = ts; are = e; parts = w }, typed_all k n es b.value b.is w.1)
-    typed k n (AtMostOne es) ts e w =
-        let t = from_true (all_types P here es) ts e in
-        (record { types = ts; are = e; parts = w }, typed_all k n es t.data_types t.is w.1)
-    typed k n (Nor es) ts e w =
-        let t = from_true (all_types P here es) ts e in
-        (record { types = ts; are = e; parts = w }, typed_all k n es t.data_types t.is w.1)
-    typed k n (Call f statics es) ts e w =
-        let o = bound (operator_types P here (Node_named f statics)) _ ts e in
-        let a = bound (all_types P here es) _ ts o.gives in (
-          record { types = ts; are = e; parts = w },
-          typed_each (call_clocks k (node_named P f) es) (n + 1) es a.value a.is w.1,
-        )
-    typed k n (Iterate it (Node_named f statics) m es) ts e w =
-        let c = bound (static_count P here m) _ ts e in
-        let o = bound (operator_types P here (Node_named f statics)) _ ts c.gives in
-        let a = bound (all_types P here es) _ ts o.gives in
-        (record { types = ts; are = e; parts = w }, typed_all k (n + 1) es a.value a.is w.1)
-    typed k n (Iterate it (Symbol op) m es) ts e w =
-        let c = bound (static_count P here m) _ ts e in
-        let o = bound (operator_types P here (Symbol op)) _ ts c.gives in
-        let a = bound (all_types P here es) _ ts o.gives in
-        (record { types = ts; are = e; parts = w }, typed_all k n es a.value a.is w.1)
+    -- what holds of all occurrences of an expression holds of all parts of each of them
+    nested : (k : Clock) (n : ℕ) (e : Expr) → AllHave (occurrences P here k n e) →
+        AllPartsHave (occurrences P here k n e)
+    nested k n (Literal m) h = (h, tt)
+    nested k n (Truth b) h = (h, tt)
+    nested k n (Variable x) h = (h, tt)
+    nested k n (Group a) h = nested k n a h
+    nested k n (Unary op a) h = (h, nested k n a h.1)
+    nested k n (Binary op a b) h = (h, two_nested _ _ (nested k n a) (nested k _ b) h.1)
+    nested k n (If c a b) h =
+        (h, two_nested _ _ (nested k n c) (two_nested _ _ (nested k _ a) (nested k _ b)) h.1)
+    nested k n (Arrow a b) h = (h, two_nested _ _ (nested k n a) (nested k _ b) h.1)
+    nested k n (Fby a b) h = (h, two_nested _ _ (nested k n a) (nested k _ b) h.1)
+    nested k n (Pre a) h = (h, nested k n a h.1)
+    nested k n (Current a) h = (h, nested _ n a h.1)
+    nested k n (When a x sign) h = (h, nested _ n a h.1)
+    nested k n (Replicate a m) h = (h, nested k n a h.1)
+    nested k n (Index a i) h = (h, nested k n a h.1)
+    nested k n (Slice a i j) h = (h, nested k n a h.1)
+    nested k n (Join a b) h = (h, two_nested _ _ (nested k n a) (nested k _ b) h.1)
+    nested k n (Array es) h = (h, nested_in k n es h.1)
+    nested k n (AtMostOne es) h = (h, nested_in k n es h.1)
+    nested k n (Nor es) h = (h, nested_in k n es h.1)
+    nested k n (Call f statics es) h =
+        (h, nested_each (call_clocks k (node_named P f) es) (n + 1) es h.1)
+    nested k n (Iterate it (Node_named f statics) m es) h = (h, nested_in k (n + 1) es h.1)
+    nested k n (Iterate it (Symbol op) m es) h = (h, nested_in k n es h.1)
 
-    typed_all :
-        (k : Clock) (n : ℕ) (es : Exprs) (ts : List DataType) → all_types P here es ≡ Some ts →
-        AllPartsWide (occurrences_in P here.node k n es) → AllTyped (occurrences_in P here.node k n es)
-    typed_all k n Nil ts h w = tt
-    typed_all k n (Cons e es) ts h w =
-        let i = first_of_all P here e es ts h in
-        join _ _ (typed k n e (i.first ∷ []) i.is (fore_parts _ _ w)) (typed_all k (n + call_count e) es
-        i.rest i.others (aft_parts _ _ w))
+    nested_in : (k : Clock) (n : ℕ) (es : Exprs) → AllHave (occurrences_in P here k n es) →
+        AllPartsHave (occurrences_in P here k n es)
+    nested_in k n Nil h = tt
+    nested_in k n (Cons e es) h = two_nested _ _ (nested k n e) (nested_in k _ es) h
 
-    typed_each :
-        (ks : List Clock) (n : ℕ) (es : Exprs) (ts : List DataType) →
-        all_types P here es ≡ Some ts → AllPartsWide (occurrences_each P here.node ks n es) →
-        AllTyped (occurrences_each P here.node ks n es)
-    typed_each ks n Nil ts h w = tt
-    typed_each [] n (Cons e es) ts h w = tt
-    typed_each (k ∷ ks) n (Cons e es) ts h w =
-        let i = first_of_all P here e es ts h in
-        join _ _ (typed k n e (i.first ∷ []) i.is (fore_parts _ _ w)) (typed_each ks (n + call_count e)
-        es i.rest i.others (aft_parts _ _ w))
+    nested_each :
+        (ks : List Clock) (n : ℕ) (es : Exprs) → AllHave (occurrences_each P here ks n es) →
+        AllPartsHave (occurrences_each P here ks n es)
+    nested_each ks n Nil h = tt
+    nested_each [] n (Cons e es) h = tt
+    nested_each (k ∷ ks) n (Cons e es) h = two_nested _ _ (nested k n e) (nested_each ks _ es) h
+
+  -- and so it is for the occurrences of several expressions
+  nested_all :
+      (rs : List Occurrence) →
+      AllHave (flat_map (λ r. occurrences P here r.clock r.calls_before r.expr) rs) →
+      AllPartsHave (flat_map (λ r. occurrences P here r.clock r.calls_before r.expr) rs)
+  nested_all [] h = tt
+  nested_all (r ∷ rs) h = two_nested _ _ (nested r.clock r.calls_before r.expr) (nested_all rs) h
+
+  -- what holds of all occurrences of a node holds of all parts of each of them
+  pub nested_node : AllHave (node_occurrences P here) → AllPartsHave (node_occurrences P here)
+  nested_node h = nested_all (right_sides P here 0 here.body) h
+
+-- an occurrence has types, and what is called in it is as wide as its types
+pub record IsTypedAt (P : Program) (H : History) (here : Instance) (o : Occurrence) : Type 0 where
+  pub types : List DataType
+  pub are : data_types P here o.expr ≡ Some types
+  pub parts : PartsHave P here.node (IsOccurrenceWide P H here) o

@@ -1,7 +1,5 @@
 -- A program that the layout finds too large is not small; a small one has its expansion.
-use Rattle.lb_expand.proofs.Words.{◌<◌, ◌∙◌, Err, ap, ap₂, subst, elaborated_program, program_of}
-use Rattle.lb_expand.proofs.Words.{element_total}
-use Rattle.lb_flat.proofs.solutions.StandingRuns.{stands_for}
+use Rattle.lb_expand.proofs.Words.{◌<◌, ◌∙◌, Err, ap, ap₂, subst, elaborated_program, element_total}
 use Rattle.lb_expand.proofs.widths.TableSizes.{too_many}
 use Rattle.lb_expand.proofs.expansion.expand.Goals as goal
 
@@ -14,8 +12,3 @@ size_fault-requires c =
     let over = c.in-Err-Large.ensures.large (ap (λ e. Err e) c.in-Err-Large.field-0-is) in
     too_many (elaborated_program x) x.reached x.table elab.lawful.elaborated.reached
     elab.lawful.elaborated.table (subst (λ n. 65536 < n) same over)
-
-pub invariant_of-result-clause-stands : goal.invariant_of-result-clause-stands
-invariant_of-result-clause-stands c =
-    stands_for (elaborated_program c.args.checked.now.elab) (program_of c.in_ok-program.program)
-    c.in_ok-program.ensures.expansion.flat

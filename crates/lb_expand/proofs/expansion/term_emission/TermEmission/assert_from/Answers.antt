@@ -1,7 +1,8 @@
 use Rattle.lb_expand.proofs.Words.{◌<◌, ◌≤◌, ℕ, List, length, drop, get_or, arith, Vec, Global, ap}
-use Rattle.lb_expand.proofs.Words.{◌∙◌, length-map, ElementId, numbers_of, state_of, with_asserted}
+use Rattle.lb_expand.proofs.Words.{◌∙◌, ElementId, numbers_of, state_of, with_asserted}
 use Rattle.lb_expand.proofs.emission.EmittedChains.{assert_more, assert_ends}
 use Rattle.lb_expand.proofs.emission.EmittedStacks.{number_at}
+use Rattle.lb_expand.proofs.emission.EmittedStacks.{numbers_many}
 use Rattle.lb_expand.proofs.expansion.term_emission.TermEmission.assert_from.Goals as goal
 
 pub loop-i-preserved : goal.loop-i-preserved
@@ -10,31 +11,24 @@ loop-i-preserved c =
     let old = c.args.self.now in
     let numbers : Vec ElementId Global → List ℕ = λ xs. numbers_of xs.items in
     let all = numbers old.found in
-    let size = length-map old.found.items (λ (a : ElementId). a.0) in
-    let again = length-map l.self.found.items (λ (a : ElementId). a.0) in
     let same = ap (λ (xs : Vec ElementId Global). length xs.items) l.invariant.found in
     let lt : l.i < length all =
-    omega (arith, size, c.loop-i-test.true, l.auto.i-end, c.len-i-end.ensures) in
+    omega (arith, numbers_many, c.loop-i-test.true, l.auto.i-end, c.len-i-end.ensures) in
     let at = ap (λ (a : ElementId). a.0) c.index-a.ensures
     ∙ number_at l.self.found.items l.i c.index-a.result.now
-    (omega (arith, lt, size, again, same))
+    (omega (arith, lt, numbers_many, same))
     ∙ ap (λ xs. get_or (numbers xs) l.i 0) l.invariant.found in
-    record {
-      rest = assert_more (state_of l.self) (state_of c.assert_one.new.self)
-          (with_asserted (state_of old) (drop c.args.from all)) all l.i _ lt
-          c.in_ok-assert_one.ensures.state at l.invariant.rest;
-      found = c.in_ok-assert_one.ensures.found ∙ l.invariant.found;
-      next = c.in_ok-assert_one.ensures.next ∙ l.invariant.next;
-      clocks = c.in_ok-assert_one.ensures.clocks ∙ l.invariant.clocks;
-    }
+    grind (
+      arith,
+      assert_more (state_of l.self) (state_of c.assert_one.new.self) (with_asserted
+          (state_of old) (drop c.args.from all)) all l.i _ lt c.in_ok-assert_one.ensures.state at
+          l.invariant.rest,
+    )
 
 pub returns-clause-state : goal.returns-clause-state
 returns-clause-state c =
     let l = c.loop-i in
-    let old = c.args.self.now in
-    let all = numbers_of old.found.items in
-    let size = length-map old.found.items (λ (a : ElementId). a.0) in
+    let all = numbers_of c.args.self.now.found.items in
     let le : length all ≤ l.i =
-    omega (arith, size, c.loop-i-test.false, l.auto.i-end, c.len-i-end.ensures) in
-    assert_ends (state_of l.self) (with_asserted (state_of old) (drop c.args.from all)) all l.i le
-    l.invariant.rest
+    omega (arith, numbers_many, c.loop-i-test.false, l.auto.i-end, c.len-i-end.ensures) in
+    assert_ends _ _ _ _ le l.invariant.rest

@@ -9,24 +9,20 @@ returns-clause-emitted c =
     let from = c.args.from in
     let old = c.args.self.now in
     let first = c.push.new.self in
-    let mid = c.two_true.new.self in
     let end = c.push-2.new.self in
     let one = c.in_ok-no.no.0 in
-    let at = c.in_ok-two.two.0 in
     let key : Vec Clock Global → FlatClock = λ cs. clock_of cs.items c.args.clock in
     let k = key old.clocks in
     let all : Vec ElementId Global → List ℕ = λ xs. drop from (numbers_of xs.items) in
-    let is = all old.found in
     let clocks = ap key c.in_ok-no.ensures.clocks in
     let run = c.in_ok-two.ensures.twice
     ∙ ap (λ (k : FlatClock). twice k (state_of first) one one (all first.found)) clocks
     ∙ ap (λ xs. twice k (state_of first) one one (all xs)) c.in_ok-no.ensures.found in
-    let pushed = c.in_ok-one.ensures.state
-    ∙ ap (λ (k : FlatClock). push k (state_of mid) (ApplyUnary Not at))
-    (ap key c.in_ok-two.ensures.clocks ∙ clocks) in
-    let word = at_most_one_is k (state_of old) (state_of first) (state_of mid) (state_of end) one at
-    is
-    c.in_ok-no.ensures.state c.in_ok-no.ensures.element run pushed in
+    let pushed = c.in_ok-one.ensures.state ∙ ap (λ (k : FlatClock). push k (state_of
+    c.two_true.new.self) (ApplyUnary Not c.in_ok-two.two.0)) (ap key c.in_ok-two.ensures.clocks ∙
+    clocks) in
+    let word = at_most_one_is _ _ _ _ _ _ _ _ c.in_ok-no.ensures.state c.in_ok-no.ensures.element
+    run pushed in
     let found = c.in_ok-one.ensures.found ∙ c.in_ok-two.ensures.found
     ∙ c.in_ok-no.ensures.found in
     let below = take from (numbers_of old.found.items) in

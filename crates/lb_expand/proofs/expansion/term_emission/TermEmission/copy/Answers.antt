@@ -1,71 +1,64 @@
 use Rattle.lb_expand.proofs.Words.{◌<◌, ◌≤◌, ◌+◌, ◌-◌, ℕ, List, length, drop, get_or, min, arith}
 use Rattle.lb_expand.proofs.Words.{Vec, Global, refl, sym, ap, ◌∙◌, min-le_left, min-le_right}
-use Rattle.lb_expand.proofs.Words.{length-map, length-drop, get_or-drop, ElementId, copied}
-use Rattle.lb_expand.proofs.Words.{FlatClock, elements_of, targets_of, with_copies, numbers_of}
-use Rattle.lb_expand.proofs.Words.{state_of, clock_of, Clock}
+use Rattle.lb_expand.proofs.Words.{length-drop, get_or-drop, ElementId, FlatClock, numbers_of}
+use Rattle.lb_expand.proofs.Words.{clock_of, Clock}
 use Rattle.lb_expand.proofs.emission.EmittedCalls.{copy_step, copy_ends}
 use Rattle.lb_expand.proofs.emission.EmittedStacks.{number_at}
+use Rattle.lb_expand.proofs.emission.EmittedStacks.{numbers_many}
 use Rattle.lb_expand.proofs.expansion.term_emission.TermEmission.copy.Goals as goal
 
 pub loop-i-preserved : goal.loop-i-preserved
 loop-i-preserved c =
     let l = c.loop-i in
-    let old = c.args.self.now in
     let from = c.args.from in
     let n = c.args.targets.count in
     let key : Vec Clock Global → FlatClock = λ cs. clock_of cs.items c.args.clock in
-    let k = key old.clocks in
     let numbers : Vec ElementId Global → List ℕ = λ xs. numbers_of xs.items in
-    let all = numbers old.found in
+    let all = numbers c.args.self.now.found in
     let js = drop from all in
-    let size = length-map old.found.items (λ (a : ElementId). a.0) in
-    let again = length-map l.self.found.items (λ (a : ElementId). a.0) in
     let same = ap (λ (xs : Vec ElementId Global). length xs.items) l.invariant.found in
     let above = length-drop from all in
     let left = min-le_left n (c.len.result - from) in
     let right = min-le_right n (c.len.result - from) in
     let test = c.loop-i-test.true in
     let lt : l.i < n = omega (arith, test, l.auto.i-end, c.min-count.ensures, left) in
-    let more : l.i < length js =
-    omega (arith, test, l.auto.i-end, c.min-count.ensures, right, size, above, c.len.ensures) in
+    let more : l.i < length js = omega (
+      arith,
+      test,
+      l.auto.i-end,
+      c.min-count.ensures,
+      right,
+      numbers_many,
+      above,
+      c.len.ensures,
+    ) in
     let within : from + l.i < length (numbers l.self.found) =
-    omega (arith, more, above, again, same, size) in
-    let at = ap (λ (a : ElementId). a.0) c.index-operand.ensures
-    ∙ number_at l.self.found.items (from + l.i) c.index-operand.result.now within
-    ∙ ap (λ xs. get_or (numbers xs) (from + l.i) 0) l.invariant.found
-    ∙ sym (get_or-drop from all l.i 0) in
-    let step = c.in_ok-copy_one.ensures in
-    record {
-      rest = copy_step k (key l.self.clocks) (state_of l.self) (state_of c.copy_one.new.self)
-          (with_copies (state_of old) (copied (targets_of k (elements_of c.args.targets)) js))
-          c.args.targets.first n l.i _ _ js lt more l.invariant.rest step.state
-          (ap key l.invariant.clocks) refl at;
-      found = c.copy_one.ensures.found ∙ l.invariant.found;
-      next = c.copy_one.ensures.next ∙ l.invariant.next;
-      clocks = c.copy_one.ensures.clocks ∙ l.invariant.clocks;
-    }
+    omega (arith, more, above, numbers_many, same) in
+    let at = ap (λ (a : ElementId). a.0) c.index-operand.ensures ∙ number_at _ _
+    c.index-operand.result.now within ∙ ap (λ xs. get_or (numbers xs) (from + l.i) 0)
+    l.invariant.found ∙ sym (get_or-drop from all l.i 0) in
+    grind (
+      arith,
+      copy_step _ _ _ _ _ _ _ _ _ _ _ lt more l.invariant.rest
+          c.in_ok-copy_one.ensures.state (ap key l.invariant.clocks) refl at,
+    )
 
 pub returns-clause-state : goal.returns-clause-state
 returns-clause-state c =
     let l = c.loop-i in
     let old = c.args.self.now in
     let from = c.args.from in
-    let n = c.args.targets.count in
     let k = clock_of old.clocks.items c.args.clock in
     let all = numbers_of old.found.items in
     let js = drop from all in
-    let size = length-map old.found.items (λ (a : ElementId). a.0) in
     let above = length-drop from all in
-    let done : min n (length js) ≤ l.i =
-    grind (
+    let done : min c.args.targets.count (length js) ≤ l.i = grind (
       arith,
-      size,
+      numbers_many,
       above,
       c.len.ensures,
       c.loop-i-test.false,
       l.auto.i-end,
       c.min-count.ensures,
     ) in
-    copy_ends k (state_of l.self)
-    (with_copies (state_of old) (copied (targets_of k (elements_of c.args.targets)) js))
-    c.args.targets.first n l.i js done l.invariant.rest
+    copy_ends _ _ _ _ _ _ _ done l.invariant.rest

@@ -1,13 +1,9 @@
-use Rattle.lb_expand.proofs.Words.{ℕ, List, drop, arith, sym, ap, subst, ◌∙◌, copied, input_targets}
+use Rattle.lb_expand.proofs.Words.{ℕ, List, drop, arith, sym, ap, ◌∙◌, copied, input_targets}
 use Rattle.lb_expand.proofs.Words.{FlatClock, elements_of, with_copies, numbers_of, state_of}
-use Rattle.lb_expand.proofs.Words.{clock_of, IsClock, Clock}
+use Rattle.lb_expand.proofs.Words.{clock_of, Clock}
 use Rattle.lb_expand.proofs.emission.EmittedCalls.{child_copied, first_accumulator}
 use Rattle.lb_expand.proofs.emission.EmittedCalls.{next_accumulator}
 use Rattle.lb_expand.proofs.expansion.term_emission.TermEmission.copy_accumulator.Goals as goal
-
-pub copy_elements-requires-clause-clock : goal.copy_elements-requires-clause-clock
-copy_elements-requires-clause-clock g c =
-    subst (λ (cs : List Clock). IsClock cs c.input.result) c.requires.clocks c.input.ensures.within
 
 pub returns-in_ok-copy_child-clause-state : goal.returns-in_ok-copy_child-clause-state
 returns-in_ok-copy_child-clause-state g c =
@@ -15,9 +11,8 @@ returns-in_ok-copy_child-clause-state g c =
     let old = c.args.self.now in
     let ts = input_targets ctx c.args.call c.args.index 0 in
     let is = drop c.args.from (numbers_of old.found.items) in
-    c.in_ok-copy_child.ensures.state
-    ∙ ap (λ (is : List ℕ). with_copies (state_of old) (copied ts is))
-    (sym (first_accumulator ctx c.args.call c.args.callee c.args.index is c.if-index-eq0.true))
+    c.in_ok-copy_child.ensures.state ∙ ap (λ (is : List ℕ). with_copies (state_of old) (copied ts
+    is)) (sym (first_accumulator ctx c.args.call c.args.callee _ is c.if-index-eq0.true))
 
 pub returns-in_ok-copy_elements-clause-state : goal.returns-in_ok-copy_elements-clause-state
 returns-in_ok-copy_elements-clause-state g c =

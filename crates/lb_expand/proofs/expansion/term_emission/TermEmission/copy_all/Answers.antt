@@ -8,24 +8,14 @@ pub loop-index-preserved : goal.loop-index-preserved
 loop-index-preserved g c =
     let ctx = g.F.Frame.context c.args.frame.now in
     let l = c.loop-index in
-    let old = c.args.self.now in
     let m = ctx.repeats c.args.call in
     let numbers : Vec ElementId Global → List ℕ = λ xs. drop c.args.from (numbers_of xs.items) in
-    let f = index_copies ctx c.args.call m c.args.iterator c.args.callee (numbers old.found) in
-    let whole = with_copies (state_of old) (flat_map f (range_with_len 0 m)) in
     let lt : l.index < m =
     omega (arith, c.loop-index-test.true, l.auto.index-end, c.repeats-index-end.ensures) in
-    let step = c.in_ok-copy_index.ensures in
-    let et = step.state ∙ ap (λ xs. with_copies (state_of l.self)
+    let et = c.in_ok-copy_index.ensures.state ∙ ap (λ xs. with_copies (state_of l.self)
     (index_copies ctx c.args.call m c.args.iterator c.args.callee (numbers xs) l.index))
     l.invariant.found in
-    record {
-      rest = index_step (state_of l.self) (state_of c.copy_index.new.self) whole f l.index m lt
-          l.invariant.rest et;
-      found = step.found ∙ l.invariant.found;
-      next = step.next ∙ l.invariant.next;
-      clocks = step.clocks ∙ l.invariant.clocks;
-    }
+    grind (arith, index_step _ _ _ _ _ _ lt l.invariant.rest et)
 
 pub returns-clause-state : goal.returns-clause-state
 returns-clause-state g c =

@@ -1,44 +1,10 @@
 use Rattle.lb_expand.proofs.Words.{◌≡◌, ◌≤◌, ◌+◌, ◌-◌, ℕ, List, length, drop, min, arith, Vec}
 use Rattle.lb_expand.proofs.Words.{Global, OnOk, refl, sym, ap, ap₂, subst, ◌∙◌, range_with_len}
-use Rattle.lb_expand.proofs.Words.{length-map, length-range_with_len, ArrayIterator, ElementId}
-use Rattle.lb_expand.proofs.Words.{index_copies, part_copies, with_copies, numbers_of, state_of}
-use Rattle.lb_expand.proofs.Words.{Clock}
+use Rattle.lb_expand.proofs.Words.{length-range_with_len, ArrayIterator, ElementId, index_copies}
+use Rattle.lb_expand.proofs.Words.{part_copies, with_copies, numbers_of, state_of}
 use Rattle.lb_expand.proofs.emission.EmittedCalls.{red_copied}
+use Rattle.lb_expand.proofs.emission.EmittedStacks.{numbers_many}
 use Rattle.lb_expand.proofs.expansion.term_emission.TermEmission.copy_index.Goals as goal
-
-pub returns-in-Map-clause-state : goal.returns-in-Map-clause-state
-returns-in-Map-clause-state g c =
-    let ctx = g.F.Frame.context c.args.frame.now in
-    let old = c.args.self.now in
-    let is = drop c.args.from (numbers_of old.found.items) in
-    let m = ctx.repeats c.args.call in
-    subst (λ r. OnOk c.copy_parts.result (state_of c.copy_parts.new.self ≡ r))
-    (ap (λ n. with_copies (state_of old)
-    (part_copies ctx c.args.call m c.args.index (range_with_len 0 n) is))
-    (all_inputs c.args.callee.inputs)
-    ∙ ap (λ (it : ArrayIterator). with_copies (state_of old)
-    (index_copies ctx c.args.call m it c.args.callee is c.args.index)) (sym c.in-Map.is))
-    c.copy_parts.ensures.state
-  where
-    all_inputs : (n : ℕ) → n - 0 ≡ n
-    all_inputs n = omega arith
-
-pub returns-in-Fill-clause-state : goal.returns-in-Fill-clause-state
-returns-in-Fill-clause-state g c =
-    let ctx = g.F.Frame.context c.args.frame.now in
-    let old = c.args.self.now in
-    let is = drop c.args.from (numbers_of old.found.items) in
-    let m = ctx.repeats c.args.call in
-    let r = c.copy_accumulator-in-Fill in
-    subst (λ s. OnOk r.result (state_of r.new.self ≡ s))
-    (ap (λ (it : ArrayIterator). with_copies (state_of old)
-    (index_copies ctx c.args.call m it c.args.callee is c.args.index)) (sym c.in-Fill.is))
-    r.ensures.state
-
-pub copy_parts-requires-in-Red-clause-clocks : goal.copy_parts-requires-in-Red-clause-clocks
-copy_parts-requires-in-Red-clause-clocks g c =
-    c.requires.clocks
-    ∙ sym (ap (λ (cs : Vec Clock Global). cs.items) c.in_ok-copy_accumulator-in-Red.ensures.clocks)
 
 pub returns-in_ok-copy_accumulator-in-Red-clause-state :
     goal.returns-in_ok-copy_accumulator-in-Red-clause-state
@@ -53,14 +19,13 @@ returns-in_ok-copy_accumulator-in-Red-clause-state g c =
     let m = ctx.repeats call in
     let numbers : Vec ElementId Global → List ℕ = λ xs. numbers_of xs.items in
     let all = numbers old.found in
-    let size = length-map old.found.items (λ (a : ElementId). a.0) in
     let same = ap (λ (xs : Vec ElementId Global). length xs.items) first.found in
-    let within : c.args.from ≤ length all = omega (arith, size, c.requires.from) in
+    let within : c.args.from ≤ length all = omega (arith, numbers_many, c.requires.from) in
     let count : c.child-count.result.count ≡ length (ctx.child call i 0) =
     sym (length-range_with_len c.child-count.result.first c.child-count.result.count)
     ∙ ap (λ (is : List ℕ). length is) c.child-count.ensures.places in
     let left : c.len.result - c.args.from ≡ length all - c.args.from =
-    omega (arith, size, same, c.len.ensures) in
+    omega (arith, numbers_many, same, c.len.ensures) in
     let to = c.args.from + c.min-taken.result in
     let place : to ≡ c.args.from + min (length (ctx.child call i 0)) (length all - c.args.from) =
     ap (λ n. c.args.from + n) (c.min-taken.ensures ∙ ap₂ min count left) in

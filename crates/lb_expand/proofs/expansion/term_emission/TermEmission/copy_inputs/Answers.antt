@@ -1,18 +1,9 @@
 use Rattle.lb_expand.proofs.Words.{◌≡◌, ◌<◌, ◌≤◌, ◌+◌, ◌-◌, ℕ, List, length, drop, min, arith, Vec}
-use Rattle.lb_expand.proofs.Words.{Global, sym, ap, ◌∙◌, range_with_len, min-le_right, length-map}
+use Rattle.lb_expand.proofs.Words.{Global, ap, ◌∙◌, range_with_len, min-le_right, length-map}
 use Rattle.lb_expand.proofs.Words.{ElementId, copied, input_targets, with_copies, numbers_of}
-use Rattle.lb_expand.proofs.Words.{state_of, flat_map, Clock}
+use Rattle.lb_expand.proofs.Words.{state_of, flat_map}
 use Rattle.lb_expand.proofs.emission.EmittedCalls.{input_step, input_ends}
 use Rattle.lb_expand.proofs.expansion.term_emission.TermEmission.copy_inputs.Goals as goal
-
-pub copy_child-requires-clause-clocks : goal.copy_child-requires-clause-clocks
-copy_child-requires-clause-clocks g c =
-    c.requires.clocks ∙ sym (ap (λ (cs : Vec Clock Global). cs.items) c.loop-x.invariant.clocks)
-
-pub copy_child-requires-clause-from : goal.copy_child-requires-clause-from
-copy_child-requires-clause-from g c =
-    let same = ap (λ (xs : Vec ElementId Global). length xs.items) c.loop-x.invariant.found in
-    omega (arith, same, c.loop-x.invariant.at)
 
 pub loop-x-preserved : goal.loop-x-preserved
 loop-x-preserved g c =

@@ -1,26 +1,10 @@
 use Rattle.lb_expand.proofs.Words.{◌≡◌, ◌<◌, ◌≤◌, ◌+◌, ◌-◌, ℕ, List, length, drop, min, arith, Vec}
-use Rattle.lb_expand.proofs.Words.{Global, sym, ap, ap₂, subst, ◌∙◌, min-le_right, length-map}
+use Rattle.lb_expand.proofs.Words.{Global, sym, ap, ap₂, ◌∙◌, min-le_right, length-map}
 use Rattle.lb_expand.proofs.Words.{length-range_with_len, ElementId, copied, parameter_targets}
 use Rattle.lb_expand.proofs.Words.{FlatClock, elements_of, targets_of, with_copies, numbers_of}
-use Rattle.lb_expand.proofs.Words.{state_of, clock_of, IsClock, Clock}
+use Rattle.lb_expand.proofs.Words.{state_of, clock_of, Clock}
 use Rattle.lb_expand.proofs.emission.EmittedCalls.{parameter_step, parameter_ends}
 use Rattle.lb_expand.proofs.expansion.term_emission.TermEmission.copy_parameters.Goals as goal
-
-pub copy-requires-clause-targets : goal.copy-requires-clause-targets
-copy-requires-clause-targets g c =
-    omega (arith, c.places.ensures.within, c.requires.variables, c.loop-x.invariant.next)
-
-pub copy-requires-clause-clock : goal.copy-requires-clause-clock
-copy-requires-clause-clock g c =
-    subst (λ (cs : List Clock). IsClock cs c.declared.result)
-    (c.requires.clocks
-    ∙ sym (ap (λ (cs : Vec Clock Global). cs.items) c.loop-x.invariant.clocks))
-    c.declared.ensures.within
-
-pub copy-requires-clause-from : goal.copy-requires-clause-from
-copy-requires-clause-from g c =
-    let same = ap (λ (xs : Vec ElementId Global). length xs.items) c.loop-x.invariant.found in
-    omega (arith, same, c.loop-x.invariant.at)
 
 pub loop-x-preserved : goal.loop-x-preserved
 loop-x-preserved g c =

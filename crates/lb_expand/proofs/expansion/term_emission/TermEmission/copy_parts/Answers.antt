@@ -1,9 +1,9 @@
 use Rattle.lb_expand.proofs.Words.{◌≡◌, ◌<◌, ◌≤◌, ◌+◌, ◌-◌, ◌*◌, ℕ, List, length, drop, min, arith}
 use Rattle.lb_expand.proofs.Words.{Vec, Global, refl, sym, ap, ap₂, ◌∙◌, range_with_len}
-use Rattle.lb_expand.proofs.Words.{min-le_right, length-map, length-range_with_len, ElementId}
-use Rattle.lb_expand.proofs.Words.{copied, input_targets, part_copies, with_copies, numbers_of}
-use Rattle.lb_expand.proofs.Words.{state_of, Clock}
+use Rattle.lb_expand.proofs.Words.{length-range_with_len, ElementId, copied, input_targets}
+use Rattle.lb_expand.proofs.Words.{part_copies, with_copies, numbers_of, state_of}
 use Rattle.lb_expand.proofs.emission.EmittedCalls.{part_step, part_ends}
+use Rattle.lb_expand.proofs.emission.EmittedStacks.{numbers_many}
 use Rattle.lb_expand.proofs.expansion.term_emission.TermEmission.copy_parts.Goals as goal
 
 pub loop-x-init : goal.loop-x-init
@@ -25,18 +25,6 @@ loop-x-init g c =
       clocks = refl;
     }
 
-pub copy_child-requires-clause-clocks : goal.copy_child-requires-clause-clocks
-copy_child-requires-clause-clocks g c =
-    c.requires.clocks ∙ sym (ap (λ (cs : Vec Clock Global). cs.items) c.loop-x.invariant.clocks)
-
-pub copy_child-requires-clause-from : goal.copy_child-requires-clause-from
-copy_child-requires-clause-from g c =
-    let l = c.loop-x in
-    let same = ap (λ (xs : Vec ElementId Global). length xs.items) l.invariant.found in
-    let right = min-le_right (c.child-count.result.count * c.args.index)
-    (c.len-top.result - l.at) in
-    omega (arith, same, l.invariant.at, right, c.len-top.ensures, c.min-skipped.ensures)
-
 pub loop-x-preserved : goal.loop-x-preserved
 loop-x-preserved g c =
     let ctx = g.F.Frame.context c.args.frame.now in
@@ -48,8 +36,6 @@ loop-x-preserved g c =
     let i = c.args.index in
     let numbers : Vec ElementId Global → List ℕ = λ xs. numbers_of xs.items in
     let all = numbers old.found in
-    let size = length-map old.found.items (λ (a : ElementId). a.0) in
-    let step = c.in_ok-copy_child.ensures in
     let n = length (ctx.child call i l.x) in
     let count : c.child-count.result.count ≡ n =
     sym (length-range_with_len c.child-count.result.first c.child-count.result.count)
@@ -58,34 +44,28 @@ loop-x-preserved g c =
     let len = c.args.inputs - first in
     let lt : y < len = omega (arith, c.loop-x-test.true, l.auto.x) in
     let place : first + y ≡ l.x = omega (arith, l.auto.x) in
-    let within : l.at ≤ length all = omega (arith, size, l.invariant.at) in
+    let within : l.at ≤ length all = omega (arith, numbers_many, l.invariant.at) in
     let left : c.len-top.result - l.at ≡ length all - l.at =
-    omega (arith, size, c.len-top.ensures) in
+    omega (arith, numbers_many, c.len-top.ensures) in
     let start : l.at + c.min-skipped.result ≡ l.at + min (n * i) (length all - l.at) =
     ap (λ k. l.at + k)
     (c.min-skipped.ensures ∙ ap₂ min (ap (λ n. n * i) count) left) in
     let to : l.at + c.min-taken.result ≡ l.at + min (n * m) (length all - l.at) =
     ap (λ k. l.at + k)
     (c.min-taken.ensures ∙ ap₂ min (ap₂ (λ n m. n * m) count c.repeats-repeats.ensures) left) in
-    let right = min-le_right (n * m) (length all - l.at) in
     let xs = range_with_len first len in
     let whole = with_copies (state_of old) (part_copies ctx call m i xs (drop c.args.from all)) in
-    let et = step.state ∙ ap (λ xs. with_copies (state_of l.self)
-    (copied (input_targets ctx call i l.x) (drop (l.at + c.min-skipped.result) (numbers xs))))
+    let et = c.in_ok-copy_child.ensures.state ∙ ap (λ xs. with_copies (state_of l.self) (copied
+    (input_targets ctx call i l.x) (drop (l.at + c.min-skipped.result) (numbers xs))))
     l.invariant.found in
     let more : l.x + 1 - first ≡ y + 1 = omega (arith, l.auto.x) in
-    record {
-      rest =
-          ap (λ k. with_copies (state_of c.copy_child.new.self)
-          (part_copies ctx call m i (drop k xs) (drop (l.at + c.min-taken.result) all))) more
-          ∙ part_step ctx call (state_of l.self) (state_of c.copy_child.new.self) whole m i first
-          len y l.x l.at (l.at + c.min-skipped.result) (l.at + c.min-taken.result) all lt place
-          within l.invariant.rest et start to;
-      at = omega (arith, to, right, size, l.invariant.at);
-      found = step.found ∙ l.invariant.found;
-      next = step.next ∙ l.invariant.next;
-      clocks = step.clocks ∙ l.invariant.clocks;
-    }
+    grind (
+      arith,
+      part_step ctx call (state_of l.self) (state_of c.copy_child.new.self) whole m i
+          first len y l.x l.at (l.at + c.min-skipped.result) (l.at + c.min-taken.result) all lt
+          place
+          within l.invariant.rest et start to,
+    )
 
 pub returns-clause-state : goal.returns-clause-state
 returns-clause-state g c =

@@ -1,7 +1,8 @@
 use Rattle.lb_expand.proofs.Words.{◌≡◌, ◌<◌, ◌≤◌, length, map, drop, arith, Vec, Global, ap, ◌∙◌}
-use Rattle.lb_expand.proofs.Words.{length-map, ElementId, FlatClock, unary_of, numbers_of}
-use Rattle.lb_expand.proofs.Words.{emitted_of, without, clock_of, operation_of, Clock}
+use Rattle.lb_expand.proofs.Words.{ElementId, FlatClock, unary_of, numbers_of, emitted_of, without}
+use Rattle.lb_expand.proofs.Words.{clock_of, operation_of, Clock}
 use Rattle.lb_expand.proofs.emission.EmittedStacks.{each_step, below_at, adding_ends, map_all}
+use Rattle.lb_expand.proofs.emission.EmittedStacks.{numbers_many}
 use Rattle.lb_expand.proofs.expansion.term_emission.TermEmission.each.Goals as goal
 
 pub loop-i-preserved : goal.loop-i-preserved
@@ -11,32 +12,26 @@ loop-i-preserved c =
     let key : Vec Clock Global → FlatClock = λ cs. clock_of cs.items c.args.clock in
     let f = unary_of c.args.operator in
     let all = numbers_of old.found.items in
-    let size = length-map old.found.items (λ (a : ElementId). a.0) in
     let lt : l.i < length all =
-    omega (arith, size, c.loop-i-test.true, l.auto.i-end, c.len-top.ensures) in
-    let at = ap (λ (a : ElementId). a.0) c.index-a.ensures
-    ∙ below_at l.self.found.items all l.i c.index-a.result.now lt l.invariant.adding.below in
-    record {
-      adding = each_step (key old.clocks) (key l.self.clocks) f (emitted_of old) (emitted_of l.self)
-          (emitted_of c.push_found.new.self) l.i _ (operation_of c.on-operation.result)
-          (map f (drop c.args.from all)) lt l.invariant.adding c.in_ok-push_found.ensures.emitted
-          (ap key l.invariant.clocks) c.on-operation.ensures.operation at;
-      next = omega (arith, c.in_ok-push_found.ensures.next, l.invariant.next);
-      clocks = c.in_ok-push_found.ensures.clocks ∙ l.invariant.clocks;
-    }
+    omega (arith, numbers_many, c.loop-i-test.true, l.auto.i-end, c.len-top.ensures) in
+    let at = ap (λ (a : ElementId). a.0) c.index-a.ensures ∙ below_at _ _ _ c.index-a.result.now lt
+    l.invariant.adding.below in
+    grind (
+      arith,
+      each_step (key old.clocks) (key l.self.clocks) f (emitted_of old) (emitted_of
+          l.self) (emitted_of c.push_found.new.self) l.i _ (operation_of c.on-operation.result)
+          (map f
+          (drop c.args.from all)) lt l.invariant.adding c.in_ok-push_found.ensures.emitted (ap key
+          l.invariant.clocks) c.on-operation.ensures.operation at,
+    )
 
 pub returns-clause-emitted : goal.returns-clause-emitted
 returns-clause-emitted c =
     let l = c.loop-i in
-    let old = c.args.self.now in
-    let f = unary_of c.args.operator in
-    let all = numbers_of old.found.items in
-    let size = length-map old.found.items (λ (a : ElementId). a.0) in
-    let top : c.len-top.result ≡ length all = omega (arith, size, c.len-top.ensures) in
+    let all = numbers_of c.args.self.now.found.items in
+    let top : c.len-top.result ≡ length all = omega (arith, numbers_many, c.len-top.ensures) in
     let le : length all ≤ l.i =
-    omega (arith, size, c.loop-i-test.false, l.auto.i-end, c.len-top.ensures) in
-    let within : c.args.from ≤ length all = omega (arith, size, c.requires.from) in
-    adding_ends (clock_of old.clocks.items c.args.clock) (emitted_of old) (emitted_of l.self)
-    (emitted_of c.remove.new.self) c.args.from (map f (drop l.i all))
-    (map f (drop c.args.from all)) l.invariant.adding (map_all f all l.i le) within
-    (c.remove.ensures.emitted ∙ ap (λ n. without c.args.from n (emitted_of l.self)) top)
+    omega (arith, numbers_many, c.loop-i-test.false, l.auto.i-end, c.len-top.ensures) in
+    let within : c.args.from ≤ length all = omega (arith, numbers_many, c.requires.from) in
+    adding_ends _ _ _ _ _ _ _ l.invariant.adding (map_all _ _ _ le) within (c.remove.ensures.emitted
+    ∙ ap (λ n. without c.args.from n (emitted_of l.self)) top)

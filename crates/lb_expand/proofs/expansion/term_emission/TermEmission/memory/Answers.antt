@@ -5,13 +5,8 @@ use Rattle.lb_expand.proofs.expansion.term_emission.TermEmission.memory.Goals as
 
 pub returns-clause-emitted : goal.returns-clause-emitted
 returns-clause-emitted c =
-    let from = c.args.from in
-    let old = c.args.self.now in
-    let kept = c.keep.new.self in
     let f = unary_of c.args.operator in
     let key : Vec Clock Global → FlatClock = λ cs. clock_of cs.items c.args.clock in
-    subst (λ r. OnOk c.each.result (emitted_of c.each.new.self ≡ r))
-    (ap (λ (k : FlatClock). on_top from (each k f) (emitted_of kept)) (ap key c.keep.ensures.clocks)
-    ∙ kept_each (key old.clocks) f from (emitted_of old) (emitted_of kept)
-    c.in_ok-keep.ensures.emitted)
-    c.each.ensures.emitted
+    subst (λ r. OnOk c.each.result (emitted_of c.each.new.self ≡ r)) (ap (λ (k : FlatClock). on_top
+    c.args.from (each k f) (emitted_of c.keep.new.self)) (ap key c.keep.ensures.clocks) ∙ kept_each
+    _ _ _ _ _ c.in_ok-keep.ensures.emitted) c.each.ensures.emitted

@@ -10,23 +10,20 @@ returns-clause-emitted c =
     let from = c.args.from in
     let old = c.args.self.now in
     let first = c.push.new.self in
-    let mid = c.chain.new.self in
     let end = c.push-2.new.self in
     let one = c.in_ok-no.no.0 in
-    let at = c.in_ok-any.any.0 in
     let key : Vec Clock Global → FlatClock = λ cs. clock_of cs.items c.args.clock in
     let k = key old.clocks in
     let all : Vec ElementId Global → List ℕ = λ xs. drop from (numbers_of xs.items) in
-    let is = all old.found in
     let clocks = ap key c.in_ok-no.ensures.clocks in
     let run = c.in_ok-any.ensures.chained
     ∙ ap (λ (k : FlatClock). chained k Or (state_of first) one (all first.found)) clocks
     ∙ ap (λ xs. chained k Or (state_of first) one (all xs)) c.in_ok-no.ensures.found in
-    let pushed = c.in_ok-none.ensures.state
-    ∙ ap (λ (k : FlatClock). push k (state_of mid) (ApplyUnary Not at))
-    (ap key c.in_ok-any.ensures.clocks ∙ clocks) in
-    let word = nor_is k (state_of old) (state_of first) (state_of mid) (state_of end) one at is
-    c.in_ok-no.ensures.state c.in_ok-no.ensures.element run pushed in
+    let pushed = c.in_ok-none.ensures.state ∙ ap (λ (k : FlatClock). push k (state_of
+    c.chain.new.self) (ApplyUnary Not c.in_ok-any.any.0)) (ap key c.in_ok-any.ensures.clocks ∙
+    clocks) in
+    let word = nor_is _ _ _ _ _ _ _ _ c.in_ok-no.ensures.state c.in_ok-no.ensures.element run pushed
+    in
     let found = c.in_ok-none.ensures.found ∙ c.in_ok-any.ensures.found ∙ c.in_ok-no.ensures.found in
     let below = take from (numbers_of old.found.items) in
     subst (λ r. OnOk c.replace.result (emitted_of c.replace.new.self ≡ r))

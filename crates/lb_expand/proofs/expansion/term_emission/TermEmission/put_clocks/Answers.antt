@@ -4,23 +4,17 @@ use Rattle.lb_expand.proofs.Words.{state_of, emitted_of, onto, Bool}
 use Rattle.lb_expand.proofs.clock_tables.ServingClocks.{clocks_step, clocks_end}
 use Rattle.lb_expand.proofs.expansion.term_emission.TermEmission.put_clocks.Goals as goal
 
-pub put_row_clocks-requires-clause-variables : goal.put_row_clocks-requires-clause-variables
-put_row_clocks-requires-clause-variables g c =
-    let l = c.loop-number in
-    omega (arith, l.invariant.variables, l.invariant.next, c.requires.variables)
-
 pub put_row_clocks-requires-clause-there : goal.put_row_clocks-requires-clause-there
 put_row_clocks-requires-clause-there g c =
     let l = c.loop-number in
-    let r = c.args.reached.now in
     let t = c.args.table.now in
     let is = t.instances.items in
     let i = c.index.result.now in
     let lt : l.number < length is =
     omega (arith, c.loop-number-test.true, l.auto.number-end, c.len-number-end.ensures) in
-    subst (λ (is_row : ℕ → Bool). HasRow r t is_row l.number i) (sym l.invariant.rows)
-    (c.requires.there l.number i
-    (slice_get_read is (length is) l.number i refl lt c.index.ensures))
+    subst (λ (is_row : ℕ → Bool). HasRow c.args.reached.now t is_row l.number i) (sym
+    l.invariant.rows) (c.requires.there l.number i (slice_get_read is (length is) l.number i refl lt
+    c.index.ensures))
 
 pub loop-number-preserved : goal.loop-number-preserved
 loop-number-preserved g c =
@@ -36,30 +30,20 @@ loop-number-preserved g c =
     (gives (state_of old) (row_clocks r t cs 0 is)) in
     let lt : l.number < length is =
     omega (arith, c.loop-number-test.true, l.auto.number-end, c.len-number-end.ensures) in
-    let step = c.in_ok-put_row_clocks.ensures in
-    let put = step.emitted
-    ∙ ap (λ (cs : ℕ → Context).
-    onto below (gives (state_of l.self) (clocks_in cs r t l.number i))) l.invariant.contexts in
-    record {
-      rest = clocks_step r t cs (emitted_of l.self) (emitted_of c.put_row_clocks.new.self) whole is
-          l.number i i lt c.index.ensures put l.invariant.rest;
-      next = step.next ∙ l.invariant.next;
-      clocks = step.clocks ∙ l.invariant.clocks;
-      rows = c.put_row_clocks.ensures.rows ∙ l.invariant.rows;
-      contexts = c.put_row_clocks.ensures.contexts ∙ l.invariant.contexts;
-      table = c.put_row_clocks.ensures.table ∙ l.invariant.table;
-      variables = c.put_row_clocks.ensures.variables ∙ l.invariant.variables;
-    }
+    let put = c.in_ok-put_row_clocks.ensures.emitted ∙ ap (λ (cs : ℕ → Context). onto below (gives
+    (state_of l.self) (clocks_in cs r t l.number i))) l.invariant.contexts in
+    grind (
+      arith,
+      clocks_step r t cs (emitted_of l.self) (emitted_of c.put_row_clocks.new.self)
+          whole is l.number i i lt c.index.ensures put l.invariant.rest,
+    )
 
 pub returns-clause-emitted : goal.returns-clause-emitted
 returns-clause-emitted g c =
     let l = c.loop-number in
-    let r = c.args.reached.now in
-    let t = c.args.table.now in
-    let is = t.instances.items in
-    let cs = g.F.TableFrame.contexts c.args.frame.now in
-    let old = c.args.self.now in
-    clocks_end r t cs (state_of l.self) (numbers_of l.self.found.items)
-    (onto (numbers_of old.found.items) (gives (state_of old) (row_clocks r t cs 0 is))) is l.number
-    (omega (arith, c.loop-number-test.false, l.auto.number-end, c.len-number-end.ensures))
-    l.invariant.rest
+    clocks_end _ _ _ _ _ _ _ _ (omega (
+      arith,
+      c.loop-number-test.false,
+      l.auto.number-end,
+      c.len-number-end.ensures,
+    )) l.invariant.rest

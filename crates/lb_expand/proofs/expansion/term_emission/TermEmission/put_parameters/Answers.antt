@@ -1,25 +1,13 @@
-use Rattle.lb_expand.proofs.Words.{◌≡◌, ◌+◌, ◌-◌, ℕ, List, arith, refl, sym, ap, ◌∙◌, append-nil}
-use Rattle.lb_expand.proofs.Words.{gives, places_from, elements_of, numbers_of, state_of}
-use Rattle.lb_expand.proofs.Words.{emitted_of, onto}
+use Rattle.lb_expand.proofs.Words.{◌≡◌, ◌+◌, ◌-◌, arith, ◌∙◌, append-nil, elements_of, numbers_of}
+use Rattle.lb_expand.proofs.Words.{state_of, emitted_of}
 use Rattle.lb_expand.proofs.emission.EmittedCalls.{put_flat}
 use Rattle.lb_expand.proofs.expansion.term_emission.TermEmission.put_parameters.Goals as goal
 
 pub loop-x-init : goal.loop-x-init
 loop-x-init g c =
-    let ctx = g.F.Frame.context c.args.frame.now in
-    let old = c.args.self.now in
     let first = c.args.first in
     let none : 0 ≡ first - first = omega arith in
-    record {
-      emitted =
-          ap (λ (is : List ℕ). gives (state_of old) is)
-          (sym (append-nil (numbers_of old.found.items)))
-          ∙ ap (λ n. onto (numbers_of old.found.items)
-          (gives (state_of old) (places_from ctx first n))) none;
-      within = omega arith;
-      next = refl;
-      clocks = refl;
-    }
+    grind (arith, append-nil (numbers_of c.args.self.now.found.items))
 
 pub loop-x-preserved : goal.loop-x-preserved
 loop-x-preserved g c =
@@ -36,14 +24,3 @@ loop-x-preserved g c =
       next = c.in_ok-put.ensures.next ∙ l.invariant.next;
       clocks = c.in_ok-put.ensures.clocks ∙ l.invariant.clocks;
     }
-
-pub returns-clause-emitted : goal.returns-clause-emitted
-returns-clause-emitted g c =
-    let ctx = g.F.Frame.context c.args.frame.now in
-    let l = c.loop-x in
-    let old = c.args.self.now in
-    let first = c.args.first in
-    let all : l.x - first ≡ c.args.end - first =
-    omega (arith, c.loop-x-test.false, l.invariant.within) in
-    l.invariant.emitted ∙ ap (λ n. onto (numbers_of old.found.items)
-    (gives (state_of old) (places_from ctx first n))) all

@@ -1,17 +1,9 @@
 -- The node of the row is found, so its clocks can be put.
-use Rattle.lb_expand.proofs.Words.{◌≡◌, ℕ, Bool, List, length, OnOk, arith, sym, ap, subst, ◌∙◌}
+use Rattle.lb_expand.proofs.Words.{◌≡◌, ℕ, Bool, List, length, OnOk, sym, ap, subst, ◌∙◌}
 use Rattle.lb_expand.proofs.Words.{clocks_named, HasFlags, gives, numbers_of, state_of, emitted_of}
 use Rattle.lb_expand.proofs.Words.{onto, option_map}
 use Rattle.lb_expand.proofs.clock_tables.ServingClocks.{clocks_found}
 use Rattle.lb_expand.proofs.expansion.term_emission.TermEmission.put_row_clocks.Goals as goal
-
-pub enter-requires : goal.enter-requires
-enter-requires g c =
-    c.requires.there c.in-Some.node.now
-    (sym c.node_at.ensures ∙ ap (option_map (λ n. n.now)) c.in-Some.is)
-
-pub put_flagged-requires : goal.put_flagged-requires
-put_flagged-requires g c = omega (arith, c.enter.ensures.variables, c.requires.variables)
 
 pub returns-in_ok-flags-in-Some-clause-emitted : goal.returns-in_ok-flags-in-Some-clause-emitted
 returns-in_ok-flags-in-Some-clause-emitted g c =

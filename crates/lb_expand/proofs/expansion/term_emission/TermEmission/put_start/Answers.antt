@@ -3,12 +3,6 @@ use Rattle.lb_expand.proofs.Words.{state_of, emitted_of}
 use Rattle.lb_expand.proofs.emission.EmittedProgram.{outputs_none, outputs_found}
 use Rattle.lb_expand.proofs.expansion.term_emission.TermEmission.put_start.Goals as goal
 
-pub enter-requires : goal.enter-requires
-enter-requires g c = (c.requires.ready c.in-Some.start c.in-Some.is).there
-
-pub put_parameters-requires : goal.put_parameters-requires
-put_parameters-requires g c = omega (arith, c.enter.ensures.variables, c.requires.variables)
-
 pub returns-in-Some-clause-emitted : goal.returns-in-Some-clause-emitted
 returns-in-Some-clause-emitted g c =
     let old = c.args.self.now in

@@ -1,20 +1,8 @@
 -- A row has the statements of its node; a row without a node has none.
-use Rattle.lb_expand.proofs.Words.{◌≡◌, ◌<◌, ◌^◌, arith, OnOk, sym, ap, subst, ◌∙◌, State, state_of}
+use Rattle.lb_expand.proofs.Words.{◌≡◌, ◌<◌, ◌^◌, OnOk, sym, ap, subst, ◌∙◌, State, state_of}
 use Rattle.lb_expand.proofs.Words.{option_map}
 use Rattle.lb_expand.proofs.emission.EmittedStatements.{row_is, row_none, row_places}
 use Rattle.lb_expand.proofs.expansion.term_emission.TermEmission.row.Goals as goal
-
-pub enter-requires : goal.enter-requires
-enter-requires g c =
-    c.requires.there c.in-Some.node.now
-    (sym c.node_at.ensures ∙ ap (option_map (λ n. n.now)) c.in-Some.is)
-
-pub statements-requires-clause-clocks : goal.statements-requires-clause-clocks
-statements-requires-clause-clocks g c = c.enter.ensures.clocks ∙ c.requires.clocks
-
-pub statements-requires-clause-variables : goal.statements-requires-clause-variables
-statements-requires-clause-variables g c =
-    omega (arith, c.enter.ensures.variables, c.requires.variables)
 
 pub statements-requires-clause-elements : goal.statements-requires-clause-elements
 statements-requires-clause-elements g c =

@@ -1,21 +1,10 @@
-use Rattle.lb_expand.proofs.Words.{◌<◌, ◌^◌, ℕ, length, arith, Vec, Global, refl, sym, ap, subst}
-use Rattle.lb_expand.proofs.Words.{◌∙◌, slice_get_read, Every, State, body_in, bodies, IsCounted}
-use Rattle.lb_expand.proofs.Words.{HasRow, Context, emit_rows, state_of, Bool, Clock}
+use Rattle.lb_expand.proofs.Words.{◌<◌, ◌^◌, ℕ, length, arith, refl, sym, ap, subst, ◌∙◌}
+use Rattle.lb_expand.proofs.Words.{slice_get_read, Every, State, body_in, bodies, IsCounted, HasRow}
+use Rattle.lb_expand.proofs.Words.{Context, emit_rows, state_of, Bool}
 use Rattle.lb_expand.proofs.emission.EmittedStatements.{row_step, rows_end, row_room, row_counted}
 use Rattle.lb_expand.proofs.emission.EmittedStatements.{rest_counted}
 use Rattle.lb_expand.proofs.emission.TermSteps.{rows_grow}
 use Rattle.lb_expand.proofs.expansion.term_emission.TermEmission.rows.Goals as goal
-
-pub row-requires-clause-clocks : goal.row-requires-clause-clocks
-row-requires-clause-clocks g c =
-    let l = c.loop-number in
-    l.invariant.table ∙ c.requires.clocks
-    ∙ sym (ap (λ (cs : Vec Clock Global). cs.items) l.invariant.clocks)
-
-pub row-requires-clause-variables : goal.row-requires-clause-variables
-row-requires-clause-variables g c =
-    let l = c.loop-number in
-    omega (arith, l.invariant.variables, l.invariant.next, c.requires.variables)
 
 pub row-requires-clause-elements : goal.row-requires-clause-elements
 row-requires-clause-elements g c =
@@ -51,15 +40,14 @@ row-requires-clause-places g c =
 pub row-requires-clause-there : goal.row-requires-clause-there
 row-requires-clause-there g c =
     let l = c.loop-number in
-    let r = c.args.reached.now in
     let t = c.args.table.now in
     let is = t.instances.items in
     let i = c.index.result.now in
     let lt : l.number < length is =
     omega (arith, c.loop-number-test.true, l.auto.number-end, c.len-number-end.ensures) in
-    subst (λ (is_row : ℕ → Bool). HasRow r t is_row l.number i) (sym l.invariant.rows)
-    (c.requires.there l.number i
-    (slice_get_read is (length is) l.number i refl lt c.index.ensures))
+    subst (λ (is_row : ℕ → Bool). HasRow c.args.reached.now t is_row l.number i) (sym
+    l.invariant.rows) (c.requires.there l.number i (slice_get_read is (length is) l.number i refl lt
+    c.index.ensures))
 
 pub loop-number-preserved : goal.loop-number-preserved
 loop-number-preserved g c =
@@ -95,11 +83,9 @@ loop-number-preserved g c =
 pub returns-clause-state : goal.returns-clause-state
 returns-clause-state g c =
     let l = c.loop-number in
-    let r = c.args.reached.now in
-    let t = c.args.table.now in
-    let is = t.instances.items in
-    let cs = g.F.TableFrame.contexts c.args.frame.now in
-    rows_end r t cs (state_of l.self) (emit_rows (state_of c.args.self.now) (bodies r t cs 0 is))
-    is l.number
-    (omega (arith, c.loop-number-test.false, l.auto.number-end, c.len-number-end.ensures))
-    l.invariant.rest
+    rows_end _ _ _ _ _ _ _ (omega (
+      arith,
+      c.loop-number-test.false,
+      l.auto.number-end,
+      c.len-number-end.ensures,
+    )) l.invariant.rest

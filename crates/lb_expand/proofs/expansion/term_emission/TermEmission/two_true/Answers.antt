@@ -1,8 +1,9 @@
 use Rattle.lb_expand.proofs.Words.{◌<◌, ◌≤◌, ℕ, length, get_or, arith, Vec, Global, ap, ap₂, ◌∙◌}
-use Rattle.lb_expand.proofs.Words.{List, length-map, Or, And, ElementId, push, FlatClock}
-use Rattle.lb_expand.proofs.Words.{ApplyBinary, numbers_of, state_of, clock_of, Clock}
+use Rattle.lb_expand.proofs.Words.{List, Or, And, ElementId, push, FlatClock, ApplyBinary}
+use Rattle.lb_expand.proofs.Words.{numbers_of, state_of, clock_of, Clock}
 use Rattle.lb_expand.proofs.emission.EmittedChains.{twice_step, twice_end}
 use Rattle.lb_expand.proofs.emission.EmittedStacks.{number_at}
+use Rattle.lb_expand.proofs.emission.EmittedStacks.{numbers_many}
 use Rattle.lb_expand.proofs.expansion.term_emission.TermEmission.two_true.Goals as goal
 
 pub loop-i-preserved : goal.loop-i-preserved
@@ -13,18 +14,16 @@ loop-i-preserved c =
     let k = key old.clocks in
     let numbers : Vec ElementId Global → List ℕ = λ xs. numbers_of xs.items in
     let all = numbers old.found in
-    let size = length-map old.found.items (λ (a : ElementId). a.0) in
     let one = c.in_ok-both.ensures in
     let two = c.in_ok-two.ensures in
     let three = c.in_ok-any.ensures in
     let lt : l.i < length all =
-    omega (arith, size, c.loop-i-test.true, l.auto.i-end, c.len-i-end.ensures) in
+    omega (arith, numbers_many, c.loop-i-test.true, l.auto.i-end, c.len-i-end.ensures) in
     let later = two.found ∙ one.found ∙ l.invariant.found in
-    let first_size = length-map l.self.found.items (λ (a : ElementId). a.0) in
     let first_same = ap (λ (xs : Vec ElementId Global). length xs.items) l.invariant.found in
     let at = ap (λ (a : ElementId). a.0) c.index-a.ensures
     ∙ number_at l.self.found.items l.i c.index-a.result.now
-    (omega (arith, lt, size, first_size, first_same))
+    (omega (arith, lt, numbers_many, first_same))
     ∙ ap (λ xs. get_or (numbers xs) l.i 0) l.invariant.found in
     let et = one.state ∙ ap₂ (λ (k : FlatClock) (a : ℕ).
     push k (state_of l.self) (ApplyBinary And l.any.0 a)) (ap key l.invariant.clocks) at in
@@ -34,26 +33,18 @@ loop-i-preserved c =
     let ev = three.state ∙ ap₂ (λ (k : FlatClock) (a : ℕ).
     push k (state_of c.push-in-loop-i.new.self) (ApplyBinary Or l.any.0 a))
     (ap key (two.clocks ∙ one.clocks ∙ l.invariant.clocks)) at in
-    record {
-      rest = twice_step k (state_of l.self) (state_of c.push.new.self)
-          (state_of c.push-in-loop-i.new.self) (state_of c.push-in-loop-i-2.new.self) l.any.0
-          l.two.0
-          c.in_ok-both.both.0 c.in_ok-two.two.0 c.in_ok-any.any.0 all l.i _ lt l.invariant.rest
-          et one.element eu two.element ev three.element;
-      next = omega (arith, one.next, two.next, three.next, l.invariant.next);
-      any = omega (arith, three.element, three.next);
-      two = omega (arith, two.element, two.next, three.next);
-      found = three.found ∙ later;
-      clocks = three.clocks ∙ two.clocks ∙ one.clocks ∙ l.invariant.clocks;
-    }
+    grind (
+      arith,
+      twice_step k (state_of l.self) (state_of c.push.new.self) (state_of
+          c.push-in-loop-i.new.self) (state_of c.push-in-loop-i-2.new.self) l.any.0 l.two.0
+          c.in_ok-both.both.0 c.in_ok-two.two.0 c.in_ok-any.any.0 all l.i _ lt l.invariant.rest et
+          one.element eu two.element ev three.element,
+    )
 
 pub returns-clause-twice : goal.returns-clause-twice
 returns-clause-twice c =
     let l = c.loop-i in
-    let old = c.args.self.now in
-    let all = numbers_of old.found.items in
-    let size = length-map old.found.items (λ (a : ElementId). a.0) in
+    let all = numbers_of c.args.self.now.found.items in
     let le : length all ≤ l.i =
-    omega (arith, size, c.loop-i-test.false, l.auto.i-end, c.len-i-end.ensures) in
-    twice_end (clock_of old.clocks.items c.args.clock) (state_of l.self) l.any.0 l.two.0
-    all l.i _ le l.invariant.rest
+    omega (arith, numbers_many, c.loop-i-test.false, l.auto.i-end, c.len-i-end.ensures) in
+    twice_end _ _ _ _ _ _ _ le l.invariant.rest

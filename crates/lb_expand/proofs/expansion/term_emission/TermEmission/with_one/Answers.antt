@@ -1,60 +1,26 @@
-use Rattle.lb_expand.proofs.Words.{inl, inr, first_value, with_one, ApplyUnary, Previous, Latest}
-use Rattle.lb_expand.proofs.Words.{Sample, place_of, emitted_of, above}
-use Rattle.lb_expand.proofs.emission.EmittedRooms.{unary_form, pre_form, current_form, when_form}
-use Rattle.lb_expand.proofs.emission.EmittedRooms.{each_room, memory_room, same_clock}
+use Rattle.lb_expand.proofs.Words.{inl, inr, place_of}
+use Rattle.lb_expand.proofs.emission.EmittedRooms.{unary_room, pre_room, current_room, when_room}
 use Rattle.lb_expand.proofs.expansion.term_emission.TermEmission.with_one.Goals as goal
 
 pub each-requires-clause-room : goal.each-requires-clause-room
 each-requires-clause-room g c =
-    let ctx = g.F.Frame.context c.args.frame.now in
-    let old = c.args.self.now in
-    let from = c.args.from in
-    let at = place_of c.args.at in
-    let t = c.args.term.now in
-    let clock = same_clock old.clocks.items _ c.clock-clock.result _ c.requires.clocks
-    c.clock-clock.ensures.clock in
-    let x = above from (emitted_of old) in
-    each_room old from _ (ApplyUnary c.in-Unary.op) (with_one ctx at t x)
-    (unary_form ctx at t _ _ c.in-Unary.op c.in-Unary.is clock x) c.requires.room
+    unary_room c.args.self.now c.args.from (g.F.Frame.context c.args.frame.now) (place_of c.args.at)
+    c.in-Unary.is c.requires.room
 
 pub memory-requires-clause-room : goal.memory-requires-clause-room
 memory-requires-clause-room g c =
-    let ctx = g.F.Frame.context c.args.frame.now in
-    let old = c.args.self.now in
-    let from = c.args.from in
-    let at = place_of c.args.at in
-    let t = c.args.term.now in
-    let clock = same_clock old.clocks.items _ c.clock-clock.result _ c.requires.clocks
-    c.clock-clock.ensures.clock in
-    let x = above from (emitted_of old) in
-    memory_room old from _ (Previous first_value) (with_one ctx at t x)
-    (pre_form ctx at t _ _ c.in-Pre.is clock x) c.requires.room
+    pre_room c.args.self.now c.args.from (g.F.Frame.context c.args.frame.now) (place_of c.args.at)
+    c.in-Pre.is c.requires.room
 
 pub memory-requires-in-Current-clause-room : goal.memory-requires-in-Current-clause-room
 memory-requires-in-Current-clause-room g c =
-    let ctx = g.F.Frame.context c.args.frame.now in
-    let old = c.args.self.now in
-    let from = c.args.from in
-    let at = place_of c.args.at in
-    let t = c.args.term.now in
-    let clock = same_clock old.clocks.items _ c.clock-clock.result _ c.requires.clocks
-    c.clock-clock.ensures.clock in
-    let x = above from (emitted_of old) in
-    memory_room old from _ (Latest first_value) (with_one ctx at t x)
-    (current_form ctx at t _ _ c.in-Current.is clock x) c.requires.room
+    current_room c.args.self.now c.args.from (g.F.Frame.context c.args.frame.now)
+    (place_of c.args.at) c.in-Current.is c.requires.room
 
 pub each-requires-in-When-clause-room : goal.each-requires-in-When-clause-room
 each-requires-in-When-clause-room g c =
-    let ctx = g.F.Frame.context c.args.frame.now in
-    let old = c.args.self.now in
-    let from = c.args.from in
-    let at = place_of c.args.at in
-    let t = c.args.term.now in
-    let clock = same_clock old.clocks.items _ c.sampled.result _ c.requires.clocks
-    c.sampled.ensures.clock in
-    let x = above from (emitted_of old) in
-    each_room old from _ Sample (with_one ctx at t x)
-    (when_form ctx at t _ _ c.in-When.x c.in-When.sign c.in-When.is clock x) c.requires.room
+    when_room c.args.self.now c.args.from (g.F.Frame.context c.args.frame.now) (place_of c.args.at)
+    c.in-When.is c.requires.room
 
 pub returns-in_default : goal.returns-in_default
 returns-in_default g c =

@@ -1,79 +1,42 @@
 use Rattle.lb_expand.proofs.Words.{◌≡◌, ◌<◌, ◌+◌, ◌-◌, ◌^◌, length, min, arith, inl, inr, ◌++◌, Vec}
-use Rattle.lb_expand.proofs.Words.{Global, OnOk, false, refl, sym, ap, subst, ◌∙◌, slice_range}
-use Rattle.lb_expand.proofs.Words.{length-map, first_value, ElementId, Emitted, gives, memory}
-use Rattle.lb_expand.proofs.Words.{pairs, with_two, FlatClock, ApplyBinary, FirstThen, Previous}
-use Rattle.lb_expand.proofs.Words.{place_of, emitted_of, above, on_two, clock_of, Clock}
-use Rattle.lb_expand.proofs.emission.EmittedRooms.{binary_form, arrow_form, fby_form, join_form}
-use Rattle.lb_expand.proofs.emission.EmittedRooms.{two_form, joined_stays, pairs_after, two_room}
-use Rattle.lb_expand.proofs.emission.EmittedRooms.{fby_rooms, same_clock}
+use Rattle.lb_expand.proofs.Words.{Global, OnOk, false, refl, sym, ap, subst, ◌∙◌, first_value}
+use Rattle.lb_expand.proofs.Words.{Emitted, gives, memory, pairs, with_two, FlatClock, FirstThen}
+use Rattle.lb_expand.proofs.Words.{Previous, place_of, emitted_of, on_two, clock_of, Clock}
+use Rattle.lb_expand.proofs.emission.EmittedRooms.{binary_room, arrow_room, fby_form, join_form}
+use Rattle.lb_expand.proofs.emission.EmittedRooms.{two_form, joined_stays, pairs_after, fby_rooms}
+use Rattle.lb_expand.proofs.emission.EmittedRooms.{same_clock}
+use Rattle.lb_expand.proofs.emission.EmittedStacks.{numbers_many}
 use Rattle.lb_expand.proofs.expansion.term_emission.TermEmission.with_two.Goals as goal
 
 pub pairs-requires-clause-room : goal.pairs-requires-clause-room
 pairs-requires-clause-room g c =
-    let ctx = g.F.Frame.context c.args.frame.now in
-    let old = c.args.self.now in
-    let from = c.args.from in
-    let middle = c.args.middle in
-    let at = place_of c.args.at in
-    let t = c.args.term.now in
-    let clock = same_clock old.clocks.items _ c.clock-clock.result _ c.requires.clocks
-    c.clock-clock.ensures.clock in
-    let xs = slice_range (emitted_of old).found from middle in
-    let y = above middle (emitted_of old) in
-    two_room old from middle c.requires.from c.requires.middle _ (ApplyBinary c.in-Binary.op)
-    (with_two ctx at t xs y) (binary_form ctx at t _ _ _ c.in-Binary.op c.in-Binary.is clock xs y)
-    c.requires.room
+    binary_room c.args.self.now c.args.from c.args.middle c.requires.from c.requires.middle
+    (g.F.Frame.context c.args.frame.now) (place_of c.args.at) c.in-Binary.is c.requires.room
 
 pub pairs-requires-in-Arrow-clause-room : goal.pairs-requires-in-Arrow-clause-room
 pairs-requires-in-Arrow-clause-room g c =
-    let ctx = g.F.Frame.context c.args.frame.now in
-    let old = c.args.self.now in
-    let from = c.args.from in
-    let middle = c.args.middle in
-    let at = place_of c.args.at in
-    let t = c.args.term.now in
-    let clock = same_clock old.clocks.items _ c.clock-clock.result _ c.requires.clocks
-    c.clock-clock.ensures.clock in
-    let xs = slice_range (emitted_of old).found from middle in
-    let y = above middle (emitted_of old) in
-    two_room old from middle c.requires.from c.requires.middle _ (FirstThen false)
-    (with_two ctx at t xs y) (arrow_form ctx at t _ _ _ c.in-Arrow.is clock xs y) c.requires.room
+    arrow_room c.args.self.now c.args.from c.args.middle c.requires.from c.requires.middle
+    (g.F.Frame.context c.args.frame.now) (place_of c.args.at) c.in-Arrow.is c.requires.room
 
 pub memory-requires-clause-room : goal.memory-requires-clause-room
 memory-requires-clause-room g c =
-    let ctx = g.F.Frame.context c.args.frame.now in
-    let old = c.args.self.now in
-    let from = c.args.from in
-    let middle = c.args.middle in
-    let at = place_of c.args.at in
-    let t = c.args.term.now in
-    let clock = same_clock old.clocks.items _ c.clock-clock.result _ c.requires.clocks
-    c.clock-clock.ensures.clock in
-    let xs = slice_range (emitted_of old).found from middle in
-    let y = above middle (emitted_of old) in
-    (fby_rooms old from middle _ (with_two ctx at t xs y) c.requires.from c.requires.middle
-    (fby_form ctx at t _ _ _ c.in-Fby.is clock xs y) c.requires.room).0
+    let clock = same_clock c.clock-clock.result c.requires.clocks c.clock-clock.ensures.clock in
+    (fby_rooms c.args.self.now c.args.from c.args.middle _ _ c.requires.from c.requires.middle
+    (fby_form (g.F.Frame.context c.args.frame.now) (place_of c.args.at) c.in-Fby.is clock _ _)
+    c.requires.room).0
 
 pub pairs-requires-in-Fby-clause-room : goal.pairs-requires-in-Fby-clause-room
 pairs-requires-in-Fby-clause-room g c =
-    let ctx = g.F.Frame.context c.args.frame.now in
-    let old = c.args.self.now in
     let from = c.args.from in
     let middle = c.args.middle in
-    let at = place_of c.args.at in
-    let t = c.args.term.now in
-    let clock = same_clock old.clocks.items _ c.clock-clock.result _ c.requires.clocks
-    c.clock-clock.ensures.clock in
-    let xs = slice_range (emitted_of old).found from middle in
-    let y = above middle (emitted_of old) in
-    let rooms = fby_rooms old from middle _ (with_two ctx at t xs y) c.requires.from
-    c.requires.middle (fby_form ctx at t _ _ _ c.in-Fby.is clock xs y) c.requires.room in
-    let mid = c.memory.new.self in
-    let again = length-map mid.found.items (λ (a : ElementId). a.0) in
-    let e = c.in_ok-memory-in-Fby.ensures.emitted in
+    let clock = same_clock c.clock-clock.result c.requires.clocks c.clock-clock.ensures.clock in
+    let rooms = fby_rooms c.args.self.now from middle _ _ c.requires.from c.requires.middle
+    (fby_form (g.F.Frame.context c.args.frame.now) (place_of c.args.at) c.in-Fby.is clock _ _)
+    c.requires.room in
     let gone = subst (λ (z : Emitted).
-    z.state.next + min (middle - from) (length z.found - middle) < 2 ^ 32) (sym e) rooms.1 in
-    subst (λ n. mid.next + min (middle - from) (n - middle) < 2 ^ 32) again gone
+    z.state.next + min (middle - from) (length z.found - middle) < 2 ^ 32)
+    (sym c.in_ok-memory-in-Fby.ensures.emitted) rooms.1 in
+    rw numbers_many at gone
 
 pub returns-in_ok-memory-in-Fby-clause-emitted : goal.returns-in_ok-memory-in-Fby-clause-emitted
 returns-in_ok-memory-in-Fby-clause-emitted g c =
@@ -88,9 +51,7 @@ returns-in_ok-memory-in-Fby-clause-emitted g c =
     let key : Vec Clock Global → FlatClock = λ cs. clock_of cs.items c.clock-clock.result in
     let k = key old.clocks in
     let clock : k ≡ ctx.clock at.term =
-    same_clock old.clocks.items _ c.clock-clock.result _ c.requires.clocks
-    c.clock-clock.ensures.clock in
-    let size = length-map old.found.items (λ (a : ElementId). a.0) in
+    same_clock c.clock-clock.result c.requires.clocks c.clock-clock.ensures.clock in
     let f = FirstThen false in
     let h = memory k (Previous first_value) in
     let kept = ap key c.in_ok-memory-in-Fby.ensures.clocks in
@@ -98,9 +59,9 @@ returns-in_ok-memory-in-Fby-clause-emitted g c =
     subst (λ s. OnOk r.result (emitted_of r.new.self ≡ s))
     (ap (λ (k : FlatClock). on_two from middle (pairs k f) (emitted_of mid)) kept
     ∙ pairs_after k f h from middle x (emitted_of mid) c.requires.from
-    (omega (arith, size, c.requires.middle)) c.in_ok-memory-in-Fby.ensures.emitted
+    (omega (arith, numbers_many)) c.in_ok-memory-in-Fby.ensures.emitted
     ∙ two_form from middle (with_two ctx at t) (λ xs y. pairs k f xs (h y)) x
-    (fby_form ctx at t _ _ k c.in-Fby.is clock))
+    (fby_form ctx at c.in-Fby.is clock))
     r.ensures.emitted
 
 pub returns-in_default : goal.returns-in_default
@@ -122,7 +83,7 @@ returns-in_default g c =
         | inr (inr (inr is)) ↦
             sym (joined_stays from middle x c.requires.from)
             ∙ two_form from middle (with_two ctx at t) (λ xs y. gives y.state (xs ++ y.found)) x
-            (join_form ctx at t form.0 form.1 (ctx.clock 0) is)
+            (join_form ctx at is)
       ];
       clocks = refl;
     }
