@@ -1,10 +1,10 @@
 -- The lines of a text, one after the other.
-use Rattle.std.proofs.Common.{ℕ, ◌≡◌, ◌≤◌, Bool, true, false, if◌then◌else◌, ◌==◌, ◌||◌, List, []}
+use Rattle.std.proofs.Common.{ℕ, suc, ◌≡◌, ◌≤◌, ◌-◌, drop, Bool, true, false, if◌then◌else◌, ◌==◌, ◌||◌, List, []}
 use Rattle.std.proofs.Common.{◌∷◌, length, map, refl, sym, ap, ◌∙◌, arith}
 use Rattle.std.specs.List.{filter}
 use Rattle.std.proofs.lemmas.Bool.Decides.{nat_tests}
 use Rattle.lb_trace.specs.Plain.{ends_line, has_quote, is_comma, is_filled, plain_records, split_at}
-use Rattle.lb_trace.specs.Lines.{after_line, line_of, record_of}
+use Rattle.lb_trace.specs.Lines.{EndsRecord, after_line, line_of, record_of}
 
 -- the parts that `split_at` gives after the first line
 more_lines : List ℕ → List (List ℕ)
@@ -75,6 +75,27 @@ after-short (c ∷ rest) = by (ends_line c) refl (after-short rest)
         → length (after_line (c ∷ rest)) ≤ length (c ∷ rest)
     by true e more = rw e (omega arith)
     by false e more = rw e (omega arith)
+
+-- the place at which the text after the first line begins
+pub after-ends : (text : List ℕ) → EndsRecord text (length text - length (after_line text))
+unfolding after_line
+after-ends [] = (omega arith, refl)
+after-ends (c ∷ rest) = by (ends_line c) refl (after-ends rest)
+  where
+    one : (n m : ℕ) → n ≡ suc m → drop n (c ∷ rest) ≡ drop m rest
+    one n m is = ap (λ k. drop k (c ∷ rest)) is
+
+    by : (e : Bool) → ends_line c ≡ e → EndsRecord rest (length rest - length (after_line rest))
+        → EndsRecord (c ∷ rest) (length (c ∷ rest) - length (after_line (c ∷ rest)))
+    by true e more = rw e (omega arith, one (length (c ∷ rest) - length rest) 0 (omega arith))
+    by false e more =
+        let short = after-short rest in
+        rw e (
+          omega arith,
+          one (length (c ∷ rest) - length (after_line rest))
+              (length rest - length (after_line rest)) (omega (arith, short))
+              ∙ more.1,
+        )
 
 or-parts : (a b : Bool) → (a || b) ≡ false → (a ≡ false) × (b ≡ false)
 or-parts true b h = cc h

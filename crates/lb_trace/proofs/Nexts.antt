@@ -15,6 +15,7 @@ use Rattle.lb_trace.specs.declared.header.Column.{Column}
 use Rattle.lb_trace.specs.Lines.{after_line, record_of}
 use Rattle.lb_trace.specs.Mirrors.{column_of, go_on_by, record_by, row_by, start_by}
 use Rattle.lb_trace.specs.Nexts.{HasName, IsNamed, IsNext}
+use Rattle.lb_trace.specs.Refusals.{is_last}
 use Rattle.lb_trace.specs.PlainRows.{AreInOrder}
 use Rattle.lb_trace.specs.Scan.{ends_cell}
 use Rattle.lb_trace.specs.Spelling.{Record}
@@ -107,6 +108,27 @@ truths-read elements columns count bits text table spells =
       both.0 ∙ table.columns_are.as_many,
       both.1 ∙ ap (λ n. Some (row_of_bits n bits)) (sym table.as_many),
     )
+
+-- a record with the name of the last trace
+pub is-next : (traces : Traces) (text bytes rest : List ℕ) (last same : Bool)
+    → record_of text ≡ bytes ∷ (if last then [] else record_of rest)
+    → after_line text ≡ (if last then rest else after_line rest) → last ≡ false
+    → same ≡ is_last bytes traces → same ≡ true → IsNext traces text bytes rest
+is-next traces text bytes rest last same cells line inner found named = record {
+  has = has-name text bytes rest last cells line inner;
+  same = sym found ∙ named;
+}
+
+-- a record of Booleans with the name of the last trace is one more instant of it
+pub bits-added : (elements : Elements) (columns : List Column) (count bits : ℕ) (traces : Traces)
+    (text name rest : List ℕ) → AreTruthTable elements columns count → SpellsBits rest count bits
+    → IsNext traces text name rest → All (IsTrace elements) traces
+    → record_by elements columns count traces (record_of text)
+    ≡ go_on_by elements traces (Some (row_of_bits (length elements) bits))
+bits-added elements columns count bits traces text name rest table spells next each =
+    let read = truths-read elements columns count bits rest table spells in
+    next-added elements columns count traces text name rest (row_of_bits (length elements) bits)
+    next each read.0 read.1
 
 -- ## A table of Booleans
 

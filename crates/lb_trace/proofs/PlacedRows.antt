@@ -3,7 +3,6 @@ use Rattle.std.proofs.Common.{ℕ, suc, zero, ◌≡◌, ◌<◌, List, [], ◌�
 use Rattle.std.proofs.Common.{Some, None, ℤ, pos, refl, sym, ap, ◌∙◌, subst, arith, Bool, false}
 use Rattle.std.proofs.Common.{if◌then◌else◌, Result, Ok, Err}
 use Rattle.std.specs.Prelude.{IfOk, IfSome, MatchOption}
-use Rattle.std.specs.Borrow.{Bor}
 use Rattle.std.specs.List.{All}
 use Rattle.std.specs.Option.{option_and_then, option_map}
 use Rattle.csv.specs.Records.{field_at}
@@ -11,7 +10,7 @@ use Rattle.lb_static.specs.Signature.{Elements}
 use Rattle.lb_traces.specs.Traces.{IsTrace, Row, Traces}
 use Rattle.lb_trace.specs.declared.header.Column.{Column}
 use Rattle.lb_trace.specs.Cells.{cell_value}
-use Rattle.lb_trace.specs.Lines.{after_line, record_of}
+use Rattle.lb_trace.specs.Lines.{EndsRecord, record_of}
 use Rattle.lb_trace.specs.Mirrors.{add_by, record_by, row_by}
 use Rattle.lb_trace.specs.PlainRows.{AreInOrder, ArePlaced, IsPlaced, plain_row}
 use Rattle.lb_trace.specs.Spelling.{Record}
@@ -96,38 +95,38 @@ pub cells_placed : (placed : List Column) (cells : Record) (values : Row)
 cells_placed placed cells values read = (values_of placed cells values read).wide
 
 -- a line that spells a row by columns in order has their number of cells, and this row by the table
-ordered_found : (table : List Column) (width : ℕ) (text : List ℕ) (row : Row) (rest : List ℕ)
+ordered_found : (table : List Column) (width : ℕ) (text : List ℕ) (row : Row) (past : ℕ)
     → (length table ≡ width) × AreInOrder 0 table
-    → (plain_row table (record_of text) ≡ Some row) × (rest ≡ after_line text)
+    → (plain_row table (record_of text) ≡ Some row) × EndsRecord text past
     → (length (record_of text) ≡ width) × (row_by table (record_of text) ≡ Some row)
-    × (rest ≡ after_line text)
-ordered_found table width text row rest ordered read =
+    × EndsRecord text past
+ordered_found table width text row past ordered read =
     let both = row_in_order table [] (record_of text) row ordered.1 read.0 in
     (both.0 ∙ ordered.0, both.1, read.1)
 
-pub ordered_line : {E : Type 0} (r : Result (Option (Bor (List ℕ))) E)
+pub ordered_line : {E : Type 0} (r : Result (Option ℕ) E)
     (table columns : List Column) (width : ℕ) (text : List ℕ) (row : Row)
     → columns ≡ table → (length table ≡ width) × AreInOrder 0 table
     → IfOk r (λ after. MatchOption after (plain_row columns (record_of text) ≡ None)
-    (λ rest. (plain_row columns (record_of text) ≡ Some row) × (rest.now ≡ after_line text)))
-    → IfOk r (λ found. IfSome found (λ rest. (length (record_of text) ≡ width)
-    × (row_by table (record_of text) ≡ Some row) × (rest.now ≡ after_line text)))
+    (λ past. (plain_row columns (record_of text) ≡ Some row) × EndsRecord text past))
+    → IfOk r (λ found. IfSome found (λ past. (length (record_of text) ≡ width)
+    × (row_by table (record_of text) ≡ Some row) × EndsRecord text past))
 ordered_line (Ok None) table columns width text row same ordered read = tt
-ordered_line (Ok (Some rest)) table columns width text row same ordered read =
-    ordered_found table width text row rest.now ordered
+ordered_line (Ok (Some past)) table columns width text row same ordered read =
+    ordered_found table width text row past ordered
     (ap (λ cs. plain_row cs (record_of text)) (sym same) ∙ read.0, read.1)
 ordered_line (Err e) table columns width text row same ordered read = tt
 
 -- the result for columns in another order, with the names of the table for its parts
-pub placed_line : {E : Type 0} (r : Result (Option (Bor (List ℕ))) E)
+pub placed_line : {E : Type 0} (r : Result (Option ℕ) E)
     (table columns placed all : List Column) (width : ℕ) (text : List ℕ) (row : Row)
     → columns ≡ table → placed ≡ all → length all ≡ width
-    → IfOk r (λ found. IfSome found (λ rest. (length (record_of text) ≡ length placed)
-    × (row_by columns (record_of text) ≡ Some row) × (rest.now ≡ after_line text)))
-    → IfOk r (λ found. IfSome found (λ rest. (length (record_of text) ≡ width)
-    × (row_by table (record_of text) ≡ Some row) × (rest.now ≡ after_line text)))
+    → IfOk r (λ found. IfSome found (λ past. (length (record_of text) ≡ length placed)
+    × (row_by columns (record_of text) ≡ Some row) × EndsRecord text past))
+    → IfOk r (λ found. IfSome found (λ past. (length (record_of text) ≡ width)
+    × (row_by table (record_of text) ≡ Some row) × EndsRecord text past))
 placed_line (Ok None) table columns placed all width text row same is wide read = tt
-placed_line (Ok (Some rest)) table columns placed all width text row same is wide read = (
+placed_line (Ok (Some past)) table columns placed all width text row same is wide read = (
   read.0 ∙ ap length is ∙ wide,
   ap (λ cs. row_by cs (record_of text)) (sym same) ∙ read.1,
   read.2,

@@ -3,7 +3,7 @@
 ghost use Rattle.std.specs.Prelude.{◌≡◌, ◌<◌, IsTrue, IfOk, IfSome, OnOk, Some, get_or, length};
 ghost use Rattle.std.specs.Prelude.{map, pos};
 ghost use Rattle.std.specs.List.{All};
-ghost use Rattle.lb_trace.specs.Lines.{after_line, record_of};
+ghost use Rattle.lb_trace.specs.Lines.{EndsRecord, record_of};
 ghost use Rattle.lb_trace.specs.Mirrors.{row_by};
 ghost use Rattle.lb_trace.specs.PlainRows.{AreInOrder, ArePlaced};
 
@@ -13,26 +13,26 @@ use crate::row_cells::make_long;
 use crate::table::ColumnTable;
 use std::alloc::AllocError;
 
-/// Reads the cells of a record into `row`, in the order of the signature, and returns the text
-/// after the record; None says nothing of the text. `values` is room for the cells in the order of
+/// Reads the cells of a record into `row`, in the order of the signature, and returns the place
+/// behind the record; None says nothing of the text. `values` is room for the cells in the order of
 /// the text.
 #[inline(always)]
-pub(crate) fn read_cells<'t>(
+pub(crate) fn read_cells(
     table: &ColumnTable,
-    text: &'t [u8],
+    text: &[u8],
     values: &mut Vec<i32>,
     row: &mut Vec<i32>,
-) -> Result<Option<&'t [u8]>, AllocError>
+) -> Result<Option<usize>, AllocError>
     requires order { IsTrue table.now.in_order
         → (length table.now.columns.items ≡ table.now.count)
         × AreInOrder 0 table.now.columns.items }
     requires placed { IsTrue table.now.is_placed
         → (length table.now.placed.items ≡ table.now.count)
         × ArePlaced table.now.placed.items table.now.columns.items }
-    ensures { IfOk result (λ found. IfSome found (λ rest.
+    ensures { IfOk result (λ found. IfSome found (λ past.
         (length (record_of text.now) ≡ table.now.count)
         × (row_by table.now.columns.items (record_of text.now) ≡ Some row.new.items)
-        × (rest.now ≡ after_line text.now))) }
+        × EndsRecord text.now past)) }
 {
     if table.in_order {
         return read_line(&table.columns, text, row);
@@ -45,24 +45,24 @@ pub(crate) fn read_cells<'t>(
 
 // `read_cells` by `placed`, the columns in the order of the text.
 #[inline(always)]
-fn read_placed<'t>(
+fn read_placed(
     placed: &[Column],
     columns: &[Column],
-    text: &'t [u8],
+    text: &[u8],
     values: &mut Vec<i32>,
     row: &mut Vec<i32>,
-) -> Result<Option<&'t [u8]>, AllocError>
+) -> Result<Option<usize>, AllocError>
     requires { ArePlaced placed.now columns.now }
-    ensures { IfOk result (λ found. IfSome found (λ rest.
+    ensures { IfOk result (λ found. IfSome found (λ past.
         (length (record_of text.now) ≡ length placed.now)
         × (row_by columns.now (record_of text.now) ≡ Some row.new.items)
-        × (rest.now ≡ after_line text.now))) }
+        × EndsRecord text.now past)) }
 {
-    let Some(rest) = read_line(placed, text, values)? else {
+    let Some(past) = read_line(placed, text, values)? else {
         return Ok(None);
     };
     take_places(columns, values, row)?;
-    Ok(Some(rest))
+    Ok(Some(past))
 }
 
 // Copies the value at the place of each column into `row`.

@@ -2,7 +2,7 @@
 
 ghost use Rattle.std.specs.Prelude.{◌≡◌, Some, None, IfOk, MatchOption, length};
 ghost use Rattle.lb_trace.specs.Cells.{cell_value};
-ghost use Rattle.lb_trace.specs.Lines.{after_line, record_of};
+ghost use Rattle.lb_trace.specs.Lines.{EndsRecord, after_line, record_of};
 ghost use Rattle.lb_trace.specs.PlainRows.{BeginsWith, plain_row};
 ghost use Rattle.lb_trace.specs.Scan.{cell_of};
 
@@ -16,25 +16,40 @@ use crate::truths::four_cells;
 use lb_syntax::Kind;
 use std::alloc::AllocError;
 
-/// Reads the cells of a record into `row`, one for each column, and returns the text after the
+/// Reads the cells of a record into `row`, one for each column, and returns the place behind the
 /// record; None where the cells spell no such row.
 #[inline(always)]
-pub(crate) fn read_line<'t>(
+pub(crate) fn read_line(
     columns: &[Column],
-    text: &'t [u8],
+    text: &[u8],
     row: &mut Vec<i32>,
-) -> Result<Option<&'t [u8]>, AllocError>
+) -> Result<Option<usize>, AllocError>
     ensures { IfOk result (λ after. MatchOption after
         (plain_row columns.now (record_of text.now) ≡ None)
-        (λ rest. (plain_row columns.now (record_of text.now) ≡ Some row.new.items)
-        × (rest.now ≡ after_line text.now))) }
+        (λ past. (plain_row columns.now (record_of text.now) ≡ Some row.new.items)
+        × EndsRecord text.now past)) }
 {
     make_long(row, columns.len())?;
-    Ok(fill_line(columns, text, row.as_mut_slice()))
+    Ok(past_line(columns, text, row.as_mut_slice()))
 }
 
 // `read_line` into `cells`, which has a cell for each column.
 #[inline(never)]
+fn past_line(columns: &[Column], text: &[u8], cells: &mut [i32]) -> Option<usize>
+    requires { length cells.old ≡ length columns.now }
+    ensures { MatchOption result
+        (plain_row columns.now (record_of text.now) ≡ None)
+        (λ past. (plain_row columns.now (record_of text.now) ≡ Some cells.new)
+        × EndsRecord text.now past) }
+{
+    let Some(rest) = fill_line(columns, text, cells) else {
+        return None;
+    };
+    Some(text.len() - rest.len())
+}
+
+// `past_line` that returns the text after the record.
+#[inline(always)]
 fn fill_line<'t>(columns: &[Column], text: &'t [u8], cells: &mut [i32]) -> Option<&'t [u8]>
     requires { length cells.old ≡ length columns.now }
     ensures { MatchOption result

@@ -10,10 +10,13 @@ use crate::recorder::is_last;
 use crate::scan::{Cell, next_cell};
 use lb_traces::TraceSet;
 
-/// The name of a record, which is its first cell, and whether the last trace has this name.
+/// The name of a record, which is its first cell, the text after it, whether it is the only cell of
+/// its record, and whether the last trace has this name.
 #[derive(Clone, Copy)]
 pub(crate) struct RecordName<'t> {
-    pub(crate) cell: Cell<'t>,
+    pub(crate) bytes: &'t [u8],
+    pub(crate) rest: &'t [u8],
+    pub(crate) is_last: bool,
     pub(crate) is_same: bool,
 }
 
@@ -21,26 +24,29 @@ pub(crate) struct RecordName<'t> {
 /// the end of the cell is searched.
 #[inline(always)]
 pub(crate) fn name_of<'t>(set: &TraceSet, text: &'t [u8]) -> RecordName<'t>
-    ensures cells { record_of text.now ≡ result.cell.bytes.now
-        ∷ (if result.cell.is_last then [] else record_of result.cell.rest.now) }
+    ensures cells { record_of text.now ≡ result.bytes.now
+        ∷ (if result.is_last then [] else record_of result.rest.now) }
     ensures after { after_line text.now
-        ≡ (if result.cell.is_last then result.cell.rest.now
-        else after_line result.cell.rest.now) }
-    ensures same { result.is_same ≡ is_last result.cell.bytes.now set.now.traces }
+        ≡ (if result.is_last then result.rest.now else after_line result.rest.now) }
+    ensures same { result.is_same ≡ is_last result.bytes.now set.now.traces }
 {
     let count = set.len();
     if count > 0 {
         let _ = set.signature();
         if let Some(cell) = cell_of_name(set.name(count - 1).as_bytes(), text) {
             return RecordName {
-                cell,
+                bytes: cell.bytes,
+                rest: cell.rest,
+                is_last: cell.is_last,
                 is_same: true,
             };
         }
     }
     let cell = next_cell(text);
     RecordName {
-        cell,
+        bytes: cell.bytes,
+        rest: cell.rest,
+        is_last: cell.is_last,
         is_same: is_last(set, cell.bytes),
     }
 }

@@ -11,7 +11,7 @@ ghost use Rattle.lb_trace.specs.Errors.{IsRefusal};
 ghost use Rattle.lb_trace.specs.Mirrors.{RowsFollow, add_by, go_on_by, knows, record_by, row_by};
 ghost use Rattle.lb_trace.specs.Lines.{after_line, record_of};
 ghost use Rattle.lb_trace.specs.Mirrors.{start_by, start_cells};
-ghost use Rattle.lb_trace.specs.Nexts.{HasName, IsNext};
+ghost use Rattle.lb_trace.specs.Nexts.{HasName};
 ghost use Rattle.lb_trace.specs.PlainRows.{AreInOrder, ArePlaced};
 ghost use Rattle.lb_trace.specs.Refusals.{is_last};
 ghost use Rattle.lb_trace.specs.Refusals.{has_room};
@@ -25,7 +25,6 @@ use crate::placed_rows::read_cells;
 use crate::record::width;
 use crate::record_name::{RecordName, name_of};
 use crate::rows::read_row;
-use crate::scan::Cell;
 use crate::seen_names::SeenNames;
 use crate::table::ColumnTable;
 use crate::truth_bits::read_truths;
@@ -291,59 +290,16 @@ impl Recorder {
         ensures kept { OnErr result (self.new.rows ≡ self.old.rows) }
     {
         let name = name_of(self.rows.set(), text);
-        if name.cell.is_last {
+        if name.is_last {
             return Ok(None);
         }
         if name.is_same && table.are_truths {
-            return self.add_truths(alloc, table, text, name.cell, number);
+            if let Some(truths) = read_truths(name.rest, table.count) {
+                push_bits_to(&mut self.rows, truths.bits, number)?;
+                return Ok(Some(truths.rest));
+            }
         }
         self.add_cells(alloc, table, text, name, number)
-    }
-
-    // `add_row` for a record of the last trace, by a table of Booleans alone; `name` is its first
-    // cell.
-    fn add_truths<'t>(
-        &mut self,
-        alloc: Global,
-        table: &ColumnTable,
-        text: &[u8],
-        name: Cell<'t>,
-        number: u64,
-    ) -> Result<Option<&'t [u8]>, TraceError>
-        requires names { knows self.old.names self.old.rows.traces }
-        requires lawful { IsRecording self.old.rows }
-        requires kinds { RowsFollow table.now.columns.items self.old.rows.signature }
-        requires order { IsTrue table.now.in_order
-            → (length table.now.columns.items ≡ table.now.count)
-            × AreInOrder 0 table.now.columns.items }
-        requires placed { IsTrue table.now.is_placed
-            → (length table.now.placed.items ≡ table.now.count)
-            × ArePlaced table.now.placed.items table.now.columns.items }
-        requires next { IsNext self.old.rows.traces text.now name.bytes.now name.rest.now }
-        requires truths { AreTruthTable self.old.rows.signature table.now.columns.items
-            table.now.count }
-        ensures ok { IfOk result (λ found. IfSome found (λ rest.
-            record_by self.old.rows.signature table.now.columns.items table.now.count
-            self.old.rows.traces (record_of text.now) ≡ Ok self.new.rows.traces)) }
-        ensures after { IfOk result
-            (λ found. IfSome found (λ rest. rest.now ≡ after_line text.now)) }
-        ensures names { IfOk result (λ found. knows self.new.names self.new.rows.traces) }
-        ensures rows { IfOk result (λ found. found ≡ None → self.new.rows ≡ self.old.rows) }
-        ensures signature { IfOk result
-            (λ found. self.new.rows.signature ≡ self.old.rows.signature) }
-        ensures err { IfErr result (IsRefusal (record_by self.old.rows.signature
-            table.now.columns.items table.now.count self.old.rows.traces (record_of text.now))) }
-        ensures kept { OnErr result (self.new.rows ≡ self.old.rows) }
-    {
-        let Some(truths) = read_truths(name.rest, table.count) else {
-            let same = RecordName {
-                cell: name,
-                is_same: true,
-            };
-            return self.add_cells(alloc, table, text, same, number);
-        };
-        push_bits_to(&mut self.rows, truths.bits, number)?;
-        Ok(Some(truths.rest))
     }
 
     // `add_row` for a record with the name `name`, whose other cells stand after it.
@@ -365,8 +321,8 @@ impl Recorder {
         requires placed { IsTrue table.now.is_placed
             → (length table.now.placed.items ≡ table.now.count)
             × ArePlaced table.now.placed.items table.now.columns.items }
-        requires first { HasName text.now name.cell.bytes.now name.cell.rest.now }
-        requires same { name.is_same ≡ is_last name.cell.bytes.now self.old.rows.traces }
+        requires first { HasName text.now name.bytes.now name.rest.now }
+        requires same { name.is_same ≡ is_last name.bytes.now self.old.rows.traces }
         ensures ok { IfOk result (λ found. IfSome found (λ rest.
             record_by self.old.rows.signature table.now.columns.items table.now.count
             self.old.rows.traces (record_of text.now) ≡ Ok self.new.rows.traces)) }
@@ -380,14 +336,14 @@ impl Recorder {
             table.now.columns.items table.now.count self.old.rows.traces (record_of text.now))) }
         ensures kept { OnErr result (self.new.rows ≡ self.old.rows) }
     {
-        let Ok(line) = read_cells(table, name.cell.rest, &mut self.values, &mut self.row) else {
+        let Ok(line) = read_cells(table, name.rest, &mut self.values, &mut self.row) else {
             return Err(TraceError::Memory(AllocError));
         };
-        let Some(rest) = line else {
+        let Some(past) = line else {
             return Ok(None);
         };
-        self.add_named(alloc, name.cell.bytes, name.is_same, number)?;
-        Ok(Some(rest))
+        self.add_named(alloc, name.bytes, name.is_same, number)?;
+        Ok(Some(&name.rest[past..]))
     }
 
     /// Adds the row that was read as one more instant of the trace with this name.

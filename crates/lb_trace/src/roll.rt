@@ -171,7 +171,9 @@ impl Roll {
     {
         let number = self.instants + 1;
         let names = self.names.set();
-        let is_new = self.known.takes(alloc, names, name)?;
+        let Ok(is_new) = self.known.takes(alloc, names, name) else {
+            return Err(TraceError::Memory(AllocError));
+        };
         if !is_new {
             return Err(refusal_of_name(names, name, number));
         }

@@ -91,7 +91,9 @@ impl SeenNames {
         let Ok(text) = str::from_utf8(name) else {
             return Ok(None);
         };
-        let is_new = self.takes(alloc, traces, text)?;
+        let Ok(is_new) = self.takes(alloc, traces, text) else {
+            return Err(TraceError::Memory(AllocError));
+        };
         if !is_new {
             return Ok(None);
         }
@@ -105,13 +107,12 @@ impl SeenNames {
         alloc: Global,
         traces: &TraceSet,
         name: &str,
-    ) -> Result<bool, TraceError>
+    ) -> Result<bool, AllocError>
         requires { knows self.old traces.now.traces }
         ensures new { IfOk result (λ is_new. is_new
             ≡ not (list_any (λ t. bytes_eq name.now t.0) traces.now.traces)) }
         ensures known { IfOk result (λ is_new. is_new ≡ true
             → (row : Row) → knows self.new (with_trace traces.now.traces name.now row)) }
-        ensures memory { IfErr result (λ e. error_number e ≡ 0) }
     {
         if self.is_above(traces, name) {
             return Ok(true);
@@ -126,23 +127,18 @@ impl SeenNames {
         alloc: Global,
         traces: &TraceSet,
         name: &str,
-    ) -> Result<bool, TraceError>
+    ) -> Result<bool, AllocError>
         requires { knows self.old traces.now.traces }
         ensures new { IfOk result (λ is_new. is_new
             ≡ not (list_any (λ t. bytes_eq name.now t.0) traces.now.traces)) }
         ensures known { IfOk result (λ is_new. is_new ≡ true
             → (row : Row) → knows self.new (with_trace traces.now.traces name.now row)) }
-        ensures memory { IfErr result (λ e. error_number e ≡ 0) }
     {
-        let Ok(()) = self.gather(alloc, traces) else {
-            return Err(TraceError::Memory(AllocError));
-        };
+        self.gather(alloc, traces)?;
         if self.table.has(traces, name) {
             return Ok(false);
         }
-        let Ok(()) = self.table.put(alloc, name, traces.len()) else {
-            return Err(TraceError::Memory(AllocError));
-        };
+        self.table.put(alloc, name, traces.len())?;
         Ok(true)
     }
 

@@ -7,7 +7,7 @@ use Rattle.lb_trace.proofs.placed_rows.read_placed.Goals as goal
 
 pub take_places-requires : goal.take_places-requires
 take_places-requires c =
-    let read = rw c.in-Some.is at c.in_ok-rest.ensures in
+    let read = rw c.in-Some.is at c.in_ok-past.ensures in
     subst (λ (vs : List ℤ). All (λ (column : Column). column.at < length vs) c.args.columns.now)
     (sym c.deref.ensures.value)
     (places_within c.args.columns.now c.args.placed.now (record_of c.args.text.now)
@@ -15,7 +15,7 @@ take_places-requires c =
 
 pub returns : goal.returns
 returns c =
-    let read = rw c.in-Some.is at c.in_ok-rest.ensures in
+    let read = rw c.in-Some.is at c.in_ok-past.ensures in
     let cells = record_of c.args.text.now in
     let values = c.read_line.new.row.items in (
       cells_placed c.args.placed.now cells values read.0,

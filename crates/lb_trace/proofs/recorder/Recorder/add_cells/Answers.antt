@@ -10,7 +10,7 @@ use Rattle.lb_trace.proofs.recorder.Recorder.add_cells.Goals as goal
 pub returns-in_err-add_named-clause-err : goal.returns-in_err-add_named-clause-err
 returns-in_err-add_named-clause-err c =
     let read = rw c.in-Some.is at c.in-Ok.ensures in
-    let name = c.args.name.cell in
+    let name = c.args.name in
     let added : record_by c.args.self.now.rows.signature c.args.table.now.columns.items
     c.args.table.now.count c.args.self.now.rows.traces (record_of c.args.text.now)
     ≡ add_by c.args.self.now.rows.signature name.bytes.now c.args.self.now.rows.traces
@@ -27,7 +27,7 @@ returns-in_err-add_named-clause-err c =
 pub returns-clause-ok : goal.returns-clause-ok
 returns-clause-ok c =
     let read = rw c.in-Some.is at c.in-Ok.ensures in
-    let name = c.args.name.cell in
+    let name = c.args.name in
     line_added c.args.self.now.rows.signature c.args.table.now.columns.items
     c.args.table.now.count c.args.self.now.rows.traces c.args.text.now name.bytes.now name.rest.now
     false c.read_cells.new.row.items c.requires.first.first refl

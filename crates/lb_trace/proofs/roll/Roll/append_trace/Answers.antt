@@ -26,7 +26,7 @@ pub returns-then-not-is_new-clause-err : goal.returns-then-not-is_new-clause-err
 returns-then-not-is_new-clause-err c =
     refuses_there c.args.self.now c.args.name.now c.args.length c.refusal_of_name.result
     (there (list_any (λ (t : Trace). bytes_eq c.args.name.now t.0) c.args.self.now.names.traces)
-    (sym c.if-not-is_new.true ∙ c.in_ok-is_new.ensures.new
+    (sym c.if-not-is_new.true ∙ c.in-Ok.ensures.new
     ∙ ap (λ (r : Recording). not (list_any (λ (t : Trace). bytes_eq c.args.name.now t.0) r.traces))
     c.set-names.ensures))
     (λ is. c.refusal_of_name.ensures.last
@@ -54,22 +54,22 @@ returns-then-len-ge-MOST_TRACES-clause-err c =
     let full : nat_lt (length c.args.self.now.names.traces) 1000000 ≡ false = grind (arith, nat_tests)
     in
     refuses_count c.args.self.now c.args.name.now c.args.length
-    (fault.Limit (Some (c.args.self.now.instants + 1))) refl (none c.args.name.now c.set-names.result.now c.args.self.now.names c.in_ok-is_new.is_new
-    c.set-names.ensures c.in_ok-is_new.ensures.new c.if-not-is_new.false) full
+    (fault.Limit (Some (c.args.self.now.instants + 1))) refl (none c.args.name.now c.set-names.result.now c.args.self.now.names c.in-Ok.is_new
+    c.set-names.ensures c.in-Ok.ensures.new c.if-not-is_new.false) full
 
 pub returns-then-all-self-gt-MOST_CELLS-clause-err :
     goal.returns-then-all-self-gt-MOST_CELLS-clause-err
 returns-then-all-self-gt-MOST_CELLS-clause-err c =
     refuses_cells c.args.self.now c.args.name.now c.args.length
-    (fault.Limit (Some c.first_past_cells.result)) refl (none c.args.name.now c.set-names.result.now c.args.self.now.names c.in_ok-is_new.is_new
-    c.set-names.ensures c.in_ok-is_new.ensures.new c.if-not-is_new.false)
+    (fault.Limit (Some c.first_past_cells.result)) refl (none c.args.name.now c.set-names.result.now c.args.self.now.names c.in-Ok.is_new
+    c.set-names.ensures c.in-Ok.ensures.new c.if-not-is_new.false)
     (subst (λ (n : ℕ). 67108864 < (c.args.self.now.instants + n) * c.args.self.now.cells)
     c.from-count.ensures c.if-all-self-gt-MOST_CELLS.true)
 
 pub start-requires-clause-fresh : goal.start-requires-clause-fresh
 start-requires-clause-fresh c =
-    none_contains c.args.name.now c.args.self.now.names.traces (none c.args.name.now c.set-names.result.now c.args.self.now.names c.in_ok-is_new.is_new
-    c.set-names.ensures c.in_ok-is_new.ensures.new c.if-not-is_new.false)
+    none_contains c.args.name.now c.args.self.now.names.traces (none c.args.name.now c.set-names.result.now c.args.self.now.names c.in-Ok.is_new
+    c.set-names.ensures c.in-Ok.ensures.new c.if-not-is_new.false)
 
 pub returns-clause-roll : goal.returns-clause-roll
 returns-clause-roll c =
@@ -79,7 +79,7 @@ returns-clause-roll c =
     (grows_by c.args.self.now _ c.args.name.now c.args.name.now c.args.length refl
     c.in-Ok-start.ensures.ok
     (subst (λ (r : Recording). knows c.takes.new.self (with_trace r.traces c.args.name.now []))
-    c.set-names.ensures (c.in_ok-is_new.ensures.known c.if-not-is_new.false []))
+    c.set-names.ensures (c.in-Ok.ensures.known c.if-not-is_new.false []))
     put (ap (λ (n : ℕ). c.args.self.now.instants + n) c.from-count.ensures) refl
     (subst (λ (n : ℕ). (c.args.self.now.instants + n) * c.args.self.now.cells ≤ 67108864)
     c.from-count.ensures c.if-all-self-gt-MOST_CELLS.false))
@@ -88,8 +88,8 @@ pub returns-clause-ok : goal.returns-clause-ok
 returns-clause-ok c = λ elements traces t of is.
     let put : c.push.new.self.items ≡ c.args.self.now.lengths.items ++ c.args.length ∷ [] =
     first_of (search rules, grind (arith, common_steps)) in
-    grown_roll_of c.args.self.now _ elements traces t c.args.name.now c.args.length of is (none c.args.name.now c.set-names.result.now c.args.self.now.names c.in_ok-is_new.is_new
-    c.set-names.ensures c.in_ok-is_new.ensures.new c.if-not-is_new.false)
+    grown_roll_of c.args.self.now _ elements traces t c.args.name.now c.args.length of is (none c.args.name.now c.set-names.result.now c.args.self.now.names c.in-Ok.is_new
+    c.set-names.ensures c.in-Ok.ensures.new c.if-not-is_new.false)
     (omega (
       arith,
       c.if-len-ge-MOST_TRACES.false,
@@ -99,7 +99,7 @@ returns-clause-ok c = λ elements traces t of is.
     (grows_by c.args.self.now _ c.args.name.now c.args.name.now c.args.length refl
     c.in-Ok-start.ensures.ok
     (subst (λ (r : Recording). knows c.takes.new.self (with_trace r.traces c.args.name.now []))
-    c.set-names.ensures (c.in_ok-is_new.ensures.known c.if-not-is_new.false []))
+    c.set-names.ensures (c.in-Ok.ensures.known c.if-not-is_new.false []))
     put (ap (λ (n : ℕ). c.args.self.now.instants + n) c.from-count.ensures) refl
     (subst (λ (n : ℕ). (c.args.self.now.instants + n) * c.args.self.now.cells ≤ 67108864)
     c.from-count.ensures c.if-all-self-gt-MOST_CELLS.false))

@@ -4,9 +4,8 @@ use Rattle.std.specs.List.{list_any}
 use Rattle.std.specs.Str.{bytes_eq}
 use Rattle.std.proofs.lemmas.Bool.{false_from_ne_true}
 use Rattle.std.proofs.lemmas.Str.{IsUtf8-from_ascii}
-use Rattle.lb_traces.specs.Traces.{Row, Trace, with_trace}
+use Rattle.lb_traces.specs.Traces.{Trace}
 use Rattle.lb_traces.proofs.NameTexts.{IsAscii-name}
-use Rattle.lb_trace.specs.Mirrors.{knows}
 use Rattle.lb_trace.specs.Refusals.{is_trace_name}
 use Rattle.lb_trace.proofs.Names.{IsTraceName-from}
 use Rattle.lb_trace.proofs.seen_names.SeenNames.take.Goals as goal
@@ -39,7 +38,7 @@ pub returns-then-not-is_new-clause-found : goal.returns-then-not-is_new-clause-f
 returns-then-not-is_new-clause-found c =
     there (is_trace_name c.args.name.now)
     (list_any (λ (t : Trace). bytes_eq c.args.name.now t.0) c.args.traces.now.traces)
-    (sym c.if-not-is_new.true ∙ c.in_ok-is_new.ensures.new
+    (sym c.if-not-is_new.true ∙ c.in-Ok-takes.ensures.new
     ∙ ap (λ n. not (list_any (λ (t : Trace). bytes_eq n t.0) c.args.traces.now.traces))
     c.in-Ok.ensures.cases.0)
 
@@ -49,8 +48,8 @@ returns-clause-found c =
       text_is,
       c.is_trace_name.ensures.0 c.if-not-is_trace_name.false,
       free (list_any (λ (t : Trace). bytes_eq c.args.name.now t.0) c.args.traces.now.traces)
-          (sym c.if-not-is_new.false ∙ c.in_ok-is_new.ensures.new
+          (sym c.if-not-is_new.false ∙ c.in-Ok-takes.ensures.new
           ∙ ap (λ n. not (list_any (λ (t : Trace). bytes_eq n t.0) c.args.traces.now.traces))
           text_is),
-      λ row. rw text_is at (c.in_ok-is_new.ensures.known c.if-not-is_new.false row),
+      λ row. rw text_is at (c.in-Ok-takes.ensures.known c.if-not-is_new.false row),
     )
