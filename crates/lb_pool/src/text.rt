@@ -6,7 +6,7 @@
 //! total 2 passed 1 fault 0 undefined 0 assertion 0 false 1
 //! ```
 
-ghost use Rattle.std.specs.Prelude.{◌≡◌, ◌<◌, ◌≤◌, ◌+◌, ◌++◌, [], length, get_or, IfOk, OnOk};
+ghost use Rattle.std.specs.Prelude.{◌≡◌, ◌<◌, ◌≤◌, ◌+◌, ◌++◌, length, IfOk, OnOk};
 ghost use Rattle.lb_traces.specs.Traces.{trace_names};
 ghost use Rattle.lb_pool.specs.Reports as spec;
 
@@ -18,17 +18,18 @@ use std::alloc::{AllocError, Global};
 /// The number of words for verdicts.
 const WORDS: usize = 5;
 
-/// The word at a place, in the order of the last line.
+/// A space and the word at a place, in the order of the last line.
 fn word(place: usize) -> &'static str
     requires { place < WORDS }
-    ensures { result.now ≡ get_or spec.words place [] }
+    ensures word { result.now ≡ spec.word place }
+    ensures short { length result.now ≤ 10 }
 {
     match place {
-        0 => "passed",
-        1 => "fault",
-        2 => "undefined",
-        3 => "assertion",
-        _ => "false",
+        0 => " passed",
+        1 => " fault",
+        2 => " undefined",
+        3 => " assertion",
+        _ => " false",
     }
 }
 
@@ -63,7 +64,6 @@ fn push_word(text: &mut Vec<u8>, place: usize) -> Result<(), AllocError>
     ensures text { OnOk result (text.new.items ≡ text.old.items ++ spec.word place) }
     ensures short { OnOk result (length text.new.items ≤ length text.old.items + 10) }
 {
-    text.push(b' ')?;
     text.extend_from_slice(word(place).as_bytes())
 }
 
@@ -87,7 +87,8 @@ pub(crate) fn push_line(text: &mut Vec<u8>, name: &str, verdict: Verdict) -> Res
     if let Some(t) = instant_of(verdict) {
         push_number(text, t as usize)?;
     }
-    text.extend_from_slice(b"\n")
+    text.push(b'\n')?;
+    Ok(())
 }
 
 /// The number of verdicts whose word is at `place`.
