@@ -1,7 +1,7 @@
 -- The answer of the bench to a source and the bytes of a feed.
-use Rattle.std.proofs.Common.{ℕ, ◌≡◌, ◌⊎◌, ◌<◌, ◌≤◌, ◌&&◌, ◌==◌, Bool, true, false, not, List, []}
+use Rattle.std.proofs.Common.{ℕ, ◌≡◌, ◌<◌, ◌≤◌, ◌&&◌, ◌==◌, Bool, true, false, not, List, []}
 use Rattle.std.proofs.Common.{◌++◌}
-use Rattle.std.proofs.Common.{None, Option, Result, Ok, Err, refl, sym, ap, ◌∙◌, subst, inl, inr}
+use Rattle.std.proofs.Common.{None, Result, Ok, Err, refl, sym, ap, ◌∙◌, subst, inl, inr}
 use Rattle.std.proofs.Common.{⊎_elim}
 use Rattle.std.proofs.Common.{arith, length, nat_lt, if◌then◌else◌}
 use Rattle.std.proofs.lemmas.Bool.{cases_lt, eqb-true, false≢true, lt-ltb, ltb-true}
@@ -12,7 +12,7 @@ use Rattle.lb_syntax.specs.Tree.{Source}
 use Rattle.lb_static.specs.DataTypes.{signature}
 use Rattle.lb_static.specs.Instances.{Program}
 use Rattle.lb_check.specs.Acceptance.{IsAccepted}
-use Rattle.lb_traces.specs.Traces.{Recording, Traces, trace_names}
+use Rattle.lb_traces.specs.Traces.{Traces, trace_names}
 use Rattle.lb_trace.specs.Errors.{IsRefusal, Refuses, error_number}
 use Rattle.lb_trace.specs.Refusals.{outcome}
 use Rattle.lb_trace.specs.Spelling.{Spells}
@@ -23,7 +23,7 @@ use Rattle.lb_trace.proofs.Outcomes.{complete_text, outcome-long, refused_text, 
 use Rattle.lb_pool.specs.Correct as run
 use Rattle.lb_pool.specs.Reports.{IsReport}
 use Rattle.lb_pool.specs.declared.text.Report.{Report}
-use Rattle.lb_report.specs.Bench.{IsBenchReport, IsRefused, IsReportOn, OnlyProgram, program_of}
+use Rattle.lb_report.specs.Bench.{IsBenchReport, IsRefused, OnlyProgram, program_of}
 use Rattle.lb_report.specs.FeedAnswers.{IsAnswerOnFeed, IsFeedAnswer, IsFeedFault}
 use Rattle.lb_report.specs.FeedJudging.{HasRefusedSource, HasRefusedTraces, IsJudgingFault}
 use Rattle.lb_report.specs.FeedJudging.{IsLastFault, IsProgramJudged, fault_by, told_first}

@@ -21,7 +21,6 @@ pub mod PieceReads
 pub mod HeadReads
 pub mod SectionReads
 pub mod SectionJoins
-pub mod SlicedTexts
 pub mod PlacedFiles
 mod PlacedTexts
 pub mod RangeReads

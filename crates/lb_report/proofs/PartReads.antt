@@ -1,5 +1,5 @@
 -- Records with none before them, which are read round after round.
-use Rattle.std.proofs.Common.{ℕ, ◌≡◌, false, List, [], ◌∷◌, ◌++◌, Ok, refl, sym, ap, ◌∙◌, subst}
+use Rattle.std.proofs.Common.{ℕ, ◌≡◌, List, [], ◌∷◌, ◌++◌, Ok, refl, sym, ap, ◌∙◌, subst}
 use Rattle.std.proofs.Common.{append_assoc}
 use Rattle.std.proofs.lemmas.List.{append-nil}
 use Rattle.lb_static.specs.Signature.{Elements}
@@ -11,7 +11,7 @@ use Rattle.lb_trace.specs.declared.roll.Roll.{Roll}
 use Rattle.lb_trace.specs.declared.table.ColumnTable.{ColumnTable}
 use Rattle.lb_trace.specs.Errors.{IsRefusal}
 use Rattle.lb_trace.specs.Lines.{after_line, record_of}
-use Rattle.lb_trace.specs.Plain.{has_quote, plain_records}
+use Rattle.lb_trace.specs.Plain.{plain_records}
 use Rattle.lb_trace.specs.Refusals.{then_read, with_record, with_records}
 use Rattle.lb_trace.specs.Rolls.{IsRoll, IsRollOf, RefusesRows}
 use Rattle.lb_trace.specs.RoundReaders.{IsRound}
@@ -26,9 +26,6 @@ use Rattle.lb_trace.proofs.TextReadings.{refused_on, refused_one}
 use Rattle.lb_pool.specs.Correct.{AreVerdicts}
 use Rattle.lb_report.specs.JudgedParts.{AreJudgedTraces, IsJudgedPart, IsPartRead, IsState}
 use Rattle.lb_report.specs.JudgedParts.{IsStopped}
-use Rattle.lb_report.specs.Sections.{IsPlainHalt}
-use Rattle.lb_report.specs.declared.rounds.Halt.{Halt}
-use Rattle.lb_report.specs.declared.rounds.Halt.TheVariants as halt
 use Rattle.lb_report.specs.declared.rounds.Judged.{Judged}
 use Rattle.lb_report.specs.declared.rounds.State.{State}
 use Rattle.lb_report.proofs.JudgedParts.{judged_more}
@@ -240,11 +237,3 @@ pub stopped_rows : (elements : Elements) (columns : Record) (before after : Trac
 stopped_rows elements columns before after text rest rows at =
     ap (λ rs. rows ++ rs) (at.cut ∙ ap (λ rs. at.done ++ rs) (begun-more rest at.some))
     ∙ sym (append_assoc rows at.done (record_of rest ∷ plain_records (after_line rest)))
-
--- a halt of a text without quotes is an `IsPlainHalt`
-pub plain_halt : (text : List ℕ) (h : Halt) → has_quote text ≡ false → IsPlainHalt text h
-plain_halt text (halt.Load e) plain = tt
-plain_halt text (halt.Refused e) plain = tt
-plain_halt text (halt.Early e) plain = plain
-plain_halt text (halt.Stopped judged line) plain = plain
-plain_halt text halt.Quoted plain = tt

@@ -1,5 +1,5 @@
 -- A file whose header is read from its first bytes, and the rest in sections.
-use Rattle.std.proofs.Common.{ℕ, Bool, ◌≡◌, ◌⊎◌, ◌∙◌, ◌+◌, ◌-◌, ◌<◌, ◌≤◌, true, List, [], ◌++◌}
+use Rattle.std.proofs.Common.{ℕ, Bool, ◌≡◌, ◌∙◌, ◌+◌, ◌-◌, ◌<◌, ◌≤◌, true, List, [], ◌++◌}
 use Rattle.std.proofs.Common.{None, Option, Some, Result, Ok, Err, append_assoc, ap, arith, drop}
 use Rattle.std.proofs.Common.{inl, length, length-append, subst, sym, take, ⊎_elim}
 use Rattle.std.proofs.Math.Seq.{drop-append_seam, take_all}

@@ -1,5 +1,5 @@
 -- Sections that were judged by themselves, one after the other.
-use Rattle.std.proofs.Common.{ℕ, ◌≡◌, ◌∙◌, List, [], ◌∷◌, ◌++◌, Ok, ap, append_assoc, subst, sym}
+use Rattle.std.proofs.Common.{ℕ, ◌∙◌, List, [], ◌∷◌, ◌++◌, ap, append_assoc, subst, sym}
 use Rattle.lb_static.specs.Signature.{Elements}
 use Rattle.lb_traces.specs.Traces.{Traces}
 use Rattle.lb_flat.specs.declared.program.FlatProgram.{FlatProgram}

@@ -1,5 +1,5 @@
 -- The answer of the bench to a text in memory, which is a feed that tells its bytes.
-use Rattle.std.proofs.Common.{◌≡◌, ◌∙◌, ◌<◌, ◌++◌, List, [], ℕ, None, Some, Option, Result, Ok, Err}
+use Rattle.std.proofs.Common.{◌≡◌, ◌∙◌, ◌<◌, ◌++◌, List, ℕ, None, Some, Option, Result}
 use Rattle.std.proofs.Common.{ap, append-nil, length, subst, sym}
 use Rattle.std.specs.Io.KnownBytes.{Consumes, IsAtEnd}
 use Rattle.lb_syntax.specs.Tokens.{Text}

@@ -1,5 +1,5 @@
 -- The report on a program and traces that are ready to be run is the report on the texts.
-use Rattle.std.proofs.Common.{◌≡◌, ◌∙◌, ℕ, Result, Ok, Err, ap, refl}
+use Rattle.std.proofs.Common.{◌≡◌, ◌∙◌, ℕ, Result, ap, refl}
 use Rattle.std.proofs.Common.{subst, sym}
 use Rattle.lb_syntax.specs.Tokens.{Text}
 use Rattle.lb_static.specs.DataTypes.{signature}
@@ -16,7 +16,7 @@ use Rattle.lb_pool.specs.declared.follow_error.FollowError.{FollowError}
 use Rattle.lb_pool.proofs.SinkBytes.{takes_nothing}
 use Rattle.lb_report.specs.AcceptedPrograms.{IsAcceptedProgram}
 use Rattle.lb_report.specs.Bench.{IsRefused, OnlyProgram, program_of}
-use Rattle.lb_report.specs.LiveReports.{IsBenchText, IsFollowAnswer, IsPrepared, IsTurnedAway}
+use Rattle.lb_report.specs.LiveReports.{IsBenchText, IsPrepared, IsTurnedAway}
 use Rattle.lb_report.specs.LiveReports.{IsUnderWay}
 use Rattle.lb_report.specs.declared.answer.AcceptedProgram.{AcceptedProgram}
 use Rattle.lb_refusal.specs.declared.error.BenchError.{BenchError}

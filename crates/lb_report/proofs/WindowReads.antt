@@ -1,5 +1,5 @@
 -- The bytes that a window has read of a feed, step after step.
-use Rattle.std.proofs.Common.{ℕ, ◌≡◌, ◌+◌, ◌-◌, ◌<◌, ◌⊎◌, Bool, List, [], ◌∷◌, ◌++◌, length, refl}
+use Rattle.std.proofs.Common.{ℕ, ◌≡◌, ◌+◌, ◌-◌, ◌<◌, Bool, List, [], ◌∷◌, ◌++◌, length, refl}
 use Rattle.std.proofs.Common.{sym, ap, ◌∙◌, ◌≤◌, arith, drop, false, get_or}
 use Rattle.std.proofs.Common.{append_assoc, length-append, inl, inr, ⊎_elim}
 use Rattle.std.proofs.lemmas.List.{append-nil, get_or-append-add, length-drop, length-take-le}

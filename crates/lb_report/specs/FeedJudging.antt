@@ -1,12 +1,12 @@
 -- The results for a source and the traces of a feed, before the feed is read to its end.
 -- This file says what data of the program mean; no definition of the language stands on it.
-use Rattle.std.specs.Prelude.{ℕ, ◌≡◌, ◌<◌, ◌≤◌, ◌&&◌, ◌==◌, ◌⊎◌, List, ◌++◌, length, nat_lt}
+use Rattle.std.specs.Prelude.{ℕ, ◌≡◌, ◌<◌, ◌≤◌, ◌&&◌, ◌==◌, ◌⊎◌, ◌++◌, length, nat_lt}
 use Rattle.std.specs.Prelude.{None, Ok, not, true, if◌then◌else◌}
 use Rattle.lb_syntax.specs.Tokens.{Text}
 use Rattle.lb_static.specs.DataTypes.{signature}
 use Rattle.lb_static.specs.Instances.{Program}
 use Rattle.lb_check.specs.Acceptance.{IsAccepted}
-use Rattle.lb_traces.specs.Traces.{Recording, Traces, trace_names}
+use Rattle.lb_traces.specs.Traces.{Traces, trace_names}
 use Rattle.lb_trace.specs.Refusals.{outcome}
 use Rattle.lb_trace.specs.Errors.{error_number}
 use Rattle.lb_trace.specs.declared.error.TraceError.{TraceError}

@@ -1,8 +1,8 @@
 -- A text in sections, each judged by itself.
 -- This file says what data of the program mean; no definition of the language stands on it.
 use Rattle.std.specs.Prelude.{ℕ, ◌≡◌, ◌<◌, ◌≤◌, ◌++◌, List, [], Option, None, Some, Result, Ok, Err}
-use Rattle.std.specs.Prelude.{Bool as Truth, false, true, flat_map, length, map, take}
-use Rattle.std.specs.List.{All, range_with_len}
+use Rattle.std.specs.Prelude.{Bool as Truth, false, true, flat_map, length, take}
+use Rattle.std.specs.List.{All}
 use Rattle.lb_static.specs.Signature.{Elements}
 use Rattle.lb_flat.specs.declared.program.FlatProgram.{FlatProgram}
 use Rattle.lb_trace.specs.Errors.{IsRefusal, error_number}
@@ -14,7 +14,6 @@ use Rattle.lb_trace.specs.Tables.{columns_in}
 use Rattle.lb_trace.specs.declared.error.TraceError.{TraceError}
 use Rattle.lb_trace.specs.declared.table.ColumnTable.{ColumnTable}
 use Rattle.lb_report.specs.JudgedParts.{HasRoll, IsHalt, IsJudgedPart}
-use Rattle.lb_report.specs.SectionEnds.{section}
 use Rattle.lb_report.specs.declared.rounds.Halt.{Halt}
 use Rattle.lb_report.specs.declared.rounds.Halt.TheVariants as halt
 use Rattle.lb_report.specs.declared.rounds.Judged.{Judged}
@@ -105,7 +104,3 @@ pub record IsRefusedWithin (elements : Elements) (table : ColumnTable) (rows : L
   pub refused :
       IsRefusal (with_records elements (columns_in table) [] (rows ++ lines_of (take count texts)))
       e
-
--- the sections of a text
-abbrev pub sections_in : (text : List ℕ) → (ends : List ℕ) → List (List ℕ)
-sections_in text ends = map (section text ends) (range_with_len 0 (length ends))

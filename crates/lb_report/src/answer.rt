@@ -87,11 +87,10 @@ fn refusal_of_long(alloc: Global, source: &[u8], options: &Options) -> BenchErro
 
 /// Runs a node of a source over the traces of a text, and reports the verdict of each.
 ///
-/// The options name the node under test and the observer, and set how many workers judge sections
-/// of the text side by side: 1 to 64, or with 0 as many as there are processors. The report does
-/// not depend on that number. An error is the refusal of the first part that refuses: E1 to E18, or
-/// E0 where memory ran out. The text is judged as [`bench_feed`](crate::bench_feed) judges one that
-/// is read.
+/// The options name the node under test and the observer, and set how many workers run the traces
+/// side by side: 1 to 64, or with 0 as many as there are processors. The report does not depend on
+/// that number. An error is the refusal of the first part that refuses: E1 to E18, or E0 where
+/// memory ran out. The text is judged as [`bench_feed`](crate::bench_feed) judges one that is read.
 pub fn bench<R: AllocGlobal + Threads + Sync>(
     rt: &R,
     source: &[u8],

@@ -16,7 +16,7 @@ use crate::answer::{AcceptedProgram, accept};
 use crate::feed::{Feed, LoadError};
 use crate::placed::{PlacedFile, bytes_from};
 use crate::rounds::{Halt, Judged, Rounds, row_bytes};
-use crate::sections::{TextFeed, ends_in_file, judge_by, judge_ranges};
+use crate::sections::{TextFeed, ends_in_file, judge_ranges};
 use crate::window::Window;
 use lb_pool::{LaneProgram, Report, SetRunner, compile};
 use lb_refusal::{BenchError, Options};
@@ -28,11 +28,10 @@ use std::thread::Threads;
 /// How much of a text is judged at once. A report does not depend on these sizes.
 #[derive(Clone, Copy)]
 pub struct Sizes {
-    /// How many bytes are in memory, unless a trace is longer: of the text with one worker, and of
-    /// each section of a file with several. A text that several workers judge and that can only be
-    /// read in order is in memory as a whole.
+    /// How many bytes are in memory, unless a trace is longer: of a text, and of each section of a
+    /// file.
     pub window: usize,
-    /// How many bytes of rows are run at once, about.
+    /// How many bytes of rows a worker runs at once, about.
     pub round: usize,
     /// The least size, in bytes, of a file that is read in sections.
     pub least: u64,
@@ -48,7 +47,7 @@ impl Sizes {
         ensures least { result.least ≡ 2097152 }
     {
         Sizes {
-            window: if workers == 1 { 1 << 20 } else { 1 << 19 },
+            window: if workers == 1 { 1 << 18 } else { 1 << 19 },
             round: match workers {
                 1 => 16 << 20,
                 2 => 9 << 20,
@@ -85,18 +84,27 @@ impl From<LoadError> for FeedFault {
     }
 }
 
-/// The rounds in which a worker judges the traces of a program.
+/// How many rounds of one worker a round has at most that several run.
+const MOST_ROUNDS: usize = 4;
+
+/// The rounds in which the traces of a program are judged, each by `workers` workers.
 fn rounds_of<'a, 'p>(
     alloc: Global,
     program: &'a AcceptedProgram,
     lanes: &'a LaneProgram<'p>,
     options: &Options,
     sizes: Sizes,
+    workers: u32,
 ) -> Rounds<'a, 'p>
+    requires program { program.now.ordered.program ≡ lanes.now.program.now }
+    requires workers { (0 < workers) × (workers ≤ 64) }
     ensures signature { result.signature.now ≡ program.now.signature }
     ensures program { result.runner.program.now.program.now ≡ lanes.now.program.now }
 {
     let bytes = row_bytes(&program.signature).max(1);
+    let size = sizes
+        .round
+        .saturating_mul(MOST_ROUNDS.min(workers as usize));
     Rounds {
         alloc,
         signature: &program.signature,
@@ -104,8 +112,10 @@ fn rounds_of<'a, 'p>(
             program: lanes,
             lanes: options.batch,
         },
-        instants: (sizes.round / bytes).clamp(1, 4_000_000) as u32,
+        instants: (size / bytes).clamp(1, 4_000_000) as u32,
         window: sizes.window,
+        ordered: &program.ordered,
+        workers,
     }
 }
 
@@ -143,13 +153,9 @@ where
         (left (F.coming feed.new) (F.given feed.new) (F.failures feed.new)) halt) }
 {
     let lanes = compile(alloc, &program.ordered)?;
-    let workers = workers_of(rt, options);
-    let rounds = rounds_of(alloc, program, &lanes, options, sizes);
-    if workers == 1 {
-        rounds.judge(feed, window)
-    } else {
-        judge_by(rt, &rounds, feed, window, workers)
-    }
+    let workers = workers_of(rt, options).clamp(1, 64) as u32;
+    let rounds = rounds_of(alloc, program, &lanes, options, sizes, workers);
+    rounds.judge(rt, feed, window)
 }
 
 /// Judges the traces of a file of `size` bytes by a program, in sections. None where the first
@@ -175,7 +181,7 @@ where
     let Ok(lanes) = compile(alloc, &program.ordered) else {
         return None;
     };
-    let rounds = rounds_of(alloc, program, &lanes, options, sizes);
+    let rounds = rounds_of(alloc, program, &lanes, options, sizes, 1);
     let bytes = bytes_from(alloc, file, 0, size.min(HEAD as u64) as usize)?;
     let Ok(mut window) = Window::new(alloc, HEAD) else {
         return None;

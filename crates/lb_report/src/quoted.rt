@@ -9,6 +9,7 @@ use crate::window::Window;
 use csv::{ByteRecord, Reader};
 use lb_trace::{ColumnTable, TraceError, next, reader_of, table_of};
 use std::alloc::AllocError;
+use std::thread::Threads;
 
 impl Rounds<'_, '_> {
     ghost use Rattle.std.specs.Prelude.{◌<◌, ◌∷◌, ◌++◌, [], ℕ, List, IfErr, IfOk, OnOk};
@@ -26,7 +27,12 @@ impl Rounds<'_, '_> {
     ghost use Rattle.lb_report.specs.Windows.{IsWindow, left};
 
     /// Judges all traces of a feed.
-    pub(crate) fn judge<F: Feed>(&self, feed: &mut F, window: &mut Window) -> Result<Judged, Halt>
+    pub(crate) fn judge<R: Threads + Sync, F: Feed>(
+        &self,
+        rt: &R,
+        feed: &mut F,
+        window: &mut Window,
+    ) -> Result<Judged, Halt>
         requires window { IsWindow window.old }
         requires failures { F.failures feed.old < u64.MAX }
         ensures window { OnOk result (IsWindow window.new) }
@@ -43,16 +49,17 @@ impl Rounds<'_, '_> {
         match self.read_header(feed, window) {
             Ok(table) => {
                 let state = self.begin()?;
-                self.judge_rest(feed, window, &table, state)
+                self.judge_rest(rt, feed, window, &table, state)
             }
-            Err(Halt::Quoted) => self.judge_quoted_text(feed, window),
+            Err(Halt::Quoted) => self.judge_quoted_text(rt, feed, window),
             Err(halt) => Err(halt),
         }
     }
 
     /// Judges the rest of a feed.
-    pub(crate) fn judge_rest<F: Feed>(
+    pub(crate) fn judge_rest<R: Threads + Sync, F: Feed>(
         &self,
+        rt: &R,
         feed: &mut F,
         window: &mut Window,
         table: &ColumnTable,
@@ -77,15 +84,16 @@ impl Rounds<'_, '_> {
             (left (F.coming feed.old) (F.given feed.old) (F.failures feed.old))
             (left (F.coming feed.new) (F.given feed.new) (F.failures feed.new)) halt) }
     {
-        match self.judge_further(feed, window, table, begun) {
+        match self.judge_further(rt, feed, window, table, begun) {
             Ok(judged) => Ok(judged),
             Err(halt) => Err(self.refusal(table, halt)),
         }
     }
 
     /// `judge_rest`, but the halt is returned as it is: other records may stand before the rest.
-    fn judge_further<F: Feed>(
+    fn judge_further<R: Threads + Sync, F: Feed>(
         &self,
+        rt: &R,
         feed: &mut F,
         window: &mut Window,
         table: &ColumnTable,
@@ -111,16 +119,17 @@ impl Rounds<'_, '_> {
             (left (F.coming feed.new) (F.given feed.new) (F.failures feed.new)) halt) }
         ensures kept { IfErr result HasRoll }
     {
-        match self.judge_pieces(feed, window, table, begun) {
+        match self.judge_pieces(rt, feed, window, table, begun) {
             Ok(judged) => Ok(judged),
             Err(Reading::Halted(halt)) => Err(halt),
-            Err(Reading::Quoted(state)) => self.judge_quoted(feed, window, table, state),
+            Err(Reading::Quoted(state)) => self.judge_quoted(rt, feed, window, table, state),
         }
     }
 
     /// Judges a text with quotes from its begin.
-    pub(crate) fn judge_quoted_text<F: Feed>(
+    pub(crate) fn judge_quoted_text<R: Threads + Sync, F: Feed>(
         &self,
+        rt: &R,
         feed: &mut F,
         window: &mut Window,
     ) -> Result<Judged, Halt>
@@ -138,11 +147,11 @@ impl Rounds<'_, '_> {
             (left (F.coming feed.new) (F.given feed.new) (F.failures feed.new)) halt) }
     {
         window.fill_all(feed)?;
-        self.judge_whole(window.text())
+        self.judge_whole(rt, window.text())
     }
 
     /// Judges a text, which may have quotes.
-    fn judge_whole(&self, text: &[u8]) -> Result<Judged, Halt>
+    fn judge_whole<R: Threads + Sync>(&self, rt: &R, text: &[u8]) -> Result<Judged, Halt>
         ensures ok { IfOk result
             (IsWholeJudged self.now.runner.program.now.program.now self.now.signature.now
             text.now) }
@@ -157,15 +166,16 @@ impl Rounds<'_, '_> {
             return Err(Halt::Refused(TraceError::Header));
         };
         let state = self.begin()?;
-        match self.judge_records(&mut reader, &table, state) {
+        match self.judge_records(rt, &mut reader, &table, state) {
             Ok(judged) => Ok(judged),
             Err(halt) => Err(self.refusal(&table, halt)),
         }
     }
 
     /// Judges the rest of a text, which has quotes.
-    fn judge_quoted<F: Feed>(
+    fn judge_quoted<R: Threads + Sync, F: Feed>(
         &self,
+        rt: &R,
         feed: &mut F,
         window: &mut Window,
         table: &ColumnTable,
@@ -192,11 +202,17 @@ impl Rounds<'_, '_> {
         ensures kept { IfErr result HasRoll }
     {
         window.fill_all(feed)?;
-        self.judge_behind(window.text(), table, state)
+        self.judge_behind(rt, window.text(), table, state)
     }
 
     /// Judges a text behind what `state` has read; the text may have quotes.
-    fn judge_behind(&self, text: &[u8], table: &ColumnTable, state: State) -> Result<Judged, Halt>
+    fn judge_behind<R: Threads + Sync>(
+        &self,
+        rt: &R,
+        text: &[u8],
+        table: &ColumnTable,
+        state: State,
+    ) -> Result<Judged, Halt>
         requires table { IsColumnTable self.now.signature.now table.now }
         requires state { IsState self.now.signature.now state }
         ensures ok { IfOk result (λ judged. (rows : List Record)
@@ -214,12 +230,13 @@ impl Rounds<'_, '_> {
         let mut line = b"\n".to_vec(self.alloc)?;
         line.extend_from_slice(text)?;
         let mut reader = reader_of(self.alloc, line.as_slice());
-        self.judge_records(&mut reader, table, state)
+        self.judge_records(rt, &mut reader, table, state)
     }
 
     /// Judges the records of a reader.
-    fn judge_records(
+    fn judge_records<R: Threads + Sync>(
         &self,
+        rt: &R,
         reader: &mut Reader<&[u8]>,
         table: &ColumnTable,
         begun: State,
@@ -243,17 +260,18 @@ impl Rounds<'_, '_> {
         let mut entry = ByteRecord::new(self.alloc);
         'records: for _ in 0..u64::MAX {
             if !next(reader, &mut entry)? {
-                return self.last_round(state);
+                return self.last_round(rt, state);
             }
-            state = self.read_record(table, &entry, state)?;
+            state = self.read_record(rt, table, &entry, state)?;
         }
         // No text has that many records.
         Err(Halt::from(AllocError))
     }
 
     /// Adds a record to the round, or to a new one where `ready_for` begins one.
-    fn read_record(
+    fn read_record<R: Threads + Sync>(
         &self,
+        rt: &R,
         table: &ColumnTable,
         entry: &ByteRecord,
         state: State,
@@ -273,7 +291,7 @@ impl Rounds<'_, '_> {
             (rows ++ fields_of entry.now ∷ []) halt) }
         ensures kept { IfErr result HasRoll }
     {
-        let mut state = self.ready_for(entry, state)?;
+        let mut state = self.ready_for(rt, entry, state)?;
         match state.round.add_record(self.alloc, table, entry) {
             Ok(()) => Ok(state),
             Err(cause) => Err(self.refused_record(table, entry, state, cause)),
@@ -281,7 +299,12 @@ impl Rounds<'_, '_> {
     }
 
     /// Begins a new round where the present one is full and `entry` begins another trace.
-    fn ready_for(&self, entry: &ByteRecord, state: State) -> Result<State, Halt>
+    fn ready_for<R: Threads + Sync>(
+        &self,
+        rt: &R,
+        entry: &ByteRecord,
+        state: State,
+    ) -> Result<State, Halt>
         requires { IsState self.now.signature.now state }
         ensures state { IfOk result (IsState self.now.signature.now) }
         ensures ok { IfOk result (λ next. (table : Table) → (rows : List Record)
@@ -298,7 +321,7 @@ impl Rounds<'_, '_> {
         if state.round.goes_on(entry) {
             return Ok(state);
         }
-        self.with_room(state)
+        self.with_room(rt, state)
     }
 
     /// The halt at a record that the round has refused with `cause`.

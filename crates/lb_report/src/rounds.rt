@@ -4,27 +4,32 @@
 //! feed -> window -> whole traces -> rows -> once they are many, run -> names and verdicts
 //! ```
 //!
-//! A round ends once it has enough instants or traces; then its traces are run, and their rows are
-//! dropped. The name, the length and the verdict of each trace are kept.
+//! A round ends once it has enough instants or traces; then its traces are run, by one worker or by
+//! several side by side, and their rows are dropped. The name, the length and the verdict of each
+//! trace are kept.
 
 ghost use Rattle.std.specs.Prelude.{◌≡◌, ◌<◌, ◌≤◌};
 
 use crate::feed::{Feed, LoadError};
 use crate::window::Window;
 use lb_check::Verdict;
-use lb_pool::{RoundRoom, SetRunner};
+use lb_flat::Ordered;
+use lb_pool::{NoGate, Plan, RoundRoom, SetRunner, run_claims};
 use lb_static::Signature;
 use lb_syntax::Kind;
 use lb_trace::{
     ColumnTable, Roll, RoundReader, Stopped, TraceError, begin, first_line, has_line, header_len,
     is_plain, strip_bom, whole_traces,
 };
+use lb_traces::TraceSet;
 use std::alloc::{AllocError, Global};
+use std::thread::Threads;
 
 /// The most traces of a round, about.
-const MOST_TRACES: u32 = 65_536;
+const MOST_TRACES: u32 = 16_384;
 
-/// How a worker judges: the program, the signature of its traces, how large its rounds are.
+/// How a text is judged: the program, the signature of its traces, how large the rounds are and how
+/// many workers run them.
 #[derive(Clone, Copy)]
 pub(crate) struct Rounds<'a, 'p> {
     pub(crate) alloc: Global,
@@ -34,6 +39,11 @@ pub(crate) struct Rounds<'a, 'p> {
     pub(crate) instants: u32,
     /// How many bytes of a text, or of a section, are in memory, unless a trace is longer.
     pub(crate) window: usize,
+    /// How many workers run a round. One runs it by `runner`, and several the program `ordered`.
+    pub(crate) workers: u32,
+    pub(crate) ordered: &'a Ordered,
+    pub(crate) ghost same: { ordered.now.program ≡ runner.program.now.program.now },
+    pub(crate) ghost some: { (0 < workers) × (workers ≤ 64) },
 }
 
 /// The names of the traces so far, and their verdicts.
@@ -154,8 +164,9 @@ impl Rounds<'_, '_> {
     ghost use Rattle.csv.specs.Reading.{strip_bom};
     ghost use Rattle.lb_trace.specs.Chunks.{is_ended};
     ghost use Rattle.lb_trace.specs.Lines.{record_of};
-    ghost use Rattle.lb_trace.specs.Plain.{has_quote, plain_records};
+    ghost use Rattle.lb_trace.specs.Plain.{plain_records};
     ghost use Rattle.lb_trace.specs.Rolls.{IsRoll};
+    ghost use Rattle.lb_pool.specs.Correct.{AreVerdicts};
     ghost use Rattle.lb_trace.specs.RoundReaders.{IsRound};
     ghost use Rattle.lb_trace.specs.Spelling.{Record};
     ghost use Rattle.lb_trace.specs.Tables.{IsColumnTable};
@@ -166,7 +177,7 @@ impl Rounds<'_, '_> {
     ghost use Rattle.lb_report.specs.JudgedParts.{IsRestDone, IsRestRead, IsState};
     ghost use Rattle.lb_report.specs.declared.rounds.Halt.TheVariants.{Load};
     ghost use Rattle.lb_report.specs.declared.feed.LoadError.{LoadError};
-    ghost use Rattle.lb_report.specs.Sections.{IsPlainHalt, IsSetAside};
+    ghost use Rattle.lb_report.specs.Sections.{IsSetAside};
     ghost use Rattle.lb_report.specs.Windows.{HasTaken, IsLoadFault, IsWindow, left};
     ghost use Rattle.lb_report.specs.Windows.{text_in, turns_left};
 
@@ -211,9 +222,31 @@ impl Rounds<'_, '_> {
         set.instants() >= self.instants || set.len() >= MOST_TRACES
     }
 
+    /// The verdicts of the traces of a round, in their order.
+    fn run<R: Threads + Sync>(
+        &self,
+        rt: &R,
+        set: &TraceSet,
+        room: &mut Option<RoundRoom>,
+    ) -> Result<Vec<Verdict>, AllocError>
+        ensures { IfOk result (λ verdicts.
+            AreVerdicts self.now.runner.program.now.program.now set.now verdicts.items) }
+    {
+        let (alloc, workers) = (self.alloc, self.workers);
+        if workers == 1 {
+            return self.runner.run(alloc, set, room);
+        }
+        let plan = Plan::by_length(alloc, set, self.runner.lanes)?;
+        run_claims(rt, alloc, self.ordered, set, &plan, workers, &NoGate)
+    }
+
     /// Runs the traces of the round, and appends their names and verdicts to the others. Returns
     /// the round too.
-    fn settle(&self, state: State) -> Result<(Judged, Option<RoundRoom>, RoundReader), Halt>
+    fn settle<R: Threads + Sync>(
+        &self,
+        rt: &R,
+        state: State,
+    ) -> Result<(Judged, Option<RoundRoom>, RoundReader), Halt>
         requires { IsState self.now.signature.now state }
         ensures roll { IfOk result (λ found. IsRoll found.0.roll) }
         ensures ok { IfOk result (λ found. (table : Table) → (rows : List Record)
@@ -240,13 +273,13 @@ impl Rounds<'_, '_> {
             Ok(roll) => roll,
             Err(cause) => return Err(Halt::Early(cause)),
         };
-        let found = self.runner.run(self.alloc, set, &mut room)?;
+        let found = self.run(rt, set, &mut room)?;
         verdicts.extend_from_slice(found.as_slice())?;
         Ok((Judged { roll, verdicts }, room, round))
     }
 
     /// Runs the traces of the round by `settle`, and begins another round.
-    pub(crate) fn next_round(&self, state: State) -> Result<State, Halt>
+    pub(crate) fn next_round<R: Threads + Sync>(&self, rt: &R, state: State) -> Result<State, Halt>
         requires { IsState self.now.signature.now state }
         ensures state { IfOk result (IsState self.now.signature.now) }
         ensures ok { IfOk result (λ next. (table : Table) → (rows : List Record)
@@ -260,7 +293,7 @@ impl Rounds<'_, '_> {
             → IsHalt self.now.signature.now table rows halt) }
         ensures kept { IfErr result HasRoll }
     {
-        let (judged, room, mut round) = self.settle(state)?;
+        let (judged, room, mut round) = self.settle(rt, state)?;
         round.clear();
         Ok(State {
             judged,
@@ -270,7 +303,7 @@ impl Rounds<'_, '_> {
     }
 
     /// `next_round` where the round is full, and else the state as it is.
-    pub(crate) fn with_room(&self, state: State) -> Result<State, Halt>
+    pub(crate) fn with_room<R: Threads + Sync>(&self, rt: &R, state: State) -> Result<State, Halt>
         requires { IsState self.now.signature.now state }
         ensures state { IfOk result (IsState self.now.signature.now) }
         ensures ok { IfOk result (λ next. (table : Table) → (rows : List Record)
@@ -285,14 +318,14 @@ impl Rounds<'_, '_> {
         ensures kept { IfErr result HasRoll }
     {
         if self.is_full(&state.round) {
-            self.next_round(state)
+            self.next_round(rt, state)
         } else {
             Ok(state)
         }
     }
 
     /// Runs the traces of the last round.
-    pub(crate) fn last_round(&self, state: State) -> Result<Judged, Halt>
+    pub(crate) fn last_round<R: Threads + Sync>(&self, rt: &R, state: State) -> Result<Judged, Halt>
         requires { IsState self.now.signature.now state }
         ensures roll { IfOk result (λ judged. IsRoll judged.roll) }
         ensures ok { IfOk result (λ judged. (table : Table) → (rows : List Record)
@@ -306,7 +339,7 @@ impl Rounds<'_, '_> {
             → IsHalt self.now.signature.now table rows halt) }
         ensures kept { IfErr result HasRoll }
     {
-        let (judged, _room, _round) = self.settle(state)?;
+        let (judged, _room, _round) = self.settle(rt, state)?;
         Ok(judged)
     }
 
@@ -516,8 +549,9 @@ impl Rounds<'_, '_> {
 
     /// Judges the traces of a feed behind its header up to its end, or to the first piece that has
     /// a quote.
-    pub(crate) fn judge_pieces<F: Feed>(
+    pub(crate) fn judge_pieces<R: Threads + Sync, F: Feed>(
         &self,
+        rt: &R,
         feed: &mut F,
         window: &mut Window,
         table: &ColumnTable,
@@ -549,16 +583,17 @@ impl Rounds<'_, '_> {
     {
         let mut state = self.read_piece(feed, window, table, begun)?;
         'pieces: while !window.is_done() {
-            state = self.with_room(state)?;
+            state = self.with_room(rt, state)?;
             state = self.read_piece(feed, window, table, state)?;
         }
-        Ok(self.last_round(state)?)
+        Ok(self.last_round(rt, state)?)
     }
 
     /// Judges all traces of a section of a text. Where they are not judged, memory ran out, or the
     /// section is to be judged again with what follows it.
-    pub(crate) fn judge_section<F: Feed>(
+    pub(crate) fn judge_section<R: Threads + Sync, F: Feed>(
         &self,
+        rt: &R,
         feed: &mut F,
         window: &mut Window,
         table: &ColumnTable,
@@ -575,34 +610,11 @@ impl Rounds<'_, '_> {
             (left (F.coming feed.new) (F.given feed.new) (F.failures feed.new)) judged) }
         ensures err { IfErr result IsSetAside }
     {
-        match self.judge_pieces(feed, window, table, self.begin()?) {
+        match self.judge_pieces(rt, feed, window, table, self.begin()?) {
             Ok(judged) => Ok(judged),
             Err(Reading::Halted(Halt::Refused(cause))) => Err(Halt::Refused(cause)),
             Err(_) => Err(Halt::Quoted),
         }
-    }
-
-    /// Judges all traces of a slice of a text, in one round.
-    pub(crate) fn judge_text(&self, text: &[u8], table: &ColumnTable) -> Result<Judged, Halt>
-        requires table { IsColumnTable self.now.signature.now table.now }
-        ensures roll { IfOk result (λ judged. IsRoll judged.roll) }
-        ensures ok { IfOk result
-            (IsJudgedPart self.now.runner.program.now.program.now self.now.signature.now table.now
-            (plain_records text.now)) }
-        ensures err { IfErr result
-            (IsHalt self.now.signature.now table.now (plain_records text.now)) }
-        ensures kept { IfErr result HasRoll }
-        ensures plain { OnOk result (has_quote text.now ≡ false) }
-        ensures plain_line { IfErr result (IsPlainHalt text.now) }
-    {
-        let mut state = self.begin()?;
-        if !is_plain(text) {
-            return Err(Halt::Quoted);
-        }
-        if let Err(stopped) = state.round.add_lines(self.alloc, table, text) {
-            return Err(self.stop(state, stopped));
-        }
-        self.last_round(state)
     }
 }
 

@@ -1,30 +1,28 @@
-//! Judging with several workers: each has a section of the text, which it reads and runs by itself.
+//! Judging a file with several workers: each has a section of it, which it reads and runs by itself.
 //!
 //! ```text
-//! text      trace,x | a,1 | a,5 | b,0 | c,7 | c,7 | d,2
+//! file      trace,x | a,1 | a,5 | b,0 | c,7 | c,7 | d,2
 //! section             0 ............... | 1 ...........
 //! ```
 //!
 //! A section begins and ends with whole traces. Names and verdicts of all sections are put one
-//! after the other in the order of the text.
+//! after the other in the order of the file.
 
-ghost use Rattle.std.specs.Prelude.{◌≡◌, ◌<◌, ◌≤◌, ◌-◌, [], ℕ, List, IfErr, IfOk, IfSome};
-ghost use Rattle.std.specs.Prelude.{◌==◌, ◌+◌, OnOk, drop, get_or, length, take, true};
+ghost use Rattle.std.specs.Prelude.{◌≡◌, ◌<◌, ◌≤◌, [], ℕ, List, IfErr, IfOk, IfSome};
+ghost use Rattle.std.specs.Prelude.{◌==◌, ◌+◌, get_or, length, true};
 ghost use Rattle.std.specs.List.{All, AllZip, range_with_len};
 ghost use Rattle.lb_flat.specs.declared.program.FlatProgram.{FlatProgram};
 ghost use Rattle.lb_static.specs.Signature.{Elements};
-ghost use Rattle.lb_trace.specs.Chunks.{is_ended};
 ghost use Rattle.lb_trace.specs.Rolls.{IsRoll};
 ghost use Rattle.lb_trace.specs.Spelling.{Record};
 ghost use Rattle.lb_trace.specs.Tables.{IsColumnTable};
-ghost use Rattle.lb_report.specs.JudgedParts.{IsJudgedPart, IsRestJudged, IsRestRefused};
-ghost use Rattle.lb_report.specs.JudgedParts.{IsTextJudged, IsTextRefused};
+ghost use Rattle.lb_report.specs.JudgedParts.{IsJudgedPart};
 ghost use Rattle.lb_report.specs.PlacedFiles.{told_between};
 ghost use Rattle.lb_report.specs.Ranges.{AreRangeEnds, AreRangesJudged, IsRangeTold, IsRangesHalt};
-ghost use Rattle.lb_report.specs.SectionEnds.{AreEnds, AreSections, section, start_of};
+ghost use Rattle.lb_report.specs.SectionEnds.{AreEnds, start_of};
 ghost use Rattle.lb_report.specs.Sections.{AreAppended, IsRefusedWithin, IsSection, KeepsRoll};
-ghost use Rattle.lb_report.specs.Sections.{is_alone, sections_in};
-ghost use Rattle.lb_report.specs.Windows.{IsWindow, left};
+ghost use Rattle.lb_report.specs.Sections.{is_alone};
+ghost use Rattle.lb_report.specs.Windows.{left};
 
 use crate::feed::{Feed, FeedFailed};
 use crate::placed::PlacedFile;
@@ -293,7 +291,8 @@ fn goes_on_alone(halt: &Halt) -> bool
 /// Judges the section of a file from `start` to `past` by itself. `Quoted` says that it is to be
 /// judged again with what follows it: it has a quote, could not be read or is refused, or it is not
 /// the last one and does not end with a line at `past`, as in a file that has changed.
-fn judge_range<F: PlacedFile>(
+fn judge_range<R: Threads + Sync, F: PlacedFile>(
+    rt: &R,
     rounds: &Rounds<'_, '_>,
     table: &ColumnTable,
     file: &F,
@@ -309,7 +308,7 @@ fn judge_range<F: PlacedFile>(
 {
     let mut window = Window::new(rounds.alloc, rounds.window)?;
     let mut feed = RangeFeed::new(file, start, past);
-    let judged = rounds.judge_section(&mut feed, &mut window, table)?;
+    let judged = rounds.judge_section(rt, &mut feed, &mut window, table)?;
     if is_last || (window.is_ended() && feed.at == past) {
         Ok(judged)
     } else {
@@ -355,14 +354,15 @@ fn told_ranges<R: Threads + Sync, F: PlacedFile + Sync>(
                     (i + 1 == length ends.entry.now) result }
             {
                 let start = start_at(from, ends, i);
-                judge_range(rounds, table, file, start, ends[i], i + 1 == ends.len())
+                judge_range(rt, rounds, table, file, start, ends[i], i + 1 == ends.len())
             },
         )
         .collect::<Vec<_>>(rt, rounds.alloc)
 }
 
 /// Judges the bytes of a file from `start` to `size` by one worker, behind `judged`.
-fn judge_onward<F: PlacedFile>(
+fn judge_onward<R: Threads + Sync, F: PlacedFile>(
+    rt: &R,
     rounds: &Rounds<'_, '_>,
     table: &ColumnTable,
     file: &F,
@@ -387,7 +387,13 @@ fn judge_onward<F: PlacedFile>(
 {
     let mut feed = RangeFeed::new(file, start, size);
     let mut window = Window::new(rounds.alloc, rounds.window)?;
-    rounds.judge_rest(&mut feed, &mut window, table, rounds.begin_with(judged)?)
+    rounds.judge_rest(
+        rt,
+        &mut feed,
+        &mut window,
+        table,
+        rounds.begin_with(judged)?,
+    )
 }
 
 /// Judges the sections of a file behind its header, which are from `from` to `size`.
@@ -418,156 +424,5 @@ pub(crate) fn judge_ranges<R: Threads + Sync, F: PlacedFile + Sync>(
         return Err(halt);
     }
     let start = start_at(from, ends, count);
-    judge_onward(rounds, table, file, start, size, all)
-}
-
-// The end of the whole traces between `last` and `place` of a text; `last` where there are none.
-fn end_in_text(text: &[u8], last: usize, place: usize) -> usize
-    requires last { last ≤ length text.now }
-    requires place { place ≤ length text.now }
-    ensures within { result ≤ length text.now }
-    ensures whole { last < result
-        → is_ended (take (result - last) (drop last text.now)) ≡ true }
-{
-    if place <= last {
-        return last;
-    }
-    last + whole_traces(&text[last..place])
-}
-
-/// The ends of up to `count` slices of a text, each but the last of whole traces.
-pub(crate) fn ends_in_text(
-    alloc: Global,
-    text: &[u8],
-    count: usize,
-) -> Result<Vec<usize>, AllocError>
-    ensures { IfOk result (λ ends. AreSections text.now ends.items) }
-{
-    let mut ends = Vec::new(alloc);
-    let mut last = 0usize;
-    'sections: for k in 1..count.max(1) {
-        let end = end_in_text(text, last, text.len() / count * k);
-        if end > last {
-            ends.push(end)?;
-            last = end;
-        }
-    }
-    ends.push(text.len())?;
-    Ok(ends)
-}
-
-/// The bytes of section `i` of a text.
-fn section_bytes<'t>(text: &'t [u8], ends: &[usize], i: usize) -> &'t [u8]
-    requires ends { AreSections text.now ends.now }
-    requires i { i < length ends.now }
-    ensures { result.now ≡ section text.now ends.now i }
-{
-    let start = start_in(ends, i);
-    &text[start..ends[i]]
-}
-
-/// The slices of a text, each judged by itself.
-fn judge_slices<R: Threads + Sync>(
-    rt: &R,
-    rounds: &Rounds<'_, '_>,
-    table: &ColumnTable,
-    text: &[u8],
-    ends: &[usize],
-) -> Result<Vec<Result<Judged, Halt>>, AllocError>
-    requires table { IsColumnTable rounds.now.signature.now table.now }
-    requires ends { AreSections text.now ends.now }
-    ensures { IfOk result (λ judged. AllZip
-        (IsSection rounds.now.runner.program.now.program.now rounds.now.signature.now table.now)
-        (sections_in text.now ends.now) judged.items) }
-{
-    (0..ends.len())
-        .into_par_iter()
-        .with_min_len(1)
-        .map(
-            |i: usize| -> Result<Judged, Halt>
-                requires { IsColumnTable rounds.now.signature.now table.now
-                    × AreSections text.now ends.now × (i < length ends.now) }
-                ensures { IsSection rounds.entry.now.runner.program.now.program.now
-                    rounds.entry.now.signature.now table.entry.now
-                    (section text.entry.now ends.entry.now i) result }
-            { rounds.judge_text(section_bytes(text, ends, i), table) },
-        )
-        .collect::<Vec<_>>(rt, rounds.alloc)
-}
-
-/// Judges the rest of a feed behind its header, with several workers: it is read to its end, and
-/// the text is cut among them.
-fn judge_among<R: Threads + Sync, F: Feed + Send>(
-    rt: &R,
-    rounds: &Rounds<'_, '_>,
-    table: &ColumnTable,
-    feed: &mut F,
-    window: &mut Window,
-    workers: usize,
-) -> Result<Judged, Halt>
-    requires window { IsWindow window.old }
-    requires failures { F.failures feed.old < u64.MAX }
-    requires table { IsColumnTable rounds.now.signature.now table.now }
-    ensures window { OnOk result (IsWindow window.new) }
-    ensures ok { IfOk result (λ judged.
-        IsRestJudged rounds.now.runner.program.now.program.now rounds.now.signature.now table.now
-        [] window.old window.new
-        (left (F.coming feed.old) (F.given feed.old) (F.failures feed.old))
-        (left (F.coming feed.new) (F.given feed.new) (F.failures feed.new)) judged) }
-    ensures err { IfErr result (λ halt.
-        IsRestRefused rounds.now.signature.now table.now [] window.old window.new
-        (left (F.coming feed.old) (F.given feed.old) (F.failures feed.old))
-        (left (F.coming feed.new) (F.given feed.new) (F.failures feed.new)) halt) }
-{
-    window.fill_all(feed)?;
-    let alloc = rounds.alloc;
-    let begun = Judged::new(alloc, rounds.signature)?;
-    let ends = ends_in_text(alloc, window.text(), workers)?;
-    let ends = ends.as_slice();
-    let told = judge_slices(rt, rounds, table, window.text(), ends)?;
-    let Appended { all, count, halt } = append_all(alloc, told, table, begun)?;
-    let Some(halt) = halt else {
-        return Ok(all);
-    };
-    if !goes_on_alone(&halt) {
-        return Err(halt);
-    }
-    window.let_go(start_in(ends, count));
-    rounds.judge_rest(feed, window, table, rounds.begin_with(all)?)
-}
-
-/// The place where section `i` of a text begins.
-fn start_in(ends: &[usize], i: usize) -> usize
-    requires { i ≤ length ends.now }
-    ensures { result ≡ start_of 0 ends.now i }
-{
-    if i == 0 { 0 } else { ends[i - 1] }
-}
-
-/// Judges all traces of a feed, with several workers.
-pub(crate) fn judge_by<R: Threads + Sync, F: Feed + Send>(
-    rt: &R,
-    rounds: &Rounds<'_, '_>,
-    feed: &mut F,
-    window: &mut Window,
-    workers: usize,
-) -> Result<Judged, Halt>
-    requires window { IsWindow window.old }
-    requires failures { F.failures feed.old < u64.MAX }
-    ensures window { OnOk result (IsWindow window.new) }
-    ensures ok { IfOk result (λ judged.
-        IsTextJudged rounds.now.runner.program.now.program.now rounds.now.signature.now
-        window.old window.new
-        (left (F.coming feed.old) (F.given feed.old) (F.failures feed.old))
-        (left (F.coming feed.new) (F.given feed.new) (F.failures feed.new)) judged) }
-    ensures err { IfErr result (λ halt. IsTextRefused rounds.now.signature.now
-        window.old window.new
-        (left (F.coming feed.old) (F.given feed.old) (F.failures feed.old))
-        (left (F.coming feed.new) (F.given feed.new) (F.failures feed.new)) halt) }
-{
-    match rounds.read_header(feed, window) {
-        Ok(table) => judge_among(rt, rounds, &table, feed, window, workers),
-        Err(Halt::Quoted) => rounds.judge_quoted_text(feed, window),
-        Err(halt) => Err(halt),
-    }
+    judge_onward(rt, rounds, table, file, start, size, all)
 }

@@ -1,5 +1,5 @@
 -- The program of a source judges, or a part of the texts is refused.
-use Rattle.std.proofs.Common.{◌∙◌, refl, subst, sym}
+use Rattle.std.proofs.Common.{refl, subst, sym}
 use Rattle.lb_report.specs.FeedJudging.{IsJudgingFault}
 use Rattle.lb_report.specs.Windows.{left}
 use Rattle.lb_report.specs.declared.feeding.FeedFault.{FeedFault}

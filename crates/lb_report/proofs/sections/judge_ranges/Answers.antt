@@ -1,6 +1,6 @@
 -- All sections are judged by themselves and appended. From one that is not judged by itself on, one
 -- worker judges.
-use Rattle.std.proofs.Common.{◌≡◌, ◌≤◌, ◌-◌, [], Some, arith, length, refl}
+use Rattle.std.proofs.Common.{◌≡◌, ◌≤◌, [], Some, arith, length, refl}
 use Rattle.std.proofs.Common.{subst, take}
 use Rattle.std.proofs.lemmas.Result.{IfErr-weaker, IfOk-weaker}
 use Rattle.std.specs.List.{range_with_len}

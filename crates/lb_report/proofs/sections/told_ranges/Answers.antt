@@ -30,7 +30,16 @@ collect-requires-clause-ready g c κs lawful =
       range.0,
       range.1,
     )
-    (λ k d below. (inside k d below, λ y given. tt))
+    (λ k d below. (
+      (
+        inside k d below,
+        (
+          record { shared = c.type_bounds.sync-R.shared },
+          record { shared = c.type_bounds.sync-F.shared },
+        ),
+      ),
+      λ y given. tt,
+    ))
 
 pub returns : goal.returns
 returns g c =

@@ -64,7 +64,7 @@ returns-in-Err-Quoted-clause-err g c =
     c.judge_quoted_text.ensures.err
 
 pub judge_quoted_text-requires-clause-window : goal.judge_quoted_text-requires-clause-window
-judge_quoted_text-requires-clause-window g c =
+judge_quoted_text-requires-clause-window g c κs within =
     let head = rw c.in-Err-Quoted.field-0-is at c.in-Err-Quoted.ensures.err in head.1
 
 pub returns-in-Err-clause-err : goal.returns-in-Err-clause-err

@@ -11,7 +11,7 @@ use Rattle.lb_report.proofs.QuotedTexts.{halted_at_once}
 use Rattle.lb_report.proofs.rounds.Rounds.judge_behind.Goals as goal
 
 pub returns-clause-ok : goal.returns-clause-ok
-returns-clause-ok c =
+returns-clause-ok g c =
     let p = c.args.self.now.runner.program.now.program.now in
     let elements = c.args.self.now.signature.now in
     let table = c.args.table.now in
@@ -28,7 +28,7 @@ returns-clause-ok c =
     c.judge_records.ensures.ok
 
 pub returns-clause-err : goal.returns-clause-err
-returns-clause-err c =
+returns-clause-err g c =
     let p = c.args.self.now.runner.program.now.program.now in
     let elements = c.args.self.now.signature.now in
     let table = c.args.table.now in
@@ -45,7 +45,7 @@ returns-clause-err c =
     c.judge_records.ensures.err
 
 pub returns-in_err-line-clause-err : goal.returns-in_err-line-clause-err
-returns-in_err-line-clause-err c =
+returns-in_err-line-clause-err g c =
     let p = c.args.self.now.runner.program.now.program.now in
     let elements = c.args.self.now.signature.now in
     let table = c.args.table.now in
@@ -57,7 +57,7 @@ returns-in_err-line-clause-err c =
     (λ rows is. halted_at_once elements table (10 ∷ c.args.text.now) rows e refl)
 
 pub returns-in_err-extend_from_slice-clause-err : goal.returns-in_err-extend_from_slice-clause-err
-returns-in_err-extend_from_slice-clause-err c =
+returns-in_err-extend_from_slice-clause-err g c =
     let p = c.args.self.now.runner.program.now.program.now in
     let elements = c.args.self.now.signature.now in
     let table = c.args.table.now in

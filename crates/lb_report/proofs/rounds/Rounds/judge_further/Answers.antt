@@ -17,11 +17,11 @@ pub returns-in-Err-Halted-clause-kept : goal.returns-in-Err-Halted-clause-kept
 returns-in-Err-Halted-clause-kept g c = rw c.in-Err-Halted.field-0-is at c.in-Err-Halted.ensures.on
 
 pub judge_quoted-requires-clause-window : goal.judge_quoted-requires-clause-window
-judge_quoted-requires-clause-window g c =
+judge_quoted-requires-clause-window g c κs within =
     let on = rw c.in-Err-Quoted.field-0-is at c.in-Err-Quoted.ensures.on in on.1
 
 pub judge_quoted-requires-clause-state : goal.judge_quoted-requires-clause-state
-judge_quoted-requires-clause-state g c =
+judge_quoted-requires-clause-state g c κs within =
     let on = rw c.in-Err-Quoted.field-0-is at c.in-Err-Quoted.ensures.on in on.0
 
 pub returns-in-Err-Quoted-clause-ok : goal.returns-in-Err-Quoted-clause-ok

@@ -9,7 +9,7 @@ use Rattle.lb_report.proofs.QuotedReads.{on_end, on_halt, on_more, on_none, on_r
 use Rattle.lb_report.proofs.rounds.Rounds.judge_records.Goals as goal
 
 pub records-init : goal.records-init
-records-init c = record {
+records-init g c = record {
   state = c.requires.state;
   on = λ text given rows reaches is.
       on_none c.args.self.now.runner.program.now.program.now c.args.self.now.signature.now
@@ -17,7 +17,7 @@ records-init c = record {
 }
 
 pub records-preserved : goal.records-preserved
-records-preserved c =
+records-preserved g c =
     let p = c.args.self.now.runner.program.now.program.now in
     let elements = c.args.self.now.signature.now in
     let table = c.args.table.now in
@@ -33,7 +33,7 @@ records-preserved c =
     }
 
 pub returns-then-not-branch-clause-ok : goal.returns-then-not-branch-clause-ok
-returns-then-not-branch-clause-ok c =
+returns-then-not-branch-clause-ok g c =
     let p = c.args.self.now.runner.program.now.program.now in
     let elements = c.args.self.now.signature.now in
     let table = c.args.table.now in
@@ -50,7 +50,7 @@ returns-then-not-branch-clause-ok c =
     c.last_round.ensures.ok
 
 pub returns-then-not-branch-clause-err : goal.returns-then-not-branch-clause-err
-returns-then-not-branch-clause-err c =
+returns-then-not-branch-clause-err g c =
     let p = c.args.self.now.runner.program.now.program.now in
     let elements = c.args.self.now.signature.now in
     let table = c.args.table.now in
@@ -65,7 +65,7 @@ returns-then-not-branch-clause-err c =
     c.last_round.ensures.err
 
 pub returns-in_err-next-clause-err : goal.returns-in_err-next-clause-err
-returns-in_err-next-clause-err c =
+returns-in_err-next-clause-err g c =
     let elements = c.args.self.now.signature.now in
     let p = err_from_is_err_and c.from_residual.result c.from_residual.ensures.1 in
     rw (p.1, p.2) (λ text given rows reaches is.
@@ -74,7 +74,7 @@ returns-in_err-next-clause-err c =
     c.in_err-next.ensures.memory)
 
 pub returns-in_err-state-clause-err : goal.returns-in_err-state-clause-err
-returns-in_err-state-clause-err c =
+returns-in_err-state-clause-err g c =
     let elements = c.args.self.now.signature.now in
     let p = err_from_is_err_and c.from_residual-in_err-state.result
     c.from_residual-in_err-state.ensures.1 in
@@ -88,7 +88,7 @@ returns-in_err-state-clause-err c =
 
 -- no text has that many records
 pub returns-clause-err : goal.returns-clause-err
-returns-clause-err c = rw c.from.ensures (λ text given rows reaches is.
+returns-clause-err g c = rw c.from.ensures (λ text given rows reaches is.
     let at = c.records.invariant.on text given rows reaches is in
     on_halt c.args.self.now.signature.now c.args.table.now text given rows at.more c.records.reader
     _ at.reaches refl)

@@ -7,7 +7,7 @@ use Rattle.lb_report.proofs.rounds.Rounds.judge_records.Given as goal
 
 -- the reader has given some records, which are read
 abbrev pub invariant-records : goal.invariant-records
-invariant-records l = record {
+invariant-records g l = record {
   state : IsState l.self.signature.now l.state;
   on : (text : List ℕ) (given rows : List Record) → Reaches text given l.initial.reader
       → IsPartRead l.self.runner.program.now.program.now l.self.signature.now l.table rows

@@ -5,19 +5,16 @@ use Rattle.lb_trace.specs.RoundReaders.{IsRound}
 use Rattle.lb_report.proofs.PartReads.{begun_state, part_none, round_held}
 use Rattle.lb_report.proofs.rounds.Rounds.next_round.Goals as goal
 
--- the round without its traces is one of the same signature
-cleared : (c : goal.After-clear) → IsRound c.args.self.now.signature.now [] c.clear.new.self
-cleared c =
-    subst (λ (elements : Elements). IsRound elements [] c.clear.new.self)
-    c.in_ok-judged.ensures.round c.clear.ensures
-
 pub returns-clause-state : goal.returns-clause-state
-returns-clause-state c =
-    begun_state c.args.self.now.signature.now [] _ c.in_ok-judged.ensures.roll
-    (cleared c)
+returns-clause-state g c =
+    let cleared = subst (λ (elements : Elements). IsRound elements [] c.clear.new.self)
+    c.in_ok-judged.ensures.round c.clear.ensures in
+    begun_state c.args.self.now.signature.now [] _ c.in_ok-judged.ensures.roll cleared
 
 pub returns-clause-ok : goal.returns-clause-ok
-returns-clause-ok c = λ table rows is.
+returns-clause-ok g c = λ table rows is.
+    let cleared = subst (λ (elements : Elements). IsRound elements [] c.clear.new.self)
+    c.in_ok-judged.ensures.round c.clear.ensures in
     part_none c.args.self.now.runner.program.now.program.now c.args.self.now.signature.now table
     rows _ (c.in_ok-judged.ensures.ok table rows is)
-    (round_held c.args.self.now.signature.now [] _ (cleared c))
+    (round_held c.args.self.now.signature.now [] _ cleared)

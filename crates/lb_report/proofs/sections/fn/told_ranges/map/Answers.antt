@@ -5,21 +5,21 @@ use Rattle.lb_report.specs.SectionEnds.{start_of}
 use Rattle.lb_report.proofs.RangeReads.{range_past}
 use Rattle.lb_report.proofs.sections.fn.told_ranges.map.Goals as goal
 
-pub judge_range-requires : goal.judge_range-requires
-judge_range-requires g c =
-    let from = c.captures.from in
-    let ends = c.captures.ends.now in
-    let i = c.args.i in
-    let start : c.start_at-start.result ≡ start_of from ends i = c.start_at-start.ensures in
-    let up : start_of from ends i ≤ get_or ends i 0 =
-    c.requires.1.1.follow.ordered i c.requires.2 in
-    let down : get_or ends i 0 ≤ c.requires.1.0 =
-    range_past from c.requires.1.0 ends c.requires.1.1 i c.requires.2 in
-    record {
-      table = c.requires.0;
-      ordered = omega (arith, start, up);
-      short = omega (arith, down, c.requires.1.1.short);
-    }
+pub judge_range-requires-clause-ordered : goal.judge_range-requires-clause-ordered
+judge_range-requires-clause-ordered g c =
+    let start : c.start_at-start.result ≡ start_of c.captures.from c.captures.ends.now c.args.i =
+    c.start_at-start.ensures in
+    let up : start_of c.captures.from c.captures.ends.now c.args.i
+    ≤ get_or c.captures.ends.now c.args.i 0 =
+    c.requires.1.1.follow.ordered c.args.i c.requires.2 in
+    omega (arith, start, up)
+
+pub judge_range-requires-clause-short : goal.judge_range-requires-clause-short
+judge_range-requires-clause-short g c =
+    let down : get_or c.captures.ends.now c.args.i 0 ≤ c.requires.1.0 =
+    range_past c.captures.from c.requires.1.0 c.captures.ends.now c.requires.1.1 c.args.i
+    c.requires.2 in
+    omega (arith, down, c.requires.1.1.short)
 
 pub returns : goal.returns
 returns g c =
