@@ -32,7 +32,7 @@ compared terms traces status notes some is =
     (IsComparedToFile (measure_of terms) traces status notes) some is
 
 -- the earlier report is refused where memory ran out, or where it is no report
-pub no_earlier : (terms : Terms) (refusal : Refusal)
-    → (refusal.number ≡ 0) ⊎ IsNoBaseline terms refusal → IsBaselineRefused terms refusal
-no_earlier terms refusal (inl memory) = inl (inl memory)
-no_earlier terms refusal (inr none) = inr none
+pub no_earlier : (terms : Terms) (text : Text) (refusal : Refusal)
+    → (refusal.number ≡ 0) ⊎ IsNoBaseline terms text refusal → IsBaselineRefused terms refusal
+no_earlier terms text refusal (inl memory) = inl (inl memory)
+no_earlier terms text refusal (inr none) = inr (text, none)

@@ -80,16 +80,16 @@ IsBaseline terms (Some before) =
     IsSome terms.baseline × IsIndexed before.now
     × ((text : Text) × listing.Lists text (listed before.now))
 
--- the earlier report that the terms name is none: E20, at the first line that shows it
-pub record IsNoBaseline (terms : Terms) (refusal : Refusal) : Type 0 where
+-- the text of the earlier report that the terms name is none: E20, at the first line that shows it
+pub record IsNoBaseline (terms : Terms) (text : Text) (refusal : Refusal) : Type 0 where
   pub usage : refusal.number ≡ 20
   pub named : IsSome terms.baseline
-  pub text : Text
   pub line : ℕ
   pub fault : listing.IsFault text line
   pub place : refusal.position ≡ start_of line
 
--- the earlier report could not be read, or memory ran out, or it is no report
+-- the earlier report could not be read, or memory ran out, or it is no report. No contract says what
+-- its file holds
 abbrev pub IsBaselineRefused : Terms → Refusal → Type 0
-IsBaselineRefused terms refusal =
-    ((refusal.number ≡ 0) ⊎ (refusal.number ≡ 21)) ⊎ IsNoBaseline terms refusal
+IsBaselineRefused terms refusal = ((refusal.number ≡ 0) ⊎ (refusal.number ≡ 21))
+    ⊎ ((text : Text) × IsNoBaseline terms text refusal)

@@ -35,15 +35,18 @@ abbrev pub AreNotMerged : (texts : List Text) → Refusal → Type 0
 AreNotMerged texts refusal = (refusal.number ≡ 0)
     ⊎ (IsNoReport texts refusal ⊎ HaveOneName texts refusal)
 
--- a file could not be read, or `AreNotMerged` of some texts: no contract says what the files hold
-pub data IsMergeRefused (refusal : Refusal) : Type 0 where
-  unread : IsUnread refusal → IsMergeRefused refusal
-  unmerged : (texts : List Text) → AreNotMerged texts refusal → IsMergeRefused refusal
+-- a merge of `count` files is refused: a file could not be read, or their texts are not merged. No
+-- contract says what the files hold
+pub data IsMergeRefused (count : ℕ) (refusal : Refusal) : Type 0 where
+  unread : IsUnread refusal → IsMergeRefused count refusal
+  unmerged : (texts : List Text) → length texts ≡ count → AreNotMerged texts refusal
+      → IsMergeRefused count refusal
 
 -- the output `shown` and the notes for the reports in some files: what the terms ask for, of the
--- one report that the files make
+-- one report that the files make, with a text for each file
 pub record IsMergeTold (task : Task) (shown : Report) (notes : Text) : Type 0 where
   pub texts : List Text
+  pub whole : length texts ≡ length task.reports.items
   pub report : Text
   pub merged : IsMerged texts report
   pub traces : List Line
@@ -58,7 +61,8 @@ pub data IsMergeRun (words : List Text) (task : Task) (status : ℕ) (output err
   answered : (shown : Report) → (notes : Text) → IsMergeTold task shown notes
       → IsDelivered words (OfTraces shown) notes status output errors
       → IsMergeRun words task status output errors
-  refused : (refusal : Refusal) → IsMergeRefused refusal ⊎ IsBaselineRefused task.terms refusal
+  refused : (refusal : Refusal)
+      → IsMergeRefused (length task.reports.items) refusal ⊎ IsBaselineRefused task.terms refusal
       → status ≡ refusal_status refusal.number → IsUntouched output
       → outcomes.IsTold words errors (line refusal.number refusal.position)
       → IsMergeRun words task status output errors

@@ -2,7 +2,7 @@
 -- Source: this project's rule.
 use Rattle.std.specs.Prelude.{◌≡◌, ◌≢◌, ℕ, ◌==◌, ◌||◌, ◌⊎◌, if◌then◌else◌, IfSome, List, Option}
 use Rattle.std.specs.Prelude.{Some, None, Result, Ok, Err, string_bytes, codes, [], ◌++◌, false}
-use Rattle.std.specs.Prelude.{◌≤◌, length, take}
+use Rattle.std.specs.Prelude.{◌≤◌, Bool, length, take}
 use Rattle.std.specs.Borrow.{Bor}
 use Rattle.lb_report.specs.Bench.{IsBenchReport}
 use Rattle.lb_report.specs.Cases.{parts_of}
@@ -30,9 +30,12 @@ use Rattle.lb_command.specs.declared.answer.Answer.TheVariants.{OfTraces, OfSour
 use Rattle.lb_command.specs.declared.answer.Warned.{Warned}
 use Rattle.lb_command.specs.declared.loading.Loaded.{Loaded}
 use Rattle.lb_command.specs.declared.loading.Loaded.TheVariants as loaded
+use Rattle.lb_command.specs.declared.refusal.Cause.{Cause}
+use Rattle.lb_command.specs.declared.refusal.Cause.TheVariants as causes
 use Rattle.lb_command.specs.declared.refusal.Refusal.{Refusal}
 use Rattle.lb_command.specs.declared.refusal.Texts.{Texts}
 use Rattle.lb_command.specs.declared.refusal.Texts.TheVariants as texts
+use Rattle.lb_command.specs.declared.refusal.Unread.{Unread}
 
 -- ## The texts
 
@@ -112,6 +115,32 @@ IsToldWords error.Unlawful refusal = IsUsage refusal
 pub record IsToldBy (e : BenchError) (refusal : Refusal) : Type 0 where
   pub number : refusal.number ≡ number_of e
   pub position : refusal.position ≡ position_of e
+
+-- the file at a path could not be read, and why
+pub record IsUnreadFile (path why : Text) (file : Unread) : Type 0 where
+  pub at : string_bytes file.path ≡ path
+  pub reason : string_bytes file.why ≡ why
+
+-- the cause: the file at a path could not be read, and why
+abbrev pub IsUnreadAt : (path why : Text) → Cause → Type 0
+IsUnreadAt path why (causes.Unread file) = IsUnreadFile path why file
+IsUnreadAt path why other = ⊥
+
+-- the cause: nothing has a name, which is sought among the traces or among the variables
+abbrev pub IsUnknownName : (is_trace : Bool) → (name : Text) → Cause → Type 0
+IsUnknownName is_trace name (causes.Unknown unknown) =
+    (unknown.is_trace ≡ is_trace) × (string_bytes unknown.name ≡ name)
+IsUnknownName is_trace name other = ⊥
+
+-- the cause: the file at a path is no report, as a line of it shows
+abbrev pub IsNoReportAt : (path : Text) → (line : ℕ) → Cause → Type 0
+IsNoReportAt path line (causes.NoReport at number) = (string_bytes at ≡ path) × (number ≡ line)
+IsNoReportAt path line other = ⊥
+
+-- the cause: in a line of the report at a path stands a trace of an earlier report
+abbrev pub IsTwiceAt : (path : Text) → (line : ℕ) → Cause → Type 0
+IsTwiceAt path line (causes.Twice at number) = (string_bytes at ≡ path) × (number ≡ line)
+IsTwiceAt path line other = ⊥
 
 -- a report that the bench promises for two texts for which `Are` holds
 pub record IsReportOn (Are : Text → Text → Type 0) (options : Options) (report : Report)

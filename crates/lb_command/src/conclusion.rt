@@ -70,7 +70,7 @@ pub fn read_baseline<'t>(
     ensures lists { IfOk result (λ found. listing.Lists text.now (indexed.listed found)) }
     ensures indexed { IfOk result indexed.IsIndexed }
     ensures err { IfErr result (λ refusal.
-        (refusal.number ≡ 0) ⊎ spec.IsNoBaseline terms.now refusal) }
+        (refusal.number ≡ 0) ⊎ spec.IsNoBaseline terms.now text.now refusal) }
 {
     match read_listing(alloc, text) {
         Ok(found) => Ok(found),

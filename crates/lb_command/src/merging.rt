@@ -1,6 +1,7 @@
 //! A run that merges several reports into one.
 
-ghost use Rattle.std.specs.Prelude.{◌≡◌, ◌<◌, ℕ, List, IfErr, IfOk, IsSome, map, string_bytes};
+ghost use Rattle.std.specs.Prelude.{◌≡◌, ◌<◌, ◌++◌, ◌∷◌, [], ℕ, List, IfErr, IfOk, IsSome, OnOk};
+ghost use Rattle.std.specs.Prelude.{length, map, string_bytes};
 ghost use Rattle.lb_command.specs.Conclusions.{IsBaseline};
 ghost use Rattle.lb_command.specs.Merging as spec;
 ghost use Rattle.lb_command.specs.Outcomes.{IsUnread};
@@ -20,14 +21,17 @@ use std::alloc::{AllocError, Global};
 use std::fs::Files;
 
 /// Adds a text.
-fn keep(texts: &mut Vec<Vec<u8>>, text: Vec<u8>) -> Result<(), AllocError> {
+fn keep(texts: &mut Vec<Vec<u8>>, text: Vec<u8>) -> Result<(), AllocError>
+    ensures { OnOk result (texts.new.items ≡ texts.old.items ++ text ∷ []) }
+{
     texts.push(text)?;
     Ok(())
 }
 
-/// The reports at some paths. The errors are E0 and E21.
+/// The reports at some paths, a text for each. The errors are E0 and E21.
 fn load_reports<R: Files + AllocGlobal>(rt: &R, paths: &[&str]) -> Result<Vec<Vec<u8>>, Refusal>
-    ensures { IfErr result IsUnread }
+    ensures ok { IfOk result (λ texts. length texts.items ≡ length paths.now) }
+    ensures err { IfErr result IsUnread }
 {
     let mut texts = Vec::new(rt.alloc());
     for path in paths {
@@ -64,8 +68,9 @@ fn merge_texts(alloc: Global, paths: &[&str], texts: &[Vec<u8>]) -> Result<Vec<u
 
 /// The one report that those at `paths` are merged into. The errors are E0, E17, E20 and E21.
 fn merge_files<R: Files + AllocGlobal>(rt: &R, paths: &[&str]) -> Result<Vec<u8>, Refusal>
-    ensures ok { IfOk result (λ text. (texts : List (List ℕ)) × IsMerged texts text.items) }
-    ensures err { IfErr result spec.IsMergeRefused }
+    ensures ok { IfOk result (λ text. (texts : List (List ℕ))
+        × ((length texts ≡ length paths.now) × IsMerged texts text.items)) }
+    ensures err { IfErr result (spec.IsMergeRefused (length paths.now)) }
 {
     let texts = load_reports(rt, paths)?;
     match merge_texts(rt.alloc(), paths, texts.as_slice()) {
@@ -82,7 +87,7 @@ fn conclude_merge<R: Files + AllocGlobal>(
 ) -> Result<Warned<Report>, Refusal>
     requires { IsBaseline task.now.terms baseline }
     ensures ok { IfOk result (λ told. spec.IsMergeTold task.now told.value told.warnings.items) }
-    ensures err { IfErr result spec.IsMergeRefused }
+    ensures err { IfErr result (spec.IsMergeRefused (length task.now.reports.items)) }
 {
     let report = merge_files(rt, task.reports.as_slice())?;
     let node = task.options.node.as_str();

@@ -1,6 +1,6 @@
 //! Refusals: the reasons why the program prints no report.
 
-ghost use Rattle.std.specs.Prelude.{◌≡◌, ◌<◌, None, true};
+ghost use Rattle.std.specs.Prelude.{◌≡◌, ◌<◌, IfSome, None, Some, true};
 ghost use Rattle.lb_command.specs.Lines.{is_placed, start_of};
 
 use lb_report::{BenchError, FollowError, LoadError, split_case};
@@ -40,8 +40,13 @@ pub struct Unread {
 }
 
 impl Unread {
+    ghost use Rattle.std.specs.Prelude.{IfOk};
+    ghost use Rattle.lb_command.specs.Outcomes.{IsUnreadFile};
+
     /// The file at a path, with what is known of the cause.
-    fn new(alloc: Global, path: &str, why: &str) -> Result<Unread, AllocError> {
+    fn new(alloc: Global, path: &str, why: &str) -> Result<Unread, AllocError>
+        ensures { IfOk result (IsUnreadFile path.now why.now) }
+    {
         Ok(Unread {
             path: String::from_str(alloc, path)?,
             why: String::from_str(alloc, why)?,
@@ -161,11 +166,14 @@ impl From<LoadError> for Refusal {
 }
 
 impl Refusal {
-    ghost use Rattle.lb_command.specs.Outcomes.{IsToldBy};
+    ghost use Rattle.lb_command.specs.Outcomes.{IsNoReportAt, IsToldBy, IsTwiceAt};
+    ghost use Rattle.lb_command.specs.Outcomes.{IsUnknownName, IsUnreadAt};
+    ghost use Rattle.lb_command.specs.declared.refusal.Cause.TheVariants as causes;
 
     /// The refusal of these texts by the bench.
     pub fn of_texts(error: BenchError, texts: Texts) -> Refusal
-        ensures { IsToldBy error result }
+        ensures told { IsToldBy error result }
+        ensures cause { result.cause ≡ Some (causes.Judged error texts) }
     {
         Refusal {
             number: error.number(),
@@ -174,9 +182,11 @@ impl Refusal {
         }
     }
 
-    /// E21: the file at this path could not be read.
+    /// E21: the file at this path could not be read. It has no cause where memory ran out.
     pub fn unread(alloc: Global, path: &str, why: &str) -> Refusal
-        ensures { result.number ≡ 21 }
+        ensures number { result.number ≡ 21 }
+        ensures position { result.position ≡ None }
+        ensures cause { IfSome result.cause (IsUnreadAt path.now why.now) }
     {
         Refusal {
             number: 21,
@@ -188,10 +198,11 @@ impl Refusal {
         }
     }
 
-    /// E20: no trace, or no variable, has this name.
+    /// E20: no trace, or no variable, has this name. It has no cause where memory ran out.
     pub fn unknown(alloc: Global, is_trace: bool, name: &str) -> Refusal
         ensures number { result.number ≡ 20 }
         ensures position { result.position ≡ None }
+        ensures cause { IfSome result.cause (IsUnknownName is_trace name.now) }
     {
         Refusal {
             number: 20,
@@ -203,10 +214,12 @@ impl Refusal {
         }
     }
 
-    /// E20: the file at this path is no report, as this line shows, counted from 1.
+    /// E20: the file at this path is no report, as this line shows, counted from 1. It has no cause
+    /// where memory ran out.
     pub fn no_report(alloc: Global, path: &str, line: usize) -> Refusal
         ensures number { result.number ≡ 20 }
         ensures position { result.position ≡ start_of line }
+        ensures cause { IfSome result.cause (IsNoReportAt path.now line) }
     {
         Refusal {
             number: 20,
@@ -218,10 +231,12 @@ impl Refusal {
         }
     }
 
-    /// E17: a trace in this line of the report at this path is in an earlier one too.
+    /// E17: a trace in this line of the report at this path is in an earlier one too. It has no
+    /// cause where memory ran out.
     pub fn twice(alloc: Global, path: &str, line: usize) -> Refusal
         ensures number { result.number ≡ 17 }
         ensures position { result.position ≡ start_of line }
+        ensures cause { IfSome result.cause (IsTwiceAt path.now line) }
     {
         Refusal {
             number: 17,
@@ -237,6 +252,7 @@ impl Refusal {
     pub fn unsent(sent: usize, all: Option<usize>) -> Refusal
         ensures number { result.number ≡ 19 }
         ensures position { result.position ≡ None }
+        ensures cause { result.cause ≡ Some (causes.Unsent sent all) }
     {
         Refusal {
             number: 19,

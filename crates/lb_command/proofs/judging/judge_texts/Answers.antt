@@ -19,8 +19,8 @@ pub returns-in-Err-clause-err : goal.returns-in-Err-clause-err
 returns-in-Err-clause-err c =
     let Is : Text → Type 0 = λ source.
     IsRefusedSource source c.args.task.now.options c.in-Err.error in
-    judged c.in-Err.error (subst Is c.parts.ensures.source c.in-Err.ensures.err) c.of_texts.ensures
+    judged c.in-Err.error (subst Is c.parts.ensures.source c.in-Err.ensures.err) c.of_texts.ensures.told
 
 pub returns-in-Err-clause-not_read : goal.returns-in-Err-clause-not_read
 returns-in-Err-clause-not_read c =
-    λ number. is_not_read c.in-Err.error (sym c.of_texts.ensures.number ∙ number)
+    λ number. is_not_read c.in-Err.error (sym c.of_texts.ensures.told.number ∙ number)

@@ -33,7 +33,7 @@ returns-in-Refused-clause-live g c =
     live_in {T = Vec ℕ Global} c.args.texts source traces c.args.task.now.options output
     (Err (Refused c.of_texts.result)) c.parts.ensures.source c.parts.ensures.traces
     (are_refused source traces c.args.task.now.options output c.in-Refused.cause c.of_texts.result
-    (subst Is c.in-Refused.is c.in-Err.ensures) c.of_texts.ensures)
+    (subst Is c.in-Refused.is c.in-Err.ensures) c.of_texts.ensures.told)
 
 pub returns-in-Stopped-clause-live : goal.returns-in-Stopped-clause-live
 returns-in-Stopped-clause-live g c =

@@ -1,4 +1,4 @@
-use Rattle.std.proofs.Common.{◌≡◌, List, [], ℕ, Vec, subst, sym}
+use Rattle.std.proofs.Common.{◌≡◌, ◌∙◌, List, [], ℕ, Vec, ap, length, subst, sym}
 use Rattle.std.specs.Global.{Global}
 use Rattle.std.specs.Prelude.{string_bytes}
 use Rattle.lb_pool.specs.declared.text.Report.{Report}
@@ -10,9 +10,9 @@ use Rattle.lb_command.proofs.merging.conclude_merge.Goals as goal
 pub conclude_text-requires-clause-lists : goal.conclude_text-requires-clause-lists
 conclude_text-requires-clause-lists g c =
     let merged = c.in_ok-report.ensures.ok in (
-      joined merged.1.lists,
-      subst (λ (text : List ℕ). Lists text (joined merged.1.lists)) (sym c.as_slice-2.ensures.value)
-          merged.1.all,
+      joined merged.1.1.lists,
+      subst (λ (text : List ℕ). Lists text (joined merged.1.1.lists))
+          (sym c.as_slice-2.ensures.value) merged.1.1.all,
     )
 
 pub returns-clause-ok : goal.returns-clause-ok
@@ -26,7 +26,8 @@ returns-clause-ok g c =
     record {
       texts = merged.0;
       report = c.in_ok-report.report.items;
-      merged = merged.1;
+      whole = merged.1.0 ∙ ap length c.as_slice.ensures.value;
+      merged = merged.1.1;
       traces = found.0;
       lists = subst (λ (text : List ℕ). Lists text found.0) c.as_slice-2.ensures.value found.1;
       told = subst (λ (v : Vec ℕ Global).

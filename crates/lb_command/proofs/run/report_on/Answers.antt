@@ -15,8 +15,8 @@ pub returns-in-Err-clause-outcome : goal.returns-in-Err-clause-outcome
 returns-in-Err-clause-outcome g c =
     judged c.parts.result.0.now c.parts.result.1.now
     (record { first = c.parts.ensures.source; second = c.parts.ensures.traces }) c.in-Err.cause
-    c.in-Err.ensures c.of_texts.ensures
+    c.in-Err.ensures c.of_texts.ensures.told
 
 pub returns-in-Err-clause-not_read : goal.returns-in-Err-clause-not_read
 returns-in-Err-clause-not_read g c =
-    λ number. is_not_read c.in-Err.cause (sym c.of_texts.ensures.number ∙ number)
+    λ number. is_not_read c.in-Err.cause (sym c.of_texts.ensures.told.number ∙ number)
