@@ -259,9 +259,9 @@ fn divide<R: Threads + Sync, W: Worker + Sync>(
     both_drained(board, one?, other?)
 }
 
-// The verdicts of all traces, by workers that share a lane program. There are no more workers than
-// batches.
-fn run_workers<'a, 'p, R: Threads + Sync, G: Gate + Sync>(
+/// [`run_claims`] by a program that is compiled already, for those who run many sets by it. There are
+/// no more workers than batches.
+pub fn run_workers<'a, 'p, R: Threads + Sync, G: Gate + Sync>(
     rt: &R,
     alloc: Global,
     program: &'a LaneProgram<'p>,

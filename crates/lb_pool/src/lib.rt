@@ -22,7 +22,7 @@ mod views;
 
 pub use alone::SetRunner;
 pub use board::{ClaimBoard, ClaimSeat};
-pub use claims::run_claims;
+pub use claims::{run_claims, run_workers};
 pub use follow::run_follow;
 pub use follow_board::{FollowBoard, FollowSeat, Look};
 pub use follow_error::FollowError;

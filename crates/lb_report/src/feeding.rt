@@ -84,7 +84,7 @@ impl From<LoadError> for FeedFault {
     }
 }
 
-/// How many rounds of one worker a round has at most that several run.
+/// A round that several workers run has the rows of all of them, but of this many at most.
 const MOST_ROUNDS: usize = 4;
 
 /// The rounds in which the traces of a program are judged, each by `workers` workers.
@@ -96,8 +96,7 @@ fn rounds_of<'a, 'p>(
     sizes: Sizes,
     workers: u32,
 ) -> Rounds<'a, 'p>
-    requires program { program.now.ordered.program ≡ lanes.now.program.now }
-    requires workers { (0 < workers) × (workers ≤ 64) }
+    requires { (0 < workers) × (workers ≤ 64) }
     ensures signature { result.signature.now ≡ program.now.signature }
     ensures program { result.runner.program.now.program.now ≡ lanes.now.program.now }
 {
@@ -114,7 +113,6 @@ fn rounds_of<'a, 'p>(
         },
         instants: (size / bytes).clamp(1, 4_000_000) as u32,
         window: sizes.window,
-        ordered: &program.ordered,
         workers,
     }
 }

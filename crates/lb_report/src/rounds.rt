@@ -13,8 +13,7 @@ ghost use Rattle.std.specs.Prelude.{◌≡◌, ◌<◌, ◌≤◌};
 use crate::feed::{Feed, LoadError};
 use crate::window::Window;
 use lb_check::Verdict;
-use lb_flat::Ordered;
-use lb_pool::{NoGate, Plan, RoundRoom, SetRunner, run_claims};
+use lb_pool::{NoGate, Plan, RoundRoom, SetRunner, run_workers};
 use lb_static::Signature;
 use lb_syntax::Kind;
 use lb_trace::{
@@ -39,10 +38,8 @@ pub(crate) struct Rounds<'a, 'p> {
     pub(crate) instants: u32,
     /// How many bytes of a text, or of a section, are in memory, unless a trace is longer.
     pub(crate) window: usize,
-    /// How many workers run a round. One runs it by `runner`, and several the program `ordered`.
+    /// How many workers run a round.
     pub(crate) workers: u32,
-    pub(crate) ordered: &'a Ordered,
-    pub(crate) ghost same: { ordered.now.program ≡ runner.program.now.program.now },
     pub(crate) ghost some: { (0 < workers) × (workers ≤ 64) },
 }
 
@@ -237,7 +234,7 @@ impl Rounds<'_, '_> {
             return self.runner.run(alloc, set, room);
         }
         let plan = Plan::by_length(alloc, set, self.runner.lanes)?;
-        run_claims(rt, alloc, self.ordered, set, &plan, workers, &NoGate)
+        run_workers(rt, alloc, self.runner.program, set, &plan, workers, &NoGate)
     }
 
     /// Runs the traces of the round, and appends their names and verdicts to the others. Returns

@@ -3,6 +3,6 @@ use Rattle.std.proofs.Common.{refl}
 use Rattle.lb_report.proofs.Planning.{is_over_all}
 use Rattle.lb_report.proofs.rounds.Rounds.run.Goals as goal
 
-pub run_claims-requires-clause-plan : goal.run_claims-requires-clause-plan
-run_claims-requires-clause-plan g c κs within =
+pub run_workers-requires-clause-plan : goal.run_workers-requires-clause-plan
+run_workers-requires-clause-plan g c κs within =
     is_over_all _ _ _ c.in_ok-plan.plan c.in_ok-plan.ensures.plan refl
