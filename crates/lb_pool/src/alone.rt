@@ -15,7 +15,10 @@ use std::alloc::{AllocError, Global};
 // The most traces that are run as one queue.
 const MOST_AT_ONCE: usize = 4096;
 
-/// A program, and the number of traces that are run side by side.
+// Lanes are computed sixteen at a time.
+const CHUNK: u32 = 16;
+
+/// A program, and the number of traces that are run side by side at most.
 #[derive(Clone, Copy)]
 pub struct SetRunner<'a, 'p> {
     pub program: &'a LaneProgram<'p>,
@@ -55,6 +58,21 @@ fn run_queues(
     Ok(room)
 }
 
+// How many lanes the traces of a set keep busy, up to `most`. A set runs at least as long as its
+// longest trace. In more lanes than the others fill in that time some would stand idle, and yet be
+// computed.
+fn busy_lanes(set: &TraceSet, most: u32) -> u32
+    requires { (0 < most) × (most ≤ 64) }
+    ensures { (0 < result) × (result ≤ most) }
+{
+    let mut longest = 0;
+    for k in 0..set.len() {
+        longest = set.length(k).max(longest);
+    }
+    let busy = set.instants() / longest.max(1);
+    (busy / CHUNK * CHUNK + CHUNK).min(most)
+}
+
 impl SetRunner<'_, '_> {
     /// The verdicts of all traces of a set, in the traces' order. The worker takes its room with
     /// the first set, and uses it for all others. The longest traces are run first. It fails only
@@ -68,7 +86,8 @@ impl SetRunner<'_, '_> {
         ensures { IfOk result (λ verdicts.
             AreVerdicts self.now.program.now.program.now set.now verdicts.items) }
     {
-        let plan = Plan::for_lanes(alloc, set, self.lanes)?;
+        let lanes = busy_lanes(set, self.lanes);
+        let plan = Plan::for_lanes(alloc, set, lanes)?;
         let _ = plan.traces();
         let work = Work {
             program: self.program,
@@ -77,7 +96,7 @@ impl SetRunner<'_, '_> {
         };
         let room = room_for(alloc, self.program, kept.take())?;
         let mut judged = Vec::new(alloc);
-        let room = run_queues(alloc, &work, plan.numbers(), self.lanes, room, &mut judged)?;
+        let room = run_queues(alloc, &work, plan.numbers(), lanes, room, &mut judged)?;
         *kept = Some(room);
         verdicts_of(alloc, &work, judged.as_slice())
     }

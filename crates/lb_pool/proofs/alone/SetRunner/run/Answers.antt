@@ -7,14 +7,14 @@ use Rattle.lb_pool.proofs.alone.SetRunner.run.Goals as goal
 
 pub invariant_of-work : goal.invariant_of-work
 invariant_of-work c = record {
-  over_all = numbers_count (length c.args.set.now.traces) c.args.self.now.lanes c.in_ok-plan.plan
+  over_all = numbers_count (length c.args.set.now.traces) c.busy_lanes-lanes.result c.in_ok-plan.plan
       c.in_ok-plan.ensures.plan;
 }
 
 pub run_queues-requires-clause-within : goal.run_queues-requires-clause-within
 run_queues-requires-clause-within c =
     subst (All (λ k. k < length c.args.set.now.traces)) (sym c.numbers.ensures)
-    (numbers_below (length c.args.set.now.traces) c.args.self.now.lanes c.in_ok-plan.plan
+    (numbers_below (length c.args.set.now.traces) c.busy_lanes-lanes.result c.in_ok-plan.plan
     c.in_ok-plan.ensures.plan)
 
 pub verdicts_of-requires-clause-judged : goal.verdicts_of-requires-clause-judged
@@ -27,5 +27,5 @@ verdicts_of-requires-clause-each c k below =
     subst (λ (l : List ℕ). Contains l k)
     (sym (ap numbers_of c.as_slice.ensures.value ∙ c.in_ok-room-2.ensures.numbers
     ∙ c.numbers.ensures))
-    (numbers_each (length c.args.set.now.traces) c.args.self.now.lanes c.in_ok-plan.plan
+    (numbers_each (length c.args.set.now.traces) c.busy_lanes-lanes.result c.in_ok-plan.plan
     c.in_ok-plan.ensures.plan k below)
