@@ -1,11 +1,11 @@
 -- Lists: the items from a place on, tests of each item, and the place of the first that passes.
 use Rattle.std.proofs.Common.{◌≡◌, ℕ, zero, suc, ◌+◌, ◌<◌, Bool, true, false, cond, List, [], ◌∷◌}
 use Rattle.std.proofs.Common.{◌++◌, length, take, drop, map, get_or, Some, None, refl, ap, sym, ◌∙◌}
-use Rattle.std.proofs.Common.{arith}
+use Rattle.std.proofs.Common.{◌-◌, arith, length-append}
 use Rattle.std.specs.Prelude.{◌&&◌, ◌||◌, not, nat_lt, position}
 use Rattle.std.specs.List.{list_any, position_or_len}
 use Rattle.std.proofs.lemmas.Bool.Decides.{nat_tests}
-use Rattle.std.proofs.lemmas.List.{drop_more}
+use Rattle.std.proofs.lemmas.List.{append_assoc, drop_more}
 
 pub map_next : {A B : Type 0} (f : A → B) (xs : List A) (i : ℕ) (d : A) → i < length xs
     → map f (drop i xs) ≡ f (get_or xs i d) ∷ map f (drop (i + 1) xs)
@@ -109,3 +109,29 @@ some_passes p xs i e = any_is p xs
     by : (b : Bool) (n : ℕ) → cond b (Some n) None ≡ Some i → b ≡ true
     by true n h = refl
     by false n h = absurd cc
+
+-- ## A list with one item more, and without it again
+
+front_of : {A : Type 0} (xs ys : List A) → take (length xs) (xs ++ ys) ≡ xs
+front_of [] ys = refl
+front_of (x ∷ xs) ys = ap (λ l. x ∷ l) (front_of xs ys)
+
+pub popped : {A : Type 0} (before pushed after : List A) (x : A) (n : ℕ)
+    → pushed ≡ before ++ x ∷ [] → n ≡ length pushed → after ≡ take (n - 1) pushed → after ≡ before
+popped before pushed after x n more long less =
+    let e : length pushed ≡ length before + 1 = ap length more ∙ length-append before (x ∷ []) in
+    let m : n - 1 ≡ length before = omega arith in
+    less ∙ ap (λ k. take k pushed) m ∙ ap (take (length before)) more ∙ front_of before (x ∷ [])
+
+-- one more of the names of the items of a list stands among those that are done
+pub one_more_name : {A B C : Type 0} (view : A → B) (name_of : B → C) (done after : List C) (x : C)
+    (xs : List A) (i : ℕ) (a : A) (all : List C) → i < length xs → a ≡ get_or xs i a
+    → x ≡ name_of (view a) → after ≡ done ++ x ∷ []
+    → done ++ map name_of (map view (drop i xs)) ≡ all
+    → after ++ map name_of (map view (drop (i + 1) xs)) ≡ all
+one_more_name view name_of done after x xs i a all below is named more h =
+    let left = map name_of (map view (drop (i + 1) xs)) in
+    ap (λ l. l ++ left) more ∙ append_assoc done (x ∷ []) left
+    ∙ ap (λ y. done ++ y ∷ left) named
+    ∙ ap (λ l. done ++ l) (ap (λ y. name_of (view y) ∷ left) is
+    ∙ sym (ap (map name_of) (map_next view xs i a below))) ∙ h

@@ -1,11 +1,13 @@
 -- The first static parameter with a name, and its value.
-use Rattle.std.proofs.Common.{◌≡◌, ℕ, zero, suc, ◌+◌, ◌<◌, ◌≤◌, ℤ, false, cond, List, [], ◌∷◌}
+use Rattle.std.proofs.Common.{◌≡◌, ℕ, zero, suc, ◌+◌, ◌<◌, ◌≤◌, ℤ, true, false, cond, List, []}
+use Rattle.std.proofs.Common.{◌∷◌}
 use Rattle.std.proofs.Common.{length, drop, get_or, Option, Some, None, refl, ap, sym, ◌∙◌, subst}
 use Rattle.std.proofs.Common.{arith, add-one}
 use Rattle.std.specs.Prelude.{option_map, find}
 use Rattle.std.specs.List.{zip}
 use Rattle.std.specs.Str.{bytes_eq}
 use Rattle.std.proofs.Math.ListN.{drop_of_length-le}
+use Rattle.std.proofs.lemmas.List.{drop_more}
 use Rattle.lb_syntax.specs.Tree.{Name}
 
 -- the value of a name among the parameters that are left
@@ -41,3 +43,25 @@ pub value_missed : (x : Name) (names : List Name) (values : List ℤ) (i : ℕ) 
     → None ≡ value_among x names values
 value_missed x names values i past h =
     sym (ap (λ (l : List Name). value_among x l (drop i values)) (drop_of_length-le names past)) ∙ h
+
+pub value_here : (x : Name) (names : List Name) (values : List ℤ) (i : ℕ) (n : Name) (v : ℤ)
+    → i < length names → n ≡ get_or names i n → bytes_eq n x ≡ true → i < length values
+    → v ≡ get_or values i v
+    → value_among x (drop i names) (drop i values) ≡ value_among x names values
+    → Some v ≡ value_among x names values
+value_here x names values i n v below is e within same h =
+    let ns = drop (i + 1) names in
+    let vs = drop (i + 1) values in
+    sym (ap (λ b. option_map (λ (w : Name × ℤ). w.1)
+    (cond b (Some (n, v)) (find (λ w. bytes_eq w.0 x) (zip ns vs)))) e)
+    ∙ sym (ap (λ (l : List Name). value_among x l (v ∷ vs))
+    (drop_more names i n below ∙ ap (λ y. y ∷ ns) (sym is)))
+    ∙ sym (ap (value_among x (drop i names))
+    (drop_more values i v within ∙ ap (λ y. y ∷ vs) (sym same))) ∙ h
+
+pub value_short : (x : Name) (names : List Name) (values : List ℤ) (i : ℕ) → length values ≤ i
+    → value_among x (drop i names) (drop i values) ≡ value_among x names values
+    → None ≡ value_among x names values
+value_short x names values i past h =
+    sym (none_left x (drop i names))
+    ∙ sym (ap (value_among x (drop i names)) (drop_of_length-le values past)) ∙ h

@@ -4,7 +4,7 @@ use Rattle.std.proofs.Common.{◌≡◌, ℕ, suc, Bool, true, false, cond, List
 use Rattle.std.proofs.Common.{map}
 use Rattle.std.proofs.Common.{Option, Some, None, is_some, option_map, refl, ap, sym, subst}
 use Rattle.std.proofs.Common.{◌∙◌, arith, rules}
-use Rattle.std.specs.Prelude.{◌&&◌, ◌||◌, slice_get, String, Result, IfOk}
+use Rattle.std.specs.Prelude.{◌&&◌, ◌||◌, slice_get, String, Result, Ok, Err, IfOk, OnOk}
 use Rattle.std.specs.BTreeMap.{BTreeMap, get_by_text}
 use Rattle.std.specs.List.{list_all, list_any}
 use Rattle.std.specs.Str.{bytes_eq}
@@ -15,7 +15,7 @@ use Rattle.std.proofs.lemmas.Map.Keys.{any_passes_from_place}
 use Rattle.std.proofs.lemmas.Slice.Eq.{bytes_eq-Decides}
 use Rattle.std.proofs.Math.Bool.{and_assoc, and-true, or_assoc, or-false}
 use Rattle.lb_syntax.specs.Lists.{◌>>=◌, either_or, holds, or_else}
-use Rattle.lb_syntax.specs.Tree.{Static, Whole, Named, Negated, Combined, Grouped}
+use Rattle.lb_syntax.specs.Tree.{Name, Static, Whole, Named, Negated, Combined, Grouped}
 use Rattle.lb_syntax.specs.contracts.tree.BinaryOperator.{the_type}
 use Rattle.lb_syntax.proofs.ListPlaces.{all_at, get_last}
 use Rattle.lb_syntax.proofs.TruthValues.{and_first, and_second}
@@ -350,3 +350,19 @@ held_place ps q i e = sym (ap (λ o. either_or o (length ps)) e)
 pub held_static : (ps : List StaticPart) (q : StaticPart) (i : ℕ)
     → held (map part_of ps) (part_of q) ≡ Some i → ps ≡ with_static ps q
 held_static ps q i e = sym (ap (λ o. cond (is_some o) ps (ps ++ q ∷ [])) e)
+
+pub new_static : {A : Type 0} (r : Result StaticId A) (ps after : List StaticPart) (q : StaticPart)
+    → held (map part_of ps) (part_of q) ≡ None → OnOk r (after ≡ ps ++ q ∷ [])
+    → IfOk r (λ _. after ≡ with_static ps q)
+new_static (Ok id) ps after q none h =
+    h ∙ sym (ap (λ o. cond (is_some o) ps (ps ++ q ∷ [])) none)
+new_static (Err e) ps after q none h = tt
+
+-- a static expression that is a name, on either side
+pub same_either_way : (s : Static) (x : Name)
+    → is_same_static s (Named x) ≡ is_same_static (Named x) s
+same_either_way (Whole n) x = refl
+same_either_way (Named y) x = bytes_eq-symmetric y x
+same_either_way (Grouped s) x = refl
+same_either_way (Negated s) x = refl
+same_either_way (Combined op s t) x = refl

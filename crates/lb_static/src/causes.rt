@@ -5,7 +5,7 @@
 use lb_syntax::BinaryOperator;
 
 /// The sort of thing that an unknown name had to be.
-#[derive(Clone, Copy, Debug)]
+#[derive(Clone, Copy)]
 pub enum Sought {
     /// A node or function: the node under test, the observer, or one that is called or iterated.
     Node,
@@ -106,7 +106,7 @@ pub struct ValueFault {
 }
 
 /// The purpose of a value that is out of its range.
-#[derive(Clone, Copy, PartialEq, Eq, Debug)]
+#[derive(Clone, Copy, PartialEq, Eq)]
 pub enum RangeRole {
     /// The size of a declared type, of `e ^ n` or of an iterator: from 1 to 4096.
     Size,
@@ -164,7 +164,7 @@ impl CallCycle {
 }
 
 /// The rule that the node under test or the observer breaks. A variant states what ought to hold.
-#[derive(Clone, Copy, PartialEq, Eq, Debug)]
+#[derive(Clone, Copy, PartialEq, Eq)]
 pub enum RootRule {
     /// It has no static parameters.
     NoParameters,
@@ -198,7 +198,7 @@ pub struct RootFault {
 }
 
 /// A limit of instances.
-#[derive(Clone, Copy, Debug)]
+#[derive(Clone, Copy)]
 pub enum Limit {
     /// At most 4,096 instances.
     Instances,

@@ -85,11 +85,7 @@ fn follow(
         steps.push(CallStep {
             node: name_of(alloc, reached, node)?,
             offset: site.offset,
-            index: if site.count.is_some() {
-                Some(call.index)
-            } else {
-                None
-            },
+            index: site.count.and(Some(call.index)),
         })?;
     }
     Ok(steps)

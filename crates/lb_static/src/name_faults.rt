@@ -8,7 +8,7 @@ ghost use Rattle.lb_static.specs.NameFaults.{TellsName, TellsRule};
 
 use crate::causes::{NameFault, NameRule, Sought};
 use crate::error::StaticError;
-use lb_syntax::{Name, Node, Source};
+use lb_syntax::{Declarations, Name, Node, Source};
 use std::alloc::{AllocError, Global};
 
 /// The scope of a declared name that has to be new there.
@@ -115,14 +115,22 @@ fn first_named(names: &[Name], name: &Name) -> Option<u32> {
     None
 }
 
-/// The offset of the first variable of a node with this name, or else of its static parameter.
-fn first_in_node(node: &Node, name: &Name) -> Option<u32> {
-    for group in node.inputs.iter().chain(&node.outputs).chain(&node.locals) {
+/// The offset of the first of some variables with this name.
+fn first_declared(groups: &[Declarations], name: &Name) -> Option<u32> {
+    for group in groups {
         if let Some(first) = first_named(&group.names, name) {
             return Some(first);
         }
     }
-    first_named(&node.parameters, name)
+    None
+}
+
+/// The offset of the first variable of a node with this name, or else of its static parameter.
+fn first_in_node(node: &Node, name: &Name) -> Option<u32> {
+    first_declared(&node.inputs, name)
+        .or(first_declared(&node.outputs, name))
+        .or(first_declared(&node.locals, name))
+        .or(first_named(&node.parameters, name))
 }
 
 /// The offset of the first constant of a source with this name, or else of its first node.

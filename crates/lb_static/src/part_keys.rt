@@ -41,17 +41,8 @@ fn is_named(text: &Static, name: &Name) -> bool
     }
 }
 
-/// Whether a name is this static expression.
-fn is_name_of(name: &Name, text: &Static) -> bool
-    ensures { result ≡ is_same_static (tree.Named name.now) (view_static text.now) }
-{
-    match text {
-        Static::Named(x) => name.as_str() == x.as_str(),
-        _ => false,
-    }
-}
-
 /// Whether two static expressions, each as it is written or a name, are written alike.
+#[tactic(auto, using(crate::proofs::SharedParts::same_either_way))]
 fn is_same_text(one: StaticText, other: StaticText) -> bool
     ensures { result ≡ is_same_static (static_of one.entry) (static_of other.entry) }
 {
@@ -61,7 +52,7 @@ fn is_same_text(one: StaticText, other: StaticText) -> bool
             StaticText::Named(name) => is_named(text, name),
         },
         StaticText::Named(name) => match other {
-            StaticText::Written(text) => is_name_of(name, text),
+            StaticText::Written(text) => is_named(text, name),
             StaticText::Named(other) => name.as_str() == other.as_str(),
         },
     }

@@ -118,9 +118,9 @@ pub fn output_rule<'t>(interface: &Interface<'t>) -> Broken<'t> {
     }
 }
 
-/// The rule that the first input or output on a clock breaks, if there is one.
-fn clock_rule(tree: &Node) -> Option<Broken> {
-    for group in tree.inputs.iter().chain(&tree.outputs) {
+/// The rule that the first of some variables on a clock breaks, if there is one.
+fn clocked(groups: &[Declarations]) -> Option<Broken> {
+    for group in groups {
         if group.clock.is_some() {
             return Some(Broken {
                 rule: RootRule::BaseClock,
@@ -129,6 +129,14 @@ fn clock_rule(tree: &Node) -> Option<Broken> {
         }
     }
     None
+}
+
+/// The rule that the first input or output on a clock breaks, if there is one.
+fn clock_rule(tree: &Node) -> Option<Broken> {
+    match clocked(&tree.inputs) {
+        Some(broken) => Some(broken),
+        None => clocked(&tree.outputs),
+    }
 }
 
 /// The rule that an input or output on a clock breaks, or else the inputs, of which there are too

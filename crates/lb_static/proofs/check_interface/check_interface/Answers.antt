@@ -1,9 +1,14 @@
-use Rattle.std.proofs.Common.{map}
+use Rattle.std.proofs.Common.{ap, map, option_map, sym, ◌∙◌}
 use Rattle.std.proofs.lemmas.Result.{err_from_is_err_and}
+use Rattle.lb_syntax.specs.Lists.{holds}
+use Rattle.lb_static.specs.Instances.{Root}
+use Rattle.lb_static.specs.Instantiation.{is_root}
 use Rattle.lb_static.specs.Interfaces.{view_interface, inputs_of, elements_named}
 use Rattle.lb_static.specs.RootAnswers.{is_root_in}
+use Rattle.lb_static.specs.declared.valued_node.ValuedNode.{ValuedNode}
 use Rattle.lb_static.proofs.RootFaults.{seen_some, root_fault, root_answer}
 use Rattle.lb_static.proofs.InterfaceRules.{root_has_face, root_is}
+use Rattle.lb_static.proofs.RootStarts.{nothing_stands}
 use Rattle.lb_static.proofs.check_interface.check_interface.Goals as goal
 
 pub returns-in_err-root : goal.returns-in_err-root
@@ -26,3 +31,10 @@ returns c P names reached table instantiated =
     root_answer P (is_root_in c.args.reached.now c.args.table.now root)
     (elements_named (map (λ d. d.name) root.node.inputs) (inputs_of root)) _ is.0 is.1
     c.interface_signature.ensures
+
+pub returns-in_default : goal.returns-in_default
+returns-in_default c P names reached table instantiated =
+    let none = sym c.valued_node.ensures
+    ∙ ap (option_map (λ (v : ValuedNode). (v.node.now, v.statics.now))) c.in_default.is in
+    ap (holds (is_root P)) (sym table.root
+    ∙ nothing_stands c.args.reached.now c.args.table.now Root c.args.table.now.root none)

@@ -2,8 +2,8 @@
 use Rattle.std.proofs.Common.{refl, ap, sym, ◌∙◌, ◌++◌, drop}
 use Rattle.std.proofs.lemmas.Result.{err_from_is_err_and}
 use Rattle.lb_syntax.specs.SourceView.{view_source, view_constant, view_node}
-use Rattle.lb_static.specs.SourceNames.{constants_in}
-use Rattle.lb_static.proofs.Lists.{at_place, map_map}
+use Rattle.lb_static.specs.SourceNames.{constants_in, names_in_source}
+use Rattle.lb_static.proofs.Lists.{at_place, map_map, one_more_name}
 use Rattle.lb_static.proofs.Scopes.{once_here, once_before}
 use Rattle.lb_static.specs.CountedNames.{Declares}
 use Rattle.lb_static.specs.NameFaults.{is_told}
@@ -40,3 +40,18 @@ returns-in_err-declare_new-2-clause-err c =
     c.node-item.is before in
     rw (p.1, p.2) (fault_within _ _ _ c.in_err-declare_new-2.ensures.err
     (λ e. once_here (is_told c.in_err-declare_new-2.field-0.0 Declares) names _ _ x.name all e))
+
+pub loop-constant-preserved : goal.loop-constant-preserved
+loop-constant-preserved c =
+    one_more_name view_constant (λ k. k.name) c.loop-constant.names c.declare_new.new.names
+    c.constant-item.result.name c.deref-constant-items.result.now c.loop-constant.constant-index
+    c.constant-item.result (constants_in (view_source c.args.source.now))
+    c.loop-constant-test.true c.constant-item.is refl c.in_ok-declare_new.ensures.ok
+    c.loop-constant.invariant
+
+pub loop-node-preserved : goal.loop-node-preserved
+loop-node-preserved c =
+    one_more_name view_node (λ n. n.name) c.loop-node.names c.declare_new-in-loop-node.new.names
+    c.node-item.result.name c.deref-node-items.result.now c.loop-node.node-index
+    c.node-item.result (names_in_source (view_source c.args.source.now)) c.loop-node-test.true
+    c.node-item.is refl c.in_ok-declare_new-2.ensures.ok c.loop-node.invariant

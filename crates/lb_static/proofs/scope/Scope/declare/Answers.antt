@@ -2,13 +2,17 @@
 use Rattle.std.proofs.Common.{◌≡◌, ◌∙◌, ◌++◌, ◌∷◌, [], ℕ, true, false, map, ap, sym, refl}
 use Rattle.std.proofs.Common.{Option, Some, None, arith, length, string_bytes}
 use Rattle.std.specs.Borrow.{Bor}
-use Rattle.std.specs.Prelude.{is_some, not, option_copied, if◌then◌else◌}
+use Rattle.std.specs.Prelude.{is_some, not, option_copied, position, vec_len}
+use Rattle.std.specs.Prelude.{if◌then◌else◌}
 use Rattle.std.specs.Str.{bytes_eq}
 use Rattle.std.proofs.lemmas.List.{length-map, map-append}
 use Rattle.std.proofs.lemmas.Map.Text.{btree_map_updates_text}
+use Rattle.lb_static.specs.Names.{are_distinct}
 use Rattle.lb_static.specs.Parts.{among}
 use Rattle.lb_static.specs.Scopes.{declared_after}
 use Rattle.lb_static.proofs.ConstantPlaces.{is_found}
+use Rattle.lb_static.proofs.Lists.{popped}
+use Rattle.lb_static.proofs.Lookups.{same_entries}
 use Rattle.lb_static.proofs.Scopes.{placed_after}
 use Rattle.lb_static.proofs.scope.Scope.declare.Goals as goal
 
@@ -78,3 +82,23 @@ returns-clause-after c =
     let ns = map string_bytes c.self.inside.names.items in
     pushed c ∙ ap (λ b. if b then ns else ns ++ x ∷ []) (sym (fresh c))
     ∙ ap (λ l. declared_after l x) c.self.view_is
+
+-- the names without the one that has no place in the map
+unchanged : (c : goal.Joined-pop) → c.pop.new.self.items ≡ c.self.inside.names.items
+unchanged c =
+    let n : vec_len c.push.new.self ≡ length c.push.new.self.items =
+    omega (arith, c.push.new.self.ok.0) in
+    popped c.self.inside.names.items c.push.new.self.items c.pop.new.self.items
+    c.in_ok-from_str.field-0 (vec_len c.push.new.self) c.in_ok-push.ensures.items n
+    c.pop.ensures.rest
+
+pub invariant_of-self-in_default : goal.invariant_of-self-in_default
+invariant_of-self-in_default c = (
+  ap (λ l. are_distinct (map string_bytes l)) (unchanged c) ∙ c.self.invariant.0,
+  λ q. same_entries c.self.inside.places c.insert.new.self q c.in_default.ensures.err
+      ∙ c.self.invariant.1 q
+      ∙ ap (λ l. position (bytes_eq q) (map string_bytes l)) (sym (unchanged c)),
+)
+
+pub returns-in_default-clause-err : goal.returns-in_default-clause-err
+returns-in_default-clause-err c = ap (map string_bytes) (unchanged c) ∙ c.self.view_is

@@ -63,3 +63,10 @@ returns-clause-added c =
     let as_many = length-map es (λ e. e.0) in
     let count = ap length (sym c.self.view_is) ∙ length-map es (λ e. e.1) in
     inr (unknown_here, view, omega arith)
+
+pub overflow_cast-result : goal.overflow_cast-result
+overflow_cast-result c =
+    let entries = c.self.inside.keyed.entries in
+    let many : length entries ≡ length c.args.self.now =
+    sym (length-map entries (λ e. e.1)) ∙ ap length c.self.view_is in
+    record { fits = omega (arith, c.in-Some.ensures.within, c.requires.few) }

@@ -1,7 +1,8 @@
 -- The key that is found is the key of the node with the values.
-use Rattle.std.proofs.Common.{◌∙◌, ap, sym, subst}
+use Rattle.std.proofs.Common.{◌≡◌, ◌<◌, ◌∙◌, ap, arith, length, sym, subst}
 use Rattle.std.specs.Prelude.{option_map, slice_get}
-use Rattle.std.proofs.lemmas.Option.{slice_get-map}
+use Rattle.std.proofs.lemmas.List.{length-map}
+use Rattle.std.proofs.lemmas.Option.{slice_get-map, slice_get_within}
 use Rattle.lb_static.specs.KeyedSpecializations.{IsUnknown}
 use Rattle.lb_static.specs.Instantiated.{IsKnown}
 use Rattle.lb_static.specs.declared.specializations.Key.{Key}
@@ -36,3 +37,12 @@ returns-clause-found c =
     (sym c.get_full.ensures.index ∙ ap (option_map (λ p. p.0)) c.in-None.is) in
     subst (λ l. IsUnknown l c.args.node c.args.values.now) c.self.view_is
     (rw (← told.0, ← told.1) none)
+
+pub overflow_cast-result : goal.overflow_cast-result
+overflow_cast-result c =
+    let es = c.self.inside.keyed.entries in
+    let many : length es ≡ length c.args.self.now =
+    sym (length-map es (λ e. e.1)) ∙ ap length c.self.view_is in
+    let below : c.in-Some.place < length es =
+    slice_get_within es c.in-Some.place _ c.in-Some.ensures.entry in
+    record { fits = omega (arith, c.requires.few) }

@@ -1,8 +1,13 @@
 -- One more static expression with a new key has its place in the map.
 use Rattle.std.proofs.Common.{◌≡◌, ◌∷◌, ◌∙◌, [], Some, ap, arith, length, map, string_bytes, sym}
+use Rattle.std.specs.Prelude.{vec_len}
 use Rattle.std.proofs.lemmas.List.{length-map, map-append}
 use Rattle.std.proofs.lemmas.Map.Text.{btree_map_updates_text}
+use Rattle.lb_static.specs.PartKeys.{has_key}
+use Rattle.lb_static.specs.SharedParts.{first_with}
 use Rattle.lb_static.specs.StaticParts.{part_of}
+use Rattle.lb_static.proofs.Lists.{popped}
+use Rattle.lb_static.proofs.Lookups.{same_entries}
 use Rattle.lb_static.proofs.SharedParts.{newly_placed}
 use Rattle.lb_static.proofs.static_parts.StaticParts.add.Goals as goal
 
@@ -21,3 +26,27 @@ invariant_of-self-in-Ok c =
           (btree_map_updates_text key here.places c.insert.new.self (Some c.len-place.result)
           c.in-Ok.ensures.updates);
     }
+
+-- the static expressions without the one that has no place in the map
+unchanged : (c : goal.After-pop) → c.pop.new.self.items ≡ c.args.self.now.parts.items
+unchanged c =
+    let n : vec_len c.push.new.self ≡ length c.push.new.self.items =
+    omega (arith, c.push.new.self.ok.0) in
+    popped c.args.self.now.parts.items c.push.new.self.items c.pop.new.self.items c.args.part
+    (vec_len c.push.new.self) c.in_ok-push.ensures.items n c.pop.ensures.rest
+
+pub invariant_of-self-in_default : goal.invariant_of-self-in_default
+invariant_of-self-in_default c =
+    let here = c.args.self.now in
+    record {
+      placed = λ k. same_entries here.places c.insert.new.self k c.in_default.ensures.err
+          ∙ here.placed k
+          ∙ ap (λ l. first_with (has_key k) (map part_of l)) (sym (unchanged c));
+    }
+
+pub returns-in_default-clause-err : goal.returns-in_default-clause-err
+returns-in_default-clause-err c =
+    let n : vec_len c.push.new.self ≡ length c.push.new.self.items =
+    omega (arith, c.push.new.self.ok.0) in
+    popped c.args.self.now.parts.items c.push.new.self.items c.pop.new.self.items c.args.part
+    (vec_len c.push.new.self) c.in_ok-push.ensures.items n c.pop.ensures.rest
